@@ -1,0 +1,10 @@
+use Rattle.decode.specs.declared.insn.Reg.{Reg}
+use Rattle.assemble.specs.Text.{register}
+use Rattle.assemble.proofs.Pairs.{no_pair, reads_pair, register_lacks}
+use Rattle.assemble.proofs.operands.register_register.Goals as goal
+
+pub returns-in_default : goal.returns-in_default
+returns-in_default c = no_pair register (λ (_ : Reg). Unit {0}) register (λ (_ : Reg). Unit {0}) register_lacks c.args.text.now c.in_default.ensures
+
+pub returns : goal.returns
+returns c = reads_pair register (λ (_ : Reg). Unit {0}) register (λ (_ : Reg). Unit {0}) register_lacks c.args.text.now c.in-Some.left.now c.in-Some.right.now c.in-Some.ensures c.register_of.result c.register_of-2.result c.both.result c.both.ensures c.register_of.ensures c.register_of-2.ensures

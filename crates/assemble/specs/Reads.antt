@@ -1,0 +1,18 @@
+-- What reading a part of a line answers.
+use Rattle.std.specs.Prelude.{Result, Ok, Err}
+use Rattle.assemble.specs.declared.fault.Fault.{Fault}
+use Rattle.assemble.specs.declared.fault.Fault.TheVariants.{Shape, Range}
+
+-- the value that is written so and fits; a value that is written so and does not fit; or none is written so
+abbrev pub Reads : {V : Type 0} → (V → Type 0) → (V → Type 0) → Result V Fault → Type 0
+Reads IsWritten Fits (Ok v) = IsWritten v × Fits v
+Reads {V = V} IsWritten Fits (Err Range) = (v : V) × IsWritten v × (¬ Fits v)
+Reads {V = V} IsWritten Fits (Err Shape) = (v : V) → ¬ IsWritten v
+
+-- both values, or the lesser fault
+abbrev pub both_of : {A B : Type 0} → Result A Fault → Result B Fault → Result (A × B) Fault
+both_of (Ok a) (Ok b) = Ok (a, b)
+both_of (Ok a) (Err e) = Err e
+both_of (Err Shape) y = Err Shape
+both_of (Err Range) (Ok b) = Err Range
+both_of (Err Range) (Err e) = Err e

@@ -1,0 +1,68 @@
+-- Which texts are refused, and the rule and the line that are named (docs/FORMATS.md, "Assembler text").
+use Rattle.std.specs.Prelude.{◌≡◌, ◌≢◌, ◌<◌, ◌≤◌, ◌+◌, ◌==◌, ℕ, ◌++◌, length, List, [], ◌∷◌, map, false, Result, Ok, Err, if◌then◌else◌}
+use Rattle.std.specs.Global.{Vec}
+use Rattle.std.specs.List.{AllByRecursion}
+use Rattle.decode.specs.Encoding.{Fits}
+use Rattle.decode.specs.Slots.{slots, size_of}
+use Rattle.decode.specs.declared.insn.Insn.{Insn}
+use Rattle.assemble.specs.declared.fault.Rule.{Rule}
+use Rattle.assemble.specs.declared.fault.Rule.TheVariants as rule
+use Rattle.assemble.specs.declared.fault.AsmError.{AsmError}
+use Rattle.assemble.specs.declared.fault.AsmError.TheVariants.{Memory, Fault}
+use Rattle.assemble.specs.Text.{word_of, line_of, lines_of, spoken, is_silent}
+
+-- the rules by number
+abbrev pub rule_number : Rule → ℕ
+rule_number rule.Word = 1
+rule_number rule.Shape = 2
+rule_number rule.Range = 3
+rule_number rule.Limit = 4
+
+-- the word of a line: its text up to the first space or the end
+abbrev pub first_word : List ℕ → List ℕ
+first_word [] = []
+first_word (c ∷ cs) = if c == 32 then [] else c ∷ first_word cs
+
+-- what each rule refuses, in a line after n slots: no instruction has this word; none, whatever its numbers, has this line;
+-- none whose numbers are in range; or none that leaves at most 1024 slots
+abbrev pub Breaks : ℕ → Rule → List ℕ → Type 0
+Breaks n rule.Word line = (i : Insn) → word_of i ≢ first_word line
+Breaks n rule.Shape line = (i : Insn) → line ≢ line_of i
+Breaks n rule.Range line = (i : Insn) → Fits i → line ≢ line_of i
+Breaks n rule.Limit line = (i : Insn) → Fits i → line ≡ line_of i → 1024 < n + size_of i
+
+-- each of these rules refuses what the one before it does, and this is the first that refuses the line
+abbrev pub BreaksFirst : ℕ → Rule → List ℕ → Type 0
+BreaksFirst n rule.Word line = Breaks n rule.Word line
+BreaksFirst n rule.Shape line = (¬ Breaks n rule.Word line) × Breaks n rule.Shape line
+BreaksFirst n rule.Range line = (¬ Breaks n rule.Shape line) × Breaks n rule.Range line
+BreaksFirst n rule.Limit line = (¬ Breaks n rule.Range line) × Breaks n rule.Limit line
+
+-- the list, of at most 1024 slots, whose lines these are
+pub record AreLines (lines : List (List ℕ)) (is : List Insn) : Type 0 where
+  pub fits : AllByRecursion Fits is
+  pub written : spoken lines ≡ map line_of is
+  pub limit : slots is ≤ 1024
+
+-- what stands before the line is fine, and the line breaks this rule
+pub record IsFault (text : List ℕ) (r : Rule) (number : ℕ) : Type 0 where
+  pub before : List (List ℕ)
+  pub line : List ℕ
+  pub after : List (List ℕ)
+  pub whole : lines_of text ≡ before ++ line ∷ after
+  pub number_is : number ≡ length before + 1
+  pub insns : List Insn
+  pub fine : AreLines before insns
+  pub speaks : is_silent line ≡ false
+  pub broken : BreaksFirst (slots insns) r line
+
+-- the error that a text gets, if memory does not run out
+abbrev pub IsRefusal : List ℕ → AsmError → Type 0
+IsRefusal text Memory = Unit {0}
+IsRefusal text (Fault r number) = IsFault text r number
+
+-- this answer, unless memory ran out
+abbrev pub Gives : Result (Vec Insn) AsmError → List Insn → Type 0
+Gives (Ok v) is = v.items ≡ is
+Gives (Err Memory) is = Unit {0}
+Gives (Err (Fault r number)) is = ⊥

@@ -1,0 +1,96 @@
+//! Why a text was refused.
+
+ghost use Rattle.std.specs.Prelude.{◌≡◌};
+ghost use Rattle.assemble.specs.Reads.{both_of};
+ghost use Rattle.assemble.specs.Refusal.{rule_number};
+ghost use Rattle.assemble.specs.declared.fault.AsmError.TheVariants.{Memory};
+
+use std::alloc::{AllocError, AllocFailed};
+use thiserror::Error;
+
+/// Why an operand could not be read.
+#[derive(Clone, Copy, Debug, PartialEq, Eq)]
+pub enum Fault {
+    /// It is not written so.
+    Shape,
+    /// It is a number that is out of range.
+    Range,
+}
+
+/// Both values, or the lesser fault.
+pub fn both<A: Copy, B: Copy>(
+    left: Result<A, Fault>,
+    right: Result<B, Fault>,
+) -> Result<(A, B), Fault>
+    ensures { result ≡ both_of left right }
+{
+    match (left, right) {
+        (Ok(a), Ok(b)) => Ok((a, b)),
+        (Err(Fault::Range), Err(fault)) => Err(fault),
+        (Err(fault), _) => Err(fault),
+        (_, Err(fault)) => Err(fault),
+    }
+}
+
+/// What is wrong with a line, by number. Each rule refuses what the one before it does, and more.
+#[derive(Clone, Copy, Debug, PartialEq, Eq, Error)]
+pub enum Rule {
+    /// 1: no instruction has this word.
+    #[error("unknown word")]
+    Word,
+    /// 2: the operands do not have the word's shape.
+    #[error("operands not of the word's shape")]
+    Shape,
+    /// 3: a number is out of range.
+    #[error("number out of range")]
+    Range,
+    /// 4: with this line there are more than 1,024 slots.
+    #[error("more than 1024 slots")]
+    Limit,
+}
+
+impl Rule {
+    /// The rule's number, 1 to 4.
+    pub fn number(self) -> u8
+        ensures { result ≡ rule_number self }
+    {
+        match self {
+            Rule::Word => 1,
+            Rule::Shape => 2,
+            Rule::Range => 3,
+            Rule::Limit => 4,
+        }
+    }
+}
+
+/// Why `assemble` gave no instructions.
+#[derive(Debug, Drop, PartialEq, Eq, Error)]
+pub enum AsmError {
+    /// Memory ran out.
+    #[error("out of memory")]
+    Memory,
+    /// The text is refused.
+    #[error("line {line}: {rule} (rule {})", .rule.number())]
+    Fault {
+        /// The least rule that the line breaks.
+        rule: Rule,
+        /// The first faulty line, counted from 1.
+        line: usize,
+    },
+}
+
+impl From<AllocError> for AsmError {
+    ghost from_gives = { λ _ e. e ≡ Memory };
+
+    fn from(_e: AllocError) -> AsmError {
+        AsmError::Memory
+    }
+}
+
+impl<T: Drop> From<AllocFailed<T>> for AsmError {
+    ghost from_gives = { λ _ e. e ≡ Memory };
+
+    fn from(_e: AllocFailed<T>) -> AsmError {
+        AsmError::Memory
+    }
+}

@@ -1,0 +1,43 @@
+//! What the text says apart from code, and that what is written is read back.
+
+ghost use Rattle.std.specs.Prelude.{◌≡◌, ◌≤◌, ℕ, List};
+ghost use Rattle.std.specs.List.{AllByRecursion};
+ghost use Rattle.decode.specs.Encoding.{Fits};
+ghost use Rattle.decode.specs.Slots.{slots};
+ghost use Rattle.decode.specs.declared.insn.Insn.{Insn};
+ghost use Rattle.assemble.specs.Refusal.{AreLines, Gives, IsFault};
+ghost use Rattle.assemble.specs.Text.{IsText, lines_of, text_of};
+ghost use Rattle.assemble.specs.declared.fault.Rule.{Rule};
+
+use crate::fault::AsmError;
+use crate::reading::assemble;
+use crate::writing::disassemble;
+use decode::Insn;
+use std::alloc::Global;
+
+/// A text belongs to one list only.
+pub fn one_list()
+    ensures { (text : List ℕ) (is js : List Insn) → IsText text is → IsText text js → is ≡ js }
+{}
+
+/// A text has one fault at most, and then belongs to no list of at most 1,024 slots.
+pub fn one_fault()
+    ensures once { (text : List ℕ) (q r : Rule) (m n : ℕ) → IsFault text q m → IsFault text r n → (q ≡ r) × (m ≡ n) }
+    ensures none { (text : List ℕ) (is : List Insn) (r : Rule) (n : ℕ) → AreLines (lines_of text) is → IsFault text r n → ⊥ }
+{}
+
+/// What is written for a list belongs to it, and with at most 1,024 slots it is read back.
+pub fn read_back()
+    ensures written { (is : List Insn) → IsText (text_of is) is }
+    ensures again { (is : List Insn) → AllByRecursion Fits is → slots is ≤ 1024 → AreLines (lines_of (text_of is)) is }
+{}
+
+/// What is written of at most 1,024 slots is read back, unless memory runs out.
+pub fn there_and_back(alloc: Global, insns: &[Insn]) -> Result<Vec<Insn>, AsmError>
+    requires { slots insns.now ≤ 1024 }
+    ensures { Gives result insns.now }
+{
+    let text = disassemble(alloc, insns)?;
+    read_back();
+    assemble(alloc, &text)
+}

@@ -1,0 +1,5 @@
+pub mod Forms
+pub mod Faults
+pub mod Once
+pub mod OneFault
+pub mod SlotLemmas

@@ -1,0 +1,145 @@
+//! Bytes to instructions.
+
+ghost use Rattle.std.specs.Prelude.{◌≡◌, ◌≤◌, ◌+◌, ◌*◌, ◌%◌, ◌++◌, ◌↔◌, List, length, IsTrue, IfOk, IfErr};
+ghost use Rattle.std.specs.List.{AllByRecursion};
+ghost use Rattle.decode.specs.Encoding.{Fits, encoding, insn_bytes};
+ghost use Rattle.decode.specs.Slots.{size_of, slots};
+ghost use Rattle.decode.specs.Refusal.{Begins, BreaksFirst, Gives, HasNoWidth, IsBrokenAt, IsCut, IsOutsideProfile, IsRefusal, StartsBroken, order};
+ghost use Rattle.decode.specs.Reg.{AreRegisters};
+ghost use Rattle.decode.specs.declared.insn.Insn.{Insn};
+
+use crate::fault::{DecodeError, Rule};
+use crate::form::{form_of, insn_of};
+use crate::insn::{Insn, Reg};
+use crate::word::{SLOT, Word, word_at};
+use std::alloc::Global;
+
+/// The instructions whose encoding the bytes are, all of the bytes (RFC 9669 section 3). Nothing is read from bytes
+/// that are no encoding: the error names the first slot with a fault, and the first rule that it breaks.
+pub fn decode(alloc: Global, bytes: &[u8]) -> Result<Vec<Insn>, DecodeError>
+    // What is read is encoded so.
+    ensures found { IfOk result (λ v. AllByRecursion Fits v.items × (bytes.now ≡ encoding v.items)) }
+    // Eight bytes a slot.
+    ensures slots { IfOk result (λ v. 8 * slots v.items ≡ length bytes.now) }
+    // What is encoded so is read, unless memory runs out.
+    ensures only { (is : List Insn) → AllByRecursion Fits is → bytes.now ≡ encoding is → Gives result is }
+    // Which rule and which slot an error names.
+    ensures refused { IfErr result (IsRefusal bytes.now) }
+{
+    if bytes.len() % SLOT != 0 {
+        return Err(DecodeError::Fault {
+            rule: Rule::Length,
+            slot: 0,
+        });
+    }
+    read_all(alloc, bytes)
+}
+
+/// The instructions of whole slots.
+fn read_all(alloc: Global, bytes: &[u8]) -> Result<Vec<Insn>, DecodeError>
+    requires { length bytes.now % 8 ≡ 0 }
+    ensures found { IfOk result (λ v. AllByRecursion Fits v.items × (bytes.now ≡ encoding v.items)) }
+    ensures slots { IfOk result (λ v. 8 * slots v.items ≡ length bytes.now) }
+    ensures refused { IfErr result (IsRefusal bytes.now) }
+{
+    let mut insns = Vec::new(alloc);
+    let mut slot = 0;
+    let mut rest = bytes;
+    while !rest.is_empty() {
+        let (insn, after) = match read_first(rest) {
+            Ok(first) => first,
+            Err(rule) => return Err(DecodeError::Fault { rule, slot }),
+        };
+        slot += insn.slots();
+        insns.push(insn)?;
+        rest = after;
+    }
+    Ok(insns)
+}
+
+/// The instruction that the bytes begin with, and the bytes after it.
+fn read_first(bytes: &[u8]) -> Result<(Insn, &[u8]), Rule>
+    requires whole { length bytes.now % 8 ≡ 0 }
+    requires more { 8 ≤ length bytes.now }
+    ensures found { IfOk result (λ x. bytes.now ≡ insn_bytes x.0 ++ x.1.now) }
+    ensures fits { IfOk result (λ x. Fits x.0) }
+    ensures rest { IfOk result (λ x. length x.1.now + 8 * size_of x.0 ≡ length bytes.now) }
+    ensures refused { IfErr result (λ r. StartsBroken r bytes.now) }
+{
+    let (word, after) = word_at(bytes);
+    if after.is_empty() {
+        return Ok((read_insn(&word, None)?, after));
+    }
+    let (second, last) = word_at(after);
+    let insn = read_insn(&word, Some(second))?;
+    let rest = if insn.slots() == 2 { last } else { after };
+    Ok((insn, rest))
+}
+
+/// The instruction whose first slot is `word`, before the slot `next`.
+fn read_insn(word: &Word, next: Option<Word>) -> Result<Insn, Rule>
+    ensures found { IfOk result (λ i. Begins i word.now next) }
+    ensures fits { IfOk result Fits }
+    ensures fault { IfErr result (λ r. BreaksFirst order r word.now next) }
+{
+    let Some(form) = form_of(word.opcode) else {
+        return Err(Rule::Opcode);
+    };
+    let Some((dst, src)) = registers_of(word) else {
+        return Err(Rule::Register);
+    };
+    if is_outside_profile(word) {
+        return Err(Rule::Profile);
+    }
+    if is_cut(word, next) {
+        return Err(Rule::Cut);
+    }
+    if has_no_width(word) {
+        return Err(Rule::Width);
+    }
+    let insn = insn_of(form, dst, src, word, next);
+    if !begins(&insn, word, next) {
+        return Err(Rule::Field);
+    }
+    Ok(insn)
+}
+
+/// The registers that the fields name.
+fn registers_of(word: &Word) -> Option<(Reg, Reg)>
+    ensures { AreRegisters result word.now }
+{
+    Some((Reg::new(word.dst)?, Reg::new(word.src)?))
+}
+
+/// Whether the slot is a call by another source than 0, or a wide value that is no number (RFC 9669 sections 4.3.1,
+/// 4.3.2 and 5.4): forms of the standard that this crate leaves out.
+fn is_outside_profile(word: &Word) -> bool
+    ensures { IsTrue result ↔ IsOutsideProfile word.now }
+{
+    match word.opcode {
+        0x85 => word.src == 1 || word.src == 2,
+        0x18 => word.src != 0 && word.src <= 6,
+        _ => false,
+    }
+}
+
+/// Whether the slot is the first of a wide instruction, and no other follows.
+fn is_cut(word: &Word, next: Option<Word>) -> bool
+    ensures { IsTrue result ↔ IsCut word.now next }
+{
+    word.opcode == 0x18 && next.is_none()
+}
+
+/// Whether the slot swaps bytes of no width that there is.
+fn has_no_width(word: &Word) -> bool
+    ensures { IsTrue result ↔ HasNoWidth word.now }
+{
+    matches!(word.opcode, 0xd4 | 0xdc | 0xd7) && !matches!(word.imm, 16 | 32 | 64)
+}
+
+/// Whether the slots are those of the instruction.
+fn begins(insn: &Insn, word: &Word, next: Option<Word>) -> bool
+    ensures { IsTrue result ↔ Begins insn.now word.now next }
+{
+    insn.first_word() == *word && (insn.second_word().is_none() || insn.second_word() == next)
+}
