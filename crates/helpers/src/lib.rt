@@ -1,0 +1,21 @@
+//! What a handler asks of the runtime: messages to other processes, and outputs.
+//!
+//! A handler calls helpers by number. Helper 1 sends, helper 2 gives an output, helper 3 answers
+//! the handler's own process number and helper 4 the sender's; the last two only read [`Who`].
+//! [`Effects`] keeps what one call of a handler emits, without taking memory. Each method's
+//! contract is its helper's row: which code r0 gets, and what was appended, or that nothing was.
+//!
+//! ```
+//! let mut effects = Effects::new();
+//! let who = Who { me: 1, from: 0, count: 2 };
+//! let code = effects.send(who, 2, [7; 64]);
+//! // code is 0, and effects.sends() is one message to process 2
+//! ```
+#![tactic(auto)]
+
+mod effects;
+
+pub use effects::{Effects, LIMIT, Sent, Who};
+
+#[cfg(test)]
+mod tests;

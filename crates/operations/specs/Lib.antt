@@ -1,0 +1,7 @@
+pub mod Words
+pub mod Bits
+pub mod Arithmetic
+pub mod ByteSwap
+pub mod Conditions
+pub mod Operations
+pub mod Relations

@@ -1,0 +1,82 @@
+//! Operations on words of 32 bits.
+
+ghost use Rattle.std.specs.Prelude.{◌≡◌, ◌%◌, ◌^◌};
+ghost use Rattle.decode.specs.declared.insn.AluOp.{AluOp};
+ghost use Rattle.operations.specs.Arithmetic.{computed};
+ghost use Rattle.operations.specs.Conditions.{compared};
+
+use decode::{AluOp, Condition};
+
+/// The low 32 bits of a register.
+pub fn low(a: u64) -> u32
+    ensures { result ≡ a % 2 ^ 32 }
+{
+    (a % 0x1_0000_0000) as u32
+}
+
+/// The result of an operation of 32 bits (RFC 9669 section 4.1).
+pub fn alu(op: AluOp, a: u32, b: u32) -> u32
+    ensures { result ≡ computed op 32 a b }
+{
+    match op {
+        AluOp::Add => a.wrapping_add(b),
+        AluOp::Sub => a.wrapping_sub(b),
+        AluOp::Mul => a.wrapping_mul(b),
+        AluOp::Div => a.checked_div(b).unwrap_or(0),
+        AluOp::Sdiv => signed_quotient(a, b),
+        AluOp::Or => a | b,
+        AluOp::And => a & b,
+        AluOp::Lsh => a << (b % 32),
+        AluOp::Rsh => a >> (b % 32),
+        AluOp::Mod => a.checked_rem(b).unwrap_or(a),
+        AluOp::Smod => signed_remainder(a, b),
+        AluOp::Xor => a ^ b,
+        AluOp::Mov => b,
+        AluOp::Arsh => (a.cast_signed() >> (b % 32)).cast_unsigned(),
+    }
+}
+
+/// Whether a condition of 32 bits holds (RFC 9669 section 4.3).
+pub fn holds(condition: Condition, a: u32, b: u32) -> bool
+    ensures { result ≡ compared condition 32 a b }
+{
+    match condition {
+        Condition::Equal => a == b,
+        Condition::Greater => a > b,
+        Condition::GreaterEqual => a >= b,
+        Condition::Set => a & b != 0,
+        Condition::NotEqual => a != b,
+        Condition::SignedGreater => a.cast_signed() > b.cast_signed(),
+        Condition::SignedGreaterEqual => a.cast_signed() >= b.cast_signed(),
+        Condition::Less => a < b,
+        Condition::LessEqual => a <= b,
+        Condition::SignedLess => a.cast_signed() < b.cast_signed(),
+        Condition::SignedLessEqual => a.cast_signed() <= b.cast_signed(),
+    }
+}
+
+// truncated toward zero
+fn signed_quotient(a: u32, b: u32) -> u32
+    ensures { result ≡ computed AluOp.Sdiv 32 a b }
+{
+    if b == 0 {
+        0
+    } else {
+        a.cast_signed()
+            .wrapping_div(b.cast_signed())
+            .cast_unsigned()
+    }
+}
+
+// with the sign of the dividend
+fn signed_remainder(a: u32, b: u32) -> u32
+    ensures { result ≡ computed AluOp.Smod 32 a b }
+{
+    if b == 0 {
+        a
+    } else {
+        a.cast_signed()
+            .wrapping_rem(b.cast_signed())
+            .cast_unsigned()
+    }
+}

@@ -1,0 +1,5 @@
+pub mod Frame
+pub mod Form
+pub mod Flow
+pub mod Rules
+pub mod Typing

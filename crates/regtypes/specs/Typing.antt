@@ -1,0 +1,62 @@
+-- When code is typable.
+use Rattle.std.specs.Prelude.{◌≡◌, ℕ, ◌+◌, List, [], ◌∷◌, Option, Some, None, ℤ, pos, negsuc, ◌+ℤ◌, Bool, false, nat_lt, ◌&&◌, not, slice_get, length, unwrap_or, is_some}
+use Rattle.std.specs.List.{AllByRecursion}
+use Rattle.decode.specs.declared.insn.Insn.{Insn}
+use Rattle.decode.specs.Slots.{insn_at}
+use Rattle.regtypes.specs.declared.flow.Flow.{Flow}
+use Rattle.regtypes.specs.declared.flow.Flow.TheVariants.{Ends, Leaps, Forks, Falls}
+use Rattle.regtypes.specs.declared.frame.Kind.{Kind}
+use Rattle.regtypes.specs.declared.frame.Frame.{Frame}
+use Rattle.regtypes.specs.declared.rule.Rule.{Rule}
+use Rattle.regtypes.specs.declared.rule.Rule.TheVariants.{V1, V2}
+use Rattle.regtypes.specs.Frame.{entry_kinds, Leq}
+use Rattle.regtypes.specs.Flow.{flow_of, successors}
+use Rattle.regtypes.specs.Rules.{Tests, first_broken, tests_of, after}
+
+-- an instruction that begins at a later slot
+abbrev pub is_target : List (Option Insn) → ℕ → ℤ → Bool
+is_target slots s (pos t) = nat_lt s t && is_some (insn_at slots t)
+is_target slots s (negsuc n) = false
+
+-- a jump goes to an instruction that begins at a later slot, and behind another instruction there is one
+abbrev pub flow_tests : List (Option Insn) → ℕ → Flow → Tests
+flow_tests slots s Ends = []
+flow_tests slots s (Leaps d) = (not (is_target slots s (pos (s + 1) +ℤ d)), V1) ∷ []
+flow_tests slots s (Forks d) =
+    (not (is_target slots s (pos (s + 1) +ℤ d)), V1) ∷ (not (nat_lt (s + 1) (length slots)), V2) ∷ []
+flow_tests slots s (Falls n) = (not (nat_lt (s + n) (length slots)), V2) ∷ []
+
+abbrev pub jump_tests : List (Option Insn) → ℕ → Insn → Tests
+jump_tests slots s i = flow_tests slots s (flow_of i)
+
+abbrev pub or_else : Option Rule → Option Rule → Option Rule
+or_else None o = o
+or_else (Some r) o = Some r
+
+-- the least rule that an instruction breaks at a slot under a frame
+abbrev pub broken : List (Option Insn) → ℕ → ℕ → Insn → List Kind → Option Rule
+broken slots len s i f =
+    or_else (first_broken (jump_tests slots s i)) (first_broken (tests_of i f len))
+
+-- a frame for each slot, or none
+abbrev pub Table : Type 0
+Table = List (Option Frame)
+
+abbrev pub frame_at : Table → ℕ → Option Frame
+frame_at table s = unwrap_or (slice_get table s) None
+
+-- the slot has a frame, which says no more than this one
+abbrev pub Enters : Table → List Kind → ℤ → Type 0
+Enters table f to = (t : ℕ) × (g : Frame) × (to ≡ pos t) × (frame_at table t ≡ Some g) × Leq f g.kinds
+
+-- the table is a typing: what enters a slot fits its frame, and no rule is broken under a frame
+pub record IsTyping (slots : List (Option Insn)) (len : ℕ) (table : Table) : Type 0 where
+  pub start : Enters table entry_kinds (pos 0)
+  pub whole : (s : ℕ) (g : Frame) → frame_at table s ≡ Some g → length g.kinds ≡ 11
+  pub begins : (s : ℕ) (g : Frame) → frame_at table s ≡ Some g → (i : Insn) × (insn_at slots s ≡ Some i)
+  pub keeps : (s : ℕ) (g : Frame) (i : Insn) → frame_at table s ≡ Some g → insn_at slots s ≡ Some i → broken slots len s i g.kinds ≡ None
+  pub leads : (s : ℕ) (g : Frame) (i : Insn) → frame_at table s ≡ Some g → insn_at slots s ≡ Some i → AllByRecursion (Enters table (after i g.kinds)) (successors s i)
+
+-- the slot has a frame
+abbrev pub IsReached : Table → ℕ → Type 0
+IsReached table s = (g : Frame) × (frame_at table s ≡ Some g)

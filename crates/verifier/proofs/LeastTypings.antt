@@ -1,0 +1,525 @@
+-- One pass gives the least typing.
+use Rattle.std.proofs.Common.{◌≡◌, ◌≢◌, ℕ, zero, suc, ◌+◌, ◌<◌, ◌≤◌, ◌+ℤ◌, Bool, true, false, cond, List, [], ◌∷◌, ◌++◌, length, get_or, Option, Some, None, ℤ, pos, refl, sym, ap, ◌∙◌, subst, ⊎_elim, ◌⊎◌, inl, inr, arith}
+use Rattle.std.specs.Prelude.{slice_set, is_some, not, nat_lt}
+use Rattle.std.specs.List.{AllByRecursion}
+use Rattle.std.proofs.lemmas.Bool.{cases_eq, cases_lt, false≢true}
+use Rattle.std.proofs.lemmas.Bool.Decides.{nat_tests}
+use Rattle.std.proofs.lemmas.List.{ext_get_or}
+use Rattle.std.proofs.lemmas.List.{get_or-set_same, get_or-set_other, length-set}
+use Rattle.decode.specs.declared.insn.Insn.{Insn}
+use Rattle.decode.specs.Slots.{is_wide, size_of, insn_at}
+use Rattle.regtypes.specs.declared.frame.Kind.{Kind}
+use Rattle.regtypes.specs.declared.frame.Kind.TheVariants.{Unset, Num, Place}
+use Rattle.regtypes.specs.declared.frame.Frame.{Frame}
+use Rattle.regtypes.specs.declared.rule.Rule.{Rule}
+use Rattle.regtypes.specs.Frame.{kind_at, entry_kinds, Leq}
+use Rattle.regtypes.specs.Rules.{first_broken, tests_of, after}
+use Rattle.decode.specs.declared.insn.Insn.TheVariants.{Alu, MovSx, Neg, End, Jump, JumpLong, JumpIf, Call, Exit, Load, LoadSx, StoreReg, StoreImm, Wide}
+use Rattle.regtypes.specs.declared.flow.Flow.{Flow}
+use Rattle.regtypes.specs.declared.flow.Flow.TheVariants.{Ends, Leaps, Forks, Falls}
+use Rattle.regtypes.specs.Flow.{flow_of, successors, successors_by}
+use Rattle.regtypes.specs.Typing.{Table, frame_at, Enters, broken, or_else, jump_tests, flow_tests, IsTyping}
+use Rattle.regtypes.proofs.Monotone.{monotone, none_holds, both_none, not_false}
+use Rattle.verifier.specs.Verdict.{IsOneRefusal}
+use Rattle.verifier.specs.Least.{TypesBelow, Below, IsLeast, IsLeastTyping, Breaks, IsRefused}
+use Rattle.verifier.specs.Pass.{Follows, Merged, IsOpening}
+
+-- ---- frames and tables
+
+pub Leq-refl : (f : List Kind) → Leq f f
+Leq-refl f r known = refl
+
+pub Leq-trans : (f g h : List Kind) → Leq f g → Leq g h → Leq f h
+Leq-trans f g h a b r known = let e = b r known in a r (λ u. known (sym e ∙ u)) ∙ e
+
+unset_or : (k : Kind) → (k ≡ Unset) ⊎ (k ≢ Unset)
+unset_or Unset = inl refl
+unset_or Num = inr (λ e. cc)
+unset_or (Place r a) = inr (λ e. cc)
+
+-- two frames of one length of which each says what the other says are one
+Leq-antisym : (f g : List Kind) → length f ≡ length g → Leq f g → Leq g f → f ≡ g
+Leq-antisym f g n a b = ext_get_or Unset f g n same
+  where
+    same : (r : ℕ) → r < length f → kind_at f r ≡ kind_at g r
+    same r lt = ⊎_elim (λ u. either u) (λ k. a r k) (unset_or (kind_at g r))
+      where
+        either : kind_at g r ≡ Unset → kind_at f r ≡ kind_at g r
+        either u = ⊎_elim (λ v. v ∙ sym u) (λ k. sym (b r k)) (unset_or (kind_at f r))
+
+pub frame_is : (t : Table) (s : ℕ) → frame_at t s ≡ get_or t s None
+frame_is [] s = refl
+frame_is (x ∷ t) zero = refl
+frame_is (x ∷ t) (suc s) = frame_is t s
+
+same_some : (g h : Frame) (o : Option Frame) → o ≡ Some g → o ≡ Some h → g ≡ h
+same_some g h o a b = cc
+
+same_insn : (i j : Insn) (o : Option Insn) → o ≡ Some i → o ≡ Some j → i ≡ j
+same_insn i j o a b = cc
+
+pub enters_below : (a b : Table) (f : List Kind) (to : ℤ) → Below a b → Enters a f to → Enters b f to
+enters_below a b f to le e = let k = le e.0 e.1 e.3 in (e.0, k.0, e.2, k.1, Leq-trans f e.1.kinds k.0.kinds e.4 k.2)
+
+pub enters_weaker : (t : Table) (f g : List Kind) (to : ℤ) → Leq f g → Enters t g to → Enters t f to
+enters_weaker t f g to le e = (e.0, e.1, e.2, e.3, Leq-trans f g e.1.kinds le e.4)
+
+all_below : (a b : Table) (f : List Kind) (ts : List ℤ) → Below a b → AllByRecursion (Enters a f) ts → AllByRecursion (Enters b f) ts
+all_below a b f [] le h = tt
+all_below a b f (t ∷ ts) le h = (enters_below a b f t le h.0, all_below a b f ts le h.1)
+
+all_weaker : (t : Table) (f g : List Kind) (ts : List ℤ) → Leq f g → AllByRecursion (Enters t g) ts → AllByRecursion (Enters t f) ts
+all_weaker t f g [] le h = tt
+all_weaker t f g (x ∷ ts) le h = (enters_weaker t f g x le h.0, all_weaker t f g ts le h.1)
+
+pub Below-refl : (t : Table) → Below t t
+Below-refl t s g e = (g, e, Leq-refl g.kinds)
+
+Below-trans : (a b c : Table) → Below a b → Below b c → Below a c
+Below-trans a b c x y s g e =
+    let k = x s g e in
+    let m = y s k.0 k.1 in
+    (m.0, m.1, Leq-trans g.kinds k.0.kinds m.0.kinds k.2 m.2)
+
+-- ---- what a kept rule says
+
+pub none_both : (a b : Option Rule) → a ≡ None → b ≡ None → or_else a b ≡ None
+none_both a b x y = ap (λ o. or_else o b) x ∙ y
+
+pub first_some : (a b : Option Rule) (r : Rule) → a ≡ Some r → or_else a b ≡ Some r
+first_some a b r x = ap (λ o. or_else o b) x
+
+pub second_some : (a b : Option Rule) (r : Rule) → a ≡ None → b ≡ Some r → or_else a b ≡ Some r
+second_some a b r x y = ap (λ o. or_else o b) x ∙ y
+
+-- a frame that says more breaks no more rules
+pub kept_below : (slots : List (Option Insn)) (len s : ℕ) (i : Insn) (f g : List Kind) → length f ≡ length g → Leq f g → broken slots len s i g ≡ None → (broken slots len s i f ≡ None) × Leq (after i f) (after i g)
+kept_below slots len s i f g n le h =
+    let k = both_none (first_broken (jump_tests slots s i)) (first_broken (tests_of i g len)) h in
+    let m = monotone i f g len n le k.1 in
+    (none_both (first_broken (jump_tests slots s i)) (first_broken (tests_of i f len)) k.0 m.0, m.1)
+
+-- ---- a frame is joined into a slot
+
+pub merged_set : (old : Table) (to : ℕ) (f : List Kind) (h : Frame) → to < length old → length h.kinds ≡ 11 → Leq f h.kinds → ((g : Frame) → frame_at old to ≡ Some g → Leq g.kinds h.kinds) → ((k : List Kind) → Leq f k → ((g : Frame) → frame_at old to ≡ Some g → Leq g.kinds k) → Leq h.kinds k) → Merged old to f (slice_set old to (Some h))
+merged_set old to f h lt w c k l = record {
+  size = length-set old to (Some h);
+  other = λ s ne. frame_is (slice_set old to (Some h)) s ∙ get_or-set_other old to s (Some h) None ne ∙ sym (frame_is old s);
+  frame = h;
+  there = frame_is (slice_set old to (Some h)) to ∙ get_or-set_same old to (Some h) None lt;
+  whole = w;
+  covers = c;
+  keeps = k;
+  least = l;
+}
+
+-- what leaves a slot is joined into the slots that come next
+pub record Leads (slots : List (Option Insn)) (old : Table) (f : List Kind) (slot : ℕ) (ts : List ℤ) (new : Table) : Type 0 where
+  pub same : (s : ℕ) → s ≤ slot → frame_at new s ≡ frame_at old s
+  pub grows : Below old new
+  pub enters : AllByRecursion (Enters new f) ts
+  pub least : (t : Table) → Below old t → AllByRecursion (Enters t f) ts → Below new t
+  pub whole : ((s : ℕ) (g : Frame) → frame_at old s ≡ Some g → length g.kinds ≡ 11) → (s : ℕ) (g : Frame) → frame_at new s ≡ Some g → length g.kinds ≡ 11
+  pub begins : ((s : ℕ) (g : Frame) → frame_at old s ≡ Some g → (i : Insn) × (insn_at slots s ≡ Some i)) → (s : ℕ) (g : Frame) → frame_at new s ≡ Some g → (i : Insn) × (insn_at slots s ≡ Some i)
+
+pub leads_none : (slots : List (Option Insn)) (old : Table) (f : List Kind) (slot : ℕ) → Leads slots old f slot [] old
+leads_none slots old f slot = record {
+  same = λ s le. refl;
+  grows = Below-refl old;
+  enters = tt;
+  least = λ t b e. b;
+  whole = λ h. h;
+  begins = λ h. h;
+}
+
+module _ (slots : List (Option Insn)) (old mid new : Table) (f : List Kind) (slot to : ℕ) (z : ℤ) (ts : List ℤ) (l : Leads slots old f slot ts mid) (m : Merged mid to f new) (at : z ≡ pos to) (later : slot < to) (insn : Insn) (begin : insn_at slots to ≡ Some insn) where
+  more_grows : Below mid new
+  more_grows s g e = ⊎_elim here apart (cases_eq s to)
+    where
+      here : s ≡ to → (h : Frame) × (frame_at new s ≡ Some h) × Leq g.kinds h.kinds
+      here q = (m.frame, ap (frame_at new) q ∙ m.there, m.keeps g (sym (ap (frame_at mid) q) ∙ e))
+
+      apart : s ≢ to → (h : Frame) × (frame_at new s ≡ Some h) × Leq g.kinds h.kinds
+      apart q = (g, m.other s q ∙ e, Leq-refl g.kinds)
+
+  more_least : (t : Table) → Below old t → AllByRecursion (Enters t f) (z ∷ ts) → Below new t
+  more_least t b e s g h = ⊎_elim here apart (cases_eq s to)
+    where
+      below : Below mid t
+      below = l.least t b e.1
+
+      here : s ≡ to → (h : Frame) × (frame_at t s ≡ Some h) × Leq g.kinds h.kinds
+      here q =
+          let n : to ≡ e.0.0 = cc in
+          let there : frame_at t to ≡ Some e.0.1 = ap (frame_at t) n ∙ e.0.3 in
+          let eq : g ≡ m.frame = same_some g m.frame (frame_at new s) h (ap (frame_at new) q ∙ m.there) in
+          let upper = λ (k : Frame) (p : frame_at mid to ≡ Some k). let x = below to k p in subst (λ (y : Frame). Leq k.kinds y.kinds) (same_some x.0 e.0.1 (frame_at t to) x.1 there) x.2 in
+          (e.0.1, ap (frame_at t) q ∙ there, subst (λ (y : Frame). Leq y.kinds e.0.1.kinds) (sym eq) (m.least e.0.1.kinds e.0.4 upper))
+
+      apart : s ≢ to → (h : Frame) × (frame_at t s ≡ Some h) × Leq g.kinds h.kinds
+      apart q = below s g (sym (m.other s q) ∙ h)
+
+  pub leads_more : Leads slots old f slot (z ∷ ts) new
+  leads_more = record {
+    same = λ s le. m.other s (omega arith) ∙ l.same s le;
+    grows = Below-trans old mid new l.grows more_grows;
+    enters = ((to, m.frame, at, m.there, m.covers), all_below mid new f ts more_grows l.enters);
+    least = more_least;
+    whole = λ h s g e.
+        let here = λ (q : s ≡ to). ap (λ (x : Frame). length x.kinds) (same_some g m.frame (frame_at new s) e (ap (frame_at new) q ∙ m.there)) ∙ m.whole in
+        let apart = λ (q : s ≢ to). l.whole h s g (sym (m.other s q) ∙ e) in
+        ⊎_elim here apart (cases_eq s to);
+    begins = λ h s g e.
+        let here : s ≡ to → (i : Insn) × (insn_at slots s ≡ Some i) = λ q. (insn, ap (insn_at slots) q ∙ begin) in
+        let apart : s ≢ to → (i : Insn) × (insn_at slots s ≡ Some i) = λ q. l.begins h s g (sym (m.other s q) ∙ e) in
+        ⊎_elim here apart (cases_eq s to);
+  }
+
+-- ---- the pass
+
+pub types_less : (slots : List (Option Insn)) (len n : ℕ) (t : Table) → TypesBelow slots len (n + 1) t → TypesBelow slots len n t
+types_less slots len n t h = record {
+  start = h.start;
+  whole = h.whole;
+  begins = h.begins;
+  keeps = λ s g i lt. h.keeps s g i (omega arith);
+  leads = λ s g i lt. h.leads s g i (omega arith);
+}
+
+pub least_opening : (slots : List (Option Insn)) (len : ℕ) (table : Table) (i : Insn) → IsOpening table → insn_at slots 0 ≡ Some i → IsLeast slots len 0 table
+least_opening slots len table i o b = record {
+  types = record {
+    start = (0, o.frame, refl, o.first, subst (Leq entry_kinds) (sym o.entry) (Leq-refl entry_kinds));
+    whole = λ s g e. ap (λ (x : Frame). length x.kinds) (only s g e).1 ∙ ap length o.entry;
+    begins = λ s g e. (i, ap (insn_at slots) (only s g e).0 ∙ b);
+    keeps = λ s g j lt. absurd (omega arith);
+    leads = λ s g j lt. absurd (omega arith);
+  };
+  least = first_least;
+}
+  where
+    only : (s : ℕ) (g : Frame) → frame_at table s ≡ Some g → (s ≡ 0) × (g ≡ o.frame)
+    only s g e =
+        let here : s ≡ 0 → (s ≡ 0) × (g ≡ o.frame) = λ q. (q, same_some g o.frame (frame_at table s) e (ap (frame_at table) q ∙ o.first)) in
+        let apart : s ≢ 0 → (s ≡ 0) × (g ≡ o.frame) = λ q. let n = o.none s q in cc in
+        ⊎_elim here apart (cases_eq s 0)
+
+    first_least : (t : Table) → TypesBelow slots len 0 t → Below table t
+    first_least t h s g e =
+        let k = only s g e in
+        let st = h.start in
+        let n : s ≡ st.0 = k.0 ∙ zero_is st.0 st.2 in
+        (st.1, ap (frame_at t) n ∙ st.3, subst (λ x. Leq x st.1.kinds) (sym (ap (λ (x : Frame). x.kinds) k.1 ∙ o.entry)) st.4)
+      where
+        zero_is : (n : ℕ) → pos 0 ≡ pos n → 0 ≡ n
+        zero_is n e = cc
+
+-- a slot with no frame
+pub least_skip : (slots : List (Option Insn)) (len n : ℕ) (table : Table) → IsLeast slots len n table → frame_at table n ≡ None → IsLeast slots len (n + 1) table
+least_skip slots len n table l none = record {
+  types = record {
+    start = l.types.start;
+    whole = l.types.whole;
+    begins = l.types.begins;
+    keeps = λ s g i lt e. l.types.keeps s g i (lower s g lt e) e;
+    leads = λ s g i lt e. l.types.leads s g i (lower s g lt e) e;
+  };
+  least = λ t h. l.least t (types_less slots len n t h);
+}
+  where
+    lower : (s : ℕ) (g : Frame) → s < n + 1 → frame_at table s ≡ Some g → s < n
+    lower s g lt e =
+        let ne : s ≢ n = λ q. let x = ap (frame_at table) q in cc in
+        omega arith
+
+-- a slot whose frame breaks no rule
+pub least_step : (slots : List (Option Insn)) (len n : ℕ) (old new : Table) (f : Frame) (i : Insn) → IsLeast slots len n old → frame_at old n ≡ Some f → insn_at slots n ≡ Some i → broken slots len n i f.kinds ≡ None → Leads slots old (after i f.kinds) n (successors n i) new → IsLeast slots len (n + 1) new
+least_step slots len n old new f i l there begin kept ld = record {
+  types = record {
+    start = enters_below old new entry_kinds (pos 0) ld.grows l.types.start;
+    whole = ld.whole l.types.whole;
+    begins = ld.begins l.types.begins;
+    keeps = keeps;
+    leads = leads;
+  };
+  least = least;
+}
+  where
+    keeps : (s : ℕ) (g : Frame) (j : Insn) → s < n + 1 → frame_at new s ≡ Some g → insn_at slots s ≡ Some j → broken slots len s j g.kinds ≡ None
+    keeps s g j lt e b = ⊎_elim here below (cases_eq s n)
+      where
+        was : frame_at old s ≡ Some g
+        was = sym (ld.same s (omega arith)) ∙ e
+
+        below : s ≢ n → broken slots len s j g.kinds ≡ None
+        below q = l.types.keeps s g j (omega arith) was b
+
+        here : s ≡ n → broken slots len s j g.kinds ≡ None
+        here q =
+            let eg : f ≡ g = same_some f g (frame_at old n) there (sym (ap (frame_at old) q) ∙ was) in
+            let ei : i ≡ j = same_insn i j (insn_at slots n) begin (sym (ap (insn_at slots) q) ∙ b) in
+            let one = subst (λ (x : Frame). broken slots len n i x.kinds ≡ None) eg kept in
+            let two = subst (λ x. broken slots len n x g.kinds ≡ None) ei one in
+            subst (λ x. broken slots len x j g.kinds ≡ None) (sym q) two
+
+    leads : (s : ℕ) (g : Frame) (j : Insn) → s < n + 1 → frame_at new s ≡ Some g → insn_at slots s ≡ Some j → AllByRecursion (Enters new (after j g.kinds)) (successors s j)
+    leads s g j lt e b = ⊎_elim here below (cases_eq s n)
+      where
+        was : frame_at old s ≡ Some g
+        was = sym (ld.same s (omega arith)) ∙ e
+
+        below : s ≢ n → AllByRecursion (Enters new (after j g.kinds)) (successors s j)
+        below q = all_below old new (after j g.kinds) (successors s j) ld.grows (l.types.leads s g j (omega arith) was b)
+
+        here : s ≡ n → AllByRecursion (Enters new (after j g.kinds)) (successors s j)
+        here q =
+            let eg : f ≡ g = same_some f g (frame_at old n) there (sym (ap (frame_at old) q) ∙ was) in
+            let ei : i ≡ j = same_insn i j (insn_at slots n) begin (sym (ap (insn_at slots) q) ∙ b) in
+            let one = subst (λ (x : Frame). AllByRecursion (Enters new (after i x.kinds)) (successors n i)) eg ld.enters in
+            let two = subst (λ x. AllByRecursion (Enters new (after x g.kinds)) (successors n x)) ei one in
+            subst (λ x. AllByRecursion (Enters new (after j g.kinds)) (successors x j)) (sym q) two
+
+    least : (t : Table) → TypesBelow slots len (n + 1) t → Below new t
+    least t h =
+        let b : Below old t = l.least t (types_less slots len n t h) in
+        let k = b n f there in
+        let w : length f.kinds ≡ length k.0.kinds = l.types.whole n f there ∙ sym (h.whole n k.0 k.1) in
+        let m = kept_below slots len n i f.kinds k.0.kinds w k.2 (h.keeps n k.0 i (omega arith) k.1 begin) in
+        ld.least t b (all_weaker t (after i f.kinds) (after i k.0.kinds) (successors n i) m.1 (h.leads n k.0 i (omega arith) k.1 begin))
+
+-- ---- the end of the pass
+
+pub below_typing : (slots : List (Option Insn)) (len n : ℕ) (t : Table) → IsTyping slots len t → TypesBelow slots len n t
+below_typing slots len n t h = record {
+  start = h.start;
+  whole = h.whole;
+  begins = h.begins;
+  keeps = λ s g i lt. h.keeps s g i;
+  leads = λ s g i lt. h.leads s g i;
+}
+
+within : (slots : List (Option Insn)) (s : ℕ) (i : Insn) → insn_at slots s ≡ Some i → s < length slots
+within [] s i h = cc
+within (x ∷ xs) zero i h = omega arith
+within (x ∷ xs) (suc s) i h = let k = within xs s i h in omega arith
+
+pub least_typing : (slots : List (Option Insn)) (len : ℕ) (table : Table) → IsLeast slots len (length slots) table → IsLeastTyping slots len table
+least_typing slots len table l = record {
+  types = record {
+    start = l.types.start;
+    whole = l.types.whole;
+    begins = l.types.begins;
+    keeps = λ s g i e b. l.types.keeps s g i (within slots s i b) e b;
+    leads = λ s g i e b. l.types.leads s g i (within slots s i b) e b;
+  };
+  least = λ t h. l.least t (below_typing slots len (length slots) t h);
+}
+
+-- code with a broken rule has no typing
+pub no_typing : (slots : List (Option Insn)) (len : ℕ) (rule : Rule) (s : ℕ) → Breaks slots len rule s → (t : Table) → IsTyping slots len t → ⊥
+no_typing slots len rule s b t h =
+    let k = b.least.least t (below_typing slots len s t h) s b.frame b.there in
+    let w : length b.frame.kinds ≡ length k.0.kinds = b.least.types.whole s b.frame b.there ∙ sym (h.whole s k.0 k.1) in
+    let m = (kept_below slots len s b.insn b.frame.kinds k.0.kinds w k.2 (h.keeps s k.0 b.insn k.1 b.begins)).0 in
+    let e = b.breaks in
+    cc
+
+pub no_typing_empty : (slots : List (Option Insn)) (len : ℕ) → slots ≡ [] → (t : Table) → IsTyping slots len t → ⊥
+no_typing_empty slots len e t h =
+    let st = h.start in
+    let b = h.begins st.0 st.1 st.3 in
+    let x : insn_at [] st.0 ≡ Some b.0 = subst (λ l. insn_at l st.0 ≡ Some b.0) e b.1 in
+    cc
+
+pub refused_empty : (slots : List (Option Insn)) (len : ℕ) (rule : Rule) (s : ℕ) → slots ≡ [] → IsRefused [] len rule s → IsRefused slots len rule s
+refused_empty slots len rule s e h = subst (λ l. IsRefused l len rule s) (sym e) h
+
+pub refused : (slots : List (Option Insn)) (len : ℕ) (rule : Rule) (s : ℕ) → 0 < length slots → Breaks slots len rule s → IsRefused slots len rule s
+refused [] len rule s lt b = absurd (omega arith)
+refused (x ∷ xs) len rule s lt b = b
+
+-- ---- one slot
+
+slot_is : (slots : List (Option Insn)) (s : ℕ) (d : Option Insn) → s < length slots → insn_at slots s ≡ get_or slots s d
+slot_is [] s d lt = absurd (omega arith)
+slot_is (x ∷ xs) zero d lt = refl
+slot_is (x ∷ xs) (suc s) d lt = slot_is xs s d (omega arith)
+
+pub insn_is : (slots : List (Option Insn)) (s : ℕ) (d : Option Insn) (o : Option Insn) → s < length slots → get_or slots s d ≡ o → insn_at slots s ≡ o
+insn_is slots s d o lt e = slot_is slots s d lt ∙ e
+
+some_of : (o : Option Insn) → is_some o ≡ true → (i : Insn) × (o ≡ Some i)
+some_of None h = absurd (false≢true h)
+some_of (Some i) h = (i, refl)
+
+pub within_some : (slots : List (Option Insn)) (s : ℕ) → is_some (insn_at slots s) ≡ true → s < length slots
+within_some slots s h = let k = some_of (insn_at slots s) h in within slots s k.0 k.1
+
+falls_size : (i : Insn) (k : ℕ) → Falls k ≡ flow_of i → k ≡ size_of i
+falls_size (Alu op width dst o) k e = cc
+falls_size (MovSx extension dst src) k e = cc
+falls_size (Neg width dst) k e = cc
+falls_size (End order bits dst) k e = cc
+falls_size (Jump offset) k e = cc
+falls_size (JumpLong distance) k e = cc
+falls_size (JumpIf condition width dst o offset) k e = cc
+falls_size (Call helper) k e = cc
+falls_size Exit k e = cc
+falls_size (Load size dst src offset) k e = cc
+falls_size (LoadSx size dst src offset) k e = cc
+falls_size (StoreReg size dst src offset) k e = cc
+falls_size (StoreImm size dst offset imm) k e = cc
+falls_size (Wide dst value) k e = cc
+
+size_if : (b : Bool) → 0 < cond b 2 1
+size_if true = omega arith
+size_if false = omega arith
+
+size_positive : (i : Insn) → 0 < size_of i
+size_positive i = size_if (is_wide i)
+
+forks_size : (i : Insn) (d : ℤ) → Forks d ≡ flow_of i → 1 ≡ size_of i
+forks_size (Alu op width dst o) d e = cc
+forks_size (MovSx extension dst src) d e = cc
+forks_size (Neg width dst) d e = cc
+forks_size (End order bits dst) d e = cc
+forks_size (Jump offset) d e = cc
+forks_size (JumpLong distance) d e = cc
+forks_size (JumpIf condition width dst o offset) d e = refl
+forks_size (Call helper) d e = cc
+forks_size Exit d e = cc
+forks_size (Load size dst src offset) d e = cc
+forks_size (LoadSx size dst src offset) d e = cc
+forks_size (StoreReg size dst src offset) d e = cc
+forks_size (StoreImm size dst offset imm) d e = cc
+forks_size (Wide dst value) d e = cc
+
+before_end : (n m : ℕ) → not (nat_lt n m) ≡ false → n < m
+before_end n m h = let k = not_false (nat_lt n m) h in grind (arith, nat_tests)
+
+module _ (slots : List (Option Insn)) (len n : ℕ) (old : Table) (f : Frame) (i : Insn) (fl : Flow) (left : List Kind) (follows : Follows slots) (l : IsLeast slots len n old) (there : frame_at old n ≡ Some f) (begin : insn_at slots n ≡ Some i) (flow : fl ≡ flow_of i) where
+  pub breaks_flow : (rule : Rule) → first_broken (flow_tests slots n fl) ≡ Some rule → Breaks slots len rule n
+  breaks_flow rule h = record {
+    table = old;
+    least = l;
+    frame = f;
+    there = there;
+    insn = i;
+    begins = begin;
+    breaks = first_some (first_broken (jump_tests slots n i)) (first_broken (tests_of i f.kinds len)) rule (subst (λ x. first_broken (flow_tests slots n x) ≡ Some rule) flow h);
+  }
+
+  module _ (kept : first_broken (flow_tests slots n fl) ≡ None) where
+    kept' : first_broken (jump_tests slots n i) ≡ None
+    kept' = subst (λ x. first_broken (flow_tests slots n x) ≡ None) flow kept
+
+    pub breaks_local : (rule : Rule) → first_broken (tests_of i f.kinds len) ≡ Some rule → Breaks slots len rule n
+    breaks_local rule h = record {
+      table = old;
+      least = l;
+      frame = f;
+      there = there;
+      insn = i;
+      begins = begin;
+      breaks = second_some (first_broken (jump_tests slots n i)) (first_broken (tests_of i f.kinds len)) rule kept' h;
+    }
+
+    module _ (local : first_broken (tests_of i f.kinds len) ≡ None) (after_is : left ≡ after i f.kinds) where
+      step_by : (new : Table) → Leads slots old left n (successors_by n fl) new → IsLeast slots len (n + 1) new
+      step_by new h =
+          let one = subst (λ x. Leads slots old x n (successors_by n fl) new) after_is h in
+          let two = subst (λ x. Leads slots old (after i f.kinds) n (successors_by n x) new) flow one in
+          least_step slots len n old new f i l there begin (none_both (first_broken (jump_tests slots n i)) (first_broken (tests_of i f.kinds len)) kept' local) two
+
+      pub step_ends : fl ≡ Ends → IsLeast slots len (n + 1) old
+      step_ends e = step_by old (subst (λ x. Leads slots old left n (successors_by n x) old) (sym e) (leads_none slots old left n))
+
+      pub step_leaps : (d : ℤ) (to : ℕ) (new : Table) → fl ≡ Leaps d → pos (n + 1) +ℤ d ≡ pos to → n < to → is_some (insn_at slots to) ≡ true → Merged old to left new → IsLeast slots len (n + 1) new
+      step_leaps d to new e z lt b m =
+          let k = some_of (insn_at slots to) b in
+          step_by new (subst (λ x. Leads slots old left n (successors_by n x) new) (sym e) (leads_more slots old old new left n to (pos (n + 1) +ℤ d) [] (leads_none slots old left n) m z lt k.0 k.1))
+
+      pub step_falls : (k : ℕ) (new : Table) → fl ≡ Falls k → Merged old (n + k) left new → IsLeast slots len (n + 1) new
+      step_falls k new e m =
+          let ks = falls_size i k (sym e ∙ flow) in
+          let p = size_positive i in
+          let h = none_holds (flow_tests slots n (Falls k)) (subst (λ x. first_broken (flow_tests slots n x) ≡ None) e kept) in
+          let b = follows n (n + k) i begin (omega arith) (before_end (n + k) (length slots) h.0) in
+          step_by new (subst (λ x. Leads slots old left n (successors_by n x) new) (sym e) (leads_more slots old old new left n (n + k) (pos (n + k)) [] (leads_none slots old left n) m refl (omega arith) b.0 b.1))
+
+      pub step_forks : (d : ℤ) (to : ℕ) (mid new : Table) → fl ≡ Forks d → pos (n + 1) +ℤ d ≡ pos to → n < to → is_some (insn_at slots to) ≡ true → Merged old (n + 1) left mid → Merged mid to left new → IsLeast slots len (n + 1) new
+      step_forks d to mid new e z lt b m m' =
+          let ks = forks_size i d (sym e ∙ flow) in
+          let h = none_holds (flow_tests slots n (Forks d)) (subst (λ x. first_broken (flow_tests slots n x) ≡ None) e kept) in
+          let j = follows n (n + 1) i begin (omega arith) (before_end (n + 1) (length slots) h.1.0) in
+          let k = some_of (insn_at slots to) b in
+          let one = leads_more slots old old mid left n (n + 1) (pos (n + 1)) [] (leads_none slots old left n) m refl (omega arith) j.0 j.1 in
+          step_by new (subst (λ x. Leads slots old left n (successors_by n x) new) (sym e) (leads_more slots old mid new left n to (pos (n + 1) +ℤ d) (pos (n + 1) ∷ []) one m' z lt k.0 k.1))
+
+-- ---- the table at first
+
+pub opening_one : (f : Frame) (table : Table) → f.kinds ≡ entry_kinds → table ≡ Some f ∷ [] → IsOpening table
+opening_one f table k e = subst IsOpening (sym e) (record { frame = f; first = refl; entry = k; none = others })
+  where
+    others : (s : ℕ) → s ≢ 0 → frame_at (Some f ∷ []) s ≡ None
+    others zero n = absurd (n refl)
+    others (suc s) n = refl
+
+frame_past : (t : Table) (s : ℕ) → frame_at (t ++ None ∷ []) s ≡ frame_at t s
+frame_past [] zero = refl
+frame_past [] (suc s) = refl
+frame_past (x ∷ t) zero = refl
+frame_past (x ∷ t) (suc s) = frame_past t s
+
+pub opening_more : (old table : Table) → IsOpening old → table ≡ old ++ None ∷ [] → IsOpening table
+opening_more old table o e = subst IsOpening (sym e) (record { frame = o.frame; first = frame_past old 0 ∙ o.first; entry = o.entry; none = λ s n. frame_past old s ∙ o.none s n })
+
+-- ---- a refusal is the only one
+
+-- no slot below breaks a rule
+no_earlier : (slots : List (Option Insn)) (len : ℕ) (rule rule' : Rule) (s s' : ℕ) → Breaks slots len rule s → Breaks slots len rule' s' → s < s' → ⊥
+no_earlier slots len rule rule' s s' a b lt =
+    let t = b.least.types in
+    let below : TypesBelow slots len s b.table = record {
+      start = t.start;
+      whole = t.whole;
+      begins = t.begins;
+      keeps = λ q g i l. t.keeps q g i (omega arith);
+      leads = λ q g i l. t.leads q g i (omega arith);
+    } in
+    let k = a.least.least b.table below s a.frame a.there in
+    let w : length a.frame.kinds ≡ length k.0.kinds = a.least.types.whole s a.frame a.there ∙ sym (t.whole s k.0 k.1) in
+    let m = (kept_below slots len s a.insn a.frame.kinds k.0.kinds w k.2 (t.keeps s k.0 a.insn lt k.1 a.begins)).0 in
+    let e = a.breaks in
+    cc
+
+-- a frame that says more breaks no rule that a frame that says less keeps, and so each breaks the other's
+breaks_same : (slots : List (Option Insn)) (len : ℕ) (rule rule' : Rule) (s : ℕ) → Breaks slots len rule s → Breaks slots len rule' s → rule ≡ rule'
+breaks_same slots len rule rule' s a b =
+    let x = a.least.least b.table b.least.types s a.frame a.there in
+    let y = b.least.least a.table a.least.types s b.frame b.there in
+    let ex : x.0 ≡ b.frame = same_some x.0 b.frame (frame_at b.table s) x.1 b.there in
+    let ey : y.0 ≡ a.frame = same_some y.0 a.frame (frame_at a.table s) y.1 a.there in
+    let lx : Leq a.frame.kinds b.frame.kinds = subst (λ (f : Frame). Leq a.frame.kinds f.kinds) ex x.2 in
+    let ly : Leq b.frame.kinds a.frame.kinds = subst (λ (f : Frame). Leq b.frame.kinds f.kinds) ey y.2 in
+    let kinds : a.frame.kinds ≡ b.frame.kinds = Leq-antisym a.frame.kinds b.frame.kinds (a.least.types.whole s a.frame a.there ∙ sym (b.least.types.whole s b.frame b.there)) lx ly in
+    let i : a.insn ≡ b.insn = same_insn a.insn b.insn (insn_at slots s) a.begins b.begins in
+    let one = subst (λ k. broken slots len s a.insn k ≡ Some rule) kinds a.breaks in
+    let two = subst (λ i. broken slots len s i b.frame.kinds ≡ Some rule) i one in
+    same_rule rule rule' (broken slots len s b.insn b.frame.kinds) two b.breaks
+  where
+    same_rule : (r r' : Rule) (o : Option Rule) → o ≡ Some r → o ≡ Some r' → r ≡ r'
+    same_rule r r' o p q = cc
+
+pub one_refusal : IsOneRefusal
+one_refusal [] len rule rule' s s' a b = (a.0 ∙ sym b.0, a.1 ∙ sym b.1)
+one_refusal (x ∷ xs) len rule rule' s s' a b =
+    let first : s ≡ s' → (rule ≡ rule') × (s ≡ s') = λ q. (breaks_same (x ∷ xs) len rule rule' s' (subst (λ n. Breaks (x ∷ xs) len rule n) q a) b, q) in
+    let second : s ≢ s' → (rule ≡ rule') × (s ≡ s') = λ q. absurd (apart q) in
+    ⊎_elim first second (cases_eq s s')
+  where
+    apart : s ≢ s' → ⊥
+    apart q =
+        let lower = λ (l : s < s'). no_earlier (x ∷ xs) len rule rule' s s' a b l in
+        let higher = λ (l : s' ≤ s). no_earlier (x ∷ xs) len rule' rule s' s b a (omega arith) in
+        ⊎_elim lower higher (cases_lt s s')

@@ -1,0 +1,3 @@
+pub mod LeastTypings
+pub mod Layouts
+pub mod Files

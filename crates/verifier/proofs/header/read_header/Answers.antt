@@ -1,0 +1,28 @@
+use Rattle.std.proofs.Common.{rules}
+use Rattle.verifier.specs.declared.fault.HeaderFault.TheVariants.{Magic, StateLength, SlotCount, FileLength}
+use Rattle.verifier.proofs.Files.{stops, passes, starts_broken}
+use Rattle.verifier.proofs.header.read_header.Goals as goal
+
+pub returns-then-ne-clause-refused : goal.returns-then-ne-clause-refused
+returns-then-ne-clause-refused c = starts_broken Magic _ _ _ c.header_at.ensures (stops _ _ _ _ (search rules))
+
+pub returns-then-header-gt-STATE_LIMIT-clause-refused : goal.returns-then-header-gt-STATE_LIMIT-clause-refused
+returns-then-header-gt-STATE_LIMIT-clause-refused c =
+    starts_broken StateLength _ _ _ c.header_at.ensures
+    (passes Magic _ _ _ _ (search rules)
+    (stops _ _ _ _ (search rules)))
+
+pub returns-then-header-eq0-clause-refused : goal.returns-then-header-eq0-clause-refused
+returns-then-header-eq0-clause-refused c =
+    starts_broken SlotCount _ _ _ c.header_at.ensures
+    (passes Magic _ _ _ _ (search rules)
+    (passes StateLength _ _ _ _ (search rules)
+    (stops _ _ _ _ (search rules))))
+
+pub returns-then-code-header-clause-refused : goal.returns-then-code-header-clause-refused
+returns-then-code-header-clause-refused c =
+    starts_broken FileLength _ _ _ c.header_at.ensures
+    (passes Magic _ _ _ _ (search rules)
+    (passes StateLength _ _ _ _ (search rules)
+    (passes SlotCount _ _ _ _ (search rules)
+    (stops _ _ _ _ (search rules)))))

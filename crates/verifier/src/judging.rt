@@ -1,0 +1,122 @@
+//! One slot of the pass: its rules, and what leaves it.
+
+ghost use Rattle.std.specs.Prelude.{◌≡◌, ◌≤◌, ◌<◌, ◌+◌, MatchResult, length, true, is_some, pos, ◌+ℤ◌, Some, None};
+ghost use Rattle.decode.specs.Slots.{insn_at};
+ghost use Rattle.regtypes.specs.Rules.{first_broken};
+ghost use Rattle.regtypes.specs.Typing.{is_target, flow_tests};
+ghost use Rattle.verifier.specs.Least.{IsLeast, Breaks};
+ghost use Rattle.verifier.specs.Pass.{Follows, Merged};
+
+use decode::Insn;
+use regtypes::{Flow, Frame, Rule, flow_from, join, transfer};
+
+/// Joins a frame into what a slot has.
+fn merge(table: &mut [Option<Frame>], to: usize, frame: &Frame)
+    requires within { to < length table.old }
+    requires whole { length frame.now.kinds ≡ 11 }
+    ensures { Merged table.old to frame.now.kinds table.new }
+{
+    table[to] = match &table[to] {
+        Some(had) => Some(join(had, frame)),
+        None => Some(*frame),
+    };
+}
+
+/// Whether an instruction begins at a slot.
+fn begins(slots: &[Option<Insn>], slot: usize) -> bool
+    ensures { result ≡ is_some (insn_at slots.now slot) }
+{
+    slot < slots.len() && slots[slot].is_some()
+}
+
+/// Whether a jump leads to a later slot in which an instruction begins.
+fn is_target(slots: &[Option<Insn>], slot: usize, distance: i32) -> bool
+    requires { slot < 1024 }
+    ensures { result ≡ is_target slots.now slot (pos (slot + 1) +ℤ distance) }
+{
+    distance >= 0 && begins(slots, slot + 1 + distance as usize)
+}
+
+/// The slot that a jump leads to.
+fn target(slots: &[Option<Insn>], slot: usize, distance: i32) -> usize
+    requires short { slot < 1024 }
+    requires target { is_target slots.now slot (pos (slot + 1) +ℤ distance) ≡ true }
+    ensures place { pos (slot + 1) +ℤ distance ≡ pos result }
+    ensures later { slot < result }
+    ensures begins { is_some (insn_at slots.now result) ≡ true }
+{
+    slot + 1 + distance as usize
+}
+
+/// The rules on where an instruction leads, V1 and V2.
+fn leads(slots: &[Option<Insn>], slot: usize, flow: &Flow) -> Result<(), Rule>
+    requires short { slot < 1024 }
+    requires within { slot < length slots.now }
+    ensures { MatchResult result (λ _. first_broken (flow_tests slots.now slot flow.now) ≡ None) (λ r. first_broken (flow_tests slots.now slot flow.now) ≡ Some r) }
+{
+    match *flow {
+        Flow::Ends => {}
+        Flow::Leaps(distance) => {
+            if !is_target(slots, slot, distance) {
+                return Err(Rule::V1);
+            }
+        }
+        Flow::Forks(distance) => {
+            if !is_target(slots, slot, distance) {
+                return Err(Rule::V1);
+            }
+            if slot + 1 >= slots.len() {
+                return Err(Rule::V2);
+            }
+        }
+        Flow::Falls(size) => {
+            if size >= slots.len() - slot {
+                return Err(Rule::V2);
+            }
+        }
+    }
+    Ok(())
+}
+
+/// Judges one slot, and joins what leaves it into the slots that come next. A slot that no path
+/// leads to is not judged.
+pub fn judge(
+    slots: &[Option<Insn>],
+    state_len: u16,
+    slot: usize,
+    table: &mut [Option<Frame>],
+) -> Result<(), Rule>
+    requires short { length slots.now ≤ 1024 }
+    requires within { slot < length slots.now }
+    requires same { length table.old ≡ length slots.now }
+    requires follows { Follows slots.now }
+    requires least { IsLeast slots.now state_len slot table.old }
+    ensures { MatchResult result (λ _. IsLeast slots.now state_len (slot + 1) table.new) (λ rule. Breaks slots.now state_len rule slot) }
+{
+    let frame = match table[slot] {
+        Some(frame) => frame,
+        None => return Ok(()),
+    };
+    let insn = match slots[slot] {
+        Some(insn) => insn,
+        None => unreachable!(),
+    };
+    let flow = flow_from(&insn);
+    if let Err(rule) = leads(slots, slot, &flow) {
+        return Err(rule);
+    }
+    let left = match transfer(&insn, &frame, state_len) {
+        Ok(left) => left,
+        Err(rule) => return Err(rule),
+    };
+    match flow {
+        Flow::Ends => {}
+        Flow::Leaps(distance) => merge(table, target(slots, slot, distance), &left),
+        Flow::Forks(distance) => {
+            merge(table, slot + 1, &left);
+            merge(table, target(slots, slot, distance), &left);
+        }
+        Flow::Falls(size) => merge(table, slot + size, &left),
+    }
+    Ok(())
+}

@@ -1,0 +1,35 @@
+//! Instructions to image files.
+
+ghost use Rattle.std.specs.Prelude.{◌≤◌, IfOk, IfErr};
+ghost use Rattle.verifier.specs.ImageFile.{IsFile, IsUnwritten};
+
+use crate::fault::{HeaderFault, ImageError};
+use crate::header::{SLOT_LIMIT, write_header};
+use decode::{Insn, encode, slots};
+use std::alloc::Global;
+
+/// The image file of these instructions with a state of this length, at most 1,024 bytes. They are
+/// not verified; `parts` gives them back.
+pub fn file(alloc: Global, code: &[Insn], state_len: u16) -> Result<Vec<u8>, ImageError>
+    requires { state_len ≤ 1024 }
+    ensures written { IfOk result (λ v. IsFile code.now state_len v.items) }
+    ensures refused { IfErr result (IsUnwritten code.now) }
+{
+    let count = slots(code);
+    if count == 0 || count > SLOT_LIMIT as usize {
+        return Err(ImageError::Header(HeaderFault::SlotCount));
+    }
+    let header = write_header(state_len, count as u16);
+    let mut bytes = match Vec::from_slice(alloc, &header) {
+        Ok(bytes) => bytes,
+        Err(_) => return Err(ImageError::Memory),
+    };
+    let body = match encode(alloc, code) {
+        Ok(body) => body,
+        Err(_) => return Err(ImageError::Memory),
+    };
+    match bytes.extend_from_slice(&body) {
+        Ok(()) => Ok(bytes),
+        Err(_) => Err(ImageError::Memory),
+    }
+}
