@@ -1,0 +1,159 @@
+//! Checks and calls of image files.
+
+ghost use Rattle.std.specs.Prelude.{◌≡◌, ◌≤◌, ◌<◌, ◌+◌, ◌*◌, ◌/◌, ◌%◌, ◌≢◌, ◌↔◌, IsTrue, IfOk, IfErr, MatchResult, OnErr, length, slice_range};
+ghost use Rattle.decode.specs.Slots.{slots_of};
+ghost use Rattle.verifier.specs.ImageFile.{IsRefusal};
+ghost use Rattle.embed.specs.Calls.{IsTypableFile, IsSeat, IsReported, AreReported};
+ghost use Rattle.embed.specs.Exports.{IsChecked, IsUnchecked, IsUnopened, IsCalled, IsCallRefusal, AreCalled, AreCallsRefused};
+
+use crate::refusal::{Refusal, refused_rule, refused_slot};
+use crate::report::{FAULT_SIZE, REPORT_LIMIT, put_fault, put_report};
+use helpers::{Effects, Who};
+use std::alloc::Global;
+use verifier::{Image, load};
+
+/// How many bytes a message has.
+const MESSAGE: usize = 64;
+
+/// Checks a file. The rule and the slot of a refusal are written into `out`.
+pub fn check(alloc: Global, file: &[u8], out: &mut [u8]) -> Result<(), Refusal>
+    ensures { MatchResult result (λ _. IsChecked file.now out.old out.new) (IsUnchecked file.now out.old out.new) }
+{
+    if out.len() < FAULT_SIZE {
+        return Err(Refusal::Room);
+    }
+    match load(alloc, file) {
+        Ok(_image) => Ok(()),
+        Err(error) => {
+            put_fault(out, refused_rule(&error), refused_slot(&error));
+            Err(Refusal::Image(error))
+        }
+    }
+}
+
+/// Whether a process can be called so: its number is 1 to the count, which is at most 15, and the
+/// sender is another process or the outside.
+fn is_seat(who: Who) -> bool
+    ensures { IsTrue result ↔ IsSeat who }
+{
+    1 <= who.me
+        && who.me <= who.count
+        && who.count <= 15
+        && who.from <= who.count
+        && who.me != who.from
+}
+
+/// The image of a file, for a state of this length.
+fn open(alloc: Global, file: &[u8], state: &[u8]) -> Result<Image, Refusal>
+    ensures file { IfOk result (λ image. IsTypableFile image.code image.len file.now) }
+    ensures slots { IfOk result (λ image. image.slots ≡ slots_of image.code) }
+    ensures state { IfOk result (λ image. length state.now ≡ image.len) }
+    ensures refused { IfErr result (IsUnopened file.now state.now) }
+{
+    let image = match load(alloc, file) {
+        Ok(image) => image,
+        Err(error) => return Err(Refusal::Image(error)),
+    };
+    if state.len() != image.state_len() as usize {
+        return Err(Refusal::State);
+    }
+    Ok(image)
+}
+
+/// Calls the handler by one message, and writes its report from a place on. Answers the place
+/// behind it.
+fn call_once(
+    image: &Image,
+    state: &mut [u8],
+    message: &[u8; 64],
+    who: Who,
+    out: &mut [u8],
+    at: usize,
+) -> usize
+    requires state { length state.old ≡ image.now.len }
+    requires room { at + REPORT_LIMIT ≤ length out.old }
+    ensures { IsReported image.now.slots who state.old message.now state.new out.old at out.new result }
+{
+    let mut effects = Effects::new();
+    let end = interp::call(image, state, message, who, &mut effects);
+    put_report(out, at, end, &effects)
+}
+
+/// The 64 bytes of a message from a place on.
+fn message_at(messages: &[u8], at: usize) -> [u8; 64]
+    requires { at + 64 ≤ length messages.now }
+    ensures { result ≡ slice_range messages.now at (at + 64) }
+{
+    let mut message = [0u8; 64];
+    message.copy_from_slice(&messages[at..at + 64]);
+    message
+}
+
+/// Calls the handler by one message after another, and writes the reports from the front on.
+fn call_each(image: &Image, state: &mut [u8], messages: &[u8], who: Who, out: &mut [u8])
+    requires state { length state.old ≡ image.now.len }
+    requires whole { length messages.now % 64 ≡ 0 }
+    requires room { 1064 * (length messages.now / 64) ≤ length out.old }
+    ensures { AreReported image.now.slots who state.old messages.now state.new out.old out.new }
+{
+    let mut end = 0;
+    'calls: for i in 0..messages.len() / MESSAGE {
+        let message = message_at(messages, MESSAGE * i);
+        end = call_once(image, state, &message, who, out, end);
+    }
+}
+
+/// Loads a file and calls its handler by one message. The report is written into `out`.
+pub fn call(
+    alloc: Global,
+    file: &[u8],
+    state: &mut [u8],
+    message: &[u8],
+    who: Who,
+    out: &mut [u8],
+) -> Result<(), Refusal>
+    ensures done { IfOk result (λ _. IsCalled file.now who state.old message.now state.new out.old out.new) }
+    ensures refused { IfErr result (IsCallRefusal file.now who state.old message.now out.old) }
+    ensures unchanged { OnErr result ((state.new ≡ state.old) × (out.new ≡ out.old)) }
+{
+    if !is_seat(who) {
+        return Err(Refusal::Who);
+    }
+    if message.len() != MESSAGE {
+        return Err(Refusal::Message);
+    }
+    if out.len() < REPORT_LIMIT {
+        return Err(Refusal::Room);
+    }
+    let image = open(alloc, file, state)?;
+    call_once(&image, state, &message_at(message, 0), who, out, 0);
+    Ok(())
+}
+
+/// Loads a file and calls its handler by one message of 64 bytes after another. The reports are
+/// written into `out`, one behind the other.
+pub fn call_many(
+    alloc: Global,
+    file: &[u8],
+    state: &mut [u8],
+    messages: &[u8],
+    who: Who,
+    out: &mut [u8],
+) -> Result<(), Refusal>
+    ensures done { IfOk result (λ _. AreCalled file.now who state.old messages.now state.new out.old out.new) }
+    ensures refused { IfErr result (AreCallsRefused file.now who state.old messages.now out.old) }
+    ensures unchanged { OnErr result ((state.new ≡ state.old) × (out.new ≡ out.old)) }
+{
+    if !is_seat(who) {
+        return Err(Refusal::Who);
+    }
+    if messages.len() % MESSAGE != 0 {
+        return Err(Refusal::Message);
+    }
+    if out.len() / REPORT_LIMIT < messages.len() / MESSAGE {
+        return Err(Refusal::Room);
+    }
+    let image = open(alloc, file, state)?;
+    call_each(&image, state, messages, who, out);
+    Ok(())
+}

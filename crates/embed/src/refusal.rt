@@ -1,0 +1,63 @@
+//! Why a file or a call is refused.
+
+ghost use Rattle.std.specs.Prelude.{◌≡◌};
+ghost use Rattle.embed.specs.Exports.{refusal_number, refused_rule, refused_slot};
+
+use verifier::ImageError;
+
+/// Why a file or a call is refused, by number.
+#[derive(Debug, Drop)]
+pub enum Refusal {
+    /// 1 to 4: no memory, or a fault of the file's header, of its code, or by the verifier's rules.
+    Image(ImageError),
+    /// 5: the state isn't as long as the file says.
+    State,
+    /// 6: what is given isn't messages of 64 bytes.
+    Message,
+    /// 7: the numbers of the processes aren't in range.
+    Who,
+    /// 8: the buffer for the answer is too short.
+    Room,
+}
+
+impl Refusal {
+    /// Its number, 1 to 8.
+    pub fn number(&self) -> u32
+        ensures { result ≡ refusal_number self.now }
+    {
+        match self {
+            Refusal::Image(ImageError::Memory) => 1,
+            Refusal::Image(ImageError::Header(_)) => 2,
+            Refusal::Image(ImageError::Decode { .. }) => 3,
+            Refusal::Image(ImageError::Verify { .. }) => 4,
+            Refusal::State => 5,
+            Refusal::Message => 6,
+            Refusal::Who => 7,
+            Refusal::Room => 8,
+        }
+    }
+}
+
+/// The number of the broken rule, 0 where memory ran out.
+pub fn refused_rule(error: &ImageError) -> u8
+    ensures { result ≡ refused_rule error.now }
+{
+    match *error {
+        ImageError::Memory => 0,
+        ImageError::Header(fault) => fault.number(),
+        ImageError::Decode { rule, .. } => rule.number(),
+        ImageError::Verify { rule, .. } => rule.number(),
+    }
+}
+
+/// The slot that breaks it, 0 where no slot does.
+pub fn refused_slot(error: &ImageError) -> usize
+    ensures { result ≡ refused_slot error.now }
+{
+    match *error {
+        ImageError::Memory => 0,
+        ImageError::Header(_) => 0,
+        ImageError::Decode { slot, .. } => slot,
+        ImageError::Verify { slot, .. } => slot,
+    }
+}

@@ -1,0 +1,71 @@
+//! What a call answers, as bytes.
+
+ghost use Rattle.std.specs.Prelude.{◌≡◌, ◌≤◌, ◌+◌, ◌*◌, length};
+ghost use Rattle.std.specs.List.{flat_map, concat};
+ghost use Rattle.interp.specs.Bytes.{overwritten};
+ghost use Rattle.embed.specs.Layout.{header_bytes, sent_bytes, report_bytes, fault_bytes};
+
+use crate::bytes::{put, put_number};
+use helpers::{Effects, Sent};
+use interp::CallEnd;
+
+/// The most bytes that the report of one call has: four numbers, 8 sends and 8 outputs.
+pub const REPORT_LIMIT: usize = 1064;
+
+/// How many bytes the rule and the slot of a refusal have.
+pub const FAULT_SIZE: usize = 16;
+
+/// Writes sends, and answers the place behind them.
+fn put_sends(out: &mut [u8], at: usize, sends: &[Sent]) -> usize
+    requires { at + 65 * length sends.now ≤ length out.old }
+    ensures written { out.new ≡ overwritten out.old at (flat_map sent_bytes sends.now) }
+    ensures end { result ≡ at + length (flat_map sent_bytes sends.now) }
+    ensures size { length (flat_map sent_bytes sends.now) ≡ 65 * length sends.now }
+{
+    let mut end = at;
+    for sent in sends {
+        end = put(out, end, &[sent.dst]);
+        end = put(out, end, &sent.payload);
+    }
+    end
+}
+
+/// Writes outputs, and answers the place behind them.
+fn put_outputs(out: &mut [u8], at: usize, outputs: &[[u8; 64]]) -> usize
+    requires { at + 64 * length outputs.now ≤ length out.old }
+    ensures written { out.new ≡ overwritten out.old at (concat outputs.now) }
+    ensures end { result ≡ at + length (concat outputs.now) }
+    ensures size { length (concat outputs.now) ≡ 64 * length outputs.now }
+{
+    let mut end = at;
+    for output in outputs {
+        end = put(out, end, output);
+    }
+    end
+}
+
+/// Writes the report of a call, and answers the place behind it.
+pub fn put_report(out: &mut [u8], at: usize, call: CallEnd, effects: &Effects) -> usize
+    requires { at + REPORT_LIMIT ≤ length out.old }
+    ensures written { out.new ≡ overwritten out.old at (report_bytes call.r0 call.steps effects.now) }
+    ensures end { result ≡ at + length (report_bytes call.r0 call.steps effects.now) }
+    ensures size { length (report_bytes call.r0 call.steps effects.now) ≤ REPORT_LIMIT }
+{
+    let sends = effects.sends();
+    let outputs = effects.outputs();
+    let mut end = put_number(out, at, call.r0);
+    end = put_number(out, end, u64::from(call.steps));
+    end = put_number(out, end, sends.len() as u64);
+    end = put_number(out, end, outputs.len() as u64);
+    end = put_sends(out, end, sends);
+    put_outputs(out, end, outputs)
+}
+
+/// Writes the rule and the slot of a refusal.
+pub fn put_fault(out: &mut [u8], rule: u8, slot: usize)
+    requires { FAULT_SIZE ≤ length out.old }
+    ensures { out.new ≡ overwritten out.old 0 (fault_bytes rule slot) }
+{
+    let end = put_number(out, 0, u64::from(rule));
+    put_number(out, end, slot as u64);
+}

@@ -1,0 +1,135 @@
+//! Images worked out by hand, and what their calls leave.
+
+use crate::calling::{call, call_many, check};
+use crate::refusal::Refusal;
+use crate::report::REPORT_LIMIT;
+use helpers::Who;
+use std::test::Fail;
+
+// r3 = message[0..8]; r4 = state[0..8]; r4 += r3; state[0..8] = r4; r0 = 0; exit
+const ADDER: [u8; 56] = [
+    0x53, 0x42, 0x49, 0x31, 0x08, 0x00, 0x06, 0x00, 0x79, 0x13, 0, 0, 0, 0, 0, 0, 0x79, 0x24, 0, 0,
+    0, 0, 0, 0, 0x0f, 0x34, 0, 0, 0, 0, 0, 0, 0x7b, 0x42, 0, 0, 0, 0, 0, 0, 0xb7, 0, 0, 0, 0, 0, 0,
+    0, 0x95, 0, 0, 0, 0, 0, 0, 0,
+];
+
+const CALLED: Who = Who {
+    me: 1,
+    from: 0,
+    count: 2,
+};
+
+fn number_of(answer: Result<(), Refusal>) -> u32 {
+    match answer {
+        Ok(()) => 0,
+        Err(refusal) => refusal.number(),
+    }
+}
+
+#[test]
+fn accepted(rt: HostRuntime) -> Result<(), Fail> {
+    let mut out = [7u8; 16];
+    assert_eq!(rt; number_of(check(rt.alloc(), &ADDER, &mut out)), 0);
+    assert_eq!(rt; out, [7u8; 16]);
+    Ok(())
+}
+
+#[test]
+fn refused(rt: HostRuntime) -> Result<(), Fail> {
+    let mut out = [7u8; 16];
+    // the last instruction is a move: V2 at slot 5
+    let mut file = ADDER;
+    file[48] = 0xb7;
+    assert_eq!(rt; number_of(check(rt.alloc(), &file, &mut out)), 4);
+    assert_eq!(rt; out, [2, 0, 0, 0, 0, 0, 0, 0, 5, 0, 0, 0, 0, 0, 0, 0]);
+    // no opcode 0xff: rule 2 at slot 0
+    file[8] = 0xff;
+    assert_eq!(rt; number_of(check(rt.alloc(), &file, &mut out)), 3);
+    assert_eq!(rt; out, [2, 0, 0, 0, 0, 0, 0, 0, 0, 0, 0, 0, 0, 0, 0, 0]);
+    // SBI2
+    file[3] = 0x32;
+    assert_eq!(rt; number_of(check(rt.alloc(), &file, &mut out)), 2);
+    assert_eq!(rt; number_of(check(rt.alloc(), &ADDER, &mut out[..15])), 8);
+    Ok(())
+}
+
+#[test]
+fn one_call(rt: HostRuntime) -> Result<(), Fail> {
+    let mut state = [1, 0, 0, 0, 0, 0, 0, 0];
+    let mut message = [0u8; 64];
+    message[0] = 5;
+    let mut out = [7u8; REPORT_LIMIT];
+    assert_eq!(rt;
+        number_of(call(rt.alloc(), &ADDER, &mut state, &message, CALLED, &mut out)),
+        0
+    );
+    assert_eq!(rt; state, [6, 0, 0, 0, 0, 0, 0, 0]);
+    // r0 is 0, six instructions, nothing emitted
+    assert_eq!(rt; out[0], 0);
+    assert_eq!(rt; out[8], 6);
+    assert_eq!(rt; out[16], 0);
+    assert_eq!(rt; out[24], 0);
+    assert_eq!(rt; out[32], 7);
+    Ok(())
+}
+
+#[test]
+fn two_calls(rt: HostRuntime) -> Result<(), Fail> {
+    let mut state = [0u8; 8];
+    let mut messages = [0u8; 128];
+    messages[0] = 5;
+    messages[64] = 6;
+    let mut out = [7u8; 2128];
+    assert_eq!(rt;
+        number_of(call_many(rt.alloc(), &ADDER, &mut state, &messages, CALLED, &mut out)),
+        0
+    );
+    assert_eq!(rt; state, [11, 0, 0, 0, 0, 0, 0, 0]);
+    assert_eq!(rt; out[40], 6);
+    assert_eq!(rt; out[64], 7);
+    Ok(())
+}
+
+#[test]
+fn no_call(rt: HostRuntime) -> Result<(), Fail> {
+    let mut state = [0u8; 9];
+    let message = [0u8; 64];
+    let mut out = [7u8; REPORT_LIMIT];
+    let nobody = Who {
+        me: 1,
+        from: 1,
+        count: 2,
+    };
+    assert_eq!(rt;
+        number_of(call(rt.alloc(), &ADDER, &mut state, &message, CALLED, &mut out)),
+        5
+    );
+    assert_eq!(rt;
+        number_of(call(
+            rt.alloc(),
+            &ADDER,
+            &mut state,
+            &message[1..],
+            CALLED,
+            &mut out
+        )),
+        6
+    );
+    assert_eq!(rt;
+        number_of(call(rt.alloc(), &ADDER, &mut state, &message, nobody, &mut out)),
+        7
+    );
+    assert_eq!(rt;
+        number_of(call(
+            rt.alloc(),
+            &ADDER,
+            &mut state,
+            &message,
+            CALLED,
+            &mut out[1..]
+        )),
+        8
+    );
+    assert_eq!(rt; out[0], 7);
+    Ok(())
+}

@@ -1,0 +1,14 @@
+pub mod ByteLemmas
+pub mod Places
+pub mod WordLemmas
+pub mod RuleLemmas
+pub mod ArithmeticLemmas
+pub mod AccessLemmas
+pub mod Simulation
+pub mod HelperLemmas
+pub mod Counting
+pub mod RunLemmas
+pub mod CallLemmas
+pub mod Preservation
+pub mod Exits
+pub mod WordsKept

@@ -1,0 +1,162 @@
+//! What a handler call costs: nanoseconds an instruction of the proved interpreter, beside those of
+//! a plain loop over the same instructions that tests nothing and promises nothing.
+
+mod image;
+mod plain;
+
+use image::{Insn, Size, file_of};
+use std::hint::black_box;
+use std::time::Instant;
+
+unsafe extern "C" {
+    fn sblog_check(file: *const u8, file_len: usize, fault: *mut u8, fault_len: usize) -> u32;
+
+    fn sblog_call_many(
+        file: *const u8,
+        file_len: usize,
+        state: *mut u8,
+        state_len: usize,
+        messages: *const u8,
+        messages_len: usize,
+        me: u8,
+        from: u8,
+        count: u8,
+        reports: *mut u8,
+        reports_len: usize,
+    ) -> u32;
+}
+
+const STATE: usize = 256;
+const MESSAGES: usize = 1000;
+const ROUNDS: usize = 1000;
+
+fn check(file: &[u8]) -> u32 {
+    let mut fault = [0u8; 16];
+    unsafe { sblog_check(file.as_ptr(), file.len(), fault.as_mut_ptr(), fault.len()) }
+}
+
+fn call_many(file: &[u8], state: &mut [u8], messages: &[u8], reports: &mut [u8]) -> u32 {
+    unsafe {
+        sblog_call_many(
+            file.as_ptr(),
+            file.len(),
+            state.as_mut_ptr(),
+            state.len(),
+            messages.as_ptr(),
+            messages.len(),
+            1,
+            0,
+            2,
+            reports.as_mut_ptr(),
+            reports.len(),
+        )
+    }
+}
+
+/// The shortest of some runs, in nanoseconds, and their mean.
+fn timed(rounds: usize, mut run: impl FnMut()) -> (f64, f64) {
+    let mut least = f64::MAX;
+    let mut sum = 0.0;
+    for _ in 0..rounds {
+        let start = Instant::now();
+        run();
+        let nanos = start.elapsed().as_nanos() as f64;
+        least = least.min(nanos);
+        sum += nanos;
+    }
+    (least, sum / rounds as f64)
+}
+
+fn messages() -> Vec<u8> {
+    (0..MESSAGES * 64).map(|i| (i * 7 + i / 64) as u8).collect()
+}
+
+/// Calls the handler a million times each way, and prints nanoseconds an instruction.
+fn measure(name: &str, code: &[Insn]) {
+    let file = file_of(STATE as u16, code);
+    let messages = messages();
+    let mut reports = vec![0u8; MESSAGES * 1064];
+
+    // both leave the same
+    let mut state = vec![0u8; STATE];
+    assert_eq!(
+        call_many(&file, &mut state, &messages, &mut reports),
+        0,
+        "{name} is refused"
+    );
+    let steps = u64::from_le_bytes(reports[8..16].try_into().unwrap());
+    let mut plain_state = vec![0u8; STATE];
+    let mut effects = plain::Effects::new();
+    for (i, message) in messages.chunks_exact(64).enumerate() {
+        let end = plain::call(code, &mut plain_state, message, 1, 0, 2, &mut effects);
+        if i == 0 {
+            assert_eq!(end.steps, steps);
+            assert_eq!(end.r0.to_le_bytes(), reports[0..8]);
+        }
+    }
+    assert_eq!(state, plain_state, "{name}: the states differ");
+
+    let proved = timed(ROUNDS, || {
+        black_box(call_many(
+            &file,
+            black_box(&mut state),
+            &messages,
+            &mut reports,
+        ));
+    });
+    let plain = timed(ROUNDS, || {
+        for message in messages.chunks_exact(64) {
+            black_box(plain::call(
+                code,
+                black_box(&mut plain_state),
+                message,
+                1,
+                0,
+                2,
+                &mut effects,
+            ));
+        }
+    });
+    let calls = MESSAGES as f64;
+    let each = calls * steps as f64;
+    println!(
+        "{name:9} {steps:4} instructions a call: proved {:8.1} ns a call, {:6.2} ns an instruction (mean {:6.2}); plain {:8.1} and {:6.2} (mean {:6.2}); {:.1} times",
+        proved.0 / calls,
+        proved.0 / each,
+        proved.1 / each,
+        plain.0 / calls,
+        plain.0 / each,
+        plain.1 / each,
+        proved.0 / plain.0
+    );
+}
+
+/// Checks an image of so many slots, and prints nanoseconds a slot.
+fn measure_check(slots: usize) {
+    let file = file_of(STATE as u16, &image::arithmetic(slots));
+    assert_eq!(check(&file), 0);
+    let rounds = 2_000_000 / slots;
+    let (least, mean) = timed(rounds, || {
+        black_box(check(black_box(&file)));
+    });
+    println!(
+        "check of {slots:4} slots: {:8.1} µs, {:6.1} ns a slot (mean {:6.1})",
+        least / 1000.0,
+        least / slots as f64,
+        mean / slots as f64
+    );
+}
+
+fn main() {
+    measure("nothing", &image::nothing());
+    measure("arith", &image::arithmetic(400));
+    measure("divide", &image::division(400));
+    measure("memory", &image::memory(400, Size::Double));
+    measure("bytes", &image::memory(400, Size::Byte));
+    measure("branch", &image::branches(400));
+    measure("number", &image::calls(400, 3));
+    measure("output", &image::outputs(8));
+    for slots in [128, 256, 512, 1024] {
+        measure_check(slots);
+    }
+}
