@@ -1,0 +1,10 @@
+pub mod ReceiptLemmas
+pub mod OutsideLemmas
+pub mod Standing
+pub mod Causes
+pub mod Updates
+pub mod Soundness
+pub mod Openings
+pub mod JobLemmas
+pub mod InsnEquality
+pub mod Steps

@@ -1,0 +1,58 @@
+-- What an arrival answers, and what a result that comes back has to be
+use Rattle.std.specs.Prelude.{◌≡◌, ◌+◌, List, length, Option, Some, None, Result, Ok, Err, true}
+use Rattle.decode.specs.declared.insn.Insn.{Insn}
+use Rattle.verifier.specs.Typed.{Typed}
+use Rattle.replay.specs.Task.{TheTask}
+use Rattle.world.specs.declared.answer.Answer.{Answer}
+use Rattle.world.specs.declared.answer.Answer.TheVariants as answers
+use Rattle.world.specs.declared.call.Call.TheVariants.{Finish}
+use Rattle.world.specs.declared.refusal.Refusal.{Refusal}
+use Rattle.world.specs.declared.refusal.Refusal.TheVariants.{StaleJob, Memory}
+use Rattle.world.specs.History.{nth}
+use Rattle.world.specs.Phases.{Busy}
+use Rattle.world.specs.World.{World, is_inside}
+use Rattle.world.specs.Logs.{state_of}
+use Rattle.machine.specs.Simulation.{TheMachine, Stands, Steps}
+use Rattle.machine.specs.declared.arrival.Arrival.{Arrival}
+use Rattle.machine.specs.declared.arrival.Arrival.TheVariants.{Started, Duplicate, Early}
+use Rattle.machine.specs.declared.arrival.Committed.{Committed}
+
+abbrev pub answer_of : Arrival → Answer
+answer_of (Started task) = answers.Started task.serial
+answer_of (Duplicate key) = answers.Duplicate key
+answer_of Early = answers.Early
+
+abbrev pub committed_of : Committed → Answer
+committed_of c = answers.Committed c.rsn c.key
+
+abbrev pub HasCode : Option Typed → List Insn → Type 0
+HasCode None code = ⊥
+HasCode (Some image) code = image.code ≡ code
+
+-- the task is that of the job that its process has open, in this world, in all that a result is compared by
+pub record IsOpen (images : List Typed) (t : TheTask) (w : World) : Type 0 where
+  pub inside : is_inside w t.who.me ≡ true
+  pub incarnation : t.incarnation ≡ w.incarnation t.who.me
+  pub rsn : t.rsn ≡ length (w.history t.who.me) + 1
+  pub state : t.state ≡ state_of w t.who.me
+  pub message : w.phase t.who.me ≡ Busy t.message
+  pub from : t.who.from ≡ t.message.sender
+  pub count : t.who.count ≡ w.count
+  pub code : HasCode (nth images t.who.me) t.image.code
+
+-- the job that is handed out is open
+abbrev pub IsJobOf : TheMachine → Arrival → Type 0
+IsJobOf m (Started task) = (w : World) → Stands m w → IsOpen m.images task w
+IsJobOf m (Duplicate key) = Unit {0}
+IsJobOf m Early = Unit {0}
+
+-- a result is refused where it isn't of the open job, or where memory runs out
+abbrev pub Told : Refusal → Type 0 → Type 0
+Told Memory P = P
+Told StaleJob P = ¬ P
+Told other P = ⊥
+
+-- what a finish owes. With a refusal the result comes back
+abbrev pub Finishes : TheMachine → TheMachine → TheTask → Result Committed (Refusal × TheTask) → Type 0
+Finishes old new task (Ok c) = (w : World) → Stands old w → IsOpen old.images task w × Steps old new 0 (Finish task.who.me) (committed_of c) w
+Finishes old new task (Err r) = (r.1 ≡ task) × (new ≡ old) × ((w : World) → Stands old w → Told r.0 (IsOpen old.images task w))

@@ -1,0 +1,9 @@
+pub mod Process
+pub mod Outside
+pub mod Wire
+pub mod Receipts
+pub mod Simulation
+pub mod Inside
+pub mod Opening
+pub mod Jobs
+pub mod Arrival

@@ -1,0 +1,9 @@
+-- What clauses see of the wire: what lies under each key, if anything does
+use Rattle.std.specs.Prelude.{◌≡◌, ◌≢◌, ℕ, List, Option, None, slice_index_or}
+use Rattle.world.specs.declared.packet.Packet.{Packet}
+
+-- the key had this before and has that now, and every other key keeps what it had
+pub record Puts (old new : List (Option Packet)) (key : ℕ) (was is : Option Packet) : Type 0 where
+  pub before : slice_index_or old key None ≡ was
+  pub now : slice_index_or new key None ≡ is
+  pub others : (other : ℕ) → other ≢ key → slice_index_or new other None ≡ slice_index_or old other None

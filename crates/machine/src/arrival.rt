@@ -1,0 +1,38 @@
+//! What a packet does where it arrives.
+
+ghost use Rattle.std.specs.Prelude.{◌≡◌};
+ghost use Rattle.machine.specs.Arrival.{answer_of};
+
+use replay::Job;
+use world::Answer;
+
+/// What a packet did where it arrived.
+#[derive(Drop)]
+pub enum Arrival {
+    /// The message is the next of its sender, and this job is open.
+    Started(Job),
+    /// The process has the message: the key of the packet that tells its number again.
+    Duplicate(usize),
+    /// A message before this one is missing.
+    Early,
+}
+
+impl Arrival {
+    /// What a journal keeps of it: of a job its serial number alone.
+    pub fn answer(&self) -> Answer
+        ensures { result ≡ answer_of self.now }
+    {
+        match self {
+            Arrival::Started(job) => Answer::Started(job.task().serial()),
+            Arrival::Duplicate(key) => Answer::Duplicate(*key),
+            Arrival::Early => Answer::Early,
+        }
+    }
+}
+
+/// What a finished job gave: the number of its message, and the key of the packet that tells it.
+#[derive(Clone, Copy, PartialEq, Eq, Debug)]
+pub struct Committed {
+    pub rsn: u32,
+    pub key: usize,
+}

@@ -1,0 +1,23 @@
+//! The processes, the outside and the wire of a session, without its journal.
+//!
+//! A [`Machine`] keeps bytes and forgets histories: of each process its state, the senders of what
+//! it received, and its open job; of the outside its inputs; and the packets on the wire. It
+//! *stands for* the worlds that agree with that. Each call that it accepts is a step of every world
+//! that it stands for, and leaves it standing for the world after the step. Each refusal changes
+//! nothing and tells the least number whose cause holds there. The calls take `room`, the free
+//! places of the journal, so that a full journal is refused in its turn.
+//!
+//! ```text
+//! let mut machine = Machine::open(alloc, images)?;
+//! let ssn = machine.input(65_536, &feed)?;
+//! ```
+#![tactic(auto)]
+
+mod arrival;
+mod machine;
+mod outside;
+mod process;
+mod wire;
+
+pub use arrival::{Arrival, Committed};
+pub use machine::Machine;

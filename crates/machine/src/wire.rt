@@ -1,0 +1,82 @@
+//! The packets on the wire, each under a key.
+
+ghost use Rattle.std.specs.Prelude.{◌≡◌, ℕ, ◌<◌, [], Some, None, is_some, IsSome, IfOk, OnErr, slice_index_or, count_by};
+ghost use Rattle.machine.specs.Wire.{Puts};
+
+use slab::Slab;
+use std::alloc::{AllocError, Global};
+use std::marker::Model;
+use world::Packet;
+
+/// The most packets on the wire. Their keys are below it.
+pub const MOST_PACKETS: usize = 4096;
+
+/// The packets on the wire. A new one gets the key that was vacated last, or the least fresh one.
+#[derive(Drop)]
+pub struct Wire {
+    slab: Slab<Packet>,
+}
+
+impl Model for Wire {
+    ghost use Rattle.std.specs.Prelude.{List, Option};
+    ghost use Rattle.world.specs.declared.packet.Packet.{Packet};
+
+    ghost Value = { List (Option Packet) };
+
+    ghost view = { λ w. w.slab.slots };
+}
+
+impl Wire {
+    /// An empty wire.
+    pub fn new(alloc: Global) -> Wire
+        ensures { result ≡ [] }
+    {
+        Wire {
+            slab: Slab::new(alloc),
+        }
+    }
+
+    /// How many packets there are.
+    pub fn len(&self) -> usize
+        ensures { result ≡ count_by is_some self.now }
+    {
+        self.slab.len()
+    }
+
+    /// The packet under this key.
+    pub fn get(&self, key: usize) -> Option<Packet>
+        ensures { result ≡ slice_index_or self.now key None }
+    {
+        self.slab.get(key).copied()
+    }
+
+    /// Puts a packet under a vacant key. A table whose next key is past the last one has no place
+    /// for it.
+    pub fn place(&mut self, packet: Packet) -> Result<usize, AllocError>
+        ensures key { IfOk result (λ key. key < 4096) }
+        ensures puts { IfOk result (λ key. Puts self.old self.new key None (Some packet)) }
+        ensures err { OnErr result (self.new ≡ self.old) }
+    {
+        self.slab.reserve(1)?;
+        if self.slab.vacant_key() >= MOST_PACKETS {
+            return Err(AllocError);
+        }
+        Ok(self.slab.insert_reserved(packet))
+    }
+
+    /// Puts a packet in the place of the one under this key.
+    pub fn replace(&mut self, key: usize, packet: Packet)
+        requires { IsSome (slice_index_or self.old key None) }
+        ensures { Puts self.old self.new key (slice_index_or self.old key None) (Some packet) }
+    {
+        self.slab.remove(key);
+        self.slab.insert_reserved(packet);
+    }
+
+    /// Takes the packet under a key away.
+    pub fn remove(&mut self, key: usize)
+        ensures { Puts self.old self.new key (slice_index_or self.old key None) None }
+    {
+        self.slab.try_remove(key);
+    }
+}

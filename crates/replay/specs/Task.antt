@@ -1,0 +1,44 @@
+-- All that a handler call takes, and its answer
+use Rattle.std.specs.Prelude.{◌≡◌, ◌≢◌, ◌≤◌, ℕ, List, [], length, Option, Some, None}
+use Rattle.helpers.specs.declared.effects.Who.{Who}
+use Rattle.verifier.specs.Typed.{Typed}
+use Rattle.interp.specs.HandlerCall.{Handled, IsHandled, handled_by}
+use Rattle.world.specs.declared.message.Message.{Message}
+
+-- which job it is, what is run, and on what
+pub record TheTask : Type 0 where
+  pub serial : ℕ
+  pub incarnation : ℕ
+  pub rsn : ℕ
+  pub image : Typed
+  pub state : List ℕ
+  pub message : Message
+  pub who : Who
+
+-- an image may be called with this state, as this process
+pub record MayCall (image : Typed) (state : List ℕ) (who : Who) : Type 0 where
+  pub state_len : length state ≡ image.len
+  pub inside : 1 ≤ who.me
+  pub within : who.me ≤ who.count
+  pub few : who.count ≤ 15
+  pub sender : who.from ≤ who.count
+  pub other : who.from ≢ who.me
+
+abbrev pub handled : TheTask → Option Handled
+handled t = handled_by t.image.slots t.who t.state t.message.payload
+
+-- what the handler leaves, if it answers
+abbrev pub given : Option Handled → Handled
+given (Some h) = h
+given None = record { state = []; effects = record { sends = []; outputs = [] }; r0 = 0; steps = 0 }
+
+abbrev pub answer_of : TheTask → Handled
+answer_of t = given (handled t)
+
+-- the handler's answer to this task: that of a run from its entry to its exit, which makes at most as many steps as there are
+-- instructions
+pub record IsAnswer (t : TheTask) (h : Handled) : Type 0 where
+  pub runs : IsHandled t.image.slots t.who t.state t.message.payload h
+  pub answers : handled t ≡ Some h
+  pub within : h.steps ≤ length t.image.code
+  pub state_len : length h.state ≡ t.image.len

@@ -1,0 +1,75 @@
+//! Handler calls that were made.
+
+ghost use Rattle.std.specs.Prelude.{◌≡◌};
+ghost use Rattle.replay.specs.Task.{TheTask, IsAnswer, answer_of};
+
+use crate::task::Task;
+use helpers::Effects;
+use interp::CallEnd;
+use std::marker::Model;
+
+/// A handler call that was made: all that it took, and what the handler answered to that. Only
+/// `Job::run` makes one.
+#[derive(Drop)]
+pub struct Done {
+    task: Task,
+    next: Vec<u8>,
+    effects: Effects,
+    end: CallEnd,
+}
+
+impl Model for Done {
+    ghost use Rattle.replay.specs.Task.{TheTask, IsAnswer};
+
+    ghost Value = { TheTask };
+
+    ghost view = { λ d. d.task };
+
+    ghost invariant = { λ d. IsAnswer d.task (record { state = d.next.items; effects = d.effects; r0 = d.end.r0; steps = d.end.steps }) };
+}
+
+impl Done {
+    pub(crate) fn new(task: Task, next: Vec<u8>, effects: Effects, end: CallEnd) -> Done
+        requires { IsAnswer task (record { state = next.items; effects = effects; r0 = end.r0; steps = end.steps }) }
+        ensures { result ≡ task }
+    {
+        Done {
+            task,
+            next,
+            effects,
+            end,
+        }
+    }
+
+    /// All that the call took.
+    pub fn task(&self) -> &Task
+        ensures { result.now ≡ self.now }
+    {
+        &self.task
+    }
+
+    /// The state that the handler left.
+    pub fn state(&self) -> &[u8]
+        ensures value { result.now ≡ (answer_of self.now).state }
+        ensures answer { IsAnswer self.now (answer_of self.now) }
+    {
+        self.next.as_slice()
+    }
+
+    /// The messages and outputs that the handler gave.
+    pub fn effects(&self) -> &Effects
+        ensures value { result.now ≡ (answer_of self.now).effects }
+        ensures answer { IsAnswer self.now (answer_of self.now) }
+    {
+        &self.effects
+    }
+
+    /// What the handler had in r0 at its exit, and the steps that it took.
+    pub fn end(&self) -> CallEnd
+        ensures r0 { result.r0 ≡ (answer_of self.now).r0 }
+        ensures steps { result.steps ≡ (answer_of self.now).steps }
+        ensures answer { IsAnswer self.now (answer_of self.now) }
+    {
+        self.end
+    }
+}

@@ -1,0 +1,77 @@
+//! Handler calls that are to be made.
+
+ghost use Rattle.std.specs.Prelude.{◌≡◌, IfOk};
+ghost use Rattle.std.specs.Arc.{arc_value};
+ghost use Rattle.replay.specs.Task.{TheTask, MayCall};
+
+use crate::done::Done;
+use crate::task::{Task, Ticket, copied};
+use helpers::{Effects, Who};
+use interp::call;
+use std::alloc::{AllocError, Global};
+use std::marker::Model;
+use std::sync::Arc;
+use verifier::Image;
+use world::Message;
+
+/// A handler call that is to be made, with the place for the state that it leaves.
+#[derive(Drop)]
+pub struct Job {
+    task: Task,
+    next: Vec<u8>,
+}
+
+impl Model for Job {
+    ghost use Rattle.std.specs.Prelude.{◌≡◌};
+    ghost use Rattle.replay.specs.Task.{TheTask};
+
+    ghost Value = { TheTask };
+
+    ghost view = { λ j. j.task };
+
+    ghost invariant = { λ j. j.next.items ≡ j.task.state };
+}
+
+impl Job {
+    /// The call of an image with a copy of this state. The places are made here, so that running
+    /// takes no memory.
+    pub fn new(
+        alloc: Global,
+        ticket: Ticket,
+        image: Arc<Image>,
+        state: &[u8],
+        message: Message,
+        who: Who,
+    ) -> Result<Job, AllocError>
+        requires { MayCall (arc_value image) state.now who }
+        ensures { IfOk result (λ j. j ≡ record { serial = ticket.serial; incarnation = ticket.incarnation; rsn = ticket.rsn; image = arc_value image; state = state.now; message = message; who = who }) }
+    {
+        let next = copied(alloc, state)?;
+        let task = Task::new(alloc, ticket, image, state, message, who)?;
+        Ok(Job { task, next })
+    }
+
+    /// All that the call takes.
+    pub fn task(&self) -> &Task
+        ensures { result.now ≡ self.now }
+    {
+        &self.task
+    }
+
+    /// Calls the handler. It takes no memory, and the result holds the same task.
+    pub fn run(self) -> Done
+        ensures { result ≡ self }
+    {
+        let Job { task, mut next } = self;
+        let mut effects = Effects::new();
+        let message = task.message();
+        let end = call(
+            task.image(),
+            next.as_mut_slice(),
+            &message.payload,
+            task.who(),
+            &mut effects,
+        );
+        Done::new(task, next, effects, end)
+    }
+}

@@ -1,0 +1,141 @@
+//! All that a handler call takes.
+
+ghost use Rattle.std.specs.Prelude.{◌≡◌, IfOk};
+ghost use Rattle.std.specs.Arc.{arc_value};
+ghost use Rattle.replay.specs.Task.{TheTask, MayCall};
+
+use helpers::Who;
+use std::alloc::{AllocError, Global};
+use std::marker::Model;
+use std::sync::Arc;
+use verifier::Image;
+use world::Message;
+
+/// Which of a session's jobs a job is.
+#[derive(Clone, Copy, PartialEq, Eq, Debug)]
+pub struct Ticket {
+    /// Its place, from 1, among the jobs that the session started.
+    pub serial: u32,
+    /// The incarnation of its process.
+    pub incarnation: u32,
+    /// The number that its message gets.
+    pub rsn: u32,
+}
+
+/// All that a handler call takes: which job it is, the image, the state, the message and `Who`.
+#[derive(Drop)]
+pub struct Task {
+    ticket: Ticket,
+    image: Arc<Image>,
+    state: Vec<u8>,
+    message: Message,
+    who: Who,
+}
+
+impl Model for Task {
+    ghost use Rattle.std.specs.Arc.{arc_value};
+    ghost use Rattle.replay.specs.Task.{TheTask, MayCall};
+
+    ghost Value = { TheTask };
+
+    ghost view = { λ t. record {
+      serial = t.ticket.serial;
+      incarnation = t.ticket.incarnation;
+      rsn = t.ticket.rsn;
+      image = arc_value t.image;
+      state = t.state.items;
+      message = t.message;
+      who = t.who;
+    } };
+
+    ghost invariant = { λ t. MayCall (arc_value t.image) t.state.items t.who };
+}
+
+// A copy of a state.
+pub(crate) fn copied(alloc: Global, state: &[u8]) -> Result<Vec<u8>, AllocError>
+    ensures { IfOk result (λ v. v.items ≡ state.now) }
+{
+    let mut copy = Vec::new(alloc);
+    copy.extend_from_slice(state)?;
+    Ok(copy)
+}
+
+impl Task {
+    pub(crate) fn new(
+        alloc: Global,
+        ticket: Ticket,
+        image: Arc<Image>,
+        state: &[u8],
+        message: Message,
+        who: Who,
+    ) -> Result<Task, AllocError>
+        requires { MayCall (arc_value image) state.now who }
+        ensures { IfOk result (λ t. t ≡ record { serial = ticket.serial; incarnation = ticket.incarnation; rsn = ticket.rsn; image = arc_value image; state = state.now; message = message; who = who }) }
+    {
+        let state = copied(alloc, state)?;
+        Ok(Task {
+            ticket,
+            image,
+            state,
+            message,
+            who,
+        })
+    }
+
+    /// The job's place, from 1, among the jobs that the session started.
+    pub fn serial(&self) -> u32
+        ensures { result ≡ self.now.serial }
+    {
+        self.ticket.serial
+    }
+
+    /// The process whose handler is called, 1 to 15.
+    pub fn process(&self) -> u8
+        ensures { result ≡ self.now.who.me }
+    {
+        self.who.me
+    }
+
+    /// The incarnation of the process.
+    pub fn incarnation(&self) -> u32
+        ensures { result ≡ self.now.incarnation }
+    {
+        self.ticket.incarnation
+    }
+
+    /// The number that the message gets at its process.
+    pub fn rsn(&self) -> u32
+        ensures { result ≡ self.now.rsn }
+    {
+        self.ticket.rsn
+    }
+
+    /// The image whose code is run.
+    pub fn image(&self) -> &Image
+        ensures { result.now ≡ self.now.image }
+    {
+        &self.image
+    }
+
+    /// The state before the call.
+    pub fn state(&self) -> &[u8]
+        ensures { result.now ≡ self.now.state }
+    {
+        self.state.as_slice()
+    }
+
+    /// The message, with its sender and SSN.
+    pub fn message(&self) -> Message
+        ensures { result ≡ self.now.message }
+    {
+        self.message
+    }
+
+    /// Who is called, by whose message, among how many.
+    pub fn who(&self) -> Who
+        ensures value { result ≡ self.now.who }
+        ensures callable { MayCall self.now.image self.now.state self.now.who }
+    {
+        self.who
+    }
+}

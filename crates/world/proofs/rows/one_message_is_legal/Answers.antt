@@ -1,0 +1,25 @@
+use Rattle.std.proofs.Common.{refl, arith}
+use Rattle.world.specs.Bounds.{WIRE}
+use Rattle.world.proofs.rows.one_message_is_legal.Goals as goal
+
+pub returns : goal.returns
+unfolding WIRE
+returns c f x = (
+  (
+    refl,
+    record { accepted = refl; answered = refl; becomes = refl },
+    (
+      refl,
+      record { accepted = refl; answered = (0, (omega arith, refl), refl); becomes = refl },
+      (
+        refl,
+        record { accepted = refl; answered = refl; becomes = refl },
+        (refl, record { accepted = refl; answered = (0, (omega arith, refl), refl); becomes = refl }, tt),
+      ),
+    ),
+  ),
+  refl,
+  refl,
+  refl,
+  refl,
+)

@@ -1,0 +1,109 @@
+-- The answers that a call which isn't refused may get. An answer tells each choice, as the key of a new packet
+use Rattle.std.specs.Prelude.{◌≡◌, ℕ, suc, zero, ◌+◌, ◌-◌, ◌<◌, ◌≤◌, List, length, Option, Some, None, Bool, true, false, ◌&&◌, ◌==◌, nat_lt, nat_le, if◌then◌else◌, take}
+use Rattle.world.specs.declared.message.Message.{Message}
+use Rattle.world.specs.declared.packet.Packet.{Packet}
+use Rattle.world.specs.declared.packet.Packet.TheVariants.{Delivery, Number, Acknowledgement}
+use Rattle.world.specs.declared.call.Call.{Call}
+use Rattle.world.specs.declared.call.Call.TheVariants.{Input, Transmit, Copy, Lose, Arrive, Finish, Checkpoint, Trim, Crash, Recover, RecoverAlone, ReplayBegin, Resync as ResyncWith}
+use Rattle.world.specs.declared.answer.Answer.{Answer}
+use Rattle.world.specs.declared.answer.Answer.TheVariants.{Logged, Placed, Lost, Started, Numbered, Acknowledged, Shown, Duplicate, ShownBefore, Early, Stale, Unreachable, Committed, Replayed, Saved, Trimmed, Crashed, Kept, Restored}
+use Rattle.world.specs.History.{count_of}
+use Rattle.world.specs.Phases.{Phase, Busy, Replaying, is_up}
+use Rattle.world.specs.World.{World, put}
+use Rattle.world.specs.Logs.{length_of, sent, is_entry}
+use Rattle.world.specs.Plan.{chosen, gather}
+use Rattle.world.specs.Bounds.{WIRE}
+use Rattle.world.specs.Calls.{dropped, restored}
+
+-- what a message is to its receiver: the next of its sender, one that it has, or one before which another is missing
+pub data Verdict : Type 0 where
+  Next : Verdict
+  Known : Verdict
+  Ahead : Verdict
+
+-- the verdict on an SSN, where so many of its sender came
+abbrev pub verdict_of : ℕ → ℕ → Verdict
+verdict_of n i = if i == suc n then Next else if nat_lt n i then Ahead else Known
+
+-- how many messages of its sender the receiver of a message has: the outside, how many it was shown
+abbrev pub received_of : World → ℕ → Message → ℕ
+received_of w zero m = count_of m.sender w.shown
+received_of w (suc d) m = count_of m.sender (w.history (suc d))
+
+abbrev pub judge : World → ℕ → Message → Verdict
+judge w d m = verdict_of (received_of w d m) m.ssn
+
+-- a key for a new packet: any that is vacant
+abbrev pub IsVacant : (ℕ → Option Packet) → ℕ → Type 0
+IsVacant wire key = (key < WIRE) × (wire key ≡ None)
+
+-- the answer is made of a key that is vacant on this wire
+abbrev pub WithKey : (ℕ → Option Packet) → (ℕ → Answer) → Answer → Type 0
+WithKey wire f a = (key : ℕ) × IsVacant wire key × (a ≡ f key)
+
+-- the answer to a message with this verdict, at the outside and at a process
+abbrev pub ReceivesAs : World → ℕ → ℕ → Message → Verdict → Answer → Type 0
+ReceivesAs w key zero m Next a = a ≡ Shown m.ssn
+ReceivesAs w key zero m Known a = a ≡ ShownBefore
+ReceivesAs w key zero m Ahead a = a ≡ Early
+ReceivesAs w key (suc d) m Next a = a ≡ Started (w.started + 1)
+ReceivesAs w key (suc d) m Known a = WithKey (put w.wire key None) Duplicate a
+ReceivesAs w key (suc d) m Ahead a = a ≡ Early
+
+-- the answer to a number that is good, or stale
+abbrev pub NumbersAs : World → ℕ → Bool → Answer → Type 0
+NumbersAs w key true a = WithKey (put w.wire key None) Numbered a
+NumbersAs w key false a = a ≡ Stale
+
+-- the answer to an acknowledgement that is good, or stale
+abbrev pub AcknowledgesAs : Bool → Answer → Type 0
+AcknowledgesAs true a = a ≡ Acknowledged
+AcknowledgesAs false a = a ≡ Stale
+
+-- whom a packet is for
+abbrev pub target_of : Packet → ℕ
+target_of (Delivery d m) = d
+target_of (Number r s i k incarnation) = s
+target_of (Acknowledgement s r k incarnation) = r
+
+-- the answer that a packet gets whose target is up
+abbrev pub ReceivesUp : World → ℕ → Packet → Answer → Type 0
+ReceivesUp w key (Delivery d m) a = ReceivesAs w key d m (judge w d m) a
+ReceivesUp w key (Number r s i k incarnation) a = NumbersAs w key ((incarnation == w.incarnation r) && is_entry w s r i) a
+ReceivesUp w key (Acknowledgement s r k incarnation) a = AcknowledgesAs ((incarnation == w.incarnation r) && nat_le k (length_of w r)) a
+
+abbrev pub ReceivesIf : Bool → World → ℕ → Packet → Answer → Type 0
+ReceivesIf true w key k a = ReceivesUp w key k a
+ReceivesIf false w key k a = a ≡ Unreachable
+
+abbrev pub Receives : World → ℕ → Option Packet → Answer → Type 0
+Receives w key None a = ⊥
+Receives w key (Some k) a = ReceivesIf (is_up (w.phase (target_of k))) w key k a
+
+-- the answer to a result: the number that its message has now, and the key of the packet that tells it
+abbrev pub Finishes : World → ℕ → Phase → Answer → Type 0
+Finishes w p (Busy m) a = WithKey w.wire (Committed (length (w.history p) + 1)) a
+Finishes w p (Replaying j working alone) a = a ≡ Replayed (w.saved p + j + 1)
+Finishes w p phase a = ⊥
+
+-- checkpoint and plan have k messages together, and there is no more in the plan
+abbrev pub Keeps : World → ℕ → Answer → Type 0
+Keeps w p (Kept k) =
+    let gathered : List Message = gather w p (take (w.saved p) (w.history p)) (k - w.saved p) in
+    (w.saved p ≤ k) × (length gathered ≡ k) × (chosen w p gathered ≡ None)
+Keeps w p a = ⊥
+
+abbrev pub MayAnswer : World → Call → Answer → Type 0
+MayAnswer w (Input d feed x) a = a ≡ Logged (length (w.inputs d) + 1)
+MayAnswer w (Transmit p d i) a = WithKey w.wire Placed a
+MayAnswer w (Copy key) a = WithKey w.wire Placed a
+MayAnswer w (Lose key) a = a ≡ Lost
+MayAnswer w (Arrive key) a = Receives w key (w.wire key) a
+MayAnswer w (Finish p) a = Finishes w p (w.phase p) a
+MayAnswer w (Checkpoint p) a = a ≡ Saved (length (w.history p))
+MayAnswer w (Trim d) a = a ≡ Trimmed (dropped w d (suc w.count))
+MayAnswer w (Crash p) a = a ≡ Crashed (w.incarnation p + 1)
+MayAnswer w (Recover p) a = Keeps w p a
+MayAnswer w (RecoverAlone p) a = Keeps w p a
+MayAnswer w (ReplayBegin p) a = a ≡ Started (w.started + 1)
+MayAnswer w (ResyncWith p r) a = a ≡ Restored (restored w p r (suc (length (sent w p r))))

@@ -1,0 +1,42 @@
+-- How much a session holds at most, and what counts towards it
+use Rattle.std.specs.Prelude.{ℕ, suc, zero, ◌+◌, Option, Some, None, Bool, true, false, not, ◌||◌, nat_lt, if◌then◌else◌}
+use Rattle.world.specs.Phases.{is_working, is_busy}
+use Rattle.world.specs.World.{World}
+
+-- the most entries of a journal, those of the jobs that are open among them
+abbrev pub LIMIT : ℕ
+LIMIT = 65536
+
+-- the most packets on the wire, those of the live jobs that are open among them. Keys are below it
+unfoldable pub WIRE : ℕ
+WIRE = 4096
+
+-- how many of 0, 1, .. below k pass the test
+abbrev pub count_below : (ℕ → Bool) → ℕ → ℕ
+count_below test zero = 0
+count_below test (suc k) = (if test k then 1 else 0) + count_below test k
+
+abbrev pub any_below : (ℕ → Bool) → ℕ → Bool
+any_below test zero = false
+any_below test (suc k) = test k || any_below test k
+
+abbrev pub is_none : {X : Type 0} → Option X → Bool
+is_none None = true
+is_none (Some x) = false
+
+abbrev pub open_jobs : World → ℕ
+open_jobs w = count_below (λ p. is_working (w.phase p)) (suc w.count)
+
+abbrev pub live_jobs : World → ℕ
+live_jobs w = count_below (λ p. is_busy (w.phase p)) (suc w.count)
+
+abbrev pub packets : World → ℕ
+packets w = count_below (λ key. not (is_none (w.wire key))) WIRE
+
+-- with so much room in the journal: no place for a call and for each job that is open after it
+abbrev pub journal_full : ℕ → ℕ → Bool
+journal_full room jobs = nat_lt room (jobs + 1)
+
+-- no place for one more packet and for that of each live job
+abbrev pub wire_full : World → Bool
+wire_full w = nat_lt WIRE (packets w + live_jobs w + 1)

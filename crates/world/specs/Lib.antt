@@ -1,0 +1,14 @@
+pub mod History
+pub mod Phases
+pub mod Handlers
+pub mod Fold
+pub mod World
+pub mod Logs
+pub mod Plan
+pub mod Bounds
+pub mod Calls
+pub mod Answers
+pub mod Refusals
+pub mod Useful
+pub mod Legal
+pub mod Worked

@@ -1,0 +1,44 @@
+-- What follows from the histories: states, lengths, what was sent, and what a sender's log has
+use Rattle.std.specs.Prelude.{ℕ, ◌+◌, List, length, Bool, not, ◌&&◌, ◌==◌, nat_lt, nat_le, if◌then◌else◌, take}
+use Rattle.world.specs.declared.message.Message.{Message}
+use Rattle.world.specs.History.{Payload, count_of}
+use Rattle.world.specs.Phases.{Phase, Up, Busy, Down, Replaying, Resync, is_down}
+use Rattle.world.specs.World.{World}
+
+-- how many messages of its history a process in this phase has in its state
+abbrev pub length_in : List Message → ℕ → Phase → ℕ
+length_in h saved Up = length h
+length_in h saved (Busy m) = length h
+length_in h saved Down = saved
+length_in h saved (Replaying j working alone) = saved + j
+length_in h saved (Resync todo) = length h
+
+abbrev pub length_of : World → ℕ → ℕ
+length_of w p = length_in (w.history p) (w.saved p) (w.phase p)
+
+abbrev pub state_of : World → ℕ → List ℕ
+state_of w p = w.handlers.state p (take (length_of w p) (w.history p))
+
+-- what a sender with this history sends to a destination: the outside, its inputs
+abbrev pub payloads : World → ℕ → List Message → ℕ → List Payload
+payloads w s h d = if s == 0 then w.inputs d else w.handlers.sends s h d
+
+-- what a sender sent to a destination so far
+abbrev pub sent : World → ℕ → ℕ → List Payload
+sent w s d = payloads w s (take (length_of w s) (w.history s)) d
+
+-- how many messages its whole history sends
+abbrev pub sent_in_all : World → ℕ → ℕ → ℕ
+sent_in_all w p d = length (payloads w p (w.history p) d)
+
+-- how many of its messages to a destination are released: of the outside, all inputs
+abbrev pub released_to : World → ℕ → ℕ → ℕ
+released_to w s d = if s == 0 then length (w.inputs d) else w.released s d
+
+-- how many messages of s a destination has for good: in its checkpoint, and the outside, what it was shown
+abbrev pub covered : World → ℕ → ℕ → ℕ
+covered w s d = count_of s (if d == 0 then w.shown else take (w.saved d) (w.history d))
+
+-- whether the log of s has the message of this SSN to d. The log of a process that is down is empty
+abbrev pub is_entry : World → ℕ → ℕ → ℕ → Bool
+is_entry w s d i = not (is_down (w.phase s)) && nat_lt (w.trims s d) i && nat_le i (length (sent w s d))

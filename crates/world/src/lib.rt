@@ -1,0 +1,34 @@
+//! What a session is about: its calls, their answers and refusals, and the world that they lead
+//! through.
+//!
+//! A *world* tells what every process received, what is recorded, acknowledged and released, and
+//! what is on the wire. It has no state of a process and no log: both follow from what was
+//! received. Each call that a session accepts is a step of the world, each refusal is the least
+//! number whose cause holds, and a *legal journal* is a list of such steps from the opening world.
+//! The definitions stand in `specs/`: `World` and `Phases`, `Handlers`, `History`, `Logs`, `Plan`,
+//! `Calls` (the world after a call), `Answers`, `Refusals`, `Useful` and `Legal`.
+//!
+//! The crate has the plain types that code shares, and no logic:
+//!
+//! ```text
+//! Entry { worker: 0, call: Call::Transmit { from: 0, to: 1, ssn: 1 }, answer: Answer::Placed(0) }
+//! ```
+#![tactic(auto)]
+
+mod answer;
+mod call;
+mod entry;
+mod message;
+mod packet;
+mod phase;
+mod refusal;
+mod rows;
+
+pub use answer::Answer;
+pub use call::Call;
+pub use entry::Entry;
+pub use message::{Feed, Message};
+pub use packet::Packet;
+pub use phase::PhaseName;
+pub use refusal::Refusal;
+pub use rows::one_message_is_legal;

@@ -1,0 +1,21 @@
+//! Messages between processes.
+
+/// A numbered message of a sender.
+#[derive(Clone, Copy, PartialEq, Eq, Debug)]
+pub struct Message {
+    /// Who sent it: 0 for the outside, 1 to 15 for a process.
+    pub sender: u8,
+    /// Its place, from 1, among the messages of its sender to its receiver.
+    pub ssn: u32,
+    pub payload: [u8; 64],
+}
+
+/// A message that the outside hands in.
+#[derive(Clone, Copy, PartialEq, Eq, Debug)]
+pub struct Feed {
+    /// What tells it from every other feed. A number is taken once.
+    pub number: u32,
+    /// The process that it is for, 1 to 15.
+    pub dst: u8,
+    pub payload: [u8; 64],
+}
