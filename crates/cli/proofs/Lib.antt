@@ -1,0 +1,3 @@
+mod RequestLemmas
+mod TakenLemmas
+mod WalkLemmas

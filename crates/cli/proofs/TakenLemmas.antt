@@ -1,0 +1,334 @@
+-- Words in which `clap` finds no fault ask for something.
+use Rattle.std.proofs.Common.{◌≡◌, ◌∙◌, ◌==◌, ◌&&◌, ◌||◌, ℕ, Bool, cond, true, false, not, true≢false, refl, sym, ap, subst, arith, append-nil, get_or, List, [], ◌∷◌, ◌++◌, length, Option, Some, None, is_some, codes}
+use Rattle.std.specs.Prelude.{slice_get}
+use Rattle.std.specs.List.{AllByRecursion, find}
+use Rattle.std.specs.Option.{option_map, option_map_or, option_and_then}
+use Rattle.std.specs.Str.{bytes_eq}
+use Rattle.std.specs.Str.Parse.{digits_value, without_leading_plus}
+use Rattle.std.proofs.lemmas.Bool.{eqb-true}
+use Rattle.std.proofs.lemmas.Slice.Eq.{bytes_eq-Decides}
+use Rattle.clap.specs.Words.{App, Row, Rule, Text, fault_of, one_of, read_as}
+use Rattle.clap.specs.Kinds.{check_kinds, or_else, range_kinds, value_kinds}
+use Rattle.clap.specs.Facts.{explicit_source, parser_of_value}
+use Rattle.clap.specs.Simple.{Shape, built, entered, help_rule, names_of, rows_at}
+use Rattle.clap.specs.Takes.{is_given}
+use Rattle.clap.specs.ValueTests.{accepts}
+use Rattle.clap.specs.Walk.{at_row, has_row, more_values, nothing_held, reading_by, row_text, rows_after, stop_after, values_or_missing, with_values, without}
+use Rattle.clap.specs.Faults.{entered_fault, level_fault, repeat_fault, set_fault, values_fault}
+use Rattle.clap.specs.declared.builder.ValueParser.TheVariants as parser
+use Rattle.clap.specs.declared.error.ErrorKind.TheVariants.{ArgumentConflict, InvalidValue, MissingRequiredArgument, ValueValidation, WrongNumberOfValues}
+use Rattle.clap.specs.declared.parser.matches.ValueSource.TheVariants.{CommandLine}
+use Rattle.clap.proofs.ValueTestLemmas.{accepts-Accepts}
+use Rattle.cli.specs.Asks.{AsksBy, AsksFor, HasImage, HasPath, HasState, HasWord, Order}
+use Rattle.cli.specs.Asks as order
+use Rattle.cli.specs.Program.{sblog_app}
+use Rattle.cli.proofs.WalkLemmas.{IsFineStop, Keeps, first_none, level_fine, second_none, some_kind}
+
+-- ---- rows
+
+-- the row has one value, that of WORD is a number below 2^64, and that of `--state` one of at most 1,024
+pub record IsSound (r : Row) : Type 0 where
+  pub text : Text
+  pub one : r.values ≡ text ∷ []
+  pub word : bytes_eq r.id (codes "WORD") ≡ true → (read_as r.reading text ≡ text) × (accepts false (parser.Unsigned 0 0xffff_ffff_ffff_ffff) text ≡ true)
+  pub state : bytes_eq r.id (codes "state") ≡ true → (read_as r.reading text ≡ text) × (accepts false (parser.Unsigned 0 1024) text ≡ true)
+
+-- the row of a first use
+abbrev new_row : Rule → Text → Row
+new_row a v = record { id = a.id; values = v ∷ []; count = None; source = Some CommandLine; reading = reading_by a }
+
+either : (a b : Bool) → (a || b) ≡ false → (a ≡ false) × (b ≡ false)
+either false b e = (refl, e)
+either true b e = absurd (true≢false e)
+
+-- rows in which an id has none stay, and what is new comes last
+at_no_row : (id : Text) (change : Row → List Row) (missing rows : List Row) → has_row id rows ≡ false → at_row id change missing rows ≡ rows ++ missing
+at_no_row id change missing [] none = refl
+at_no_row id change missing (r ∷ rs) none =
+    let parts = either (bytes_eq r.id id) (has_row id rs) none in
+    rw parts.0 (ap (λ rest. r ∷ rest) (at_no_row id change missing rs parts.1))
+
+all-append : (P : Row → Type 0) (xs : List Row) (x : Row) → AllByRecursion P xs → P x → AllByRecursion P (xs ++ x ∷ [])
+all-append P [] x all last = (last, tt)
+all-append P (y ∷ ys) x all last = (all.0, all-append P ys x all.1 last)
+
+all-nil : (P : Row → Type 0) (xs : List Row) → AllByRecursion P xs → AllByRecursion P (xs ++ [])
+all-nil P [] all = tt
+all-nil P (x ∷ xs) all = (all.0, all-nil P xs all.1)
+
+-- what is found has what each element has
+find_all : {X : Type 0} (P : X → Type 0) (test : X → Bool) (xs : List X) (x : X) → AllByRecursion P xs → find test xs ≡ Some x → P x
+find_all {X} P test [] x all is = absurd (none≢some is)
+  where
+    none≢some : None ≡ Some x → ⊥
+    none≢some e = cc
+find_all {X} P test (y ∷ ys) x all is = go (test y) (find_all P test ys x all.1) is
+  where
+    same : (a b : X) → Some a ≡ Some b → a ≡ b
+    same a b e = cc
+
+    go : (b : Bool) → (find test ys ≡ Some x → P x) → cond b (Some y) (find test ys) ≡ Some x → P x
+    go true rest e = subst P (same y x e) all.0
+    go false rest e = rest e
+
+-- and passes the test
+find_passes : {X : Type 0} (test : X → Bool) (xs : List X) (x : X) → find test xs ≡ Some x → test x ≡ true
+find_passes {X} test [] x is = absurd (none≢some is)
+  where
+    none≢some : None ≡ Some x → ⊥
+    none≢some e = cc
+find_passes {X} test (y ∷ ys) x is = go (test y) refl (find_passes test ys x) is
+  where
+    same : (a b : X) → Some a ≡ Some b → a ≡ b
+    same a b e = cc
+
+    go : (b : Bool) → test y ≡ b → (find test ys ≡ Some x → test x ≡ true) → cond b (Some y) (find test ys) ≡ Some x → test x ≡ true
+    go true t rest e = ap test (sym (same y x e)) ∙ t
+    go false t rest e = rest e
+
+-- ---- one use
+
+again_or_new : (has : Bool) → cond (has && not false) (ArgumentConflict ∷ []) [] ≡ [] → has ≡ false
+again_or_new false e = refl
+again_or_new true e = absurd (some_kind _ _ e)
+
+one_only : (n : ℕ) → range_kinds 1 1 n ≡ [] → n ≡ 1
+one_only n none = go (n == 0) (1 == n) refl none
+  where
+    go : (z b : Bool) → (1 == n) ≡ b → cond z (InvalidValue ∷ []) (cond b [] (WrongNumberOfValues ∷ [])) ≡ [] → n ≡ 1
+    go true b is e = absurd (some_kind _ _ e)
+    go false true is e = sym (eqb-true _ _ is)
+    go false false is e = absurd (some_kind _ _ e)
+
+-- a use that takes one value adds its row
+set_keeps : (P : Row → Type 0) (a : Rule) → ((v : Text) → value_kinds a.ignore_case (parser_of_value a.parser) v ≡ [] → P (new_row a v))
+    → (values : List Text) (rows : List Row)
+    → or_else (range_kinds 1 1 (length values)) (set_fault false a (values_or_missing a values) rows) ≡ [] → AllByRecursion P rows
+    → AllByRecursion P (with_values a.id (reading_by a) CommandLine (values_or_missing a values) (without a.id rows))
+set_keeps P a sound [] rows none all = absurd (some_kind _ _ none)
+set_keeps P a sound (v ∷ []) rows none all =
+    let fresh : has_row a.id rows ≡ false = again_or_new (has_row a.id rows) (first_none (repeat_fault false a.id rows) (values_fault a (v ∷ [])) none) in
+    let fits : value_kinds a.ignore_case (parser_of_value a.parser) v ≡ [] = first_none _ [] (second_none (repeat_fault false a.id rows) (values_fault a (v ∷ [])) none) in
+    let kept : without a.id rows ≡ rows = at_no_row a.id (λ _. []) [] rows fresh ∙ append-nil rows in
+    let added : with_values a.id (reading_by a) CommandLine (v ∷ []) rows ≡ rows ++ new_row a v ∷ [] = at_no_row a.id (more_values CommandLine (v ∷ [])) (new_row a v ∷ []) rows fresh in
+    subst (λ (rs : List Row). AllByRecursion P (with_values a.id (reading_by a) CommandLine (v ∷ []) rs)) (sym kept)
+    (subst (AllByRecursion P) (sym added) (all-append P rows (new_row a v) all (sound v fits)))
+set_keeps P a sound (v ∷ w ∷ rest) rows none all =
+    let one : length (v ∷ w ∷ rest) ≡ 1 = one_only (length (v ∷ w ∷ rest)) (first_none (range_kinds 1 1 (length (v ∷ w ∷ rest))) _ none) in
+    absurd (omega arith)
+
+-- ---- the commands of `sblog`
+
+abbrev pub program : App
+program = built sblog_app
+
+abbrev pub check_leaf : Shape
+check_leaf = get_or program.subs 0 program.top
+
+abbrev first_leaf : Shape
+first_leaf = get_or program.subs 1 program.top
+
+abbrev asm_leaf : Shape
+asm_leaf = get_or program.subs 2 program.top
+
+abbrev dis_leaf : Shape
+dis_leaf = get_or program.subs 3 program.top
+
+abbrev rule_in : Shape → ℕ → Rule
+rule_in s i = get_or s.rules i help_rule
+
+path_sound : (a : Rule) → bytes_eq a.id (codes "WORD") ≡ false → bytes_eq a.id (codes "state") ≡ false → (v : Text) → IsSound (new_row a v)
+path_sound a word state v = record {
+  text = v;
+  one = refl;
+  word = λ e. absurd (true≢false (sym e ∙ word));
+  state = λ e. absurd (true≢false (sym e ∙ state));
+}
+
+accepted : (b : Bool) → cond b [] (ValueValidation ∷ []) ≡ [] → b ≡ true
+accepted true e = refl
+accepted false e = absurd (some_kind _ _ e)
+
+word_sound : (v : Text) → value_kinds false (parser.Unsigned 0 0xffff_ffff_ffff_ffff) v ≡ [] → IsSound (new_row (rule_in first_leaf 1) v)
+word_sound v fits = record {
+  text = v;
+  one = refl;
+  word = λ _. (refl, accepted (accepts false (parser.Unsigned 0 0xffff_ffff_ffff_ffff) v) fits);
+  state = λ e. absurd (true≢false (sym e));
+}
+
+state_sound : (v : Text) → value_kinds false (parser.Unsigned 0 1024) v ≡ [] → IsSound (new_row (rule_in asm_leaf 2) v)
+state_sound v fits = record {
+  text = v;
+  one = refl;
+  word = λ e. absurd (true≢false (sym e));
+  state = λ _. (refl, accepted (accepts false (parser.Unsigned 0 1024) v) fits);
+}
+
+-- a use of `--help` is a fault
+help_keeps : Keeps IsSound false (rule_in check_leaf 1)
+help_keeps values rows none all = absurd (some_kind _ _ (second_none (range_kinds 0 0 (length values)) _ none))
+
+check_keeps : AllByRecursion (Keeps IsSound false) check_leaf.rules
+check_keeps = (set_keeps IsSound (rule_in check_leaf 0) (λ v fits. path_sound (rule_in check_leaf 0) refl refl v), (help_keeps, tt))
+
+first_keeps : AllByRecursion (Keeps IsSound false) first_leaf.rules
+first_keeps = (
+  set_keeps IsSound (rule_in first_leaf 0) (λ v fits. path_sound (rule_in first_leaf 0) refl refl v),
+  (set_keeps IsSound (rule_in first_leaf 1) (λ v fits. word_sound v fits), (help_keeps, tt)),
+)
+
+asm_keeps : AllByRecursion (Keeps IsSound false) asm_leaf.rules
+asm_keeps = (
+  set_keeps IsSound (rule_in asm_leaf 0) (λ v fits. path_sound (rule_in asm_leaf 0) refl refl v),
+  (
+    set_keeps IsSound (rule_in asm_leaf 1) (λ v fits. path_sound (rule_in asm_leaf 1) refl refl v),
+    (set_keeps IsSound (rule_in asm_leaf 2) (λ v fits. state_sound v fits), (help_keeps, tt)),
+  ),
+)
+
+dis_keeps : AllByRecursion (Keeps IsSound false) dis_leaf.rules
+dis_keeps = (set_keeps IsSound (rule_in dis_leaf 0) (λ v fits. path_sound (rule_in dis_leaf 0) refl refl v), (help_keeps, tt))
+
+top_keeps : AllByRecursion (Keeps IsSound false) program.top.rules
+top_keeps = (help_keeps, tt)
+
+-- ---- what was given
+
+given_row : (id : Text) (rows : List Row) → is_given id rows ≡ true → (r : Row) × (find (λ r. bytes_eq r.id id) rows ≡ Some r)
+given_row id rows given = go (find (λ r. bytes_eq r.id id) rows) refl given
+  where
+    go : (o : Option Row) → find (λ r. bytes_eq r.id id) rows ≡ o → option_map_or (λ r. explicit_source r.source) o false ≡ true
+        → (r : Row) × (find (λ r. bytes_eq r.id id) rows ≡ Some r)
+    go None is e = absurd (true≢false (sym e))
+    go (Some r) is e = (r, is)
+
+path_given : (id : Text) (rows : List Row) → AllByRecursion IsSound rows → is_given id rows ≡ true → (path : Text) × HasPath id rows path
+path_given id rows all given =
+    let row = given_row id rows given in
+    let sound : IsSound row.0 = find_all IsSound _ rows row.0 all row.1 in
+    (sound.text, ap (option_and_then (λ (r : Row). slice_get r.values 0)) row.1 ∙ ap (λ (vs : List Text). slice_get vs 0) sound.one)
+
+word_given : (rows : List Row) → AllByRecursion IsSound rows → is_given (codes "WORD") rows ≡ true → (n : ℕ) × HasWord rows n
+word_given rows all given =
+    let row = given_row (codes "WORD") rows given in
+    let sound : IsSound row.0 = find_all IsSound _ rows row.0 all row.1 in
+    let word = sound.word (find_passes _ rows row.0 row.1) in
+    let number = accepts-Accepts false (parser.Unsigned 0 0xffff_ffff_ffff_ffff) sound.text word.1 in
+    let read : one_of (codes "WORD") rows ≡ Some sound.text =
+    ap (option_and_then row_text) row.1 ∙ ap (λ (vs : List Text). option_map (read_as row.0.reading) (slice_get vs 0)) sound.one ∙ ap Some word.0 in
+    (digits_value 10 (without_leading_plus sound.text), (sound.text, read, (number.0, number.1, refl)))
+
+state_given : (rows : List Row) → AllByRecursion IsSound rows → is_given (codes "state") rows ≡ true → (n : ℕ) × HasState rows n
+state_given rows all given =
+    let row = given_row (codes "state") rows given in
+    let sound : IsSound row.0 = find_all IsSound _ rows row.0 all row.1 in
+    let state = sound.state (find_passes _ rows row.0 row.1) in
+    let number = accepts-Accepts false (parser.Unsigned 0 1024) sound.text state.1 in
+    let read : one_of (codes "state") rows ≡ Some sound.text =
+    ap (option_and_then row_text) row.1 ∙ ap (λ (vs : List Text). option_map (read_as row.0.reading) (slice_get vs 0)) sound.one ∙ ap Some state.0 in
+    (digits_value 10 (without_leading_plus sound.text), (sound.text, read, (number.0, number.3, refl)))
+
+one_required : (g : Bool) → cond (not g || false) (MissingRequiredArgument ∷ []) [] ≡ [] → g ≡ true
+one_required true e = refl
+one_required false e = absurd (some_kind _ _ e)
+
+two_required : (g h : Bool) → cond (not g || (not h || false)) (MissingRequiredArgument ∷ []) [] ≡ [] → (g ≡ true) × (h ≡ true)
+two_required true true e = (refl, refl)
+two_required true false e = absurd (some_kind _ _ e)
+two_required false h e = absurd (some_kind _ _ e)
+
+three_required : (g h i : Bool) → cond (not g || (not h || (not i || false))) (MissingRequiredArgument ∷ []) [] ≡ []
+    → (g ≡ true) × (h ≡ true) × (i ≡ true)
+three_required true true true e = (refl, refl, refl)
+three_required true true false e = absurd (some_kind _ _ e)
+three_required true false i e = absurd (some_kind _ _ e)
+three_required false h i e = absurd (some_kind _ _ e)
+
+-- a command in which no fault is found has its arguments
+check_given : (words : List Text) → level_fault check_leaf [] nothing_held words false [] ≡ [] → (path : Text) × HasImage (rows_after check_leaf.rules [] words) path
+check_given words none =
+    let fine = level_fine IsSound check_leaf (λ p a is. find_all (Keeps IsSound false) p check_leaf.rules a check_keeps is) [] words false [] (refl, (refl, tt)) none in
+    let rows = rows_after check_leaf.rules [] words in
+    path_given (codes "IMAGE") rows fine.0 (one_required (is_given (codes "IMAGE") rows) fine.3)
+
+first_given : (words : List Text) → level_fault first_leaf [] nothing_held words false [] ≡ []
+    → ((path : Text) × HasImage (rows_after first_leaf.rules [] words) path) × ((n : ℕ) × HasWord (rows_after first_leaf.rules [] words) n)
+first_given words none =
+    let fine = level_fine IsSound first_leaf (λ p a is. find_all (Keeps IsSound false) p first_leaf.rules a first_keeps is) [] words false [] (refl, (refl, (refl, tt))) none in
+    let rows = rows_after first_leaf.rules [] words in
+    let both = two_required (is_given (codes "IMAGE") rows) (is_given (codes "WORD") rows) fine.3 in
+    (path_given (codes "IMAGE") rows fine.0 both.0, word_given rows fine.0 both.1)
+
+asm_given : (words : List Text) → level_fault asm_leaf [] nothing_held words false [] ≡ []
+    → ((path : Text) × HasPath (codes "SRC") (rows_after asm_leaf.rules [] words) path)
+    × ((path : Text) × HasPath (codes "OUT") (rows_after asm_leaf.rules [] words) path)
+    × ((n : ℕ) × HasState (rows_after asm_leaf.rules [] words) n)
+asm_given words none =
+    let fine = level_fine IsSound asm_leaf (λ p a is. find_all (Keeps IsSound false) p asm_leaf.rules a asm_keeps is) [] words false [] (refl, (refl, (refl, (refl, tt)))) none in
+    let rows = rows_after asm_leaf.rules [] words in
+    let all = three_required (is_given (codes "SRC") rows) (is_given (codes "OUT") rows) (is_given (codes "state") rows) fine.3 in
+    (path_given (codes "SRC") rows fine.0 all.0, path_given (codes "OUT") rows fine.0 all.1, state_given rows fine.0 all.2)
+
+dis_given : (words : List Text) → level_fault dis_leaf [] nothing_held words false [] ≡ [] → (path : Text) × HasImage (rows_after dis_leaf.rules [] words) path
+dis_given words none =
+    let fine = level_fine IsSound dis_leaf (λ p a is. find_all (Keeps IsSound false) p dis_leaf.rules a dis_keeps is) [] words false [] (refl, (refl, tt)) none in
+    let rows = rows_after dis_leaf.rules [] words in
+    path_given (codes "IMAGE") rows fine.0 (one_required (is_given (codes "IMAGE") rows) fine.3)
+
+-- the command that the words name
+abbrev named : Bool → Bool → Bool → Bool → Bool → Option Shape
+named check first asm dis help =
+    cond check (Some check_leaf) (cond first (Some first_leaf) (cond asm (Some asm_leaf) (cond dis (Some dis_leaf)
+    (cond help (Some (get_or program.subs 4 program.top)) None))))
+
+order_by : (check first asm dis help : Bool) (words : List Text) → (help ≡ true → ⊥)
+    → option_map_or (λ s. level_fault s [] nothing_held words false []) (named check first asm dis help) [] ≡ []
+    → is_some (option_map (λ s. rows_at s words) (named check first asm dis help)) ≡ true
+    → (o : Order) × AsksBy (option_map (λ s. rows_at s words) (named check first asm dis help)) o
+order_by true first asm dis help words no_help none has =
+    let given = check_given words none in
+    (order.Check given.0, (refl, given.1))
+order_by false true asm dis help words no_help none has =
+    let given = first_given words none in
+    (order.First given.0.0 given.1.0, (refl, given.0.1, given.1.1))
+order_by false false true dis help words no_help none has =
+    let given = asm_given words none in
+    (order.Asm given.0.0 given.1.0 given.2.0, (refl, given.0.1, given.1.1, given.2.1))
+order_by false false false true help words no_help none has =
+    let given = dis_given words none in
+    (order.Dis given.0, (refl, given.1))
+order_by false false false false true words no_help none has = absurd (no_help refl)
+order_by false false false false false words no_help none has = absurd (true≢false (sym has))
+
+or_false : (b : Bool) → (b || false) ≡ true → b ≡ true
+or_false true e = refl
+or_false false e = e
+
+not_named_help : (name : Text) → bytes_eq name (codes "help") ≡ false → (bytes_eq (codes "help") name || false) ≡ true → ⊥
+not_named_help name other is =
+    let same : codes "help" ≡ name = (bytes_eq-Decides (codes "help") name).0 (or_false _ is) in
+    let found : bytes_eq name (codes "help") ≡ true = (bytes_eq-Decides name (codes "help")).1 (sym same) in
+    true≢false (sym found ∙ other)
+
+wants_command : (has : Bool) → check_kinds (not has && false) (not has && true) false ≡ [] → has ≡ true
+wants_command true e = refl
+wants_command false e = absurd (some_kind _ _ e)
+
+-- words in which no fault is found ask for something
+pub asks_something : (words : List Text) → fault_of sblog_app words ≡ [] → (o : Order) × AsksFor words o
+asks_something words none =
+    let stop = stop_after program.top.rules (names_of program) words in
+    let fine = level_fine IsSound program.top (λ p a is. find_all (Keeps IsSound false) p program.top.rules a top_keeps is) (names_of program) words
+    (is_some (entered program stop)) (entered_fault program stop) (refl, tt) none in
+    let has : is_some (entered program stop) ≡ true = wants_command (is_some (entered program stop)) fine.3 in
+    let order = from stop fine.1 fine.2 has in
+    (order.0, (none, order.1))
+  where
+    from : (o : Option (Text × List Text)) → IsFineStop program.top o → entered_fault program o ≡ [] → is_some (entered program o) ≡ true
+        → (x : Order) × AsksBy (entered program o) x
+    from None fine none has = absurd (true≢false (sym has))
+    from (Some p) fine none has =
+        order_by (bytes_eq (codes "check") p.0 || false) (bytes_eq (codes "first") p.0 || false) (bytes_eq (codes "asm") p.0 || false)
+        (bytes_eq (codes "dis") p.0 || false) (bytes_eq (codes "help") p.0 || false) p.1
+        (not_named_help p.0 (fine refl)) none has

@@ -1,0 +1,46 @@
+-- Why a source comes to no file.
+use Rattle.std.proofs.Common.{◌≡◌, ◌<◌, ◌≤◌, ◌∙◌, ◌⊎◌, ℕ, List, [], ◌∷◌, true, false, if◌then◌else◌, Bool, refl, sym, ap, subst, arith, inl, inr, map}
+use Rattle.assemble.specs.Refusal.{AreLines}
+use Rattle.assemble.specs.Refusal as assembling
+use Rattle.assemble.specs.Text.{line_of, lines_of, spoken}
+use Rattle.assemble.specs.declared.fault.AsmError.{AsmError}
+use Rattle.assemble.specs.declared.fault.AsmError.TheVariants as text
+use Rattle.decode.specs.Slots.{is_wide, size_of, slots}
+use Rattle.decode.specs.declared.insn.Insn.{Insn}
+use Rattle.decode.proofs.SlotLemmas.{slots-cons}
+use Rattle.verifier.specs.ImageFile.{IsUnwritten}
+use Rattle.verifier.specs.declared.fault.ImageError.{ImageError}
+use Rattle.verifier.specs.declared.fault.ImageError.TheVariants as image
+use Rattle.tracer.specs.Asm.{IsUnassembled}
+use Rattle.tracer.specs.Fault.{fault_of_image, fault_of_text}
+use Rattle.tracer.specs.declared.fault.Fault.{Fault}
+
+-- a text that is refused
+pub text_refused : (source : List ℕ) (e : AsmError) (f : Fault) → assembling.IsRefusal source e → f ≡ fault_of_text e
+    → IsUnassembled source f
+text_refused source text.Memory f why is = subst (IsUnassembled source) (sym is) tt
+text_refused source (text.Fault rule line) f why is = subst (IsUnassembled source) (sym is) why
+
+some_slots : (i : Insn) → 0 < size_of i
+some_slots i = go (is_wide i)
+  where
+    go : (wide : Bool) → 0 < (if wide then 2 else 1)
+    go true = omega arith
+    go false = omega arith
+
+-- no slots are no instructions
+no_slots : (code : List Insn) → slots code ≡ 0 → code ≡ []
+no_slots [] none = refl
+no_slots (i ∷ is) none = absurd (omega (arith, some_slots i, slots-cons i is, none))
+
+-- a list of instructions that has no file
+pub code_refused : (source : List ℕ) (code : List Insn) (e : ImageError) (f : Fault) → AreLines (lines_of source) code
+    → IsUnwritten code e → f ≡ fault_of_image e → IsUnassembled source f
+code_refused source code image.Memory f lines why is = subst (IsUnassembled source) (sym is) tt
+code_refused source code (image.Header fault) f lines why is = subst (IsUnassembled source) (sym is) (why.0, silent why.1)
+  where
+    silent : (slots code ≡ 0) ⊎ (1024 < slots code) → spoken (lines_of source) ≡ []
+    silent (inl none) = lines.written ∙ ap (map line_of) (no_slots code none)
+    silent (inr many) = absurd (omega (arith, lines.limit, many))
+code_refused source code (image.Decode rule slot) f lines why is = absurd why
+code_refused source code (image.Verify rule slot) f lines why is = absurd why

@@ -1,0 +1,4 @@
+mod AsmLemmas
+mod CauseLemmas
+mod DeliveryLemmas
+mod FirstLemmas

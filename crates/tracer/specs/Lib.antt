@@ -1,0 +1,8 @@
+pub mod Asm
+pub mod Check
+pub mod Dis
+pub mod Fault
+pub mod First
+pub mod Hex
+pub mod Program
+pub mod Report

@@ -1,0 +1,170 @@
+//! The commands `asm` and `dis` over files in memory.
+
+use super::ADDER;
+use crate::{FileError, Files, sblog};
+use std::alloc::Global;
+use std::process::Abort;
+use std::test::Fail;
+
+/// A text at the path `s` and an image at the path `i`; every other path fails.
+#[derive(Drop)]
+struct TwoFiles<'a> {
+    text: &'a [u8],
+    image: Vec<u8>,
+}
+
+impl Files for TwoFiles<'_> {
+    fn read(&mut self, alloc: Global, path: &str) -> Result<Vec<u8>, FileError> {
+        let copy = match path {
+            "s" => self.text.to_vec(alloc),
+            "i" => self.image.as_slice().to_vec(alloc),
+            _ => return Err(FileError::InputOutput),
+        };
+        copy.map_err(|_| FileError::Memory)
+    }
+
+    fn write(&mut self, path: &str, bytes: &[u8]) -> Result<(), FileError> {
+        if path != "i" {
+            return Err(FileError::InputOutput);
+        }
+        self.image.clear();
+        self.image
+            .extend_from_slice(bytes)
+            .map_err(|_| FileError::Memory)
+    }
+}
+
+static ADDER_TEXT: &str = "ldxdw r3, [r1+0]\nldxdw r4, [r2+0]\nadd r4, r3\nstxdw [r2+0], r4\n\
+    mov r0, 0\nexit\n";
+
+/// Carries out one line, and tests its status and what it shows and leaves at `i`.
+fn ends<R: Abort + AllocGlobal>(
+    rt: &R,
+    line: &str,
+    files: &mut TwoFiles<'_>,
+    status: u8,
+    shown: &str,
+    left: &[u8],
+) -> Result<(), Fail> {
+    let alloc = rt.alloc();
+    let words: Vec<&str> = line.split_whitespace().collect(alloc)?;
+    let mut out: Vec<u8> = Vec::new(alloc);
+    let mut err: Vec<u8> = Vec::new(alloc);
+    let answered = sblog(alloc, words.as_slice(), files, &mut out, &mut err);
+    assert_eq!(rt; answered, status, "at {line}, {shown}");
+    let (told, silent) = if status == 0 {
+        (&out, &err)
+    } else {
+        (&err, &out)
+    };
+    assert!(rt; told.as_slice() == shown.as_bytes(), "at {line}, {shown}");
+    assert!(rt; silent.is_empty(), "at {line}, {shown}");
+    assert!(rt; files.image.as_slice() == left, "at {line}, {shown}");
+    Ok(())
+}
+
+#[test]
+fn adder_both_ways(rt: HostRuntime) -> Result<(), Fail> {
+    let image = b"old".to_vec(rt.alloc())?;
+    let text = ADDER_TEXT.as_bytes();
+    let mut files = TwoFiles { text, image };
+    let adder = ADDER.as_slice();
+    ends(&rt, "asm s i --state 8", &mut files, 0, "", adder)?;
+    ends(&rt, "dis i", &mut files, 0, ADDER_TEXT, adder)
+}
+
+#[test]
+fn refused_texts_write_nothing(rt: HostRuntime) -> Result<(), Fail> {
+    let image = b"old".to_vec(rt.alloc())?;
+    let text = b"".as_slice();
+    let mut files = TwoFiles { text, image };
+    let cases = [
+        (b"foo\n".as_slice(), 3, "asm refused 1 at line 1\n"),
+        (b"mov r11, 0".as_slice(), 3, "asm refused 2 at line 1\n"),
+        (
+            b"mov r0, 2147483648".as_slice(),
+            3,
+            "asm refused 3 at line 1\n",
+        ),
+        (
+            b"# two\n\nexit\nexit 1\n".as_slice(),
+            3,
+            "asm refused 2 at line 4\n",
+        ),
+        (b"".as_slice(), 3, "load refused 4\n"),
+        (b"# nothing\n\n".as_slice(), 3, "load refused 4\n"),
+        (b"# \xff\nexit\n".as_slice(), 6, "input or output\n"),
+    ];
+    for (text, status, shown) in cases {
+        files.text = text;
+        ends(&rt, "asm s i --state 8", &mut files, status, shown, b"old")?;
+    }
+    Ok(())
+}
+
+#[test]
+fn at_most_1024_slots(rt: HostRuntime) -> Result<(), Fail> {
+    let alloc = rt.alloc();
+    let mut text: Vec<u8> = Vec::new(alloc);
+    let mut file: Vec<u8> = Vec::new(alloc);
+    file.extend_from_slice(b"SBI1\x00\x04\x00\x04")?;
+    for _ in 0..1024 {
+        text.extend_from_slice(b"exit\n")?;
+        file.extend_from_slice(b"\x95\x00\x00\x00\x00\x00\x00\x00")?;
+    }
+    let mut longer = text.clone()?;
+    longer.extend_from_slice(b"exit\n")?;
+    let image = Vec::new(alloc);
+    let mut files = TwoFiles {
+        text: text.as_slice(),
+        image,
+    };
+    ends(&rt, "asm s i --state 1024", &mut files, 0, "", &file)?;
+    files.text = longer.as_slice();
+    let refused = "asm refused 4 at line 1025\n";
+    ends(&rt, "asm s i --state 0", &mut files, 3, refused, &file)
+}
+
+#[test]
+fn paths_and_images(rt: HostRuntime) -> Result<(), Fail> {
+    let image = b"SBI1\x08\x00\x01\x00\x95\x00\x00\x00\x00\x00\x00\x00".to_vec(rt.alloc())?;
+    let text = b"exit".as_slice();
+    let mut files = TwoFiles { text, image };
+    let exit = files.image.clone()?;
+    ends(&rt, "dis i", &mut files, 0, "exit\n", &exit)?;
+    ends(&rt, "dis x", &mut files, 6, "input or output\n", &exit)?;
+    ends(
+        &rt,
+        "asm x i --state 8",
+        &mut files,
+        6,
+        "input or output\n",
+        &exit,
+    )?;
+    ends(
+        &rt,
+        "asm s x --state 8",
+        &mut files,
+        6,
+        "input or output\n",
+        &exit,
+    )?;
+    ends(
+        &rt,
+        "asm i i --state 8",
+        &mut files,
+        6,
+        "input or output\n",
+        &exit,
+    )?;
+    ends(&rt, "dis s", &mut files, 3, "load refused 1\n", &exit)?;
+    files.text = b"SBI1\x08\x00\x01\x00\x0f\x34\x00\x00\x01\x00\x00\x00";
+    ends(
+        &rt,
+        "dis s",
+        &mut files,
+        3,
+        "decode refused 3 at slot 0\n",
+        &exit,
+    )
+}

@@ -1,0 +1,3 @@
+# gives each message as an output
+call 2
+exit
