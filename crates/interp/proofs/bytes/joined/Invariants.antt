@@ -1,7 +1,7 @@
 use Rattle.std.proofs.Common.{◌≡◌, ◌+◌, ◌-◌, ◌^◌, ◌<◌, ◌≤◌}
 use Rattle.std.specs.Prelude.{slice_range}
 use Rattle.interp.specs.Bytes.{le_value}
-use Rattle.interp.proofs.bytes.read.Given as goal
+use Rattle.interp.proofs.bytes.joined.Given as goal
 
 abbrev pub invariant-loop-left : goal.invariant-loop-left
 invariant-loop-left l =

@@ -2,7 +2,7 @@ use Rattle.std.proofs.Common.{◌≡◌, suc, ◌+◌, ◌-◌, ◌*◌, ◌^◌
 use Rattle.std.specs.Prelude.{slice_range}
 use Rattle.interp.specs.Bytes.{le_value}
 use Rattle.interp.proofs.ByteLemmas.{le_value-front, bound-front, word-front}
-use Rattle.interp.proofs.bytes.read.Goals as goal
+use Rattle.interp.proofs.bytes.joined.Goals as goal
 
 pub overflow_mul-value : goal.overflow_mul-value
 overflow_mul-value c =
