@@ -203,7 +203,7 @@ after_alu (Moves z) dst f = slice_set f dst.number (moved z (kind_at f dst.numbe
 after_alu Sets dst f = slice_set f dst.number Num
 after_alu Computes dst f = slice_set f dst.number Num
 
--- a helper gives r0, and r1 to r5 are not kept (RFC 9669 section 4.3.1)
+-- a helper gives r0, and r1 to r5 are not kept (the BPF calling convention)
 abbrev pub after_helper : List Kind → List Kind
 after_helper f = Num ∷ Unset ∷ Unset ∷ Unset ∷ Unset ∷ Unset ∷ drop 6 f
 
