@@ -31,4 +31,6 @@ pub use message::{Feed, Message};
 pub use packet::Packet;
 pub use phase::PhaseName;
 pub use refusal::Refusal;
-pub use rows::one_message_is_legal;
+pub use rows::{
+    lost_job_is_legal, one_message_is_legal, saved_message_is_kept, two_crashes_are_legal,
+};
