@@ -3,7 +3,7 @@
 # the mean wall time of 100 runs and the greatest peak memory of 10.
 # usage: measure_text.sh PROGRAM
 set -eu
-program=$1
+program=$(cd "$(dirname "$1")" && pwd)/$(basename "$1")
 folder=$(mktemp -d)
 trap 'rm -r "$folder"' EXIT
 cd "$folder"
