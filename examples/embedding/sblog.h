@@ -6,6 +6,10 @@
 #include <stddef.h>
 #include <stdint.h>
 
+#ifdef __cplusplus
+extern "C" {
+#endif
+
 enum sblog_code {
     SBLOG_DONE = 0,
     SBLOG_MEMORY = 1,  /* no memory */
@@ -20,7 +24,7 @@ enum sblog_code {
 
 enum { SBLOG_MESSAGE_SIZE = 64, SBLOG_FAULT_SIZE = 16, SBLOG_REPORT_LIMIT = 1064 };
 
-/* Every slice is a pointer, which is never null, and a length. No two of them overlap. */
+/* Every slice is a pointer, which is never null, and a length. One that is written overlaps no other. */
 
 uint32_t sblog_check(const uint8_t *file, size_t file_len, uint8_t *fault, size_t fault_len);
 
@@ -43,5 +47,9 @@ static inline uint64_t sblog_number(const uint8_t *at) {
 static inline size_t sblog_report_size(const uint8_t *report) {
     return 32 + 65 * (size_t)sblog_number(report + 16) + 64 * (size_t)sblog_number(report + 24);
 }
+
+#ifdef __cplusplus
+}
+#endif
 
 #endif

@@ -9,9 +9,9 @@ use Rattle.assemble.specs.declared.fault.Fault.{Fault}
 use Rattle.assemble.specs.declared.fault.Fault.TheVariants.{Shape, Range}
 use Rattle.assemble.specs.declared.mnemonic.Mnemonic.{Mnemonic}
 use Rattle.assemble.specs.declared.mnemonic.Mnemonic.TheVariants.{Alu, MovSx, Neg, End, Jump, JumpLong, JumpIf, Call, Exit, Load, LoadSx, StoreReg, StoreImm, Wide}
-use Rattle.assemble.specs.Reads.{Reads}
+use Rattle.assemble.specs.Inside.Reads.{Reads}
 use Rattle.assemble.specs.Text.{operands_of, tail}
-use Rattle.assemble.specs.Mnemonic.{mnemonic_of, IsInsn}
+use Rattle.assemble.specs.Inside.Mnemonic.{mnemonic_of, IsInsn}
 
 -- the values that an instruction has beside its mnemonic
 abbrev pub IsOf : Mnemonic → Insn → Type 0

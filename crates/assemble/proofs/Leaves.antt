@@ -7,7 +7,7 @@ use Rattle.std.specs.Str.{IsUtf8}
 use Rattle.std.specs.Int.{Width}
 use Rattle.std.specs.Str.Parse.{IsNumeral, digits_value, signed_digits_value, without_leading_sign, without_leading_plus}
 use Rattle.assemble.specs.Number.{numeral}
-use Rattle.assemble.specs.Spelled.{IsUnsigned, IsNumber, IsSigned}
+use Rattle.assemble.specs.Inside.Spelled.{IsUnsigned, IsNumber, IsSigned}
 use Rattle.assemble.proofs.Numerals.{IsPlain, numeral_plain, number_plain, signed_plain, unsigned_is, number_is, signed_is, above, unsigned_digits}
 
 plain_ascii : (ds : List ℕ) → IsPlain ds → (i : ℕ) → get_or ds i 0 < 128

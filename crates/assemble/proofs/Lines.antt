@@ -15,8 +15,8 @@ use Rattle.assemble.specs.declared.mnemonic.Mnemonic.{Mnemonic}
 use Rattle.assemble.specs.declared.mnemonic.Mnemonic.TheVariants.{Alu, MovSx, Neg, End, Jump, JumpLong, JumpIf, Call, Exit, Load, LoadSx, StoreReg, StoreImm, Wide}
 use Rattle.assemble.specs.Number.{numeral, number, with_sign}
 use Rattle.assemble.specs.Text.{operands_of, tail, word_of, line_of, register, source, address}
-use Rattle.assemble.specs.Mnemonic.{mnemonic_of, word, IsInsn, behind}
-use Rattle.assemble.specs.Refusal.{first_word, BreaksFirst}
+use Rattle.assemble.specs.Inside.Mnemonic.{mnemonic_of, word, IsInsn, behind}
+use Rattle.assemble.specs.Refusal.{leading_word, LineBreaksFirst}
 use Rattle.assemble.proofs.Numerals.{numeral_once, number_once, signed_once}
 use Rattle.assemble.proofs.Splits.{lacks, one_cut, absent}
 use Rattle.assemble.proofs.Pairs.{register_lacks, source_lacks, address_lacks, number_first, same_last, sign_cut, register_no_sign, signed_begins}
@@ -48,10 +48,10 @@ skip c xs h = search (rules, nat_tests)
 stop : (c : ℕ) (xs : List ℕ) → c ≡ 32 → (if c == 32 then [] else xs) ≡ []
 stop c xs h = search (rules, nat_tests)
 
-pub first_of : (w rest : List ℕ) → lacks 32 w → IsBehind rest → first_word (w ++ rest) ≡ w
+pub first_of : (w rest : List ℕ) → lacks 32 w → IsBehind rest → leading_word (w ++ rest) ≡ w
 first_of [] [] lw b = refl
-first_of [] (c ∷ cs) lw b = stop c (c ∷ first_word cs) b
-first_of (c ∷ cs) rest lw b = skip c (c ∷ first_word (cs ++ rest)) lw.0 ∙ ap (λ (x : List ℕ). c ∷ x) (first_of cs rest lw.1 b)
+first_of [] (c ∷ cs) lw b = stop c (c ∷ leading_word cs) b
+first_of (c ∷ cs) rest lw b = skip c (c ∷ leading_word (cs ++ rest)) lw.0 ∙ ap (λ (x : List ℕ). c ∷ x) (first_of cs rest lw.1 b)
 
 above_lacks : (k byte : ℕ) (cs : List ℕ) → byte ≤ k → AreAbove k cs → lacks byte cs
 above_lacks k byte [] le h = tt
@@ -64,13 +64,13 @@ word_lacks_so (c ∷ cs) h = (λ e. absurd (omega (arith, h.0)), above_lacks 32 
 word_lacks : (i : Insn) → lacks 32 (word_of i)
 word_lacks i = subst (λ (t : List ℕ). lacks 32 t) (word_is i) (word_lacks_so (word (mnemonic_of i)) (each_word (mnemonic_of i)))
 
-pub first_word_is : (i : Insn) → first_word (line_of i) ≡ word_of i
-first_word_is i = first_of (word_of i) (tail (operands_of i)) (word_lacks i) (tail_behind i)
+pub leading_word_is : (i : Insn) → leading_word (line_of i) ≡ word_of i
+leading_word_is i = first_of (word_of i) (tail (operands_of i)) (word_lacks i) (tail_behind i)
 
 -- a word and what is behind it, and the line of an instruction
 pub both_parts : (w rest : List ℕ) (i : Insn) → lacks 32 w → IsBehind rest → w ++ rest ≡ line_of i → (w ≡ word_of i) × (rest ≡ tail (operands_of i))
 both_parts w rest i lw b e =
-    let first : w ≡ word_of i = sym (first_of w rest lw b) ∙ ap first_word e ∙ first_word_is i in
+    let first : w ≡ word_of i = sym (first_of w rest lw b) ∙ ap leading_word e ∙ leading_word_is i in
     let more : word_of i ++ rest ≡ word_of i ++ tail (operands_of i) = ap (λ (x : List ℕ). x ++ rest) (sym first) ∙ e in
     (first, append_cancel_left (word_of i) rest (tail (operands_of i)) more)
 
@@ -171,10 +171,10 @@ sample_is m = refl
 
 -- the line is a word and what is behind it
 module _ (line w : List ℕ) (o : Option (Bor (List ℕ))) (whole : line ≡ w ++ behind o) (first : ¬ Contains w 32) where
-  starts : first_word line ≡ w
-  starts = ap first_word whole ∙ first_of w (behind o) (absent 32 w first) (rest_behind o)
+  starts : leading_word line ≡ w
+  starts = ap leading_word whole ∙ first_of w (behind o) (absent 32 w first) (rest_behind o)
 
-  pub no_word : ((m : Mnemonic) → w ≢ word m) → (i : Insn) → word_of i ≢ first_word line
+  pub no_word : ((m : Mnemonic) → w ≢ word m) → (i : Insn) → word_of i ≢ leading_word line
   no_word none i e = none (mnemonic_of i) (sym starts ∙ sym e ∙ sym (word_is i))
 
   module _ (m : Mnemonic) (is : w ≡ word m) where
@@ -186,10 +186,10 @@ module _ (line w : List ℕ) (o : Option (Bor (List ℕ))) (whole : line ≡ w +
     line_is : (i : Insn) → IsInsn m (behind o) i → line ≡ line_of i
     line_is i h = whole ∙ (λ k. (is ∙ ap word (sym h.0) ∙ word_is i) k ++ h.1 k)
 
-    pub no_shape : ((i : Insn) → ¬ IsInsn m (behind o) i) → (n : ℕ) → BreaksFirst n rule.Shape line
+    pub no_shape : ((i : Insn) → ¬ IsInsn m (behind o) i) → (n : ℕ) → LineBreaksFirst n rule.Shape line
     no_shape none n =
         (λ unknown. unknown (sample m) (sym (word_is (sample m)) ∙ ap word (sample_is m) ∙ sym is ∙ sym starts), λ i e. none i (insn_is i e))
 
-    pub no_range : (i : Insn) × IsInsn m (behind o) i × (¬ Fits i) → (n : ℕ) → BreaksFirst n rule.Range line
+    pub no_range : (i : Insn) × IsInsn m (behind o) i × (¬ Fits i) → (n : ℕ) → LineBreaksFirst n rule.Range line
     no_range h n =
         (λ shape. shape h.0 (line_is h.0 h.1), λ j fits e. h.2 (subst (λ (k : Insn). Fits k) (line_once j h.0 (sym e ∙ line_is h.0 h.1)) fits))

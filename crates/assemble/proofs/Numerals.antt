@@ -10,7 +10,7 @@ use Rattle.std.specs.Fmt.{decimal}
 use Rattle.std.specs.Char.{digit_value}
 use Rattle.std.specs.Str.Parse.{AllDigits, IsNumeral, digits_value, digits_value_after, signed_digits_value}
 use Rattle.assemble.specs.Number.{numeral, numeral_within, number, with_sign}
-use Rattle.assemble.specs.Spelled.{IsPositive, IsUnsigned, IsNumber, IsSigned}
+use Rattle.assemble.specs.Inside.Spelled.{IsPositive, IsUnsigned, IsNumber, IsSigned}
 
 appends : AppendsLastDigit numeral_within
 appends = search rules

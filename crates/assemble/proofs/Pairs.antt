@@ -12,9 +12,9 @@ use Rattle.decode.specs.declared.insn.Operand.{Operand}
 use Rattle.decode.specs.declared.insn.Operand.TheVariants as operand
 use Rattle.assemble.specs.declared.fault.Fault.{Fault}
 use Rattle.assemble.specs.declared.fault.Fault.TheVariants.{Shape, Range}
-use Rattle.assemble.specs.Reads.{Reads, both_of}
+use Rattle.assemble.specs.Inside.Reads.{Reads, both_of}
 use Rattle.assemble.specs.Number.{numeral, number, with_sign}
-use Rattle.assemble.specs.Split.{IsSplit, LacksSign, BeginsWithSign, register_name}
+use Rattle.assemble.specs.Inside.Split.{IsSplit, LacksSign, BeginsWithSign, register_name}
 use Rattle.assemble.specs.Text.{register, source, address}
 use Rattle.assemble.proofs.Numerals.{IsPlain, one_digit, numeral_plain, number_plain, signed_plain, spells, digit}
 use Rattle.assemble.proofs.Splits.{lacks, one_cut, absent, contains}

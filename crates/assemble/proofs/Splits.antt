@@ -2,7 +2,7 @@
 use Rattle.std.proofs.Common.{◌≡◌, ℕ, List, [], ◌∷◌, ◌++◌, refl, sym, subst, zero, suc, arith, ◌∙◌}
 use Rattle.std.specs.Prelude.{Contains}
 use Rattle.std.proofs.lemmas.List.Elements.{Contains-append_right}
-use Rattle.assemble.specs.Split.{IsSplit}
+use Rattle.assemble.specs.Inside.Split.{IsSplit}
 
 abbrev pub lacks : ℕ → List ℕ → Type 0
 lacks byte [] = Unit {0}

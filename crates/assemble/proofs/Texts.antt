@@ -16,10 +16,10 @@ use Rattle.assemble.specs.Text.{line_of, lines_of, spoken, is_silent}
 use Rattle.std.proofs.lemmas.List.{append-nil, length-append}
 use Rattle.std.specs.Borrow.{Bor}
 use Rattle.std.specs.Result.{IfOk, IfErr}
-use Rattle.assemble.specs.Loop.{HaveRead, lines_left}
-use Rattle.assemble.specs.Refusal.{first_word, Breaks, BreaksFirst, AreLines, IsFault, IsRefusal, Gives}
+use Rattle.assemble.specs.Inside.Loop.{HaveRead, lines_left}
+use Rattle.assemble.specs.Refusal.{leading_word, LineBreaks, LineBreaksFirst, AreLines, IsFault, IsRefusal, Gives}
 use Rattle.assemble.proofs.Splits.{lacks}
-use Rattle.assemble.proofs.Lines.{line_once, first_word_is}
+use Rattle.assemble.proofs.Lines.{line_once, leading_word_is}
 
 -- ---- cutting
 
@@ -127,13 +127,13 @@ goes_on (j ∷ js) (i ∷ is) line more e =
     (on.0, on.1, (λ k. same k ∷ on.2 k), on.3)
 
 -- a line that is written for an instruction, with room for it, breaks no rule
-fine_line : (n : ℕ) (i : Insn) (line : List ℕ) (r : Rule) → Fits i → line ≡ line_of i → n + size_of i ≤ 1024 → BreaksFirst n r line → ⊥
-fine_line n i line rule.Word fits e room broken = broken i (sym (first_word_is i) ∙ ap first_word (sym e))
+fine_line : (n : ℕ) (i : Insn) (line : List ℕ) (r : Rule) → Fits i → line ≡ line_of i → n + size_of i ≤ 1024 → LineBreaksFirst n r line → ⊥
+fine_line n i line rule.Word fits e room broken = broken i (sym (leading_word_is i) ∙ ap leading_word (sym e))
 fine_line n i line rule.Shape fits e room broken = broken.1 i e
 fine_line n i line rule.Range fits e room broken = broken.1 i fits e
 fine_line n i line rule.Limit fits e room broken = absurd (omega (arith, broken.1 i fits e))
 
-never : (lines before : List (List ℕ)) (line : List ℕ) (after : List (List ℕ)) (js is : List Insn) (r : Rule) → lines ≡ before ++ line ∷ after → AreLines before js → is_silent line ≡ false → BreaksFirst (slots js) r line → AreLines lines is → ⊥
+never : (lines before : List (List ℕ)) (line : List ℕ) (after : List (List ℕ)) (js is : List Insn) (r : Rule) → lines ≡ before ++ line ∷ after → AreLines before js → is_silent line ≡ false → LineBreaksFirst (slots js) r line → AreLines lines is → ⊥
 never lines before line after js is r whole fine speaks broken h =
     let e : map line_of is ≡ map line_of js ++ line ∷ spoken after =
     sym h.written ∙ ap spoken whole ∙ spoken_append before (line ∷ after) ∙ (λ k. fine.written k ++ spoken_line line after speaks k) in
@@ -147,13 +147,13 @@ pub no_fault : (text : List ℕ) (is : List Insn) (r : Rule) (n : ℕ) → AreLi
 no_fault text is r n h f = never (lines_of text) f.before f.line f.after f.insns is r f.whole f.fine f.speaks f.broken h
 
 module _ (n : ℕ) (line : List ℕ) where
-  word_shape : Breaks n rule.Word line → Breaks n rule.Shape line
-  word_shape h i e = h i (sym (first_word_is i) ∙ ap first_word (sym e))
+  word_shape : LineBreaks n rule.Word line → LineBreaks n rule.Shape line
+  word_shape h i e = h i (sym (leading_word_is i) ∙ ap leading_word (sym e))
 
-  shape_range : Breaks n rule.Shape line → Breaks n rule.Range line
+  shape_range : LineBreaks n rule.Shape line → LineBreaks n rule.Range line
   shape_range h i fits e = h i e
 
-  one_rule : (q r : Rule) → BreaksFirst n q line → BreaksFirst n r line → q ≡ r
+  one_rule : (q r : Rule) → LineBreaksFirst n q line → LineBreaksFirst n r line → q ≡ r
   one_rule rule.Word rule.Word a b = refl
   one_rule rule.Word rule.Shape a b = absurd (b.0 a)
   one_rule rule.Word rule.Range a b = absurd (b.0 (word_shape a))
@@ -193,7 +193,7 @@ pub one_fault : (text : List ℕ) (q r : Rule) (m n : ℕ) → IsFault text q m 
 one_fault text q r m n a b = elim (places a.before b.before a.after b.after a.line b.line (sym a.whole ∙ b.whole)) [
   | inl same ↦
       let insns = one_list a.insns b.insns (sym a.fine.written ∙ ap spoken same.fronts ∙ b.fine.written) in
-      let P : List Insn → List ℕ → Type 0 = λ is l. BreaksFirst (slots is) q l in
+      let P : List Insn → List ℕ → Type 0 = λ is l. LineBreaksFirst (slots is) q l in
       let moved : P b.insns b.line = subst (λ (l : List ℕ). P b.insns l) same.items (subst (λ (is : List Insn). P is a.line) insns a.broken) in
       (one_rule (slots b.insns) b.line q r moved b.broken, a.number_is ∙ ap (λ (x : List (List ℕ)). length x + 1) same.fronts ∙ sym b.number_is)
   | inr (inl m) ↦ absurd (never b.before a.before a.line m.0 a.insns b.insns q m.1 a.fine a.speaks a.broken b.fine)

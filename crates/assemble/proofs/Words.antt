@@ -13,7 +13,7 @@ use Rattle.decode.specs.declared.insn.SignedSize.TheVariants as signed
 use Rattle.assemble.specs.declared.mnemonic.TheConstants.{ALL}
 use Rattle.assemble.specs.declared.mnemonic.Mnemonic.{Mnemonic}
 use Rattle.assemble.specs.declared.mnemonic.Mnemonic.TheVariants.{Alu, MovSx, Neg, End, Jump, JumpIf, Load, LoadSx, StoreReg, StoreImm}
-use Rattle.assemble.specs.Mnemonic.{word}
+use Rattle.assemble.specs.Inside.Mnemonic.{word}
 
 abbrev same : List ℕ → List ℕ → Bool
 same [] [] = true

@@ -10,7 +10,7 @@ use Rattle.decode.specs.declared.insn.Insn.{Insn}
 use Rattle.decode.specs.declared.insn.Insn.TheVariants as insn
 use Rattle.assemble.specs.Number.{numeral, number, with_sign}
 use Rattle.assemble.specs.Text.{operands_of, tail, commas, word_of, line_of, lines_of, text_of, spoken, is_silent, register, source, address, IsText}
-use Rattle.assemble.specs.Mnemonic.{mnemonic_of}
+use Rattle.assemble.specs.Inside.Mnemonic.{mnemonic_of}
 use Rattle.assemble.proofs.Numerals.{IsPlain, numeral_plain, number_plain, signed_plain}
 use Rattle.assemble.proofs.Splits.{lacks}
 use Rattle.assemble.proofs.Words.{AreAbove, IsWord, each_word}

@@ -19,26 +19,26 @@ rule_number rule.Range = 3
 rule_number rule.Limit = 4
 
 -- the word of a line: its text up to the first space or the end
-abbrev pub first_word : List ℕ → List ℕ
-first_word [] = []
-first_word (c ∷ cs) = if c == 32 then [] else c ∷ first_word cs
+abbrev pub leading_word : List ℕ → List ℕ
+leading_word [] = []
+leading_word (c ∷ cs) = if c == 32 then [] else c ∷ leading_word cs
 
 -- what each rule refuses, in a line after n slots: no instruction has this word; none, whatever its numbers, has this line;
--- none whose numbers are in range; or none that leaves at most 1024 slots
-abbrev pub Breaks : ℕ → Rule → List ℕ → Type 0
-Breaks n rule.Word line = (i : Insn) → word_of i ≢ first_word line
-Breaks n rule.Shape line = (i : Insn) → line ≢ line_of i
-Breaks n rule.Range line = (i : Insn) → Fits i → line ≢ line_of i
-Breaks n rule.Limit line = (i : Insn) → Fits i → line ≡ line_of i → 1024 < n + size_of i
+-- none whose numbers are in range; or none that leaves at most as many slots as an image has (docs/FORMATS.md, "Limits")
+abbrev pub LineBreaks : ℕ → Rule → List ℕ → Type 0
+LineBreaks n rule.Word line = (i : Insn) → word_of i ≢ leading_word line
+LineBreaks n rule.Shape line = (i : Insn) → line ≢ line_of i
+LineBreaks n rule.Range line = (i : Insn) → Fits i → line ≢ line_of i
+LineBreaks n rule.Limit line = (i : Insn) → Fits i → line ≡ line_of i → 1024 < n + size_of i
 
 -- each of these rules refuses what the one before it does, and this is the first that refuses the line
-abbrev pub BreaksFirst : ℕ → Rule → List ℕ → Type 0
-BreaksFirst n rule.Word line = Breaks n rule.Word line
-BreaksFirst n rule.Shape line = (¬ Breaks n rule.Word line) × Breaks n rule.Shape line
-BreaksFirst n rule.Range line = (¬ Breaks n rule.Shape line) × Breaks n rule.Range line
-BreaksFirst n rule.Limit line = (¬ Breaks n rule.Range line) × Breaks n rule.Limit line
+abbrev pub LineBreaksFirst : ℕ → Rule → List ℕ → Type 0
+LineBreaksFirst n rule.Word line = LineBreaks n rule.Word line
+LineBreaksFirst n rule.Shape line = (¬ LineBreaks n rule.Word line) × LineBreaks n rule.Shape line
+LineBreaksFirst n rule.Range line = (¬ LineBreaks n rule.Shape line) × LineBreaks n rule.Range line
+LineBreaksFirst n rule.Limit line = (¬ LineBreaks n rule.Range line) × LineBreaks n rule.Limit line
 
--- the list, of at most 1024 slots, whose lines these are
+-- the list whose lines these are, of at most as many slots as an image has
 pub record AreLines (lines : List (List ℕ)) (is : List Insn) : Type 0 where
   pub fits : AllByRecursion Fits is
   pub written : spoken lines ≡ map line_of is
@@ -54,7 +54,7 @@ pub record IsFault (text : List ℕ) (r : Rule) (number : ℕ) : Type 0 where
   pub insns : List Insn
   pub fine : AreLines before insns
   pub speaks : is_silent line ≡ false
-  pub broken : BreaksFirst (slots insns) r line
+  pub broken : LineBreaksFirst (slots insns) r line
 
 -- the error that a text gets, if memory does not run out
 abbrev pub IsRefusal : List ℕ → AsmError → Type 0

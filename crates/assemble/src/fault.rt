@@ -1,7 +1,7 @@
 //! Why a text was refused.
 
 ghost use Rattle.std.specs.Prelude.{◌≡◌};
-ghost use Rattle.assemble.specs.Reads.{both_of};
+ghost use Rattle.assemble.specs.Inside.Reads.{both_of};
 ghost use Rattle.assemble.specs.Refusal.{rule_number};
 ghost use Rattle.assemble.specs.declared.fault.AsmError.TheVariants.{Memory};
 

@@ -2,9 +2,9 @@
 
 ghost use Rattle.std.specs.Prelude.{ℕ, IfOk, IfErr, ◌≡◌, ◌∷◌, ◌++◌, [], Contains};
 ghost use Rattle.decode.specs.Encoding.{Fits};
-ghost use Rattle.assemble.specs.Mnemonic.{IsInsn, behind};
-ghost use Rattle.assemble.specs.Reads.{Reads};
-ghost use Rattle.assemble.specs.Refusal.{BreaksFirst};
+ghost use Rattle.assemble.specs.Inside.Mnemonic.{IsInsn, behind};
+ghost use Rattle.assemble.specs.Inside.Reads.{Reads};
+ghost use Rattle.assemble.specs.Refusal.{LineBreaksFirst};
 ghost use Rattle.assemble.specs.Text.{line_of};
 
 use crate::fault::{Fault, Rule};
@@ -20,7 +20,7 @@ use decode::Insn;
 /// The instruction that the line is.
 pub fn read_line(line: &[u8]) -> Result<Insn, Rule>
     ensures found { IfOk result (λ i. Fits i × (line.now ≡ line_of i)) }
-    ensures refused { IfErr result (λ r. (n : ℕ) → BreaksFirst n r line.now) }
+    ensures refused { IfErr result (λ r. (n : ℕ) → LineBreaksFirst n r line.now) }
 {
     let (word, operands) = split_line(line);
     let Some(mnemonic) = mnemonic_named(word) else {

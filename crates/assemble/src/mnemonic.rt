@@ -2,7 +2,7 @@
 
 ghost use Rattle.std.specs.Prelude.{◌≡◌, ◌≢◌, ◌↔◌, ◌++◌, IsTrue, MatchOption, codes};
 ghost use Rattle.std.specs.List.{AllByRecursion};
-ghost use Rattle.assemble.specs.Mnemonic.{word};
+ghost use Rattle.assemble.specs.Inside.Mnemonic.{word};
 ghost use Rattle.assemble.specs.Text.{alu_word, bits, condition_word, extension_word, order_word, signed_letters, size_letters, suffix};
 ghost use Rattle.assemble.specs.declared.mnemonic.Mnemonic.{Mnemonic};
 

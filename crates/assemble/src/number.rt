@@ -4,10 +4,10 @@ ghost use Rattle.std.specs.Prelude.{◌≡◌, ◌↔◌, ◌<◌, ◌^◌, IsTr
 ghost use Rattle.std.specs.Int.{w16, w32};
 ghost use Rattle.std.specs.Str.{IsUtf8};
 ghost use Rattle.assemble.specs.Number.{number, numeral, with_sign};
-ghost use Rattle.assemble.specs.Reads.{Reads};
+ghost use Rattle.assemble.specs.Inside.Reads.{Reads};
 ghost use Rattle.std.specs.Char.{is_ascii_digit};
 ghost use Rattle.std.specs.List.{list_all};
-ghost use Rattle.assemble.specs.Spelled.{IsPositive, IsUnsigned, IsNumber, IsSigned};
+ghost use Rattle.assemble.specs.Inside.Spelled.{IsPositive, IsUnsigned, IsNumber, IsSigned};
 
 use crate::fault::Fault;
 

@@ -7,7 +7,7 @@ ghost use Rattle.decode.specs.Encoding.{OperandFits};
 ghost use Rattle.decode.specs.declared.insn.Operand.{Operand};
 ghost use Rattle.decode.specs.declared.insn.Reg.{Reg};
 ghost use Rattle.assemble.specs.Number.{number, numeral, with_sign};
-ghost use Rattle.assemble.specs.Reads.{Reads};
+ghost use Rattle.assemble.specs.Inside.Reads.{Reads};
 ghost use Rattle.assemble.specs.Text.{address, commas, register, source};
 
 use crate::fault::{Fault, both};

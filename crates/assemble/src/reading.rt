@@ -1,7 +1,7 @@
 //! A text to instructions.
 
 ghost use Rattle.std.specs.Prelude.{List, length, ◌≤◌, IfOk, IfErr, ◌≡◌, ◌∷◌};
-ghost use Rattle.assemble.specs.Loop.{ReadsAfter, left, lines_left};
+ghost use Rattle.assemble.specs.Inside.Loop.{ReadsAfter, left, lines_left};
 ghost use Rattle.assemble.specs.Refusal.{AreLines, Gives, IsRefusal};
 ghost use Rattle.assemble.specs.Text.{is_silent, lines_of};
 ghost use Rattle.decode.specs.declared.insn.Insn.{Insn};

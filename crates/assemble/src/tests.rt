@@ -454,3 +454,34 @@ fn errors_shown(rt: HostRuntime) -> Result<(), Fail> {
     assert_eq!(rt; shown.as_str(), "line 7: number out of range (rule 3)");
     Ok(())
 }
+
+// More than 64 KiB of comments, and then an instruction.
+#[test]
+fn long_text(rt: HostRuntime) -> Result<(), Fail> {
+    let mut text = String::new(rt.alloc());
+    for _ in 0..5000 {
+        text.push_str("# sixteen bytes\n")?;
+    }
+    text.push_str("exit\n")?;
+    assert_eq!(rt; assemble(rt.alloc(), &text)?.len(), 1);
+    Ok(())
+}
+
+// 72,000 bytes of code, and 90,000 of text.
+#[test]
+fn long_list(rt: HostRuntime) -> Result<(), Fail> {
+    let mut insns = Vec::new(rt.alloc());
+    for _ in 0..9000 {
+        insns.push(Insn::Alu {
+            op: AluOp::Add,
+            width: Width::W64,
+            dst: R1,
+            operand: Operand::Imm(5),
+        })?;
+    }
+    let bytes = encode(rt.alloc(), &insns)?;
+    assert_eq!(rt; bytes.len(), 72_000);
+    assert_eq!(rt; decode::decode(rt.alloc(), &bytes)?.len(), 9000);
+    assert_eq!(rt; disassemble(rt.alloc(), &insns)?.len(), 90_000);
+    Ok(())
+}

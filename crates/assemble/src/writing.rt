@@ -3,7 +3,7 @@
 ghost use Rattle.std.specs.Prelude.{◌≡◌, ◌++◌, OnOk, IfOk, codes, string_bytes};
 ghost use Rattle.std.specs.List.{AllByRecursion};
 ghost use Rattle.decode.specs.Encoding.{Fits, OperandFits};
-ghost use Rattle.assemble.specs.Mnemonic.{mnemonic_of};
+ghost use Rattle.assemble.specs.Inside.Mnemonic.{mnemonic_of};
 ghost use Rattle.assemble.specs.Number.{number, numeral, with_sign};
 ghost use Rattle.assemble.specs.Text.{address, line_of, operands_of, register, source, word_of, tail, text_of};
 

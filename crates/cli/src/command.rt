@@ -80,7 +80,7 @@ pub(crate) fn sblog<'a>(alloc: Global) -> Result<Command<'a>, AllocError>
     ensures { IfOk result (λ c. app_of c ≡ sblog_app) }
 {
     let top = Command::new(alloc, "sblog")
-        .about("Runs verified message handlers and recovers them from crashes")
+        .about("Runs verified message handlers")
         .no_binary_name(true)
         .subcommand_required(true);
     let named = top.bin_name("sblog")?;

@@ -6,7 +6,7 @@ use Rattle.std.proofs.lemmas.List.Concat.{flat_map-append}
 use Rattle.decode.specs.declared.insn.Insn.{Insn}
 use Rattle.helpers.specs.declared.effects.Who.{Who}
 use Rattle.interp.specs.HandlerCall.{Handled, IsHandled}
-use Rattle.interp.specs.Bytes.{overwritten}
+use Rattle.operations.specs.Bytes.{overwritten}
 use Rattle.embed.specs.Calls.{report_of, IsReported, AreHandled, AreReported}
 use Rattle.embed.proofs.Overwritten.{put_more, overwritten_none}
 

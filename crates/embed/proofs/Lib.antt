@@ -1,3 +1,4 @@
 pub mod Overwritten
 pub mod Reports
 pub mod Calls
+pub mod FirstFailure

@@ -7,7 +7,7 @@ use Rattle.helpers.specs.declared.effects.Who.{Who}
 use Rattle.regtypes.specs.Typing.{Table, IsTyping}
 use Rattle.verifier.specs.ImageFile.{IsFile}
 use Rattle.interp.specs.HandlerCall.{Handled, IsHandled}
-use Rattle.interp.specs.Bytes.{overwritten}
+use Rattle.operations.specs.Bytes.{overwritten}
 use Rattle.embed.specs.Layout.{report_bytes}
 
 -- the file of code that has a typing: the files that are accepted

@@ -1,5 +1,5 @@
 -- What the exports answer (docs/EMBEDDING.md).
-use Rattle.std.specs.Prelude.{◌≡◌, ◌≢◌, ◌⊎◌, ℕ, ◌*◌, ◌/◌, ◌%◌, ◌<◌, ◌≤◌, List, length}
+use Rattle.std.specs.Prelude.{◌≡◌, ◌≢◌, ◌⊎◌, ℕ, ◌*◌, ◌/◌, ◌%◌, ◌<◌, ◌≤◌, List, [], ◌∷◌, length}
 use Rattle.decode.specs.declared.insn.Insn.{Insn}
 use Rattle.decode.specs.Refusal as decoding
 use Rattle.decode.specs.Slots.{slots_of}
@@ -8,8 +8,8 @@ use Rattle.regtypes.specs.Rules as rules
 use Rattle.verifier.specs.declared.fault.ImageError.{ImageError}
 use Rattle.verifier.specs.declared.fault.ImageError.TheVariants as error
 use Rattle.verifier.specs.FaultNumbers.{header_fault_number}
-use Rattle.verifier.specs.ImageFile.{IsFile, IsRefusal}
-use Rattle.interp.specs.Bytes.{overwritten}
+use Rattle.verifier.specs.ImageFile.{IsRefusal}
+use Rattle.operations.specs.Bytes.{overwritten}
 use Rattle.embed.specs.declared.refusal.Refusal.{Refusal}
 use Rattle.embed.specs.declared.refusal.Refusal.TheVariants.{Image, State, Message, Who as NotSeat, Room}
 use Rattle.embed.specs.Layout.{fault_bytes}
@@ -17,12 +17,14 @@ use Rattle.embed.specs.Calls.{IsTypableFile, IsSeat, IsReported, AreReported}
 
 -- ---- numbers
 
+-- the code of a file that is refused
 abbrev pub error_number : ImageError → ℕ
 error_number error.Memory = 1
 error_number (error.Header fault) = 2
 error_number (error.Decode rule slot) = 3
 error_number (error.Verify rule slot) = 4
 
+-- the code of a refusal, 1 to 8
 abbrev pub refusal_number : Refusal → ℕ
 refusal_number (Image e) = error_number e
 refusal_number State = 5
@@ -30,13 +32,14 @@ refusal_number Message = 6
 refusal_number NotSeat = 7
 refusal_number Room = 8
 
--- the broken rule and its slot, 0 where there is none
+-- the broken rule, 0 where there is none
 abbrev pub refused_rule : ImageError → ℕ
 refused_rule error.Memory = 0
 refused_rule (error.Header fault) = header_fault_number fault
 refused_rule (error.Decode rule slot) = decoding.rule_number rule
 refused_rule (error.Verify rule slot) = rules.rule_number rule
 
+-- the slot that breaks it, 0 where there is none
 abbrev pub refused_slot : ImageError → ℕ
 refused_slot error.Memory = 0
 refused_slot (error.Header fault) = 0
@@ -57,10 +60,10 @@ pub record IsChecked (file out written : List ℕ) : Type 0 where
   pub room : 16 ≤ length out
   pub same : written ≡ out
 
--- why a file is refused, and what is written of it
+-- why a file is refused, and what is written of it: the room is judged before the file
 abbrev pub IsUnchecked : List ℕ → List ℕ → List ℕ → Refusal → Type 0
 IsUnchecked file out written (Image e) =
-    IsRefusal file e × (written ≡ overwritten out 0 (fault_bytes (refused_rule e) (refused_slot e)))
+    (16 ≤ length out) × IsRefusal file e × (written ≡ overwritten out 0 (fault_bytes (refused_rule e) (refused_slot e)))
 IsUnchecked file out written State = ⊥
 IsUnchecked file out written Message = ⊥
 IsUnchecked file out written NotSeat = ⊥
@@ -77,35 +80,71 @@ pub record IsDone (file state : List ℕ) (who : Who) (whole room : Type 0) (cal
   pub reports_fit : room
   pub called : calls code
 
--- why a file is not opened for a state
-abbrev pub IsUnopened : List ℕ → List ℕ → Refusal → Type 0
-IsUnopened file state (Image e) = IsRefusal file e
-IsUnopened file state State = (code : List Insn) × (len : ℕ) × IsFile code len file × (length state ≢ len)
-IsUnopened file state Message = ⊥
-IsUnopened file state NotSeat = ⊥
-IsUnopened file state Room = ⊥
+-- the file is that of code that has a typing
+abbrev pub IsTypable : List ℕ → Type 0
+IsTypable file = (code : List Insn) × (len : ℕ) × IsTypableFile code len file
 
--- why such calls are refused
-abbrev pub IsUncalled : List ℕ → List ℕ → Who → Type 0 → Type 0 → Refusal → Type 0
-IsUncalled file state who whole room (Image e) = IsUnopened file state (Image e)
-IsUncalled file state who whole room State = IsUnopened file state State
-IsUncalled file state who whole room Message = ¬ whole
-IsUncalled file state who whole room NotSeat = ¬ IsSeat who
-IsUncalled file state who whole room Room = ¬ room
+-- this refusal says why the file is none. Want of memory says nothing of it
+abbrev pub IsFileRefusal : List ℕ → Refusal → Type 0
+IsFileRefusal file why = (e : ImageError) × (why ≡ Image e) × IsRefusal file e
+
+-- this refusal says that the state isn't as long as the file says
+abbrev pub IsStateRefusal : List ℕ → List ℕ → Refusal → Type 0
+IsStateRefusal file state why =
+    (why ≡ State) × ((code : List Insn) × (len : ℕ) × IsTypableFile code len file × (length state ≢ len))
+
+-- what the arguments of a call are judged by
+pub data Test : Type 0 where
+  OfSeat : Test
+  OfMessages : Test
+  OfRoom : Test
+  OfFile : Test
+  OfState : Test
+
+-- the order in which they are judged
+abbrev pub order : List Test
+order = OfSeat ∷ OfMessages ∷ OfRoom ∷ OfFile ∷ OfState ∷ []
+
+-- the arguments pass a test: whole says that the messages are whole, room that their reports fit
+abbrev pub Passes : List ℕ → List ℕ → Who → Type 0 → Type 0 → Test → Type 0
+Passes file state who whole room OfSeat = IsSeat who
+Passes file state who whole room OfMessages = whole
+Passes file state who whole room OfRoom = room
+Passes file state who whole room OfFile = IsTypable file
+Passes file state who whole room OfState = (code : List Insn) × IsTypableFile code (length state) file
+
+-- the arguments fail it, and this is the refusal for that
+abbrev pub Fails : List ℕ → List ℕ → Who → Type 0 → Type 0 → Test → Refusal → Type 0
+Fails file state who whole room OfSeat why = (why ≡ NotSeat) × (¬ IsSeat who)
+Fails file state who whole room OfMessages why = (why ≡ Message) × (¬ whole)
+Fails file state who whole room OfRoom why = (why ≡ Room) × (¬ room)
+Fails file state who whole room OfFile why = IsFileRefusal file why
+Fails file state who whole room OfState why = IsStateRefusal file state why
+
+-- the refusal is for the first of these tests that the arguments fail
+unfoldable pub FailsFirst : List ℕ → List ℕ → Who → Type 0 → Type 0 → List Test → Refusal → Type 0
+FailsFirst file state who whole room [] why = ⊥
+FailsFirst file state who whole room (t ∷ ts) why =
+    Fails file state who whole room t why ⊎ (Passes file state who whole room t × FailsFirst file state who whole room ts why)
 
 -- one call, its report written from the front
 abbrev pub IsCalled : List ℕ → Who → List ℕ → List ℕ → List ℕ → List ℕ → List ℕ → Type 0
 IsCalled file who state message after out written =
-    IsDone file state who (length message ≡ 64) (1064 ≤ length out) (λ code. (end : ℕ) × IsReported (slots_of code) who state message after out 0 written end)
+    IsDone file state who (length message ≡ 64) (1064 ≤ length out)
+    (λ code. (end : ℕ) × IsReported (slots_of code) who state message after out 0 written end)
 
+-- why such a call is refused
 abbrev pub IsCallRefusal : List ℕ → Who → List ℕ → List ℕ → List ℕ → Refusal → Type 0
-IsCallRefusal file who state message out = IsUncalled file state who (length message ≡ 64) (1064 ≤ length out)
+IsCallRefusal file who state message out why =
+    FailsFirst file state who (length message ≡ 64) (1064 ≤ length out) order why
 
 -- calls one after another, with room for as long a report of each
 abbrev pub AreCalled : List ℕ → Who → List ℕ → List ℕ → List ℕ → List ℕ → List ℕ → Type 0
 AreCalled file who state messages after out written =
-    IsDone file state who (length messages % 64 ≡ 0) (1064 * (length messages / 64) ≤ length out) (λ code. AreReported (slots_of code) who state messages after out written)
+    IsDone file state who (length messages % 64 ≡ 0) (1064 * (length messages / 64) ≤ length out)
+    (λ code. AreReported (slots_of code) who state messages after out written)
 
+-- why such calls are refused
 abbrev pub AreCallsRefused : List ℕ → Who → List ℕ → List ℕ → List ℕ → Refusal → Type 0
-AreCallsRefused file who state messages out =
-    IsUncalled file state who (length messages % 64 ≡ 0) (1064 * (length messages / 64) ≤ length out)
+AreCallsRefused file who state messages out why =
+    FailsFirst file state who (length messages % 64 ≡ 0) (1064 * (length messages / 64) ≤ length out) order why

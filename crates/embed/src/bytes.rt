@@ -1,7 +1,7 @@
 //! Bytes written one after another.
 
 ghost use Rattle.std.specs.Prelude.{◌≡◌, ◌≤◌, ◌+◌, length};
-ghost use Rattle.interp.specs.Bytes.{overwritten};
+ghost use Rattle.operations.specs.Bytes.{overwritten};
 ghost use Rattle.embed.specs.Layout.{number_bytes};
 
 /// Writes bytes from a place on, and answers the place behind them.

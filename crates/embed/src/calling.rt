@@ -1,10 +1,10 @@
 //! Checks and calls of image files.
 
-ghost use Rattle.std.specs.Prelude.{◌≡◌, ◌≤◌, ◌<◌, ◌+◌, ◌*◌, ◌/◌, ◌%◌, ◌≢◌, ◌↔◌, IsTrue, IfOk, IfErr, MatchResult, OnErr, length, slice_range};
+ghost use Rattle.std.specs.Prelude.{◌≡◌, ◌≤◌, ◌<◌, ◌+◌, ◌*◌, ◌/◌, ◌%◌, ◌↔◌, ◌⊎◌, IsTrue, IfOk, IfErr, MatchResult, OnErr, length, slice_range};
 ghost use Rattle.decode.specs.Slots.{slots_of};
 ghost use Rattle.verifier.specs.ImageFile.{IsRefusal};
 ghost use Rattle.embed.specs.Calls.{IsTypableFile, IsSeat, IsReported, AreReported};
-ghost use Rattle.embed.specs.Exports.{IsChecked, IsUnchecked, IsUnopened, IsCalled, IsCallRefusal, AreCalled, AreCallsRefused};
+ghost use Rattle.embed.specs.Exports.{IsChecked, IsUnchecked, IsTypable, IsFileRefusal, IsStateRefusal, IsCalled, IsCallRefusal, AreCalled, AreCallsRefused};
 
 use crate::refusal::{Refusal, refused_rule, refused_slot};
 use crate::report::{FAULT_SIZE, REPORT_LIMIT, put_fault, put_report};
@@ -48,7 +48,7 @@ fn open(alloc: Global, file: &[u8], state: &[u8]) -> Result<Image, Refusal>
     ensures file { IfOk result (λ image. IsTypableFile image.code image.len file.now) }
     ensures slots { IfOk result (λ image. image.slots ≡ slots_of image.code) }
     ensures state { IfOk result (λ image. length state.now ≡ image.len) }
-    ensures refused { IfErr result (IsUnopened file.now state.now) }
+    ensures refused { IfErr result (λ why. IsFileRefusal file.now why ⊎ (IsTypable file.now × IsStateRefusal file.now state.now why)) }
 {
     let image = match load(alloc, file) {
         Ok(image) => image,
@@ -61,12 +61,13 @@ fn open(alloc: Global, file: &[u8], state: &[u8]) -> Result<Image, Refusal>
 }
 
 /// Calls the handler by one message, and writes its report from a place on. Answers the place
-/// behind it.
+/// behind it. What an earlier call emitted is forgotten.
 fn call_once(
     image: &Image,
     state: &mut [u8],
     message: &[u8; 64],
     who: Who,
+    effects: &mut Effects,
     out: &mut [u8],
     at: usize,
 ) -> usize
@@ -74,9 +75,9 @@ fn call_once(
     requires room { at + REPORT_LIMIT ≤ length out.old }
     ensures { IsReported image.now.slots who state.old message.now state.new out.old at out.new result }
 {
-    let mut effects = Effects::new();
-    let end = interp::call(image, state, message, who, &mut effects);
-    put_report(out, at, end, &effects)
+    effects.clear();
+    let end = interp::call(image, state, message, who, effects);
+    put_report(out, at, end, effects)
 }
 
 /// The 64 bytes of a message from a place on.
@@ -96,10 +97,11 @@ fn call_each(image: &Image, state: &mut [u8], messages: &[u8], who: Who, out: &m
     requires room { 1064 * (length messages.now / 64) ≤ length out.old }
     ensures { AreReported image.now.slots who state.old messages.now state.new out.old out.new }
 {
+    let mut effects = Effects::new();
     let mut end = 0;
     'calls: for i in 0..messages.len() / MESSAGE {
         let message = message_at(messages, MESSAGE * i);
-        end = call_once(image, state, &message, who, out, end);
+        end = call_once(image, state, &message, who, &mut effects, out, end);
     }
 }
 
@@ -126,7 +128,9 @@ pub fn call(
         return Err(Refusal::Room);
     }
     let image = open(alloc, file, state)?;
-    call_once(&image, state, &message_at(message, 0), who, out, 0);
+    let mut effects = Effects::new();
+    let message = message_at(message, 0);
+    call_once(&image, state, &message, who, &mut effects, out, 0);
     Ok(())
 }
 

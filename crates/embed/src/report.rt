@@ -1,12 +1,13 @@
 //! What a call answers, as bytes.
 
 ghost use Rattle.std.specs.Prelude.{◌≡◌, ◌≤◌, ◌+◌, ◌*◌, length};
-ghost use Rattle.std.specs.List.{flat_map, concat};
-ghost use Rattle.interp.specs.Bytes.{overwritten};
+ghost use Rattle.std.specs.List.{flat_map};
+ghost use Rattle.helpers.specs.Payload.{view64};
+ghost use Rattle.operations.specs.Bytes.{overwritten};
 ghost use Rattle.embed.specs.Layout.{header_bytes, sent_bytes, report_bytes, fault_bytes};
 
 use crate::bytes::{put, put_number};
-use helpers::{Effects, Sent};
+use helpers::{Effects, Payload, Sent};
 use interp::CallEnd;
 
 /// The most bytes that the report of one call has: four numbers, 8 sends and 8 outputs.
@@ -25,21 +26,21 @@ fn put_sends(out: &mut [u8], at: usize, sends: &[Sent]) -> usize
     let mut end = at;
     for sent in sends {
         end = put(out, end, &[sent.dst]);
-        end = put(out, end, &sent.payload);
+        end = put(out, end, sent.payload.view64());
     }
     end
 }
 
 /// Writes outputs, and answers the place behind them.
-fn put_outputs(out: &mut [u8], at: usize, outputs: &[[u8; 64]]) -> usize
+fn put_outputs(out: &mut [u8], at: usize, outputs: &[Payload]) -> usize
     requires { at + 64 * length outputs.now ≤ length out.old }
-    ensures written { out.new ≡ overwritten out.old at (concat outputs.now) }
-    ensures end { result ≡ at + length (concat outputs.now) }
-    ensures size { length (concat outputs.now) ≡ 64 * length outputs.now }
+    ensures written { out.new ≡ overwritten out.old at (flat_map view64 outputs.now) }
+    ensures end { result ≡ at + length (flat_map view64 outputs.now) }
+    ensures size { length (flat_map view64 outputs.now) ≡ 64 * length outputs.now }
 {
     let mut end = at;
     for output in outputs {
-        end = put(out, end, output);
+        end = put(out, end, output.view64());
     }
     end
 }

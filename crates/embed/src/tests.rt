@@ -4,6 +4,7 @@ use crate::calling::{call, call_many, check};
 use crate::refusal::Refusal;
 use crate::report::REPORT_LIMIT;
 use helpers::Who;
+use std::alloc::Global;
 use std::test::Fail;
 
 // r3 = message[0..8]; r4 = state[0..8]; r4 += r3; state[0..8] = r4; r0 = 0; exit
@@ -131,5 +132,59 @@ fn no_call(rt: HostRuntime) -> Result<(), Fail> {
         8
     );
     assert_eq!(rt; out[0], 7);
+    Ok(())
+}
+
+/// The code of one call by a message of so many bytes, with so much room for its report.
+fn code_of(alloc: Global, file: &[u8], message: &[u8], who: Who, out: &mut [u8]) -> u32 {
+    let mut state = [0u8; 9];
+    number_of(call(alloc, file, &mut state, message, who, out))
+}
+
+// Of two faults the one that is judged first is told: process, message, room, file, state.
+#[test]
+fn two_faults(rt: HostRuntime) -> Result<(), Fail> {
+    let alloc = rt.alloc();
+    let nobody = Who { me: 3, ..CALLED };
+    let mut broken = ADDER;
+    broken[48] = 0xb7;
+    let mut room = [7u8; REPORT_LIMIT];
+    let mut less = [7u8; 1063];
+    assert_eq!(rt; code_of(alloc, &broken, &[0; 63], nobody, &mut less), 7);
+    assert_eq!(rt; code_of(alloc, &broken, &[0; 63], CALLED, &mut less), 6);
+    assert_eq!(rt; code_of(alloc, &broken, &[0; 64], CALLED, &mut less), 8);
+    assert_eq!(rt; code_of(alloc, &broken, &[0; 64], CALLED, &mut room), 4);
+    assert_eq!(rt; code_of(alloc, &ADDER, &[0; 64], CALLED, &mut room), 5);
+    assert_eq!(rt; number_of(check(alloc, &broken, &mut less[..15])), 8);
+    assert_eq!(rt; less[0], 7);
+    Ok(())
+}
+
+#[test]
+fn two_faults_of_many(rt: HostRuntime) -> Result<(), Fail> {
+    let alloc = rt.alloc();
+    let mut broken = ADDER;
+    broken[48] = 0xb7;
+    let mut state = [0u8; 9];
+    let mut less = [7u8; 1063];
+    let code = number_of(call_many(alloc, &broken, &mut state, &[0; 63], CALLED, &mut less));
+    assert_eq!(rt; code, 6);
+    let code = number_of(call_many(alloc, &broken, &mut state, &[0; 64], CALLED, &mut less));
+    assert_eq!(rt; code, 8);
+    Ok(())
+}
+
+// r0 = 0; exit, with the longest state
+#[test]
+fn longest_state(rt: HostRuntime) -> Result<(), Fail> {
+    let file =
+        *b"SBI1\x00\x04\x02\x00\xb7\x00\x00\x00\x00\x00\x00\x00\x95\x00\x00\x00\x00\x00\x00\x00";
+    let mut state = [9u8; 1024];
+    let message = [0u8; 64];
+    let mut out = [7u8; REPORT_LIMIT];
+    let code = number_of(call(rt.alloc(), &file, &mut state, &message, CALLED, &mut out));
+    assert_eq!(rt; code, 0);
+    assert_eq!(rt; out[8], 2);
+    assert_eq!(rt; state[1023], 9);
     Ok(())
 }

@@ -1,6 +1,8 @@
 //! What one call of a handler emits.
 
-use arrayvec::ArrayVec;
+ghost use Rattle.std.specs.Prelude.{◌≡◌, [], length, ◌≤◌};
+
+use crate::payload::Payload;
 use std::marker::Model;
 
 /// How many sends, and how many outputs, one call of a handler can emit.
@@ -14,39 +16,37 @@ pub struct Who {
     pub count: u8,
 }
 
-/// A message that a handler sends: the process that is to get it, and its 64 bytes.
+/// A message that a handler sends: the process that is to get it, and what it says.
 #[derive(Clone, Copy, Debug, PartialEq, Eq)]
 pub struct Sent {
     pub dst: u8,
-    pub payload: [u8; 64],
-}
-
-impl Default for Sent {
-    fn default() -> Sent {
-        Sent {
-            dst: 0,
-            payload: [0; 64],
-        }
-    }
+    pub payload: Payload,
 }
 
 /// What one call of a handler does outside its own memory, in the order of its calls.
+///
+/// The places lie in the value itself, and no call takes memory. A value that is kept and cleared
+/// between calls costs a call only what it emits.
 #[derive(Drop)]
 pub struct Effects {
-    sends: ArrayVec<Sent, LIMIT>,
-    outputs: ArrayVec<[u8; 64], LIMIT>,
+    sends: [Sent; LIMIT],
+    send_count: usize,
+    outputs: [Payload; LIMIT],
+    output_count: usize,
 }
 
 impl Model for Effects {
+    ghost use Rattle.std.specs.Prelude.{◌≡◌, ◌≤◌, length, take};
     ghost use Rattle.helpers.specs.Effects.{Emitted};
 
     ghost Value = { Emitted };
 
-    ghost view = { λ e. record { sends = e.sends.items; outputs = e.outputs.items } };
+    ghost view = { λ e. record { sends = take e.send_count e.sends; outputs = take e.output_count e.outputs } };
+
+    ghost invariant = { λ e. (e.send_count ≤ 8) × (length e.sends ≡ 8) × (e.output_count ≤ 8) × (length e.outputs ≡ 8) };
 }
 
 impl Effects {
-    ghost use Rattle.std.specs.Prelude.{◌≡◌, [], length, ◌≤◌};
     ghost use Rattle.helpers.specs.Helpers.{send_code, after_send, output_code, after_output};
 
     /// No effects.
@@ -54,10 +54,25 @@ impl Effects {
         ensures sends { result.sends ≡ [] }
         ensures outputs { result.outputs ≡ [] }
     {
+        let nothing = Payload::new();
         Effects {
-            sends: ArrayVec::new(),
-            outputs: ArrayVec::new(),
+            sends: [Sent {
+                dst: 0,
+                payload: nothing,
+            }; LIMIT],
+            send_count: 0,
+            outputs: [nothing; LIMIT],
+            output_count: 0,
         }
+    }
+
+    /// Forgets all effects.
+    pub fn clear(&mut self)
+        ensures sends { self.new.sends ≡ [] }
+        ensures outputs { self.new.outputs ≡ [] }
+    {
+        self.send_count = 0;
+        self.output_count = 0;
     }
 
     /// The messages that were sent, at most 8.
@@ -65,46 +80,49 @@ impl Effects {
         ensures value { result.now ≡ self.now.sends }
         ensures bound { length result.now ≤ 8 }
     {
-        self.sends.as_slice()
+        &self.sends[..self.send_count]
     }
 
     /// The outputs that were given, at most 8.
-    pub fn outputs(&self) -> &[[u8; 64]]
+    pub fn outputs(&self) -> &[Payload]
         ensures value { result.now ≡ self.now.outputs }
         ensures bound { length result.now ≤ 8 }
     {
-        self.outputs.as_slice()
+        &self.outputs[..self.output_count]
     }
 
-    /// Helper 1: sends 64 bytes to another process. The code is 0 where they were appended, 1 where
+    /// Helper 1: sends bytes to another process. The code is 0 where they were appended, 1 where
     /// the destination, as a 64-bit number, isn't another process, else 2: no room is left.
-    pub fn send(&mut self, who: Who, dst: u64, payload: [u8; 64]) -> u64
+    pub fn send(&mut self, who: Who, dst: u64, payload: &[u8]) -> u64
+        requires { length payload.now ≤ 256 }
         ensures code { result ≡ send_code who dst self.old }
-        ensures after { self.new ≡ after_send who dst payload self.old }
+        ensures after { self.new ≡ after_send who dst payload.now self.old }
     {
         if dst < 1 || dst > u64::from(who.count) || dst == u64::from(who.me) {
             return 1;
         }
-        if self.sends.is_full() {
+        if self.send_count == LIMIT {
             return 2;
         }
-        self.sends.push(Sent {
-            dst: dst as u8,
-            payload,
-        });
+        let sent = &mut self.sends[self.send_count];
+        sent.dst = dst as u8;
+        sent.payload.replace(payload);
+        self.send_count += 1;
         0
     }
 
-    /// Helper 2: gives 64 bytes to the outside. The code is 0 where they were appended, else 2: no
+    /// Helper 2: gives bytes to the outside. The code is 0 where they were appended, else 2: no
     /// room is left.
-    pub fn output(&mut self, payload: [u8; 64]) -> u64
+    pub fn output(&mut self, payload: &[u8]) -> u64
+        requires { length payload.now ≤ 256 }
         ensures code { result ≡ output_code self.old }
-        ensures after { self.new ≡ after_output payload self.old }
+        ensures after { self.new ≡ after_output payload.now self.old }
     {
-        if self.outputs.is_full() {
+        if self.output_count == LIMIT {
             return 2;
         }
-        self.outputs.push(payload);
+        self.outputs[self.output_count].replace(payload);
+        self.output_count += 1;
         0
     }
 }

@@ -4,18 +4,21 @@
 //! the handler's own process number and helper 4 the sender's; the last two only read [`Who`].
 //! [`Effects`] keeps what one call of a handler emits, without taking memory. Each method's
 //! contract is its helper's row: which code r0 gets, and what was appended, or that nothing was.
+//! What a message says is a [`Payload`], 0 to 256 bytes.
 //!
 //! ```
 //! let mut effects = Effects::new();
 //! let who = Who { me: 1, from: 0, count: 2 };
-//! let code = effects.send(who, 2, [7; 64]);
+//! let code = effects.send(who, 2, &[7; 64]);
 //! // code is 0, and effects.sends() is one message to process 2
 //! ```
 #![tactic(auto)]
 
 mod effects;
+mod payload;
 
 pub use effects::{Effects, LIMIT, Sent, Who};
+pub use payload::{PAYLOAD_LIMIT, Payload};
 
 #[cfg(test)]
 mod tests;

@@ -1,4 +1,4 @@
-use crate::{Effects, Who};
+use crate::{Effects, Payload, Who};
 use std::test::Fail;
 
 #[test]
@@ -9,12 +9,44 @@ fn one_send_and_one_output(rt: HostRuntime) -> Result<(), Fail> {
         from: 0,
         count: 2,
     };
-    assert_eq!(rt; effects.send(who, 2, [7; 64]), 0);
-    assert_eq!(rt; effects.send(who, 0, [7; 64]), 1);
-    assert_eq!(rt; effects.send(who, 1, [7; 64]), 1);
-    assert_eq!(rt; effects.send(who, 0x1_0000_0002, [7; 64]), 1);
-    assert_eq!(rt; effects.output([9; 64]), 0);
+    assert_eq!(rt; effects.send(who, 2, &[7; 64]), 0);
+    assert_eq!(rt; effects.send(who, 0, &[7; 64]), 1);
+    assert_eq!(rt; effects.send(who, 1, &[7; 64]), 1);
+    assert_eq!(rt; effects.send(who, 0x1_0000_0002, &[7; 64]), 1);
+    assert_eq!(rt; effects.output(&[9; 64]), 0);
     assert_eq!(rt; effects.sends().len(), 1);
     assert_eq!(rt; effects.outputs().len(), 1);
+    Ok(())
+}
+
+#[test]
+fn a_payload_fills_up_to_64_bytes(rt: HostRuntime) -> Result<(), Fail> {
+    let payload = Payload::from_slice(&[1, 2]);
+    let mut view = [0; 64];
+    view[0] = 1;
+    view[1] = 2;
+    assert_eq!(rt; payload.len(), 2);
+    assert!(rt; payload.view64() == &view);
+    assert!(rt; payload != Payload::from(view));
+    assert!(rt; Payload::from(view) == Payload::from_slice(&view));
+    assert!(rt; Payload::new().is_empty());
+    assert!(rt; Payload::default() == Payload::from_slice(&[]));
+    let long = Payload::from_slice(&[3; 256]);
+    assert_eq!(rt; long.len(), 256);
+    assert!(rt; long.view64() == &[3; 64]);
+    assert_eq!(rt; format!(in rt.alloc(); "{payload:?}")?.as_str(), "[1, 2]");
+    Ok(())
+}
+
+#[test]
+fn a_cleared_place_shows_nothing_of_what_was_there(rt: HostRuntime) -> Result<(), Fail> {
+    let mut effects = Effects::new();
+    assert_eq!(rt; effects.output(&[9; 256]), 0);
+    effects.clear();
+    assert_eq!(rt; effects.outputs().len(), 0);
+    assert_eq!(rt; effects.output(&[7]), 0);
+    let mut view = [0; 64];
+    view[0] = 7;
+    assert!(rt; effects.outputs()[0].view64() == &view);
     Ok(())
 }

@@ -1,7 +1,6 @@
+pub mod Shows
 pub mod ByteLemmas
-pub mod Places
 pub mod WordLemmas
-pub mod RuleLemmas
 pub mod ArithmeticLemmas
 pub mod AccessLemmas
 pub mod Simulation
@@ -9,6 +8,9 @@ pub mod HelperLemmas
 pub mod Counting
 pub mod RunLemmas
 pub mod CallLemmas
+pub mod Parts
+pub mod Operations
+pub mod FlatCalls
 pub mod Preservation
 pub mod Exits
 pub mod WordsKept

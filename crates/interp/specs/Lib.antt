@@ -1,10 +1,9 @@
-pub mod Bytes
 pub mod Value
 pub mod Configuration
 pub mod Step
 pub mod Run
 pub mod HandlerCall
 pub mod Admits
-pub mod Shows
+pub mod Flat
 pub mod Words
 pub mod Laws

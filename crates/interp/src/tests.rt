@@ -1,7 +1,7 @@
 ghost use Rattle.std.specs.Prelude.{◌≤◌, length};
 
-use crate::{CallEnd, call};
-use helpers::{Effects, Who};
+use crate::{CallEnd, call, call_flat, fill};
+use helpers::{Effects, Payload, Who};
 use std::alloc::Global;
 use std::test::Fail;
 use verifier::{Image, load};
@@ -67,6 +67,27 @@ fn adder_on_zeros(rt: HostRuntime) -> Result<(), Fail> {
     Ok(())
 }
 
+// The array afterwards: the message at 0, the new state at 256, zeros elsewhere.
+#[test]
+fn adder_in_the_array(rt: HostRuntime) -> Result<(), Fail> {
+    let image = image_of(rt.alloc(), 8, &ADDER)?;
+    if image.state_len() != 8 {
+        return Err("another length of the state")?;
+    }
+    let mut message = [0; 64];
+    message[0] = 5;
+    let mut mem = [0; 1792];
+    fill(&image, &mut mem, &message, &[0; 8]);
+    let mut out = Effects::new();
+    let end = call_flat(&image, &mut mem, FIRST, &mut out);
+    assert_eq!(rt; end, CallEnd { r0: 0, steps: 6 });
+    let mut left = [0; 1792];
+    left[0] = 5;
+    left[256] = 5;
+    assert!(rt; mem == left);
+    Ok(())
+}
+
 #[test]
 fn adder_wraps(rt: HostRuntime) -> Result<(), Fail> {
     let mut state = [0xff; 8];
@@ -100,7 +121,7 @@ fn nine_sends(rt: HostRuntime) -> Result<(), Fail> {
     assert_eq!(rt; end, CallEnd { r0: 2, steps: 29 });
     assert_eq!(rt; out.sends().len(), 8);
     assert_eq!(rt; out.sends()[7].dst, 2);
-    assert_eq!(rt; out.sends()[7].payload[0], 7);
+    assert_eq!(rt; out.sends()[7].payload.view64()[0], 7);
     let second = Who {
         me: 2,
         from: 0,
@@ -122,7 +143,7 @@ fn output_of_the_stack(rt: HostRuntime) -> Result<(), Fail> {
     let (end, out) = run(rt.alloc(), &code, &mut [], 0, FIRST)?;
     assert_eq!(rt; end, CallEnd { r0: 0, steps: 4 });
     assert_eq!(rt; out.outputs().len(), 1);
-    assert!(rt; out.outputs()[0] == [0; 64]);
+    assert!(rt; out.outputs()[0] == Payload::from([0; 64]));
     Ok(())
 }
 
@@ -168,7 +189,7 @@ fn both_lists_to_the_brim(rt: HostRuntime) -> Result<(), Fail> {
     assert_eq!(rt; end, CallEnd { r0: 4, steps: 67 });
     assert_eq!(rt; out.sends().len(), 8);
     assert_eq!(rt; out.outputs().len(), 8);
-    assert_eq!(rt; out.outputs()[7][0], 7);
+    assert_eq!(rt; out.outputs()[7].view64()[0], 7);
     Ok(())
 }
 
@@ -258,6 +279,86 @@ fn stores_of_each_size(rt: HostRuntime) -> Result<(), Fail> {
         let (end, _) = run(rt.alloc(), &code, &mut state, 0x8182_8384_8586_8788, FIRST)?;
         assert_eq!(rt; end, CallEnd { r0: 0, steps: 4 });
         assert!(rt; state == left, "at {opcode}");
+    }
+    Ok(())
+}
+
+/// `ldxdw r0, [r1+0]`, then `OP r0, B`, `exit`, and the same with B in a register: `mov r3, B`, `OP r0, r3`.
+#[test]
+fn results_with_either_operand(rt: HostRuntime) -> Result<(), Fail> {
+    let rows: [(u8, u8, u64, i32, u64); 6] = [
+        (0xc4, 0, 0x8000_0000, 33, 0xc000_0000),
+        (0x77, 0, 5, 64, 5),
+        (0x34, 1, 0xffff_fff9, 2, 0xffff_fffd),
+        (0x94, 1, 0xffff_fff9, 2, 0xffff_ffff),
+        (0x37, 0, 0xffff_ffff_ffff_ffff, -1, 1),
+        (0x04, 0, 0xffff_ffff_ffff_ffff, 1, 0),
+    ];
+    for (opcode, offset, a, b, r0) in rows {
+        let b = b.to_le_bytes();
+        let with_number = [
+            0x79, 0x10, 0, 0, 0, 0, 0, 0, opcode, 0, offset, 0, b[0], b[1], b[2], b[3], 0x95, 0, 0,
+            0, 0, 0, 0, 0,
+        ];
+        let (end, _) = run(rt.alloc(), &with_number, &mut [], a, FIRST)?;
+        assert_eq!(rt; end, CallEnd { r0, steps: 3 });
+        let with_register = [
+            0x79,
+            0x10,
+            0,
+            0,
+            0,
+            0,
+            0,
+            0,
+            0xb7,
+            0x03,
+            0,
+            0,
+            b[0],
+            b[1],
+            b[2],
+            b[3],
+            opcode + 8,
+            0x30,
+            offset,
+            0,
+            0,
+            0,
+            0,
+            0,
+            0x95,
+            0,
+            0,
+            0,
+            0,
+            0,
+            0,
+            0,
+        ];
+        let (end, _) = run(rt.alloc(), &with_register, &mut [], a, FIRST)?;
+        assert_eq!(rt; end, CallEnd { r0, steps: 4 });
+    }
+    Ok(())
+}
+
+/// `ldxdw r0, [r1+0]`, one instruction on r0, `exit`: extensions of a byte, and byte orders.
+#[test]
+fn results_of_one_register(rt: HostRuntime) -> Result<(), Fail> {
+    let rows: [([u8; 5], u64, u64); 5] = [
+        ([0xbf, 0x00, 8, 0, 0], 0x80, 0xffff_ffff_ffff_ff80),
+        ([0xbc, 0x00, 8, 0, 0], 0x80, 0xffff_ff80),
+        ([0xdc, 0x00, 0, 0, 16], 0x1122_3344_5566_7788, 0x8877),
+        ([0xd7, 0x00, 0, 0, 32], 0x1122_3344_5566_7788, 0x8877_6655),
+        ([0xd4, 0x00, 0, 0, 32], 0x1122_3344_5566_7788, 0x5566_7788),
+    ];
+    for (op, a, r0) in rows {
+        let code = [
+            0x79, 0x10, 0, 0, 0, 0, 0, 0, op[0], op[1], op[2], op[3], op[4], 0, 0, 0, 0x95, 0, 0,
+            0, 0, 0, 0, 0,
+        ];
+        let (end, _) = run(rt.alloc(), &code, &mut [], a, FIRST)?;
+        assert_eq!(rt; end, CallEnd { r0, steps: 3 });
     }
     Ok(())
 }

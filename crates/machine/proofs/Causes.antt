@@ -36,7 +36,7 @@ causes_of w room found =
 
 module _ (m : TheMachine) (w : World) (s : Stands m w) (room d feed : ℕ) (x : List ℕ) where
   causes : refusal_of w room (Input d feed x) ≡ least ((not (nat_lt 0 d && nat_le d (length m.processes)), 1) ∷ (nat_lt room (busy m + 1), 12) ∷ (list_any (λ y. y == feed) m.outside.taken, 14) ∷ [])
-  causes = rw (jobs m w s, s.count, s.feeds feed) refl
+  causes = rw (jobs m w s, s.shows.count, s.shows.feeds feed) refl
 
   pub input-outside : (nat_lt 0 d && nat_le d (length m.processes)) ≡ false → refusal_of w room (Input d feed x) ≡ Some 1
   input-outside out = causes ∙ rw out refl
@@ -57,14 +57,14 @@ module _ (m : TheMachine) (w : World) (s : Stands m w) (room d feed : ℕ) (x : 
 
 module _ (m : TheMachine) (w : World) (s : Stands m w) (room p d i : ℕ) where
   pub transmit-outside : (nat_lt (length m.processes) p || nat_lt (length m.processes) d) ≡ true → refusal_of w room (Transmit p d i) ≡ Some 1
-  transmit-outside out = rw (s.count, out) refl
+  transmit-outside out = rw (s.shows.count, out) refl
 
   module _ (within : p ≤ length m.processes) (to : d ≤ length m.processes) where
     inside : (nat_lt (length m.processes) p || nat_lt (length m.processes) d) ≡ false
     inside = grind (arith, nat_tests)
 
     pub transmit-same : p ≡ d → refusal_of w room (Transmit p d i) ≡ Some 5
-    transmit-same e = let same : (p == d) ≡ true = grind (arith, nat_tests) in rw (s.count, inside, up_at m w s p within, same) refl
+    transmit-same e = let same : (p == d) ≡ true = grind (arith, nat_tests) in rw (s.shows.count, inside, up_at m w s p within, same) refl
 
     module _ (apart : p ≢ d) where
       -- what is released
@@ -76,7 +76,7 @@ module _ (m : TheMachine) (w : World) (s : Stands m w) (room p d i : ℕ) where
         where
           by_sender : (b : Bool) → (p == 0) ≡ b → (if b then length (w.inputs d) else w.released p d) ≡ (if b then length (slice_index_or m.outside.inputs (d - 1) []) else 0)
           by_sender true e = let positive : 0 < d = grind (arith, nat_tests) in ap length (inputs_at m w s d positive to)
-          by_sender false e = s.released p d
+          by_sender false e = s.shows.released p d
 
       other : (p == d) ≡ false
       other = grind (arith, nat_tests)
@@ -84,14 +84,14 @@ module _ (m : TheMachine) (w : World) (s : Stands m w) (room p d i : ℕ) where
       pub transmit-early : out < i → refusal_of w room (Transmit p d i) ≡ Some 6
       transmit-early above =
           let late : nat_lt out i ≡ true = grind (arith, nat_tests) in
-          rw (s.count, inside, up_at m w s p within, other, released, late) refl
+          rw (s.shows.count, inside, up_at m w s p within, other, released, late) refl
 
       pub transmit-nothing : i ≡ 0 → refusal_of w room (Transmit p d i) ≡ Some 7
       transmit-nothing none =
           let early : nat_lt out i ≡ false = grind (arith, nat_tests) in
           let below : nat_lt (w.trims p d) i ≡ false = grind (arith, nat_tests) in
           let entry : is_entry w p d i ≡ false = no_entry (not (is_down (w.phase p))) (nat_lt (w.trims p d) i) (nat_le i (length (sent w p d))) below in
-          rw (s.count, inside, up_at m w s p within, other, released, early, entry) refl
+          rw (s.shows.count, inside, up_at m w s p within, other, released, early, entry) refl
 
 -- an input that is logged
 pub transmit-rest : (m : TheMachine) (w : World) → Stands m w → (room d i : ℕ) → 0 < d → d ≤ length m.processes → 0 < i → i ≤ length (slice_index_or m.outside.inputs (d - 1) []) → ((key : ℕ) → 4096 ≤ key → slice_index_or m.slots key None ≡ None)
@@ -103,7 +103,7 @@ transmit-rest m w s room d i positive to first logged keys =
     let late : nat_lt (length (w.inputs d)) i ≡ false = grind (arith, nat_tests, ap length inputs) in
     let above : nat_lt 0 i ≡ true = grind (arith, nat_tests) in
     let among : nat_le i (length (w.inputs d)) ≡ true = grind (arith, nat_tests, ap length inputs) in
-    rw (jobs m w s, live m w s, packets-is m w s keys, wire-is, s.count, inside, s.outside, other, late, s.trims 0 d, above, among) refl
+    rw (jobs m w s, live m w s, packets-is m w s keys, wire-is, s.shows.count, inside, s.shows.outside, other, late, s.shows.trims 0 d, above, among) refl
 
 -- a message that is released and isn't the zeroth is an input
 module _ (m : TheMachine) (w : World) (s : Stands m w) (room p d i : ℕ) (to : d ≤ length m.processes) (apart : p ≢ d) (first : i ≢ 0) (among : i ≤ (if p == 0 then length (slice_index_or m.outside.inputs (d - 1) []) else 0)) (keys : (key : ℕ) → 4096 ≤ key → slice_index_or m.slots key None ≡ None) where
@@ -134,7 +134,7 @@ module _ (m : TheMachine) (w : World) (s : Stands m w) (room p d i : ℕ) (to : 
 
 -- what lies under the key is no message: nothing, or a number
 pub arrive-nothing : (m : TheMachine) (w : World) → Stands m w → (room key : ℕ) → ((k : Packet) → slice_index_or m.slots key None ≡ Some k → IsCarried (length m.processes) k) → ((to : ℕ) (x : Message) → slice_index_or m.slots key None ≢ Some (Delivery to x)) → refusal_of w room (Arrive key) ≡ Some 4
-arrive-nothing m w s room key carried none = rw (s.wire key) (by_packet (slice_index_or m.slots key None) carried none)
+arrive-nothing m w s room key carried none = rw (s.shows.wire key) (by_packet (slice_index_or m.slots key None) carried none)
   where
     by_packet : (found : Option Packet) → ((k : Packet) → found ≡ Some k → IsCarried (length m.processes) k) → ((to : ℕ) (x : Message) → found ≢ Some (Delivery to x)) → least (causes_of w room found) ≡ Some 4
     by_packet None carried none = refl
@@ -145,7 +145,7 @@ arrive-nothing m w s room key carried none = rw (s.wire key) (by_packet (slice_i
 -- a message lies under the key
 module _ (m : TheMachine) (w : World) (s : Stands m w) (room key to : ℕ) (x : Message) (packet : slice_index_or m.slots key None ≡ Some (Delivery to x)) (inside : 0 < to) (within : to ≤ length m.processes) where
   pub packet_is : w.wire key ≡ Some (Delivery to x)
-  packet_is = s.wire key ∙ packet
+  packet_is = s.shows.wire key ∙ packet
 
   phase_is : w.phase to ≡ phase_of (process_at m to).working
   phase_is = (at_process m w s to inside within).phase_is

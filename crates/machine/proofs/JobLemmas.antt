@@ -1,5 +1,5 @@
 -- Open jobs, as the fields and as the worlds tell them
-use Rattle.std.proofs.Common.{◌≡◌, ℕ, zero, suc, ◌+◌, ◌-◌, ◌<◌, ◌≤◌, List, length, sym, ap, ◌∙◌, subst, arith}
+use Rattle.std.proofs.Common.{◌≡◌, ℕ, zero, suc, ◌+◌, ◌-◌, ◌<◌, ◌≤◌, List, length, refl, sym, ap, ◌∙◌, subst, arith}
 use Rattle.std.specs.Prelude.{Option, Some, None, slice_index_or}
 use Rattle.std.proofs.lemmas.Bool.Decides.{nat_tests}
 use Rattle.std.proofs.lemmas.List.{get_or-set_same, length-set, length-map, take_all}
@@ -12,16 +12,20 @@ use Rattle.world.specs.declared.packet.Packet.{Packet}
 use Rattle.world.specs.History.{nth}
 use Rattle.world.specs.Phases.{Busy}
 use Rattle.world.specs.World.{World}
-use Rattle.world.specs.Logs.{state_of}
+use Rattle.world.specs.Logs.{length_of, state_of, open_in, open_message}
 use Rattle.machine.specs.Process.{TheProcess, idle_process}
 use Rattle.machine.specs.Simulation.{TheMachine, StandsAt, Stands, phase_of}
 use Rattle.machine.specs.Jobs.{process_at, Begins, Matches}
 use Rattle.machine.specs.Arrival.{HasCode, IsOpen}
 use Rattle.machine.proofs.Standing.{at_process}
 
-phase_of-Busy : (o : Option Message) (x : Message) → phase_of o ≡ Busy x → o ≡ Some x
-phase_of-Busy None x e = absurd (cc)
-phase_of-Busy (Some m) x e = cc
+open_in-phase_of : (h : List Message) (saved : ℕ) (o : Option Message) → open_in h saved (phase_of o) ≡ o
+open_in-phase_of h saved None = refl
+open_in-phase_of h saved (Some m) = refl
+
+pub length_of-standing : (w : World) (p : ℕ) (o : Option Message) → w.phase p ≡ phase_of o → length_of w p ≡ length (w.history p)
+length_of-standing w p None e = rw (length_of, e) refl
+length_of-standing w p (Some m) e = rw (length_of, e) refl
 
 -- a process that waits or works has its whole history in its state
 pub state_of-standing : (w : World) (p : ℕ) (o : Option Message) → w.phase p ≡ phase_of o → state_of w p ≡ w.handlers.state p (w.history p)
@@ -41,6 +45,9 @@ module _ (m : TheMachine) (t : TheTask) (w : World) (s : Stands m w) (sizes : le
   length_is : (p : ℕ) → StandsAt (process_at m p) (w.handlers.state p) (w.history p) (w.phase p) (w.incarnation p) → length (process_at m p).receipts ≡ length (w.history p)
   length_is p at = ap length at.receipts ∙ length-map (w.history p) (λ (x : Message). x.sender)
 
+  open_is : (p : ℕ) → StandsAt (process_at m p) (w.handlers.state p) (w.history p) (w.phase p) (w.incarnation p) → open_message w p ≡ (process_at m p).working
+  open_is p at = ap (open_in (w.history p) (w.saved p)) at.phase_is ∙ open_in-phase_of (w.history p) (w.saved p) (process_at m p).working
+
   -- what matches the fields is open
   pub opens : Matches m t → IsOpen m.images t w
   unfolding me
@@ -49,13 +56,13 @@ module _ (m : TheMachine) (t : TheTask) (w : World) (s : Stands m w) (sizes : le
       let code : HasCode (nth m.images t.who.me) t.image.code =
       subst (λ o. HasCode o t.image.code) (sym (nth-inside m.images t.who.me t.image k.inside (omega (arith, sizes, k.within)))) (k.code t.image) in
       record {
-        inside = grind (arith, nat_tests, s.count, k.inside, k.within);
+        inside = grind (arith, nat_tests, s.shows.count, k.inside, k.within);
         incarnation = sym k.incarnation ∙ sym at.incarnation_is;
-        rsn = sym k.rsn ∙ ap (λ j. j + 1) (length_is t.who.me at);
+        rsn = sym k.rsn ∙ ap (λ j. j + 1) (length_is t.who.me at ∙ sym (length_of-standing w t.who.me (process_at m t.who.me).working at.phase_is));
         state = sym k.state ∙ at.state_is ∙ sym (state_of-standing w t.who.me (process_at m t.who.me).working at.phase_is);
-        message = at.phase_is ∙ ap phase_of k.message;
+        message = open_is t.who.me at ∙ k.message;
         from = k.from;
-        count = k.count ∙ sym s.count;
+        count = k.count ∙ sym s.shows.count;
         code = code;
       }
 
@@ -64,19 +71,25 @@ module _ (m : TheMachine) (t : TheTask) (w : World) (s : Stands m w) (sizes : le
   unfolding me
   matches o =
       let inside : 0 < t.who.me = grind (arith, nat_tests, o.inside) in
-      let within : t.who.me ≤ length m.processes = grind (arith, nat_tests, o.inside, s.count) in
+      let within : t.who.me ≤ length m.processes = grind (arith, nat_tests, o.inside, s.shows.count) in
       let at = at_process m w s t.who.me inside within in
       record {
         inside = inside;
         within = within;
-        message = phase_of-Busy (process_at m t.who.me).working t.message (sym at.phase_is ∙ o.message);
+        message = sym (open_is t.who.me at) ∙ o.message;
         incarnation = sym at.incarnation_is ∙ sym o.incarnation;
-        rsn = ap (λ j. j + 1) (length_is t.who.me at) ∙ sym o.rsn;
+        rsn = ap (λ j. j + 1) (length_is t.who.me at ∙ sym (length_of-standing w t.who.me (process_at m t.who.me).working at.phase_is)) ∙ sym o.rsn;
         state = at.state_is ∙ sym (state_of-standing w t.who.me (process_at m t.who.me).working at.phase_is) ∙ sym o.state;
         from = o.from;
-        count = o.count ∙ s.count;
+        count = o.count ∙ s.shows.count;
         code = λ e. subst (λ k. HasCode k t.image.code) (nth-inside m.images t.who.me e inside (omega (arith, sizes, within))) o.code;
       }
+
+  -- as long as all jobs are live, its process is busy
+  pub busy-on : IsOpen m.images t w → w.phase t.who.me ≡ Busy t.message
+  busy-on o =
+      let k : Matches m t = matches o in
+      (at_process m w s t.who.me k.inside k.within).phase_is ∙ ap phase_of k.message
 
 -- the job that a process begins matches, whatever is on the wire
 pub begun-matches : (m new : TheMachine) (to : ℕ) (x : Message) (t : TheTask) (slots : List (Option Packet)) → Begins m new to x t → 0 < to → to ≤ length m.processes → Matches (record new { slots = slots }) t

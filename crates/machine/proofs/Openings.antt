@@ -9,12 +9,16 @@ use Rattle.verifier.specs.Typed.{Typed}
 use Rattle.world.specs.Fold.{handlers_of}
 use Rattle.world.specs.World.{opening}
 use Rattle.world.proofs.FoldLemmas.{handlers_of-nothing}
+use Rattle.theorems.proofs.HandlerLemmas.{handlers-grow, handlers-start}
+use Rattle.theorems.proofs.Journals.{opens-sound}
+use Rattle.theorems.proofs.TidyLemmas.{opens-tidy}
+use Rattle.theorems.proofs.GateLemmas.{opens-gated}
 use Rattle.machine.specs.Process.{TheProcess, idle_process}
-use Rattle.machine.specs.Simulation.{TheMachine, StandsAt, Stands}
+use Rattle.machine.specs.Simulation.{TheMachine, StandsAt, Shows, Stands}
 use Rattle.world.specs.Phases.{Up}
 
 none : Typed
-none = record { code = []; slots = []; table = []; len = 0 }
+none = record { code = []; slots = []; table = []; len = 0; low = 0 }
 
 idle : Typed → TheProcess
 idle i = idle_process i.len
@@ -37,8 +41,8 @@ module _ (images : List Typed) where
       let P : TheProcess → Type 0 = λ x. StandsAt x ((handlers_of images).state (suc p)) [] Up 1 in
       subst P (sym (at p d h)) kept
 
-  pub opens : Stands (fresh images) (opening (length images) (handlers_of images))
-  opens =
+  shown : Shows (fresh images) (opening (length images) (handlers_of images))
+  shown =
       record {
         count = sym (length-map images (λ (i : Typed). idle_process i.len));
         handlers = refl;
@@ -51,6 +55,12 @@ module _ (images : List Typed) where
         trims = λ s d. refl;
         released = λ s d. refl;
       }
+
+  pub opens : Stands (fresh images) (opening (length images) (handlers_of images))
+  opens =
+      let n = length images in
+      let f = handlers_of images in
+      record { shows = shown; sound = opens-sound n f (handlers-grow images); tidy = opens-tidy n f; gated = opens-gated n f (handlers-start images) }
 
   pub states-fresh : (p : ℕ) (d : TheProcess) (e : Typed) → p < length (map (λ (i : Typed). idle_process i.len) images) → length (slice_index_or (map (λ (i : Typed). idle_process i.len) images) p d).state ≡ (slice_index_or images p e).len
   states-fresh p d e h =

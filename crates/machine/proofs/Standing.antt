@@ -50,10 +50,10 @@ module _ (m : TheMachine) (w : World) (s : Stands m w) (test : Phase → Bool) (
   jobs_by =
       let inside : ℕ → Bool = λ k. test (w.phase (suc k)) in
       let listed : count_by (λ (x : TheProcess). is_some x.working) m.processes ≡ count_below inside (length m.processes) =
-      count_below-list (λ (x : TheProcess). is_some x.working) inside m.processes (λ p d h. sym (ap test (s.process p d h).phase_is ∙ tells (slice_index_or m.processes p d).working)) in
-      let outside : test (w.phase 0) ≡ false = ap test s.outside ∙ idle in
+      count_below-list (λ (x : TheProcess). is_some x.working) inside m.processes (λ p d h. sym (ap test (s.shows.process p d h).phase_is ∙ tells (slice_index_or m.processes p d).working)) in
+      let outside : test (w.phase 0) ≡ false = ap test s.shows.outside ∙ idle in
       let shifted = count_below-shift (λ p. test (w.phase p)) w.count in
-      shifted ∙ rw outside (omega (arith, listed, ap (count_below inside) s.count))
+      shifted ∙ rw outside (omega (arith, listed, ap (count_below inside) s.shows.count))
 
 pub jobs : (m : TheMachine) (w : World) → Stands m w → open_jobs w ≡ count_by (λ (x : TheProcess). is_some x.working) m.processes
 jobs m w s = jobs_by m w s is_working is_working-phase_of refl
@@ -73,7 +73,7 @@ counted slots n none false e =
 
 packets_to : (m : TheMachine) (w : World) (n : ℕ) → Stands m w → ((key : ℕ) → n ≤ key → slice_index_or m.slots key None ≡ None) → count_below (λ key. not (is_none (w.wire key))) n ≡ count_by is_some m.slots
 packets_to m w n s none =
-    count_below-same (λ key. not (is_none (w.wire key))) (λ key. is_some (slice_index_or m.slots key None)) n (λ k h. has_packet (w.wire k) ∙ ap is_some (s.wire k))
+    count_below-same (λ key. not (is_none (w.wire key))) (λ key. is_some (slice_index_or m.slots key None)) n (λ k h. has_packet (w.wire k) ∙ ap is_some (s.shows.wire k))
     ∙ counted m.slots n none (nat_le (length m.slots) n) refl
     ∙ sym (count_below-list is_some (λ key. is_some (slice_index_or m.slots key None)) m.slots (λ p d h. ap is_some (get_or_default m.slots p d None h)))
 
@@ -84,15 +84,15 @@ packets-is m w s keys = packets_to m w WIRE s (λ key h. keys key (rw wire-is at
 pub at_process : (m : TheMachine) (w : World) → Stands m w → (p : ℕ) → 0 < p → p ≤ length m.processes → StandsAt (process_at m p) (w.handlers.state p) (w.history p) (w.phase p) (w.incarnation p)
 at_process m w s p inside within =
     let back : suc (p - 1) ≡ p = omega arith in
-    rw back at (s.process (p - 1) (idle_process 0) (omega arith))
+    rw back at (s.shows.process (p - 1) (idle_process 0) (omega arith))
 
 pub inputs_at : (m : TheMachine) (w : World) → Stands m w → (p : ℕ) → 0 < p → p ≤ length m.processes → w.inputs p ≡ slice_index_or m.outside.inputs (p - 1) []
 inputs_at m w s p inside within =
     let back : suc (p - 1) ≡ p = omega arith in
-    rw back at (s.inputs (p - 1) (omega arith))
+    rw back at (s.shows.inputs (p - 1) (omega arith))
 
 pub up_at : (m : TheMachine) (w : World) → Stands m w → (p : ℕ) → p ≤ length m.processes → is_up (w.phase p) ≡ true
-up_at m w s zero within = ap is_up s.outside
+up_at m w s zero within = ap is_up s.shows.outside
 up_at m w s (suc p) within = ap is_up (at_process m w s (suc p) (omega arith) within).phase_is ∙ is_up-phase_of (process_at m (suc p)).working
 
 -- how many messages of its sender the receiver of a message has

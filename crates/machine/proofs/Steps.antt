@@ -7,6 +7,7 @@ use Rattle.std.proofs.lemmas.List.{get_or-set_same, get_or-set_other, length-set
 use Rattle.std.proofs.lemmas.List.Folds.{list_any-append}
 use Rattle.std.proofs.lemmas.Option.{slice_get-get_or}
 use Rattle.verifier.specs.Typed.{Typed}
+use Rattle.helpers.specs.Payload.{view64}
 use Rattle.interp.specs.HandlerCall.{handled_by}
 use Rattle.world.specs.declared.message.Message.{Message}
 use Rattle.world.specs.declared.packet.Packet.{Packet}
@@ -25,10 +26,15 @@ use Rattle.world.proofs.FoldLemmas.{handlers_of-push}
 use Rattle.machine.specs.Process.{TheProcess}
 use Rattle.machine.specs.Wire.{Puts}
 use Rattle.machine.specs.Receipts.{rsn_among}
-use Rattle.machine.specs.Simulation.{TheMachine, IsNextAfter, StandsAt, Stands, Steps}
+use Rattle.world.specs.declared.call.Call.{Call}
+use Rattle.world.specs.Calls.{after}
+use Rattle.theorems.proofs.SoundCalls.{sound-call}
+use Rattle.theorems.proofs.TidyCalls.{tidy-call}
+use Rattle.theorems.proofs.GateCalls.{gated-call}
+use Rattle.machine.specs.Simulation.{TheMachine, IsNextAfter, StandsAt, Shows, Stands, Steps, phase_of}
 use Rattle.machine.specs.Jobs.{process_at, Matches}
 use Rattle.machine.specs.Arrival.{IsOpen}
-use Rattle.machine.proofs.JobLemmas.{opens, nth-inside}
+use Rattle.machine.proofs.JobLemmas.{opens, nth-inside, length_of-standing}
 use Rattle.replay.specs.Task.{TheTask, IsAnswer, answer_of, handled}
 use Rattle.world.specs.Handlers.{Handlers}
 use Rattle.world.specs.Fold.{handlers_of}
@@ -46,6 +52,21 @@ AnswersTo w key Ahead a = a ≡ Early
 pub put-wire : (w : World) (old new : List (Option Packet)) (key : ℕ) (was is : Option Packet) → ((j : ℕ) → w.wire j ≡ slice_index_or old j None) → Puts old new key was is → (j : ℕ) → put w.wire key is j ≡ slice_index_or new j None
 put-wire w old new key was is wire puts j = put-is w.wire (λ k. slice_index_or new k None) key is puts.now (λ k apart. puts.others k apart ∙ sym (wire k)) j
 
+-- a step whose new machine shows the new world stands for it: what every call keeps still holds
+step : (old new : TheMachine) (room : ℕ) (call : Call) (answer : Answer) (w : World) → Stands old w → refusal_of w room call ≡ None → MayAnswer w call answer → Shows new (after w call answer) → new.images ≡ old.images → Steps old new room call answer w
+step old new room call answer w s accepted answered shows images =
+    record {
+      accepted = accepted;
+      answered = answered;
+      stands = record {
+        shows = shows;
+        sound = sound-call room w call answer accepted answered s.sound;
+        tidy = tidy-call room w call answer accepted answered s.sound s.tidy;
+        gated = gated-call room w call answer accepted answered s.sound s.gated;
+      };
+      images = images;
+    }
+
 -- An input
 
 module _ (m : TheMachine) (w : World) (s : Stands m w) (room d feed calls n : ℕ) (x : List ℕ) (accepted : refusal_of w room (Input d feed x) ≡ None) (positive : 0 < d) (within : d ≤ length m.processes) (sizes : length m.outside.inputs ≡ length m.processes) where
@@ -58,7 +79,7 @@ module _ (m : TheMachine) (w : World) (s : Stands m w) (room d feed calls n : �
       or_true : (b : Bool) → (b || (true || false)) ≡ true
       or_true true = refl
       or_true false = refl
-  fed k false e = let apart : (feed == k) ≡ false = grind (arith, nat_tests) in rw apart (s.feeds k ∙ sym (or_false (list_any (λ y. y == k) m.outside.taken)))
+  fed k false e = let apart : (feed == k) ≡ false = grind (arith, nat_tests) in rw apart (s.shows.feeds k ∙ sym (or_false (list_any (λ y. y == k) m.outside.taken)))
     where
       or_false : (b : Bool) → (b || (false || false)) ≡ b
       or_false true = refl
@@ -74,27 +95,24 @@ module _ (m : TheMachine) (w : World) (s : Stands m w) (room d feed calls n : �
       ap (λ xs. xs ++ x ∷ []) before ∙ sym (ap (λ q. slice_index_or (set m.outside.inputs (d - 1) log) q []) same ∙ get_or-set_same m.outside.inputs (d - 1) log [] inside)
   input_at p h false e =
       let apart : p ≢ d - 1 = grind (arith, nat_tests) in
-      s.inputs p h ∙ sym (get_or-set_other m.outside.inputs (d - 1) p log [] apart)
+      s.shows.inputs p h ∙ sym (get_or-set_other m.outside.inputs (d - 1) p log [] apart)
 
   pub logged : n ≡ length log → Steps m (record m { outside = record { inputs = set m.outside.inputs (d - 1) log; taken = m.outside.taken ++ feed ∷ [] }; calls = calls }) room (Input d feed x) (Logged n) w
   logged n_is =
-      record {
-        images = refl;
-        accepted = accepted;
-        answered = ap Logged (n_is ∙ length-append (slice_index_or m.outside.inputs (d - 1) []) (x ∷ []) ∙ ap (λ xs. length xs + 1) (sym before));
-        stands = record {
-          count = s.count;
-          handlers = s.handlers;
-          process = s.process;
-          inputs = λ p h. input_at p h (suc p == d) refl;
-          feeds = λ k. fed k (k == feed) refl ∙ sym (list_any-append (λ y. y == k) m.outside.taken (feed ∷ []));
-          wire = s.wire;
-          started = s.started;
-          outside = s.outside;
-          trims = s.trims;
-          released = s.released;
-        };
-      }
+      step m _ _ _ _ w s (accepted) (ap Logged (n_is ∙ length-append (slice_index_or m.outside.inputs (d - 1) []) (x ∷ []) ∙ ap (λ xs. length xs + 1) (sym before)))
+      (record {
+        count = s.shows.count;
+        handlers = s.shows.handlers;
+        process = s.shows.process;
+        inputs = λ p h. input_at p h (suc p == d) refl;
+        feeds = λ k. fed k (k == feed) refl ∙ sym (list_any-append (λ y. y == k) m.outside.taken (feed ∷ []));
+        wire = s.shows.wire;
+        started = s.shows.started;
+        outside = s.shows.outside;
+        trims = s.shows.trims;
+        released = s.shows.released;
+      })
+      refl
 
 -- A message on the wire
 
@@ -109,35 +127,32 @@ module _ (m : TheMachine) (w : World) (s : Stands m w) (room p d i key calls : �
   carries = rw (input_is i first among) (λ k. Some (Delivery d (record { sender = sym from k; ssn = i; payload = sym x_is k })))
 
   vacant : w.wire key ≡ None
-  vacant = s.wire key ∙ puts.before
+  vacant = s.shows.wire key ∙ puts.before
 
   pub placed : Steps m (record m { slots = slots; calls = calls }) room (Transmit p d i) (Placed key) w
   placed =
       let step : Steps m (record m { slots = slots; calls = calls }) room (Transmit 0 d i) (Placed key) w =
-      record {
-        images = refl;
-        accepted = ap (λ q. refusal_of w room (Transmit q d i)) (sym from) ∙ accepted;
-        answered = (key, ((rw wire-is low), vacant), refl);
-        stands = record {
-          count = s.count;
-          handlers = s.handlers;
-          process = s.process;
-          inputs = s.inputs;
-          feeds = s.feeds;
-          wire = λ j. ap (λ k. put w.wire key k j) carries ∙ put-wire w m.slots slots key None (Some (Delivery d (record { sender = p; ssn = i; payload = x }))) s.wire puts j;
-          started = s.started;
-          outside = s.outside;
-          trims = s.trims;
-          released = s.released;
-        };
-      } in
+      step m _ _ _ _ w s (ap (λ q. refusal_of w room (Transmit q d i)) (sym from) ∙ accepted) ((key, ((rw wire-is low), vacant), refl))
+      (record {
+        count = s.shows.count;
+        handlers = s.shows.handlers;
+        process = s.shows.process;
+        inputs = s.shows.inputs;
+        feeds = s.shows.feeds;
+        wire = λ j. ap (λ k. put w.wire key k j) carries ∙ put-wire w m.slots slots key None (Some (Delivery d (record { sender = p; ssn = i; payload = x }))) s.shows.wire puts j;
+        started = s.shows.started;
+        outside = s.shows.outside;
+        trims = s.shows.trims;
+        released = s.shows.released;
+      })
+      refl in
       subst (λ q. Steps m (record m { slots = slots; calls = calls }) room (Transmit q d i) (Placed key) w) (sym from) step
 
 -- A message that arrives
 
 module _ (m : TheMachine) (w : World) (s : Stands m w) (room key to calls n : ℕ) (x : Message) (slots : List (Option Packet)) (accepted : refusal_of w room (Arrive key) ≡ None) (packet : slice_index_or m.slots key None ≡ Some (Delivery to x)) (positive : 0 < to) (within : to ≤ length m.processes) (n_is : n ≡ count_by (λ y. y == x.sender) (process_at m to).receipts) where
   packet_is : w.wire key ≡ Some (Delivery to x)
-  packet_is = s.wire key ∙ packet
+  packet_is = s.shows.wire key ∙ packet
 
   at_to : StandsAt (process_at m to) (w.handlers.state to) (w.history to) (w.phase to) (w.incarnation to)
   at_to = at_process m w s to positive within
@@ -160,23 +175,20 @@ module _ (m : TheMachine) (w : World) (s : Stands m w) (room key to calls n : �
   module _ (puts : Puts m.slots slots key (Some (Delivery to x)) None) where
     pub early : n < x.ssn → x.ssn ≢ n + 1 → Steps m (record m { slots = slots; calls = calls }) room (Arrive key) Early w
     early above apart =
-        record {
-          images = refl;
-          accepted = accepted;
-          answered = answered Ahead (grind (arith, nat_tests)) Early refl;
-          stands = rw packet_is (record {
-            count = s.count;
-            handlers = s.handlers;
-            process = s.process;
-            inputs = s.inputs;
-            feeds = s.feeds;
-            wire = put-wire w m.slots slots key (Some (Delivery to x)) None s.wire puts;
-            started = s.started;
-            outside = s.outside;
-            trims = s.trims;
-            released = s.released;
-          });
-        }
+        step m _ _ _ _ w s (accepted) (answered Ahead (grind (arith, nat_tests)) Early refl)
+        (rw packet_is (record {
+          count = s.shows.count;
+          handlers = s.shows.handlers;
+          process = s.shows.process;
+          inputs = s.shows.inputs;
+          feeds = s.shows.feeds;
+          wire = put-wire w m.slots slots key (Some (Delivery to x)) None s.shows.wire puts;
+          started = s.shows.started;
+          outside = s.shows.outside;
+          trims = s.shows.trims;
+          released = s.shows.released;
+        }))
+        refl
 
     -- the process works on it
     pub started : (y : TheProcess) (serial : ℕ) → x.ssn ≡ n + 1 → y ≡ record (process_at m to) { working = Some x } → serial ≡ m.started + 1
@@ -188,23 +200,20 @@ module _ (m : TheMachine) (w : World) (s : Stands m w) (room key to calls n : �
         let now : StandsAt y (w.handlers.state to) (w.history to) (Busy x) (w.incarnation to) =
         rw y_is (record { state_is = at_to.state_is; receipts = at_to.receipts; in_order = at_to.in_order; phase_is = refl; next = next ∙ omega (arith, some); incarnation_is = at_to.incarnation_is }) in
         let there : P (to - 1) true y = rw back now in
-        record {
-          images = refl;
-          accepted = accepted;
-          answered = answered Next (grind (arith, nat_tests)) (Started serial) (ap Started (serial_is ∙ ap (λ k. k + 1) (sym s.started)));
-          stands = rw packet_is (record {
-            count = s.count ∙ sym (length-set m.processes (to - 1) y);
-            handlers = s.handlers;
-            process = set-is P m.processes to y positive within there s.process;
-            inputs = λ p h. s.inputs p (let e = length-set m.processes (to - 1) y in omega (arith, e, h));
-            feeds = s.feeds;
-            wire = put-wire w m.slots slots key (Some (Delivery to x)) None s.wire puts;
-            started = ap (λ k. k + 1) s.started;
-            outside = let other : (0 == to) ≡ false = grind (arith, nat_tests) in rw other s.outside;
-            trims = s.trims;
-            released = s.released;
-          });
-        }
+        step m _ _ _ _ w s (accepted) (answered Next (grind (arith, nat_tests)) (Started serial) (ap Started (serial_is ∙ ap (λ k. k + 1) (sym s.shows.started))))
+        (rw packet_is (record {
+          count = s.shows.count ∙ sym (length-set m.processes (to - 1) y);
+          handlers = s.shows.handlers;
+          process = set-is P m.processes to y positive within there s.shows.process;
+          inputs = λ p h. s.shows.inputs p (let e = length-set m.processes (to - 1) y in omega (arith, e, h));
+          feeds = s.shows.feeds;
+          wire = put-wire w m.slots slots key (Some (Delivery to x)) None s.shows.wire puts;
+          started = ap (λ k. k + 1) s.shows.started;
+          outside = let other : (0 == to) ≡ false = grind (arith, nat_tests) in rw other s.shows.outside;
+          trims = s.shows.trims;
+          released = s.shows.released;
+        }))
+        refl
 
   -- the process tells its number again, under the same key
   pub duplicate : x.ssn ≤ n → 0 < x.ssn → key < 4096 → (rsn incarnation : ℕ) → rsn ≡ rsn_among 0 (process_at m to).receipts x.sender x.ssn → incarnation ≡ (process_at m to).incarnation
@@ -220,23 +229,20 @@ module _ (m : TheMachine) (w : World) (s : Stands m w) (room key to calls n : �
       let number : number_for w to x (rsn_of (w.history to) x.sender x.ssn) ≡ Some (Number to x.sender x.ssn rsn incarnation) =
       rw found (ap (λ k. Some (Number to x.sender x.ssn rsn k)) (at_to.incarnation_is ∙ sym incarnation_is)) in
       let gone : put w.wire key None key ≡ None = let here : (key == key) ≡ true = grind (arith, nat_tests) in rw here refl in
-      record {
-        images = refl;
-        accepted = accepted;
-        answered = answered Known (grind (arith, nat_tests)) (Duplicate key) (key, ((rw wire-is low), gone), refl);
-        stands = rw packet_is (record {
-          count = s.count;
-          handlers = s.handlers;
-          process = s.process;
-          inputs = s.inputs;
-          feeds = s.feeds;
-          wire = λ j. ap (λ k. put (put w.wire key None) key k j) number ∙ put-is (put w.wire key None) (λ k. slice_index_or slots k None) key (Some (Number to x.sender x.ssn rsn incarnation)) puts.now (λ k apart. puts.others k apart ∙ sym (let other : (k == key) ≡ false = grind (arith, nat_tests) in rw other (s.wire k))) j;
-          started = s.started;
-          outside = s.outside;
-          trims = s.trims;
-          released = s.released;
-        });
-      }
+      step m _ _ _ _ w s (accepted) (answered Known (grind (arith, nat_tests)) (Duplicate key) (key, ((rw wire-is low), gone), refl))
+      (rw packet_is (record {
+        count = s.shows.count;
+        handlers = s.shows.handlers;
+        process = s.shows.process;
+        inputs = s.shows.inputs;
+        feeds = s.shows.feeds;
+        wire = λ j. ap (λ k. put (put w.wire key None) key k j) number ∙ put-is (put w.wire key None) (λ k. slice_index_or slots k None) key (Some (Number to x.sender x.ssn rsn incarnation)) puts.now (λ k apart. puts.others k apart ∙ sym (let other : (k == key) ≡ false = grind (arith, nat_tests) in rw other (s.shows.wire k))) j;
+        started = s.shows.started;
+        outside = s.shows.outside;
+        trims = s.shows.trims;
+        released = s.shows.released;
+      }))
+      refl
 
 -- A job that is finished
 
@@ -247,18 +253,24 @@ module _ (m : TheMachine) (w : World) (s : Stands m w) (t : TheTask) (k : Matche
   at_me : StandsAt (process_at m t.who.me) (w.handlers.state t.who.me) (w.history t.who.me) (w.phase t.who.me) (w.incarnation t.who.me)
   at_me = at_process m w s t.who.me k.inside k.within
 
-  answers : handled_by (slice_index_or m.images (t.who.me - 1) t.image).slots (record { me = t.who.me; from = t.message.sender; count = length m.images }) ((handlers_of m.images).state t.who.me (w.history t.who.me)) t.message.payload ≡ Some (answer_of t)
+  busy : w.phase t.who.me ≡ Busy t.message
+  busy = at_me.phase_is ∙ ap phase_of k.message
+
+  rsn_is : t.rsn ≡ length (w.history t.who.me) + 1
+  rsn_is = o.rsn ∙ ap (λ j. j + 1) (length_of-standing w t.who.me (process_at m t.who.me).working at_me.phase_is)
+
+  answers : handled_by (slice_index_or m.images (t.who.me - 1) t.image).slots (record { me = t.who.me; from = t.message.sender; count = length m.images }) ((handlers_of m.images).state t.who.me (w.history t.who.me)) (view64 t.message.payload) ≡ Some (answer_of t)
   answers =
       let slots_are = sym (same_slots t.image) in
       let count_is : t.who.count ≡ length m.images = k.count ∙ sym sizes in
-      let state_is : t.state ≡ (handlers_of m.images).state t.who.me (w.history t.who.me) = sym k.state ∙ at_me.state_is ∙ ap (λ (f : Handlers). f.state t.who.me (w.history t.who.me)) s.handlers in
-      let same : handled t ≡ handled_by (slice_index_or m.images (t.who.me - 1) t.image).slots (record { me = t.who.me; from = t.message.sender; count = length m.images }) ((handlers_of m.images).state t.who.me (w.history t.who.me)) t.message.payload =
-      λ i. handled_by (slots_are i) (record { me = t.who.me; from = k.from i; count = count_is i }) (state_is i) t.message.payload in
+      let state_is : t.state ≡ (handlers_of m.images).state t.who.me (w.history t.who.me) = sym k.state ∙ at_me.state_is ∙ ap (λ (f : Handlers). f.state t.who.me (w.history t.who.me)) s.shows.handlers in
+      let same : handled t ≡ handled_by (slice_index_or m.images (t.who.me - 1) t.image).slots (record { me = t.who.me; from = t.message.sender; count = length m.images }) ((handlers_of m.images).state t.who.me (w.history t.who.me)) (view64 t.message.payload) =
+      λ i. handled_by (slots_are i) (record { me = t.who.me; from = k.from i; count = count_is i }) (state_is i) (view64 t.message.payload) in
       sym same ∙ a.answers
 
   state_after : w.handlers.state t.who.me (w.history t.who.me ++ t.message ∷ []) ≡ (answer_of t).state
   state_after =
-      ap (λ (f : Handlers). f.state t.who.me (w.history t.who.me ++ t.message ∷ [])) s.handlers
+      ap (λ (f : Handlers). f.state t.who.me (w.history t.who.me ++ t.message ∷ [])) s.shows.handlers
       ∙ handlers_of-push m.images t.who.me (slice_index_or m.images (t.who.me - 1) t.image) (w.history t.who.me) t.message (answer_of t) (nth-inside m.images t.who.me t.image k.inside (omega (arith, sizes, k.within))) answers
 
   pub is_open : IsOpen m.images t w
@@ -283,21 +295,18 @@ module _ (m : TheMachine) (w : World) (s : Stands m w) (t : TheTask) (k : Matche
       }) in
       let there : P (me - 1) true y = rw back now in
       let number : Some (Number me x.sender x.ssn (length (w.history me) + 1) (w.incarnation me)) ≡ Some (Number me x.sender x.ssn t.rsn t.incarnation) =
-      λ i. Some (Number me x.sender x.ssn (sym o.rsn i) (sym o.incarnation i)) in
-      record {
-        images = refl;
-        accepted = rw (o.inside, o.message) refl;
-        answered = rw o.message (key, ((rw wire-is low), s.wire key ∙ puts.before), ap (λ r. Committed r key) o.rsn);
-        stands = rw o.message (record {
-          count = s.count ∙ sym (length-set m.processes (me - 1) y);
-          handlers = s.handlers;
-          process = set-is P m.processes me y k.inside k.within there s.process;
-          inputs = λ p h. s.inputs p (let e = length-set m.processes (me - 1) y in omega (arith, e, h));
-          feeds = s.feeds;
-          wire = λ j. ap (λ n. put w.wire key n j) number ∙ put-wire w m.slots slots key None (Some (Number me x.sender x.ssn t.rsn t.incarnation)) s.wire puts j;
-          started = s.started;
-          outside = let other : (0 == me) ≡ false = grind (arith, nat_tests, k.inside) in rw other s.outside;
-          trims = s.trims;
-          released = s.released;
-        });
-      }
+      λ i. Some (Number me x.sender x.ssn (sym rsn_is i) (sym o.incarnation i)) in
+      step m _ _ _ _ w s (rw (o.inside, busy) refl) (rw busy (key, ((rw wire-is low), s.shows.wire key ∙ puts.before), ap (λ r. Committed r key) rsn_is))
+      (rw busy (record {
+        count = s.shows.count ∙ sym (length-set m.processes (me - 1) y);
+        handlers = s.shows.handlers;
+        process = set-is P m.processes me y k.inside k.within there s.shows.process;
+        inputs = λ p h. s.shows.inputs p (let e = length-set m.processes (me - 1) y in omega (arith, e, h));
+        feeds = s.shows.feeds;
+        wire = λ j. ap (λ n. put w.wire key n j) number ∙ put-wire w m.slots slots key None (Some (Number me x.sender x.ssn t.rsn t.incarnation)) s.shows.wire puts j;
+        started = s.shows.started;
+        outside = let other : (0 == me) ≡ false = grind (arith, nat_tests, k.inside) in rw other s.shows.outside;
+        trims = s.shows.trims;
+        released = s.shows.released;
+      }))
+      refl

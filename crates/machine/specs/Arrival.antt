@@ -1,5 +1,5 @@
 -- What an arrival answers, and what a result that comes back has to be
-use Rattle.std.specs.Prelude.{◌≡◌, ◌+◌, List, length, Option, Some, None, Result, Ok, Err, true}
+use Rattle.std.specs.Prelude.{◌≡◌, ◌+◌, List, Option, Some, None, Result, Ok, Err, true}
 use Rattle.decode.specs.declared.insn.Insn.{Insn}
 use Rattle.verifier.specs.Typed.{Typed}
 use Rattle.replay.specs.Task.{TheTask}
@@ -9,9 +9,8 @@ use Rattle.world.specs.declared.call.Call.TheVariants.{Finish}
 use Rattle.world.specs.declared.refusal.Refusal.{Refusal}
 use Rattle.world.specs.declared.refusal.Refusal.TheVariants.{StaleJob, Memory}
 use Rattle.world.specs.History.{nth}
-use Rattle.world.specs.Phases.{Busy}
 use Rattle.world.specs.World.{World, is_inside}
-use Rattle.world.specs.Logs.{state_of}
+use Rattle.world.specs.Logs.{length_of, state_of, open_message}
 use Rattle.machine.specs.Simulation.{TheMachine, Stands, Steps}
 use Rattle.machine.specs.declared.arrival.Arrival.{Arrival}
 use Rattle.machine.specs.declared.arrival.Arrival.TheVariants.{Started, Duplicate, Early}
@@ -29,13 +28,13 @@ abbrev pub HasCode : Option Typed → List Insn → Type 0
 HasCode None code = ⊥
 HasCode (Some image) code = image.code ≡ code
 
--- the task is that of the job that its process has open, in this world, in all that a result is compared by
+-- the task is that of the job that its process has open in this world, live or replayed, in all that a result is compared by
 pub record IsOpen (images : List Typed) (t : TheTask) (w : World) : Type 0 where
   pub inside : is_inside w t.who.me ≡ true
   pub incarnation : t.incarnation ≡ w.incarnation t.who.me
-  pub rsn : t.rsn ≡ length (w.history t.who.me) + 1
+  pub rsn : t.rsn ≡ length_of w t.who.me + 1
   pub state : t.state ≡ state_of w t.who.me
-  pub message : w.phase t.who.me ≡ Busy t.message
+  pub message : open_message w t.who.me ≡ Some t.message
   pub from : t.who.from ≡ t.message.sender
   pub count : t.who.count ≡ w.count
   pub code : HasCode (nth images t.who.me) t.image.code

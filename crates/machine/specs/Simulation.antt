@@ -14,6 +14,9 @@ use Rattle.world.specs.World.{World}
 use Rattle.world.specs.Calls.{after}
 use Rattle.world.specs.Answers.{MayAnswer}
 use Rattle.world.specs.Refusals.{refusal_of, cause_of}
+use Rattle.theorems.specs.Invariants.Sound.{Sound}
+use Rattle.theorems.specs.Invariants.Tidy.{Tidy}
+use Rattle.theorems.specs.Invariants.Gated.{Gated}
 use Rattle.machine.specs.Process.{TheProcess}
 use Rattle.machine.specs.Outside.{TheOutside}
 use Rattle.machine.specs.Receipts.{InOrder}
@@ -45,9 +48,9 @@ pub record StandsAt (kept : TheProcess) (state : List Message → List ℕ) (his
   pub next : IsNextAfter history kept.working
   pub incarnation_is : incarnation ≡ kept.incarnation
 
--- the machine stands for this world. As long as no call acknowledges or trims, nothing of a process is released, and no log entry
+-- the machine shows this world. As long as no call acknowledges or trims, nothing of a process is released, and no log entry
 -- is dropped
-pub record Stands (m : TheMachine) (w : World) : Type 0 where
+pub record Shows (m : TheMachine) (w : World) : Type 0 where
   pub count : w.count ≡ length m.processes
   pub handlers : w.handlers ≡ handlers_of m.images
   pub process : (p : ℕ) (d : TheProcess) → p < length m.processes → StandsAt (slice_index_or m.processes p d) (w.handlers.state (suc p)) (w.history (suc p)) (w.phase (suc p)) (w.incarnation (suc p))
@@ -58,6 +61,13 @@ pub record Stands (m : TheMachine) (w : World) : Type 0 where
   pub outside : w.phase 0 ≡ Up
   pub trims : (s d : ℕ) → w.trims s d ≡ 0
   pub released : (s d : ℕ) → w.released s d ≡ 0
+
+-- the machine stands for this world, in which what every call keeps holds
+pub record Stands (m : TheMachine) (w : World) : Type 0 where
+  pub shows : Shows m w
+  pub sound : Sound w
+  pub tidy : Tidy w
+  pub gated : Gated w
 
 -- an accepted call is a step of the world, and the new machine, of the same images, stands for the world after it
 pub record Steps (old new : TheMachine) (room : ℕ) (call : Call) (answer : Answer) (w : World) : Type 0 where

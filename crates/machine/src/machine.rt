@@ -341,7 +341,9 @@ impl Machine {
             incarnation: process.incarnation(),
             rsn: process.length() as u32 + 1,
         };
-        let job = Job::new(self.alloc, ticket, image, process.state(), message, who)?;
+        let given = &message;
+        let handed = *given;
+        let job = Job::new(self.alloc, ticket, image, process.state(), handed, who)?;
         let process = &mut self.processes[place];
         process.begin(message);
         self.started += 1;
@@ -361,11 +363,12 @@ impl Machine {
         }
         let process = self.process(me);
         let message = task.message();
+        let from = message.sender;
         if process.working() != Some(message)
             || process.incarnation() != task.incarnation()
             || process.length() + 1 != task.rsn() as usize
             || process.state() != task.state()
-            || task.who() != self.who(me, message.sender)
+            || task.who() != self.who(me, from)
         {
             return false;
         }

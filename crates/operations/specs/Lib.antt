@@ -5,3 +5,4 @@ pub mod ByteSwap
 pub mod Conditions
 pub mod Operations
 pub mod Relations
+pub mod Bytes

@@ -68,7 +68,7 @@ impl Job {
         let end = call(
             task.image(),
             next.as_mut_slice(),
-            &message.payload,
+            message.payload.view64(),
             task.who(),
             &mut effects,
         );

@@ -7,19 +7,27 @@
 //! after the journal's last entry. Handlers don't run in it: `arrive` hands out a job, and `finish`
 //! takes its result back.
 //!
+//! A call is made by a [`Seat`], whose worker the entry bears and which counts it. The seats hold
+//! the parts of a ledger whose book, beside the journal, has the journal's length as total: so no
+//! entry comes without a seat that was answered, whichever threads hold the seats.
+//!
 //! ```text
-//! let mut session = Session::open(alloc, images)?;
-//! let ssn = session.input(&feed)?;
-//! let key = session.transmit(0, 1, ssn)?;
-//! if let Arrival::Started(job) = session.arrive(key)? {
-//!     let committed = session.finish(job.run())?;
+//! let mut session = Session::<L>::open(alloc, blank, images)?;
+//! let mut seat = session.sit(0)?;
+//! let ssn = session.input(&mut seat, &feed)?;
+//! let key = session.transmit(&mut seat, 0, 1, ssn)?;
+//! if let Arrival::Started(job) = session.arrive(&mut seat, key)? {
+//!     let committed = session.finish(&mut seat, job.run())?;
 //! }
 //! ```
 #![tactic(auto)]
 
+mod journal;
+mod seat;
 mod session;
 
 pub use machine::{Arrival, Committed};
+pub use seat::Seat;
 pub use session::Session;
 
 #[cfg(test)]

@@ -1,63 +1,115 @@
 //! The calls of a session.
 
-ghost use Rattle.std.specs.Prelude.{◌≡◌, ℕ, ◌+◌, ◌-◌, ◌<◌, ◌≤◌, [], ◌∷◌, ◌++◌, IfOk, length, map};
+ghost use Rattle.std.specs.Prelude.{◌≡◌, ◌≤◌, IfOk, IfSome, None, Some, true, length, map, slice_set};
 ghost use Rattle.std.specs.Arc.{arc_value};
 ghost use Rattle.world.specs.Phases.{name_of};
 ghost use Rattle.world.specs.Logs.{state_of, length_of};
 ghost use Rattle.machine.specs.Simulation.{answering};
 ghost use Rattle.machine.specs.Arrival.{answer_of};
-ghost use Rattle.sessions.specs.Journal.{IsLegal, world_at, room_at, Adds, HandsOut, Takes, OpensWith};
+ghost use Rattle.world.specs.Useful.{may_call};
+ghost use Rattle.sessions.specs.Seats.{AreSeats, new_seats, seat_at};
+ghost use Rattle.sessions.specs.Journal.{IsExact, IsLegal, world_at, room_at, Adds, HandsOut, Takes, OpensWith};
+ghost use Rattle.theorems.specs.Orphans.{NoOrphan, ShownBegin};
 
+use crate::journal::Journal;
+use crate::seat::Seat;
 use machine::{Arrival, Committed, Machine};
 use replay::Done;
-use std::alloc::Global;
+use std::alloc::{AllocError, Global};
 use std::marker::Model;
 use std::sync::Arc;
+use std::sync::ledger::{Blank, Ledger, Share};
 use verifier::Image;
 use world::{Answer, Call, Entry, Feed, PhaseName, Refusal};
 
-/// The most entries of a journal, those of the jobs that are open among them.
-const MOST_ENTRIES: usize = 65_536;
+/// How many seats there are: one for nobody, and one for each of 16 workers.
+const SEATS: u8 = 17;
 
-/// The worker of an entry that no worker made.
-const NOBODY: u8 = 0;
-
-/// Processes 1 to n, with the journal of the calls that led to where they are.
+/// Processes 1 to n, with the journal of the calls that led to where they are, and the seats that
+/// nobody took. `L` names the session's ledger, which has a part for each seat.
 #[derive(Drop)]
-pub struct Session {
+pub struct Session<L: Ledger> {
     machine: Machine,
-    journal: Vec<Entry>,
+    journal: Journal<L>,
+    seats: Vec<Option<Seat<L>>>,
 }
 
-impl Model for Session {
+impl<L: Ledger> Model for Session<L> {
     ghost use Rattle.sessions.specs.Journal.{TheSession};
+    ghost use Rattle.sessions.specs.Seats.{AreSeats};
     ghost use Rattle.sessions.specs.Inside.{IsSession};
 
     ghost Value = { TheSession };
 
-    ghost view = { λ s. record { images = s.machine.images; entries = s.journal.items } };
+    ghost view = { λ s. record { images = s.machine.images; entries = s.journal.entries; seats = s.seats.items } };
 
-    ghost invariant = { λ s. IsSession s.machine s.journal.items };
+    ghost invariant = { λ s. IsSession s.machine s.journal.entries × AreSeats s.seats.items };
 }
 
-impl Session {
+// A seat for each part of the ledger.
+fn seats_of<L: Ledger>(
+    alloc: Global,
+    mut parts: Share<L>,
+) -> Result<Vec<Option<Seat<L>>>, AllocError>
+    requires { (parts.parts ≡ 17) × (parts.amount ≡ 0) }
+    ensures { IfOk result (λ v. v.items ≡ new_seats 17) }
+{
+    let mut seats = Vec::new(alloc);
+    for worker in 0..SEATS {
+        let part = parts.split_off(1, 0);
+        seats.push(Some(Seat::new(worker, part)))?;
+    }
+    Ok(seats)
+}
+
+impl<L: Ledger> Session<L> {
     /// Processes 1 to n with these images, each up, with a state of zeros and in its first
-    /// incarnation, and an empty journal. It refuses no images or more than 15
+    /// incarnation, an empty journal, and 17 seats. It refuses no images or more than 15
     /// (`NoSuchProcess`), and want of memory.
-    pub fn open(alloc: Global, images: Vec<Arc<Image>>) -> Result<Session, Refusal>
+    pub fn open(alloc: Global, blank: Blank, images: Vec<Arc<Image>>) -> Result<Session<L>, Refusal>
+        requires name { blank.name ≡ L.name }
+        requires parts { (blank.parts ≡ L.parts) × (L.parts ≡ 17) }
         ensures { OpensWith (map arc_value images.items) result }
     {
         let machine = Machine::open(alloc, images)?;
+        let (book, parts) = blank.open::<L>();
+        let seats = seats_of(alloc, parts)?;
+        let journal = Journal::new(alloc, book);
         Ok(Session {
             machine,
-            journal: Vec::new(alloc),
+            journal,
+            seats,
         })
+    }
+
+    /// The seat of this worker. There is none for another number than 0 to 16, and none where the
+    /// seat is out.
+    pub fn sit(&mut self, worker: u8) -> Option<Seat<L>>
+        ensures seat { result ≡ seat_at self.old.seats worker }
+        ensures out { self.new ≡ record self.old { seats = slice_set self.old.seats worker None } }
+        ensures worker { IfSome result (λ s. s.worker ≡ worker) }
+    {
+        let place = worker as usize;
+        if place >= self.seats.len() {
+            return None;
+        }
+        self.seats[place].take()
+    }
+
+    /// Takes a seat back.
+    pub fn rise(&mut self, seat: Seat<L>)
+        ensures { self.new ≡ record self.old { seats = slice_set self.old.seats seat.worker (Some seat) } }
+    {
+        let worker = seat.worker() as usize;
+        self.seats[worker] = Some(seat);
     }
 
     /// The accepted calls with their answers, the first one first.
     pub fn journal(&self) -> &[Entry]
         ensures entries { result.now ≡ self.now.entries }
         ensures legal { IsLegal self.now }
+        ensures no_orphan { IsExact self.now → NoOrphan (world_at self.now) }
+        ensures output_once { IsExact self.now → ShownBegin (world_at self.now) }
     {
         self.journal.as_slice()
     }
@@ -94,34 +146,25 @@ impl Session {
         self.machine.phase(p)
     }
 
-    // How many entries the journal still takes.
-    fn room(&self) -> u32
-        ensures { result ≡ room_at self.now }
-    {
-        (MOST_ENTRIES - self.journal.len()) as u32
-    }
-
     /// Logs a message of the outside for a process, and answers its SSN. It refuses, in this order,
     /// a number that isn't a process's, a full journal, a feed number that is taken, and want of
-    /// memory.
-    pub fn input(&mut self, feed: &Feed) -> Result<u32, Refusal>
-        ensures { Adds self.old self.new (Call.Input feed.now.dst feed.now.number feed.now.payload) (answering Answer.Logged result) }
+    /// memory. Any seat may call it.
+    pub fn input(&mut self, by: &mut Seat<L>, feed: &Feed) -> Result<u32, Refusal>
+        ensures adds { Adds self.old self.new by.old by.new (Call.Input feed.now.dst feed.now.number feed.now.payload) (answering Answer.Logged result) }
+        ensures worker { by.new.worker ≡ by.old.worker }
     {
-        let room = self.room();
-        if self.journal.reserve(1).is_err() {
+        let room = self.journal.room();
+        if !self.journal.reserve() {
             let cause = self.machine.input_cause(room, feed);
             return Err(cause.unwrap_or(Refusal::Memory));
         }
         let ssn = self.machine.input(room, feed)?;
-        self.journal.push_reserved(Entry {
-            worker: NOBODY,
-            call: Call::Input {
-                to: feed.dst,
-                feed: feed.number,
-                payload: feed.payload,
-            },
-            answer: Answer::Logged(ssn),
-        });
+        let call = Call::Input {
+            to: feed.dst,
+            feed: feed.number,
+            payload: feed.payload,
+        };
+        self.journal.append(by, call, Answer::Logged(ssn));
         Ok(ssn)
     }
 
@@ -129,52 +172,56 @@ impl Session {
     /// outside. It refuses, in this order, a number above those of the processes, a receiver that
     /// is the sender, a message that isn't released, one that isn't logged, a full journal, a full
     /// wire, and want of memory.
-    pub fn transmit(&mut self, from: u8, to: u8, ssn: u32) -> Result<usize, Refusal>
-        ensures { Adds self.old self.new (Call.Transmit from to ssn) (answering Answer.Placed result) }
+    pub fn transmit(
+        &mut self,
+        by: &mut Seat<L>,
+        from: u8,
+        to: u8,
+        ssn: u32,
+    ) -> Result<usize, Refusal>
+        requires { may_call (world_at self.old) by.old.worker (Call.Transmit from to ssn) ≡ true }
+        ensures adds { Adds self.old self.new by.old by.new (Call.Transmit from to ssn) (answering Answer.Placed result) }
+        ensures worker { by.new.worker ≡ by.old.worker }
     {
-        let room = self.room();
-        if self.journal.reserve(1).is_err() {
+        let room = self.journal.room();
+        if !self.journal.reserve() {
             let cause = self.machine.transmit_cause(room, from, to, ssn);
             return Err(cause.unwrap_or(Refusal::Memory));
         }
         let key = self.machine.transmit(room, from, to, ssn)?;
-        self.journal.push_reserved(Entry {
-            worker: NOBODY,
-            call: Call::Transmit { from, to, ssn },
-            answer: Answer::Placed(key),
-        });
+        let call = Call::Transmit { from, to, ssn };
+        self.journal.append(by, call, Answer::Placed(key));
         Ok(key)
     }
 
     /// Takes a message from the wire to its process. A job is started where it is the next of its
     /// sender. It refuses, in this order, a process with an open job, a key without a packet that
     /// can be taken, a full journal, and want of memory.
-    pub fn arrive(&mut self, key: usize) -> Result<Arrival, Refusal>
-        ensures adds { Adds self.old self.new (Call.Arrive key) (answering answer_of result) }
+    pub fn arrive(&mut self, by: &mut Seat<L>, key: usize) -> Result<Arrival, Refusal>
+        requires { may_call (world_at self.old) by.old.worker (Call.Arrive key) ≡ true }
+        ensures adds { Adds self.old self.new by.old by.new (Call.Arrive key) (answering answer_of result) }
+        ensures worker { by.new.worker ≡ by.old.worker }
         ensures job { IfOk result (HandsOut self.new) }
     {
-        let room = self.room();
-        if self.journal.reserve(1).is_err() {
+        let room = self.journal.room();
+        if !self.journal.reserve() {
             let cause = self.machine.arrive_cause(room, key);
             return Err(cause.unwrap_or(Refusal::Memory));
         }
         let arrival = self.machine.arrive(room, key)?;
-        let answer = arrival.answer();
-        self.journal.push_reserved(Entry {
-            worker: NOBODY,
-            call: Call::Arrive { key },
-            answer,
-        });
+        let call = Call::Arrive { key };
+        self.journal.append(by, call, arrival.answer());
         Ok(arrival)
     }
 
     /// Takes in the result of the open job of its process: the message is received, and the packet
     /// that tells its number is put on the wire. It refuses a result that isn't the open job's
-    /// (`StaleJob`), and want of memory. The result comes back with a refusal.
-    pub fn finish(&mut self, done: Done) -> Result<Committed, (Refusal, Done)>
-        ensures { Takes self.old self.new done result }
+    /// (`StaleJob`), and want of memory. The result comes back with a refusal. Any seat may call it.
+    pub fn finish(&mut self, by: &mut Seat<L>, done: Done) -> Result<Committed, (Refusal, Done)>
+        ensures takes { Takes self.old self.new by.old by.new done result }
+        ensures worker { by.new.worker ≡ by.old.worker }
     {
-        if self.journal.reserve(1).is_err() {
+        if !self.journal.reserve() {
             if self.machine.is_open(done.task()) {
                 return Err((Refusal::Memory, done));
             }
@@ -182,14 +229,11 @@ impl Session {
         }
         let process = done.task().process();
         let committed = self.machine.finish(done)?;
-        self.journal.push_reserved(Entry {
-            worker: NOBODY,
-            call: Call::Finish { process },
-            answer: Answer::Committed {
-                rsn: committed.rsn,
-                key: committed.key,
-            },
-        });
+        let answer = Answer::Committed {
+            rsn: committed.rsn,
+            key: committed.key,
+        };
+        self.journal.append(by, Call::Finish { process }, answer);
         Ok(committed)
     }
 }

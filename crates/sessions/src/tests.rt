@@ -1,7 +1,13 @@
-use crate::{Arrival, Committed, Session};
+ghost use Rattle.std.specs.Prelude.{◌≡◌};
+
+use crate::{Arrival, Seat, Session};
+use helpers::Payload;
 use replay::Done;
 use std::alloc::Global;
+use std::marker::Brand;
+use std::process::Abort;
 use std::sync::Arc;
+use std::sync::ledger::{Blank, Ledger};
 use std::test::Fail;
 use verifier::{Image, load};
 use world::{Answer, Call, Entry, Feed, PhaseName, Refusal};
@@ -13,16 +19,18 @@ const ADDER: [u8; 56] = [
     0, 0x95, 0, 0, 0, 0, 0, 0, 0,
 ];
 
-/// A session whose calls are made as a test writes them. A refused call answers its number.
+/// A session whose calls are made by nobody, as a test writes them. A refused call answers its number.
 #[derive(Drop)]
-struct Stage {
-    session: Session,
+struct Stage<L: Ledger> {
+    session: Session<L>,
+    seat: Seat<L>,
+    ghost nobody: { seat.worker ≡ 0 },
 }
 
-fn word(value: u8) -> [u8; 64] {
-    let mut payload = [0; 64];
-    payload[0] = value;
-    payload
+fn word(value: u8) -> Payload {
+    let mut bytes = [0; 64];
+    bytes[0] = value;
+    Payload::from(bytes)
 }
 
 /// The images of so many adders.
@@ -35,9 +43,57 @@ fn adders(alloc: Global, count: usize) -> Result<Vec<Arc<Image>>, Fail> {
 }
 
 /// So many adders, each waiting for its first message.
-fn open(alloc: Global, count: usize) -> Result<Stage, Fail> {
-    let session = Session::open(alloc, adders(alloc, count)?)?;
-    Ok(Stage { session })
+fn open<L: Ledger>(alloc: Global, blank: Blank, count: usize) -> Result<Stage<L>, Fail>
+    requires name { blank.name ≡ L.name }
+    requires parts { (blank.parts ≡ L.parts) × (blank.parts ≡ 17) }
+{
+    let images = adders(alloc, count)?;
+    let mut session = Session::open(alloc, blank, images)?;
+    let Some(seat) = session.sit(0) else {
+        return Err("nobody has no seat")?;
+    };
+    Ok(Stage { session, seat })
+}
+
+/// What is played on a stage of adders.
+#[derive(Clone, Copy)]
+enum Scene {
+    OneMessage,
+    ShortAndLong,
+    PartsOfAResult,
+    EarlyAndDuplicate,
+    RefusedCalls,
+    RefusedArrivals,
+    AnotherSession,
+    Seats,
+}
+
+fn play_in<L: Ledger>(
+    rt: &impl Abort,
+    alloc: Global,
+    blank: Blank,
+    count: usize,
+    scene: Scene,
+) -> Result<(), Fail>
+    requires name { blank.name ≡ L.name }
+    requires parts { (blank.parts ≡ L.parts) × (blank.parts ≡ 17) }
+{
+    let stage: Stage<L> = open(alloc, blank, count)?;
+    match scene {
+        Scene::OneMessage => one_message(rt, stage),
+        Scene::ShortAndLong => short_and_long_messages(rt, stage),
+        Scene::PartsOfAResult => parts_of_a_result(rt, stage),
+        Scene::EarlyAndDuplicate => early_and_duplicate_messages(rt, stage),
+        Scene::RefusedCalls => refused_calls(rt, stage),
+        Scene::RefusedArrivals => refused_arrivals(rt, stage),
+        Scene::AnotherSession => results_of_another_session(rt, alloc, stage),
+        Scene::Seats => seats(rt, stage),
+    }
+}
+
+/// Plays the scene in a session of so many adders.
+fn play(rt: &impl Abort, alloc: Global, count: usize, scene: Scene) -> Result<(), Fail> {
+    play_in::<Brand>(rt, alloc, Blank::new(17), count, scene)
 }
 
 /// The number of a refusal, or 0.
@@ -48,40 +104,44 @@ fn number_of<T: Drop>(answer: Result<T, Refusal>) -> u8 {
     }
 }
 
-impl Stage {
+impl<L: Ledger> Stage<L> {
     fn input(&mut self, number: u32, dst: u8, value: u8) -> u8 {
+        self.say(number, dst, word(value))
+    }
+
+    fn say(&mut self, number: u32, dst: u8, payload: Payload) -> u8 {
         let feed = Feed {
             number,
             dst,
-            payload: word(value),
+            payload,
         };
-        number_of(self.session.input(&feed))
+        number_of(self.session.input(&mut self.seat, &feed))
     }
 
     fn transmit(&mut self, from: u8, to: u8, ssn: u32) -> u8 {
-        number_of(self.session.transmit(from, to, ssn))
+        number_of(self.session.transmit(&mut self.seat, from, to, ssn))
     }
 
     /// The key of a message of the outside to the first process.
     fn sent(&mut self, ssn: u32) -> Option<usize> {
-        self.session.transmit(0, 1, ssn).ok()
+        self.session.transmit(&mut self.seat, 0, 1, ssn).ok()
     }
 
     fn arrive(&mut self, key: usize) -> u8 {
-        number_of(self.session.arrive(key))
+        number_of(self.session.arrive(&mut self.seat, key))
     }
 
     fn is_early(&mut self, key: usize) -> bool {
-        matches!(self.session.arrive(key), Ok(Arrival::Early))
+        matches!(self.session.arrive(&mut self.seat, key), Ok(Arrival::Early))
     }
 
     fn is_duplicate(&mut self, key: usize) -> bool {
-        matches!(self.session.arrive(key), Ok(Arrival::Duplicate(number)) if number == key)
+        matches!(self.session.arrive(&mut self.seat, key), Ok(Arrival::Duplicate(number)) if number == key)
     }
 
     /// The result of the job that an arrival starts.
     fn run(&mut self, key: usize) -> Option<Done> {
-        match self.session.arrive(key) {
+        match self.session.arrive(&mut self.seat, key) {
             Ok(Arrival::Started(job)) => Some(job.run()),
             _ => None,
         }
@@ -92,7 +152,7 @@ impl Stage {
         let Some(done) = done else {
             return (0, 0, 0);
         };
-        match self.session.finish(done) {
+        match self.session.finish(&mut self.seat, done) {
             Ok(committed) => (committed.rsn, committed.key, 0),
             Err((refusal, _done)) => (0, 0, refusal.number()),
         }
@@ -177,9 +237,8 @@ fn is_five(done: &Done) -> bool {
         && done.effects().sends().is_empty()
 }
 
-#[test]
-fn one_message(rt: HostRuntime) -> Result<(), Fail> {
-    let mut stage = open(rt.alloc(), 1)?;
+fn one_message<L: Ledger>(rt: &impl Abort, stage: Stage<L>) -> Result<(), Fail> {
+    let mut stage = stage;
     assert_eq!(rt; stage.input(1, 1, 5), 0);
     assert_eq!(rt; stage.sent(1), Some(0));
     let done = stage.run(0);
@@ -190,9 +249,27 @@ fn one_message(rt: HostRuntime) -> Result<(), Fail> {
     Ok(())
 }
 
-#[test]
-fn parts_of_a_result(rt: HostRuntime) -> Result<(), Fail> {
-    let mut stage = open(rt.alloc(), 1)?;
+fn short_and_long_messages<L: Ledger>(rt: &impl Abort, stage: Stage<L>) -> Result<(), Fail> {
+    let mut stage = stage;
+    assert_eq!(rt; stage.say(1, 1, Payload::from_slice(&[5])), 0);
+    assert_eq!(rt; stage.say(2, 1, Payload::new()), 0);
+    assert_eq!(rt; stage.say(3, 1, Payload::from_slice(&[1; 256])), 0);
+    for ssn in 1..=3 {
+        let Some(key) = stage.sent(ssn) else {
+            return Err("the message was not sent")?;
+        };
+        let done = stage.run(key);
+        let (rsn, _key, refusal) = stage.finish(done);
+        assert_eq!(rt; rsn, ssn);
+        assert_eq!(rt; refusal, 0);
+    }
+    // 5 alone, nothing, and 0x0101010101010101
+    assert!(rt; stage.is_at(1, PhaseName::Up, 3, 6));
+    Ok(())
+}
+
+fn parts_of_a_result<L: Ledger>(rt: &impl Abort, stage: Stage<L>) -> Result<(), Fail> {
+    let mut stage = stage;
     stage.input(1, 1, 5);
     stage.sent(1);
     let Some(done) = stage.run(0) else {
@@ -202,9 +279,8 @@ fn parts_of_a_result(rt: HostRuntime) -> Result<(), Fail> {
     Ok(())
 }
 
-#[test]
-fn early_and_duplicate_messages(rt: HostRuntime) -> Result<(), Fail> {
-    let mut stage = open(rt.alloc(), 1)?;
+fn early_and_duplicate_messages<L: Ledger>(rt: &impl Abort, stage: Stage<L>) -> Result<(), Fail> {
+    let mut stage = stage;
     stage.input(1, 1, 1);
     stage.input(2, 1, 2);
     assert_eq!(rt; stage.sent(2), Some(0));
@@ -222,9 +298,8 @@ fn early_and_duplicate_messages(rt: HostRuntime) -> Result<(), Fail> {
     Ok(())
 }
 
-#[test]
-fn refused_calls(rt: HostRuntime) -> Result<(), Fail> {
-    let mut stage = open(rt.alloc(), 2)?;
+fn refused_calls<L: Ledger>(rt: &impl Abort, stage: Stage<L>) -> Result<(), Fail> {
+    let mut stage = stage;
     stage.input(1, 1, 5);
     assert_eq!(rt; stage.input(2, 0, 7), 1);
     assert_eq!(rt; stage.input(2, 3, 7), 1);
@@ -240,9 +315,8 @@ fn refused_calls(rt: HostRuntime) -> Result<(), Fail> {
     Ok(())
 }
 
-#[test]
-fn refused_arrivals(rt: HostRuntime) -> Result<(), Fail> {
-    let mut stage = open(rt.alloc(), 1)?;
+fn refused_arrivals<L: Ledger>(rt: &impl Abort, stage: Stage<L>) -> Result<(), Fail> {
+    let mut stage = stage;
     stage.input(1, 1, 5);
     stage.input(2, 1, 6);
     stage.sent(1);
@@ -256,16 +330,27 @@ fn refused_arrivals(rt: HostRuntime) -> Result<(), Fail> {
     Ok(())
 }
 
-#[test]
-fn results_of_another_session(rt: HostRuntime) -> Result<(), Fail> {
-    let mut stage = open(rt.alloc(), 1)?;
+/// The result of the first job of a session of its own, for this word.
+fn result_elsewhere<L: Ledger>(alloc: Global, blank: Blank, value: u8) -> Result<Option<Done>, Fail>
+    requires name { blank.name ≡ L.name }
+    requires parts { (blank.parts ≡ L.parts) × (blank.parts ≡ 17) }
+{
+    let mut other: Stage<L> = open(alloc, blank, 1)?;
+    other.input(1, 1, value);
+    other.sent(1);
+    Ok(other.run(0))
+}
+
+fn results_of_another_session<L: Ledger>(
+    rt: &impl Abort,
+    alloc: Global,
+    stage: Stage<L>,
+) -> Result<(), Fail> {
+    let mut stage = stage;
     stage.input(1, 1, 5);
     stage.sent(1);
     let done = stage.run(0);
-    let mut other = open(rt.alloc(), 1)?;
-    other.input(1, 1, 6);
-    other.sent(1);
-    let theirs = other.run(0);
+    let theirs = result_elsewhere::<Brand>(alloc, Blank::new(17), 6)?;
     assert_eq!(rt; stage.finish(theirs), (0, 0, 9));
     assert_eq!(rt; stage.entries(), 3);
     assert_eq!(rt; stage.finish(done), (1, 0, 0));
@@ -273,14 +358,117 @@ fn results_of_another_session(rt: HostRuntime) -> Result<(), Fail> {
     Ok(())
 }
 
+/// Whether a seat of this worker is at hand. It is taken and brought back.
+fn is_at_hand<L: Ledger>(session: &mut Session<L>, worker: u8) -> bool {
+    match session.sit(worker) {
+        Some(seat) => {
+            let right = seat.worker() == worker;
+            session.rise(seat);
+            right
+        }
+        None => false,
+    }
+}
+
+/// Whether the seats of the workers 1 to 16 are at hand.
+fn all_at_hand<L: Ledger>(session: &mut Session<L>) -> bool {
+    for worker in 1..17 {
+        if !is_at_hand(session, worker) {
+            return false;
+        }
+    }
+    true
+}
+
+fn seats<L: Ledger>(rt: &impl Abort, stage: Stage<L>) -> Result<(), Fail> {
+    let mut stage = stage;
+    // Nobody's seat is out.
+    assert!(rt; !is_at_hand(&mut stage.session, 0));
+    assert!(rt; all_at_hand(&mut stage.session));
+    assert!(rt; !is_at_hand(&mut stage.session, 17));
+    assert!(rt; !is_at_hand(&mut stage.session, 255));
+    // Two accepted calls and a refused one.
+    stage.input(1, 1, 5);
+    stage.input(1, 1, 5);
+    stage.sent(1);
+    assert_eq!(rt; stage.seat.answered(), 2);
+    let Some(mut seat) = stage.session.sit(16) else {
+        return Err("worker 16 has no seat")?;
+    };
+    let feed = Feed {
+        number: 2,
+        dst: 1,
+        payload: word(6),
+    };
+    assert_eq!(rt; number_of(stage.session.input(&mut seat, &feed)), 0);
+    assert_eq!(rt; seat.answered(), 1);
+    stage.session.rise(seat);
+    let workers = [0, 0, 16];
+    for (entry, worker) in stage.session.journal().iter().zip(workers) {
+        assert_eq!(rt; entry.worker, worker);
+    }
+    assert_eq!(rt; stage.entries(), 3);
+    Ok(())
+}
+
+/// The number that so many images are refused with, or 0.
+fn opening<L: Ledger>(alloc: Global, blank: Blank, count: usize) -> Result<u8, Fail>
+    requires name { blank.name ≡ L.name }
+    requires parts { (blank.parts ≡ L.parts) × (blank.parts ≡ 17) }
+{
+    let images = adders(alloc, count)?;
+    let session: Result<Session<L>, Refusal> = Session::open(alloc, blank, images);
+    Ok(number_of(session))
+}
+
+fn opened(alloc: Global, count: usize) -> Result<u8, Fail> {
+    opening::<Brand>(alloc, Blank::new(17), count)
+}
+
 #[test]
 fn no_images_and_too_many(rt: HostRuntime) -> Result<(), Fail> {
-    let alloc = rt.alloc();
-    let none = adders(alloc, 0)?;
-    assert_eq!(rt; number_of(Session::open(alloc, none)), 1);
-    let most = adders(alloc, 15)?;
-    assert_eq!(rt; number_of(Session::open(alloc, most)), 0);
-    let more = adders(alloc, 16)?;
-    assert_eq!(rt; number_of(Session::open(alloc, more)), 1);
+    assert_eq!(rt; opened(rt.alloc(), 0)?, 1);
+    assert_eq!(rt; opened(rt.alloc(), 15)?, 0);
+    assert_eq!(rt; opened(rt.alloc(), 16)?, 1);
     Ok(())
+}
+
+#[test]
+fn one_message_is_committed(rt: HostRuntime) -> Result<(), Fail> {
+    play(&rt, rt.alloc(), 1, Scene::OneMessage)
+}
+
+#[test]
+fn short_and_long_messages_are_seen_in_64_bytes(rt: HostRuntime) -> Result<(), Fail> {
+    play(&rt, rt.alloc(), 1, Scene::ShortAndLong)
+}
+
+#[test]
+fn results_tell_their_parts(rt: HostRuntime) -> Result<(), Fail> {
+    play(&rt, rt.alloc(), 1, Scene::PartsOfAResult)
+}
+
+#[test]
+fn early_and_duplicate_messages_start_nothing(rt: HostRuntime) -> Result<(), Fail> {
+    play(&rt, rt.alloc(), 1, Scene::EarlyAndDuplicate)
+}
+
+#[test]
+fn refused_calls_tell_the_least_number(rt: HostRuntime) -> Result<(), Fail> {
+    play(&rt, rt.alloc(), 2, Scene::RefusedCalls)
+}
+
+#[test]
+fn refused_arrivals_leave_the_packet(rt: HostRuntime) -> Result<(), Fail> {
+    play(&rt, rt.alloc(), 1, Scene::RefusedArrivals)
+}
+
+#[test]
+fn results_of_another_session_are_stale(rt: HostRuntime) -> Result<(), Fail> {
+    play(&rt, rt.alloc(), 1, Scene::AnotherSession)
+}
+
+#[test]
+fn each_seat_is_taken_once_and_counts(rt: HostRuntime) -> Result<(), Fail> {
+    play(&rt, rt.alloc(), 1, Scene::Seats)
 }

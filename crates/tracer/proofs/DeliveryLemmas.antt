@@ -1,8 +1,11 @@
 -- One message of the outside to the only process of a session, call by call.
 use Rattle.std.proofs.Common.{◌≡◌, ◌∙◌, ◌&&◌, ◌≤◌, ℕ, Bool, cond, true, false, suc, zero, nat_lt, nat_le, true≢false, refl, sym, ap, subst, arith, List, [], ◌∷◌, ◌++◌, Option, Some, None, Result, Ok, Err, IfOk, replicate}
+use Rattle.std.specs.Prelude.{slice_set}
 use Rattle.std.proofs.lemmas.Bool.{eq-eqb, leb-true}
 use Rattle.decode.specs.Slots.{slots_of}
 use Rattle.verifier.specs.Typed.{Typed}
+use Rattle.helpers.specs.Payload.{view64}
+use Rattle.helpers.proofs.Filled.{view64-whole}
 use Rattle.interp.specs.HandlerCall.{Handled, handled_by}
 use Rattle.replay.specs.Task.{TheTask, answer_of as answer_of_task}
 use Rattle.decode.specs.declared.insn.Insn.{Insn}
@@ -22,8 +25,7 @@ use Rattle.world.specs.Bounds.{WIRE}
 use Rattle.world.specs.Calls.{arrive, begin}
 use Rattle.world.specs.Fold.{joined, unfolded}
 use Rattle.world.specs.History.{Payload, nth}
-use Rattle.world.specs.Logs.{state_of}
-use Rattle.world.specs.Phases.{Busy}
+use Rattle.world.specs.Logs.{state_of, open_message}
 use Rattle.world.specs.Refusals.{cause_of, refusal_of}
 use Rattle.world.specs.World.{World}
 use Rattle.machine.specs.Arrival.{HasCode, IsOpen, Told, answer_of}
@@ -31,7 +33,10 @@ use Rattle.machine.specs.Simulation.{answering}
 use Rattle.machine.specs.declared.arrival.Arrival.{Arrival}
 use Rattle.machine.specs.declared.arrival.Arrival.TheVariants as arrivals
 use Rattle.machine.specs.declared.arrival.Committed.{Committed as TheCommitted}
-use Rattle.sessions.specs.Journal.{Adds, HandsOut, OpensWith, Takes, TheSession, entry, world_at}
+use Rattle.sessions.specs.Seats.{TheSeat, new_seats, seat_at}
+use Rattle.sessions.specs.Journal.{Adds, HandsOut, OpensWith, Takes, TheSession, entry, room_at, world_at}
+use Rattle.world.specs.declared.call.Call.{Call}
+use Rattle.world.specs.Legal.{WStep}
 use Rattle.tracer.specs.First.{IsFirst, TakesSteps, alone, message_word}
 
 some≢none : {X : Type 0} {x : X} → Some x ≡ None → ⊥
@@ -62,8 +67,8 @@ first_input x = record { sender = 0; ssn = 1; payload = x }
 logged_number : (a b : ℕ) → Logged a ≡ Logged b → a ≡ b
 logged_number a b e = cc
 
-busy_message : (a b : Message) → Busy a ≡ Busy b → a ≡ b
-busy_message a b e = cc
+some_message : (a b : Message) → Some a ≡ Some b → a ≡ b
+some_message a b e = cc
 
 ok_of : {X E : Type 0} (a b : X) → ◌≡◌ {A = Result X E} (Ok a) (Ok b) → a ≡ b
 ok_of a b e = cc
@@ -80,45 +85,62 @@ pub unmapped : {X E F : Type 0} (r : Result X E) (m : Result X F) (y : X) (Q : E
 unmapped (Ok x) m y Q cases is = ap Ok (ok_of x y (sym cases ∙ is))
 unmapped (Err e) m y Q cases is = absurd (subst (λ r. IsErrAnd r (Q e)) is cases)
 
+-- what a call by the seat of nobody owes
+abbrev pub Alone : TheSession → TheSession → Call → Result Answer Refusal → Type 0
+Alone old new call (Ok answer) =
+    WStep (room_at old) (world_at old) call answer (world_at new)
+    × (new ≡ record old { entries = old.entries ++ entry 0 call answer ∷ [] })
+Alone old new call (Err refusal) = (new ≡ old) × (refusal_of (world_at old) (room_at old) call ≡ cause_of refusal)
+
+pub alone_adds : (s t : TheSession) (by by' : TheSeat) (call : Call) (r : Result Answer Refusal) → by.worker ≡ 0 → Adds s t by by' call r → Alone s t call r
+alone_adds s t by by' call (Ok a) nobody adds = (adds.0, adds.1 ∙ ap (λ (k : ℕ). record s { entries = s.entries ++ entry k call a ∷ [] }) nobody)
+alone_adds s t by by' call (Err e) nobody adds = (adds.0, adds.2)
+
+-- the seats that are at hand while nobody's is out
+abbrev pub seats : List (Option TheSeat)
+seats = slice_set (new_seats 17) 0 None
+
 module _ (image : Typed) (x : Payload) where
   abbrev pub opened : TheSession
-  opened = record { images = image ∷ []; entries = [] }
+  opened = record { images = image ∷ []; entries = []; seats = seats }
 
   abbrev pub logged : TheSession
-  logged = record { images = image ∷ []; entries = entry (Input 1 1 x) (Logged 1) ∷ [] }
+  logged = record { images = image ∷ []; entries = entry 0 (Input 1 1 x) (Logged 1) ∷ []; seats = seats }
 
   abbrev pub placed : ℕ → TheSession
-  placed key = record { images = image ∷ []; entries = entry (Input 1 1 x) (Logged 1) ∷ entry (Transmit 0 1 1) (Placed key) ∷ [] }
+  placed key = record { images = image ∷ []; entries = entry 0 (Input 1 1 x) (Logged 1) ∷ entry 0 (Transmit 0 1 1) (Placed key) ∷ []; seats = seats }
 
   abbrev pub started : ℕ → TheSession
   started key = record {
     images = image ∷ [];
-    entries = entry (Input 1 1 x) (Logged 1) ∷ entry (Transmit 0 1 1) (Placed key) ∷ entry (Arrive key) (Started 1) ∷ [];
+    entries = entry 0 (Input 1 1 x) (Logged 1) ∷ entry 0 (Transmit 0 1 1) (Placed key) ∷ entry 0 (Arrive key) (Started 1) ∷ [];
+    seats = seats;
   }
 
   abbrev pub committed : ℕ → ℕ → ℕ → TheSession
   committed key rsn new = record {
     images = image ∷ [];
-    entries = entry (Input 1 1 x) (Logged 1) ∷ entry (Transmit 0 1 1) (Placed key) ∷ entry (Arrive key) (Started 1)
-        ∷ entry (Finish 1) (Committed rsn new) ∷ [];
+    entries = entry 0 (Input 1 1 x) (Logged 1) ∷ entry 0 (Transmit 0 1 1) (Placed key) ∷ entry 0 (Arrive key) (Started 1)
+        ∷ entry 0 (Finish 1) (Committed rsn new) ∷ [];
+    seats = seats;
   }
 
-  pub after_input : (s : TheSession) (n : ℕ) → Adds opened s (Input 1 1 x) (Ok (Logged n)) → (n ≡ 1) × (s ≡ logged)
+  pub after_input : (s : TheSession) (n : ℕ) → Alone opened s (Input 1 1 x) (Ok (Logged n)) → (n ≡ 1) × (s ≡ logged)
   after_input s n adds =
       let one : n ≡ 1 = logged_number n 1 adds.0.answered in
-      (one, adds.1 ∙ ap (λ (k : ℕ). record opened { entries = entry (Input 1 1 x) (Logged k) ∷ [] }) one)
+      (one, adds.1 ∙ ap (λ (k : ℕ). record opened { entries = entry 0 (Input 1 1 x) (Logged k) ∷ [] }) one)
 
-  pub input_memory : (s : TheSession) (e : Refusal) → Adds opened s (Input 1 1 x) (Err e) → e ≡ refusals.Memory
+  pub input_memory : (s : TheSession) (e : Refusal) → Alone opened s (Input 1 1 x) (Err e) → e ≡ refusals.Memory
   input_memory s e adds = without_cause e (sym adds.1)
 
-  pub after_transmit : (s : TheSession) (key : ℕ) → Adds logged s (Transmit 0 1 1) (Ok (Placed key)) → s ≡ placed key
+  pub after_transmit : (s : TheSession) (key : ℕ) → Alone logged s (Transmit 0 1 1) (Ok (Placed key)) → s ≡ placed key
   after_transmit s key adds = adds.1
 
   transmit_taken : refusal_of (world_at logged) 65535 (Transmit 0 1 1) ≡ None
   unfolding WIRE
   transmit_taken = refl
 
-  pub transmit_memory : (s : TheSession) (e : Refusal) → Adds logged s (Transmit 0 1 1) (Err e) → e ≡ refusals.Memory
+  pub transmit_memory : (s : TheSession) (e : Refusal) → Alone logged s (Transmit 0 1 1) (Err e) → e ≡ refusals.Memory
   transmit_memory s e adds = without_cause e (sym adds.1 ∙ transmit_taken)
 
   -- what lies under the key
@@ -128,13 +150,13 @@ module _ (image : Typed) (x : Payload) where
   arrive_taken : (key : ℕ) → refusal_of (world_at (placed key)) 65534 (Arrive key) ≡ None
   arrive_taken key = rw (lies key) refl
 
-  pub arrive_memory : (key : ℕ) (s : TheSession) (e : Refusal) → Adds (placed key) s (Arrive key) (Err e) → e ≡ refusals.Memory
+  pub arrive_memory : (key : ℕ) (s : TheSession) (e : Refusal) → Alone (placed key) s (Arrive key) (Err e) → e ≡ refusals.Memory
   arrive_memory key s e adds = without_cause e (sym adds.1 ∙ arrive_taken key)
 
-  pub after_arrive : (key : ℕ) (s : TheSession) (a : Answer) → Adds (placed key) s (Arrive key) (Ok a) → (a ≡ Started 1) × (s ≡ started key)
+  pub after_arrive : (key : ℕ) (s : TheSession) (a : Answer) → Alone (placed key) s (Arrive key) (Ok a) → (a ≡ Started 1) × (s ≡ started key)
   after_arrive key s a adds =
       let starts : a ≡ Started 1 = subst (λ (p : Option Packet). Receives (world_at (placed key)) key p a) (lies key) adds.0.answered in
-      (starts, adds.1 ∙ ap (λ (b : Answer). record (placed key) { entries = (placed key).entries ++ entry (Arrive key) b ∷ [] }) starts)
+      (starts, adds.1 ∙ ap (λ (b : Answer). record (placed key) { entries = (placed key).entries ++ entry 0 (Arrive key) b ∷ [] }) starts)
 
   -- the process with the open job is the only one
   only : (me : ℕ) → (nat_lt 0 me && nat_le me 1) ≡ true → me ≡ 1
@@ -164,7 +186,7 @@ module _ (image : Typed) (x : Payload) where
       let job : IsOpen (image ∷ []) task (begun key) = subst (IsOpen (image ∷ []) task) (started_is key) is in
       let me : task.who.me ≡ 1 = only task.who.me job.inside in
       let message : first_input x ≡ task.message =
-      busy_message _ _ (subst (λ (p : ℕ). (begun key).phase p ≡ Busy task.message) me job.message) in
+      some_message _ _ (subst (λ (p : ℕ). open_message (begun key) p ≡ Some task.message) me job.message) in
       let from : task.who.from ≡ 0 = job.from ∙ ap (λ (m : Message). m.sender) (sym message) in
       record {
         me = λ i. record { me = me i; from = from i; count = job.count i };
@@ -179,61 +201,71 @@ module _ (image : Typed) (x : Payload) where
   finish_memory key task refusals.StaleJob is told = absurd (told is)
   finish_memory key task other is told = absurd told
 
-  pub after_finish : (key : ℕ) (s : TheSession) (task : TheTask) (c : TheCommitted) → Takes (started key) s task (Ok c) → s ≡ committed key c.rsn c.key
-  after_finish key s task c takes =
+  pub after_finish : (key : ℕ) (s : TheSession) (by by' : TheSeat) (task : TheTask) (c : TheCommitted) → by.worker ≡ 0 → Takes (started key) s by by' task (Ok c) → s ≡ committed key c.rsn c.key
+  after_finish key s by by' task c nobody takes =
       let job : IsOpen (image ∷ []) task (begun key) = subst (IsOpen (image ∷ []) task) (started_is key) takes.0 in
-      takes.1.1 ∙ ap (λ (p : ℕ). record (started key) { entries = (started key).entries ++ entry (Finish p) (Committed c.rsn c.key) ∷ [] }) (only task.who.me job.inside)
+      (alone_adds (started key) s by by' (Finish task.who.me) (Ok (Committed c.rsn c.key)) nobody takes.1).1 ∙ ap (λ (p : ℕ). record (started key) { entries = (started key).entries ++ entry 0 (Finish p) (Committed c.rsn c.key) ∷ [] }) (only task.who.me job.inside)
 
   -- the state that is left
-  pub state_after : (key rsn new : ℕ) (h : Handled) → handled_by image.slots alone (replicate image.len 0) x ≡ Some h
+  pub state_after : (key rsn new : ℕ) (h : Handled) → handled_by image.slots alone (replicate image.len 0) (view64 x) ≡ Some h
       → state_of (world_at (committed key rsn new)) 1 ≡ h.state
   state_after key rsn new h answer = rw (lies key) (ap (λ (o : Option Handled). (joined (unfolded image.len) o).state) answer)
 
   -- ---- the same of results
 
-  pub open_is : (images : List Typed) (r : Result TheSession Refusal) (s : TheSession) → images ≡ image ∷ [] → OpensWith images r → r ≡ Ok s → s ≡ opened
-  open_is images (Ok t) s are opens is = ok_of s t (sym is) ∙ (opens.1 ∙ ap (λ (l : List Typed). record { images = l; entries = [] }) are)
+  -- the session that opens, and without nobody's seat
+  abbrev pub fresh : TheSession
+  fresh = record { images = image ∷ []; entries = []; seats = new_seats 17 }
+
+  pub open_is : (images : List Typed) (r : Result TheSession Refusal) (s : TheSession) → images ≡ image ∷ [] → OpensWith images r → r ≡ Ok s → s ≡ fresh
+  open_is images (Ok t) s are opens is = ok_of s t (sym is) ∙ (opens.1 ∙ ap (λ (l : List Typed). record { images = l; entries = []; seats = new_seats 17 }) are)
   open_is images (Err e) s are opens is = absurd (ok≢err s e (sym is))
 
-  pub input_is : (s t : TheSession) (r : Result ℕ Refusal) (n : ℕ) → s ≡ opened → Adds s t (Input 1 1 x) (answering Logged r) → r ≡ Ok n → (n ≡ 1) × (t ≡ logged)
+  pub sit_is : (s t : TheSession) → s ≡ fresh → t ≡ record s { seats = slice_set s.seats 0 None } → t ≡ opened
+  sit_is s t at sits = sits ∙ ap (λ (p : TheSession). record p { seats = slice_set p.seats 0 None }) at
+
+  pub sits : (s : TheSession) → s ≡ fresh → seat_at s.seats 0 ≡ Some (record { worker = 0; answered = 0 })
+  sits s at = ap (λ (p : TheSession). seat_at p.seats 0) at
+
+  pub input_is : (s t : TheSession) (r : Result ℕ Refusal) (n : ℕ) → s ≡ opened → Alone s t (Input 1 1 x) (answering Logged r) → r ≡ Ok n → (n ≡ 1) × (t ≡ logged)
   input_is s t r n at adds is =
-      let so : Adds opened t (Input 1 1 x) (Ok (Logged n)) =
-      subst (λ (p : TheSession). Adds p t (Input 1 1 x) (Ok (Logged n))) at (subst (λ (q : Result ℕ Refusal). Adds s t (Input 1 1 x) (answering Logged q)) is adds) in
+      let so : Alone opened t (Input 1 1 x) (Ok (Logged n)) =
+      subst (λ (p : TheSession). Alone p t (Input 1 1 x) (Ok (Logged n))) at (subst (λ (q : Result ℕ Refusal). Alone s t (Input 1 1 x) (answering Logged q)) is adds) in
       after_input t n so
 
-  pub input_wants : (s t : TheSession) (r : Result ℕ Refusal) → s ≡ opened → Adds s t (Input 1 1 x) (answering Logged r) → (e : Refusal) → r ≡ Err e → e ≡ refusals.Memory
+  pub input_wants : (s t : TheSession) (r : Result ℕ Refusal) → s ≡ opened → Alone s t (Input 1 1 x) (answering Logged r) → (e : Refusal) → r ≡ Err e → e ≡ refusals.Memory
   input_wants s t r at adds e is =
-      let so : Adds opened t (Input 1 1 x) (Err e) =
-      subst (λ (p : TheSession). Adds p t (Input 1 1 x) (Err e)) at (subst (λ (q : Result ℕ Refusal). Adds s t (Input 1 1 x) (answering Logged q)) is adds) in
+      let so : Alone opened t (Input 1 1 x) (Err e) =
+      subst (λ (p : TheSession). Alone p t (Input 1 1 x) (Err e)) at (subst (λ (q : Result ℕ Refusal). Alone s t (Input 1 1 x) (answering Logged q)) is adds) in
       input_memory t e so
 
-  transmit_at : (s t : TheSession) (n : ℕ) (r : Result ℕ Refusal) → s ≡ logged → n ≡ 1 → Adds s t (Transmit 0 1 n) (answering Placed r) → Adds logged t (Transmit 0 1 1) (answering Placed r)
+  transmit_at : (s t : TheSession) (n : ℕ) (r : Result ℕ Refusal) → s ≡ logged → n ≡ 1 → Alone s t (Transmit 0 1 n) (answering Placed r) → Alone logged t (Transmit 0 1 1) (answering Placed r)
   transmit_at s t n r at one adds =
-      subst (λ (k : ℕ). Adds logged t (Transmit 0 1 k) (answering Placed r)) one (subst (λ (p : TheSession). Adds p t (Transmit 0 1 n) (answering Placed r)) at adds)
+      subst (λ (k : ℕ). Alone logged t (Transmit 0 1 k) (answering Placed r)) one (subst (λ (p : TheSession). Alone p t (Transmit 0 1 n) (answering Placed r)) at adds)
 
-  pub transmit_is : (s t : TheSession) (n : ℕ) (r : Result ℕ Refusal) (key : ℕ) → s ≡ logged → n ≡ 1 → Adds s t (Transmit 0 1 n) (answering Placed r)
+  pub transmit_is : (s t : TheSession) (n : ℕ) (r : Result ℕ Refusal) (key : ℕ) → s ≡ logged → n ≡ 1 → Alone s t (Transmit 0 1 n) (answering Placed r)
       → r ≡ Ok key → t ≡ placed key
   transmit_is s t n r key at one adds is =
-      after_transmit t key (subst (λ (q : Result ℕ Refusal). Adds logged t (Transmit 0 1 1) (answering Placed q)) is (transmit_at s t n r at one adds))
+      after_transmit t key (subst (λ (q : Result ℕ Refusal). Alone logged t (Transmit 0 1 1) (answering Placed q)) is (transmit_at s t n r at one adds))
 
-  pub transmit_wants : (s t : TheSession) (n : ℕ) (r : Result ℕ Refusal) → s ≡ logged → n ≡ 1 → Adds s t (Transmit 0 1 n) (answering Placed r)
+  pub transmit_wants : (s t : TheSession) (n : ℕ) (r : Result ℕ Refusal) → s ≡ logged → n ≡ 1 → Alone s t (Transmit 0 1 n) (answering Placed r)
       → (e : Refusal) → r ≡ Err e → e ≡ refusals.Memory
   transmit_wants s t n r at one adds e is =
-      transmit_memory t e (subst (λ (q : Result ℕ Refusal). Adds logged t (Transmit 0 1 1) (answering Placed q)) is (transmit_at s t n r at one adds))
+      transmit_memory t e (subst (λ (q : Result ℕ Refusal). Alone logged t (Transmit 0 1 1) (answering Placed q)) is (transmit_at s t n r at one adds))
 
-  arrive_at : (key : ℕ) (s t : TheSession) (r : Result Arrival Refusal) → s ≡ placed key → Adds s t (Arrive key) (answering answer_of r)
-      → Adds (placed key) t (Arrive key) (answering answer_of r)
-  arrive_at key s t r at adds = subst (λ (p : TheSession). Adds p t (Arrive key) (answering answer_of r)) at adds
+  arrive_at : (key : ℕ) (s t : TheSession) (r : Result Arrival Refusal) → s ≡ placed key → Alone s t (Arrive key) (answering answer_of r)
+      → Alone (placed key) t (Arrive key) (answering answer_of r)
+  arrive_at key s t r at adds = subst (λ (p : TheSession). Alone p t (Arrive key) (answering answer_of r)) at adds
 
-  pub arrive_is : (key : ℕ) (s t : TheSession) (r : Result Arrival Refusal) (a : Arrival) → s ≡ placed key → Adds s t (Arrive key) (answering answer_of r)
+  pub arrive_is : (key : ℕ) (s t : TheSession) (r : Result Arrival Refusal) (a : Arrival) → s ≡ placed key → Alone s t (Arrive key) (answering answer_of r)
       → r ≡ Ok a → (answer_of a ≡ Started 1) × (t ≡ started key)
   arrive_is key s t r a at adds is =
-      after_arrive key t (answer_of a) (subst (λ (q : Result Arrival Refusal). Adds (placed key) t (Arrive key) (answering answer_of q)) is (arrive_at key s t r at adds))
+      after_arrive key t (answer_of a) (subst (λ (q : Result Arrival Refusal). Alone (placed key) t (Arrive key) (answering answer_of q)) is (arrive_at key s t r at adds))
 
-  pub arrive_wants : (key : ℕ) (s t : TheSession) (r : Result Arrival Refusal) → s ≡ placed key → Adds s t (Arrive key) (answering answer_of r)
+  pub arrive_wants : (key : ℕ) (s t : TheSession) (r : Result Arrival Refusal) → s ≡ placed key → Alone s t (Arrive key) (answering answer_of r)
       → (e : Refusal) → r ≡ Err e → e ≡ refusals.Memory
   arrive_wants key s t r at adds e is =
-      arrive_memory key t e (subst (λ (q : Result Arrival Refusal). Adds (placed key) t (Arrive key) (answering answer_of q)) is (arrive_at key s t r at adds))
+      arrive_memory key t e (subst (λ (q : Result Arrival Refusal). Alone (placed key) t (Arrive key) (answering answer_of q)) is (arrive_at key s t r at adds))
 
   -- a job was started
   pub is_started : (a : Arrival) → answer_of a ≡ Started 1 → ((task : TheTask) → a ≡ arrivals.Started task → ⊥) → ⊥
@@ -248,11 +280,17 @@ module _ (image : Typed) (x : Payload) where
       let handed : HandsOut t (arrivals.Started task) = subst (HandsOut t) starts (subst (λ (q : Result Arrival Refusal). IfOk q (HandsOut t)) is hands) in
       subst (λ (p : TheSession). HandsOut p (arrivals.Started task)) at handed
 
-  pub finish_is : (key : ℕ) (s t : TheSession) (task : TheTask) (r : Result TheCommitted (Refusal × TheTask)) (c : TheCommitted) → s ≡ started key
-      → Takes s t task r → r ≡ Ok c → t ≡ committed key c.rsn c.key
-  finish_is key s t task r c at takes is =
-      after_finish key t task c
-      (subst (λ (p : TheSession). Takes p t task (Ok c)) at (subst (λ (q : Result TheCommitted (Refusal × TheTask)). Takes s t task q) is takes))
+  pub finish_is : (key : ℕ) (s t : TheSession) (by by' : TheSeat) (task : TheTask) (r : Result TheCommitted (Refusal × TheTask)) (c : TheCommitted) → by.worker ≡ 0
+      → s ≡ started key → Takes s t by by' task r → r ≡ Ok c → t ≡ committed key c.rsn c.key
+  finish_is key s t by by' task r c nobody at takes is =
+      after_finish key t by by' task c nobody
+      (subst (λ (p : TheSession). Takes p t by by' task (Ok c)) at (subst (λ (q : Result TheCommitted (Refusal × TheTask)). Takes s t by by' task q) is takes))
+
+  pub finish_wants : (key : ℕ) (s t : TheSession) (by by' : TheSeat) (task : TheTask) (r : Result TheCommitted (Refusal × TheTask)) (e : Refusal × TheTask) → s ≡ started key
+      → IsOpen (image ∷ []) task (world_at (started key)) → Takes s t by by' task r → r ≡ Err e → e.0 ≡ refusals.Memory
+  finish_wants key s t by by' task r e at is takes was =
+      finish_memory key task e.0 is
+      (subst (λ (p : TheSession). Takes p t by by' task (Err e)) at (subst (λ (q : Result TheCommitted (Refusal × TheTask)). Takes s t by by' task q) was takes)).3
 
   -- ---- what is left
 
@@ -262,10 +300,10 @@ module _ (image : Typed) (x : Payload) where
       → items ≡ state_of (world_at (committed key rsn new)) 1 → IsFirst bytes word items steps
   left_is bytes word key rsn new task steps items file is payload job takes state =
       let call = open_call key task job in
-      let whole : handled_by (slots_of image.code) alone (replicate image.len 0) x ≡ Some (answer_of_task task) =
-      (λ i. handled_by (slots_of (call.code i)) (sym call.me i) (sym call.state i) (sym call.payload i)) ∙ takes.0 in
-      let answer : handled_by image.slots alone (replicate image.len 0) x ≡ Some (answer_of_task task) =
-      ap (λ (slots : List (Option Insn)). handled_by slots alone (replicate image.len 0) x) is.slots_is ∙ whole in
+      let whole : handled_by (slots_of image.code) alone (replicate image.len 0) (view64 x) ≡ Some (answer_of_task task) =
+      (λ i. handled_by (slots_of (call.code i)) (sym call.me i) (sym call.state i) (view64 (sym call.payload i))) ∙ takes.0 in
+      let answer : handled_by image.slots alone (replicate image.len 0) (view64 x) ≡ Some (answer_of_task task) =
+      ap (λ (slots : List (Option Insn)). handled_by slots alone (replicate image.len 0) (view64 x)) is.slots_is ∙ whole in
       record {
         code = image.code;
         len = image.len;
@@ -273,7 +311,7 @@ module _ (image : Typed) (x : Payload) where
         table = image.table;
         typing = is.typing.types;
         left = answer_of_task task;
-        handled = ap (handled_by (slots_of image.code) alone (replicate image.len 0)) (sym payload) ∙ whole;
+        handled = ap (handled_by (slots_of image.code) alone (replicate image.len 0)) (sym (view64-whole (message_word word) refl) ∙ ap view64 (sym payload)) ∙ whole;
         state_is = state ∙ state_after key rsn new (answer_of_task task) answer;
         steps_is = takes.1;
       }

@@ -4,6 +4,7 @@ use Rattle.std.specs.Int.{to_le_bytes, w64}
 use Rattle.decode.specs.declared.insn.Insn.{Insn}
 use Rattle.decode.specs.Slots.{slots_of}
 use Rattle.helpers.specs.declared.effects.Who.{Who}
+use Rattle.helpers.specs.Payload.{view64}
 use Rattle.regtypes.specs.Typing.{IsTyping, Table}
 use Rattle.verifier.specs.ImageFile.{IsFile}
 use Rattle.interp.specs.HandlerCall.{Handled, handled_by}
@@ -38,4 +39,4 @@ pub record IsFirst (bytes : List ℕ) (word : ℕ) (state : List ℕ) (steps : �
 -- the call of the task's code leaves its answer after so many steps
 abbrev pub TakesSteps : TheTask → ℕ → Type 0
 TakesSteps t steps =
-    (handled_by (slots_of t.image.code) t.who t.state t.message.payload ≡ Some (answer_of t)) × (steps ≡ (answer_of t).steps)
+    (handled_by (slots_of t.image.code) t.who t.state (view64 t.message.payload) ≡ Some (answer_of t)) × (steps ≡ (answer_of t).steps)

@@ -8,11 +8,14 @@ ghost use Rattle.world.specs.declared.refusal.Refusal.TheVariants.{Memory};
 
 use crate::fault::Fault;
 use crate::hex::Hex;
+use helpers::Payload;
 use replay::Done;
 use sessions::{Arrival, Session};
 use std::alloc::Global;
 use std::fmt;
+use std::marker::Brand;
 use std::sync::Arc;
+use std::sync::ledger::{Blank, Ledger};
 use verifier::load;
 use world::{Feed, Refusal};
 
@@ -36,12 +39,12 @@ impl fmt::Display for Final {
 }
 
 /// The payload of a number: its 8 bytes, the least first, and 56 zeros.
-fn payload_of(word: u64) -> [u8; 64]
+fn payload_of(word: u64) -> Payload
     ensures { result ≡ message_word word }
 {
-    let mut payload = [0; 64];
-    payload[..8].copy_from_slice(&word.to_le_bytes());
-    payload
+    let mut bytes = [0; 64];
+    bytes[..8].copy_from_slice(&word.to_le_bytes());
+    Payload::from(bytes)
 }
 
 /// The fault of a refusal that is want of memory.
@@ -64,30 +67,45 @@ fn steps_of(done: &Done) -> u32
     done.end().steps
 }
 
-/// Delivers one message to the image of a file with these bytes.
-pub fn first(alloc: Global, bytes: &[u8], word: u64) -> Result<Final, Fault>
+// Delivers one message to the image of a file with these bytes, in a session of this ledger.
+fn first_in<L: Ledger>(alloc: Global, blank: Blank, bytes: &[u8], word: u64) -> Result<Final, Fault>
+    requires name { blank.name ≡ L.name }
+    requires parts { (blank.parts ≡ L.parts) × (blank.parts ≡ 17) }
     ensures left { IfOk result (λ a. IsFirst bytes.now word a.state.items a.steps) }
     ensures refused { IfErr result (IsImageFault bytes.now) }
 {
     let image = load(alloc, bytes)?;
     let mut images = Vec::new(alloc);
     images.push(Arc::new(alloc, image)?)?;
-    let mut session = Session::open(alloc, images).map_err(memory_fault)?;
+    let mut session: Session<L> = Session::open(alloc, blank, images).map_err(memory_fault)?;
+    let Some(mut seat) = session.sit(0) else {
+        unreachable!();
+    };
     let feed = Feed {
         number: 1,
         dst: 1,
         payload: payload_of(word),
     };
-    let ssn = session.input(&feed).map_err(memory_fault)?;
-    let key = session.transmit(0, 1, ssn).map_err(memory_fault)?;
-    let Arrival::Started(job) = session.arrive(key).map_err(memory_fault)? else {
+    let ssn = session.input(&mut seat, &feed).map_err(memory_fault)?;
+    let key = session
+        .transmit(&mut seat, 0, 1, ssn)
+        .map_err(memory_fault)?;
+    let Arrival::Started(job) = session.arrive(&mut seat, key).map_err(memory_fault)? else {
         unreachable!();
     };
     let done = job.run();
     let steps = steps_of(&done);
-    if let Err((refusal, _done)) = session.finish(done) {
+    if let Err((refusal, _done)) = session.finish(&mut seat, done) {
         return Err(memory_fault(refusal));
     }
     let state = session.state(1).to_vec(alloc)?;
     Ok(Final { state, steps })
+}
+
+/// Delivers one message to the image of a file with these bytes.
+pub fn first(alloc: Global, bytes: &[u8], word: u64) -> Result<Final, Fault>
+    ensures left { IfOk result (λ a. IsFirst bytes.now word a.state.items a.steps) }
+    ensures refused { IfErr result (IsImageFault bytes.now) }
+{
+    first_in::<Brand>(alloc, Blank::new(17), bytes, word)
 }

@@ -1,3 +1,8 @@
 pub mod LeastTypings
 pub mod Layouts
 pub mod Files
+pub mod Places
+pub mod RuleLemmas
+pub mod OpsWithin
+pub mod Translated
+pub mod Sparing

@@ -1,4 +1,6 @@
 pub mod Typed
+pub mod Places
+pub mod Dense
 pub mod Least
 pub mod Pass
 pub mod Verdict

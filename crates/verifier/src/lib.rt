@@ -4,7 +4,8 @@
 //! where the code is typable, or where memory runs out an error that says so. Code is typable where
 //! there is a table of frames, one for each instruction that a path leads to, under which no rule
 //! is broken and into which all that leaves an instruction fits. The image keeps the least such
-//! table, and its type keeps the fact. A refusal names the first slot whose frame breaks a rule,
+//! table, and its type keeps the fact, and for each instruction that a path leads to the dense operation that
+//! stands for it. A refusal names the first slot whose frame breaks a rule,
 //! and the least rule that it breaks; no other slot or rule could have been named. [`parts`] and
 //! [`file`] read and write image files without a look at the rules.
 //!
@@ -15,6 +16,7 @@
 //! ```
 #![tactic(auto)]
 
+mod compiling;
 mod fault;
 mod header;
 mod image;
@@ -23,6 +25,7 @@ mod laws;
 mod layout;
 mod loading;
 mod storing;
+mod translating;
 mod verifying;
 
 pub use fault::{HeaderFault, ImageError, VerifyError};

@@ -5,6 +5,7 @@ ghost use Rattle.decode.specs.Slots.{slots_of};
 ghost use Rattle.verifier.specs.Pass.{IsOpening};
 ghost use Rattle.verifier.specs.Verdict.{IsImageOf, IsWhy};
 
+use crate::compiling::compile;
 use crate::fault::VerifyError;
 use crate::image::Image;
 use crate::judging::judge;
@@ -54,10 +55,13 @@ pub fn verify(alloc: Global, code: Vec<Insn>, state_len: u16) -> Result<Image, V
             return Err(VerifyError::Fault { rule, slot });
         }
     }
-    Ok(Image {
-        code,
-        slots,
-        table,
-        state_len,
-    })
+    match compile(alloc, &slots, &table, state_len) {
+        Ok(operations) => Ok(Image {
+            code,
+            table,
+            state_len,
+            operations,
+        }),
+        Err(_) => Err(VerifyError::Memory),
+    }
 }

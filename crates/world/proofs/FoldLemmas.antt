@@ -3,6 +3,7 @@ use Rattle.std.proofs.Common.{◌≡◌, ℕ, List, [], ◌∷◌, ◌++◌, len
 use Rattle.std.specs.Prelude.{Some}
 use Rattle.std.proofs.lemmas.List.Sums.{fold-append}
 use Rattle.verifier.specs.Typed.{Typed}
+use Rattle.helpers.specs.Payload.{view64}
 use Rattle.interp.specs.HandlerCall.{Handled, handled_by}
 use Rattle.world.specs.declared.message.Message.{Message}
 use Rattle.world.specs.History.{nth}
@@ -13,13 +14,13 @@ folded-push n p image h m = fold-append (taken_in n image p) (unfolded image.len
 
 -- the state is the one that the handler leaves
 pub handlers_of-push : (images : List Typed) (p : ℕ) (image : Typed) (h : List Message) (m : Message) (a : Handled) → nth images p ≡ Some image
-    → handled_by image.slots (record { me = p; from = m.sender; count = length images }) ((handlers_of images).state p h) m.payload ≡ Some a
+    → handled_by image.slots (record { me = p; from = m.sender; count = length images }) ((handlers_of images).state p h) (view64 m.payload) ≡ Some a
     → (handlers_of images).state p (h ++ m ∷ []) ≡ a.state
 handlers_of-push images p image h m a at answers =
     let n = length images in
     let here : folded n p (Some image) h ≡ folded n p (nth images p) h = ap (λ o. folded n p o h) (sym at) in
-    let given : handled_by image.slots (record { me = p; from = m.sender; count = n }) (folded n p (Some image) h).state m.payload ≡ Some a =
-    ap (λ (f : Folded). handled_by image.slots (record { me = p; from = m.sender; count = n }) f.state m.payload) here ∙ answers in
+    let given : handled_by image.slots (record { me = p; from = m.sender; count = n }) (folded n p (Some image) h).state (view64 m.payload) ≡ Some a =
+    ap (λ (f : Folded). handled_by image.slots (record { me = p; from = m.sender; count = n }) f.state (view64 m.payload)) here ∙ answers in
     ap (λ o. (folded n p o (h ++ m ∷ [])).state) at
     ∙ ap (λ (f : Folded). f.state) (folded-push n p image h m)
     ∙ ap (λ o. (joined (folded n p (Some image) h) o).state) given

@@ -10,7 +10,7 @@ use Rattle.world.specs.declared.answer.Answer.TheVariants.{Placed, Started, Numb
 use Rattle.world.specs.History.{Payload, nth, rsn_of}
 use Rattle.world.specs.Phases.{Phase, Up, Busy, Down, Replaying, Resync, is_up, todo_of, without, those}
 use Rattle.world.specs.World.{World, put}
-use Rattle.world.specs.Logs.{sent, sent_in_all, covered, is_entry}
+use Rattle.world.specs.Logs.{payloads, sent, sent_in_all, run_to, covered, is_entry}
 use Rattle.world.specs.Plan.{message_of, gather}
 
 -- The wire
@@ -59,18 +59,15 @@ recorded w s r i k = put w.numbers s (put (w.numbers s) r (put (w.numbers s r) i
 abbrev pub note : World → ℕ → ℕ → ℕ → ℕ → ℕ → ℕ → ℕ → World
 note w key r s i k incarnation new = record w { numbers = recorded w s r i k; wire = put (put w.wire key None) new (Some (Acknowledgement s r k incarnation)) }
 
--- whether all of f 1 .. f k hold
-abbrev pub all_to : (ℕ → Bool) → ℕ → Bool
-all_to f zero = true
-all_to f (suc k) = f (suc k) && all_to f k
-
--- an acknowledgement arrives at the receiver: once all that it received is acknowledged, all that it sent is released
+-- an acknowledgement arrives at the receiver: what it sent by the last message up to which all are acknowledged is released, and
+-- nothing that is released is taken back
 abbrev pub acknowledge : World → ℕ → ℕ → ℕ → World
 acknowledge w key r k =
     let acknowledged : ℕ → Bool = put (w.acknowledged r) k true in
+    let run : ℕ = run_to acknowledged (length (w.history r)) in
     record w {
       acknowledged = put w.acknowledged r acknowledged;
-      released = put w.released r (if all_to acknowledged (length (w.history r)) then sent_in_all w r else w.released r);
+      released = put w.released r (λ d. max (w.released r d) (length (payloads w r (take run (w.history r)) d)));
       wire = put w.wire key None;
     }
 

@@ -2,6 +2,7 @@
 use Rattle.std.specs.Prelude.{ℕ, List, [], ◌∷◌, ◌++◌, length, replicate, fold, Option, Some, None, ◌==◌, if◌then◌else◌}
 use Rattle.helpers.specs.declared.effects.Sent.{Sent}
 use Rattle.helpers.specs.Effects.{Emitted}
+use Rattle.helpers.specs.Payload.{view64}
 use Rattle.verifier.specs.Typed.{Typed}
 use Rattle.interp.specs.HandlerCall.{Handled, handled_by}
 use Rattle.world.specs.declared.message.Message.{Message}
@@ -22,9 +23,9 @@ abbrev pub joined : Folded → Option Handled → Folded
 joined f None = f
 joined f (Some h) = record { state = h.state; effects = record { sends = f.effects.sends ++ h.effects.sends; outputs = f.effects.outputs ++ h.effects.outputs } }
 
--- the process p of n, with this image, takes in one more message
+-- the process p of n, with this image, takes in one more message, of which it sees 64 bytes
 abbrev pub taken_in : ℕ → Typed → ℕ → Folded → Message → Folded
-taken_in n image p f m = joined f (handled_by image.slots (record { me = p; from = m.sender; count = n }) f.state m.payload)
+taken_in n image p f m = joined f (handled_by image.slots (record { me = p; from = m.sender; count = n }) f.state (view64 m.payload))
 
 -- and a history, from the state of zeros on
 abbrev pub folded : ℕ → ℕ → Option Typed → List Message → Folded

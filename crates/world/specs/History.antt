@@ -2,7 +2,7 @@
 use Rattle.std.specs.Prelude.{ℕ, suc, zero, ◌+◌, List, [], ◌∷◌, Option, Some, None, ◌&&◌, ◌==◌, if◌then◌else◌, slice_get}
 use Rattle.world.specs.declared.message.Message.{Message}
 
--- the 64 bytes of a message
+-- what a message says, 0 to 256 bytes
 abbrev pub Payload : Type 0
 Payload = List ℕ
 

@@ -12,3 +12,4 @@ pub mod Refusals
 pub mod Useful
 pub mod Legal
 pub mod Worked
+pub mod Recorded

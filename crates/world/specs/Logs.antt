@@ -1,7 +1,7 @@
 -- What follows from the histories: states, lengths, what was sent, and what a sender's log has
-use Rattle.std.specs.Prelude.{ℕ, ◌+◌, List, length, Bool, not, ◌&&◌, ◌==◌, nat_lt, nat_le, if◌then◌else◌, take}
+use Rattle.std.specs.Prelude.{ℕ, zero, suc, ◌+◌, List, length, Option, Some, None, Bool, true, not, ◌&&◌, ◌==◌, nat_lt, nat_le, if◌then◌else◌, take}
 use Rattle.world.specs.declared.message.Message.{Message}
-use Rattle.world.specs.History.{Payload, count_of}
+use Rattle.world.specs.History.{Payload, nth, count_of}
 use Rattle.world.specs.Phases.{Phase, Up, Busy, Down, Replaying, Resync, is_down}
 use Rattle.world.specs.World.{World}
 
@@ -19,6 +19,18 @@ length_of w p = length_in (w.history p) (w.saved p) (w.phase p)
 abbrev pub state_of : World → ℕ → List ℕ
 state_of w p = w.handlers.state p (take (length_of w p) (w.history p))
 
+-- the message of the job that a process in this phase has open, live or replayed: a replayed one is the next of its history
+abbrev pub open_in : List Message → ℕ → Phase → Option Message
+open_in h saved Up = None
+open_in h saved (Busy m) = Some m
+open_in h saved Down = None
+open_in h saved (Replaying j working alone) = if working then nth h (saved + j + 1) else None
+open_in h saved (Resync todo) = None
+
+-- the message that a process works on
+abbrev pub open_message : World → ℕ → Option Message
+open_message w p = open_in (w.history p) (w.saved p) (w.phase p)
+
 -- what a sender with this history sends to a destination: the outside, its inputs
 abbrev pub payloads : World → ℕ → List Message → ℕ → List Payload
 payloads w s h d = if s == 0 then w.inputs d else w.handlers.sends s h d
@@ -30,6 +42,20 @@ sent w s d = payloads w s (take (length_of w s) (w.history s)) d
 -- how many messages its whole history sends
 abbrev pub sent_in_all : World → ℕ → ℕ → ℕ
 sent_in_all w p d = length (payloads w p (w.history p) d)
+
+-- whether all of f 1 .. f k hold
+abbrev pub all_to : (ℕ → Bool) → ℕ → Bool
+all_to f zero = true
+all_to f (suc k) = f (suc k) && all_to f k
+
+-- the greatest k up to n such that f 1 .. f k hold
+abbrev pub run_to : (ℕ → Bool) → ℕ → ℕ
+run_to f zero = 0
+run_to f (suc k) = if all_to f (suc k) then suc k else run_to f k
+
+-- the number up to which all that a process received is acknowledged
+abbrev pub run_of : World → ℕ → ℕ
+run_of w p = run_to (w.acknowledged p) (length (w.history p))
 
 -- how many of its messages to a destination are released: of the outside, all inputs
 abbrev pub released_to : World → ℕ → ℕ → ℕ

@@ -54,7 +54,7 @@ two_crashes =
     ∷ by_nobody (ResyncWith 2 1) (Restored 0)
     ∷ []
 
--- the list is legal and more than single failures, and between the crashes and the first recovery one that is not alone is refused
+-- the list is legal, the first crash is a single failure and the second isn't, and between the crashes and the first recovery one that is not alone is refused
 abbrev pub TwoCrashesAreLegal : Type 0
 TwoCrashesAreLegal =
     (g : ℕ → List Message → List ℕ) →
@@ -62,7 +62,8 @@ TwoCrashesAreLegal =
     × (refusal_of (world_of 2 (silent g) (take 2 two_crashes)) (LIMIT - 2) (Recover 1) ≡ Some 8)
     × ((world_of 2 (silent g) two_crashes).phase 1 ≡ Up)
     × ((world_of 2 (silent g) two_crashes).phase 2 ≡ Up)
-    × (all_single (opening 2 (silent g)) two_crashes ≡ false)
+    × (all_single (opening 2 (silent g)) (take 1 two_crashes) ≡ true)
+    × (all_single (opening 2 (silent g)) (take 2 two_crashes) ≡ false)
 
 -- a process crashes while its job is open
 abbrev pub lost_job : List ℕ → List Entry
@@ -84,11 +85,13 @@ LostJobIsLegal =
     × (state_of (world_of 1 (silent g) (lost_job x)) 1 ≡ g 1 [])
     × (all_single (opening 1 (silent g)) (lost_job x) ≡ true)
 
--- a process receives a message, saves a checkpoint and crashes, when the outside has dropped the message from its log
+-- a process receives a message, saves a checkpoint and crashes, when the outside has dropped the message from its log: not before
+-- the checkpoint covered it
 abbrev pub saved_message : List ℕ → List Entry
 saved_message x =
     one_message x
-    ++ by_nobody (Checkpoint 1) (Saved 1)
+    ++ by_nobody (Trim 1) (Trimmed 0)
+    ∷ by_nobody (Checkpoint 1) (Saved 1)
     ∷ by_nobody (Trim 1) (Trimmed 1)
     ∷ by_nobody (Crash 1) (Crashed 2)
     ∷ by_nobody (Recover 1) (Kept 1)

@@ -21,6 +21,7 @@ mod entry;
 mod message;
 mod packet;
 mod phase;
+mod recorded;
 mod refusal;
 mod rows;
 
@@ -30,6 +31,10 @@ pub use entry::Entry;
 pub use message::{Feed, Message};
 pub use packet::Packet;
 pub use phase::PhaseName;
+pub use recorded::{
+    first_run_is_released, lost_number_ends_the_run, old_acknowledgement_is_stale,
+    old_number_is_stale, relayed_message_is_kept, replayed_message_is_kept,
+};
 pub use refusal::Refusal;
 pub use rows::{
     lost_job_is_legal, one_message_is_legal, saved_message_is_kept, two_crashes_are_legal,

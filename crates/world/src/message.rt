@@ -1,5 +1,7 @@
 //! Messages between processes.
 
+use helpers::Payload;
+
 /// A numbered message of a sender.
 #[derive(Clone, Copy, PartialEq, Eq, Debug)]
 pub struct Message {
@@ -7,7 +9,7 @@ pub struct Message {
     pub sender: u8,
     /// Its place, from 1, among the messages of its sender to its receiver.
     pub ssn: u32,
-    pub payload: [u8; 64],
+    pub payload: Payload,
 }
 
 /// A message that the outside hands in.
@@ -17,5 +19,5 @@ pub struct Feed {
     pub number: u32,
     /// The process that it is for, 1 to 15.
     pub dst: u8,
-    pub payload: [u8; 64],
+    pub payload: Payload,
 }

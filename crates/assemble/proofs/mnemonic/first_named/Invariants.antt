@@ -1,6 +1,6 @@
 use Rattle.std.proofs.Common.{◌≢◌, take}
 use Rattle.std.specs.List.{AllByRecursion}
-use Rattle.assemble.specs.Mnemonic.{word}
+use Rattle.assemble.specs.Inside.Mnemonic.{word}
 use Rattle.assemble.specs.declared.mnemonic.Mnemonic.{Mnemonic}
 use Rattle.assemble.proofs.mnemonic.first_named.Given as goal
 

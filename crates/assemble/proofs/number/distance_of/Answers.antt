@@ -1,7 +1,7 @@
 use Rattle.std.proofs.Common.{rules, sym, subst, ℕ, List}
 use Rattle.std.specs.Int.{w32}
 use Rattle.assemble.specs.Number.{with_sign}
-use Rattle.assemble.specs.Spelled.{IsSigned}
+use Rattle.assemble.specs.Inside.Spelled.{IsSigned}
 use Rattle.assemble.proofs.Numerals.{signed_spelled, signed_is}
 use Rattle.assemble.proofs.Leaves.{signed_text, signed_digits, signed_ok, signed_out}
 use Rattle.assemble.proofs.number.distance_of.Goals as goal

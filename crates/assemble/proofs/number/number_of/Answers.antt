@@ -1,7 +1,7 @@
 use Rattle.std.proofs.Common.{rules, sym, subst, ℕ, List}
 use Rattle.std.specs.Int.{w32}
 use Rattle.assemble.specs.Number.{number}
-use Rattle.assemble.specs.Spelled.{IsNumber}
+use Rattle.assemble.specs.Inside.Spelled.{IsNumber}
 use Rattle.assemble.proofs.Numerals.{number_spelled, number_is}
 use Rattle.assemble.proofs.Leaves.{number_text, number_digits, signed_ok, signed_out}
 use Rattle.assemble.proofs.number.number_of.Goals as goal

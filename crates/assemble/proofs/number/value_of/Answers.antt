@@ -1,5 +1,5 @@
 use Rattle.std.proofs.Common.{rules, sym, subst, ℕ, List}
-use Rattle.assemble.specs.Spelled.{IsUnsigned}
+use Rattle.assemble.specs.Inside.Spelled.{IsUnsigned}
 use Rattle.assemble.proofs.Numerals.{unsigned}
 use Rattle.assemble.proofs.Leaves.{unsigned_text, unsigned_ok, unsigned_out}
 use Rattle.assemble.proofs.number.value_of.Goals as goal

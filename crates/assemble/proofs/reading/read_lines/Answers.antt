@@ -1,7 +1,7 @@
 use Rattle.std.proofs.Common.{◌≡◌, ◌≤◌, ◌+◌, ◌∷◌, [], sym, subst, List, ℕ, arith, Option, Bor, length}
 use Rattle.decode.specs.Slots.{slots}
 use Rattle.decode.specs.declared.insn.Insn.{Insn}
-use Rattle.assemble.specs.Loop.{HaveRead, left}
+use Rattle.assemble.specs.Inside.Loop.{HaveRead, left}
 use Rattle.assemble.proofs.Texts.{read_more}
 use Rattle.decode.proofs.SlotLemmas.{slots-append, slots-cons}
 use Rattle.assemble.proofs.reading.read_lines.Goals as goal

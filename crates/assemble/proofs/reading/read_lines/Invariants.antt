@@ -1,6 +1,6 @@
 use Rattle.std.proofs.Common.{◌≡◌, ◌≤◌, ◌+◌, length}
 use Rattle.decode.specs.Slots.{slots}
-use Rattle.assemble.specs.Loop.{HaveRead, left}
+use Rattle.assemble.specs.Inside.Loop.{HaveRead, left}
 use Rattle.assemble.proofs.reading.read_lines.Given as goal
 
 abbrev pub invariant-loop-rest : goal.invariant-loop-rest

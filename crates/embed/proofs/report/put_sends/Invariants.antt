@@ -1,6 +1,6 @@
 use Rattle.std.proofs.Common.{◌≡◌, ◌+◌, ◌*◌, length, take}
 use Rattle.std.specs.List.{flat_map}
-use Rattle.interp.specs.Bytes.{overwritten}
+use Rattle.operations.specs.Bytes.{overwritten}
 use Rattle.embed.specs.Layout.{sent_bytes}
 use Rattle.embed.proofs.report.put_sends.Given as goal
 

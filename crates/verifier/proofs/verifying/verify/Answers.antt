@@ -1,6 +1,8 @@
 use Rattle.std.proofs.Common.{◌≡◌, ◌<◌, length, sym, ap, ◌∙◌, subst, arith, refl}
 use Rattle.decode.specs.Slots.{slots_of}
+use Rattle.regtypes.specs.Typing.{IsTyping}
 use Rattle.verifier.specs.Pass.{Follows}
+use Rattle.verifier.specs.Dense.{IsDense}
 use Rattle.verifier.specs.Least.{IsLeast, Breaks, IsLeastTyping}
 use Rattle.verifier.proofs.LeastTypings.{least_opening, least_typing, no_typing, refused}
 use Rattle.verifier.proofs.Layouts.{first_begins_at}
@@ -25,22 +27,31 @@ returns-in-Err-judge c =
     let n : 0 < length (slots_of c.args.code.items) = let k = ap length e in omega arith in
     (refused (slots_of c.args.code.items) c.args.state_len c.in-Err-judge.rule c.loop-slot.slot n b, no_typing (slots_of c.args.code.items) c.args.state_len c.in-Err-judge.rule c.loop-slot.slot b)
 
+pub compile-requires-clause-typing : goal.compile-requires-clause-typing
+compile-requires-clause-typing c =
+    let q : c.loop-slot.slot ≡ length c.in-Ok.slots.items = omega arith in
+    let l = least_typing c.in-Ok.slots.items c.args.state_len c.loop-slot.table.items (subst (λ n. IsLeast c.in-Ok.slots.items c.args.state_len n c.loop-slot.table.items) q c.loop-slot.invariant.1) in
+    subst (λ s. IsTyping s c.args.state_len c.deref-3.result.now) (sym c.deref-2.ensures.value) (subst (λ t. IsTyping c.in-Ok.slots.items c.args.state_len t) (sym c.deref-3.ensures.value) l.types)
+
 pub invariant_of-result : goal.invariant_of-result
 invariant_of-result c =
+    let o = c.in-Ok-compile.operations in
     let e : c.in-Ok.slots.items ≡ slots_of c.args.code.items = cc (c.in-Ok.ensures.slots, c.deref.ensures.value) in
     let k = ap length e in
     let q : c.loop-slot.slot ≡ length c.in-Ok.slots.items = omega arith in
     let l = least_typing c.in-Ok.slots.items c.args.state_len c.loop-slot.table.items (subst (λ n. IsLeast c.in-Ok.slots.items c.args.state_len n c.loop-slot.table.items) q c.loop-slot.invariant.1) in
-    (l, omega (arith, c.requires.slots), c.requires.state, e)
+    let d : IsDense c.in-Ok.slots.items c.loop-slot.table.items c.args.state_len o.ops.items o.pool.items = subst (λ t. IsDense c.in-Ok.slots.items t c.args.state_len o.ops.items o.pool.items) c.deref-3.ensures.value (subst (λ s. IsDense s c.deref-3.result.now c.args.state_len o.ops.items o.pool.items) c.deref-2.ensures.value c.in-Ok-compile.ensures.dense) in
+    let compiled = subst (λ s. IsDense s c.loop-slot.table.items c.args.state_len o.ops.items o.pool.items) e d in
+    (subst (λ s. IsLeastTyping s c.args.state_len c.loop-slot.table.items) e l, c.requires.slots, c.requires.state, compiled, c.in-Ok-compile.ensures.from, c.in-Ok-compile.ensures.to, c.in-Ok-compile.ensures.sparing)
 
-pub returns : goal.returns
-returns c =
+pub returns-in-Ok-compile : goal.returns-in-Ok-compile
+returns-in-Ok-compile c =
     let e : c.in-Ok.slots.items ≡ slots_of c.args.code.items = cc (c.in-Ok.ensures.slots, c.deref.ensures.value) in
     let q : c.loop-slot.slot ≡ length c.in-Ok.slots.items = omega arith in
     let l = least_typing c.in-Ok.slots.items c.args.state_len c.loop-slot.table.items (subst (λ n. IsLeast c.in-Ok.slots.items c.args.state_len n c.loop-slot.table.items) q c.loop-slot.invariant.1) in
     record {
       code_is = refl;
-      slots_is = e;
+      slots_is = refl;
       len_is = refl;
       typing = subst (λ s. IsLeastTyping s c.args.state_len c.loop-slot.table.items) e l;
     }

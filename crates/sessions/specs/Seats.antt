@@ -1,0 +1,21 @@
+-- Seats, the rights to call
+use Rattle.std.specs.Prelude.{◌≡◌, ℕ, suc, zero, List, [], ◌∷◌, ◌++◌, length, Option, Some, None, slice_index_or}
+
+-- its worker, 0 for none, and how many of its calls were accepted
+pub record TheSeat : Type 0 where
+  pub worker : ℕ
+  pub answered : ℕ
+
+-- the seats of the workers 0, 1, .. below n, none of which was answered yet
+abbrev pub new_seats : ℕ → List (Option TheSeat)
+new_seats zero = []
+new_seats (suc k) = new_seats k ++ Some (record { worker = k; answered = 0 }) ∷ []
+
+-- the seat of this worker, if there is one and it is at hand
+abbrev pub seat_at : List (Option TheSeat) → ℕ → Option TheSeat
+seat_at seats k = slice_index_or seats k None
+
+-- the seats of the workers 0 to 16. Each that is at hand lies at its own number
+pub record AreSeats (seats : List (Option TheSeat)) : Type 0 where
+  pub all : length seats ≡ 17
+  pub placed : (k : ℕ) (s : TheSeat) → seat_at seats k ≡ Some s → s.worker ≡ k

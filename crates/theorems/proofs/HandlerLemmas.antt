@@ -1,0 +1,61 @@
+-- What handlers of images send
+use Rattle.std.proofs.Common.{◌≡◌, ℕ, List, [], ◌∷◌, ◌++◌, length, Bool, true, false, refl, sym, ap, subst}
+use Rattle.std.specs.Prelude.{Option, Some, None, if◌then◌else◌, ◌==◌}
+use Rattle.std.proofs.lemmas.List.Sums.{fold-append}
+use Rattle.helpers.specs.declared.effects.Sent.{Sent}
+use Rattle.verifier.specs.Typed.{Typed}
+use Rattle.interp.specs.HandlerCall.{Handled}
+use Rattle.world.specs.History.{nth}
+use Rattle.world.specs.Fold.{Folded, unfolded, joined, taken_in, folded, payloads_to, emitted_to, handlers_of}
+use Rattle.world.specs.declared.entry.Entry.{Entry}
+use Rattle.world.specs.World.{opening}
+use Rattle.world.specs.Legal.{Legal, all_single}
+use Rattle.theorems.specs.Growth.{Begins, Grows, Starts}
+use Rattle.theorems.specs.Single.{IsSingle}
+use Rattle.theorems.proofs.ListLemmas.{begins-self}
+
+payloads_to-append : (d : ℕ) (xs ys : List Sent) → payloads_to d (xs ++ ys) ≡ payloads_to d xs ++ payloads_to d ys
+payloads_to-append d [] ys = refl
+payloads_to-append d (x ∷ xs) ys = split (x.dst == d) (payloads_to-append d xs ys)
+  where
+    split : (b : Bool) → payloads_to d (xs ++ ys) ≡ payloads_to d xs ++ payloads_to d ys
+        → (if b then x.payload ∷ payloads_to d (xs ++ ys) else payloads_to d (xs ++ ys)) ≡ (if b then x.payload ∷ payloads_to d xs else payloads_to d xs) ++ payloads_to d ys
+    split true e = ap (λ zs. x.payload ∷ zs) e
+    split false e = e
+
+-- one handler call more
+joined-grows : (f : Folded) (o : Option Handled) (d : ℕ) → Begins (emitted_to d f.effects) (emitted_to d (joined f o).effects)
+joined-grows f None d = begins-self _
+joined-grows f (Some h) d = split (d == 0)
+  where
+    split : (b : Bool) → Begins (if b then f.effects.outputs else payloads_to d f.effects.sends) (if b then f.effects.outputs ++ h.effects.outputs else payloads_to d (f.effects.sends ++ h.effects.sends))
+    split true = (h.effects.outputs, refl)
+    split false = (payloads_to d h.effects.sends, sym (payloads_to-append d f.effects.sends h.effects.sends))
+
+pub handlers-grow : (images : List Typed) → Grows (handlers_of images)
+handlers-grow images p h m d = split (nth images p)
+  where
+    n : ℕ
+    n = length images
+
+    split : (o : Option Typed) → Begins (emitted_to d (folded n p o h).effects) (emitted_to d (folded n p o (h ++ m ∷ [])).effects)
+    split None = begins-self _
+    split (Some image) =
+        let after : folded n p (Some image) (h ++ m ∷ []) ≡ taken_in n image p (folded n p (Some image) h) m = fold-append (taken_in n image p) (unfolded image.len) h (m ∷ []) in
+        let P : Folded → Type 0 = λ f. Begins (emitted_to d (folded n p (Some image) h).effects) (emitted_to d f.effects) in
+        subst P (sym after) (joined-grows (folded n p (Some image) h) _ d)
+
+pub handlers-start : (images : List Typed) → Starts (handlers_of images)
+handlers-start images p d = split (nth images p)
+  where
+    none : (b : Bool) → (if b then [] else payloads_to d []) ≡ []
+    none true = refl
+    none false = refl
+
+    split : (o : Option Typed) → emitted_to d (folded (length images) p o []).effects ≡ []
+    split None = none (d == 0)
+    split (Some image) = none (d == 0)
+
+-- a legal journal of images, in which failures come one at a time
+pub single-of : (images : List Typed) (es : List Entry) → Legal (length images) (handlers_of images) es → all_single (opening (length images) (handlers_of images)) es ≡ true → IsSingle (length images) (handlers_of images) es
+single-of images es legal single = record { grows = handlers-grow images; legal = legal; single = single }

@@ -1,0 +1,7 @@
+pub mod Growth
+pub mod Single
+pub mod Kept
+pub mod Recovery
+pub mod Orphans
+pub mod Invariants
+pub mod Overlap

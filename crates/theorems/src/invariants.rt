@@ -1,0 +1,43 @@
+//! What every call keeps.
+
+ghost use Rattle.std.specs.Prelude.{ℕ, List};
+ghost use Rattle.verifier.specs.Typed.{Typed};
+ghost use Rattle.world.specs.declared.entry.Entry.{Entry};
+ghost use Rattle.world.specs.Fold.{handlers_of};
+ghost use Rattle.world.specs.Handlers.{Handlers};
+ghost use Rattle.world.specs.Legal.{Legal, world_of};
+ghost use Rattle.theorems.specs.Invariants.Exact.{Exact};
+ghost use Rattle.theorems.specs.Invariants.Gated.{Gated};
+ghost use Rattle.theorems.specs.Growth.{Grows, Starts};
+ghost use Rattle.theorems.specs.Single.{IsSingle};
+ghost use Rattle.theorems.specs.Invariants.Sound.{Sound};
+ghost use Rattle.theorems.specs.Invariants.Tidy.{Tidy};
+
+/// What the handler of an image sent or put out, it doesn't take back; and it sends and puts out
+/// nothing before its first message.
+pub fn handlers_grow()
+    ensures grow { (images : List Typed) → Grows (handlers_of images) }
+    ensures start { (images : List Typed) → Starts (handlers_of images) }
+{}
+
+/// Whatever fails, and however failures overlap, the world is sound.
+pub fn always_sound()
+    ensures { (n : ℕ) (f : Handlers) (es : List Entry) → Grows f → Legal n f es → Sound (world_of n f es) }
+{}
+
+/// And it is tidy: logs and gates hold no more than was sent, and a process that isn't up has those
+/// of its checkpoint.
+pub fn always_tidy()
+    ensures { (n : ℕ) (f : Handlers) (es : List Entry) → Grows f → Legal n f es → Tidy (world_of n f es) }
+{}
+
+/// And gates have let out what was sent by the messages up to which all are acknowledged, and no
+/// more.
+pub fn always_gated()
+    ensures { (n : ℕ) (f : Handlers) (es : List Entry) → Grows f → Starts f → Legal n f es → Gated (world_of n f es) }
+{}
+
+/// Under single failures the world is exact: what is sent, recorded and acknowledged agrees.
+pub fn always_exact()
+    ensures { (n : ℕ) (f : Handlers) (es : List Entry) → IsSingle n f es → Exact (world_of n f es) }
+{}

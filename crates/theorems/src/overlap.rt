@@ -1,0 +1,9 @@
+//! Why failures have to come one at a time.
+
+ghost use Rattle.theorems.specs.Overlap.{OverlappingFailuresLose};
+
+/// Where failures overlap, a process can lose what was acknowledged, and an output that was shown
+/// can become an orphan.
+pub fn overlapping_failures_lose()
+    ensures { OverlappingFailuresLose }
+{}
