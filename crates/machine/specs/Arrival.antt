@@ -13,13 +13,18 @@ use Rattle.world.specs.World.{World, is_inside}
 use Rattle.world.specs.Logs.{length_of, state_of, open_message}
 use Rattle.machine.specs.Simulation.{TheMachine, Stands, Steps}
 use Rattle.machine.specs.declared.arrival.Arrival.{Arrival}
-use Rattle.machine.specs.declared.arrival.Arrival.TheVariants.{Started, Duplicate, Early}
+use Rattle.machine.specs.declared.arrival.Arrival.TheVariants.{Started, Duplicate, Early, Shown, ShownBefore, Numbered, Acknowledged, Stale}
 use Rattle.machine.specs.declared.arrival.Committed.{Committed}
 
 abbrev pub answer_of : Arrival → Answer
 answer_of (Started task) = answers.Started task.serial
 answer_of (Duplicate key) = answers.Duplicate key
 answer_of Early = answers.Early
+answer_of (Shown ssn) = answers.Shown ssn
+answer_of ShownBefore = answers.ShownBefore
+answer_of (Numbered key) = answers.Numbered key
+answer_of Acknowledged = answers.Acknowledged
+answer_of Stale = answers.Stale
 
 abbrev pub committed_of : Committed → Answer
 committed_of c = answers.Committed c.rsn c.key
@@ -42,8 +47,7 @@ pub record IsOpen (images : List Typed) (t : TheTask) (w : World) : Type 0 where
 -- the job that is handed out is open
 abbrev pub IsJobOf : TheMachine → Arrival → Type 0
 IsJobOf m (Started task) = (w : World) → Stands m w → IsOpen m.images task w
-IsJobOf m (Duplicate key) = Unit {0}
-IsJobOf m Early = Unit {0}
+IsJobOf m other = Unit {0}
 
 -- a result is refused where it isn't of the open job, or where memory runs out
 abbrev pub Told : Refusal → Type 0 → Type 0

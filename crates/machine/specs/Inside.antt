@@ -1,41 +1,54 @@
 -- The fields behind what clauses see of a machine
-use Rattle.std.specs.Prelude.{◌≡◌, ◌≢◌, ℕ, ◌<◌, ◌≤◌, List, [], length, map, Option, Some, None, slice_index_or}
+use Rattle.std.specs.Prelude.{◌≡◌, ◌≢◌, ℕ, suc, ◌+◌, ◌<◌, ◌≤◌, List, length, map, Option, Some, None, is_some, slice_index_or}
 use Rattle.std.specs.Arc.{arc_value}
 use Rattle.verifier.specs.Typed.{Typed}
+use Rattle.sender_log.specs.Log.{TheLog, queue_of}
 use Rattle.world.specs.declared.message.Message.{Message}
 use Rattle.world.specs.declared.packet.Packet.{Packet}
 use Rattle.world.specs.declared.packet.Packet.TheVariants.{Delivery, Number, Acknowledgement}
-use Rattle.machine.specs.Process.{TheProcess}
+use Rattle.world.specs.Refusals.{one_if}
+use Rattle.machine.specs.Process.{TheProcess, received}
 use Rattle.machine.specs.Simulation.{TheMachine}
 use Rattle.machine.specs.declared.machine.Machine.TheInside.{Inside}
 
 abbrev pub view_of : Inside → TheMachine
 view_of m = record { images = map arc_value m.images.items; processes = m.processes.items; outside = m.outside; slots = m.wire; started = m.started; calls = m.calls }
 
--- a packet that n processes may have on the wire: a message for one of them from another or the outside, or a number
+-- a packet that n processes may have on the wire: a message of one, or of the outside, for another; a number that a process
+-- gave to a message of another, or of the outside; or the acknowledgement of such a number
 abbrev pub IsCarried : ℕ → Packet → Type 0
-IsCarried n (Delivery d m) = (0 < d) × (d ≤ n) × (m.sender ≤ n) × (m.sender ≢ d) × (0 < m.ssn)
-IsCarried n (Number r s i k incarnation) = Unit {0}
-IsCarried n (Acknowledgement s r k incarnation) = ⊥
+IsCarried n (Delivery d m) = (d ≤ n) × (m.sender ≤ n) × (m.sender ≢ d) × (0 < m.ssn)
+IsCarried n (Number r s i k incarnation) = (0 < r) × (r ≤ n) × (s ≤ n) × (s ≢ r) × (0 < k)
+IsCarried n (Acknowledgement s r k incarnation) = (0 < r) × (r ≤ n) × (0 < k)
 
 abbrev pub AreCarried : List (Option Packet) → ℕ → Type 0
 AreCarried slots n = (key : ℕ) (k : Packet) → slice_index_or slots key None ≡ Some k → IsCarried n k
+
+-- the log of this number among n processes
+pub record IsLogOf (n me : ℕ) (l : TheLog) : Type 0 where
+  pub owner : l.owner ≡ me
+  pub width : length l.queues ≡ suc n
+
+-- a message that is worked on counts as received
+abbrev pub begun : TheProcess → ℕ
+begun x = received x + one_if (is_some x.working)
+
+-- one of n processes, with this number, an image of this state length, after so many calls
+pub record IsSoundAt (n me len calls : ℕ) (x : TheProcess) : Type 0 where
+  pub state : length x.state ≡ len
+  pub log : IsLogOf n me x.outbox.log
+  pub begun_by : begun x ≤ calls
 
 -- the sizes, and who is named on the wire
 pub record IsSound (m : Inside) : Type 0 where
   pub some : 0 < length m.processes.items
   pub few : length m.processes.items ≤ 15
   pub images : length m.images.items ≡ length m.processes.items
-  pub inputs : length m.outside.inputs ≡ length m.processes.items
-  pub states : (p : ℕ) (d : TheProcess) (e : Typed) → p < length m.processes.items → length (slice_index_or m.processes.items p d).state ≡ (slice_index_or (map arc_value m.images.items) p e).len
+  pub processes : (p : ℕ) (d : TheProcess) (e : Typed) → p < length m.processes.items → IsSoundAt (length m.processes.items) (suc p) (slice_index_or (map arc_value m.images.items) p e).len m.calls (slice_index_or m.processes.items p d)
+  pub outside : IsLogOf (length m.processes.items) 0 m.outside.log
   pub calls : m.calls ≤ 65537
   pub started : m.started ≤ m.calls
-  pub logs : (p : ℕ) → length (slice_index_or m.outside.inputs p []) ≤ m.calls
-  pub receipts : (p : ℕ) (d : TheProcess) → p < length m.processes.items → length (slice_index_or m.processes.items p d).receipts ≤ m.calls
+  pub inputs : (d : ℕ) → (queue_of d m.outside.log).first + length (queue_of d m.outside.log).payloads ≤ m.calls + 1
+  pub shown : length m.outside.shown ≤ m.calls
   pub wire : AreCarried m.wire (length m.processes.items)
   pub keys : (key : ℕ) → 4096 ≤ key → slice_index_or m.wire key None ≡ None
-
--- what lies under the key is a message, or no message lies there
-abbrev pub IsDelivery : List (Option Packet) → ℕ → ℕ → Option (ℕ × Message) → Type 0
-IsDelivery slots n key (Some d) = (slice_index_or slots key None ≡ Some (Delivery d.0 d.1)) × IsCarried n (Delivery d.0 d.1)
-IsDelivery slots n key None = (to : ℕ) (m : Message) → slice_index_or slots key None ≢ Some (Delivery to m)

@@ -1,3 +1,4 @@
+pub mod Outbox
 pub mod Process
 pub mod Outside
 pub mod Wire
@@ -7,3 +8,5 @@ pub mod Inside
 pub mod Opening
 pub mod Jobs
 pub mod Arrival
+pub mod Sending
+pub mod Arriving

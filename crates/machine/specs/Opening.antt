@@ -1,5 +1,5 @@
 -- How a machine opens
-use Rattle.std.specs.Prelude.{◌≡◌, ◌<◌, ◌≤◌, List, length, map, Result, Ok, Err}
+use Rattle.std.specs.Prelude.{◌≡◌, ℕ, suc, ◌<◌, ◌≤◌, List, length, slice_index_or, Result, Ok, Err}
 use Rattle.verifier.specs.Typed.{Typed}
 use Rattle.world.specs.declared.refusal.Refusal.{Refusal}
 use Rattle.world.specs.declared.refusal.Refusal.TheVariants.{NoSuchProcess, Memory}
@@ -8,8 +8,10 @@ use Rattle.world.specs.World.{opening}
 use Rattle.machine.specs.Process.{TheProcess, idle_process}
 use Rattle.machine.specs.Simulation.{TheMachine, Stands}
 
-abbrev pub AreIdle : List Typed → List TheProcess → Type 0
-AreIdle images processes = processes ≡ map (λ (i : Typed). idle_process i.len) images
+-- for each image a process that received nothing, numbered from 1
+pub record AreIdle (images : List Typed) (processes : List TheProcess) : Type 0 where
+  pub count : length processes ≡ length images
+  pub idle : (p : ℕ) (d : TheProcess) (e : Typed) → p < length images → slice_index_or processes p d ≡ idle_process (suc p) (length images) (slice_index_or images p e).len
 
 abbrev pub AreFew : List Typed → Type 0
 AreFew images = (0 < length images) × (length images ≤ 15)

@@ -15,6 +15,16 @@ pub enum Arrival {
     Duplicate(usize),
     /// A message before this one is missing.
     Early,
+    /// The outside was shown this output, by its SSN.
+    Shown(u32),
+    /// The outside was shown this output before.
+    ShownBefore,
+    /// The number is recorded: the key of the packet that acknowledges it.
+    Numbered(usize),
+    /// The number is acknowledged, and what may leave then is released.
+    Acknowledged,
+    /// The packet speaks of what is past.
+    Stale,
 }
 
 impl Arrival {
@@ -26,6 +36,11 @@ impl Arrival {
             Arrival::Started(job) => Answer::Started(job.task().serial()),
             Arrival::Duplicate(key) => Answer::Duplicate(*key),
             Arrival::Early => Answer::Early,
+            Arrival::Shown(ssn) => Answer::Shown(*ssn),
+            Arrival::ShownBefore => Answer::ShownBefore,
+            Arrival::Numbered(key) => Answer::Numbered(*key),
+            Arrival::Acknowledged => Answer::Acknowledged,
+            Arrival::Stale => Answer::Stale,
         }
     }
 }

@@ -14,9 +14,13 @@
 #![tactic(auto)]
 
 mod arrival;
+mod arriving;
+mod jobs;
 mod machine;
+mod outbox;
 mod outside;
 mod process;
+mod sending;
 mod wire;
 
 pub use arrival::{Arrival, Committed};

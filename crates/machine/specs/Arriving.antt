@@ -1,0 +1,53 @@
+-- What an arrival changes
+use Rattle.std.specs.Prelude.{◌≡◌, ℕ, ◌+◌, ◌-◌, ◌<◌, length, Option, Some, None, ◌==◌, if◌then◌else◌, slice_index_or, slice_set}
+use Rattle.rsn.specs.declared.receipts.Judgement.{Judgement}
+use Rattle.rsn.specs.declared.receipts.Judgement.TheVariants as judgements
+use Rattle.sender_log.specs.Queue.{recorded}
+use Rattle.sender_log.specs.Log.{TheLog, queue_of, with_queue}
+use Rattle.world.specs.declared.packet.Packet.{Packet}
+use Rattle.world.specs.declared.packet.Packet.TheVariants.{Delivery, Number, Acknowledgement}
+use Rattle.world.specs.declared.call.Call.TheVariants.{Arrive}
+use Rattle.world.specs.World.{World}
+use Rattle.world.specs.Answers.{Verdict, Next, Known, Ahead}
+use Rattle.world.specs.Refusals.{refusal_of}
+use Rattle.machine.specs.Inside.{IsCarried}
+use Rattle.machine.specs.Wire.{Puts}
+use Rattle.machine.specs.Simulation.{TheMachine, Stands, process_at, log_at}
+
+-- the two verdicts agree
+abbrev pub IsJudged : Judgement → Verdict → Type 0
+IsJudged judgements.Next verdict = verdict ≡ Next
+IsJudged (judgements.Duplicate k) verdict = verdict ≡ Known
+IsJudged judgements.Early verdict = verdict ≡ Ahead
+
+-- this packet lies under the key, and may be taken
+pub record MayArrive (m : TheMachine) (room key : ℕ) (packet : Packet) : Type 0 where
+  pub found : slice_index_or m.slots key None ≡ Some packet
+  pub carried : IsCarried (length m.processes) packet
+  pub accepted : (w : World) → Stands m w → refusal_of w room (Arrive key) ≡ None
+  pub calls : m.calls < 65536
+
+-- the packet is gone, and nothing else has changed
+pub record Drops (old new : TheMachine) (key : ℕ) : Type 0 where
+  pub wire : Puts old.slots new.slots key (slice_index_or old.slots key None) None
+  pub others : new ≡ record old { slots = new.slots; calls = old.calls + 1 }
+
+-- the log of this sender has the number for its message of this SSN
+abbrev pub numbered : TheLog → ℕ → ℕ → ℕ → TheLog
+numbered l receiver ssn rsn = with_queue receiver (recorded ssn rsn (queue_of receiver l)) l
+
+abbrev pub Records : TheMachine → TheMachine → ℕ → ℕ → ℕ → ℕ → Type 0
+Records old new sender receiver ssn rsn =
+    let l : TheLog = numbered (log_at old sender) receiver ssn rsn in
+    new
+    ≡ (if sender == 0
+    then record old { outside = record old.outside { log = l } }
+    else record old { processes = slice_set old.processes (sender - 1) (record (process_at old sender) { outbox = record (process_at old sender).outbox { log = l } }) })
+
+abbrev pub IsNumber : Packet → Type 0
+IsNumber (Number r s i k incarnation) = Unit {0}
+IsNumber other = ⊥
+
+abbrev pub IsAcknowledgement : Packet → Type 0
+IsAcknowledgement (Acknowledgement s r k incarnation) = Unit {0}
+IsAcknowledgement other = ⊥

@@ -1,0 +1,255 @@
+//! What arrives.
+
+ghost use Rattle.std.specs.Prelude.{◌≡◌, ◌≢◌, ℕ, ◌+◌, ◌<◌, ◌≤◌, ◌↔◌, length, IfNone, IfOk, IsSome, OnOk, OnErr, Ok, Err, Some, None, true, false, slice_index_or, option_and_then};
+ghost use Rattle.sender_log.specs.Queue.{is_logged};
+ghost use Rattle.sender_log.specs.Log.{queue_of};
+ghost use Rattle.sender_log.specs.declared.error.LogError.TheVariants.{NotLogged};
+ghost use Rattle.world.specs.World.{World};
+ghost use Rattle.world.specs.Answers.{judge};
+ghost use Rattle.world.specs.Refusals.{refusal_of, cause_of, is_to_busy, starts, one_if};
+ghost use Rattle.machine.specs.Inside.{IsCarried};
+ghost use Rattle.machine.specs.Simulation.{Stands, Simulates, answering, log_at, IsTold};
+ghost use Rattle.machine.specs.Arrival.{answer_of, IsJobOf};
+ghost use Rattle.machine.specs.Arriving.{IsJudged, MayArrive, Drops, Records, IsNumber, IsAcknowledgement};
+
+use crate::arrival::Arrival;
+use crate::machine::Machine;
+use replay::{Job, Ticket};
+use rsn::Judgement;
+use sender_log::LogError;
+use std::sync::Arc;
+use world::{Call, Message, Packet, Refusal};
+
+impl Machine {
+    // What a message is to its receiver: of the outside, by what it was shown.
+    fn judge(&self, to: u8, message: &Message) -> Judgement
+        requires to { to ≤ length self.now.processes }
+        requires from { (message.now.sender ≤ length self.now.processes) × (0 < message.now.ssn) }
+        ensures { (w : World) → Stands self.now w → IsJudged result (judge w to message.now) }
+    {
+        if to > 0 {
+            return self.process(to).receipts().judge(message.sender, message.ssn);
+        }
+        let shown = self.outside.shown_of(message.sender);
+        if message.ssn <= shown {
+            return Judgement::Duplicate(message.ssn);
+        }
+        if message.ssn == shown + 1 {
+            return Judgement::Next;
+        }
+        Judgement::Early
+    }
+
+    // How many jobs the packet would start: one, or none.
+    fn started_by(&self, packet: &Packet) -> u32
+        requires { IsCarried (length self.now.processes) packet.now }
+        ensures { (w : World) → Stands self.now w → result ≡ one_if (starts w (Some packet.now)) }
+    {
+        match packet {
+            Packet::Delivery { to, message } if *to > 0 => {
+                let next = self.judge(*to, message) == Judgement::Next;
+                u32::from(next)
+            }
+            _ => 0,
+        }
+    }
+
+    /// Why a packet would not be taken from the wire.
+    pub fn arrive_cause(&self, room: u32, key: usize) -> Option<Refusal>
+        ensures none { IfNone result ((0 < room) × IsSome (slice_index_or self.now.slots key None)) }
+        ensures cause { (w : World) → Stands self.now w → refusal_of w room (Call.Arrive key) ≡ option_and_then cause_of result }
+        ensures told { IsTold result }
+    {
+        let Some(packet) = self.wire.get(key) else {
+            return Some(Refusal::NoPacket);
+        };
+        if self.is_to_busy(&packet) {
+            return Some(Refusal::Busy);
+        }
+        if room <= self.open_jobs() + self.started_by(&packet) {
+            return Some(Refusal::JournalFull);
+        }
+        None
+    }
+
+    // Whether the packet is a message for a process that works.
+    fn is_to_busy(&self, packet: &Packet) -> bool
+        requires { IsCarried (length self.now.processes) packet.now }
+        ensures { (w : World) → Stands self.now w → result ≡ is_to_busy w (Some packet.now) }
+    {
+        match packet {
+            Packet::Delivery { to, .. } if *to > 0 => self.process(*to).working().is_some(),
+            _ => false,
+        }
+    }
+
+    /// Takes a packet from the wire to whom it is for.
+    pub fn arrive(&mut self, room: u32, key: usize) -> Result<Arrival, Refusal>
+        requires { self.old.calls + room ≤ 65536 }
+        ensures step { Simulates self.old self.new room (Call.Arrive key) (answering answer_of result) }
+        ensures job { IfOk result (IsJobOf self.new) }
+        ensures calls { OnOk result (self.new.calls ≡ self.old.calls + 1) }
+    {
+        if let Some(refusal) = self.arrive_cause(room, key) {
+            return Err(refusal);
+        }
+        let Some(packet) = self.wire.get(key) else {
+            return Err(Refusal::NoPacket);
+        };
+        match packet {
+            Packet::Delivery { to: 0, message } => self.show(room, key, message),
+            Packet::Delivery { to, message } => self.receive(room, key, to, message),
+            Packet::Number { .. } => self.note(room, key, packet),
+            Packet::Acknowledgement { .. } => Ok(self.acknowledge(room, key, packet)),
+        }
+    }
+
+    // An output arrives at the outside.
+    fn show(&mut self, room: u32, key: usize, message: Message) -> Result<Arrival, Refusal>
+        requires { MayArrive self.old room key (Packet.Delivery 0 message) }
+        ensures step { Simulates self.old self.new room (Call.Arrive key) (answering answer_of result) }
+        ensures job { IfOk result (IsJobOf self.new) }
+        ensures calls { OnOk result (self.new.calls ≡ self.old.calls + 1) }
+    {
+        let arrival = match self.judge(0, &message) {
+            Judgement::Next => {
+                self.outside.show(&message)?;
+                Arrival::Shown(message.ssn)
+            }
+            Judgement::Duplicate(_) => Arrival::ShownBefore,
+            Judgement::Early => Arrival::Early,
+        };
+        self.wire.remove(key);
+        self.calls += 1;
+        Ok(arrival)
+    }
+
+    // A message arrives at a process that doesn't work.
+    fn receive(
+        &mut self,
+        room: u32,
+        key: usize,
+        to: u8,
+        message: Message,
+    ) -> Result<Arrival, Refusal>
+        requires to { 0 < to }
+        requires may { MayArrive self.old room key (Packet.Delivery to message) }
+        ensures step { Simulates self.old self.new room (Call.Arrive key) (answering answer_of result) }
+        ensures job { IfOk result (IsJobOf self.new) }
+        ensures calls { OnOk result (self.new.calls ≡ self.old.calls + 1) }
+    {
+        match self.judge(to, &message) {
+            Judgement::Next => {
+                let job = self.begin(to, message)?;
+                self.wire.remove(key);
+                Ok(Arrival::Started(job))
+            }
+            Judgement::Duplicate(rsn) => {
+                let number = Packet::Number {
+                    receiver: to,
+                    sender: message.sender,
+                    ssn: message.ssn,
+                    rsn,
+                    incarnation: self.process(to).incarnation(),
+                };
+                self.wire.replace(key, number);
+                self.calls += 1;
+                Ok(Arrival::Duplicate(key))
+            }
+            Judgement::Early => {
+                self.wire.remove(key);
+                self.calls += 1;
+                Ok(Arrival::Early)
+            }
+        }
+    }
+
+    // A packet arrives that speaks of what is past.
+    fn drop_stale(&mut self, key: usize) -> Arrival
+        requires { self.old.calls < 65536 }
+        ensures stale { result ≡ Arrival.Stale }
+        ensures drops { Drops self.old self.new key }
+    {
+        self.wire.remove(key);
+        self.calls += 1;
+        Arrival::Stale
+    }
+
+    // Records the number of a message in its sender's log.
+    fn record(&mut self, sender: u8, receiver: u8, ssn: u32, rsn: u32) -> Result<(), LogError>
+        requires { sender ≤ length self.old.processes }
+        ensures ok { OnOk result (Records self.old self.new sender receiver ssn rsn) }
+        ensures logged { OnOk result (is_logged ssn (queue_of receiver (log_at self.old sender)) ≡ true) }
+        ensures err { OnErr result (self.new ≡ self.old) }
+        ensures cause { (result ≡ Err NotLogged) ↔ (is_logged ssn (queue_of receiver (log_at self.old sender)) ≡ false) }
+    {
+        if sender == 0 {
+            return self.outside.record(receiver, ssn, rsn);
+        }
+        self.processes[sender as usize - 1].record(receiver, ssn, rsn)
+    }
+
+    // A number arrives at the sender of its message.
+    fn note(&mut self, room: u32, key: usize, packet: Packet) -> Result<Arrival, Refusal>
+        requires may { MayArrive self.old room key packet }
+        requires number { IsNumber packet }
+        ensures step { Simulates self.old self.new room (Call.Arrive key) (answering answer_of result) }
+        ensures job { IfOk result (IsJobOf self.new) }
+        ensures calls { OnOk result (self.new.calls ≡ self.old.calls + 1) }
+    {
+        let Packet::Number {
+            receiver,
+            sender,
+            ssn,
+            rsn,
+            incarnation,
+        } = packet
+        else {
+            unreachable!()
+        };
+        if incarnation != self.process(receiver).incarnation() {
+            return Ok(self.drop_stale(key));
+        }
+        match self.record(sender, receiver, ssn, rsn) {
+            Ok(()) => {}
+            Err(LogError::NotLogged) => return Ok(self.drop_stale(key)),
+            Err(LogError::Memory) => return Err(Refusal::Memory),
+        }
+        let acknowledgement = Packet::Acknowledgement {
+            sender,
+            receiver,
+            rsn,
+            incarnation,
+        };
+        self.wire.replace(key, acknowledgement);
+        self.calls += 1;
+        Ok(Arrival::Numbered(key))
+    }
+
+    // An acknowledgement arrives at the receiver.
+    fn acknowledge(&mut self, room: u32, key: usize, packet: Packet) -> Arrival
+        requires may { MayArrive self.old room key packet }
+        requires acknowledgement { IsAcknowledgement packet }
+        ensures step { Simulates self.old self.new room (Call.Arrive key) (Ok (answer_of result)) }
+        ensures job { IsJobOf self.new result }
+        ensures calls { self.new.calls ≡ self.old.calls + 1 }
+    {
+        let Packet::Acknowledgement {
+            receiver,
+            rsn,
+            incarnation,
+            ..
+        } = packet
+        else {
+            unreachable!()
+        };
+        let process = &mut self.processes[receiver as usize - 1];
+        if incarnation != process.incarnation() || rsn > process.length() {
+            return self.drop_stale(key);
+        }
+        process.acknowledge(rsn);
+        self.wire.remove(key);
+        self.calls += 1;
+        Arrival::Acknowledged
+    }
+}

@@ -1,0 +1,92 @@
+//! Jobs: begun, compared and finished.
+
+ghost use Rattle.std.specs.Prelude.{◌≡◌, ◌+◌, ◌≤◌, ◌↔◌, IsTrue, IfOk, IfErr, OnOk};
+ghost use Rattle.std.specs.Bool.{OnTrue};
+ghost use Rattle.world.specs.declared.refusal.Refusal.TheVariants.{Memory};
+ghost use Rattle.machine.specs.Arrival.{Finishes};
+ghost use Rattle.machine.specs.Jobs.{MayBegin, Begins, Matches, HaveSlots};
+
+use crate::arrival::Committed;
+use crate::machine::Machine;
+use replay::{Done, Job, Task, Ticket};
+use std::sync::Arc;
+use world::{Message, Packet, Refusal};
+
+impl Machine {
+    // Opens a job of a process on a message. The growths come first.
+    pub(crate) fn begin(&mut self, me: u8, message: Message) -> Result<Job, Refusal>
+        requires { MayBegin self.old me message }
+        ensures ok { IfOk result (λ job. Begins self.old self.new me message job) }
+        ensures err { IfErr result (λ r. (r ≡ Memory) × (self.new ≡ self.old)) }
+    {
+        let place = me as usize - 1;
+        let who = self.who(me, message.sender);
+        let image = Arc::try_clone(&self.images[place])?;
+        let process = self.process(me);
+        let ticket = Ticket {
+            serial: self.started + 1,
+            incarnation: process.incarnation(),
+            rsn: process.length() + 1,
+        };
+        let given = &message;
+        let handed = *given;
+        let job = Job::new(self.alloc, ticket, image, process.state(), handed, who)?;
+        let process = &mut self.processes[place];
+        process.begin(message);
+        self.started += 1;
+        self.calls += 1;
+        Ok(job)
+    }
+
+    /// Whether the task is that of the job that its process has open. All that it takes is
+    /// compared, but not its serial number.
+    pub fn is_open(&self, task: &Task) -> bool
+        ensures matches { IsTrue result ↔ Matches self.now task.now }
+        ensures slots { OnTrue result (HaveSlots self.now task.now) }
+    {
+        let me = task.process();
+        if !self.is_inside(me) {
+            return false;
+        }
+        let process = self.process(me);
+        let message = task.message();
+        let from = message.sender;
+        if process.working() != Some(message)
+            || process.incarnation() != task.incarnation()
+            || process.length() + 1 != task.rsn()
+            || process.state() != task.state()
+            || task.who() != self.who(me, from)
+        {
+            return false;
+        }
+        self.images[me as usize - 1].code() == task.image().code()
+    }
+
+    /// Takes in what a handler left, if it is the result of the open job.
+    pub fn finish(&mut self, done: Done) -> Result<Committed, (Refusal, Done)>
+        requires { self.old.calls ≤ 65536 }
+        ensures step { Finishes self.old self.new done result }
+        ensures calls { OnOk result (self.new.calls ≡ self.old.calls + 1) }
+    {
+        let task = done.task();
+        if !self.is_open(task) {
+            return Err((Refusal::StaleJob, done));
+        }
+        let me = task.process();
+        let message = task.message();
+        let rsn = task.rsn();
+        let number = Packet::Number {
+            receiver: me,
+            sender: message.sender,
+            ssn: message.ssn,
+            rsn,
+            incarnation: task.incarnation(),
+        };
+        let process = &mut self.processes[me as usize - 1];
+        let Ok(key) = process.commit(&done, &mut self.wire, number) else {
+            return Err((Refusal::Memory, done));
+        };
+        self.calls += 1;
+        Ok(Committed { rsn, key })
+    }
+}
