@@ -1,15 +1,15 @@
 -- What handlers of images send
 use Rattle.std.proofs.Common.{◌≡◌, ℕ, List, [], ◌∷◌, ◌++◌, length, Bool, true, false, refl, sym, ap, subst}
 use Rattle.std.specs.Prelude.{Option, Some, None, if◌then◌else◌, ◌==◌}
-use Rattle.std.proofs.lemmas.List.Sums.{fold-append}
 use Rattle.helpers.specs.declared.effects.Sent.{Sent}
 use Rattle.verifier.specs.Typed.{Typed}
 use Rattle.interp.specs.HandlerCall.{Handled}
 use Rattle.world.specs.History.{nth}
-use Rattle.world.specs.Fold.{Folded, unfolded, joined, taken_in, folded, payloads_to, emitted_to, handlers_of}
+use Rattle.world.specs.Fold.{Folded, joined, folded, payloads_to, emitted_to, handlers_of}
 use Rattle.world.specs.declared.entry.Entry.{Entry}
 use Rattle.world.specs.World.{opening}
 use Rattle.world.specs.Legal.{Legal, all_single}
+use Rattle.world.proofs.FoldLemmas.{folded-push}
 use Rattle.theorems.specs.Growth.{Begins, Grows, Starts}
 use Rattle.theorems.specs.Single.{IsSingle}
 use Rattle.theorems.proofs.ListLemmas.{begins-self}
@@ -41,9 +41,8 @@ handlers-grow images p h m d = split (nth images p)
     split : (o : Option Typed) → Begins (emitted_to d (folded n p o h).effects) (emitted_to d (folded n p o (h ++ m ∷ [])).effects)
     split None = begins-self _
     split (Some image) =
-        let after : folded n p (Some image) (h ++ m ∷ []) ≡ taken_in n image p (folded n p (Some image) h) m = fold-append (taken_in n image p) (unfolded image.len) h (m ∷ []) in
         let P : Folded → Type 0 = λ f. Begins (emitted_to d (folded n p (Some image) h).effects) (emitted_to d f.effects) in
-        subst P (sym after) (joined-grows (folded n p (Some image) h) _ d)
+        subst P (sym (folded-push n p image h m)) (joined-grows (folded n p (Some image) h) _ d)
 
 pub handlers-start : (images : List Typed) → Starts (handlers_of images)
 handlers-start images p d = split (nth images p)

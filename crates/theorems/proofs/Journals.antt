@@ -6,6 +6,7 @@ use Rattle.world.specs.Bounds.{LIMIT}
 use Rattle.world.specs.Calls.{after}
 use Rattle.world.specs.Legal.{LegalFrom, Legal, world_after, world_of, is_single, all_single}
 use Rattle.world.specs.declared.entry.Entry.{Entry}
+use Rattle.world.proofs.Runs.{world_after-append}
 use Rattle.theorems.specs.Growth.{Grows}
 use Rattle.theorems.specs.Invariants.Sound.{Sound}
 use Rattle.theorems.specs.Invariants.Exact.{Exact}
@@ -71,10 +72,6 @@ always-exact n f es i = (preserves-along 0 (opening n f) es i.legal i.single (op
 pub sound-single : (n : ℕ) (f : Handlers) (es : List Entry) → IsSingle n f es → Sound (world_of n f es)
 sound-single n f es i = always-sound n f es i.grows i.legal
 
-after-append : (w : World) (es more : List Entry) → world_after w (es ++ more) ≡ world_after (world_after w es) more
-after-append w [] more = refl
-after-append w (e ∷ es) more = after-append (after w e.call e.answer) es more
-
 pub legal-append : (k : ℕ) (w : World) (es more : List Entry) → LegalFrom k w (es ++ more) → LegalFrom k w es × ((j : ℕ) × LegalFrom j (world_after w es) more)
 legal-append k w [] more l = (tt, (k, l))
 legal-append k w (e ∷ es) more l = let r = legal-append (suc k) (after w e.call e.answer) es more l.2 in ((l.0, l.1, r.0), r.1)
@@ -100,4 +97,4 @@ secured-always n f es more i =
     let before : IsSingle n f es = single-before n f es more i in
     let g : Preserves (world_of n f es) (world_after (world_of n f es) more) = preserves-along l.1.0 (world_of n f es) more l.1.1 o.1 (sound-single n f es before) (always-exact n f es before) in
     let P : World → Type 0 = λ w. Carries (world_of n f es) w in
-    subst P (sym (after-append (opening n f) es more)) g.carries
+    subst P (sym (world_after-append (opening n f) es more)) g.carries

@@ -8,13 +8,8 @@ use Rattle.world.specs.Handlers.{Handlers}
 use Rattle.world.specs.World.{opening}
 use Rattle.world.specs.Logs.{length_of}
 use Rattle.world.specs.Legal.{Legal, world_of, all_single}
-use Rattle.world.specs.Worked.{by_nobody}
+use Rattle.world.specs.Worked.{by_nobody, texts}
 use Rattle.theorems.specs.Orphans.{NoOrphan}
-
--- the payloads of a list
-abbrev pub texts : List Message → List (List ℕ)
-texts [] = []
-texts (m ∷ ms) = m.payload ∷ texts ms
 
 -- process 1 sends to process 2 what it receives, and process 2 puts it out
 abbrev pub passing : (ℕ → List Message → List ℕ) → Handlers

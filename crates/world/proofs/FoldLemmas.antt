@@ -9,7 +9,7 @@ use Rattle.world.specs.declared.message.Message.{Message}
 use Rattle.world.specs.History.{nth}
 use Rattle.world.specs.Fold.{Folded, joined, taken_in, folded, unfolded, handlers_of}
 
-folded-push : (n p : ℕ) (image : Typed) (h : List Message) (m : Message) → folded n p (Some image) (h ++ m ∷ []) ≡ taken_in n image p (folded n p (Some image) h) m
+pub folded-push : (n p : ℕ) (image : Typed) (h : List Message) (m : Message) → folded n p (Some image) (h ++ m ∷ []) ≡ taken_in n image p (folded n p (Some image) h) m
 folded-push n p image h m = fold-append (taken_in n image p) (unfolded image.len) h (m ∷ [])
 
 -- the state is the one that the handler leaves

@@ -16,9 +16,12 @@ use Rattle.world.specs.Calls.{after, arrive, finish}
 use Rattle.world.specs.Useful.{may_call}
 use Rattle.world.specs.Legal.{WStep, LegalFrom, Legal, world_after, world_of}
 
+pub world_after-append : (w : World) (es more : List Entry) → world_after w (es ++ more) ≡ world_after (world_after w es) more
+world_after-append w [] more = refl
+world_after-append w (e ∷ es) more = world_after-append (after w e.call e.answer) es more
+
 pub world_after-push : (w : World) (es : List Entry) (e : Entry) → world_after w (es ++ e ∷ []) ≡ after (world_after w es) e.call e.answer
-world_after-push w [] e = refl
-world_after-push w (x ∷ es) e = world_after-push (after w x.call x.answer) es e
+world_after-push w es e = world_after-append w es (e ∷ [])
 
 LegalFrom-push : (k : ℕ) (w : World) (es : List Entry) (e : Entry) → LegalFrom k w es → may_call (world_after w es) e.worker e.call ≡ true
     → WStep (LIMIT - (k + length es)) (world_after w es) e.call e.answer (after (world_after w es) e.call e.answer) → LegalFrom k w (es ++ e ∷ [])

@@ -12,4 +12,3 @@ pub mod Refusals
 pub mod Useful
 pub mod Legal
 pub mod Worked
-pub mod Recorded

@@ -1,7 +1,7 @@
 -- Why a call is refused. Where several causes hold, the least number is told
 use Rattle.std.specs.Prelude.{ℕ, suc, ◌+◌, ◌-◌, List, [], ◌∷◌, Option, Some, None, Bool, true, false, not, ◌&&◌, ◌||◌, ◌==◌, nat_lt, if◌then◌else◌}
 use Rattle.world.specs.declared.packet.Packet.{Packet}
-use Rattle.world.specs.declared.packet.Packet.TheVariants.{Delivery, Number}
+use Rattle.world.specs.declared.packet.Packet.TheVariants.{Delivery}
 use Rattle.world.specs.declared.call.Call.{Call}
 use Rattle.world.specs.declared.call.Call.TheVariants.{Input, Transmit, Copy, Lose, Arrive, Finish, Checkpoint, Trim, Crash, Recover, RecoverAlone, ReplayBegin, Resync as ResyncWith}
 use Rattle.world.specs.declared.refusal.Refusal.{Refusal}
@@ -49,11 +49,6 @@ abbrev pub starts : World → Option Packet → Bool
 starts w (Some (Delivery d m)) = nat_lt 0 d && is_up (w.phase d) && is_next (judge w d m)
 starts w packet = false
 
--- the present rule: a number rests on the wire, and can't be taken from it until senders record numbers and acknowledge them
-abbrev pub rests : Option Packet → Bool
-rests (Some (Number r s i k incarnation)) = true
-rests packet = false
-
 abbrev pub one_if : Bool → ℕ
 one_if true = 1
 one_if false = 0
@@ -72,8 +67,7 @@ causes w room (Transmit p d i) =
 causes w room (Copy key) = (is_none (w.wire key), 4) ∷ (journal_full room (open_jobs w), 12) ∷ (wire_full w, 13) ∷ []
 causes w room (Lose key) = (is_none (w.wire key), 4) ∷ (journal_full room (open_jobs w), 12) ∷ []
 causes w room (Arrive key) =
-    (is_to_busy w (w.wire key), 3) ∷ (is_none (w.wire key) || rests (w.wire key), 4)
-    ∷ (journal_full room (open_jobs w + one_if (starts w (w.wire key))), 12) ∷ []
+    (is_to_busy w (w.wire key), 3) ∷ (is_none (w.wire key), 4) ∷ (journal_full room (open_jobs w + one_if (starts w (w.wire key))), 12) ∷ []
 causes w room (Finish p) = (not (is_inside w p && is_working (w.phase p)), 9) ∷ []
 causes w room (Checkpoint p) =
     (not (is_inside w p), 1) ∷ (not (is_up (w.phase p)), 2) ∷ (is_busy (w.phase p), 3) ∷ (journal_full room (open_jobs w), 12) ∷ []

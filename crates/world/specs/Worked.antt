@@ -1,11 +1,11 @@
 -- Lists of calls worked out by hand
-use Rattle.std.specs.Prelude.{◌≡◌, ℕ, ◌-◌, List, [], ◌∷◌, ◌++◌, Some, true, false, take}
+use Rattle.std.specs.Prelude.{◌≡◌, ℕ, ◌-◌, List, [], ◌∷◌, ◌++◌, Some, None, true, false, take, if◌then◌else◌, ◌==◌}
 use Rattle.world.specs.declared.message.Message.{Message}
 use Rattle.world.specs.declared.packet.Packet.TheVariants.{Number}
 use Rattle.world.specs.declared.call.Call.{Call}
-use Rattle.world.specs.declared.call.Call.TheVariants.{Input, Transmit, Arrive, Finish, Checkpoint, Trim, Crash, Recover, RecoverAlone, Resync as ResyncWith}
+use Rattle.world.specs.declared.call.Call.TheVariants.{Input, Transmit, Copy, Lose, Arrive, Finish, Checkpoint, Trim, Crash, Recover, RecoverAlone, ReplayBegin, Resync as ResyncWith}
 use Rattle.world.specs.declared.answer.Answer.{Answer}
-use Rattle.world.specs.declared.answer.Answer.TheVariants.{Logged, Placed, Started, Committed, Saved, Trimmed, Crashed, Kept, Restored}
+use Rattle.world.specs.declared.answer.Answer.TheVariants.{Logged, Placed, Lost, Started, Numbered, Acknowledged, Stale, Committed, Replayed, Saved, Trimmed, Crashed, Kept, Restored}
 use Rattle.world.specs.declared.entry.Entry.{Entry}
 use Rattle.world.specs.Handlers.{Handlers}
 use Rattle.world.specs.Phases.{Up}
@@ -105,3 +105,182 @@ SavedMessageIsKept =
     × ((world_of 1 (silent g) (saved_message x)).phase 1 ≡ Up)
     × (length_of (world_of 1 (silent g) (saved_message x)) 1 ≡ 1)
     × (state_of (world_of 1 (silent g) (saved_message x)) 1 ≡ g 1 (first_input x ∷ []))
+
+-- a message is received, and its number recorded and acknowledged
+abbrev pub acknowledged_message : List ℕ → List Entry
+acknowledged_message x =
+    one_message x
+    ++ by_nobody (Arrive 0) (Numbered 0)
+    ∷ by_nobody (Arrive 0) Acknowledged
+    ∷ []
+
+-- its process crashes, and replays it
+abbrev pub replayed_message : List ℕ → List Entry
+replayed_message x =
+    acknowledged_message x
+    ++ by_nobody (Crash 1) (Crashed 2)
+    ∷ by_nobody (Recover 1) (Kept 1)
+    ∷ by_nobody (ReplayBegin 1) (Started 2)
+    ∷ by_nobody (Finish 1) (Replayed 1)
+    ∷ []
+
+-- the list is legal, and the process has the state that follows the message
+abbrev pub ReplayedMessageIsKept : Type 0
+ReplayedMessageIsKept =
+    (g : ℕ → List Message → List ℕ) (x : List ℕ) →
+    Legal 1 (silent g) (replayed_message x)
+    × ((world_of 1 (silent g) (replayed_message x)).phase 1 ≡ Up)
+    × (state_of (world_of 1 (silent g) (replayed_message x)) 1 ≡ g 1 (first_input x ∷ []))
+    × (all_single (opening 1 (silent g)) (replayed_message x) ≡ true)
+
+-- the payloads of a list
+abbrev pub texts : List Message → List (List ℕ)
+texts [] = []
+texts (m ∷ ms) = m.payload ∷ texts ms
+
+-- process 1 sends to process 2 what it receives
+abbrev pub relaying : (ℕ → List Message → List ℕ) → Handlers
+relaying g = record { state = g; sends = λ p h d. if p == 1 then (if d == 2 then texts h else []) else [] }
+
+-- a message is relayed and received; the relay crashes and asks the receiver for its numbers; then the receiver crashes
+abbrev pub relayed_message : List ℕ → List Entry
+relayed_message x =
+    acknowledged_message x
+    ++ by_nobody (Transmit 1 2 1) (Placed 0)
+    ∷ by_nobody (Arrive 0) (Started 2)
+    ∷ by_nobody (Finish 2) (Committed 1 0)
+    ∷ by_nobody (Arrive 0) (Numbered 0)
+    ∷ by_nobody (Arrive 0) Acknowledged
+    ∷ by_nobody (Crash 1) (Crashed 2)
+    ∷ by_nobody (Recover 1) (Kept 1)
+    ∷ by_nobody (ReplayBegin 1) (Started 3)
+    ∷ by_nobody (Finish 1) (Replayed 1)
+    ∷ by_nobody (ResyncWith 1 2) (Restored 1)
+    ∷ by_nobody (Crash 2) (Crashed 2)
+    ∷ by_nobody (Recover 2) (Kept 1)
+    ∷ by_nobody (ReplayBegin 2) (Started 4)
+    ∷ by_nobody (Finish 2) (Replayed 1)
+    ∷ by_nobody (ResyncWith 2 1) (Restored 0)
+    ∷ []
+
+-- the list is legal, both are up, and the receiver has its message from the restored log
+abbrev pub RelayedMessageIsKept : Type 0
+RelayedMessageIsKept =
+    (g : ℕ → List Message → List ℕ) (x : List ℕ) →
+    Legal 2 (relaying g) (relayed_message x)
+    × ((world_of 2 (relaying g) (relayed_message x)).phase 1 ≡ Up)
+    × ((world_of 2 (relaying g) (relayed_message x)).phase 2 ≡ Up)
+    × (state_of (world_of 2 (relaying g) (relayed_message x)) 2 ≡ g 2 (record { sender = 1; ssn = 1; payload = x } ∷ []))
+    × (all_single (opening 2 (relaying g)) (relayed_message x) ≡ true)
+
+-- of three messages that a relay receives the second is acknowledged, and then the first
+abbrev pub out_of_order : List ℕ → List Entry
+out_of_order x =
+    one_message x
+    ++ by_nobody (Input 1 2 x) (Logged 2)
+    ∷ by_nobody (Transmit 0 1 2) (Placed 1)
+    ∷ by_nobody (Arrive 1) (Started 2)
+    ∷ by_nobody (Finish 1) (Committed 2 1)
+    ∷ by_nobody (Input 1 3 x) (Logged 3)
+    ∷ by_nobody (Transmit 0 1 3) (Placed 2)
+    ∷ by_nobody (Arrive 2) (Started 3)
+    ∷ by_nobody (Finish 1) (Committed 3 2)
+    ∷ by_nobody (Arrive 1) (Numbered 1)
+    ∷ by_nobody (Arrive 1) Acknowledged
+    ∷ by_nobody (Arrive 0) (Numbered 0)
+    ∷ by_nobody (Arrive 0) Acknowledged
+    ∷ []
+
+-- the list is legal; as long as the first isn't acknowledged nothing is released, and then what the first two sent is: what the third
+-- sent can't leave
+abbrev pub FirstRunIsReleased : Type 0
+FirstRunIsReleased =
+    (g : ℕ → List Message → List ℕ) (x : List ℕ) →
+    Legal 2 (relaying g) (out_of_order x)
+    × ((world_of 2 (relaying g) (take 14 (out_of_order x))).released 1 2 ≡ 0)
+    × ((world_of 2 (relaying g) (out_of_order x)).released 1 2 ≡ 2)
+    × (refusal_of (world_of 2 (relaying g) (out_of_order x)) (LIMIT - 16) (Transmit 1 2 3) ≡ Some 6)
+
+-- a copy of a number arrives after its receiver crashed and came back
+abbrev pub old_number : List ℕ → List Entry
+old_number x =
+    one_message x
+    ++ by_nobody (Copy 0) (Placed 1)
+    ∷ by_nobody (Arrive 0) (Numbered 0)
+    ∷ by_nobody (Arrive 0) Acknowledged
+    ∷ by_nobody (Crash 1) (Crashed 2)
+    ∷ by_nobody (Recover 1) (Kept 1)
+    ∷ by_nobody (ReplayBegin 1) (Started 2)
+    ∷ by_nobody (Finish 1) (Replayed 1)
+    ∷ by_nobody (Arrive 1) Stale
+    ∷ []
+
+-- the list is legal, and the number means nothing any more
+abbrev pub OldNumberIsStale : Type 0
+OldNumberIsStale =
+    (g : ℕ → List Message → List ℕ) (x : List ℕ) →
+    Legal 1 (silent g) (old_number x)
+    × (length_of (world_of 1 (silent g) (old_number x)) 1 ≡ 1)
+    × ((world_of 1 (silent g) (old_number x)).wire 1 ≡ None)
+
+-- a copy of an acknowledgement arrives after its receiver crashed, came back and received one more message
+abbrev pub old_acknowledgement : List ℕ → List Entry
+old_acknowledgement x =
+    one_message x
+    ++ by_nobody (Arrive 0) (Numbered 0)
+    ∷ by_nobody (Copy 0) (Placed 1)
+    ∷ by_nobody (Arrive 0) Acknowledged
+    ∷ by_nobody (Crash 1) (Crashed 2)
+    ∷ by_nobody (Recover 1) (Kept 1)
+    ∷ by_nobody (ReplayBegin 1) (Started 2)
+    ∷ by_nobody (Finish 1) (Replayed 1)
+    ∷ by_nobody (Input 1 2 x) (Logged 2)
+    ∷ by_nobody (Transmit 0 1 2) (Placed 0)
+    ∷ by_nobody (Arrive 0) (Started 3)
+    ∷ by_nobody (Finish 1) (Committed 2 0)
+    ∷ by_nobody (Arrive 1) Stale
+    ∷ []
+
+-- the list is legal, and the second message is not acknowledged
+abbrev pub OldAcknowledgementIsStale : Type 0
+OldAcknowledgementIsStale =
+    (g : ℕ → List Message → List ℕ) (x : List ℕ) →
+    Legal 1 (silent g) (old_acknowledgement x)
+    × (length_of (world_of 1 (silent g) (old_acknowledgement x)) 1 ≡ 2)
+    × ((world_of 1 (silent g) (old_acknowledgement x)).acknowledged 1 1 ≡ true)
+    × ((world_of 1 (silent g) (old_acknowledgement x)).acknowledged 1 2 ≡ false)
+
+-- of three messages, from the outside, from a relay and from the outside, the number of the second is lost when the process crashes
+abbrev pub lost_number : List ℕ → List Entry
+lost_number x =
+    acknowledged_message x
+    ++ by_nobody (Input 2 2 x) (Logged 1)
+    ∷ by_nobody (Transmit 0 2 1) (Placed 0)
+    ∷ by_nobody (Arrive 0) (Started 2)
+    ∷ by_nobody (Finish 2) (Committed 1 0)
+    ∷ by_nobody (Arrive 0) (Numbered 0)
+    ∷ by_nobody (Transmit 1 2 1) (Placed 1)
+    ∷ by_nobody (Arrive 1) (Started 3)
+    ∷ by_nobody (Finish 2) (Committed 2 1)
+    ∷ by_nobody (Lose 1) Lost
+    ∷ by_nobody (Input 2 3 x) (Logged 2)
+    ∷ by_nobody (Transmit 0 2 2) (Placed 1)
+    ∷ by_nobody (Arrive 1) (Started 4)
+    ∷ by_nobody (Finish 2) (Committed 3 1)
+    ∷ by_nobody (Arrive 1) (Numbered 1)
+    ∷ by_nobody (Crash 2) (Crashed 2)
+    ∷ by_nobody (Recover 2) (Kept 1)
+    ∷ by_nobody (ReplayBegin 2) (Started 5)
+    ∷ by_nobody (Finish 2) (Replayed 1)
+    ∷ by_nobody (ResyncWith 2 1) (Restored 0)
+    ∷ []
+
+-- the list is legal; the process has the state that follows the first message, and the third, the next of its sender, has no number any more
+abbrev pub LostNumberEndsTheRun : Type 0
+LostNumberEndsTheRun =
+    (g : ℕ → List Message → List ℕ) (x : List ℕ) →
+    Legal 2 (relaying g) (lost_number x)
+    × ((world_of 2 (relaying g) (lost_number x)).phase 2 ≡ Up)
+    × (state_of (world_of 2 (relaying g) (lost_number x)) 2 ≡ g 2 (first_input x ∷ []))
+    × ((world_of 2 (relaying g) (lost_number x)).numbers 0 2 1 ≡ Some 1)
+    × ((world_of 2 (relaying g) (lost_number x)).numbers 0 2 2 ≡ None)

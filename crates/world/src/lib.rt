@@ -21,7 +21,6 @@ mod entry;
 mod message;
 mod packet;
 mod phase;
-mod recorded;
 mod refusal;
 mod rows;
 
@@ -31,11 +30,10 @@ pub use entry::Entry;
 pub use message::{Feed, Message};
 pub use packet::Packet;
 pub use phase::PhaseName;
-pub use recorded::{
-    first_run_is_released, lost_number_ends_the_run, old_acknowledgement_is_stale,
-    old_number_is_stale, relayed_message_is_kept, replayed_message_is_kept,
-};
 pub use refusal::Refusal;
 pub use rows::{
-    lost_job_is_legal, one_message_is_legal, saved_message_is_kept, two_crashes_are_legal,
+    first_run_is_released, lost_job_is_legal, lost_number_ends_the_run,
+    old_acknowledgement_is_stale, old_number_is_stale, one_message_is_legal,
+    relayed_message_is_kept, replayed_message_is_kept, saved_message_is_kept,
+    two_crashes_are_legal,
 };

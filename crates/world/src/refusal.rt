@@ -43,7 +43,7 @@ pub enum Refusal {
 }
 
 impl Refusal {
-    /// The number that scenarios and reports give it, 1 to 15.
+    /// Its number, 1 to 15: the table "Refusals of a session" of docs/FORMATS.md.
     pub fn number(self) -> u8
         ensures { result ≡ number_of self }
     {

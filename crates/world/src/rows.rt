@@ -1,6 +1,6 @@
 //! Worked lists of calls, checked by computation alone.
 
-ghost use Rattle.world.specs.Worked.{LostJobIsLegal, OneMessageIsLegal, SavedMessageIsKept, TwoCrashesAreLegal};
+ghost use Rattle.world.specs.Worked.{FirstRunIsReleased, LostJobIsLegal, LostNumberEndsTheRun, OldAcknowledgementIsStale, OldNumberIsStale, OneMessageIsLegal, RelayedMessageIsKept, ReplayedMessageIsKept, SavedMessageIsKept, TwoCrashesAreLegal};
 
 /// One message from its feed to the committed state, as a journal, is legal.
 pub fn one_message_is_legal()
@@ -20,4 +20,36 @@ pub fn lost_job_is_legal()
 /// A message that a checkpoint covers outlives a crash, though its sender has dropped it.
 pub fn saved_message_is_kept()
     ensures { SavedMessageIsKept }
+{}
+
+/// A message whose number is acknowledged outlives a crash, and is replayed.
+pub fn replayed_message_is_kept()
+    ensures { ReplayedMessageIsKept }
+{}
+
+/// A process that restored its numbers from a receiver can give them back when the receiver
+/// crashes.
+pub fn relayed_message_is_kept()
+    ensures { RelayedMessageIsKept }
+{}
+
+/// What a message led to is released when it and all before it are acknowledged, and waits for no
+/// later one.
+pub fn first_run_is_released()
+    ensures { FirstRunIsReleased }
+{}
+
+/// A number of an earlier incarnation means nothing any more.
+pub fn old_number_is_stale()
+    ensures { OldNumberIsStale }
+{}
+
+/// Nor does an acknowledgement of one, though a message with its number was received since.
+pub fn old_acknowledgement_is_stale()
+    ensures { OldAcknowledgementIsStale }
+{}
+
+/// A recovery ends before the first number that no log holds.
+pub fn lost_number_ends_the_run()
+    ensures { LostNumberEndsTheRun }
 {}
