@@ -1,0 +1,42 @@
+-- Open jobs, as the fields tell them
+use Rattle.std.specs.Prelude.{◌≡◌, ◌≢◌, ◌<◌, ◌≤◌, ℕ, ◌+◌, ◌-◌, length, Some, slice_index_or, slice_set}
+use Rattle.verifier.specs.Typed.{Typed}
+use Rattle.replay.specs.Task.{TheTask}
+use Rattle.world.specs.declared.message.Message.{Message}
+use Rattle.machine.specs.Process.{TheProcess, received}
+use Rattle.machine.specs.Simulation.{TheMachine, process_at}
+
+-- a message of another for a process
+pub record MayBegin (m : TheMachine) (me : ℕ) (message : Message) : Type 0 where
+  pub inside : 0 < me
+  pub within : me ≤ length m.processes
+  pub from : message.sender ≤ length m.processes
+  pub other : message.sender ≢ me
+  pub calls : m.calls < 65536
+
+-- the process works on the message, and the job has all that its handler takes
+pub record Begins (old new : TheMachine) (me : ℕ) (message : Message) (task : TheTask) : Type 0 where
+  pub becomes : new ≡ record old { processes = slice_set old.processes (me - 1) (record (process_at old me) { working = Some message }); started = old.started + 1; calls = old.calls + 1 }
+  pub serial : task.serial ≡ old.started + 1
+  pub incarnation : task.incarnation ≡ (process_at old me).incarnation
+  pub rsn : task.rsn ≡ received (process_at old me) + 1
+  pub image : (e : Typed) → task.image ≡ slice_index_or old.images (me - 1) e
+  pub state : task.state ≡ (process_at old me).state
+  pub message_is : task.message ≡ message
+  pub who : task.who ≡ record { me = me; from = message.sender; count = length old.processes }
+
+-- the task is that of the job that its process has open
+pub record Matches (m : TheMachine) (t : TheTask) : Type 0 where
+  pub inside : 0 < t.who.me
+  pub within : t.who.me ≤ length m.processes
+  pub message : (process_at m t.who.me).working ≡ Some t.message
+  pub incarnation : (process_at m t.who.me).incarnation ≡ t.incarnation
+  pub rsn : received (process_at m t.who.me) + 1 ≡ t.rsn
+  pub state : (process_at m t.who.me).state ≡ t.state
+  pub from : t.who.from ≡ t.message.sender
+  pub count : t.who.count ≡ length m.processes
+  pub code : (e : Typed) → (slice_index_or m.images (t.who.me - 1) e).code ≡ t.image.code
+
+-- the task's code stands in the slots of its process's image
+abbrev pub HaveSlots : TheMachine → TheTask → Type 0
+HaveSlots m t = (e : Typed) → (slice_index_or m.images (t.who.me - 1) e).slots ≡ t.image.slots
