@@ -65,6 +65,7 @@ fn open(alloc: Global, file: &[u8], state: &[u8]) -> Result<Image, Refusal>
 
 /// Calls the handler by the message that the array holds, and writes its report from a place on.
 /// Answers the place behind it. What an earlier call emitted is forgotten.
+#[inline(always)]
 fn call_once(
     image: &Image,
     mem: &mut [u8; 1792],
@@ -86,12 +87,13 @@ fn call_once(
 }
 
 /// The 64 bytes of a message from a place on.
-fn message_at(messages: &[u8], at: usize) -> [u8; 64]
+fn message_at(messages: &[u8], at: usize) -> &[u8; 64]
     requires { at + 64 ≤ length messages.now }
-    ensures { result ≡ slice_range messages.now at (at + 64) }
+    ensures { result.now ≡ slice_range messages.now at (at + 64) }
 {
-    let mut message = [0u8; 64];
-    message.copy_from_slice(&messages[at..at + 64]);
+    let Some(message) = messages[at..at + 64].first_chunk() else {
+        unreachable!()
+    };
     message
 }
 
@@ -110,7 +112,7 @@ fn call_each(image: &Image, state: &mut [u8], messages: &[u8], who: Who, out: &m
     let mut end = 0;
     'calls: for i in 0..messages.len() / MESSAGE {
         let message = message_at(messages, MESSAGE * i);
-        refill(image, &mut mem, &message);
+        refill(image, &mut mem, message);
         end = call_once(image, &mut mem, who, &mut effects, out, end);
     }
     take(&mem, state);
@@ -142,7 +144,7 @@ pub fn call(
     let _len = image.state_len();
     let message = message_at(message, 0);
     let mut mem = [0; 1792];
-    fill(&image, &mut mem, &message, state);
+    fill(&image, &mut mem, message, state);
     let mut effects = Effects::new();
     call_once(&image, &mut mem, who, &mut effects, out, 0);
     take(&mem, state);
