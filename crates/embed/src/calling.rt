@@ -2,13 +2,16 @@
 
 ghost use Rattle.std.specs.Prelude.{◌≡◌, ◌≤◌, ◌<◌, ◌+◌, ◌*◌, ◌/◌, ◌%◌, ◌↔◌, ◌⊎◌, IsTrue, IfOk, IfErr, MatchResult, OnErr, length, slice_range};
 ghost use Rattle.decode.specs.Slots.{slots_of};
+ghost use Rattle.regtypes.specs.declared.frame.Region.TheVariants as region;
 ghost use Rattle.verifier.specs.ImageFile.{IsRefusal};
+ghost use Rattle.interp.specs.Flat.{part, Holds, entry_in, IsSpent};
 ghost use Rattle.embed.specs.Calls.{IsTypableFile, IsSeat, IsReported, AreReported};
 ghost use Rattle.embed.specs.Exports.{IsChecked, IsUnchecked, IsTypable, IsFileRefusal, IsStateRefusal, IsCalled, IsCallRefusal, AreCalled, AreCallsRefused};
 
 use crate::refusal::{Refusal, refused_rule, refused_slot};
 use crate::report::{FAULT_SIZE, REPORT_LIMIT, put_fault, put_report};
 use helpers::{Effects, Who};
+use interp::{call_flat, fill, refill, take};
 use std::alloc::Global;
 use verifier::{Image, load};
 
@@ -60,49 +63,59 @@ fn open(alloc: Global, file: &[u8], state: &[u8]) -> Result<Image, Refusal>
     Ok(image)
 }
 
-/// Calls the handler by one message, and writes its report from a place on. Answers the place
-/// behind it. What an earlier call emitted is forgotten.
+/// Calls the handler by the message that the array holds, and writes its report from a place on.
+/// Answers the place behind it. What an earlier call emitted is forgotten.
+#[inline(always)]
 fn call_once(
     image: &Image,
-    state: &mut [u8],
-    message: &[u8; 64],
+    mem: &mut [u8; 1792],
     who: Who,
     effects: &mut Effects,
     out: &mut [u8],
     at: usize,
 ) -> usize
-    requires state { length state.old ≡ image.now.len }
+    requires holds { Holds image.now.len (entry_in image.now.len mem.old) mem.old }
     requires room { at + REPORT_LIMIT ≤ length out.old }
-    ensures { IsReported image.now.slots who state.old message.now state.new out.old at out.new result }
+    ensures reported { IsReported image.now.slots who
+        (part image.now.len region.State mem.old) (part image.now.len region.Message mem.old)
+        (part image.now.len region.State mem.new) out.old at out.new result }
+    ensures spent { IsSpent image.now.len image.now.low mem.new }
 {
     effects.clear();
-    let end = interp::call(image, state, message, who, effects);
+    let end = call_flat(image, mem, who, effects);
     put_report(out, at, end, effects)
 }
 
 /// The 64 bytes of a message from a place on.
-fn message_at(messages: &[u8], at: usize) -> [u8; 64]
+fn message_at(messages: &[u8], at: usize) -> &[u8; 64]
     requires { at + 64 ≤ length messages.now }
-    ensures { result ≡ slice_range messages.now at (at + 64) }
+    ensures { result.now ≡ slice_range messages.now at (at + 64) }
 {
-    let mut message = [0u8; 64];
-    message.copy_from_slice(&messages[at..at + 64]);
+    let Some(message) = messages[at..at + 64].first_chunk() else {
+        unreachable!()
+    };
     message
 }
 
-/// Calls the handler by one message after another, and writes the reports from the front on.
+/// Calls the handler by one message after another, and writes the reports from the front on. The
+/// state stays in one array for all calls.
 fn call_each(image: &Image, state: &mut [u8], messages: &[u8], who: Who, out: &mut [u8])
     requires state { length state.old ≡ image.now.len }
     requires whole { length messages.now % 64 ≡ 0 }
     requires room { 1064 * (length messages.now / 64) ≤ length out.old }
     ensures { AreReported image.now.slots who state.old messages.now state.new out.old out.new }
 {
+    let _len = image.state_len();
+    let mut mem = [0; 1792];
+    fill(image, &mut mem, &[0; 64], state);
     let mut effects = Effects::new();
     let mut end = 0;
     'calls: for i in 0..messages.len() / MESSAGE {
         let message = message_at(messages, MESSAGE * i);
-        end = call_once(image, state, &message, who, &mut effects, out, end);
+        refill(image, &mut mem, message);
+        end = call_once(image, &mut mem, who, &mut effects, out, end);
     }
+    take(&mem, state);
 }
 
 /// Loads a file and calls its handler by one message. The report is written into `out`.
@@ -128,9 +141,13 @@ pub fn call(
         return Err(Refusal::Room);
     }
     let image = open(alloc, file, state)?;
-    let mut effects = Effects::new();
+    let _len = image.state_len();
     let message = message_at(message, 0);
-    call_once(&image, state, &message, who, &mut effects, out, 0);
+    let mut mem = [0; 1792];
+    fill(&image, &mut mem, message, state);
+    let mut effects = Effects::new();
+    call_once(&image, &mut mem, who, &mut effects, out, 0);
+    take(&mem, state);
     Ok(())
 }
 

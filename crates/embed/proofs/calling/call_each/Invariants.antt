@@ -1,5 +1,7 @@
+use Rattle.regtypes.specs.declared.frame.Region.TheVariants.{State}
+use Rattle.interp.specs.Flat.{part, IsSpent}
 use Rattle.embed.proofs.Calls.{Reported}
 use Rattle.embed.proofs.calling.call_each.Given as goal
 
 abbrev pub invariant-calls : goal.invariant-calls
-invariant-calls l = Reported l.image.slots l.who l.fn.state l.messages l.fn.out l.i l.state l.out l.end
+invariant-calls l = record { reported : Reported l.image.slots l.who l.fn.state l.messages l.fn.out l.i (part l.image.len State l.mem) l.out l.end; spent : IsSpent l.image.len l.image.low l.mem }

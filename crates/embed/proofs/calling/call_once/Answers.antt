@@ -1,0 +1,20 @@
+use Rattle.std.proofs.Common.{refl}
+use Rattle.regtypes.specs.declared.frame.Region.TheVariants.{Message, State}
+use Rattle.interp.specs.Flat.{part}
+use Rattle.interp.proofs.FlatCalls.{handled_in}
+use Rattle.embed.proofs.calling.call_once.Goals as goal
+
+pub returns-clause-reported : goal.returns-clause-reported
+returns-clause-reported c =
+    let p = c.args.image.now in
+    let mem = c.args.mem.now in
+    let end = c.call_flat-end in
+    let written = c.put_report.ensures in
+    record {
+      handled = record { state = part p.len State end.new.mem; effects = end.new.out; r0 = end.result.r0; steps = end.result.steps };
+      handles = handled_in p.slots c.args.who p.len (part p.len State mem) (part p.len Message mem) mem end.new.mem end.new.out end.result.r0 end.result.steps (record { state_is = refl; message_is = refl; holds = c.requires.holds }) end.ensures.handled;
+      state_is = refl;
+      out_is = written.written;
+      end_is = written.end;
+      size = written.size;
+    }
