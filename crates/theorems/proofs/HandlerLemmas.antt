@@ -1,7 +1,6 @@
 -- What handlers of images send
-use Rattle.std.proofs.Common.{◌≡◌, ℕ, List, [], ◌∷◌, ◌++◌, length, Bool, true, false, refl, sym, ap, subst}
+use Rattle.std.proofs.Common.{◌≡◌, ℕ, List, [], ◌∷◌, ◌++◌, length, Bool, true, false, refl, sym, subst}
 use Rattle.std.specs.Prelude.{Option, Some, None, if◌then◌else◌, ◌==◌}
-use Rattle.helpers.specs.declared.effects.Sent.{Sent}
 use Rattle.verifier.specs.Typed.{Typed}
 use Rattle.interp.specs.HandlerCall.{Handled}
 use Rattle.world.specs.History.{nth}
@@ -9,28 +8,15 @@ use Rattle.world.specs.Fold.{Folded, joined, folded, payloads_to, emitted_to, ha
 use Rattle.world.specs.declared.entry.Entry.{Entry}
 use Rattle.world.specs.World.{opening}
 use Rattle.world.specs.Legal.{Legal, all_single}
-use Rattle.world.proofs.FoldLemmas.{folded-push}
+use Rattle.world.proofs.FoldLemmas.{folded-push, emitted_to-joined}
 use Rattle.theorems.specs.Growth.{Begins, Grows, Starts}
 use Rattle.theorems.specs.Single.{IsSingle}
 use Rattle.theorems.proofs.ListLemmas.{begins-self}
 
-payloads_to-append : (d : ℕ) (xs ys : List Sent) → payloads_to d (xs ++ ys) ≡ payloads_to d xs ++ payloads_to d ys
-payloads_to-append d [] ys = refl
-payloads_to-append d (x ∷ xs) ys = split (x.dst == d) (payloads_to-append d xs ys)
-  where
-    split : (b : Bool) → payloads_to d (xs ++ ys) ≡ payloads_to d xs ++ payloads_to d ys
-        → (if b then x.payload ∷ payloads_to d (xs ++ ys) else payloads_to d (xs ++ ys)) ≡ (if b then x.payload ∷ payloads_to d xs else payloads_to d xs) ++ payloads_to d ys
-    split true e = ap (λ zs. x.payload ∷ zs) e
-    split false e = e
-
 -- one handler call more
 joined-grows : (f : Folded) (o : Option Handled) (d : ℕ) → Begins (emitted_to d f.effects) (emitted_to d (joined f o).effects)
 joined-grows f None d = begins-self _
-joined-grows f (Some h) d = split (d == 0)
-  where
-    split : (b : Bool) → Begins (if b then f.effects.outputs else payloads_to d f.effects.sends) (if b then f.effects.outputs ++ h.effects.outputs else payloads_to d (f.effects.sends ++ h.effects.sends))
-    split true = (h.effects.outputs, refl)
-    split false = (payloads_to d h.effects.sends, sym (payloads_to-append d f.effects.sends h.effects.sends))
+joined-grows f (Some h) d = (emitted_to d h.effects, sym (emitted_to-joined d f h))
 
 pub handlers-grow : (images : List Typed) → Grows (handlers_of images)
 handlers-grow images p h m d = split (nth images p)

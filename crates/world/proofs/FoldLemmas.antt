@@ -1,29 +1,59 @@
 -- A history that goes on by one message
-use Rattle.std.proofs.Common.{◌≡◌, ℕ, List, [], ◌∷◌, ◌++◌, length, sym, ap, ◌∙◌}
-use Rattle.std.specs.Prelude.{Some}
+use Rattle.std.proofs.Common.{◌≡◌, ℕ, List, [], ◌∷◌, ◌++◌, length, Bool, true, false, refl, sym, ap, ◌∙◌}
+use Rattle.std.specs.Prelude.{Some, if◌then◌else◌, ◌==◌}
 use Rattle.std.proofs.lemmas.List.Sums.{fold-append}
+use Rattle.helpers.specs.declared.effects.Sent.{Sent}
 use Rattle.verifier.specs.Typed.{Typed}
 use Rattle.helpers.specs.Payload.{view64}
 use Rattle.interp.specs.HandlerCall.{Handled, handled_by}
 use Rattle.world.specs.declared.message.Message.{Message}
 use Rattle.world.specs.History.{nth}
-use Rattle.world.specs.Fold.{Folded, joined, taken_in, folded, unfolded, handlers_of}
+use Rattle.world.specs.Fold.{Folded, joined, taken_in, folded, unfolded, payloads_to, emitted_to, handlers_of}
+
+pub payloads_to-append : (d : ℕ) (xs ys : List Sent) → payloads_to d (xs ++ ys) ≡ payloads_to d xs ++ payloads_to d ys
+payloads_to-append d [] ys = refl
+payloads_to-append d (x ∷ xs) ys = split (x.dst == d) (payloads_to-append d xs ys)
+  where
+    split : (b : Bool) → payloads_to d (xs ++ ys) ≡ payloads_to d xs ++ payloads_to d ys
+        → (if b then x.payload ∷ payloads_to d (xs ++ ys) else payloads_to d (xs ++ ys)) ≡ (if b then x.payload ∷ payloads_to d xs else payloads_to d xs) ++ payloads_to d ys
+    split true e = ap (λ zs. x.payload ∷ zs) e
+    split false e = e
+
+-- what one more answer emits comes behind the rest
+pub emitted_to-joined : (d : ℕ) (f : Folded) (a : Handled) → emitted_to d (joined f (Some a)).effects ≡ emitted_to d f.effects ++ emitted_to d a.effects
+emitted_to-joined d f a = split (d == 0)
+  where
+    split : (b : Bool) → (if b then f.effects.outputs ++ a.effects.outputs else payloads_to d (f.effects.sends ++ a.effects.sends)) ≡ (if b then f.effects.outputs else payloads_to d f.effects.sends) ++ (if b then a.effects.outputs else payloads_to d a.effects.sends)
+    split true = refl
+    split false = payloads_to-append d f.effects.sends a.effects.sends
 
 pub folded-push : (n p : ℕ) (image : Typed) (h : List Message) (m : Message) → folded n p (Some image) (h ++ m ∷ []) ≡ taken_in n image p (folded n p (Some image) h) m
 folded-push n p image h m = fold-append (taken_in n image p) (unfolded image.len) h (m ∷ [])
 
--- the state is the one that the handler leaves
-pub handlers_of-push : (images : List Typed) (p : ℕ) (image : Typed) (h : List Message) (m : Message) (a : Handled) → nth images p ≡ Some image
-    → handled_by image.slots (record { me = p; from = m.sender; count = length images }) ((handlers_of images).state p h) (view64 m.payload) ≡ Some a
-    → (handlers_of images).state p (h ++ m ∷ []) ≡ a.state
-handlers_of-push images p image h m a at answers =
-    let n = length images in
-    let here : folded n p (Some image) h ≡ folded n p (nth images p) h = ap (λ o. folded n p o h) (sym at) in
-    let given : handled_by image.slots (record { me = p; from = m.sender; count = n }) (folded n p (Some image) h).state (view64 m.payload) ≡ Some a =
-    ap (λ (f : Folded). handled_by image.slots (record { me = p; from = m.sender; count = n }) f.state (view64 m.payload)) here ∙ answers in
-    ap (λ o. (folded n p o (h ++ m ∷ [])).state) at
-    ∙ ap (λ (f : Folded). f.state) (folded-push n p image h m)
-    ∙ ap (λ o. (joined (folded n p (Some image) h) o).state) given
+-- the handler's answer to one more message
+module _ (images : List Typed) (p : ℕ) (image : Typed) (h : List Message) (m : Message) (a : Handled) (at : nth images p ≡ Some image) (answers : handled_by image.slots (record { me = p; from = m.sender; count = length images }) ((handlers_of images).state p h) (view64 m.payload) ≡ Some a) where
+  here : folded (length images) p (nth images p) h ≡ folded (length images) p (Some image) h
+  here = ap (λ o. folded (length images) p o h) at
+
+  given : handled_by image.slots (record { me = p; from = m.sender; count = length images }) (folded (length images) p (Some image) h).state (view64 m.payload) ≡ Some a
+  given = ap (λ (f : Folded). handled_by image.slots (record { me = p; from = m.sender; count = length images }) f.state (view64 m.payload)) (sym here) ∙ answers
+
+  folded_is : folded (length images) p (nth images p) (h ++ m ∷ []) ≡ joined (folded (length images) p (Some image) h) (Some a)
+  folded_is =
+      ap (λ o. folded (length images) p o (h ++ m ∷ [])) at
+      ∙ folded-push (length images) p image h m
+      ∙ ap (joined (folded (length images) p (Some image) h)) given
+
+  -- the state is the one that the handler leaves
+  pub handlers_of-push : (handlers_of images).state p (h ++ m ∷ []) ≡ a.state
+  handlers_of-push = ap (λ (f : Folded). f.state) folded_is
+
+  -- and what it emits is sent behind the rest
+  pub sends-push : (d : ℕ) → (handlers_of images).sends p (h ++ m ∷ []) d ≡ (handlers_of images).sends p h d ++ emitted_to d a.effects
+  sends-push d =
+      ap (λ (f : Folded). emitted_to d f.effects) folded_is
+      ∙ emitted_to-joined d (folded (length images) p (Some image) h) a
+      ∙ ap (λ (f : Folded). emitted_to d f.effects ++ emitted_to d a.effects) (sym here)
 
 -- a process that received nothing has a state of zeros
 pub handlers_of-nothing : (images : List Typed) (p : ℕ) (image : Typed) → nth images p ≡ Some image → (handlers_of images).state p [] ≡ (unfolded image.len).state
