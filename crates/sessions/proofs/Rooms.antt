@@ -5,9 +5,9 @@ use Rattle.std.proofs.lemmas.Bool.Decides.{nat_tests}
 use Rattle.world.specs.declared.message.Message.{Message}
 use Rattle.world.specs.declared.packet.Packet.{Packet}
 use Rattle.world.specs.declared.packet.Packet.TheVariants.{Delivery, Number, Acknowledgement}
-use Rattle.world.specs.declared.call.Call.TheVariants.{Input, Transmit, Arrive, Finish}
+use Rattle.world.specs.declared.call.Call.TheVariants.{Input, Transmit, Copy, Lose, Arrive, Finish}
 use Rattle.world.specs.declared.answer.Answer.{Answer}
-use Rattle.world.specs.declared.answer.Answer.TheVariants.{Placed, Started, Duplicate, Shown, Numbered, Acknowledged, Committed}
+use Rattle.world.specs.declared.answer.Answer.TheVariants.{Placed, Lost, Started, Duplicate, Shown, Numbered, Acknowledged, Committed}
 use Rattle.world.specs.Phases.{Phase, Up, Busy, is_up, is_working}
 use Rattle.world.specs.World.{World, put, is_inside}
 use Rattle.world.specs.Bounds.{count_below, open_jobs}
@@ -117,6 +117,12 @@ room-input w room d feed x a accepted = places room (open_jobs w) (clear (causes
 
 pub room-transmit : (w : World) (room p d i key : ℕ) → refusal_of w room (Transmit p d i) ≡ None → open_jobs (after w (Transmit p d i) (Placed key)) + 1 ≤ room
 room-transmit w room p d i key accepted = places room (open_jobs w) (clear (causes w room (Transmit p d i)) accepted).1.1.1.1.1.0
+
+pub room-copy : (w : World) (room key new : ℕ) → refusal_of w room (Copy key) ≡ None → open_jobs (after w (Copy key) (Placed new)) + 1 ≤ room
+room-copy w room key new accepted = places room (open_jobs w) (clear (causes w room (Copy key)) accepted).1.0
+
+pub room-lose : (w : World) (room key : ℕ) → refusal_of w room (Lose key) ≡ None → open_jobs (after w (Lose key) Lost) + 1 ≤ room
+room-lose w room key accepted = places room (open_jobs w) (clear (causes w room (Lose key)) accepted).1.0
 
 pub room-arrive : (w : World) (room key : ℕ) (a : Answer) → refusal_of w room (Arrive key) ≡ None → MayAnswer w (Arrive key) a → open_jobs (after w (Arrive key) a) + 1 ≤ room
 room-arrive w room key a accepted may =

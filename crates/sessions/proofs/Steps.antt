@@ -18,7 +18,7 @@ use Rattle.world.proofs.Runs.{world_after-push, world_after-setting, Legal-push}
 use Rattle.machine.specs.Simulation.{TheMachine, Stands, Steps}
 use Rattle.machine.specs.Arrival.{IsJobOf}
 use Rattle.machine.specs.declared.arrival.Arrival.{Arrival}
-use Rattle.machine.specs.declared.arrival.Arrival.TheVariants.{Started, Duplicate, Early}
+use Rattle.machine.specs.declared.arrival.Arrival.TheVariants.{Started, Duplicate, Early, Shown, ShownBefore, Numbered, Acknowledged, Stale}
 use Rattle.sessions.specs.Seats.{TheSeat}
 use Rattle.sessions.specs.Journal.{TheSession, entry, answered_once, Adds, HandsOut}
 use Rattle.sessions.specs.Inside.{IsSession}
@@ -99,3 +99,8 @@ pub handed : (m : TheMachine) (es : List Entry) (seats : List (Option TheSeat)) 
 handed m es seats (Started task) job s = job (here m es) s
 handed m es seats (Duplicate key) job s = tt
 handed m es seats Early job s = tt
+handed m es seats (Shown ssn) job s = tt
+handed m es seats ShownBefore job s = tt
+handed m es seats (Numbered key) job s = tt
+handed m es seats Acknowledged job s = tt
+handed m es seats Stale job s = tt

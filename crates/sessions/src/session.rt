@@ -3,8 +3,10 @@
 ghost use Rattle.std.specs.Prelude.{◌≡◌, ◌≤◌, IfOk, IfSome, None, Some, true, length, map, slice_set};
 ghost use Rattle.std.specs.Arc.{arc_value};
 ghost use Rattle.world.specs.Phases.{name_of};
+ghost use Rattle.world.specs.Bounds.{open_jobs};
 ghost use Rattle.world.specs.Logs.{state_of, length_of};
 ghost use Rattle.machine.specs.Simulation.{answering};
+ghost use Rattle.machine.specs.Sending.{losing};
 ghost use Rattle.machine.specs.Arrival.{answer_of};
 ghost use Rattle.world.specs.Useful.{may_call};
 ghost use Rattle.sessions.specs.Seats.{AreSeats, new_seats, seat_at};
@@ -20,7 +22,7 @@ use std::marker::Model;
 use std::sync::Arc;
 use std::sync::ledger::{Blank, Ledger, Share};
 use verifier::Image;
-use world::{Answer, Call, Entry, Feed, PhaseName, Refusal};
+use world::{Answer, Call, Entry, Feed, Message, PhaseName, Refusal};
 
 /// How many seats there are: one for nobody, and one for each of 16 workers.
 const SEATS: u8 = 17;
@@ -138,6 +140,23 @@ impl<L: Ledger> Session<L> {
         self.machine.length(p)
     }
 
+    /// The outputs that the outside was shown, in order: each once, and none that its sender doesn't
+    /// send, where failures came one at a time.
+    pub fn shown(&self) -> &[Message]
+        ensures value { result.now ≡ (world_at self.now).shown }
+        ensures no_orphan { IsExact self.now → NoOrphan (world_at self.now) }
+        ensures output_once { IsExact self.now → ShownBegin (world_at self.now) }
+    {
+        self.machine.shown()
+    }
+
+    /// How many jobs are open.
+    pub fn open_jobs(&self) -> u32
+        ensures { result ≡ open_jobs (world_at self.now) }
+    {
+        self.machine.open_jobs()
+    }
+
     /// The name of its phase.
     pub fn phase(&self, p: u8) -> PhaseName
         requires { (1 ≤ p) × (p ≤ length self.now.images) }
@@ -194,9 +213,45 @@ impl<L: Ledger> Session<L> {
         Ok(key)
     }
 
-    /// Takes a message from the wire to its process. A job is started where it is the next of its
-    /// sender. It refuses, in this order, a process with an open job, a key without a packet that
-    /// can be taken, a full journal, and want of memory.
+    /// Puts a copy of a packet on the wire, and answers its key. It refuses, in this order, a key
+    /// without a packet, a full journal, a full wire, and want of memory.
+    pub fn copy(&mut self, by: &mut Seat<L>, key: usize) -> Result<usize, Refusal>
+        requires { may_call (world_at self.old) by.old.worker (Call.Copy key) ≡ true }
+        ensures adds { Adds self.old self.new by.old by.new (Call.Copy key) (answering Answer.Placed result) }
+        ensures worker { by.new.worker ≡ by.old.worker }
+    {
+        let room = self.journal.room();
+        if !self.journal.reserve() {
+            let cause = self.machine.copy_cause(room, key);
+            return Err(cause.unwrap_or(Refusal::Memory));
+        }
+        let new = self.machine.copy(room, key)?;
+        self.journal
+            .append(by, Call::Copy { key }, Answer::Placed(new));
+        Ok(new)
+    }
+
+    /// Takes a packet from the wire, which then arrives nowhere. It refuses, in this order, a key
+    /// without a packet, a full journal, and want of memory.
+    pub fn lose(&mut self, by: &mut Seat<L>, key: usize) -> Result<(), Refusal>
+        requires { may_call (world_at self.old) by.old.worker (Call.Lose key) ≡ true }
+        ensures adds { Adds self.old self.new by.old by.new (Call.Lose key) (losing result) }
+        ensures worker { by.new.worker ≡ by.old.worker }
+    {
+        let room = self.journal.room();
+        if !self.journal.reserve() {
+            let cause = self.machine.lose_cause(room, key);
+            return Err(cause.unwrap_or(Refusal::Memory));
+        }
+        self.machine.lose(room, key)?;
+        self.journal.append(by, Call::Lose { key }, Answer::Lost);
+        Ok(())
+    }
+
+    /// Takes a packet from the wire to whom it is for. A message that is the next of its sender
+    /// starts a job at a process, and is shown at the outside; a number is recorded in its sender's
+    /// log; an acknowledgement releases what may leave then. It refuses, in this order, a message
+    /// for a process with an open job, a key without a packet, a full journal, and want of memory.
     pub fn arrive(&mut self, by: &mut Seat<L>, key: usize) -> Result<Arrival, Refusal>
         requires { may_call (world_at self.old) by.old.worker (Call.Arrive key) ≡ true }
         ensures adds { Adds self.old self.new by.old by.new (Call.Arrive key) (answering answer_of result) }
