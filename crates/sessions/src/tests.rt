@@ -1,5 +1,7 @@
 ghost use Rattle.std.specs.Prelude.{◌≡◌};
 
+mod messages;
+
 use crate::{Arrival, Seat, Session};
 use helpers::Payload;
 use replay::Done;
@@ -17,6 +19,18 @@ const ADDER: [u8; 56] = [
     0x53, 0x42, 0x49, 0x31, 0x08, 0x00, 0x06, 0x00, 0x79, 0x13, 0, 0, 0, 0, 0, 0, 0x79, 0x24, 0, 0,
     0, 0, 0, 0, 0x0f, 0x34, 0, 0, 0, 0, 0, 0, 0x7b, 0x42, 0, 0, 0, 0, 0, 0, 0xb7, 0, 0, 0, 0, 0, 0,
     0, 0x95, 0, 0, 0, 0, 0, 0, 0,
+];
+
+/// Sends each message on to process 2.
+const RELAY: [u8; 40] = [
+    0x53, 0x42, 0x49, 0x31, 0x00, 0x00, 0x04, 0x00, 0xbf, 0x12, 0, 0, 0, 0, 0, 0, 0xb7, 0x01, 0, 0,
+    0x02, 0, 0, 0, 0x85, 0, 0, 0, 0x01, 0, 0, 0, 0x95, 0, 0, 0, 0, 0, 0, 0,
+];
+
+/// Gives each message out.
+const ECHO: [u8; 24] = [
+    0x53, 0x42, 0x49, 0x31, 0x00, 0x00, 0x02, 0x00, 0x85, 0, 0, 0, 0x02, 0, 0, 0, 0x95, 0, 0, 0, 0,
+    0, 0, 0,
 ];
 
 /// A session whose calls are made by nobody, as a test writes them. A refused call answers its number.
@@ -42,12 +56,23 @@ fn adders(alloc: Global, count: usize) -> Result<Vec<Arc<Image>>, Fail> {
     Ok(images)
 }
 
-/// So many adders, each waiting for its first message.
-fn open<L: Ledger>(alloc: Global, blank: Blank, count: usize) -> Result<Stage<L>, Fail>
+/// The images of a relay and an echo.
+fn relay_and_echo(alloc: Global) -> Result<Vec<Arc<Image>>, Fail> {
+    let mut images = Vec::new(alloc);
+    images.push(Arc::new(alloc, load(alloc, &RELAY)?)?)?;
+    images.push(Arc::new(alloc, load(alloc, &ECHO)?)?)?;
+    Ok(images)
+}
+
+/// Processes with these images, each waiting for its first message.
+fn open<L: Ledger>(
+    alloc: Global,
+    blank: Blank,
+    images: Vec<Arc<Image>>,
+) -> Result<Stage<L>, Fail>
     requires name { blank.name ≡ L.name }
     requires parts { (blank.parts ≡ L.parts) × (blank.parts ≡ 17) }
 {
-    let images = adders(alloc, count)?;
     let mut session = Session::open(alloc, blank, images)?;
     let Some(seat) = session.sit(0) else {
         return Err("nobody has no seat")?;
@@ -55,7 +80,7 @@ fn open<L: Ledger>(alloc: Global, blank: Blank, count: usize) -> Result<Stage<L>
     Ok(Stage { session, seat })
 }
 
-/// What is played on a stage of adders.
+/// What is played on a stage.
 #[derive(Clone, Copy)]
 enum Scene {
     OneMessage,
@@ -66,19 +91,25 @@ enum Scene {
     RefusedArrivals,
     AnotherSession,
     Seats,
+    Acknowledged,
+    Copied,
+    Early,
+    Lost,
+    ByPosition,
+    Round,
 }
 
 fn play_in<L: Ledger>(
     rt: &impl Abort,
     alloc: Global,
     blank: Blank,
-    count: usize,
+    images: Vec<Arc<Image>>,
     scene: Scene,
 ) -> Result<(), Fail>
     requires name { blank.name ≡ L.name }
     requires parts { (blank.parts ≡ L.parts) × (blank.parts ≡ 17) }
 {
-    let stage: Stage<L> = open(alloc, blank, count)?;
+    let stage: Stage<L> = open(alloc, blank, images)?;
     match scene {
         Scene::OneMessage => one_message(rt, stage),
         Scene::ShortAndLong => short_and_long_messages(rt, stage),
@@ -88,12 +119,23 @@ fn play_in<L: Ledger>(
         Scene::RefusedArrivals => refused_arrivals(rt, stage),
         Scene::AnotherSession => results_of_another_session(rt, alloc, stage),
         Scene::Seats => seats(rt, stage),
+        Scene::Acknowledged => messages::acknowledged(rt, stage),
+        Scene::Copied => messages::copied(rt, stage),
+        Scene::Early => messages::early(rt, stage),
+        Scene::Lost => messages::lost(rt, stage),
+        Scene::ByPosition => messages::by_position(rt, stage),
+        Scene::Round => messages::round(rt, stage),
     }
 }
 
 /// Plays the scene in a session of so many adders.
 fn play(rt: &impl Abort, alloc: Global, count: usize, scene: Scene) -> Result<(), Fail> {
-    play_in::<Brand>(rt, alloc, Blank::new(17), count, scene)
+    play_in::<Brand>(rt, alloc, Blank::new(17), adders(alloc, count)?, scene)
+}
+
+/// Plays the scene in a session of a relay and an echo.
+fn play_round(rt: &impl Abort, alloc: Global, scene: Scene) -> Result<(), Fail> {
+    play_in::<Brand>(rt, alloc, Blank::new(17), relay_and_echo(alloc)?, scene)
 }
 
 /// The number of a refusal, or 0.
@@ -324,8 +366,6 @@ fn refused_arrivals<L: Ledger>(rt: &impl Abort, stage: Stage<L>) -> Result<(), F
     let done = stage.run(0);
     assert_eq!(rt; stage.arrive(1), 3);
     assert_eq!(rt; stage.finish(done), (1, 0, 0));
-    // Under this key is now the number of the first message.
-    assert_eq!(rt; stage.arrive(0), 4);
     assert_eq!(rt; stage.entries(), 6);
     Ok(())
 }
@@ -335,7 +375,7 @@ fn result_elsewhere<L: Ledger>(alloc: Global, blank: Blank, value: u8) -> Result
     requires name { blank.name ≡ L.name }
     requires parts { (blank.parts ≡ L.parts) × (blank.parts ≡ 17) }
 {
-    let mut other: Stage<L> = open(alloc, blank, 1)?;
+    let mut other: Stage<L> = open(alloc, blank, adders(alloc, 1)?)?;
     other.input(1, 1, value);
     other.sent(1);
     Ok(other.run(0))
@@ -471,4 +511,34 @@ fn results_of_another_session_are_stale(rt: HostRuntime) -> Result<(), Fail> {
 #[test]
 fn each_seat_is_taken_once_and_counts(rt: HostRuntime) -> Result<(), Fail> {
     play(&rt, rt.alloc(), 1, Scene::Seats)
+}
+
+#[test]
+fn a_message_is_numbered_and_acknowledged(rt: HostRuntime) -> Result<(), Fail> {
+    play(&rt, rt.alloc(), 1, Scene::Acknowledged)
+}
+
+#[test]
+fn each_copy_is_numbered(rt: HostRuntime) -> Result<(), Fail> {
+    play(&rt, rt.alloc(), 1, Scene::Copied)
+}
+
+#[test]
+fn an_early_message_is_dropped(rt: HostRuntime) -> Result<(), Fail> {
+    play(&rt, rt.alloc(), 1, Scene::Early)
+}
+
+#[test]
+fn a_lost_packet_arrives_nowhere(rt: HostRuntime) -> Result<(), Fail> {
+    play(&rt, rt.alloc(), 1, Scene::Lost)
+}
+
+#[test]
+fn sends_leave_by_position(rt: HostRuntime) -> Result<(), Fail> {
+    play_round(&rt, rt.alloc(), Scene::ByPosition)
+}
+
+#[test]
+fn an_output_is_shown_once(rt: HostRuntime) -> Result<(), Fail> {
+    play_round(&rt, rt.alloc(), Scene::Round)
 }
