@@ -8,3 +8,5 @@ pub mod Openings
 pub mod JobLemmas
 pub mod InsnEquality
 pub mod Steps
+pub mod Releasing
+pub mod Keeping

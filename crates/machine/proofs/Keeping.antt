@@ -1,0 +1,37 @@
+-- What the fields keep when a packet goes or changes, and one more call is counted
+use Rattle.std.proofs.Common.{◌≡◌, ◌≢◌, ℕ, suc, ◌+◌, ◌-◌, ◌<◌, ◌≤◌, List, length, Bool, true, false, refl, sym, ap, ◌∙◌, subst, arith}
+use Rattle.std.specs.Prelude.{slice_index_or, Option, Some, None, ◌==◌}
+use Rattle.std.proofs.lemmas.Bool.Decides.{nat_tests}
+use Rattle.world.specs.declared.packet.Packet.{Packet}
+use Rattle.machine.specs.Process.{TheProcess}
+use Rattle.machine.specs.Wire.{Puts}
+use Rattle.machine.specs.Inside.{IsCarried, AreCarried, IsSoundAt}
+
+abbrev pub IsSomeCarried : ℕ → Option Packet → Type 0
+IsSomeCarried n None = Unit {0}
+IsSomeCarried n (Some x) = IsCarried n x
+
+pub later : (n me len calls : ℕ) (x : TheProcess) → IsSoundAt n me len calls x → IsSoundAt n me len (calls + 1) x
+later n me len calls x s = record { state = s.state; log = s.log; begun_by = omega (arith, s.begun_by) }
+
+module _ (old new : List (Option Packet)) (key : ℕ) (was is : Option Packet) (puts : Puts old new key was is) where
+  pub carried-put : (n : ℕ) → IsSomeCarried n is → AreCarried old n → AreCarried new n
+  carried-put n fits all j x e = by_key (j == key) refl
+    where
+      by_key : (b : Bool) → (j == key) ≡ b → IsCarried n x
+      by_key true at =
+          let same : j ≡ key = grind (arith, nat_tests) in
+          let here : is ≡ Some x = sym puts.now ∙ ap (λ q. slice_index_or new q None) (sym same) ∙ e in
+          subst (IsSomeCarried n) here fits
+      by_key false at = all j x (sym (puts.others j (grind (arith, nat_tests))) ∙ e)
+
+  pub keys-put : key < 4096 → ((j : ℕ) → 4096 ≤ j → slice_index_or old j None ≡ None) → (j : ℕ) → 4096 ≤ j → slice_index_or new j None ≡ None
+  keys-put low all j h = puts.others j (omega arith) ∙ all j h
+
+-- a packet that goes leaves no key above
+pub keys-gone : (old new : List (Option Packet)) (key : ℕ) (was : Option Packet) → Puts old new key was None → ((j : ℕ) → 4096 ≤ j → slice_index_or old j None ≡ None) → (j : ℕ) → 4096 ≤ j → slice_index_or new j None ≡ None
+keys-gone old new key was puts all j h = by_key (j == key) refl
+  where
+    by_key : (b : Bool) → (j == key) ≡ b → slice_index_or new j None ≡ None
+    by_key true at = let same : j ≡ key = grind (arith, nat_tests) in ap (λ q. slice_index_or new q None) same ∙ puts.now
+    by_key false at = puts.others j (grind (arith, nat_tests)) ∙ all j h

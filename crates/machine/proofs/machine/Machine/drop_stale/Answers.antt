@@ -1,0 +1,25 @@
+use Rattle.std.proofs.Common.{rules, arith, ◌≡◌, ◌<◌, ◌+◌, subst, sym, ap, ◌∙◌, slice_index_or, length, refl}
+use Rattle.machine.proofs.Releasing.{holds-released}
+use Rattle.machine.specs.Simulation.{TheMachine}
+use Rattle.machine.specs.Inside.{view_of}
+use Rattle.machine.proofs.Keeping.{later, carried-put, keys-gone}
+use Rattle.machine.proofs.machine.Machine.drop_stale.Goals as goal
+
+pub invariant_of-self : goal.invariant_of-self
+invariant_of-self c =
+    let i = c.self.invariant in
+    let n = length c.self.inside.processes.items in
+    let calls : c.self.inside.calls < 65536 = subst (λ (v : TheMachine). v.calls < 65536) (sym c.self.view_is) c.requires in
+    record {
+      some = i.some;
+      few = i.few;
+      images = i.images;
+      processes = λ p d e h. later n _ _ c.self.inside.calls _ (i.processes p d e h);
+      outside = i.outside;
+      calls = omega (arith, calls);
+      started = omega (arith, i.started);
+      inputs = λ d. omega (arith, i.inputs d);
+      shown = omega (arith, i.shown);
+      wire = carried-put c.self.inside.wire c.remove.new.self c.args.key _ _ c.remove.ensures n tt i.wire;
+      keys = keys-gone c.self.inside.wire c.remove.new.self c.args.key _ c.remove.ensures i.keys;
+    }
