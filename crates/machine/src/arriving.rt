@@ -1,7 +1,6 @@
 //! What arrives.
 
 ghost use Rattle.std.specs.Prelude.{◌≡◌, ◌≢◌, ℕ, ◌+◌, ◌<◌, ◌≤◌, ◌↔◌, length, IfNone, IfOk, IsSome, OnOk, OnErr, Ok, Err, Some, None, true, false, slice_index_or, option_and_then};
-ghost use Rattle.rsn.specs.Receipts.{judged, numbers_of};
 ghost use Rattle.sender_log.specs.Queue.{is_logged};
 ghost use Rattle.sender_log.specs.Log.{queue_of};
 ghost use Rattle.sender_log.specs.declared.error.LogError.TheVariants.{NotLogged};
@@ -9,7 +8,7 @@ ghost use Rattle.world.specs.World.{World};
 ghost use Rattle.world.specs.Answers.{judge};
 ghost use Rattle.world.specs.Refusals.{refusal_of, cause_of, is_to_busy, starts, one_if};
 ghost use Rattle.machine.specs.Inside.{IsCarried};
-ghost use Rattle.machine.specs.Simulation.{Stands, Simulates, answering, process_at, log_at, IsTold};
+ghost use Rattle.machine.specs.Simulation.{Stands, Simulates, answering, log_at, IsTold};
 ghost use Rattle.machine.specs.Arrival.{answer_of, IsJobOf};
 ghost use Rattle.machine.specs.Arriving.{IsJudged, MayArrive, Drops, Records, IsNumber, IsAcknowledgement};
 
@@ -26,8 +25,7 @@ impl Machine {
     fn judge(&self, to: u8, message: &Message) -> Judgement
         requires to { to ≤ length self.now.processes }
         requires from { (message.now.sender ≤ length self.now.processes) × (0 < message.now.ssn) }
-        ensures verdict { (w : World) → Stands self.now w → IsJudged result (judge w to message.now) }
-        ensures number { 0 < to → result ≡ judged (numbers_of message.now.sender (process_at self.now to).receipts) message.now.ssn }
+        ensures { (w : World) → Stands self.now w → IsJudged result (judge w to message.now) }
     {
         if to > 0 {
             return self.process(to).receipts().judge(message.sender, message.ssn);
