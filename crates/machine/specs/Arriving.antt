@@ -4,21 +4,23 @@ use Rattle.rsn.specs.declared.receipts.Judgement.{Judgement}
 use Rattle.rsn.specs.declared.receipts.Judgement.TheVariants as judgements
 use Rattle.sender_log.specs.Queue.{recorded}
 use Rattle.sender_log.specs.Log.{TheLog, queue_of, with_queue}
+use Rattle.world.specs.declared.message.Message.{Message}
 use Rattle.world.specs.declared.packet.Packet.{Packet}
 use Rattle.world.specs.declared.packet.Packet.TheVariants.{Delivery, Number, Acknowledgement}
 use Rattle.world.specs.declared.call.Call.TheVariants.{Arrive}
+use Rattle.world.specs.History.{rsn_of}
 use Rattle.world.specs.World.{World}
-use Rattle.world.specs.Answers.{Verdict, Next, Known, Ahead}
+use Rattle.world.specs.Answers.{Next, Known, Ahead, judge}
 use Rattle.world.specs.Refusals.{refusal_of}
 use Rattle.machine.specs.Inside.{IsCarried}
 use Rattle.machine.specs.Wire.{Puts}
 use Rattle.machine.specs.Simulation.{TheMachine, Stands, process_at, log_at}
 
--- the two verdicts agree
-abbrev pub IsJudged : Judgement → Verdict → Type 0
-IsJudged judgements.Next verdict = verdict ≡ Next
-IsJudged (judgements.Duplicate k) verdict = verdict ≡ Known
-IsJudged judgements.Early verdict = verdict ≡ Ahead
+-- the world judges the message so too. A process knows the number of one that it has
+abbrev pub IsJudged : World → ℕ → Message → Judgement → Type 0
+IsJudged w d m judgements.Next = judge w d m ≡ Next
+IsJudged w d m (judgements.Duplicate k) = (judge w d m ≡ Known) × (0 < d → rsn_of (w.history d) m.sender m.ssn ≡ Some k)
+IsJudged w d m judgements.Early = judge w d m ≡ Ahead
 
 -- this packet lies under the key, and may be taken
 pub record MayArrive (m : TheMachine) (room key : ℕ) (packet : Packet) : Type 0 where

@@ -5,7 +5,6 @@ ghost use Rattle.sender_log.specs.Queue.{is_logged};
 ghost use Rattle.sender_log.specs.Log.{queue_of};
 ghost use Rattle.sender_log.specs.declared.error.LogError.TheVariants.{NotLogged};
 ghost use Rattle.world.specs.World.{World};
-ghost use Rattle.world.specs.Answers.{judge};
 ghost use Rattle.world.specs.Refusals.{refusal_of, cause_of, is_to_busy, starts, one_if};
 ghost use Rattle.machine.specs.Inside.{IsCarried};
 ghost use Rattle.machine.specs.Simulation.{Stands, Simulates, answering, log_at, IsTold};
@@ -25,10 +24,13 @@ impl Machine {
     fn judge(&self, to: u8, message: &Message) -> Judgement
         requires to { to ≤ length self.now.processes }
         requires from { (message.now.sender ≤ length self.now.processes) × (0 < message.now.ssn) }
-        ensures { (w : World) → Stands self.now w → IsJudged result (judge w to message.now) }
+        ensures { (w : World) → Stands self.now w → IsJudged w to message.now result }
     {
         if to > 0 {
-            return self.process(to).receipts().judge(message.sender, message.ssn);
+            return self
+                .process(to)
+                .receipts()
+                .judge(message.sender, message.ssn);
         }
         let shown = self.outside.shown_of(message.sender);
         if message.ssn <= shown {

@@ -141,7 +141,8 @@ impl Machine {
     // What is kept of the process of this number.
     pub(crate) fn process(&self, p: u8) -> &Process
         requires { (1 ≤ p) × (p ≤ length self.now.processes) }
-        ensures { result.now ≡ process_at self.now p }
+        ensures value { result.now ≡ process_at self.now p }
+        ensures few { length self.now.processes ≤ 15 }
     {
         &self.processes[p as usize - 1]
     }
