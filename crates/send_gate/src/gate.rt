@@ -1,6 +1,6 @@
 //! The sends that wait, and those that were released.
 
-ghost use Rattle.std.specs.Prelude.{◌≡◌, ◌+◌, ◌-◌, ◌<◌, ◌≤◌, ℕ, [], ◌∷◌, ◌++◌, ◌==◌, ◌&&◌, nat_lt, nat_le, length, take, slice_index_or, slice_set, count_by, replicate, true, false, OnOk, OnErr};
+ghost use Rattle.std.specs.Prelude.{◌≡◌, ◌+◌, ◌-◌, ◌<◌, ◌≤◌, ℕ, [], ◌∷◌, ◌++◌, ◌==◌, ◌&&◌, nat_lt, nat_le, length, take, slice_get, slice_index_or, slice_set, count_by, replicate, true, false, OnOk, OnErr};
 ghost use Rattle.std.specs.List.{filter, list_any, All};
 ghost use Rattle.rsn.specs.Receipts.{run_of};
 
@@ -62,6 +62,13 @@ impl Gate {
     {
         self.waiting.push_back(Held { dst, rsn })?;
         Ok(())
+    }
+
+    /// The send that was held last, if any waits.
+    pub fn last(&self) -> Option<Held>
+        ensures { result ≡ slice_get self.now.waiting (length self.now.waiting - 1) }
+    {
+        self.waiting.back().copied()
     }
 
     /// Takes the send back that was held last, if any waits: what `hold` did is undone.

@@ -1,4 +1,4 @@
-use crate::Gate;
+use crate::{Gate, Held};
 use rsn::Receipts;
 use std::test::Fail;
 
@@ -31,7 +31,9 @@ fn a_held_send_is_taken_back(rt: HostRuntime) -> Result<(), Fail> {
     let mut gate = Gate::new(rt.alloc());
     gate.restore(2, 7);
     gate.hold(2, 1)?;
+    assert_eq!(rt; gate.last(), Some(Held { dst: 2, rsn: 1 }));
     gate.retract();
+    assert!(rt; gate.last().is_none());
     assert_eq!(rt; gate.release(&receipts), false);
     assert_eq!(rt; gate.released(2), 7);
     receipts.acknowledge(1);
