@@ -124,18 +124,26 @@ module _ (m : TheMachine) (w : World) (s : Stands m w) (room key : ℕ) where
     pub arrive-nothing : refusal_of w room (Arrive key) ≡ Some 4
     arrive-nothing = rw nothing refl
 
+  module _ (some : slice_index_or m.slots key None ≢ None) where
+    something : is_none (w.wire key) ≡ false
+    something = ap is_none (s.shows.wire key) ∙ by_slot (slice_index_or m.slots key None) some
+      where
+        by_slot : (o : Option Packet) → o ≢ None → is_none o ≡ false
+        by_slot None other = absurd (other refl)
+        by_slot (Some k) other = refl
+
+    pub copy-rest : ((key : ℕ) → 4096 ≤ key → slice_index_or m.slots key None ≡ None) → refusal_of w room (Copy key) ≡ option_and_then cause_of (placing m room)
+    copy-rest keys = rw something (place-is m w s room keys)
+
+    pub lose-full : room ≤ busy m → refusal_of w room (Lose key) ≡ Some 12
+    lose-full full = let late : nat_lt room (busy m + 1) ≡ true = grind (arith, nat_tests) in rw (something, jobs m w s, late) refl
+
+    pub lose-free : busy m < room → refusal_of w room (Lose key) ≡ None
+    lose-free free = let early : nat_lt room (busy m + 1) ≡ false = grind (arith, nat_tests) in rw (something, jobs m w s, early) refl
+
   module _ (k : Packet) (some : slice_index_or m.slots key None ≡ Some k) where
     there : w.wire key ≡ Some k
     there = s.shows.wire key ∙ some
-
-    pub copy-rest : ((key : ℕ) → 4096 ≤ key → slice_index_or m.slots key None ≡ None) → refusal_of w room (Copy key) ≡ option_and_then cause_of (placing m room)
-    copy-rest keys = rw there (place-is m w s room keys)
-
-    pub lose-full : room ≤ busy m → refusal_of w room (Lose key) ≡ Some 12
-    lose-full full = let late : nat_lt room (busy m + 1) ≡ true = grind (arith, nat_tests) in rw (there, jobs m w s, late) refl
-
-    pub lose-free : busy m < room → refusal_of w room (Lose key) ≡ None
-    lose-free free = let early : nat_lt room (busy m + 1) ≡ false = grind (arith, nat_tests) in rw (there, jobs m w s, early) refl
 
     pub arrive-busy : is_to_busy w (Some k) ≡ true → refusal_of w room (Arrive key) ≡ Some 3
     arrive-busy busy_is = rw (there, busy_is) refl

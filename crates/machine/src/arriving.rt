@@ -45,7 +45,8 @@ impl Machine {
     // How many jobs the packet would start: one, or none.
     fn started_by(&self, packet: &Packet) -> u32
         requires { IsCarried (length self.now.processes) packet.now }
-        ensures { (w : World) → Stands self.now w → result ≡ one_if (starts w (Some packet.now)) }
+        ensures value { (w : World) → Stands self.now w → result ≡ one_if (starts w (Some packet.now)) }
+        ensures bound { result ≤ 1 }
     {
         match packet {
             Packet::Delivery { to, message } if *to > 0 => {
