@@ -95,10 +95,10 @@ flags-set bs f n k e a b same j h = by_place (suc j == k) refl
         get_or-set_other bs (k - 1) j true false apart ∙ same j h
 
 -- a gate that released up to a later run
-pub holds-released : (old new : TheGate) (run now n : ℕ) (released : ℕ → ℕ) (sent_by : ℕ → ℕ → ℕ) → run ≤ now → now ≤ n → Holds old run n released sent_by → Releases now old new → Holds new now n (λ d. max (released d) (sent_by now d)) sent_by
-holds-released old new run now n released sent_by more within h r =
-    let after : (d : ℕ) → d < 16 → max (released d) (sent_by now d) ≡ released d + count_to d (filter (λ (x : Held). nat_le x.rsn now) old.waiting) = λ d small. omega (arith, h.waits now d more within small) in
+pub holds-released : (old new : TheGate) (d run now n released : ℕ) (sent_by : ℕ → ℕ) → d < 16 → run ≤ now → now ≤ n → Holds d old run n released sent_by → Releases now old new → Holds d new now n (max released (sent_by now)) sent_by
+holds-released old new d run now n released sent_by small more within h r =
+    let after : max released (sent_by now) ≡ released + count_to d (filter (λ (x : Held). nat_le x.rsn now) old.waiting) = omega (arith, h.waits now more within) in
     record {
-      released_is = λ d small. omega (arith, r.1 d small, h.released_is d small, after d small);
-      waits = λ k d on upto small. rw (r.0) (omega (arith, after d small, h.waits k d (omega arith) upto small, count_to-split d now k on old.waiting));
+      released_is = omega (arith, r.1 d small, h.released_is, after);
+      waits = λ k on upto. rw (r.0) (omega (arith, after, h.waits k (omega arith) upto, count_to-split d now k on old.waiting));
     }

@@ -115,8 +115,8 @@ pub keeps_at : (m : TheMachine) (w : World) → Stands m w → (p d : ℕ) → p
 keeps_at m w s p d within to apart = s.shows.logs p d within to apart
 
 -- what the gate of a process let out, and what waits
-pub holds_at : (m : TheMachine) (w : World) → Stands m w → (p : ℕ) → 0 < p → p ≤ length m.processes → Holds (gate_at m p) (run_of w p) (length (w.history p)) (w.released p) (sent_by w p)
-holds_at m w s p inside within = s.shows.gates p inside within
+pub holds_at : (m : TheMachine) (w : World) → Stands m w → (p d : ℕ) → 0 < p → p ≤ length m.processes → d ≤ length m.processes → p ≢ d → Holds d (gate_at m p) (run_of w p) (length (w.history p)) (w.released p d) (sent_by w p d)
+holds_at m w s p d inside within to other = s.shows.gates p d inside within to other
 
 pub up_at : (m : TheMachine) (w : World) → Stands m w → (p : ℕ) → p ≤ length m.processes → is_up (w.phase p) ≡ true
 up_at m w s zero within = ap is_up s.shows.outside
@@ -158,7 +158,7 @@ module _ (m : TheMachine) (w : World) (s : Stands m w) (p d : ℕ) (within : p �
           rw e (omega (arith, last))
       by_sender false e =
           let inside : 0 < p = grind (arith, nat_tests) in
-          rw e (sym ((holds_at m w s p inside within).released_is d few))
+          rw e (sym (holds_at m w s p d inside within to apart).released_is)
 
   -- no more is released than was sent
   pub released_sent : released_to w p d ≤ length (sent w p d)

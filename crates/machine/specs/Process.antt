@@ -1,6 +1,8 @@
 -- What clauses see of a process
-use Rattle.std.specs.Prelude.{◌≡◌, ℕ, List, [], length, replicate, Option, None}
+use Rattle.std.specs.Prelude.{◌≡◌, ◌≤◌, ℕ, List, [], length, replicate, Option, None}
+use Rattle.std.specs.List.{All}
 use Rattle.rsn.specs.Receipts.{Received, accepted, acknowledged, run_of}
+use Rattle.send_gate.specs.declared.gate.Held.{Held}
 use Rattle.send_gate.specs.Gate.{Releases}
 use Rattle.world.specs.declared.message.Message.{Message}
 use Rattle.replay.specs.Task.{TheTask, answer_of}
@@ -22,6 +24,11 @@ idle_process me n len =
 -- how many messages it received
 abbrev pub received : TheProcess → ℕ
 received x = length x.receipts.senders
+
+-- its outbox was given the effects of each message that it received, and what waits was sent on one of these
+pub record HasSent (x : TheProcess) : Type 0 where
+  pub made : x.outbox.made ≡ received x
+  pub waiting : All (λ (h : Held). h.rsn ≤ received x) x.outbox.gate.waiting
 
 -- the message with this number is acknowledged, and what may leave then is released
 pub record Acknowledges (rsn : ℕ) (old new : TheProcess) : Type 0 where

@@ -74,15 +74,15 @@ pub record Keeps (q : TheQueue) (payloads : List Payload) (numbers : ℕ → Opt
   pub as_many : length q.numbers ≡ length payloads
   pub numbers_are : (i : ℕ) → i < length payloads → slice_index_or q.numbers i None ≡ numbers (suc i)
 
--- a gate let out what is released, and what waits follows it: with the sends of the first k of n messages, from the run on, it
--- has let out or holds as many as these messages send
-pub record Holds (g : TheGate) (run n : ℕ) (released : ℕ → ℕ) (sent_by : ℕ → ℕ → ℕ) : Type 0 where
-  pub released_is : (d : ℕ) → d < 16 → slice_index_or g.released d 0 ≡ released d
-  pub waits : (k d : ℕ) → run ≤ k → k ≤ n → d < 16 → released d + count_to d (filter (λ h. nat_le h.rsn k) g.waiting) ≡ sent_by k d
+-- to a destination d a gate let out what is released, and what waits follows it: with the sends of the first k of n messages, from
+-- the run on, it has let out or holds as many as these messages send
+pub record Holds (d : ℕ) (g : TheGate) (run n released : ℕ) (sent_by : ℕ → ℕ) : Type 0 where
+  pub released_is : slice_index_or g.released d 0 ≡ released
+  pub waits : (k : ℕ) → run ≤ k → k ≤ n → released + count_to d (filter (λ h. nat_le h.rsn k) g.waiting) ≡ sent_by k
 
 -- how many messages to d the first k messages of p's history send
 abbrev pub sent_by : World → ℕ → ℕ → ℕ → ℕ
-sent_by w p k d = length (w.handlers.sends p (take k (w.history p)) d)
+sent_by w p d k = length (w.handlers.sends p (take k (w.history p)) d)
 
 -- the machine shows this world. No call trims yet, so no log entry is dropped
 pub record Shows (m : TheMachine) (w : World) : Type 0 where
@@ -90,7 +90,7 @@ pub record Shows (m : TheMachine) (w : World) : Type 0 where
   pub handlers : w.handlers ≡ handlers_of m.images
   pub process : (p : ℕ) (d : TheProcess) → p < length m.processes → StandsAt (slice_index_or m.processes p d) (w.handlers.state (suc p)) (w.history (suc p)) (w.phase (suc p)) (w.incarnation (suc p)) (w.acknowledged (suc p))
   pub logs : (p d : ℕ) → p ≤ length m.processes → d ≤ length m.processes → p ≢ d → Keeps (queue_of d (log_at m p)) (sent w p d) (w.numbers p d)
-  pub gates : (p : ℕ) → 0 < p → p ≤ length m.processes → Holds (gate_at m p) (run_of w p) (length (w.history p)) (w.released p) (sent_by w p)
+  pub gates : (p d : ℕ) → 0 < p → p ≤ length m.processes → d ≤ length m.processes → p ≢ d → Holds d (gate_at m p) (run_of w p) (length (w.history p)) (w.released p d) (sent_by w p d)
   pub feeds : (k : ℕ) → w.feeds k ≡ is_taken k m.outside
   pub shown : w.shown ≡ m.outside.shown
   pub wire : (key : ℕ) → w.wire key ≡ slice_index_or m.slots key None

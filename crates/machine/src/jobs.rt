@@ -72,7 +72,7 @@ impl Machine {
         if !self.is_open(task) {
             return Err((Refusal::StaleJob, done));
         }
-        let me = task.process();
+        let me = task.who().me;
         let message = task.message();
         let rsn = task.rsn();
         let number = Packet::Number {
