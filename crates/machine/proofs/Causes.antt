@@ -4,12 +4,15 @@ use Rattle.std.specs.Prelude.{if◌then◌else◌, ◌==◌, ◌&&◌, ◌||◌,
 use Rattle.std.proofs.lemmas.Bool.Decides.{nat_tests}
 use Rattle.sender_log.specs.Queue.{is_logged}
 use Rattle.sender_log.specs.Log.{queue_of}
+use Rattle.world.specs.declared.message.Message.{Message}
 use Rattle.world.specs.declared.packet.Packet.{Packet}
+use Rattle.world.specs.declared.packet.Packet.TheVariants.{Delivery}
 use Rattle.world.specs.declared.call.Call.TheVariants.{Input, Transmit, Copy, Lose, Arrive}
 use Rattle.world.specs.declared.refusal.Refusal.TheVariants.{JournalFull, WireFull}
 use Rattle.world.specs.World.{World}
 use Rattle.world.specs.Logs.{sent, released_to, is_entry}
 use Rattle.world.specs.Bounds.{is_none, open_jobs, journal_full, wire_full}
+use Rattle.world.specs.Answers.{Next, judge}
 use Rattle.world.specs.Refusals.{least, refusal_of, cause_of, is_to_busy, starts, one_if}
 use Rattle.machine.specs.Outside.{is_taken}
 use Rattle.machine.specs.Simulation.{TheMachine, Stands, log_at}
@@ -71,12 +74,12 @@ module _ (m : TheMachine) (w : World) (s : Stands m w) (room p d i : ℕ) where
     pub transmit-same : p ≡ d → refusal_of w room (Transmit p d i) ≡ Some 5
     transmit-same e = let same : (p == d) ≡ true = grind (arith, nat_tests) in rw (s.shows.count, inside, up_at m w s p within, same) refl
 
-    module _ (apart : p ≢ d) (few : length m.processes ≤ 15) where
+    module _ (apart : p ≢ d) where
       other : (p == d) ≡ false
       other = grind (arith, nat_tests)
 
       released : released_to w p d ≡ released_at m p d
-      released = released_is m w s p d within to apart (omega arith)
+      released = released_is m w s p d within to apart
 
       rest : refusal_of w room (Transmit p d i) ≡ least ((nat_lt (released_at m p d) i, 6) ∷ (not (is_entry w p d i), 7) ∷ (journal_full room (open_jobs w), 12) ∷ (wire_full w, 13) ∷ [])
       rest = rw (s.shows.count, inside, up_at m w s p within, other, released) refl
@@ -107,6 +110,12 @@ module _ (m : TheMachine) (w : World) (s : Stands m w) (room p d i : ℕ) where
 
         pub transmit-rest : 0 < i → ((key : ℕ) → 4096 ≤ key → slice_index_or m.slots key None ≡ None) → refusal_of w room (Transmit p d i) ≡ option_and_then cause_of (placing m room)
         transmit-rest first keys = rest ∙ rw (out, released-entry first) (place-is m w s room keys)
+
+-- the next message for a process starts a job
+pub starts-next : (m : TheMachine) (w : World) → Stands m w → (to : ℕ) (x : Message) → 0 < to → to ≤ length m.processes → judge w to x ≡ Next → starts w (Some (Delivery to x)) ≡ true
+starts-next m w s to x inside within next =
+    let here : nat_lt 0 to ≡ true = grind (arith, nat_tests) in
+    rw (here, up_at m w s to within, next) refl
 
 -- What lies under a key
 

@@ -114,9 +114,9 @@ at_process m w s p inside within =
 pub keeps_at : (m : TheMachine) (w : World) → Stands m w → (p d : ℕ) → p ≤ length m.processes → d ≤ length m.processes → p ≢ d → Keeps (queue_of d (log_at m p)) (sent w p d) (w.numbers p d)
 keeps_at m w s p d within to apart = s.shows.logs p d within to apart
 
--- what the gate of a process let out, and what waits
+-- what the gate of a process let out to another, and what waits
 pub holds_at : (m : TheMachine) (w : World) → Stands m w → (p d : ℕ) → 0 < p → p ≤ length m.processes → d ≤ length m.processes → p ≢ d → Holds d (gate_at m p) (run_of w p) (length (w.history p)) (w.released p d) (sent_by w p d)
-holds_at m w s p d inside within to other = s.shows.gates p d inside within to other
+holds_at m w s p d inside within to apart = s.shows.gates p d inside within to apart
 
 pub up_at : (m : TheMachine) (w : World) → Stands m w → (p : ℕ) → p ≤ length m.processes → is_up (w.phase p) ≡ true
 up_at m w s zero within = ap is_up s.shows.outside
@@ -149,8 +149,8 @@ module _ (m : TheMachine) (w : World) (s : Stands m w) (p d : ℕ) (within : p �
   pub last_at : (queue_of d (log_at m p)).first + length (queue_of d (log_at m p)).payloads ≡ length (sent w p d) + 1
   last_at = omega (arith, kept.first, ap length kept.payloads_are)
 
-  pub released_is : d < 16 → released_to w p d ≡ released_at m p d
-  released_is few = by_sender (p == 0) refl
+  pub released_is : released_to w p d ≡ released_at m p d
+  released_is = by_sender (p == 0) refl
     where
       by_sender : (b : Bool) → (p == 0) ≡ b → released_to w p d ≡ released_at m p d
       by_sender true e =

@@ -49,10 +49,11 @@ impl Machine {
         ensures bound { result ≤ 1 }
     {
         match packet {
-            Packet::Delivery { to, message } if *to > 0 => {
-                let next = self.judge(*to, message) == Judgement::Next;
-                u32::from(next)
-            }
+            Packet::Delivery { to, message } if *to > 0 => match self.judge(*to, message) {
+                Judgement::Next => 1,
+                Judgement::Duplicate(_) => 0,
+                Judgement::Early => 0,
+            },
             _ => 0,
         }
     }
