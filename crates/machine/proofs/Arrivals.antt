@@ -161,7 +161,7 @@ module _ (m : TheMachine) (w : World) (s : Stands m w) (room key to calls : ℕ)
           handlers = s.shows.handlers;
           process = set-is P m.processes to y positive within there s.shows.process;
           logs = λ p d h k apart. kept new p d (log-same m to y positive within new refl refl refl p) (s.shows.logs p d (omega (arith, len, h)) (omega (arith, len, k)) apart);
-          gates = λ p h k. at-set m to y positive within (λ q b z. q ≤ length m.processes → Holds z.outbox.gate (run_of w q) (length (w.history q)) (w.released q) (sent_by w q)) (s.shows.gates to positive) (λ q a. s.shows.gates q a) p h (omega (arith, len, k));
+          gates = λ p d h k to_d apart. at-set m to y positive within (λ q b z. q ≤ length m.processes → q ≢ d → Holds d z.outbox.gate (run_of w q) (length (w.history q)) (w.released q d) (sent_by w q d)) (λ a. s.shows.gates to d positive a (omega (arith, len, to_d))) (λ q b a. s.shows.gates q d b a (omega (arith, len, to_d))) p h (omega (arith, len, k)) apart;
           feeds = s.shows.feeds;
           shown = s.shows.shown;
           wire = put-wire w m.slots slots key (Some (Delivery to x)) None s.shows.wire puts;
@@ -359,7 +359,7 @@ module _ (m : TheMachine) (w : World) (s : Stands m w) (room key r t i k incarna
           handlers = s.shows.handlers;
           process = set-is P m.processes t y some from there s.shows.process;
           logs = λ p d h h2. kept new (λ q. log_is q (process_at new q) (q == 0) refl (at-set m t y some from (λ j b z. z.outbox.log ≡ (if b then l else (process_at m j).outbox.log)) refl (λ j a. refl) q)) p d (omega (arith, len, h)) (omega (arith, len, h2));
-          gates = λ p h h2. at-set m t y some from (λ q b z. q ≤ length m.processes → Holds z.outbox.gate (run_of w q) (length (w.history q)) (w.released q) (sent_by w q)) (s.shows.gates t some) (λ q a. s.shows.gates q a) p h (omega (arith, len, h2));
+          gates = λ p d h k to_d other. at-set m t y some from (λ q b z. q ≤ length m.processes → q ≢ d → Holds d z.outbox.gate (run_of w q) (length (w.history q)) (w.released q d) (sent_by w q d)) (λ a. s.shows.gates t d some a (omega (arith, len, to_d))) (λ q b a. s.shows.gates q d b a (omega (arith, len, to_d))) p h (omega (arith, len, k)) other;
           feeds = s.shows.feeds;
           shown = s.shows.shown;
           wire = wire;
@@ -401,7 +401,7 @@ module _ (m : TheMachine) (w : World) (s : Stands m w) (room key t r k incarnati
       none true = refl
       none false = refl
 
-  module _ (current : incarnation ≡ (process_at m r).incarnation) (first : 0 < k) (known : k ≤ received (process_at m r)) (y : TheProcess) (a : Acknowledges k (process_at m r) y) where
+  module _ (current : incarnation ≡ (process_at m r).incarnation) (first : 0 < k) (known : k ≤ received (process_at m r)) (few : length m.processes ≤ 15) (y : TheProcess) (a : Acknowledges k (process_at m r) y) where
     among : k ≤ length (w.history r)
     among = omega (arith, known, as_long)
 
@@ -425,10 +425,10 @@ module _ (m : TheMachine) (w : World) (s : Stands m w) (room key t r k incarnati
     more : run_of w r ≤ run_to (put (w.acknowledged r) k true) (length (w.history r))
     more = run_to-more (w.acknowledged r) (put (w.acknowledged r) k true) (length (w.history r)) (choose k (λ i c. w.acknowledged r i ≡ true → (if c then true else w.acknowledged r i) ≡ true) (λ e. refl) (λ i e f. f))
 
-    holds : Holds y.outbox.gate (run_to (put (w.acknowledged r) k true) (length (w.history r))) (length (w.history r)) (λ d. max (w.released r d) (length (payloads w r (take (run_to (put (w.acknowledged r) k true) (length (w.history r))) (w.history r)) d))) (sent_by w r)
-    holds =
+    holds : (d : ℕ) → d ≤ length m.processes → r ≢ d → Holds d y.outbox.gate (run_to (put (w.acknowledged r) k true) (length (w.history r))) (length (w.history r)) (max (w.released r d) (length (payloads w r (take (run_to (put (w.acknowledged r) k true) (length (w.history r))) (w.history r)) d))) (sent_by w r d)
+    holds d to other =
         let e : (r == 0) ≡ false = grind (arith, nat_tests) in
-        rw e (holds-released (gate_at m r) y.outbox.gate (run_of w r) (run_to (put (w.acknowledged r) k true) (length (w.history r))) (length (w.history r)) (w.released r) (sent_by w r) more (run_to-is (put (w.acknowledged r) k true) (length (w.history r))).0 (s.shows.gates r inside within) (subst (λ n. Releases n (gate_at m r) y.outbox.gate) run_is a.releases))
+        rw e (holds-released (gate_at m r) y.outbox.gate d (run_of w r) (run_to (put (w.acknowledged r) k true) (length (w.history r))) (length (w.history r)) (w.released r d) (sent_by w r d) (omega (arith, few, to)) more (run_to-is (put (w.acknowledged r) k true) (length (w.history r))).0 (s.shows.gates r d inside within to other) (subst (λ n. Releases n (gate_at m r) y.outbox.gate) run_is a.releases))
 
     fresh : ((incarnation == w.incarnation r) && nat_le k (length_of w r)) ≡ true
     fresh =
@@ -444,7 +444,7 @@ module _ (m : TheMachine) (w : World) (s : Stands m w) (room key t r k incarnati
         let P : ℕ → Bool → TheProcess → Type 0 = λ p b z. StandsAt z (w.handlers.state (suc p)) (w.history (suc p)) (w.phase (suc p)) (w.incarnation (suc p)) (if b then put (w.acknowledged r) k true else w.acknowledged (suc p)) in
         let there : P (r - 1) true y = rw back acks in
         let n : ℕ = run_to (put (w.acknowledged r) k true) (length (w.history r)) in
-        let G : ℕ → Bool → TheProcess → Type 0 = λ q b z. q ≤ length m.processes → Holds z.outbox.gate (run_to (if b then put (w.acknowledged r) k true else w.acknowledged q) (length (w.history q))) (length (w.history q)) (if b then (λ d. max (w.released r d) (length (payloads w r (take n (w.history r)) d))) else w.released q) (sent_by w q) in
+        let G : ℕ → ℕ → Bool → TheProcess → Type 0 = λ d q b z. q ≤ length m.processes → q ≢ d → Holds d z.outbox.gate (run_to (if b then put (w.acknowledged r) k true else w.acknowledged q) (length (w.history q))) (length (w.history q)) ((if b then (λ d. max (w.released r d) (length (payloads w r (take n (w.history r)) d))) else w.released q) d) (sent_by w q d) in
         let same_log : y.outbox.log ≡ (process_at m r).outbox.log = ap (λ (v : TheProcess). v.outbox.log) a.others in
         arrives m w s room key accepted (Acknowledgement t r k incarnation) found running new Acknowledged (rw fresh refl)
         (record {
@@ -452,7 +452,7 @@ module _ (m : TheMachine) (w : World) (s : Stands m w) (room key t r k incarnati
           handlers = s.shows.handlers;
           process = set-is P m.processes r y inside within there s.shows.process;
           logs = λ p d h h2 apart. subst (λ l. Keeps (queue_of d l) (sent w p d) (w.numbers p d)) (sym (log-same m r y inside within new refl refl same_log p)) (s.shows.logs p d (omega (arith, len, h)) (omega (arith, len, h2)) apart);
-          gates = λ p h h2. at-set m r y inside within G (λ u. holds) (λ q u. s.shows.gates q u) p h (omega (arith, len, h2));
+          gates = λ p d h h2 to apart. at-set m r y inside within (G d) (λ u other. holds d (omega (arith, len, to)) other) (λ q u v. s.shows.gates q d u v (omega (arith, len, to))) p h (omega (arith, len, h2)) apart;
           feeds = s.shows.feeds;
           shown = s.shows.shown;
           wire = put-wire w m.slots slots key (Some (Acknowledgement t r k incarnation)) None s.shows.wire puts;
