@@ -10,3 +10,4 @@ pub mod InsnEquality
 pub mod Steps
 pub mod Releasing
 pub mod Keeping
+pub mod Arrivals
