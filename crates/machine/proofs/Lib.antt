@@ -11,3 +11,4 @@ pub mod Steps
 pub mod Releasing
 pub mod Keeping
 pub mod Arrivals
+pub mod MailLemmas
