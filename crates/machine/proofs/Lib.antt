@@ -12,3 +12,4 @@ pub mod Releasing
 pub mod Keeping
 pub mod Arrivals
 pub mod MailLemmas
+pub mod Committing
