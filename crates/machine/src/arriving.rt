@@ -9,7 +9,7 @@ ghost use Rattle.world.specs.Refusals.{refusal_of, cause_of, is_to_busy, starts,
 ghost use Rattle.machine.specs.Inside.{IsCarried};
 ghost use Rattle.machine.specs.Simulation.{Stands, Simulates, answering, log_at, IsTold};
 ghost use Rattle.machine.specs.Arrival.{answer_of, IsJobOf};
-ghost use Rattle.machine.specs.Arriving.{IsJudged, MayArrive, Drops, Records, IsNumber, IsAcknowledgement};
+ghost use Rattle.machine.specs.Arriving.{IsJudged, IsNumbered, MayArrive, Drops, Records, IsNumber, IsAcknowledgement};
 
 use crate::arrival::Arrival;
 use crate::machine::Machine;
@@ -24,7 +24,8 @@ impl Machine {
     fn judge(&self, to: u8, message: &Message) -> Judgement
         requires to { to ≤ length self.now.processes }
         requires from { (message.now.sender ≤ length self.now.processes) × (0 < message.now.ssn) }
-        ensures { (w : World) → Stands self.now w → IsJudged w to message.now result }
+        ensures verdict { (w : World) → Stands self.now w → IsJudged w to message.now result }
+        ensures number { IsNumbered result }
     {
         if to > 0 {
             return self

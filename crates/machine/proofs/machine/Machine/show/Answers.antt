@@ -45,7 +45,7 @@ returns-in_ok-show-in-Next-clause-step c w s =
     subst (λ was. Puts m.slots slots c.args.key was None) c.requires.found (subst (λ ws. Puts ws slots c.args.key (slice_index_or ws c.args.key None) None) wire c.remove.ensures) in
     let P : TheMachine → Type 0 = λ v. Steps m (record v { outside = record v.outside { shown = v.outside.shown ++ x ∷ [] }; slots = slots; calls = v.calls + 1 }) c.args.room (Arrive c.args.key) (Shown x.ssn) w in
     subst (λ o. Steps m (record v { outside = o; slots = slots; calls = v.calls + 1 }) c.args.room (Arrive c.args.key) (Shown x.ssn) w) (sym c.in_ok-show-in-Next.ensures.ok)
-    (subst P (sym c.self.view_is) (shown m w s c.args.room c.args.key (m.calls + 1) x slots (c.requires.accepted w s) c.requires.found puts (c.in-Next.ensures w s)))
+    (subst P (sym c.self.view_is) (shown m w s c.args.room c.args.key (m.calls + 1) x slots (c.requires.accepted w s) c.requires.found puts (c.in-Next.ensures.verdict w s)))
 
 pub returns-in-Duplicate-clause-step : goal.returns-in-Duplicate-clause-step
 returns-in-Duplicate-clause-step c w s =
@@ -54,7 +54,7 @@ returns-in-Duplicate-clause-step c w s =
     let slots = c.drop_packet.new.self.slots in
     let puts : Puts m.slots slots c.args.key (Some (Delivery 0 c.args.message)) None = subst (λ was. Puts m.slots slots c.args.key was None) c.requires.found d.wire in
     subst (λ v. Steps m v c.args.room (Arrive c.args.key) ShownBefore w) (sym d.others)
-    (shown_before m w s c.args.room c.args.key (m.calls + 1) c.args.message slots (c.requires.accepted w s) c.requires.found puts (c.in-Duplicate.ensures w s).0)
+    (shown_before m w s c.args.room c.args.key (m.calls + 1) c.args.message slots (c.requires.accepted w s) c.requires.found puts (c.in-Duplicate.ensures.verdict w s).0)
 
 pub returns-in-Early-clause-step : goal.returns-in-Early-clause-step
 returns-in-Early-clause-step c w s =
@@ -63,4 +63,4 @@ returns-in-Early-clause-step c w s =
     let slots = c.drop_packet-in-Early.new.self.slots in
     let puts : Puts m.slots slots c.args.key (Some (Delivery 0 c.args.message)) None = subst (λ was. Puts m.slots slots c.args.key was None) c.requires.found d.wire in
     subst (λ v. Steps m v c.args.room (Arrive c.args.key) Early w) (sym d.others)
-    (early m w s c.args.room c.args.key 0 (m.calls + 1) c.args.message slots (c.requires.accepted w s) c.requires.found (omega arith) puts (c.in-Early.ensures w s))
+    (early m w s c.args.room c.args.key 0 (m.calls + 1) c.args.message slots (c.requires.accepted w s) c.requires.found (omega arith) puts (c.in-Early.ensures.verdict w s))
