@@ -1,5 +1,4 @@
 pub mod ReceiptLemmas
-pub mod OutsideLemmas
 pub mod Standing
 pub mod Causes
 pub mod Updates
@@ -13,3 +12,4 @@ pub mod Keeping
 pub mod Arrivals
 pub mod MailLemmas
 pub mod Committing
+pub mod OutboxLemmas
