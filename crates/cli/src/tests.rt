@@ -52,6 +52,8 @@ fn usage_texts(rt: HostRuntime) -> Result<(), Fail> {
         ("fly", "unrecognized subcommand 'fly'"),
         ("check", "<IMAGE>"),
         ("check a b", "unexpected argument 'b' found"),
+        ("check a b c d e f", "unexpected argument 'b' found"),
+        ("asm a b --state 8 c d e", "unexpected argument 'c' found"),
         ("first a", "<WORD>"),
         (
             "first a 18446744073709551616",
@@ -78,5 +80,81 @@ fn usage_texts(rt: HostRuntime) -> Result<(), Fail> {
             _ => assert!(rt; false, "taken: {line}"),
         }
     }
+    Ok(())
+}
+
+/// Every help page of the program, one behind the other.
+const PAGES: &str = "Runs verified message handlers
+
+Usage: sblog <COMMAND>
+
+Commands:
+  check  Verifies an image and prints how many instructions it has
+  first  Delivers one message, a number below 2^64, and prints the state
+  asm    Writes the image of an assembler text, with N bytes of state
+  dis    Prints the assembler text of an image
+  help   Print this message or the help of the given subcommand(s)
+
+Options:
+  -h, --help  Print help
+Verifies an image and prints how many instructions it has
+
+Usage: sblog check <IMAGE>
+
+Arguments:
+  <IMAGE>  
+
+Options:
+  -h, --help  Print help
+Delivers one message, a number below 2^64, and prints the state
+
+Usage: sblog first <IMAGE> <WORD>
+
+Arguments:
+  <IMAGE>  
+  <WORD>   
+
+Options:
+  -h, --help  Print help
+Writes the image of an assembler text, with N bytes of state
+
+Usage: sblog asm --state <N> <SRC> <OUT>
+
+Arguments:
+  <SRC>  
+  <OUT>  
+
+Options:
+      --state <N>  
+  -h, --help       Print help
+Prints the assembler text of an image
+
+Usage: sblog dis <IMAGE>
+
+Arguments:
+  <IMAGE>  
+
+Options:
+  -h, --help  Print help
+";
+
+#[test]
+fn help_pages(rt: HostRuntime) -> Result<(), Fail> {
+    let alloc = rt.alloc();
+    let mut pages: String = String::new(alloc);
+    for line in [
+        "--help",
+        "check --help",
+        "first --help",
+        "asm --help",
+        "dis --help",
+    ] {
+        let words: Vec<&str> = line.split_whitespace().collect(alloc)?;
+        match parse_words(alloc, words.as_slice()) {
+            Err(Refusal::Usage(text)) => pages.push_str(text.as_str())?,
+            _ => assert!(rt; false, "taken: {line}"),
+        }
+    }
+    assert_eq!(rt; pages.as_str(), PAGES);
     Ok(())
 }

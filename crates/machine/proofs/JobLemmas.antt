@@ -13,9 +13,9 @@ use Rattle.world.specs.History.{nth}
 use Rattle.world.specs.Phases.{Busy}
 use Rattle.world.specs.World.{World}
 use Rattle.world.specs.Logs.{length_of, state_of, open_in, open_message}
-use Rattle.machine.specs.Process.{TheProcess, idle_process}
-use Rattle.machine.specs.Simulation.{TheMachine, StandsAt, Stands, phase_of}
-use Rattle.machine.specs.Jobs.{process_at, Begins, Matches}
+use Rattle.machine.specs.Process.{TheProcess, idle_process, received}
+use Rattle.machine.specs.Simulation.{TheMachine, StandsAt, Stands, process_at, phase_of}
+use Rattle.machine.specs.Jobs.{Begins, Matches}
 use Rattle.machine.specs.Arrival.{HasCode, IsOpen}
 use Rattle.machine.proofs.Standing.{at_process}
 
@@ -42,10 +42,13 @@ module _ (m : TheMachine) (t : TheTask) (w : World) (s : Stands m w) (sizes : le
   me : ℕ
   me = t.who.me
 
-  length_is : (p : ℕ) → StandsAt (process_at m p) (w.handlers.state p) (w.history p) (w.phase p) (w.incarnation p) → length (process_at m p).receipts ≡ length (w.history p)
-  length_is p at = ap length at.receipts ∙ length-map (w.history p) (λ (x : Message). x.sender)
+  abbrev IsAt : ℕ → Type 0
+  IsAt p = StandsAt (process_at m p) (w.handlers.state p) (w.history p) (w.phase p) (w.incarnation p) (w.acknowledged p)
 
-  open_is : (p : ℕ) → StandsAt (process_at m p) (w.handlers.state p) (w.history p) (w.phase p) (w.incarnation p) → open_message w p ≡ (process_at m p).working
+  pub length_is : (p : ℕ) → IsAt p → received (process_at m p) ≡ length (w.history p)
+  length_is p at = ap length at.senders ∙ length-map (w.history p) (λ (x : Message). x.sender)
+
+  open_is : (p : ℕ) → IsAt p → open_message w p ≡ (process_at m p).working
   open_is p at = ap (open_in (w.history p) (w.saved p)) at.phase_is ∙ open_in-phase_of (w.history p) (w.saved p) (process_at m p).working
 
   -- what matches the fields is open
@@ -97,7 +100,7 @@ begun-matches m new to x t slots b positive within =
     let y : TheProcess = record (process_at m to) { working = Some x } in
     let me_is : t.who.me ≡ to = ap (λ (q : Who). q.me) b.who in
     let len : length new.processes ≡ length m.processes = ap (λ (v : TheMachine). length v.processes) b.becomes ∙ length-set m.processes (to - 1) y in
-    let kept : process_at new to ≡ y = ap (λ (v : TheMachine). process_at v to) b.becomes ∙ get_or-set_same m.processes (to - 1) y (idle_process 0) (omega arith) in
+    let kept : process_at new to ≡ y = ap (λ (v : TheMachine). process_at v to) b.becomes ∙ get_or-set_same m.processes (to - 1) y (idle_process 0 0 0) (omega arith) in
     let at : process_at new t.who.me ≡ y = ap (process_at new) me_is ∙ kept in
     let images : new.images ≡ m.images = ap (λ (v : TheMachine). v.images) b.becomes in
     record {
@@ -105,7 +108,7 @@ begun-matches m new to x t slots b positive within =
       within = omega (arith, me_is, len);
       message = ap (λ (z : TheProcess). z.working) at ∙ ap Some (sym b.message_is);
       incarnation = ap (λ (z : TheProcess). z.incarnation) at ∙ sym b.incarnation;
-      rsn = ap (λ (z : TheProcess). length z.receipts + 1) at ∙ sym b.rsn;
+      rsn = ap (λ (z : TheProcess). received z + 1) at ∙ sym b.rsn;
       state = ap (λ (z : TheProcess). z.state) at ∙ sym b.state;
       from = ap (λ (q : Who). q.from) b.who ∙ ap (λ (z : Message). z.sender) (sym b.message_is);
       count = ap (λ (q : Who). q.count) b.who ∙ sym len;

@@ -1,5 +1,4 @@
 pub mod ReceiptLemmas
-pub mod OutsideLemmas
 pub mod Standing
 pub mod Causes
 pub mod Updates
@@ -12,3 +11,6 @@ pub mod Sendings
 pub mod Releasing
 pub mod Keeping
 pub mod Arrivals
+pub mod MailLemmas
+pub mod Committing
+pub mod OutboxLemmas

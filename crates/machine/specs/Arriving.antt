@@ -22,6 +22,12 @@ IsJudged w d m judgements.Next = judge w d m ≡ Next
 IsJudged w d m (judgements.Duplicate k) = (judge w d m ≡ Known) × (0 < d → rsn_of (w.history d) m.sender m.ssn ≡ Some k)
 IsJudged w d m judgements.Early = judge w d m ≡ Ahead
 
+-- a number that is told is one of 1, 2, ..
+abbrev pub IsNumbered : Judgement → Type 0
+IsNumbered judgements.Next = Unit {0}
+IsNumbered (judgements.Duplicate k) = 0 < k
+IsNumbered judgements.Early = Unit {0}
+
 -- this packet lies under the key, and may be taken
 pub record MayArrive (m : TheMachine) (room key : ℕ) (packet : Packet) : Type 0 where
   pub found : slice_index_or m.slots key None ≡ Some packet

@@ -1,3 +1,4 @@
+pub mod Mail
 pub mod Outbox
 pub mod Process
 pub mod Outside

@@ -9,7 +9,7 @@ ghost use Rattle.world.specs.Refusals.{refusal_of, cause_of, is_to_busy, starts,
 ghost use Rattle.machine.specs.Inside.{IsCarried};
 ghost use Rattle.machine.specs.Simulation.{Stands, Simulates, answering, log_at, IsTold};
 ghost use Rattle.machine.specs.Arrival.{answer_of, IsJobOf};
-ghost use Rattle.machine.specs.Arriving.{IsJudged, MayArrive, Drops, Records, IsNumber, IsAcknowledgement};
+ghost use Rattle.machine.specs.Arriving.{IsJudged, IsNumbered, MayArrive, Drops, Records, IsNumber, IsAcknowledgement};
 
 use crate::arrival::Arrival;
 use crate::machine::Machine;
@@ -24,7 +24,8 @@ impl Machine {
     fn judge(&self, to: u8, message: &Message) -> Judgement
         requires to { to ≤ length self.now.processes }
         requires from { (message.now.sender ≤ length self.now.processes) × (0 < message.now.ssn) }
-        ensures { (w : World) → Stands self.now w → IsJudged w to message.now result }
+        ensures verdict { (w : World) → Stands self.now w → IsJudged w to message.now result }
+        ensures number { IsNumbered result }
     {
         if to > 0 {
             return self
@@ -115,17 +116,22 @@ impl Machine {
         ensures job { IfOk result (IsJobOf self.new) }
         ensures calls { OnOk result (self.new.calls ≡ self.old.calls + 1) }
     {
-        let arrival = match self.judge(0, &message) {
+        match self.judge(0, &message) {
             Judgement::Next => {
                 self.outside.show(&message)?;
-                Arrival::Shown(message.ssn)
+                self.wire.remove(key);
+                self.calls += 1;
+                Ok(Arrival::Shown(message.ssn))
             }
-            Judgement::Duplicate(_) => Arrival::ShownBefore,
-            Judgement::Early => Arrival::Early,
-        };
-        self.wire.remove(key);
-        self.calls += 1;
-        Ok(arrival)
+            Judgement::Duplicate(_) => {
+                self.drop_packet(key);
+                Ok(Arrival::ShownBefore)
+            }
+            Judgement::Early => {
+                self.drop_packet(key);
+                Ok(Arrival::Early)
+            }
+        }
     }
 
     // A message arrives at a process that doesn't work.
@@ -161,22 +167,19 @@ impl Machine {
                 Ok(Arrival::Duplicate(key))
             }
             Judgement::Early => {
-                self.wire.remove(key);
-                self.calls += 1;
+                self.drop_packet(key);
                 Ok(Arrival::Early)
             }
         }
     }
 
-    // A packet arrives that speaks of what is past.
-    fn drop_stale(&mut self, key: usize) -> Arrival
+    // A packet arrives and leaves nothing behind.
+    fn drop_packet(&mut self, key: usize)
         requires { self.old.calls < 65536 }
-        ensures stale { result ≡ Arrival.Stale }
-        ensures drops { Drops self.old self.new key }
+        ensures { Drops self.old self.new key }
     {
         self.wire.remove(key);
         self.calls += 1;
-        Arrival::Stale
     }
 
     // Records the number of a message in its sender's log.
@@ -212,22 +215,27 @@ impl Machine {
             unreachable!()
         };
         if incarnation != self.process(receiver).incarnation() {
-            return Ok(self.drop_stale(key));
+            self.drop_packet(key);
+            return Ok(Arrival::Stale);
         }
         match self.record(sender, receiver, ssn, rsn) {
-            Ok(()) => {}
-            Err(LogError::NotLogged) => return Ok(self.drop_stale(key)),
-            Err(LogError::Memory) => return Err(Refusal::Memory),
+            Ok(()) => {
+                let acknowledgement = Packet::Acknowledgement {
+                    sender,
+                    receiver,
+                    rsn,
+                    incarnation,
+                };
+                self.wire.replace(key, acknowledgement);
+                self.calls += 1;
+                Ok(Arrival::Numbered(key))
+            }
+            Err(LogError::NotLogged) => {
+                self.drop_packet(key);
+                Ok(Arrival::Stale)
+            }
+            Err(LogError::Memory) => Err(Refusal::Memory),
         }
-        let acknowledgement = Packet::Acknowledgement {
-            sender,
-            receiver,
-            rsn,
-            incarnation,
-        };
-        self.wire.replace(key, acknowledgement);
-        self.calls += 1;
-        Ok(Arrival::Numbered(key))
     }
 
     // An acknowledgement arrives at the receiver.
@@ -247,11 +255,12 @@ impl Machine {
         else {
             unreachable!()
         };
-        let process = &mut self.processes[receiver as usize - 1];
+        let process = self.process(receiver);
         if incarnation != process.incarnation() || rsn > process.length() {
-            return self.drop_stale(key);
+            self.drop_packet(key);
+            return Arrival::Stale;
         }
-        process.acknowledge(rsn);
+        self.processes[receiver as usize - 1].acknowledge(rsn);
         self.wire.remove(key);
         self.calls += 1;
         Arrival::Acknowledged

@@ -17,6 +17,7 @@ mod arrival;
 mod arriving;
 mod jobs;
 mod machine;
+mod mail;
 mod outbox;
 mod outside;
 mod process;

@@ -5,7 +5,7 @@ use Rattle.world.specs.declared.packet.Packet.TheVariants.{Number}
 use Rattle.world.specs.declared.call.Call.{Call}
 use Rattle.world.specs.declared.call.Call.TheVariants.{Input, Transmit, Copy, Lose, Arrive, Finish, Checkpoint, Trim, Crash, Recover, RecoverAlone, ReplayBegin, Resync as ResyncWith}
 use Rattle.world.specs.declared.answer.Answer.{Answer}
-use Rattle.world.specs.declared.answer.Answer.TheVariants.{Logged, Placed, Lost, Started, Numbered, Acknowledged, Stale, Committed, Replayed, Saved, Trimmed, Crashed, Kept, Restored}
+use Rattle.world.specs.declared.answer.Answer.TheVariants.{Logged, Placed, Lost, Started, Numbered, Acknowledged, Shown, Duplicate, ShownBefore, Early, Stale, Committed, Replayed, Saved, Trimmed, Crashed, Kept, Restored}
 use Rattle.world.specs.declared.entry.Entry.{Entry}
 use Rattle.world.specs.Handlers.{Handlers}
 use Rattle.world.specs.Phases.{Up}
@@ -13,10 +13,15 @@ use Rattle.world.specs.Logs.{length_of, state_of}
 use Rattle.world.specs.World.{opening}
 use Rattle.world.specs.Bounds.{LIMIT}
 use Rattle.world.specs.Refusals.{refusal_of}
+use Rattle.world.specs.Useful.{is_useful}
 use Rattle.world.specs.Legal.{Legal, world_of, all_single}
 
 abbrev pub by_nobody : Call → Answer → Entry
 by_nobody call answer = record { worker = 0; call = call; answer = answer }
+
+-- a call that has to be useful, or free
+abbrev pub by_worker : Call → Answer → Entry
+by_worker call answer = record { worker = 1; call = call; answer = answer }
 
 -- one message of the outside to one process, from its feed to the committed state
 abbrev pub one_message : List ℕ → List Entry
@@ -54,12 +59,15 @@ two_crashes =
     ∷ by_nobody (ResyncWith 2 1) (Restored 0)
     ∷ []
 
--- the list is legal, the first crash is a single failure and the second isn't, and between the crashes and the first recovery one that is not alone is refused
+-- the list is legal, the first crash is a single failure and the second isn't. While another process is down a recovery that is not
+-- alone is refused for that, and so are numbers to be restored from one that is
 abbrev pub TwoCrashesAreLegal : Type 0
 TwoCrashesAreLegal =
     (g : ℕ → List Message → List ℕ) →
     Legal 2 (silent g) two_crashes
+    × (refusal_of (world_of 2 (silent g) (take 1 two_crashes)) (LIMIT - 1) (Recover 2) ≡ Some 8)
     × (refusal_of (world_of 2 (silent g) (take 2 two_crashes)) (LIMIT - 2) (Recover 1) ≡ Some 8)
+    × (refusal_of (world_of 2 (silent g) (take 4 two_crashes ++ by_nobody (Crash 1) (Crashed 3) ∷ [])) (LIMIT - 5) (ResyncWith 2 1) ≡ Some 8)
     × ((world_of 2 (silent g) two_crashes).phase 1 ≡ Up)
     × ((world_of 2 (silent g) two_crashes).phase 2 ≡ Up)
     × (all_single (opening 2 (silent g)) (take 1 two_crashes) ≡ true)
@@ -124,11 +132,12 @@ replayed_message x =
     ∷ by_nobody (Finish 1) (Replayed 1)
     ∷ []
 
--- the list is legal, and the process has the state that follows the message
+-- the list is legal, a replayed job is not started twice, and the process has the state that follows the message
 abbrev pub ReplayedMessageIsKept : Type 0
 ReplayedMessageIsKept =
     (g : ℕ → List Message → List ℕ) (x : List ℕ) →
     Legal 1 (silent g) (replayed_message x)
+    × (refusal_of (world_of 1 (silent g) (take 9 (replayed_message x))) (LIMIT - 9) (ReplayBegin 1) ≡ Some 3)
     × ((world_of 1 (silent g) (replayed_message x)).phase 1 ≡ Up)
     × (state_of (world_of 1 (silent g) (replayed_message x)) 1 ≡ g 1 (first_input x ∷ []))
     × (all_single (opening 1 (silent g)) (replayed_message x) ≡ true)
@@ -138,9 +147,9 @@ abbrev pub texts : List Message → List (List ℕ)
 texts [] = []
 texts (m ∷ ms) = m.payload ∷ texts ms
 
--- process 1 sends to process 2 what it receives
-abbrev pub relaying : (ℕ → List Message → List ℕ) → Handlers
-relaying g = record { state = g; sends = λ p h d. if p == 1 then (if d == 2 then texts h else []) else [] }
+-- process 1 sends to this destination what it receives
+abbrev pub relaying : ℕ → (ℕ → List Message → List ℕ) → Handlers
+relaying to g = record { state = g; sends = λ p h d. if p == 1 then (if d == to then texts h else []) else [] }
 
 -- a message is relayed and received; the relay crashes and asks the receiver for its numbers; then the receiver crashes
 abbrev pub relayed_message : List ℕ → List Entry
@@ -167,15 +176,15 @@ relayed_message x =
 abbrev pub RelayedMessageIsKept : Type 0
 RelayedMessageIsKept =
     (g : ℕ → List Message → List ℕ) (x : List ℕ) →
-    Legal 2 (relaying g) (relayed_message x)
-    × ((world_of 2 (relaying g) (relayed_message x)).phase 1 ≡ Up)
-    × ((world_of 2 (relaying g) (relayed_message x)).phase 2 ≡ Up)
-    × (state_of (world_of 2 (relaying g) (relayed_message x)) 2 ≡ g 2 (record { sender = 1; ssn = 1; payload = x } ∷ []))
-    × (all_single (opening 2 (relaying g)) (relayed_message x) ≡ true)
+    Legal 2 (relaying 2 g) (relayed_message x)
+    × ((world_of 2 (relaying 2 g) (relayed_message x)).phase 1 ≡ Up)
+    × ((world_of 2 (relaying 2 g) (relayed_message x)).phase 2 ≡ Up)
+    × (state_of (world_of 2 (relaying 2 g) (relayed_message x)) 2 ≡ g 2 (record { sender = 1; ssn = 1; payload = x } ∷ []))
+    × (all_single (opening 2 (relaying 2 g)) (relayed_message x) ≡ true)
 
--- of three messages that a relay receives the second is acknowledged, and then the first
-abbrev pub out_of_order : List ℕ → List Entry
-out_of_order x =
+-- a relay receives three messages
+abbrev pub three_messages : List ℕ → List Entry
+three_messages x =
     one_message x
     ++ by_nobody (Input 1 2 x) (Logged 2)
     ∷ by_nobody (Transmit 0 1 2) (Placed 1)
@@ -185,7 +194,13 @@ out_of_order x =
     ∷ by_nobody (Transmit 0 1 3) (Placed 2)
     ∷ by_nobody (Arrive 2) (Started 3)
     ∷ by_nobody (Finish 1) (Committed 3 2)
-    ∷ by_nobody (Arrive 1) (Numbered 1)
+    ∷ []
+
+-- the second is acknowledged, and then the first
+abbrev pub out_of_order : List ℕ → List Entry
+out_of_order x =
+    three_messages x
+    ++ by_nobody (Arrive 1) (Numbered 1)
     ∷ by_nobody (Arrive 1) Acknowledged
     ∷ by_nobody (Arrive 0) (Numbered 0)
     ∷ by_nobody (Arrive 0) Acknowledged
@@ -196,10 +211,10 @@ out_of_order x =
 abbrev pub FirstRunIsReleased : Type 0
 FirstRunIsReleased =
     (g : ℕ → List Message → List ℕ) (x : List ℕ) →
-    Legal 2 (relaying g) (out_of_order x)
-    × ((world_of 2 (relaying g) (take 14 (out_of_order x))).released 1 2 ≡ 0)
-    × ((world_of 2 (relaying g) (out_of_order x)).released 1 2 ≡ 2)
-    × (refusal_of (world_of 2 (relaying g) (out_of_order x)) (LIMIT - 16) (Transmit 1 2 3) ≡ Some 6)
+    Legal 2 (relaying 2 g) (out_of_order x)
+    × ((world_of 2 (relaying 2 g) (take 14 (out_of_order x))).released 1 2 ≡ 0)
+    × ((world_of 2 (relaying 2 g) (out_of_order x)).released 1 2 ≡ 2)
+    × (refusal_of (world_of 2 (relaying 2 g) (out_of_order x)) (LIMIT - 16) (Transmit 1 2 3) ≡ Some 6)
 
 -- a copy of a number arrives after its receiver crashed and came back
 abbrev pub old_number : List ℕ → List Entry
@@ -279,8 +294,72 @@ lost_number x =
 abbrev pub LostNumberEndsTheRun : Type 0
 LostNumberEndsTheRun =
     (g : ℕ → List Message → List ℕ) (x : List ℕ) →
-    Legal 2 (relaying g) (lost_number x)
-    × ((world_of 2 (relaying g) (lost_number x)).phase 2 ≡ Up)
-    × (state_of (world_of 2 (relaying g) (lost_number x)) 2 ≡ g 2 (first_input x ∷ []))
-    × ((world_of 2 (relaying g) (lost_number x)).numbers 0 2 1 ≡ Some 1)
-    × ((world_of 2 (relaying g) (lost_number x)).numbers 0 2 2 ≡ None)
+    Legal 2 (relaying 2 g) (lost_number x)
+    × ((world_of 2 (relaying 2 g) (lost_number x)).phase 2 ≡ Up)
+    × (state_of (world_of 2 (relaying 2 g) (lost_number x)) 2 ≡ g 2 (first_input x ∷ []))
+    × ((world_of 2 (relaying 2 g) (lost_number x)).numbers 0 2 1 ≡ Some 1)
+    × ((world_of 2 (relaying 2 g) (lost_number x)).numbers 0 2 2 ≡ None)
+
+-- workers carry messages: the second of two comes early; the number of the first is lost, so the message goes once more, and is told
+-- its number again; its output is shown, and a copy of it comes late
+abbrev pub told_again : List ℕ → List Entry
+told_again x =
+    by_nobody (Input 1 1 x) (Logged 1)
+    ∷ by_nobody (Input 1 2 x) (Logged 2)
+    ∷ by_nobody (Transmit 0 1 2) (Placed 0)
+    ∷ by_worker (Arrive 0) Early
+    ∷ by_worker (Transmit 0 1 1) (Placed 0)
+    ∷ by_worker (Arrive 0) (Started 1)
+    ∷ by_worker (Finish 1) (Committed 1 0)
+    ∷ by_nobody (Lose 0) Lost
+    ∷ by_worker (Transmit 0 1 1) (Placed 0)
+    ∷ by_worker (Arrive 0) (Duplicate 0)
+    ∷ by_worker (Arrive 0) (Numbered 0)
+    ∷ by_worker (Arrive 0) Acknowledged
+    ∷ by_worker (Transmit 1 0 1) (Placed 0)
+    ∷ by_nobody (Copy 0) (Placed 1)
+    ∷ by_worker (Arrive 0) (Shown 1)
+    ∷ by_worker (Arrive 1) ShownBefore
+    ∷ by_nobody (Trim 0) (Trimmed 1)
+    ∷ []
+
+-- the list is legal; it is no use to send what is still on the wire; the message was received once, and its output shown once
+abbrev pub LostNumberIsToldAgain : Type 0
+LostNumberIsToldAgain =
+    (g : ℕ → List Message → List ℕ) (x : List ℕ) →
+    Legal 1 (relaying 0 g) (told_again x)
+    × (is_useful (world_of 1 (relaying 0 g) (take 9 (told_again x))) (Transmit 0 1 1) ≡ false)
+    × (length_of (world_of 1 (relaying 0 g) (told_again x)) 1 ≡ 1)
+    × ((world_of 1 (relaying 0 g) (told_again x)).shown ≡ record { sender = 1; ssn = 1; payload = x } ∷ [])
+
+-- of three messages that a relay sent its log has dropped one when its checkpoint is saved, and one more when it crashes
+abbrev pub trimmed_log : List ℕ → List Entry
+trimmed_log x =
+    three_messages x
+    ++ by_nobody (Checkpoint 1) (Saved 3)
+    ∷ by_nobody (Transmit 1 2 1) (Placed 3)
+    ∷ by_nobody (Arrive 3) (Started 4)
+    ∷ by_nobody (Finish 2) (Committed 1 3)
+    ∷ by_nobody (Checkpoint 2) (Saved 1)
+    ∷ by_nobody (Trim 2) (Trimmed 1)
+    ∷ by_nobody (Checkpoint 1) (Saved 3)
+    ∷ by_nobody (Transmit 1 2 2) (Placed 4)
+    ∷ by_nobody (Arrive 4) (Started 5)
+    ∷ by_nobody (Finish 2) (Committed 2 4)
+    ∷ by_nobody (Checkpoint 2) (Saved 2)
+    ∷ by_nobody (Trim 2) (Trimmed 1)
+    ∷ by_nobody (Crash 1) (Crashed 2)
+    ∷ by_nobody (Recover 1) (Kept 3)
+    ∷ by_nobody (ResyncWith 1 2) (Restored 1)
+    ∷ []
+
+-- the list is legal, and the log has what the checkpoint had: not the first message, the second with its number, the third without
+abbrev pub TrimmedLogComesBack : Type 0
+TrimmedLogComesBack =
+    (g : ℕ → List Message → List ℕ) (x : List ℕ) →
+    Legal 2 (relaying 2 g) (trimmed_log x)
+    × ((world_of 2 (relaying 2 g) (trimmed_log x)).phase 1 ≡ Up)
+    × ((world_of 2 (relaying 2 g) (trimmed_log x)).trims 1 2 ≡ 1)
+    × ((world_of 2 (relaying 2 g) (trimmed_log x)).numbers 1 2 1 ≡ None)
+    × ((world_of 2 (relaying 2 g) (trimmed_log x)).numbers 1 2 2 ≡ Some 2)
+    × ((world_of 2 (relaying 2 g) (trimmed_log x)).numbers 1 2 3 ≡ None)

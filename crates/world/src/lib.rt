@@ -32,8 +32,8 @@ pub use packet::Packet;
 pub use phase::PhaseName;
 pub use refusal::Refusal;
 pub use rows::{
-    first_run_is_released, lost_job_is_legal, lost_number_ends_the_run,
+    first_run_is_released, lost_job_is_legal, lost_number_ends_the_run, lost_number_is_told_again,
     old_acknowledgement_is_stale, old_number_is_stale, one_message_is_legal,
     relayed_message_is_kept, replayed_message_is_kept, saved_message_is_kept,
-    two_crashes_are_legal,
+    trimmed_log_comes_back, two_crashes_are_legal,
 };

@@ -1,6 +1,6 @@
 //! Worked lists of calls, checked by computation alone.
 
-ghost use Rattle.world.specs.Worked.{FirstRunIsReleased, LostJobIsLegal, LostNumberEndsTheRun, OldAcknowledgementIsStale, OldNumberIsStale, OneMessageIsLegal, RelayedMessageIsKept, ReplayedMessageIsKept, SavedMessageIsKept, TwoCrashesAreLegal};
+ghost use Rattle.world.specs.Worked.{FirstRunIsReleased, LostJobIsLegal, LostNumberEndsTheRun, LostNumberIsToldAgain, OldAcknowledgementIsStale, OldNumberIsStale, OneMessageIsLegal, RelayedMessageIsKept, ReplayedMessageIsKept, SavedMessageIsKept, TrimmedLogComesBack, TwoCrashesAreLegal};
 
 /// One message from its feed to the committed state, as a journal, is legal.
 pub fn one_message_is_legal()
@@ -52,4 +52,16 @@ pub fn old_acknowledgement_is_stale()
 /// A recovery ends before the first number that no log holds.
 pub fn lost_number_ends_the_run()
     ensures { LostNumberEndsTheRun }
+{}
+
+/// A message whose number was lost is told it again; it is received once, and its output is shown
+/// once.
+pub fn lost_number_is_told_again()
+    ensures { LostNumberIsToldAgain }
+{}
+
+/// A crash takes a log back to its checkpoint: what was dropped before stays so, and what was
+/// dropped after is there again.
+pub fn trimmed_log_comes_back()
+    ensures { TrimmedLogComesBack }
 {}

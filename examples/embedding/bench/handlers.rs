@@ -148,6 +148,7 @@ fn measure_check(slots: usize) {
 }
 
 fn main() {
+    measure("two", &image::two());
     measure("nothing", &image::nothing());
     measure("arith", &image::arithmetic(400));
     measure("divide", &image::division(400));

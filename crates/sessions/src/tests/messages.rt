@@ -21,11 +21,6 @@ enum Act {
     Finish,
 }
 
-/// A number packet under the key of the message that it answers.
-const fn committed(rsn: u32, key: usize) -> Answer {
-    Answer::Committed { rsn, key }
-}
-
 impl<L: Ledger> Stage<L> {
     fn arrives(&mut self, held: &mut Option<Job>, key: usize) -> Result<Answer, Refusal> {
         let arrival = self.session.arrive(&mut self.seat, key)?;
@@ -102,7 +97,7 @@ const ACKNOWLEDGED: [(Act, Answer); 6] = [
     (Act::Input(1, 5), Answer::Logged(1)),
     (Act::Transmit(0, 1, 1), Answer::Placed(0)),
     (Act::Arrive(0), Answer::Started(1)),
-    (Act::Finish, committed(1, 0)),
+    (Act::Finish, Answer::Committed { rsn: 1, key: 0 }),
     (Act::Arrive(0), Answer::Numbered(0)),
     (Act::Arrive(0), Answer::Acknowledged),
 ];
@@ -113,7 +108,7 @@ const COPIED: [(Act, Answer); 10] = [
     (Act::Transmit(0, 1, 1), Answer::Placed(0)),
     (Act::Copy(0), Answer::Placed(1)),
     (Act::Arrive(0), Answer::Started(1)),
-    (Act::Finish, committed(1, 0)),
+    (Act::Finish, Answer::Committed { rsn: 1, key: 0 }),
     (Act::Arrive(1), Answer::Duplicate(1)),
     (Act::Arrive(0), Answer::Numbered(0)),
     (Act::Arrive(1), Answer::Numbered(1)),
@@ -136,7 +131,7 @@ const LOST: [(Act, Answer); 9] = [
     (Act::Lose(0), Answer::Lost),
     (Act::Transmit(0, 1, 1), Answer::Placed(0)),
     (Act::Arrive(0), Answer::Started(1)),
-    (Act::Finish, committed(1, 0)),
+    (Act::Finish, Answer::Committed { rsn: 1, key: 0 }),
     (Act::Lose(0), Answer::Lost),
     (Act::Transmit(0, 1, 1), Answer::Placed(0)),
     (Act::Arrive(0), Answer::Duplicate(0)),
@@ -148,10 +143,10 @@ const BY_POSITION: [(Act, Answer); 11] = [
     (Act::Input(1, 2), Answer::Logged(2)),
     (Act::Transmit(0, 1, 1), Answer::Placed(0)),
     (Act::Arrive(0), Answer::Started(1)),
-    (Act::Finish, committed(1, 0)),
+    (Act::Finish, Answer::Committed { rsn: 1, key: 0 }),
     (Act::Transmit(0, 1, 2), Answer::Placed(1)),
     (Act::Arrive(1), Answer::Started(2)),
-    (Act::Finish, committed(2, 1)),
+    (Act::Finish, Answer::Committed { rsn: 2, key: 1 }),
     (Act::Arrive(0), Answer::Numbered(0)),
     (Act::Arrive(0), Answer::Acknowledged),
     (Act::Transmit(1, 2, 1), Answer::Placed(0)),
@@ -162,12 +157,12 @@ const ROUND: [(Act, Answer); 14] = [
     (Act::Input(1, 7), Answer::Logged(1)),
     (Act::Transmit(0, 1, 1), Answer::Placed(0)),
     (Act::Arrive(0), Answer::Started(1)),
-    (Act::Finish, committed(1, 0)),
+    (Act::Finish, Answer::Committed { rsn: 1, key: 0 }),
     (Act::Arrive(0), Answer::Numbered(0)),
     (Act::Arrive(0), Answer::Acknowledged),
     (Act::Transmit(1, 2, 1), Answer::Placed(0)),
     (Act::Arrive(0), Answer::Started(2)),
-    (Act::Finish, committed(1, 0)),
+    (Act::Finish, Answer::Committed { rsn: 1, key: 0 }),
     (Act::Arrive(0), Answer::Numbered(0)),
     (Act::Arrive(0), Answer::Acknowledged),
     (Act::Transmit(2, 0, 1), Answer::Placed(0)),

@@ -4,4 +4,4 @@ use Rattle.world.proofs.rows.replayed_message_is_kept.Goals as goal
 
 pub returns : goal.returns
 unfolding WIRE
-returns c g x = ((refl, record { accepted = refl; answered = refl; becomes = refl }, (refl, record { accepted = refl; answered = (0, (omega arith, refl), refl); becomes = refl }, (refl, record { accepted = refl; answered = refl; becomes = refl }, (refl, record { accepted = refl; answered = (0, (omega arith, refl), refl); becomes = refl }, (refl, record { accepted = refl; answered = (0, (omega arith, refl), refl); becomes = refl }, (refl, record { accepted = refl; answered = refl; becomes = refl }, (refl, record { accepted = refl; answered = refl; becomes = refl }, (refl, record { accepted = refl; answered = (omega arith, refl, refl); becomes = refl }, (refl, record { accepted = refl; answered = refl; becomes = refl }, (refl, record { accepted = refl; answered = refl; becomes = refl }, tt)))))))))), refl, refl, refl)
+returns c g x = ((refl, record { accepted = refl; answered = refl; becomes = refl }, (refl, record { accepted = refl; answered = (0, (omega arith, refl), refl); becomes = refl }, (refl, record { accepted = refl; answered = refl; becomes = refl }, (refl, record { accepted = refl; answered = (0, (omega arith, refl), refl); becomes = refl }, (refl, record { accepted = refl; answered = (0, (omega arith, refl), refl); becomes = refl }, (refl, record { accepted = refl; answered = refl; becomes = refl }, (refl, record { accepted = refl; answered = refl; becomes = refl }, (refl, record { accepted = refl; answered = (omega arith, refl, refl); becomes = refl }, (refl, record { accepted = refl; answered = refl; becomes = refl }, (refl, record { accepted = refl; answered = refl; becomes = refl }, tt)))))))))), refl, refl, refl, refl)

@@ -1,14 +1,15 @@
-use Rattle.std.proofs.Common.{rules, ◌≡◌, ◌<◌, ◌≤◌, ◌-◌, arith, subst, sym, ap, ◌∙◌, length, slice_index_or}
+use Rattle.std.proofs.Common.{rules, ◌≡◌, ◌<◌, ◌≤◌, ◌+◌, ◌-◌, ℕ, suc, arith, subst, sym, ap, ◌∙◌, length, map, set, slice_index_or}
+use Rattle.std.specs.Prelude.{Some, Option, is_some}
 use Rattle.std.specs.Arc.{arc_value}
 use Rattle.std.proofs.lemmas.Grind.{common_steps}
 use Rattle.std.proofs.lemmas.List.{length-set, get_or-map}
 use Rattle.helpers.specs.declared.effects.Who.{Who}
 use Rattle.verifier.specs.Typed.{Typed}
-use Rattle.machine.specs.Process.{TheProcess, idle_process}
-use Rattle.machine.specs.Simulation.{TheMachine}
-use Rattle.machine.specs.Inside.{view_of, AreCarried}
-use Rattle.machine.specs.Jobs.{process_at}
-use Rattle.machine.proofs.Soundness.{states-set, receipts-set}
+use Rattle.world.specs.Refusals.{one_if}
+use Rattle.machine.specs.Process.{TheProcess, idle_process, received}
+use Rattle.machine.specs.Simulation.{TheMachine, process_at}
+use Rattle.machine.specs.Inside.{view_of, AreCarried, IsLogOf, IsSoundAt}
+use Rattle.machine.proofs.Soundness.{sound_at, sound-set}
 use Rattle.machine.proofs.machine.Machine.begin.Goals as goal
 
 pub new-requires : goal.new-requires
@@ -21,11 +22,11 @@ new-requires c =
     let inside : me - 1 < length c.self.inside.images.items = omega (arith, c.self.invariant.images, within, positive) in
     let image = arc_value c.in_ok-image.image in
     let image_is : slice_index_or m.images (me - 1) image ≡ image = get_or-map arc_value c.self.inside.images.items (me - 1) c.index.result.now image inside ∙ ap arc_value (sym c.index.ensures) ∙ sym c.in_ok-image.ensures in
-    let state_is : c.state.result.now ≡ (slice_index_or m.processes (me - 1) (idle_process 0)).state = c.state.ensures ∙ ap (λ (x : TheProcess). x.state) c.process-process.ensures.value ∙ ap (λ (v : TheMachine). (process_at v me).state) (sym c.self.view_is) in
+    let state_is : c.state.result.now ≡ (process_at m me).state = c.state.ensures ∙ ap (λ (x : TheProcess). x.state) c.process-process.ensures.value ∙ ap (λ (v : TheMachine). (process_at v me).state) (sym c.self.view_is) in
     let few = c.self.invariant.few in
     let called : TheMachine → Who = λ v. record { me = me; from = c.args.message.sender; count = length v.processes } in
     let who : c.who-who.result ≡ record { me = me; from = c.args.message.sender; count = length m.processes } = c.who-who.ensures ∙ ap called (sym c.self.view_is) in
-    let len : length c.state.result.now ≡ image.len = ap length state_is ∙ c.self.invariant.states (me - 1) (idle_process 0) image (omega arith) ∙ ap (λ (e : Typed). e.len) image_is in
+    let len : length c.state.result.now ≡ image.len = ap length state_is ∙ (sound_at c.self.inside c.self.invariant me (idle_process 0 0 0) image positive within).state ∙ ap (λ (e : Typed). e.len) image_is in
     rw who (record { state_len = len; inside = positive; within = within; few = few; sender = sender; other = c.requires.other })
 
 pub invariant_of-self : goal.invariant_of-self
@@ -34,23 +35,33 @@ invariant_of-self c =
     let me = c.args.me in
     let i = c.self.invariant in
     let xs = c.self.inside.processes.items in
+    let images = map arc_value c.self.inside.images.items in
     let y = c.begin.new.self in
     let was = c.index_mut-process.result.now in
     let positive = c.requires.inside in
-    let within : me ≤ length m.processes = subst (λ (v : TheMachine). me ≤ length v.processes) (sym c.self.view_is) c.requires.within in
+    let within : me ≤ length xs = subst (λ (v : TheMachine). me ≤ length v.processes) (sym c.self.view_is) c.requires.within in
     let calls : m.calls < 65536 = subst (λ (v : TheMachine). v.calls < 65536) (sym c.self.view_is) c.requires.calls in
-    let at : was ≡ slice_index_or xs (me - 1) was = first_of (search rules, grind (arith, common_steps)) in
+    let here : was ≡ slice_index_or xs (me - 1) was = first_of (search rules, grind (arith, common_steps)) in
+    let begins : y ≡ record was { working = Some c.args.message } = first_of (search rules, grind (arith, common_steps)) in
+    let one : one_if (is_some y.working) ≡ 1 = ap (λ (x : TheProcess). one_if (is_some x.working)) begins in
+    let sound : (e : Typed) → IsSoundAt (length xs) me (slice_index_or images (me - 1) e).len c.self.inside.calls was = λ e. subst (IsSoundAt (length xs) me (slice_index_or images (me - 1) e).len c.self.inside.calls) (sym here) (sound_at c.self.inside i me was e positive within) in
+    let now : (e : Typed) → IsSoundAt (length xs) me (slice_index_or images (me - 1) e).len (c.self.inside.calls + 1) y = λ e.
+    record {
+      state = ap (λ (x : TheProcess). length x.state) begins ∙ (sound e).state;
+      log = subst (λ (x : TheProcess). IsLogOf (length xs) me x.outbox.log) (sym begins) (sound e).log;
+      begun_by = omega (arith, (sound e).begun_by, ap received begins, one);
+    } in
     let len = length-set xs (me - 1) y in
     record {
       some = omega (arith, len, i.some);
       few = omega (arith, len, i.few);
       images = i.images ∙ sym len;
-      inputs = i.inputs ∙ sym len;
-      states = states-set xs m.images me m.calls y was positive within at i.states (search rules);
+      processes = sound-set xs images me c.self.inside.calls y positive within i.processes now;
+      outside = subst (λ n. IsLogOf n 0 c.self.inside.outside.log) (sym len) i.outside;
       calls = omega (arith, calls);
       started = omega (arith, i.started);
-      logs = λ p. omega (arith, i.logs p);
-      receipts = receipts-set xs m.images me m.calls y was positive within at i.receipts (let e : length y.receipts ≡ length was.receipts = search rules in omega (arith, e));
+      inputs = λ d. omega (arith, i.inputs d);
+      shown = omega (arith, i.shown);
       wire = subst (AreCarried c.self.inside.wire) (sym len) i.wire;
       keys = i.keys;
     }

@@ -16,5 +16,5 @@ returns-in-Next-clause-value c =
     let to = c.in-Delivery.to in
     let x = c.in-Delivery.message in
     let carried : IsCarried (length m.processes) (Delivery to x) = subst (IsCarried (length m.processes)) c.in-Delivery.is c.requires in
-    let next : (w : World) → Stands m w → judge w to x ≡ Next = λ w s. subst (IsJudged w to x) c.in-Next.is (c.judge.ensures w s) in
+    let next : (w : World) → Stands m w → judge w to x ≡ Next = λ w s. subst (IsJudged w to x) c.in-Next.is (c.judge.ensures.verdict w s) in
     λ w s. ap one_if (sym (starts-next m w s to x c.if-to-gt0.true carried.0 (next w s))) ∙ ap (λ k. one_if (starts w (Some k))) (sym c.in-Delivery.is)

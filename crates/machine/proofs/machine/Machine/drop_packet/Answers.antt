@@ -3,7 +3,7 @@ use Rattle.machine.proofs.Arrivals.{dropped}
 use Rattle.machine.specs.Simulation.{TheMachine}
 use Rattle.machine.specs.Inside.{view_of}
 use Rattle.machine.proofs.Keeping.{later, carried-put, keys-gone}
-use Rattle.machine.proofs.machine.Machine.drop_stale.Goals as goal
+use Rattle.machine.proofs.machine.Machine.drop_packet.Goals as goal
 
 pub invariant_of-self : goal.invariant_of-self
 invariant_of-self c =

@@ -1,0 +1,1 @@
+use Rattle.machine.proofs.machine.Machine.note.Goals as goal

@@ -1,0 +1,1 @@
+use Rattle.machine.proofs.machine.Machine.receive.Goals as goal

@@ -1,0 +1,5 @@
+use Rattle.std.proofs.Common.{subst, sym}
+use Rattle.machine.proofs.mail.Mail.withdraw.Goals as goal
+
+pub returns : goal.returns
+returns c = λ m f. c.loop-test.ensures m (c.loop.invariant.all m f)
