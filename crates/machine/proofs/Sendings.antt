@@ -2,7 +2,7 @@
 use Rattle.std.proofs.Common.{◌≡◌, ◌≢◌, ℕ, suc, ◌+◌, ◌-◌, ◌<◌, ◌≤◌, List, [], ◌∷◌, ◌++◌, length, length-append, Bool, true, false, refl, sym, ap, ◌∙◌, subst, arith}
 use Rattle.std.specs.Prelude.{if◌then◌else◌, ◌==◌, ◌||◌, Option, Some, None, slice_index_or}
 use Rattle.std.proofs.lemmas.Bool.Decides.{nat_tests}
-use Rattle.std.proofs.lemmas.List.{get_or-set_same, get_or-set_other, get_or_append_left}
+use Rattle.std.proofs.lemmas.List.{get_or-set_same, get_or-set_other, get_or_append_left, length-set}
 use Rattle.std.proofs.Math.Seq.{get_or-append_seam}
 use Rattle.sender_log.specs.Queue.{TheQueue, no_queue, is_logged, payload_of, appended}
 use Rattle.sender_log.specs.Log.{TheLog, queue_of, with_queue}
@@ -18,9 +18,12 @@ use Rattle.world.specs.Calls.{input, delivery}
 use Rattle.world.specs.Refusals.{refusal_of}
 use Rattle.machine.specs.Outside.{TheOutside, is_taken, Takes}
 use Rattle.machine.specs.Wire.{Puts}
+use Rattle.machine.specs.Inside.{IsSound}
+use Rattle.machine.specs.declared.machine.Machine.TheInside.{Inside}
 use Rattle.machine.specs.Simulation.{TheMachine, Keeps, Shows, Stands, Steps, process_at, log_at}
 use Rattle.machine.proofs.Standing.{wire-is, payload_at, last_at}
 use Rattle.machine.proofs.Steps.{put-wire, step}
+use Rattle.machine.proofs.Keeping.{later}
 use Rattle.machine.proofs.Arrivals.{dropped}
 
 -- one message more, without a number
@@ -95,6 +98,34 @@ module _ (m : TheMachine) (w : World) (s : Stands m w) (room d feed calls n : �
         trims = s.shows.trims;
       })
       refl
+
+-- the outside's log has one input more
+pub sound-input : (m : Inside) (o : TheOutside) (d : ℕ) (x : Payload) → IsSound m → m.calls < 65537 → d ≤ length m.processes.items → o.log ≡ with_queue d (appended x (queue_of d m.outside.log)) m.outside.log → o.shown ≡ m.outside.shown
+    → IsSound (record m { outside = o; calls = m.calls + 1 })
+sound-input m o d x i calls within log shown =
+    record {
+      some = i.some;
+      few = i.few;
+      images = i.images;
+      processes = λ p e t h. later (length m.processes.items) _ _ m.calls _ (i.processes p e t h);
+      outside = record { owner = ap (λ (l : TheLog). l.owner) log ∙ i.outside.owner; width = ap (λ (l : TheLog). length l.queues) log ∙ length-set m.outside.log.queues d (appended x (queue_of d m.outside.log)) ∙ i.outside.width };
+      calls = omega (arith, calls);
+      started = omega (arith, i.started);
+      inputs = λ q. by_number q (q == d) refl;
+      shown = let e = ap length shown in omega (arith, e, i.shown);
+      wire = i.wire;
+      keys = i.keys;
+    }
+  where
+    by_number : (q : ℕ) (b : Bool) → (q == d) ≡ b → (queue_of q o.log).first + length (queue_of q o.log).payloads ≤ m.calls + 1 + 1
+    by_number q true e =
+        let same : q ≡ d = grind (arith, nat_tests) in
+        let at : queue_of q o.log ≡ appended x (queue_of d m.outside.log) = ap (λ (l : TheLog). queue_of q l) log ∙ ap (λ j. queue_of j (with_queue d (appended x (queue_of d m.outside.log)) m.outside.log)) same ∙ get_or-set_same m.outside.log.queues d (appended x (queue_of d m.outside.log)) no_queue (let w = i.outside.width in omega (arith, w, within)) in
+        let more = length-append (queue_of d m.outside.log).payloads (x ∷ []) in
+        rw at (let f = i.inputs d in omega (arith, f, more))
+    by_number q false e =
+        let at : queue_of q o.log ≡ queue_of q m.outside.log = ap (λ (l : TheLog). queue_of q l) log ∙ get_or-set_other m.outside.log.queues d q (appended x (queue_of d m.outside.log)) no_queue (grind (arith, nat_tests)) in
+        rw at (let f = i.inputs q in omega (arith, f))
 
 -- A packet on the wire
 
