@@ -5,7 +5,8 @@ use Rattle.std.proofs.lemmas.Bool.Decides.{nat_tests}
 use Rattle.world.specs.declared.packet.Packet.{Packet}
 use Rattle.machine.specs.Process.{TheProcess}
 use Rattle.machine.specs.Wire.{Puts}
-use Rattle.machine.specs.Inside.{IsCarried, AreCarried, IsSoundAt}
+use Rattle.machine.specs.Inside.{IsCarried, AreCarried, IsSoundAt, IsSound}
+use Rattle.machine.specs.declared.machine.Machine.TheInside.{Inside}
 
 abbrev pub IsSomeCarried : ℕ → Option Packet → Type 0
 IsSomeCarried n None = Unit {0}
@@ -35,3 +36,21 @@ keys-gone old new key was puts all j h = by_key (j == key) refl
     by_key : (b : Bool) → (j == key) ≡ b → slice_index_or new j None ≡ None
     by_key true at = let same : j ≡ key = grind (arith, nat_tests) in ap (λ q. slice_index_or new q None) same ∙ puts.now
     by_key false at = puts.others j (grind (arith, nat_tests)) ∙ all j h
+
+-- one key of the wire changes, and one more call is counted
+pub sound-wire : (m : Inside) (slots : List (Option Packet)) (key : ℕ) (was is : Option Packet) → IsSound m → m.calls < 65537 → Puts m.wire slots key was is → IsSomeCarried (length m.processes.items) is
+    → ((j : ℕ) → 4096 ≤ j → slice_index_or slots j None ≡ None) → IsSound (record m { wire = slots; calls = m.calls + 1 })
+sound-wire m slots key was is i calls puts fits keys =
+    record {
+      some = i.some;
+      few = i.few;
+      images = i.images;
+      processes = λ p d e h. later (length m.processes.items) _ _ m.calls _ (i.processes p d e h);
+      outside = i.outside;
+      calls = omega (arith, calls);
+      started = omega (arith, i.started);
+      inputs = λ d. omega (arith, i.inputs d);
+      shown = omega (arith, i.shown);
+      wire = carried-put m.wire slots key was is puts (length m.processes.items) fits i.wire;
+      keys = keys;
+    }

@@ -7,6 +7,7 @@ pub mod Openings
 pub mod JobLemmas
 pub mod InsnEquality
 pub mod Steps
+pub mod Sendings
 pub mod Releasing
 pub mod Keeping
 pub mod Arrivals

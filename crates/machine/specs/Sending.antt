@@ -1,8 +1,6 @@
 -- What leaves a machine's logs, and what has no place on its wire
-use Rattle.std.specs.Prelude.{◌≡◌, ◌≢◌, ℕ, ◌+◌, ◌-◌, ◌<◌, ◌≤◌, length, Option, Some, None, Result, Ok, Err, is_some, count_by, nat_le, ◌==◌, if◌then◌else◌, slice_index_or}
+use Rattle.std.specs.Prelude.{◌≡◌, ◌≢◌, ℕ, ◌+◌, ◌-◌, ◌<◌, ◌≤◌, length, Option, Some, None, is_some, count_by, nat_le, ◌==◌, if◌then◌else◌, slice_index_or}
 use Rattle.sender_log.specs.Log.{queue_of}
-use Rattle.world.specs.declared.answer.Answer.{Answer}
-use Rattle.world.specs.declared.answer.Answer.TheVariants.{Lost}
 use Rattle.world.specs.declared.refusal.Refusal.{Refusal}
 use Rattle.world.specs.declared.refusal.Refusal.TheVariants.{JournalFull, WireFull}
 use Rattle.machine.specs.Process.{TheProcess}
@@ -29,8 +27,3 @@ pub record MayLeave (m : TheMachine) (from to ssn : ℕ) : Type 0 where
   pub other : from ≢ to
   pub first : 0 < ssn
   pub released : ssn ≤ released_at m from to
-
--- the result of a loss as an answer
-abbrev pub losing : {U : Type 0} → Result U Refusal → Result Answer Refusal
-losing (Ok u) = Ok Lost
-losing (Err r) = Err r

@@ -4,7 +4,7 @@ ghost use Rattle.std.specs.Prelude.{◌≡◌, ◌≢◌, ◌+◌, ◌<◌, ◌�
 ghost use Rattle.world.specs.World.{World};
 ghost use Rattle.world.specs.Refusals.{refusal_of, cause_of};
 ghost use Rattle.machine.specs.Simulation.{Stands, Simulates, answering, IsTold};
-ghost use Rattle.machine.specs.Sending.{placing, released_at, MayLeave, losing};
+ghost use Rattle.machine.specs.Sending.{placing, released_at, MayLeave};
 
 use crate::machine::Machine;
 use crate::wire::MOST_PACKETS;
@@ -160,7 +160,7 @@ impl Machine {
     /// Takes a packet from the wire, which arrives nowhere.
     pub fn lose(&mut self, room: u32, key: usize) -> Result<(), Refusal>
         requires { self.old.calls + room ≤ 65536 }
-        ensures step { Simulates self.old self.new room (Call.Lose key) (answering losing result) }
+        ensures step { Simulates self.old self.new room (Call.Lose key) (answering (λ _. Answer.Lost) result) }
         ensures calls { OnOk result (self.new.calls ≡ self.old.calls + 1) }
     {
         if let Some(refusal) = self.lose_cause(room, key) {
