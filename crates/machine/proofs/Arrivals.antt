@@ -26,7 +26,7 @@ use Rattle.theorems.proofs.PhaseLemmas.{up-length}
 use Rattle.theorems.proofs.RunLemmas.{run_to-is, run_to-more}
 use Rattle.machine.specs.Process.{TheProcess, idle_process, received, Acknowledges}
 use Rattle.machine.specs.Wire.{Puts}
-use Rattle.machine.specs.Arriving.{numbered}
+use Rattle.machine.specs.Arriving.{numbered, Records}
 use Rattle.machine.specs.Simulation.{TheMachine, process_at, log_at, gate_at, StandsAt, Keeps, Holds, Shows, Stands, Steps, IsNextAfter, sent_by}
 use Rattle.machine.proofs.Updates.{put-is, set-is}
 use Rattle.machine.proofs.Standing.{wire-is, at_process, up_at, entry_at}
@@ -372,6 +372,21 @@ module _ (m : TheMachine) (w : World) (s : Stands m w) (room key r t i k incarna
         log_is : (p : ℕ) (z : TheProcess) (b : Bool) → (p == 0) ≡ b → (0 < p → z.outbox.log ≡ (if p == t then l else (process_at m p).outbox.log)) → (if b then m.outside.log else z.outbox.log) ≡ (if p == t then l else (if b then m.outside.log else (process_at m p).outbox.log))
         log_is p z true e is = let f : (p == t) ≡ false = grind (arith, nat_tests) in rw f refl
         log_is p z false e is = is (grind (arith, nat_tests))
+
+    pub noted : (v : TheMachine) → Records m v t r i k → Steps m (record v { slots = slots; calls = calls }) room (Arrive key) (Numbered key) w
+    noted v records = by_sender (t == 0) refl records
+      where
+        by_sender : (b : Bool) → (t == 0) ≡ b → v ≡ (if b then record m { outside = record m.outside { log = l } } else record m { processes = set m.processes (t - 1) (record (process_at m t) { outbox = record (process_at m t).outbox { log = l } }) }) → Steps m (record v { slots = slots; calls = calls }) room (Arrive key) (Numbered key) w
+        by_sender true e is = subst (λ u. Steps m (record u { slots = slots; calls = calls }) room (Arrive key) (Numbered key) w) (sym is) (noted-outside (grind (arith, nat_tests)))
+        by_sender false e is = subst (λ u. Steps m (record u { slots = slots; calls = calls }) room (Arrive key) (Numbered key) w) (sym is) (noted-inside (grind (arith, nat_tests)))
+
+-- a number that is recorded changes a log alone
+pub records-else : (old new : TheMachine) (t r i k : ℕ) → Records old new t r i k → (new.slots ≡ old.slots) × (new.calls ≡ old.calls) × (length new.processes ≡ length old.processes)
+records-else old new t r i k records = by_sender (t == 0) records
+  where
+    by_sender : (b : Bool) → new ≡ (if b then record old { outside = record old.outside { log = numbered (log_at old t) r i k } } else record old { processes = set old.processes (t - 1) (record (process_at old t) { outbox = record (process_at old t).outbox { log = numbered (log_at old t) r i k } }) }) → (new.slots ≡ old.slots) × (new.calls ≡ old.calls) × (length new.processes ≡ length old.processes)
+    by_sender true is = (ap (λ (v : TheMachine). v.slots) is, ap (λ (v : TheMachine). v.calls) is, ap (λ (v : TheMachine). length v.processes) is)
+    by_sender false is = (ap (λ (v : TheMachine). v.slots) is, ap (λ (v : TheMachine). v.calls) is, ap (λ (v : TheMachine). length v.processes) is ∙ length-set old.processes (t - 1) (record (process_at old t) { outbox = record (process_at old t).outbox { log = numbered (log_at old t) r i k } }))
 
 -- An acknowledgement that arrives at the receiver
 

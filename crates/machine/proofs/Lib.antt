@@ -14,3 +14,4 @@ pub mod Arrivals
 pub mod MailLemmas
 pub mod Committing
 pub mod OutboxLemmas
+pub mod OutsideLemmas

@@ -23,12 +23,19 @@ sound_at m i p d e positive within =
 
 -- one process changes, and stays sound
 module _ (xs : List TheProcess) (images : List Typed) (to calls : ℕ) (y : TheProcess) (positive : 0 < to) (within : to ≤ length xs) where
-  pub sound-set : ((p : ℕ) (d : TheProcess) (e : Typed) → p < length xs → IsSoundAt (length xs) (suc p) (slice_index_or images p e).len calls (slice_index_or xs p d))
-      → ((e : Typed) → IsSoundAt (length xs) to (slice_index_or images (to - 1) e).len (calls + 1) y)
-      → (p : ℕ) (d : TheProcess) (e : Typed) → p < length (set xs (to - 1) y) → IsSoundAt (length (set xs (to - 1) y)) (suc p) (slice_index_or images p e).len (calls + 1) (slice_index_or (set xs (to - 1) y) p d)
-  sound-set all now p d e h =
-      let P : ℕ → Bool → TheProcess → Type 0 = λ q b x. (e : Typed) → IsSoundAt (length xs) (suc q) (slice_index_or images q e).len (calls + 1) x in
+  pub sound-put : ((p : ℕ) (d : TheProcess) (e : Typed) → p < length xs → IsSoundAt (length xs) (suc p) (slice_index_or images p e).len calls (slice_index_or xs p d))
+      → ((e : Typed) → IsSoundAt (length xs) to (slice_index_or images (to - 1) e).len calls y)
+      → (p : ℕ) (d : TheProcess) (e : Typed) → p < length (set xs (to - 1) y) → IsSoundAt (length (set xs (to - 1) y)) (suc p) (slice_index_or images p e).len calls (slice_index_or (set xs (to - 1) y) p d)
+  sound-put all now p d e h =
+      let P : ℕ → Bool → TheProcess → Type 0 = λ q b x. (e : Typed) → IsSoundAt (length xs) (suc q) (slice_index_or images q e).len calls x in
       let back : suc (to - 1) ≡ to = omega arith in
       let there : P (to - 1) true y = rw back now in
       let len : length (set xs (to - 1) y) ≡ length xs = length-set xs (to - 1) y in
-      rw len (set-is P xs to y positive within there (λ q d h e. later _ _ _ _ _ (all q d e h)) p d h e)
+      rw len (set-is P xs to y positive within there (λ q d h e. all q d e h) p d h e)
+
+-- as does one that takes part in a call
+pub sound-set : (xs : List TheProcess) (images : List Typed) (to calls : ℕ) (y : TheProcess) → 0 < to → to ≤ length xs
+    → ((p : ℕ) (d : TheProcess) (e : Typed) → p < length xs → IsSoundAt (length xs) (suc p) (slice_index_or images p e).len calls (slice_index_or xs p d))
+    → ((e : Typed) → IsSoundAt (length xs) to (slice_index_or images (to - 1) e).len (calls + 1) y)
+    → (p : ℕ) (d : TheProcess) (e : Typed) → p < length (set xs (to - 1) y) → IsSoundAt (length (set xs (to - 1) y)) (suc p) (slice_index_or images p e).len (calls + 1) (slice_index_or (set xs (to - 1) y) p d)
+sound-set xs images to calls y positive within all = sound-put xs images to (calls + 1) y positive within (λ q d e h. later _ _ _ _ _ (all q d e h))

@@ -8,10 +8,10 @@ use Rattle.world.specs.World.{opening}
 use Rattle.machine.specs.Process.{TheProcess, idle_process}
 use Rattle.machine.specs.Simulation.{TheMachine, Stands}
 
--- for each image a process that received nothing, numbered from 1
-pub record AreIdle (images : List Typed) (processes : List TheProcess) : Type 0 where
+-- for each image a process among n that received nothing, numbered from 1
+pub record AreIdle (n : ℕ) (images : List Typed) (processes : List TheProcess) : Type 0 where
   pub count : length processes ≡ length images
-  pub idle : (p : ℕ) (d : TheProcess) (e : Typed) → p < length images → slice_index_or processes p d ≡ idle_process (suc p) (length images) (slice_index_or images p e).len
+  pub idle : (p : ℕ) (d : TheProcess) (e : Typed) → p < length images → slice_index_or processes p d ≡ idle_process (suc p) n (slice_index_or images p e).len
 
 abbrev pub AreFew : List Typed → Type 0
 AreFew images = (0 < length images) × (length images ≤ 15)

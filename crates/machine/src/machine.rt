@@ -49,12 +49,12 @@ impl Model for Machine {
 // For each image a process that received nothing, numbered from 1.
 fn idle_processes(alloc: Global, images: &[Arc<Image>]) -> Result<Vec<Process>, AllocError>
     requires { length images.now ≤ 15 }
-    ensures { IfOk result (λ v. AreIdle (map arc_value images.now) v.items) }
+    ensures { IfOk result (λ v. AreIdle (length images.now) (map arc_value images.now) v.items) }
 {
     let n = images.len() as u8;
     let mut processes = Vec::new(alloc);
-    for (place, image) in images.iter().enumerate() {
-        let me = place as u8 + 1;
+    for image in images {
+        let me = processes.len() as u8 + 1;
         processes.push(Process::new(alloc, me, n, image.state_len())?)?;
     }
     Ok(processes)

@@ -97,6 +97,8 @@ enum Scene {
     Lost,
     ByPosition,
     Round,
+    FullWire,
+    FullJournal,
 }
 
 fn play_in<L: Ledger>(
@@ -125,6 +127,8 @@ fn play_in<L: Ledger>(
         Scene::Lost => messages::lost(rt, stage),
         Scene::ByPosition => messages::by_position(rt, stage),
         Scene::Round => messages::round(rt, stage),
+        Scene::FullWire => messages::full_wire(rt, stage),
+        Scene::FullJournal => messages::full_journal(rt, stage),
     }
 }
 
@@ -541,4 +545,14 @@ fn sends_leave_by_position(rt: HostRuntime) -> Result<(), Fail> {
 #[test]
 fn an_output_is_shown_once(rt: HostRuntime) -> Result<(), Fail> {
     play_round(&rt, rt.alloc(), Scene::Round)
+}
+
+#[test]
+fn a_full_wire_takes_no_packet(rt: HostRuntime) -> Result<(), Fail> {
+    play(&rt, rt.alloc(), 1, Scene::FullWire)
+}
+
+#[test]
+fn a_full_journal_takes_no_call(rt: HostRuntime) -> Result<(), Fail> {
+    play(&rt, rt.alloc(), 1, Scene::FullJournal)
 }

@@ -201,7 +201,7 @@ pub fn lost<L: Ledger>(rt: &impl Abort, stage: Stage<L>) -> Result<(), Fail> {
     let mut stage = stage;
     assert!(rt; stage.follows(&LOST));
     assert!(rt; stage.is_at(1, PhaseName::Up, 1, 5));
-    assert_eq!(rt; stage.refusal(Act::Lose(0)), 4);
+    assert_eq!(rt; stage.refusal(Act::Lose(1)), 4);
     assert_eq!(rt; stage.refusal(Act::Lose(4_096)), 4);
     assert_eq!(rt; stage.entries(), 9);
     Ok(())
@@ -226,5 +226,44 @@ pub fn round<L: Ledger>(rt: &impl Abort, stage: Stage<L>) -> Result<(), Fail> {
         return Err("one output is shown")?;
     };
     assert!(rt; output.sender == 2 && output.ssn == 1 && output.payload == word(7));
+    Ok(())
+}
+
+/// 4,096 packets are the most, those of the open jobs among them.
+pub fn full_wire<L: Ledger>(rt: &impl Abort, stage: Stage<L>) -> Result<(), Fail> {
+    let mut stage = stage;
+    let mut held = None;
+    assert_eq!(rt; stage.refusal(Act::Input(1, 5)), 0);
+    assert_eq!(rt; stage.refusal(Act::Transmit(0, 1, 1)), 0);
+    for copies in 1..4_096 {
+        assert_eq!(rt; stage.refusal(Act::Copy(0)), 0, "{copies}");
+    }
+    assert_eq!(rt; stage.refusal(Act::Copy(0)), 13);
+    assert_eq!(rt; stage.refusal(Act::Transmit(0, 1, 1)), 13);
+    assert!(rt; matches!(stage.act(&mut held, Act::Arrive(0)), Ok(Answer::Started(1))));
+    assert_eq!(rt; stage.refusal(Act::Copy(1)), 13);
+    assert!(rt; matches!(stage.act(&mut held, Act::Finish), Ok(Answer::Committed { rsn: 1, key: 0 })));
+    assert_eq!(rt; stage.refusal(Act::Copy(1)), 13);
+    assert_eq!(rt; stage.entries(), 4_099);
+    Ok(())
+}
+
+/// 65,536 entries are the most, those of the open jobs among them.
+pub fn full_journal<L: Ledger>(rt: &impl Abort, stage: Stage<L>) -> Result<(), Fail> {
+    let mut stage = stage;
+    assert_eq!(rt; stage.refusal(Act::Input(1, 5)), 0);
+    assert_eq!(rt; stage.refusal(Act::Transmit(0, 1, 1)), 0);
+    for pairs in 0..32_766 {
+        assert_eq!(rt; stage.refusal(Act::Copy(0)), 0, "{pairs}");
+        assert_eq!(rt; stage.refusal(Act::Lose(1)), 0, "{pairs}");
+    }
+    assert_eq!(rt; stage.refusal(Act::Copy(0)), 0);
+    assert_eq!(rt; stage.entries(), 65_535);
+    // The job would need a place of its own.
+    assert_eq!(rt; stage.refusal(Act::Arrive(0)), 12);
+    assert_eq!(rt; stage.refusal(Act::Lose(0)), 0);
+    assert_eq!(rt; stage.refusal(Act::Input(1, 6)), 12);
+    assert_eq!(rt; stage.refusal(Act::Lose(1)), 12);
+    assert_eq!(rt; stage.entries(), 65_536);
     Ok(())
 }

@@ -1,5 +1,5 @@
-use Rattle.std.proofs.Common.{rules, ◌≡◌, ◌<◌, ◌≤◌, ◌+◌, ◌-◌, ℕ, suc, arith, subst, sym, ap, ◌∙◌, length, map, set, slice_index_or}
-use Rattle.std.specs.Prelude.{Some, Option, is_some}
+use Rattle.std.proofs.Common.{rules, ◌≡◌, ◌<◌, ◌≤◌, ◌+◌, ◌-◌, arith, subst, sym, ap, ◌∙◌, length, map, slice_index_or}
+use Rattle.std.specs.Prelude.{Some, is_some}
 use Rattle.std.specs.Arc.{arc_value}
 use Rattle.std.proofs.lemmas.Grind.{common_steps}
 use Rattle.std.proofs.lemmas.List.{length-set, get_or-map}

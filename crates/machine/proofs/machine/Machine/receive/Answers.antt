@@ -1,1 +1,94 @@
+use Rattle.std.proofs.Common.{arith, ◌≡◌, ◌≢◌, ◌<◌, ◌≤◌, ◌+◌, ◌-◌, subst, sym, ap, ◌∙◌, slice_index_or, length, set, refl}
+use Rattle.std.specs.Prelude.{Some, None}
+use Rattle.std.specs.Arc.{arc_value}
+use Rattle.std.proofs.lemmas.List.{length-map}
+use Rattle.world.specs.declared.packet.Packet.TheVariants.{Delivery, Number}
+use Rattle.world.specs.declared.call.Call.TheVariants.{Arrive}
+use Rattle.world.specs.declared.answer.Answer.TheVariants.{Started, Duplicate, Early}
+use Rattle.world.specs.World.{World}
+use Rattle.machine.specs.Process.{TheProcess}
+use Rattle.machine.specs.Wire.{Puts}
+use Rattle.machine.specs.Inside.{view_of}
+use Rattle.machine.specs.Arrival.{IsOpen}
+use Rattle.machine.specs.Simulation.{TheMachine, Stands, Steps, process_at}
+use Rattle.machine.proofs.Arrivals.{early, started, again}
+use Rattle.machine.proofs.JobLemmas.{opens, begun-matches}
+use Rattle.machine.proofs.Keeping.{later, carried-put, keys-put}
+use Rattle.machine.proofs.Standing.{key-low}
 use Rattle.machine.proofs.machine.Machine.receive.Goals as goal
+
+pub invariant_of-self-in-Duplicate : goal.invariant_of-self-in-Duplicate
+invariant_of-self-in-Duplicate c =
+    let i = c.self.invariant in
+    let m = c.args.self.now in
+    let n = length c.self.inside.processes.items in
+    let wire : c.self.inside.wire ≡ m.slots = ap (λ (v : TheMachine). v.slots) c.self.view_is in
+    let many : length m.processes ≡ n = ap (λ (v : TheMachine). length v.processes) (sym c.self.view_is) in
+    let calls : c.self.inside.calls < 65536 = subst (λ (v : TheMachine). v.calls < 65536) (sym c.self.view_is) c.requires.may.calls in
+    let low = key-low c.self.inside.wire c.args.key _ i.keys (ap (λ ws. slice_index_or ws c.args.key None) wire ∙ c.requires.may.found) in
+    let k = c.requires.may.carried in
+    record {
+      some = i.some;
+      few = i.few;
+      images = i.images;
+      processes = λ p d e h. later n _ _ c.self.inside.calls _ (i.processes p d e h);
+      outside = i.outside;
+      calls = omega (arith, calls);
+      started = omega (arith, i.started);
+      inputs = λ d. omega (arith, i.inputs d);
+      shown = omega (arith, i.shown);
+      wire = carried-put c.self.inside.wire c.replace.new.self c.args.key _ _ c.replace.ensures n (c.requires.to, omega (arith, many, k.0), omega (arith, many, k.1), k.2, c.in-Duplicate.ensures.number) i.wire;
+      keys = keys-put c.self.inside.wire c.replace.new.self c.args.key _ _ c.replace.ensures low i.keys;
+    }
+
+pub returns-in-Early-clause-step : goal.returns-in-Early-clause-step
+returns-in-Early-clause-step c w s =
+    let m = c.args.self.now in
+    let d = c.drop_packet.ensures in
+    let slots = c.drop_packet.new.self.slots in
+    let puts : Puts m.slots slots c.args.key (Some (Delivery c.args.to c.args.message)) None = subst (λ was. Puts m.slots slots c.args.key was None) c.requires.may.found d.wire in
+    subst (λ v. Steps m v c.args.room (Arrive c.args.key) Early w) (sym d.others)
+    (early m w s c.args.room c.args.key c.args.to (m.calls + 1) c.args.message slots (c.requires.may.accepted w s) c.requires.may.found c.requires.may.carried.0 puts (c.in-Early.ensures.verdict w s))
+
+pub returns-in-Duplicate-clause-step : goal.returns-in-Duplicate-clause-step
+returns-in-Duplicate-clause-step c w s =
+    let m = c.args.self.now in
+    let to = c.args.to in
+    let x = c.args.message in
+    let slots = c.replace.new.self in
+    let number = Number to x.sender x.ssn c.in-Duplicate.rsn c.incarnation.result in
+    let wire : c.self.inside.wire ≡ m.slots = ap (λ (v : TheMachine). v.slots) c.self.view_is in
+    let low = key-low c.self.inside.wire c.args.key _ c.self.invariant.keys (ap (λ ws. slice_index_or ws c.args.key None) wire ∙ c.requires.may.found) in
+    let verdict = c.in-Duplicate.ensures.verdict w s in
+    let incarnation : c.incarnation.result ≡ (process_at m to).incarnation = c.incarnation.ensures ∙ ap (λ (z : TheProcess). z.incarnation) c.process.ensures.value in
+    let puts : Puts m.slots slots c.args.key (Some (Delivery to x)) (Some number) =
+    subst (λ was. Puts m.slots slots c.args.key was (Some number)) c.requires.may.found (subst (λ ws. Puts ws slots c.args.key (slice_index_or ws c.args.key None) (Some number)) wire c.replace.ensures) in
+    let P : TheMachine → Type 0 = λ v. Steps m (record v { slots = slots; calls = v.calls + 1 }) c.args.room (Arrive c.args.key) (Duplicate c.args.key) w in
+    subst P (sym c.self.view_is)
+    (again m w s c.args.room c.args.key to (m.calls + 1) x slots (c.requires.may.accepted w s) c.requires.may.found c.requires.may.carried.0 c.requires.to verdict.0 c.in-Duplicate.rsn c.incarnation.result (verdict.1 c.requires.to) incarnation low puts)
+
+pub returns-in_ok-job-in-Next-clause-step : goal.returns-in_ok-job-in-Next-clause-step
+returns-in_ok-job-in-Next-clause-step c w s =
+    let m = c.args.self.now in
+    let to = c.args.to in
+    let x = c.args.message in
+    let slots = c.remove.new.self in
+    let b = c.in_ok-job-in-Next.ensures.ok in
+    let is = c.self-in-Next.view_is ∙ b.becomes in
+    let wire : c.self-in-Next.inside.wire ≡ m.slots = ap (λ (v : TheMachine). v.slots) is in
+    let puts : Puts m.slots slots c.args.key (Some (Delivery to x)) None =
+    subst (λ was. Puts m.slots slots c.args.key was None) c.requires.may.found (subst (λ ws. Puts ws slots c.args.key (slice_index_or ws c.args.key None) None) wire c.remove.ensures) in
+    let P : TheMachine → Type 0 = λ v. Steps m (record v { slots = slots }) c.args.room (Arrive c.args.key) (Started c.in_ok-job-in-Next.job.serial) w in
+    subst P (sym is)
+    (started m w s c.args.room c.args.key to (m.calls + 1) x slots (c.requires.may.accepted w s) c.requires.may.found c.requires.may.carried.0 c.requires.to (c.in-Next.ensures.verdict w s) puts c.in_ok-job-in-Next.job.serial b.serial)
+
+pub returns-in_ok-job-in-Next-clause-job : goal.returns-in_ok-job-in-Next-clause-job
+returns-in_ok-job-in-Next-clause-job c =
+    let m = c.args.self.now in
+    let slots = c.remove.new.self in
+    let b = c.in_ok-job-in-Next.ensures.ok in
+    let v = c.begin.new.self in
+    let inside = c.self-in-Next.inside in
+    let sizes : length (view_of inside).images ≡ length (view_of inside).processes = length-map inside.images.items arc_value ∙ c.self-in-Next.invariant.images in
+    let P : TheMachine → Type 0 = λ u. length u.images ≡ length u.processes → (w : World) → Stands (record u { slots = slots }) w → IsOpen u.images c.in_ok-job-in-Next.job w in
+    subst P (sym c.self-in-Next.view_is) (λ sizes w s. opens (record v { slots = slots }) c.in_ok-job-in-Next.job w s sizes (begun-matches m v c.args.to c.args.message c.in_ok-job-in-Next.job slots b c.requires.to c.requires.may.carried.0)) sizes
