@@ -138,8 +138,8 @@ module _ (m : TheMachine) (w : World) (s : Stands m w) (room key : ℕ) where
     something = ap is_none (s.shows.wire key) ∙ by_slot (slice_index_or m.slots key None) some
       where
         by_slot : (o : Option Packet) → o ≢ None → is_none o ≡ false
-        by_slot None other = absurd (other refl)
-        by_slot (Some k) other = refl
+        by_slot None some = absurd (some refl)
+        by_slot (Some k) some = refl
 
     pub copy-rest : ((key : ℕ) → 4096 ≤ key → slice_index_or m.slots key None ≡ None) → refusal_of w room (Copy key) ≡ option_and_then cause_of (placing m room)
     copy-rest keys = rw something (place-is m w s room keys)

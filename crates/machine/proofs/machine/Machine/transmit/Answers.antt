@@ -1,4 +1,4 @@
-use Rattle.std.proofs.Common.{rules, ◌≡◌, ◌≢◌, ◌≤◌, ◌<◌, ◌+◌, arith, ap, subst, sym, ◌∙◌, length, true}
+use Rattle.std.proofs.Common.{rules, ◌≡◌, ◌≢◌, ◌≤◌, ◌<◌, ◌+◌, arith, ap, subst, sym, ◌∙◌, length, true, false, refl, true≢false}
 use Rattle.std.specs.Prelude.{Some, None, slice_index_or}
 use Rattle.std.proofs.lemmas.Grind.{common_steps}
 use Rattle.sender_log.specs.Queue.{is_logged, payload_of}
@@ -12,6 +12,7 @@ use Rattle.machine.specs.Wire.{Puts}
 use Rattle.machine.specs.Simulation.{TheMachine, Stands, log_at}
 use Rattle.machine.specs.Sending.{MayLeave}
 use Rattle.machine.specs.Inside.{view_of, IsCarried}
+use Rattle.machine.proofs.Causes.{released-logged}
 use Rattle.machine.proofs.Keeping.{keys-put, sound-wire}
 use Rattle.machine.proofs.Sendings.{transmitted}
 use Rattle.machine.proofs.machine.Machine.transmit.Goals as goal
@@ -43,6 +44,14 @@ payload_is : (c : In_ok-key) → c.from_slice.result ≡ payload_of c.args.ssn (
 payload_is c =
     let there : c.from_slice.result ≡ payload_of c.args.ssn (queue_of c.args.to c.log.result.now) = first_of (search rules, grind (arith, common_steps)) in
     there ∙ ap (λ (l : TheLog). payload_of c.args.ssn (queue_of c.args.to l)) (log c)
+
+-- what is released was logged
+pub returns-in_default-entry-clause-step : goal.returns-in_default-entry-clause-step
+returns-in_default-entry-clause-step c =
+    let m = c.args.self.now in
+    let may : MayLeave m c.args.from c.args.to c.args.ssn = c.in_default.ensures.none.0 in
+    let none : is_logged c.args.ssn (queue_of c.args.to (log_at m c.args.from)) ≡ false = first_of (search rules, grind (arith, common_steps)) in
+    (refl, λ w s. absurd (true≢false (sym (released-logged m w s c.args.room c.args.from c.args.to c.args.ssn may.from_within may.to_within may.other may.released may.first) ∙ none)))
 
 pub invariant_of-self-2 : goal.invariant_of-self-2
 unfolding packet
