@@ -390,6 +390,10 @@ records-else old new t r i k records = by_sender (t == 0) records
 
 -- An acknowledgement that arrives at the receiver
 
+-- all that changes in its process
+pub acknowledges-is : (k : ℕ) (x y : TheProcess) → Acknowledges k x y → y ≡ record x { receipts = rsn.acknowledged k x.receipts; outbox = record x.outbox { gate = y.outbox.gate } }
+acknowledges-is k x y a = a.others ∙ ap (λ (e : rsn.Received). record x { receipts = e; outbox = record x.outbox { gate = y.outbox.gate } }) a.receipts
+
 module _ (m : TheMachine) (w : World) (s : Stands m w) (room key t r k incarnation calls : ℕ) (slots : List (Option Packet)) (accepted : refusal_of w room (Arrive key) ≡ None) (found : slice_index_or m.slots key None ≡ Some (Acknowledgement t r k incarnation)) (inside : 0 < r) (within : r ≤ length m.processes) (puts : Puts m.slots slots key (Some (Acknowledgement t r k incarnation)) None) where
   receiver : StandsAt (process_at m r) (w.handlers.state r) (w.history r) (w.phase r) (w.incarnation r) (w.acknowledged r)
   receiver = at_process m w s r inside within
@@ -432,7 +436,7 @@ module _ (m : TheMachine) (w : World) (s : Stands m w) (room key t r k incarnati
     acks : StandsAt y (w.handlers.state r) (w.history r) (w.phase r) (w.incarnation r) (put (w.acknowledged r) k true)
     acks =
         let z : TheProcess = record (process_at m r) { receipts = rsn.acknowledged k (process_at m r).receipts; outbox = record (process_at m r).outbox { gate = y.outbox.gate } } in
-        let is : y ≡ z = a.others ∙ ap (λ (e : rsn.Received). record (process_at m r) { receipts = e; outbox = record (process_at m r).outbox { gate = y.outbox.gate } }) a.receipts in
+        let is : y ≡ z = acknowledges-is k (process_at m r) y a in
         let at : StandsAt z (w.handlers.state r) (w.history r) (w.phase r) (w.incarnation r) (put (w.acknowledged r) k true) =
         record { state_is = receiver.state_is; senders = receiver.senders; flags = as_many; acknowledged_is = flags_are; in_order = receiver.in_order; phase_is = receiver.phase_is; next = receiver.next; incarnation_is = receiver.incarnation_is } in
         subst (λ v. StandsAt v (w.handlers.state r) (w.history r) (w.phase r) (w.incarnation r) (put (w.acknowledged r) k true)) (sym is) at
