@@ -6,20 +6,20 @@ use Rattle.std.proofs.Math.ListN.{get_or-eq_default}
 use Rattle.std.proofs.lemmas.List.{get_or-set_same, get_or-set_other, length-set, length-map}
 use Rattle.rsn.specs.Receipts as rsn
 use Rattle.sender_log.specs.Queue.{TheQueue, no_queue, is_logged, recorded}
-use Rattle.sender_log.specs.Log.{TheLog, queue_of, with_queue}
-use Rattle.send_gate.specs.Gate.{TheGate, Releases}
+use Rattle.sender_log.specs.Log.{TheLog, queue_of}
+use Rattle.send_gate.specs.Gate.{Releases}
 use Rattle.world.specs.declared.message.Message.{Message}
 use Rattle.world.specs.declared.packet.Packet.{Packet}
 use Rattle.world.specs.declared.packet.Packet.TheVariants.{Delivery, Number, Acknowledgement}
 use Rattle.world.specs.declared.call.Call.TheVariants.{Arrive}
 use Rattle.world.specs.declared.answer.Answer.{Answer}
 use Rattle.world.specs.declared.answer.Answer.TheVariants.{Started, Duplicate, Early, Shown, ShownBefore, Numbered, Acknowledged, Stale}
-use Rattle.world.specs.History.{nth, count_of, rsn_of}
-use Rattle.world.specs.Phases.{Phase, Up, Busy, is_up}
+use Rattle.world.specs.History.{count_of, rsn_of}
+use Rattle.world.specs.Phases.{Busy, is_up}
 use Rattle.world.specs.World.{World, put}
 use Rattle.world.specs.Logs.{length_in, length_of, payloads, sent, run_to, run_of, is_entry}
-use Rattle.world.specs.Calls.{lose, begin, duplicate, show, note, acknowledge, number_for, recorded as written, arrive}
-use Rattle.world.specs.Answers.{MayAnswer, WithKey, ReceivesAs, ReceivesUp, Verdict, Next, Known, Ahead, judge, target_of}
+use Rattle.world.specs.Calls.{lose, begin, note, number_for, recorded as written, arrive}
+use Rattle.world.specs.Answers.{ReceivesAs, ReceivesUp, Verdict, Next, Known, Ahead, judge, target_of}
 use Rattle.world.specs.Refusals.{refusal_of}
 use Rattle.theorems.proofs.Changes.{choose}
 use Rattle.theorems.proofs.PhaseLemmas.{up-length}

@@ -1,16 +1,18 @@
 -- A machine that opens
 use Rattle.std.proofs.Common.{◌≡◌, ◌≢◌, ◌⊎◌, inl, inr, ℕ, zero, suc, ◌+◌, ◌-◌, ◌*◌, ◌<◌, ◌≤◌, List, [], ◌∷◌, ◌++◌, length, map, take, replicate, Bool, true, false, refl, sym, ap, ◌∙◌, subst, arith, get_or}
-use Rattle.std.specs.Prelude.{slice_index_or, nat_lt}
+use Rattle.std.specs.Prelude.{◌==◌, if◌then◌else◌, None, slice_index_or, nat_lt}
 use Rattle.std.specs.Arc.{arc_value}
 use Rattle.std.proofs.lemmas.List.{get_or-map, get_or-replicate, get_or_push, get_or_append_left, length-replicate, length-map, length_push, take_more}
 use Rattle.std.proofs.Math.ListN.{get_or-eq_default}
+use Rattle.std.proofs.Math.Seq.{take-nil}
 use Rattle.std.proofs.lemmas.Bool.Decides.{nat_tests}
 use Rattle.std.proofs.lemmas.Option.{slice_get-get_or}
 use Rattle.verifier.specs.Typed.{Typed}
 use Rattle.sender_log.specs.Queue.{TheQueue, no_queue}
 use Rattle.sender_log.specs.Log.{TheLog, queue_of}
 use Rattle.world.specs.Fold.{handlers_of}
-use Rattle.world.specs.World.{opening}
+use Rattle.world.specs.World.{World, opening}
+use Rattle.world.specs.History.{Payload}
 use Rattle.world.specs.Phases.{Up}
 use Rattle.world.specs.Logs.{sent}
 use Rattle.world.proofs.FoldLemmas.{handlers_of-nothing}
@@ -21,6 +23,7 @@ use Rattle.theorems.proofs.GateLemmas.{opens-gated}
 use Rattle.machine.specs.Process.{TheProcess, idle_process}
 use Rattle.machine.specs.Outside.{TheOutside, empty_outside}
 use Rattle.machine.specs.Simulation.{TheMachine, StandsAt, Keeps, Holds, Shows, Stands, process_at, log_at, gate_at}
+use Rattle.machine.specs.Inside.{IsSoundAt, IsLogOf}
 use Rattle.machine.specs.Opening.{AreIdle}
 
 idle-split : (n : ℕ) (images : List Typed) (i : Typed) (ps : List TheProcess) → AreIdle n images ps → (p : ℕ) (d : TheProcess) (e : Typed) → p < suc (length images) → (b : Bool) → nat_lt p (length images) ≡ b
@@ -41,3 +44,120 @@ idle-push n images i ps a = record {
   count = omega (arith, length_push ps (idle_process (suc (length images)) n i.len), length_push images i, a.count);
   idle = λ p d e h. idle-split n images i ps a p d e (let l = length_push images i in omega (arith, l, h)) (nat_lt p (length images)) refl;
 }
+
+-- a list of one value, read anywhere with that value as default
+replicate-split : {X : Type 0} (n k : ℕ) (x : X) (b : Bool) → nat_lt k n ≡ b → slice_index_or (replicate n x) k x ≡ x
+replicate-split n k x true e = get_or-replicate n k x x (grind (arith, nat_tests))
+replicate-split n k x false e = get_or-eq_default (replicate n x) x {n = k} (let len = length-replicate n x in let h : n ≤ k = grind (arith, nat_tests) in omega (arith, len, h))
+
+replicate-at : {X : Type 0} (n k : ℕ) (x : X) → slice_index_or (replicate n x) k x ≡ x
+replicate-at n k x = replicate-split n k x (nat_lt k n) refl
+
+abbrev none : Typed
+none = record { code = []; slots = []; table = []; len = 0; low = 0 }
+
+abbrev pub fresh : List Typed → List TheProcess → TheMachine
+fresh images ps = record { images = images; processes = ps; outside = empty_outside (length images); slots = []; started = 0; calls = 0 }
+
+module _ (images : List Typed) (ps : List TheProcess) (a : AreIdle (length images) images ps) where
+  within : (p : ℕ) → p < length ps → p < length images
+  within p h = omega (arith, a.count, h)
+
+  -- each process is that of an image
+  pub idle-is : (p : ℕ) (d : TheProcess) → p < length ps → slice_index_or ps p d ≡ idle_process (suc p) (length images) (get_or images p none).len
+  idle-is p d h = a.idle p d none (within p h)
+
+  idle-stands : (p : ℕ) (d : TheProcess) → p < length ps → StandsAt (slice_index_or ps p d) ((handlers_of images).state (suc p)) [] Up 1 (λ k. false)
+  idle-stands p d h =
+      let image = get_or images p none in
+      let kept : StandsAt (idle_process (suc p) (length images) image.len) ((handlers_of images).state (suc p)) [] Up 1 (λ k. false) =
+      record {
+        state_is = sym (handlers_of-nothing images (suc p) image (slice_get-get_or images p none (within p h)));
+        senders = refl;
+        flags = refl;
+        acknowledged_is = λ k l. absurd (omega (arith, l));
+        in_order = tt;
+        phase_is = refl;
+        next = tt;
+        incarnation_is = refl;
+      } in
+      subst (λ (x : TheProcess). StandsAt x ((handlers_of images).state (suc p)) [] Up 1 (λ k. false)) (sym (idle-is p d h)) kept
+
+  w : World
+  w = opening (length images) (handlers_of images)
+
+  m : TheMachine
+  m = fresh images ps
+
+  -- no log has a message
+  unlogged : (p d : ℕ) → p ≤ length ps → (b : Bool) → (p == 0) ≡ b → queue_of d (if b then (empty_outside (length images)).log else (slice_index_or ps (p - 1) (idle_process 0 0 0)).outbox.log) ≡ no_queue
+  unlogged p d h true e = replicate-at (length images + 1) d no_queue
+  unlogged p d h false e =
+      let inside : p - 1 < length ps = grind (arith, nat_tests) in
+      ap (λ (x : TheProcess). queue_of d x.outbox.log) (idle-is (p - 1) (idle_process 0 0 0) inside) ∙ replicate-at (length images + 1) d no_queue
+
+  unsent : (p d : ℕ) (b : Bool) → (if b then [] else (handlers_of images).sends p [] d) ≡ []
+  unsent p d true = refl
+  unsent p d false = handlers-start images p d
+
+  empty-keeps : Keeps no_queue [] (λ k. None)
+  empty-keeps = record { first = refl; payloads_are = refl; as_many = refl; numbers_are = λ i l. absurd (omega (arith, l)) }
+
+  logs-kept : (p d : ℕ) → p ≤ length ps → Keeps (queue_of d (if p == 0 then (empty_outside (length images)).log else (slice_index_or ps (p - 1) (idle_process 0 0 0)).outbox.log)) (if p == 0 then [] else (handlers_of images).sends p [] d) (λ k. None)
+  logs-kept p d h =
+      let q = sym (unlogged p d h (p == 0) refl) in
+      let s = sym (unsent p d (p == 0)) in
+      let xs = if p == 0 then [] else (handlers_of images).sends p [] d in
+      subst (λ (x : TheQueue). Keeps x xs (λ k. None)) q (subst (λ (ys : List Payload). Keeps no_queue ys (λ k. None)) s empty-keeps)
+
+  gate-holds : (p d : ℕ) → 0 < p → p ≤ length ps → Holds d (slice_index_or ps (p - 1) (idle_process 0 0 0)).outbox.gate 0 0 0 (λ k. length ((handlers_of images).sends p (take k []) d))
+  gate-holds p d positive h =
+      let inside : p - 1 < length ps = omega arith in
+      let empty = (idle_process (suc (p - 1)) (length images) (get_or images (p - 1) none).len).outbox.gate in
+      let held : Holds d empty 0 0 0 (λ k. length ((handlers_of images).sends p (take k []) d)) =
+      record {
+        released_is = replicate-at 16 d 0;
+        waits = λ k low high. sym (ap (λ l. length ((handlers_of images).sends p l d)) (take-nil k) ∙ ap length (handlers-start images p d));
+      } in
+      subst (λ (x : TheProcess). Holds d x.outbox.gate 0 0 0 (λ k. length ((handlers_of images).sends p (take k []) d))) (sym (idle-is (p - 1) (idle_process 0 0 0) inside)) held
+
+  shown : Shows m w
+  unfolding m w
+  shown =
+      record {
+        count = sym a.count;
+        handlers = refl;
+        process = λ p d h. idle-stands p d h;
+        logs = λ p d hp hd apart. logs-kept p d hp;
+        gates = λ p d positive hp hd apart. gate-holds p d positive hp;
+        feeds = λ k. refl;
+        shown = refl;
+        wire = λ key. refl;
+        started = refl;
+        outside = refl;
+        trims = λ s d. refl;
+      }
+
+  pub opens : Stands (fresh images ps) (opening (length images) (handlers_of images))
+  unfolding m w
+  opens =
+      let n = length images in
+      let f = handlers_of images in
+      record { shows = shown; sound = opens-sound n f (handlers-grow images); tidy = opens-tidy n f; gated = opens-gated n f (handlers-start images) }
+
+  pub idle-sound : (p : ℕ) (d : TheProcess) (e : Typed) → p < length ps → IsSoundAt (length ps) (suc p) (slice_index_or images p e).len 0 (slice_index_or ps p d)
+  idle-sound p d e h =
+      let len = (slice_index_or images p e).len in
+      let sound : IsSoundAt (length ps) (suc p) len 0 (idle_process (suc p) (length images) len) =
+      record {
+        state = length-replicate len 0;
+        log = record { owner = refl; width = omega (arith, length-replicate (length images + 1) no_queue, a.count) };
+        begun_by = omega arith;
+      } in
+      subst (IsSoundAt (length ps) (suc p) len 0) (sym (a.idle p d e (within p h))) sound
+
+  pub outside-sound : IsLogOf (length ps) 0 (empty_outside (length images)).log
+  outside-sound = record { owner = refl; width = omega (arith, length-replicate (length images + 1) no_queue, a.count) }
+
+  pub inputs-sound : (d : ℕ) → (queue_of d (empty_outside (length images)).log).first + length (queue_of d (empty_outside (length images)).log).payloads ≤ 1
+  inputs-sound d = let e = ap (λ (q : TheQueue). q.first + length q.payloads) (replicate-at (length images + 1) d no_queue) in omega (arith, e)

@@ -1,12 +1,12 @@
 -- What an arrival changes
-use Rattle.std.specs.Prelude.{◌≡◌, ℕ, ◌+◌, ◌-◌, ◌<◌, length, Option, Some, None, ◌==◌, if◌then◌else◌, slice_index_or, slice_set}
+use Rattle.std.specs.Prelude.{◌≡◌, ℕ, ◌+◌, ◌-◌, ◌<◌, length, Some, None, ◌==◌, if◌then◌else◌, slice_index_or, slice_set}
 use Rattle.rsn.specs.declared.receipts.Judgement.{Judgement}
 use Rattle.rsn.specs.declared.receipts.Judgement.TheVariants as judgements
 use Rattle.sender_log.specs.Queue.{recorded}
 use Rattle.sender_log.specs.Log.{TheLog, queue_of, with_queue}
 use Rattle.world.specs.declared.message.Message.{Message}
 use Rattle.world.specs.declared.packet.Packet.{Packet}
-use Rattle.world.specs.declared.packet.Packet.TheVariants.{Delivery, Number, Acknowledgement}
+use Rattle.world.specs.declared.packet.Packet.TheVariants.{Number, Acknowledgement}
 use Rattle.world.specs.declared.call.Call.TheVariants.{Arrive}
 use Rattle.world.specs.History.{rsn_of}
 use Rattle.world.specs.World.{World}

@@ -1,4 +1,4 @@
-use Rattle.std.proofs.Common.{arith, ◌≡◌, ◌<◌, ◌+◌, subst, sym, ap, ◌∙◌, slice_index_or, length}
+use Rattle.std.proofs.Common.{arith, ◌≡◌, subst, sym, ap, ◌∙◌, slice_index_or, length}
 use Rattle.std.specs.Prelude.{Some, None}
 use Rattle.world.specs.declared.packet.Packet.TheVariants.{Delivery}
 use Rattle.machine.specs.Arriving.{MayArrive}

@@ -1,7 +1,5 @@
-use Rattle.std.proofs.Common.{rules, arith, ◌≡◌, ◌<◌, ◌+◌, subst, sym, ap, ◌∙◌, slice_index_or, length, refl}
-use Rattle.machine.proofs.Arrivals.{dropped}
+use Rattle.std.proofs.Common.{arith, ◌<◌, subst, sym, length}
 use Rattle.machine.specs.Simulation.{TheMachine}
-use Rattle.machine.specs.Inside.{view_of}
 use Rattle.machine.proofs.Keeping.{later, carried-put, keys-gone}
 use Rattle.machine.proofs.machine.Machine.drop_packet.Goals as goal
 

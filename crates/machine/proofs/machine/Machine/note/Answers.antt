@@ -1,11 +1,11 @@
-use Rattle.std.proofs.Common.{arith, ◌≡◌, ◌<◌, ◌≤◌, ◌+◌, subst, sym, ap, ◌∙◌, slice_index_or, length}
+use Rattle.std.proofs.Common.{arith, ◌≡◌, ◌+◌, subst, sym, ap, ◌∙◌, slice_index_or, length}
 use Rattle.std.specs.Prelude.{Some, None, Err}
 use Rattle.world.specs.declared.packet.Packet.TheVariants.{Number, Acknowledgement}
 use Rattle.world.specs.declared.call.Call.TheVariants.{Arrive}
 use Rattle.world.specs.declared.answer.Answer.TheVariants.{Numbered, Stale}
 use Rattle.machine.specs.Process.{TheProcess}
 use Rattle.machine.specs.Wire.{Puts}
-use Rattle.machine.specs.Inside.{view_of, IsCarried}
+use Rattle.machine.specs.Inside.{IsCarried}
 use Rattle.machine.specs.Arriving.{Drops}
 use Rattle.machine.specs.Simulation.{TheMachine, Steps, process_at}
 use Rattle.machine.proofs.Arrivals.{number-past, number-unlogged, noted, records-else}

@@ -1,42 +1,52 @@
-use Rattle.std.proofs.Common.{rules, ◌≡◌, ◌<◌, ◌≤◌, ℕ, [], length, map, replicate, refl, sym, ap, ◌∙◌, subst, arith}
+use Rattle.std.proofs.Common.{rules, ◌≡◌, ◌<◌, ◌≤◌, ◌+◌, ℕ, length, map, refl, sym, ap, ◌∙◌, subst, arith}
 use Rattle.std.specs.Arc.{arc_value}
-use Rattle.std.proofs.lemmas.Grind.{common_steps}
-use Rattle.std.proofs.lemmas.List.{length-map, length-replicate}
-use Rattle.verifier.specs.Typed.{Typed}
-use Rattle.machine.specs.Process.{TheProcess, idle_process}
 use Rattle.std.specs.Prelude.{Option, None, List, slice_index_or}
+use Rattle.std.proofs.lemmas.Grind.{common_steps}
+use Rattle.std.proofs.lemmas.List.{length-map}
+use Rattle.verifier.specs.Typed.{Typed}
+use Rattle.sender_log.specs.Log.{queue_of}
 use Rattle.world.specs.declared.packet.Packet.{Packet}
-use Rattle.machine.specs.Outside.{TheOutside}
-use Rattle.machine.specs.Inside.{AreCarried}
-use Rattle.machine.proofs.Openings.{opens, unlogged, states-fresh, receipts-fresh, logs-fresh}
+use Rattle.machine.specs.Process.{TheProcess}
+use Rattle.machine.specs.Outside.{TheOutside, empty_outside}
+use Rattle.machine.specs.Inside.{AreCarried, IsLogOf, IsSoundAt}
+use Rattle.machine.specs.Opening.{AreIdle}
+use Rattle.machine.proofs.Openings.{opens, idle-sound, outside-sound, inputs-sound}
 use Rattle.machine.proofs.machine.Machine.open.Goals as goal
 
 pub invariant_of-result : goal.invariant_of-result
 invariant_of-result c =
-    let images = map arc_value c.args.images.items in
+    let items = c.args.images.items in
+    let images = map arc_value items in
     let few : (0 < length images) × (length images ≤ 15) = first_of (search rules, grind (arith, common_steps)) in
     let xs = c.in_ok-processes.processes.items in
-    let is : xs ≡ map (λ (i : Typed). idle_process i.len) images = rw (← c.as_slice.ensures.value) c.in_ok-processes.ensures in
-    let len : length xs ≡ length images = ap length is ∙ length-map images (λ (i : Typed). idle_process i.len) in
-    let logs : c.in_ok-outside.outside.inputs ≡ replicate c.len-count.result unlogged = ap (λ (o : TheOutside). o.inputs) c.in_ok-outside.ensures in
-    let counted : c.len-count.result ≡ length images = first_of (search rules, grind (arith, common_steps)) in
+    let counted : length images ≡ length items = length-map items arc_value in
+    let handed : AreIdle (length items) images xs = subst (λ l. AreIdle (length l) (map arc_value l) xs) c.as_slice.ensures.value c.in_ok-processes.ensures in
+    let idle : AreIdle (length images) images xs = subst (λ n. AreIdle n images xs) (sym counted) handed in
+    let count : c.len-count.result ≡ length images = first_of (search rules, grind (arith, common_steps)) in
+    let outside : c.in_ok-outside.outside ≡ empty_outside (length images) = c.in_ok-outside.ensures ∙ ap empty_outside count in
     record {
-      some = omega (arith, len, few.0);
-      few = omega (arith, len, few.1);
-      images = sym (len ∙ length-map c.args.images.items arc_value);
-      inputs = ap length logs ∙ length-replicate c.len-count.result unlogged ∙ counted ∙ sym len;
-      states = subst (λ (ys : List TheProcess). (p : ℕ) (d : TheProcess) (e : Typed) → p < length ys → length (slice_index_or ys p d).state ≡ (slice_index_or images p e).len) (sym is) (states-fresh images);
+      some = omega (arith, idle.count, few.0);
+      few = omega (arith, idle.count, few.1);
+      images = omega (arith, idle.count, counted);
+      processes = idle-sound images xs idle;
+      outside = subst (λ (o : TheOutside). IsLogOf (length xs) 0 o.log) (sym outside) (outside-sound images xs idle);
       calls = omega arith;
       started = omega arith;
-      logs = λ p. subst (λ (ys : List (List (List ℕ))). length (slice_index_or ys p []) ≤ 0) (sym logs) (logs-fresh c.len-count.result p);
-      receipts = subst (λ (ys : List TheProcess). (p : ℕ) (d : TheProcess) → p < length ys → length (slice_index_or ys p d).receipts ≤ 0) (sym is) (receipts-fresh images);
+      inputs = λ d. subst (λ (o : TheOutside). (queue_of d o.log).first + length (queue_of d o.log).payloads ≤ 1) (sym outside) (inputs-sound images xs idle d);
+      shown = subst (λ (o : TheOutside). length o.shown ≤ 0) (sym outside) (omega arith);
       wire = subst (λ ws. AreCarried ws (length xs)) (sym c.new-2.ensures) (λ key k e. absurd (cc));
       keys = subst (λ (ws : List (Option Packet)). (key : ℕ) → 4096 ≤ key → slice_index_or ws key None ≡ None) (sym c.new-2.ensures) (λ key h. refl);
     }
 
 pub returns : goal.returns
 returns c =
-    let images = map arc_value c.args.images.items in
+    let items = c.args.images.items in
+    let images = map arc_value items in
     let few : (0 < length images) × (length images ≤ 15) = first_of (search rules, grind (arith, common_steps)) in
-    let counted : c.len-count.result ≡ length images = first_of (search rules, grind (arith, common_steps)) in
-    rw (c.in_ok-processes.ensures, c.as_slice.ensures.value, c.in_ok-outside.ensures, c.new-2.ensures, counted) (few, refl, refl, opens images)
+    let xs = c.in_ok-processes.processes.items in
+    let counted : length images ≡ length items = length-map items arc_value in
+    let handed : AreIdle (length items) images xs = subst (λ l. AreIdle (length l) (map arc_value l) xs) c.as_slice.ensures.value c.in_ok-processes.ensures in
+    let idle : AreIdle (length images) images xs = subst (λ n. AreIdle n images xs) (sym counted) handed in
+    let count : c.len-count.result ≡ length images = first_of (search rules, grind (arith, common_steps)) in
+    let outside : c.in_ok-outside.outside ≡ empty_outside (length images) = c.in_ok-outside.ensures ∙ ap empty_outside count in
+    rw (outside, c.new-2.ensures) (few, refl, refl, opens images xs idle)
