@@ -1,28 +1,26 @@
 -- A machine that opens
-use Rattle.std.proofs.Common.{◌≡◌, ◌≢◌, ◌⊎◌, inl, inr, ℕ, zero, suc, ◌+◌, ◌-◌, ◌*◌, ◌<◌, ◌≤◌, List, [], ◌∷◌, ◌++◌, length, map, take, replicate, Bool, true, false, refl, sym, ap, ◌∙◌, subst, arith, get_or}
+use Rattle.std.proofs.Common.{◌≡◌, ℕ, suc, ◌+◌, ◌-◌, ◌<◌, ◌≤◌, List, [], ◌∷◌, ◌++◌, length, map, take, replicate, Bool, true, false, refl, sym, ap, ◌∙◌, subst, arith, get_or}
 use Rattle.std.specs.Prelude.{◌==◌, if◌then◌else◌, None, slice_index_or, nat_lt}
-use Rattle.std.specs.Arc.{arc_value}
-use Rattle.std.proofs.lemmas.List.{get_or-map, get_or-replicate, get_or_push, get_or_append_left, length-replicate, length-map, length_push, take_more}
+use Rattle.std.proofs.lemmas.List.{get_or-replicate, get_or_push, get_or_append_left, length-replicate, length-map, length_push}
 use Rattle.std.proofs.Math.ListN.{get_or-eq_default}
 use Rattle.std.proofs.Math.Seq.{take-nil}
 use Rattle.std.proofs.lemmas.Bool.Decides.{nat_tests}
 use Rattle.std.proofs.lemmas.Option.{slice_get-get_or}
 use Rattle.verifier.specs.Typed.{Typed}
 use Rattle.sender_log.specs.Queue.{TheQueue, no_queue}
-use Rattle.sender_log.specs.Log.{TheLog, queue_of}
+use Rattle.sender_log.specs.Log.{queue_of}
 use Rattle.world.specs.Fold.{handlers_of}
 use Rattle.world.specs.World.{World, opening}
 use Rattle.world.specs.History.{Payload}
 use Rattle.world.specs.Phases.{Up}
-use Rattle.world.specs.Logs.{sent}
 use Rattle.world.proofs.FoldLemmas.{handlers_of-nothing}
 use Rattle.theorems.proofs.HandlerLemmas.{handlers-grow, handlers-start}
 use Rattle.theorems.proofs.Journals.{opens-sound}
 use Rattle.theorems.proofs.TidyLemmas.{opens-tidy}
 use Rattle.theorems.proofs.GateLemmas.{opens-gated}
 use Rattle.machine.specs.Process.{TheProcess, idle_process}
-use Rattle.machine.specs.Outside.{TheOutside, empty_outside}
-use Rattle.machine.specs.Simulation.{TheMachine, StandsAt, Keeps, Holds, Shows, Stands, process_at, log_at, gate_at}
+use Rattle.machine.specs.Outside.{empty_outside}
+use Rattle.machine.specs.Simulation.{TheMachine, StandsAt, Keeps, Holds, Shows, Stands}
 use Rattle.machine.specs.Inside.{IsSoundAt, IsLogOf}
 use Rattle.machine.specs.Opening.{AreIdle}
 
@@ -44,6 +42,10 @@ idle-push n images i ps a = record {
   count = omega (arith, length_push ps (idle_process (suc (length images)) n i.len), length_push images i, a.count);
   idle = λ p d e h. idle-split n images i ps a p d e (let l = length_push images i in omega (arith, l, h)) (nat_lt p (length images)) refl;
 }
+
+-- the images are those that were handed in
+pub idle-handed : {X : Type 0} (image_of : X → Typed) (given items : List X) (ps : List TheProcess) → given ≡ items → AreIdle (length given) (map image_of given) ps → AreIdle (length (map image_of items)) (map image_of items) ps
+idle-handed image_of given items ps same a = subst (λ n. AreIdle n (map image_of items) ps) (sym (length-map items image_of)) (subst (λ l. AreIdle (length l) (map image_of l) ps) same a)
 
 -- a list of one value, read anywhere with that value as default
 replicate-split : {X : Type 0} (n k : ℕ) (x : X) (b : Bool) → nat_lt k n ≡ b → slice_index_or (replicate n x) k x ≡ x

@@ -1,7 +1,7 @@
 use Rattle.std.proofs.Common.{◌≡◌, ◌+◌, ◌++◌, ◌∷◌, [], suc, length, map, take, sym, ap, ◌∙◌, subst, arith}
 use Rattle.std.specs.Arc.{arc_value}
-use Rattle.std.proofs.lemmas.List.{take_more, map-append, length-map, length-take-le}
-use Rattle.machine.specs.Process.{TheProcess, idle_process}
+use Rattle.std.proofs.lemmas.List.{take_more, map-append}
+use Rattle.machine.specs.Process.{idle_process}
 use Rattle.machine.specs.Opening.{AreIdle}
 use Rattle.machine.proofs.Openings.{idle-push}
 use Rattle.machine.proofs.machine.idle_processes.Goals as goal

@@ -3,31 +3,25 @@ use Rattle.std.specs.Arc.{arc_value}
 use Rattle.std.specs.Prelude.{Option, None, List, slice_index_or}
 use Rattle.std.proofs.lemmas.Grind.{common_steps}
 use Rattle.std.proofs.lemmas.List.{length-map}
-use Rattle.verifier.specs.Typed.{Typed}
 use Rattle.sender_log.specs.Log.{queue_of}
 use Rattle.world.specs.declared.packet.Packet.{Packet}
-use Rattle.machine.specs.Process.{TheProcess}
 use Rattle.machine.specs.Outside.{TheOutside, empty_outside}
-use Rattle.machine.specs.Inside.{AreCarried, IsLogOf, IsSoundAt}
-use Rattle.machine.specs.Opening.{AreIdle}
-use Rattle.machine.proofs.Openings.{opens, idle-sound, outside-sound, inputs-sound}
+use Rattle.machine.specs.Inside.{AreCarried, IsLogOf}
+use Rattle.machine.proofs.Openings.{idle-handed, opens, idle-sound, outside-sound, inputs-sound}
 use Rattle.machine.proofs.machine.Machine.open.Goals as goal
 
 pub invariant_of-result : goal.invariant_of-result
 invariant_of-result c =
-    let items = c.args.images.items in
-    let images = map arc_value items in
-    let few : (0 < length images) × (length images ≤ 15) = first_of (search rules, grind (arith, common_steps)) in
+    let images = map arc_value c.args.images.items in
     let xs = c.in_ok-processes.processes.items in
-    let counted : length images ≡ length items = length-map items arc_value in
-    let handed : AreIdle (length items) images xs = subst (λ l. AreIdle (length l) (map arc_value l) xs) c.as_slice.ensures.value c.in_ok-processes.ensures in
-    let idle : AreIdle (length images) images xs = subst (λ n. AreIdle n images xs) (sym counted) handed in
+    let few : (0 < length images) × (length images ≤ 15) = first_of (search rules, grind (arith, common_steps)) in
     let count : c.len-count.result ≡ length images = first_of (search rules, grind (arith, common_steps)) in
-    let outside : c.in_ok-outside.outside ≡ empty_outside (length images) = c.in_ok-outside.ensures ∙ ap empty_outside count in
+    let idle = idle-handed arc_value c.as_slice.result.now c.args.images.items xs c.as_slice.ensures.value c.in_ok-processes.ensures in
+    let outside = c.in_ok-outside.ensures ∙ ap empty_outside count in
     record {
       some = omega (arith, idle.count, few.0);
       few = omega (arith, idle.count, few.1);
-      images = omega (arith, idle.count, counted);
+      images = omega (arith, idle.count, length-map c.args.images.items arc_value);
       processes = idle-sound images xs idle;
       outside = subst (λ (o : TheOutside). IsLogOf (length xs) 0 o.log) (sym outside) (outside-sound images xs idle);
       calls = omega arith;
@@ -40,13 +34,9 @@ invariant_of-result c =
 
 pub returns : goal.returns
 returns c =
-    let items = c.args.images.items in
-    let images = map arc_value items in
+    let images = map arc_value c.args.images.items in
     let few : (0 < length images) × (length images ≤ 15) = first_of (search rules, grind (arith, common_steps)) in
-    let xs = c.in_ok-processes.processes.items in
-    let counted : length images ≡ length items = length-map items arc_value in
-    let handed : AreIdle (length items) images xs = subst (λ l. AreIdle (length l) (map arc_value l) xs) c.as_slice.ensures.value c.in_ok-processes.ensures in
-    let idle : AreIdle (length images) images xs = subst (λ n. AreIdle n images xs) (sym counted) handed in
     let count : c.len-count.result ≡ length images = first_of (search rules, grind (arith, common_steps)) in
-    let outside : c.in_ok-outside.outside ≡ empty_outside (length images) = c.in_ok-outside.ensures ∙ ap empty_outside count in
-    rw (outside, c.new-2.ensures) (few, refl, refl, opens images xs idle)
+    let idle = idle-handed arc_value c.as_slice.result.now c.args.images.items c.in_ok-processes.processes.items c.as_slice.ensures.value c.in_ok-processes.ensures in
+    let outside = c.in_ok-outside.ensures ∙ ap empty_outside count in
+    rw (outside, c.new-2.ensures) (few, refl, refl, opens images c.in_ok-processes.processes.items idle)

@@ -3,7 +3,7 @@ use Rattle.helpers.specs.declared.effects.Sent.{Sent}
 use Rattle.world.specs.History.{Payload}
 use Rattle.world.specs.Fold.{emitted_to}
 use Rattle.machine.specs.declared.mail.Mail.{Mail}
-use Rattle.machine.proofs.MailLemmas.{Gave, gave-nothing, gave-same, gave-more, gave-narrow, gave-order, gave-room, gave-all, sends_of, outputs_of, sends-none, sends-more, sends-skip, sends-few, outputs-none, outputs-more, outputs-all, outputs-few, emitted-few}
+use Rattle.machine.proofs.MailLemmas.{Gave, gave-same, gave-more, gave-narrow, gave-order, gave-room, gave-all, sends_of, outputs_of, sends-more, sends-skip, sends-few, outputs-more, outputs-all, outputs-few, emitted-few}
 use Rattle.machine.proofs.mail.Mail.post_all.Goals.{then-sent-ne0+in_ok-post, else-sent-ne0}
 use Rattle.machine.proofs.mail.Mail.post_all.Goals as goal
 

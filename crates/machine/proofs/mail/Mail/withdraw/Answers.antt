@@ -1,4 +1,3 @@
-use Rattle.std.proofs.Common.{subst, sym}
 use Rattle.machine.proofs.mail.Mail.withdraw.Goals as goal
 
 pub returns : goal.returns

@@ -1,9 +1,8 @@
-use Rattle.std.proofs.Common.{◌≡◌, ◌-◌, length, take, sym, ap, ◌∙◌, arith, subst}
+use Rattle.std.proofs.Common.{◌≡◌, ◌-◌, length, sym, ap, ◌∙◌, arith, subst}
 use Rattle.std.specs.Prelude.{slice_get, Some, None}
 use Rattle.std.proofs.lemmas.List.{length-take-le}
 use Rattle.std.proofs.lemmas.Option.{slice_get_within}
 use Rattle.send_gate.specs.declared.gate.Held.{Held}
-use Rattle.machine.specs.declared.mail.Mail.{Mail}
 use Rattle.machine.specs.Mail.{ArePosted}
 use Rattle.machine.proofs.MailLemmas.{top, bottom, top-destination, top-number, top-under}
 use Rattle.machine.proofs.mail.Mail.withdraw_last.Goals as goal
@@ -23,10 +22,12 @@ returns-in-Some c =
     let waiting = c.args.self.now.gate.waiting in
     let last : slice_get waiting (length waiting - 1) ≡ Some c.in-Some.held = sym c.last.ensures ∙ c.in-Some.is in
     let inside = slice_get_within waiting (length waiting - 1) c.in-Some.held last in
-    let rest = ap (λ g. length g.waiting) c.retract.ensures ∙ length-take-le (length waiting - 1) waiting (omega arith) in
-    (omega (arith, rest, inside), λ m f. let t = top c.args.rsn m c.args.self.now c.in-Some.held f last c.if-held-rsn.true in
-        let under = (λ i. record { log = c.retract-in-Some.ensures i; gate = c.retract.ensures i }) ∙ top-under c.args.rsn m c.args.self.now c.in-Some.held t in
-        record { below = f.below; letters = t.letters; posted_are = subst (ArePosted c.args.rsn t.letters m) (sym under) t.posted_are })
+    let rest = ap (λ g. length g.waiting) c.retract.ensures ∙ length-take-le (length waiting - 1) waiting (omega arith) in (
+      omega (arith, rest, inside),
+      λ m f. let t = top c.args.rsn m c.args.self.now c.in-Some.held f last c.if-held-rsn.true in
+          let under = (λ i. record { log = c.retract-in-Some.ensures i; gate = c.retract.ensures i }) ∙ top-under c.args.rsn m c.args.self.now c.in-Some.held t in
+          record { below = f.below; letters = t.letters; posted_are = subst (ArePosted c.args.rsn t.letters m) (sym under) t.posted_are },
+    )
 
 pub returns-in_default : goal.returns-in_default
 returns-in_default c = λ m f. bottom c.args.rsn m c.args.self.now f (λ held e same. c.if-held-rsn.false (let is : Some held ≡ Some c.in-Some.held = sym e ∙ sym c.last.ensures ∙ c.in-Some.is in let both : held ≡ c.in-Some.held = cc in sym (ap (λ (h : Held). h.rsn) both) ∙ same))
