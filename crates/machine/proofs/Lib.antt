@@ -15,3 +15,5 @@ pub mod MailLemmas
 pub mod Committing
 pub mod OutboxLemmas
 pub mod OutsideLemmas
+pub mod NumberLemmas
+pub mod Picks

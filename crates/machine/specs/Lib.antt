@@ -11,3 +11,4 @@ pub mod Jobs
 pub mod Arrival
 pub mod Sending
 pub mod Arriving
+pub mod Picking

@@ -20,6 +20,7 @@ mod machine;
 mod mail;
 mod outbox;
 mod outside;
+mod picking;
 mod process;
 mod sending;
 mod wire;

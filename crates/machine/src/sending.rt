@@ -45,7 +45,7 @@ impl Machine {
     }
 
     // Why a packet more would not be put on the wire.
-    fn place_cause(&self, room: u32) -> Option<Refusal>
+    pub(crate) fn place_cause(&self, room: u32) -> Option<Refusal>
         ensures { result ≡ placing self.now room }
     {
         let jobs = self.open_jobs();

@@ -1,6 +1,6 @@
 //! The packets on the wire, each under a key.
 
-ghost use Rattle.std.specs.Prelude.{◌≡◌, ℕ, ◌<◌, [], Some, None, is_some, IsSome, IfOk, OnErr, slice_index_or, count_by};
+ghost use Rattle.std.specs.Prelude.{◌≡◌, ℕ, ◌<◌, ◌≤◌, [], Some, None, is_some, IsSome, IfOk, OnErr, slice_index_or, count_by};
 ghost use Rattle.machine.specs.Wire.{Puts};
 
 use slab::Slab;
@@ -41,6 +41,13 @@ impl Wire {
         ensures { result ≡ count_by is_some self.now }
     {
         self.slab.len()
+    }
+
+    /// A key from which on no packet lies.
+    pub fn end(&self) -> usize
+        ensures { (key : ℕ) → result ≤ key → slice_index_or self.now key None ≡ None }
+    {
+        self.slab.capacity()
     }
 
     /// The packet under this key.

@@ -1,0 +1,343 @@
+-- Useful calls, as the machine's fields tell them
+use Rattle.std.proofs.Common.{◌≡◌, ◌≢◌, ℕ, zero, suc, ◌+◌, ◌-◌, ◌<◌, ◌≤◌, List, [], ◌∷◌, length, Bool, true, false, refl, sym, ap, ◌∙◌, subst, arith, true≢false}
+use Rattle.std.specs.Prelude.{if◌then◌else◌, ◌==◌, ◌&&◌, ◌||◌, not, nat_lt, nat_le, Option, Some, None, is_some, count_by, slice_index_or, option_and_then}
+use Rattle.std.proofs.lemmas.Bool.Decides.{nat_tests}
+use Rattle.std.proofs.lemmas.List.{length-map}
+use Rattle.rsn.specs.Receipts.{numbers_from, numbers_of, judged, run_of}
+use Rattle.rsn.specs.declared.receipts.Judgement.{Judgement}
+use Rattle.rsn.specs.declared.receipts.Judgement.TheVariants.{Next, Duplicate, Early}
+use Rattle.world.specs.declared.message.Message.{Message}
+use Rattle.world.specs.declared.packet.Packet.{Packet}
+use Rattle.world.specs.declared.call.Call.{Call}
+use Rattle.world.specs.declared.call.Call.TheVariants.{Input, Transmit, Copy, Lose, Arrive, Finish, Checkpoint, Trim, Crash, Recover, RecoverAlone, ReplayBegin, Resync as ResyncWith}
+use Rattle.world.specs.History.{count_of, rsn_of}
+use Rattle.world.specs.Phases.{is_up, is_down, is_working, is_replaying, todo_of, has}
+use Rattle.world.specs.World.{World, is_inside}
+use Rattle.world.specs.Logs.{released_to, is_entry}
+use Rattle.world.specs.Bounds.{WIRE, any_below, open_jobs, journal_full}
+use Rattle.world.specs.declared.refusal.Refusal.TheVariants.{JournalFull, WireFull}
+use Rattle.world.specs.Refusals.{least, refusal_of, cause_of}
+use Rattle.world.specs.Useful.{belongs, wants, works_on, is_unacknowledged, is_useful}
+use Rattle.machine.specs.Simulation.{TheMachine, StandsAt, Stands, process_at, phase_of}
+use Rattle.machine.specs.Sending.{busy, placing, released_at}
+use Rattle.machine.specs.Picking.{IsPick, ArePeers, next_ssn}
+use Rattle.machine.proofs.ReceiptLemmas.{senders, length-numbers, rsn_from-numbers}
+use Rattle.machine.proofs.NumberLemmas.{numbers_from-above, numbers_from-within, numbers_from-ascend, run_of-ends, rsn_from-none}
+use Rattle.machine.proofs.Standing.{wire-is, key-low, at_process, up_at, released_is}
+use Rattle.machine.proofs.Causes.{transmit-outside, transmit-same, transmit-rest, released-entry}
+
+-- the number that a judgement tells
+abbrev pub known_as : Judgement → Option ℕ
+known_as Next = None
+known_as (Duplicate k) = Some k
+known_as Early = None
+
+-- a judgement's number is one of those
+pub known-within : (s i : ℕ) (xs : List ℕ) (k : ℕ) → Duplicate k ≡ judged (numbers_from s 0 xs) i → (1 ≤ k) × (k ≤ length xs)
+known-within s i xs k e = by_place (nat_lt (i - 1) (length (numbers_from s 0 xs))) refl (i - 1 == length (numbers_from s 0 xs)) e
+  where
+    by_place : (b : Bool) → nat_lt (i - 1) (length (numbers_from s 0 xs)) ≡ b → (c : Bool) → Duplicate k ≡ (if b then Duplicate (slice_index_or (numbers_from s 0 xs) (i - 1) 0) else (if c then Next else Early)) → (1 ≤ k) × (k ≤ length xs)
+    by_place true l c f =
+        let at : k ≡ slice_index_or (numbers_from s 0 xs) (i - 1) 0 = cc in
+        let inside : i - 1 < length (numbers_from s 0 xs) = grind (arith, nat_tests) in
+        (omega (arith, at, numbers_from-above s 0 xs (i - 1) inside), omega (arith, at, numbers_from-within s 0 xs (i - 1) inside))
+    by_place false l true f = absurd (cc)
+    by_place false l false f = absurd (cc)
+
+next-is : (w : World) (from to : ℕ) → 0 < to → next_ssn w from to ≡ suc (count_of from (w.history to))
+next-is w from zero h = absurd (omega arith)
+next-is w from (suc to) h = refl
+
+-- what the receipts of a process tell of a sender's message
+module _ (m : TheMachine) (w : World) (s : Stands m w) (from to : ℕ) (inside : 0 < to) (within : to ≤ length m.processes) where
+  at : StandsAt (process_at m to) (w.handlers.state to) (w.history to) (w.phase to) (w.incarnation to) (w.acknowledged to)
+  at = at_process m w s to inside within
+
+  abbrev numbers : List ℕ
+  numbers = numbers_of from (process_at m to).receipts
+
+  numbers_are : numbers ≡ numbers_from from 0 (senders (w.history to))
+  numbers_are = ap (numbers_from from 0) at.senders
+
+  count : length numbers ≡ count_of from (w.history to)
+  count = ap length numbers_are ∙ length-numbers from 0 (w.history to)
+
+  -- the next of a sender
+  pub next-at : length (numbers_of from (process_at m to).receipts) + 1 ≡ next_ssn w from to
+  next-at = omega (arith, count, next-is w from to inside)
+
+  -- whether a number is acknowledged
+  pub flag-is : (k : ℕ) → 1 ≤ k → k ≤ length (process_at m to).receipts.senders → slice_index_or (process_at m to).receipts.acknowledged (k - 1) false ≡ w.acknowledged to k
+  flag-is k low high =
+      let size : length (process_at m to).receipts.senders ≡ length (w.history to) = ap length at.senders ∙ length-map (w.history to) (λ (x : Message). x.sender) in
+      let back : suc (k - 1) ≡ k = omega arith in
+      at.acknowledged_is (k - 1) (omega (arith, size)) ∙ ap (w.acknowledged to) back
+
+  module _ (i : ℕ) (first : 0 < i) where
+    known : i - 1 < length numbers → rsn_of (w.history to) from i ≡ Some (slice_index_or numbers (i - 1) 0)
+    known below = rsn_from-numbers 0 (λ _. 0) from i (w.history to) at.in_order first (omega (arith, count, below)) ∙ ap (λ ns. Some (slice_index_or ns (i - 1) 0)) (sym numbers_are)
+
+    unknown : length numbers ≤ i - 1 → rsn_of (w.history to) from i ≡ None
+    unknown above = rsn_from-none 0 (λ _. 0) from i (w.history to) at.in_order (omega (arith, count, above))
+
+    pub number-is : rsn_of (w.history to) from i ≡ known_as (judged numbers i)
+    number-is = by_place (nat_lt (i - 1) (length numbers)) refl (i - 1 == length numbers)
+      where
+        by_place : (b : Bool) → nat_lt (i - 1) (length numbers) ≡ b → (c : Bool) → rsn_of (w.history to) from i ≡ known_as (if b then Duplicate (slice_index_or numbers (i - 1) 0) else (if c then Next else Early))
+        by_place true e c = known (grind (arith, nat_tests))
+        by_place false e true = unknown (grind (arith, nat_tests))
+        by_place false e false = unknown (grind (arith, nat_tests))
+
+    -- a number that isn't acknowledged is one of the sender's, and is behind the run
+    pub unacknowledged : is_unacknowledged (w.acknowledged to) (rsn_of (w.history to) from i) ≡ true → (i ≤ length numbers) × (run_of (process_at m to).receipts.acknowledged < slice_index_or numbers (i - 1) 0)
+    unacknowledged e = by_place (nat_lt (i - 1) (length numbers)) refl
+      where
+        open_flag : (b : Bool) → not b ≡ true → b ≡ false
+        open_flag true f = absurd (cc)
+        open_flag false f = refl
+
+        by_place : (b : Bool) → nat_lt (i - 1) (length numbers) ≡ b → (i ≤ length numbers) × (run_of (process_at m to).receipts.acknowledged < slice_index_or numbers (i - 1) 0)
+        by_place true l =
+            let below : i - 1 < length numbers = grind (arith, nat_tests) in
+            let x = slice_index_or numbers (i - 1) 0 in
+            let low : 0 < x = numbers_from-above from 0 (process_at m to).receipts.senders (i - 1) below in
+            let high : x ≤ 0 + length (process_at m to).receipts.senders = numbers_from-within from 0 (process_at m to).receipts.senders (i - 1) below in
+            let flag : w.acknowledged to x ≡ false = open_flag (w.acknowledged to x) (rw (known below) at e) in
+            let open_at : slice_index_or (process_at m to).receipts.acknowledged (x - 1) false ≡ false = flag-is x (omega arith) (omega arith) ∙ flag in
+            let run = run_of-ends (process_at m to).receipts.acknowledged (x - 1) open_at in
+            (omega (arith, below), omega (arith, run, low))
+        by_place false l = let none = unknown (grind (arith, nat_tests)) in absurd (true≢false (sym (rw none at e)))
+
+-- What a receiver wants
+
+wants-inside : (w : World) (from to i : ℕ) → 0 < to → wants w from to i ≡ (is_up (w.phase to) && ((not (works_on (w.phase to) from i) && (i == suc (count_of from (w.history to)))) || is_unacknowledged (w.acknowledged to) (rsn_of (w.history to) from i)))
+wants-inside w from zero i h = absurd (omega arith)
+wants-inside w from (suc to) i h = refl
+
+or_false : (a b : Bool) → b ≡ true → ((not a && b) || false) ≡ not a
+or_false true b e = refl
+or_false false b e = rw e refl
+
+neither_or : (a b c : Bool) → b ≡ false → ((not a && b) || c) ≡ c
+neither_or true b c e = refl
+neither_or false b c e = rw e refl
+
+module _ (m : TheMachine) (w : World) (s : Stands m w) (from to i : ℕ) (inside : 0 < to) (within : to ≤ length m.processes) (first : 0 < i) where
+  up : is_up (w.phase to) ≡ true
+  up = up_at m w s to within
+
+  -- the next of its sender isn't wanted only by a process that works on it
+  pub wants-next : i ≡ next_ssn w from to → wants w from to i ≡ not (works_on (phase_of (process_at m to).working) from i)
+  wants-next e =
+      let at : i ≡ suc (count_of from (w.history to)) = e ∙ next-is w from to inside in
+      let same : (i == suc (count_of from (w.history to))) ≡ true = grind (arith, nat_tests) in
+      let none : rsn_of (w.history to) from i ≡ None = rsn_from-none 0 (λ _. 0) from i (w.history to) (at_process m w s to inside within).in_order (omega (arith, at)) in
+      wants-inside w from to i inside
+      ∙ rw (up, none) (or_false (works_on (w.phase to) from i) (i == suc (count_of from (w.history to))) same)
+      ∙ ap (λ q. not (works_on q from i)) (at_process m w s to inside within).phase_is
+
+  -- another is wanted where its number isn't acknowledged
+  pub wants-other : i ≢ next_ssn w from to → wants w from to i ≡ is_unacknowledged (w.acknowledged to) (rsn_of (w.history to) from i)
+  wants-other e =
+      let apart : i ≢ suc (count_of from (w.history to)) = λ f. e (f ∙ sym (next-is w from to inside)) in
+      let differ : (i == suc (count_of from (w.history to))) ≡ false = grind (arith, nat_tests) in
+      wants-inside w from to i inside
+      ∙ rw up (neither_or (works_on (w.phase to) from i) (i == suc (count_of from (w.history to))) (is_unacknowledged (w.acknowledged to) (rsn_of (w.history to) from i)) differ)
+
+-- What lies on the wire
+
+pub any_below-some : (test : ℕ → Bool) (n k : ℕ) → k < n → test k ≡ true → any_below test n ≡ true
+any_below-some test zero k h e = absurd (omega arith)
+any_below-some test (suc n) k h e = by_place (k == n) refl (any_below-some test n k)
+  where
+    either : (a b : Bool) → b ≡ true → (a || b) ≡ true
+    either true b e = refl
+    either false b e = e
+
+    by_place : (b : Bool) → (k == n) ≡ b → (k < n → test k ≡ true → any_below test n ≡ true) → any_below test (suc n) ≡ true
+    by_place true f more = let here : test n ≡ true = ap test (let same : n ≡ k = grind (arith, nat_tests) in same) ∙ e in rw here refl
+    by_place false f more = either (test n) (any_below test n) (more (grind (arith, nat_tests)) e)
+
+pub any_below-all : (test : ℕ → Bool) (n : ℕ) → ((k : ℕ) → test k ≡ false) → any_below test n ≡ false
+any_below-all test zero none = refl
+any_below-all test (suc n) none = rw (none n) (any_below-all test n none)
+
+-- a packet that belongs to a message lies on the wire
+pub wire-has : (m : TheMachine) (w : World) (from to i key : ℕ) (k : Packet) → Stands m w → ((key : ℕ) → 4096 ≤ key → slice_index_or m.slots key None ≡ None) → slice_index_or m.slots key None ≡ Some k → belongs w from to i (Some k) ≡ true
+    → any_below (λ key. belongs w from to i (w.wire key)) WIRE ≡ true
+wire-has m w from to i key k s keys found e =
+    let low : key < WIRE = rw wire-is (key-low m.slots key k keys found) in
+    any_below-some (λ key. belongs w from to i (w.wire key)) WIRE key low (ap (belongs w from to i) (s.shows.wire key ∙ found) ∙ e)
+
+-- and none does where none of the first n keys has one, and there is none from n on
+pub wire-lacks : (m : TheMachine) (w : World) (from to i n : ℕ) → Stands m w → ((key : ℕ) → n ≤ key → slice_index_or m.slots key None ≡ None) → ((key : ℕ) → key < n → belongs w from to i (w.wire key) ≡ false)
+    → any_below (λ key. belongs w from to i (w.wire key)) WIRE ≡ false
+wire-lacks m w from to i n s none low = any_below-all (λ key. belongs w from to i (w.wire key)) WIRE (λ key. by_size key (nat_lt key n) refl)
+  where
+    by_size : (key : ℕ) (b : Bool) → nat_lt key n ≡ b → belongs w from to i (w.wire key) ≡ false
+    by_size key true e = low key (grind (arith, nat_tests))
+    by_size key false e = ap (belongs w from to i) (s.shows.wire key ∙ none key (grind (arith, nat_tests)))
+
+-- A useful message
+
+both : (a b : Bool) → (a && b) ≡ true → (a ≡ true) × (b ≡ true)
+both true true e = (refl, refl)
+both true false e = absurd (cc)
+both false b e = absurd (cc)
+
+last_false : (a b : Bool) → b ≡ false → (a && b) ≡ false
+last_false true b e = e
+last_false false b e = refl
+
+module _ (m : TheMachine) (w : World) (s : Stands m w) (room from to i : ℕ) (peers : ArePeers m from to) where
+  released : released_to w from to ≡ released_at m from to
+  released = released_is m w s from to peers.from_within peers.to_within peers.other
+
+  -- one that isn't released isn't
+  pub useful-early : released_at m from to < i → is_useful w (Transmit from to i) ≡ false
+  useful-early above =
+      let out : nat_le i (released_at m from to) ≡ false = grind (arith, nat_tests) in
+      rw (released, last_false (is_up (w.phase from) && is_entry w from to i) (nat_le i (released_at m from to)) out) refl
+
+  -- of one that is released and logged the wire and the receiver tell
+  pub useful-is : 0 < i → i ≤ released_at m from to → is_useful w (Transmit from to i) ≡ (not (any_below (λ key. belongs w from to i (w.wire key)) WIRE) && wants w from to i)
+  useful-is first among =
+      let free : nat_le i (released_at m from to) ≡ true = grind (arith, nat_tests) in
+      let logged : is_entry w from to i ≡ true = released-entry m w s room from to i peers.from_within peers.to_within peers.other among first in
+      rw (released, up_at m w s from peers.from_within, logged, free) refl
+
+  module _ (useful : is_useful w (Transmit from to i) ≡ true) where
+    parts : ((is_up (w.phase from) && is_entry w from to i && nat_le i (released_to w from to) && not (any_below (λ key. belongs w from to i (w.wire key)) WIRE)) ≡ true) × (wants w from to i ≡ true)
+    parts = both _ _ useful
+
+    pub useful-wanted : wants w from to i ≡ true
+    useful-wanted = parts.1
+
+    fields : (is_up (w.phase from) && is_entry w from to i ≡ true) × (nat_le i (released_to w from to) ≡ true)
+    fields = both _ _ (both _ _ parts.0).0
+
+    pub useful-first : 0 < i
+    useful-first =
+        let entry : is_entry w from to i ≡ true = (both _ _ fields.0).1 in
+        let above : nat_lt (w.trims from to) i ≡ true = (both (not (is_down (w.phase from))) (nat_lt (w.trims from to) i) (both _ _ entry).0).1 in
+        grind (arith, nat_tests, s.shows.trims from to, above)
+
+    pub useful-released : i ≤ released_at m from to
+    useful-released = let low : nat_le i (released_at m from to) ≡ true = rw released at fields.1 in grind (arith, nat_tests)
+
+    -- a packet more has a place or none, and the message is accepted so
+    pub useful-place : ((key : ℕ) → 4096 ≤ key → slice_index_or m.slots key None ≡ None) → refusal_of w room (Transmit from to i) ≡ option_and_then cause_of (placing m room)
+    useful-place keys = transmit-rest m w s room from to i peers.from_within peers.to_within peers.other useful-released useful-first keys
+
+    pub useful-pick : ((key : ℕ) → 4096 ≤ key → slice_index_or m.slots key None ≡ None) → placing m room ≡ None → IsPick w room (Transmit from to i)
+    useful-pick keys free = record { useful = useful; accepted = useful-place keys ∙ ap (option_and_then cause_of) free }
+
+    -- one that isn't the next of its sender is one whose number is behind the run
+    pub useful-again : 0 < to → i ≢ next_ssn w from to → (i ≤ length (numbers_of from (process_at m to).receipts)) × (run_of (process_at m to).receipts.acknowledged < slice_index_or (numbers_of from (process_at m to).receipts) (i - 1) 0)
+    useful-again inside apart =
+        unacknowledged m w s from to inside peers.to_within i useful-first (sym (wants-other m w s from to i inside peers.to_within useful-first apart) ∙ useful-wanted)
+
+-- a pick passes between two of the machine
+pub pick-peers : (m : TheMachine) (w : World) (s : Stands m w) (room from to i : ℕ) → refusal_of w room (Transmit from to i) ≡ None → ArePeers m from to
+pick-peers m w s room from to i e =
+    by_number (nat_lt (length m.processes) from || nat_lt (length m.processes) to) refl
+  where
+    by_number : (b : Bool) → (nat_lt (length m.processes) from || nat_lt (length m.processes) to) ≡ b → ArePeers m from to
+    by_number true f = let told = transmit-outside m w s room from to i f in absurd (cc)
+    by_number false f =
+        let from_within : from ≤ length m.processes = grind (arith, nat_tests) in
+        let to_within : to ≤ length m.processes = grind (arith, nat_tests) in
+        record { from_within = from_within; to_within = to_within; other = λ same. let told = transmit-same m w s room from to i from_within to_within same in absurd (cc) }
+
+-- the outside wants the next of a sender alone
+pub outside-next : (w : World) (from to i : ℕ) → to ≡ 0 → wants w from to i ≡ true → i ≡ next_ssn w from to
+outside-next w from zero i e wanted = grind (arith, nat_tests)
+outside-next w from (suc to) i e wanted = absurd (omega arith)
+
+-- what holds of n and above it holds above the number before n
+pub below-more : (P : ℕ → Type 0) (n top : ℕ) → 0 < n → P n → ((i : ℕ) → n < i → i ≤ top → P i) → (i : ℕ) → n - 1 < i → i ≤ top → P i
+below-more P n top first here above i over under = by_place (n == i) refl
+  where
+    by_place : (b : Bool) → (n == i) ≡ b → P i
+    by_place true e = let same : n ≡ i = grind (arith, nat_tests) in subst P same here
+    by_place false e = above i (grind (arith, nat_tests)) under
+
+-- where the number of n is in the run, none up to n is wanted again
+pub run-passes : (m : TheMachine) (w : World) (s : Stands m w) (from to n i : ℕ) → ArePeers m from to → 0 < to → n ≤ length (numbers_of from (process_at m to).receipts)
+    → slice_index_or (numbers_of from (process_at m to).receipts) (n - 1) 0 ≤ run_of (process_at m to).receipts.acknowledged
+    → ((j : ℕ) → n < j → j ≤ length (numbers_of from (process_at m to).receipts) → is_useful w (Transmit from to j) ≢ true)
+    → i ≢ next_ssn w from to → is_useful w (Transmit from to i) ≢ true
+run-passes m w s from to n i peers inside within low above apart useful =
+    by_place (nat_lt n i) refl
+  where
+    again : (i ≤ length (numbers_of from (process_at m to).receipts)) × (run_of (process_at m to).receipts.acknowledged < slice_index_or (numbers_of from (process_at m to).receipts) (i - 1) 0)
+    again = useful-again m w s 0 from to i peers useful inside apart
+
+    by_place : (b : Bool) → nat_lt n i ≡ b → ⊥
+    by_place true e = above i (grind (arith, nat_tests)) again.0 useful
+    by_place false e =
+        let upto : i ≤ n = grind (arith, nat_tests) in
+        let first : 0 < i = useful-first m w s 0 from to i peers useful in
+        let ascend = numbers_from-ascend from 0 (process_at m to).receipts.senders (i - 1) (n - 1) (omega arith) (omega arith) in
+        absurd (omega (arith, ascend, again.1, low))
+
+free-place : (full crowded : Bool) → option_and_then cause_of (if full then Some JournalFull else (if crowded then Some WireFull else None)) ≡ None → (if full then Some JournalFull else (if crowded then Some WireFull else None)) ≡ None
+free-place true b e = absurd (cc)
+free-place false true e = absurd (cc)
+free-place false false e = refl
+
+-- a message that is picked has a place
+pub pick-placed : (m : TheMachine) (w : World) (s : Stands m w) (room from to i : ℕ) → ((key : ℕ) → 4096 ≤ key → slice_index_or m.slots key None ≡ None) → IsPick w room (Transmit from to i) → placing m room ≡ None
+pick-placed m w s room from to i keys k =
+    free-place (nat_le room (busy m)) (nat_le (4096 - busy m) (count_by is_some m.slots)) (sym (useful-place m w s room from to i (pick-peers m w s room from to i k.accepted) k.useful keys) ∙ k.accepted)
+
+pub none-is : {X : Type 0} (o : Option X) → is_some o ≡ false → o ≡ None
+none-is None e = refl
+none-is (Some x) e = absurd (cc)
+
+-- No other call is useful: no process replays or restores numbers
+
+inside-or : (b : Bool) (rest : List (Bool × ℕ)) → least ((not b, 1) ∷ rest) ≡ None → b ≡ true
+inside-or true rest e = refl
+inside-or false rest e = absurd (cc)
+
+is_replaying-phase_of : (o : Option Message) → is_replaying (phase_of o) ≡ false
+is_replaying-phase_of None = refl
+is_replaying-phase_of (Some x) = refl
+
+todo_of-phase_of : (o : Option Message) → todo_of (phase_of o) ≡ []
+todo_of-phase_of None = refl
+todo_of-phase_of (Some x) = refl
+
+module _ (m : TheMachine) (w : World) (s : Stands m w) (p : ℕ) (inside : is_inside w p ≡ true) where
+  phase : w.phase p ≡ phase_of (process_at m p).working
+  phase =
+      let first : 0 < p = grind (arith, nat_tests) in
+      let within : p ≤ length m.processes = let upto : p ≤ w.count = grind (arith, nat_tests) in omega (arith, upto, s.shows.count) in
+      (at_process m w s p first within).phase_is
+
+  no_replay : is_replaying (w.phase p) ≡ false
+  no_replay = ap is_replaying phase ∙ is_replaying-phase_of (process_at m p).working
+
+  no_todo : todo_of (w.phase p) ≡ []
+  no_todo = ap todo_of phase ∙ todo_of-phase_of (process_at m p).working
+
+-- a call is picked only if it is an arrival, or a message that leaves
+pub pick-none : (m : TheMachine) (w : World) (s : Stands m w) (room : ℕ) → ((key : ℕ) → refusal_of w room (Arrive key) ≢ None) → ((p d i : ℕ) → IsPick w room (Transmit p d i) → ⊥) → (call : Call) → IsPick w room call → ⊥
+pick-none m w s room arrivals leaves (Input d feed x) k = true≢false (sym k.useful)
+pick-none m w s room arrivals leaves (Transmit p d i) k = leaves p d i k
+pick-none m w s room arrivals leaves (Copy key) k = true≢false (sym k.useful)
+pick-none m w s room arrivals leaves (Lose key) k = true≢false (sym k.useful)
+pick-none m w s room arrivals leaves (Arrive key) k = arrivals key k.accepted
+pick-none m w s room arrivals leaves (Finish p) k = true≢false (sym k.useful)
+pick-none m w s room arrivals leaves (Checkpoint p) k = true≢false (sym k.useful)
+pick-none m w s room arrivals leaves (Trim d) k = true≢false (sym k.useful)
+pick-none m w s room arrivals leaves (Crash p) k = true≢false (sym k.useful)
+pick-none m w s room arrivals leaves (Recover p) k = true≢false (sym k.useful)
+pick-none m w s room arrivals leaves (RecoverAlone p) k = true≢false (sym k.useful)
+pick-none m w s room arrivals leaves (ReplayBegin p) k =
+    let inside : is_inside w p ≡ true = inside-or (is_inside w p) ((is_working (w.phase p), 3) ∷ (not (is_replaying (w.phase p)), 11) ∷ (journal_full room (open_jobs w + 1), 12) ∷ []) k.accepted in
+    true≢false (sym (both (is_replaying (w.phase p)) (not (is_working (w.phase p))) k.useful).0 ∙ no_replay m w s p inside)
+pick-none m w s room arrivals leaves (ResyncWith p r) k =
+    let inside : is_inside w p ≡ true = (both (is_inside w p) (is_inside w r) (inside-or (is_inside w p && is_inside w r) ((p == r, 5) ∷ (not (is_up (w.phase r)), 8) ∷ (not (has (todo_of (w.phase p)) r), 11) ∷ (journal_full room (open_jobs w), 12) ∷ []) k.accepted)).0 in
+    true≢false (sym (both (has (todo_of (w.phase p)) r) (is_up (w.phase r)) k.useful).0 ∙ ap (λ ps. has ps r) (no_todo m w s p inside))

@@ -1,0 +1,6 @@
+use Rattle.std.proofs.Common.{ℕ, ◌<◌}
+use Rattle.machine.specs.Picking.{ArePeers, NoneWanted}
+use Rattle.machine.proofs.machine.Machine.pick_transmit.Given as goal
+
+abbrev pub invariant-loop-from : goal.invariant-loop-from
+invariant-loop-from l = (p d : ℕ) → p < l.from → ArePeers l.self p d → NoneWanted l.self p d

@@ -1,0 +1,239 @@
+//! Useful calls: those that bring the work on.
+
+ghost use Rattle.std.specs.Prelude.{◌≡◌, ◌≢◌, ℕ, ◌+◌, ◌<◌, ◌≤◌, length, IfNone, IfSome, None, Some, true};
+ghost use Rattle.world.specs.History.{rsn_of};
+ghost use Rattle.world.specs.World.{World};
+ghost use Rattle.world.specs.Bounds.{WIRE, any_below};
+ghost use Rattle.world.specs.Refusals.{refusal_of};
+ghost use Rattle.world.specs.Useful.{belongs, is_unacknowledged, is_useful, wants, works_on};
+ghost use Rattle.machine.specs.Inside.{IsCarried};
+ghost use Rattle.machine.specs.Simulation.{Stands, phase_of, process_at};
+ghost use Rattle.machine.specs.Picking.{IsPick, ArePeers, IsWanted, NoneWanted, next_ssn};
+
+use crate::machine::Machine;
+use rsn::Judgement;
+use world::{Call, Message, Packet};
+
+impl Machine {
+    /// A call that is useful and isn't refused with so much room in the journal for another cause
+    /// than want of memory, and `None` only where there is none: a packet that can be taken from
+    /// the wire, else a message that is put on it. Takes no memory.
+    pub fn pick(&self, room: u32) -> Option<Call>
+        ensures some { IfSome result (λ call. (w : World) → Stands self.now w → IsPick w room call) }
+        ensures none { IfNone result ((w : World) → Stands self.now w → (call : Call) → ¬ IsPick w room call) }
+    {
+        if let Some(key) = self.pick_arrival(room) {
+            return Some(Call::Arrive { key });
+        }
+        self.pick_transmit(room)
+    }
+
+    // The key of a packet that can be taken from the wire.
+    fn pick_arrival(&self, room: u32) -> Option<usize>
+        ensures some { IfSome result (λ key. (w : World) → Stands self.now w → refusal_of w room (Call.Arrive key) ≡ None) }
+        ensures none { IfNone result ((w : World) → Stands self.now w → (key : ℕ) → refusal_of w room (Call.Arrive key) ≢ None) }
+    {
+        for key in 0..self.wire.end() {
+            if self.arrive_cause(room, key).is_none() {
+                return Some(key);
+            }
+        }
+        None
+    }
+
+    // A message that can be put on the wire with use.
+    fn pick_transmit(&self, room: u32) -> Option<Call>
+        ensures some { IfSome result (λ call. (w : World) → Stands self.now w → IsPick w room call) }
+        ensures none { IfNone result ((w : World) → Stands self.now w → (p d i : ℕ) → ¬ IsPick w room (Call.Transmit p d i)) }
+    {
+        let count = self.processes.len() as u8;
+        if self.place_cause(room).is_some() {
+            return None;
+        }
+        for from in 0..count + 1 {
+            if let Some((to, ssn)) = self.wanted_of(from) {
+                return Some(Call::Transmit { from, to, ssn });
+            }
+        }
+        None
+    }
+
+    // A message of this sender that can be put on the wire with use: its receiver and its SSN.
+    fn wanted_of(&self, from: u8) -> Option<(u8, u32)>
+        requires { from ≤ length self.now.processes }
+        ensures some { IfSome result (λ x. ArePeers self.now from x.0 × IsWanted self.now from x.0 x.1) }
+        ensures none { IfNone result ((to : ℕ) → ArePeers self.now from to → NoneWanted self.now from to) }
+    {
+        for to in 0..self.count() + 1 {
+            if to == from {
+                continue;
+            }
+            if let Some(ssn) = self.wanted_between(from, to) {
+                return Some((to, ssn));
+            }
+        }
+        None
+    }
+
+    // The SSN of one between these two: the next of its sender, or one that the receiver has under a
+    // number which isn't acknowledged.
+    fn wanted_between(&self, from: u8, to: u8) -> Option<u32>
+        requires { ArePeers self.now from to }
+        ensures some { IfSome result (λ ssn. IsWanted self.now from to ssn) }
+        ensures none { IfNone result (NoneWanted self.now from to) }
+    {
+        let next = self.next_ssn(from, to);
+        if self.is_wanted(from, to, next) {
+            return Some(next);
+        }
+        if to == 0 {
+            return None;
+        }
+        self.wanted_again(from, to)
+    }
+
+    // The SSN of one that the receiver has, the last one first. Those whose numbers are in the run of
+    // acknowledged ones aren't looked at.
+    fn wanted_again(&self, from: u8, to: u8) -> Option<u32>
+        requires peers { ArePeers self.now from to }
+        requires inside { 0 < to }
+        ensures some { IfSome result (λ ssn. IsWanted self.now from to ssn) }
+        ensures none { IfNone result ((w : World) → Stands self.now w → (ssn : ℕ) → ssn ≢ next_ssn w from to → is_useful w (Call.Transmit from to ssn) ≢ true) }
+    {
+        let receipts = self.process(to).receipts();
+        let numbers = receipts.numbers(from);
+        let run = receipts.run_length();
+        let mut ssn = receipts.next(from) - 1;
+        while ssn > 0 && numbers[ssn as usize - 1] > run {
+            if self.is_wanted(from, to, ssn) {
+                return Some(ssn);
+            }
+            ssn -= 1;
+        }
+        None
+    }
+
+    // Whether the message of this SSN can be put on the wire with use.
+    fn is_wanted(&self, from: u8, to: u8, ssn: u32) -> bool
+        requires peers { ArePeers self.now from to }
+        requires ssn { 0 < ssn }
+        ensures { (w : World) → Stands self.now w → result ≡ is_useful w (Call.Transmit from to ssn) }
+    {
+        if ssn > self.released(from, to) {
+            return false;
+        }
+        if !self.wants(from, to, ssn) {
+            return false;
+        }
+        !self.is_on_wire(from, to, ssn)
+    }
+
+    // The SSN of the message that is next of this sender.
+    fn next_ssn(&self, from: u8, to: u8) -> u32
+        requires { ArePeers self.now from to }
+        ensures value { (w : World) → Stands self.now w → result ≡ next_ssn w from to }
+        ensures some { 0 < result }
+    {
+        if to == 0 {
+            return self.outside.shown_of(from) + 1;
+        }
+        self.process(to).receipts().next(from)
+    }
+
+    // Whether the receiver wants the message of this SSN.
+    fn wants(&self, from: u8, to: u8, ssn: u32) -> bool
+        requires peers { ArePeers self.now from to }
+        requires ssn { 0 < ssn }
+        ensures { (w : World) → Stands self.now w → result ≡ wants w from to ssn }
+    {
+        let is_next = ssn == self.next_ssn(from, to);
+        if to == 0 {
+            return is_next;
+        }
+        if is_next {
+            return !works_on(self.process(to).working(), from, ssn);
+        }
+        match self.number_of(from, to, ssn) {
+            Some(rsn) => !self.process(to).receipts().is_acknowledged(rsn),
+            None => false,
+        }
+    }
+
+    // The number under which a process has the message of this SSN.
+    fn number_of(&self, from: u8, to: u8, ssn: u32) -> Option<u32>
+        requires inside { (0 < to) × (to ≤ length self.now.processes) }
+        requires from { from ≤ length self.now.processes }
+        requires ssn { 0 < ssn }
+        ensures value { (w : World) → Stands self.now w → result ≡ rsn_of (w.history to) from ssn }
+        ensures bound { IfSome result (λ rsn. (1 ≤ rsn) × (rsn ≤ length (process_at self.now to).receipts.senders)) }
+    {
+        match self.process(to).receipts().judge(from, ssn) {
+            Judgement::Duplicate(rsn) => Some(rsn),
+            _ => None,
+        }
+    }
+
+    // Whether a packet belongs to the message of this SSN.
+    fn is_on_wire(&self, from: u8, to: u8, ssn: u32) -> bool
+        requires peers { ArePeers self.now from to }
+        requires ssn { 0 < ssn }
+        ensures { (w : World) → Stands self.now w → result ≡ any_below (λ key. belongs w from to ssn (w.wire key)) WIRE }
+    {
+        for key in 0..self.wire.end() {
+            if let Some(packet) = self.wire.get(key) {
+                if self.belongs(from, to, ssn, &packet) {
+                    return true;
+                }
+            }
+        }
+        false
+    }
+
+    // Whether this packet does: it is the message, or tells its present number, or acknowledges that.
+    fn belongs(&self, from: u8, to: u8, ssn: u32, packet: &Packet) -> bool
+        requires peers { ArePeers self.now from to }
+        requires ssn { 0 < ssn }
+        requires carried { IsCarried (length self.now.processes) packet.now }
+        ensures { (w : World) → Stands self.now w → result ≡ belongs w from to ssn (Some packet.now) }
+    {
+        match packet {
+            Packet::Delivery {
+                to: target,
+                message,
+            } => { *target == to && message.sender == from && message.ssn == ssn }
+            Packet::Number {
+                receiver,
+                sender,
+                ssn: place,
+                incarnation,
+                ..
+            } => {
+                *receiver == to
+                    && *sender == from
+                    && *place == ssn
+                    && *incarnation == self.process(*receiver).incarnation()
+            }
+            Packet::Acknowledgement {
+                sender,
+                receiver,
+                rsn,
+                incarnation,
+            } => {
+                *receiver == to
+                    && *sender == from
+                    && *incarnation == self.process(*receiver).incarnation()
+                    && self.number_of(from, *receiver, ssn) == Some(*rsn)
+            }
+        }
+    }
+}
+
+// Whether the message that is worked on is this one.
+fn works_on(working: Option<Message>, from: u8, ssn: u32) -> bool
+    ensures { result ≡ works_on (phase_of working) from ssn }
+{
+    match working {
+        Some(message) => message.sender == from && message.ssn == ssn,
+        None => false,
+    }
+}
