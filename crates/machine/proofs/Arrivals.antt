@@ -30,7 +30,7 @@ use Rattle.machine.specs.Arriving.{numbered, Records}
 use Rattle.machine.specs.Simulation.{TheMachine, process_at, log_at, gate_at, StandsAt, Keeps, Holds, Shows, Stands, Steps, IsNextAfter, sent_by}
 use Rattle.machine.proofs.Updates.{put-is, set-is}
 use Rattle.machine.proofs.Standing.{wire-is, at_process, up_at, entry_at}
-use Rattle.machine.proofs.Steps.{put-wire, step}
+use Rattle.machine.proofs.Steps.{put-wire, shows-wire, step}
 use Rattle.machine.proofs.Releasing.{run_of-run_to, flags-set, holds-released}
 
 -- the answer that a packet gets whose target is up
@@ -44,40 +44,14 @@ module _ (m : TheMachine) (w : World) (s : Stands m w) (room key : ℕ) (accepte
 
 module _ (m : TheMachine) (w : World) (s : Stands m w) (key calls : ℕ) (slots : List (Option Packet)) (was : Option Packet) where
   pub dropped : Puts m.slots slots key was None → Shows (record m { slots = slots; calls = calls }) (lose w key)
-  dropped puts =
-      record {
-        count = s.shows.count;
-        handlers = s.shows.handlers;
-        process = s.shows.process;
-        logs = s.shows.logs;
-        gates = s.shows.gates;
-        feeds = s.shows.feeds;
-        shown = s.shows.shown;
-        wire = put-wire w m.slots slots key was None s.shows.wire puts;
-        started = s.shows.started;
-        outside = s.shows.outside;
-        trims = s.shows.trims;
-      }
+  dropped puts = shows-wire m w s calls slots (put w.wire key None) (put-wire w m.slots slots key was None s.shows.wire puts)
 
   -- another packet lies where the first one was
   replaced : (is : Packet) → Puts m.slots slots key was (Some is) → (j : ℕ) → put (put w.wire key None) key (Some is) j ≡ slice_index_or slots j None
   replaced is puts j = put-is (put w.wire key None) (λ k. slice_index_or slots k None) key (Some is) puts.now (λ k apart. puts.others k apart ∙ sym (let other : (k == key) ≡ false = grind (arith, nat_tests) in rw other (s.shows.wire k))) j
 
   pub changed : (is : Packet) → Puts m.slots slots key was (Some is) → Shows (record m { slots = slots; calls = calls }) (record w { wire = put (put w.wire key None) key (Some is) })
-  changed is puts =
-      record {
-        count = s.shows.count;
-        handlers = s.shows.handlers;
-        process = s.shows.process;
-        logs = s.shows.logs;
-        gates = s.shows.gates;
-        feeds = s.shows.feeds;
-        shown = s.shows.shown;
-        wire = replaced is puts;
-        started = s.shows.started;
-        outside = s.shows.outside;
-        trims = s.shows.trims;
-      }
+  changed is puts = shows-wire m w s calls slots (put (put w.wire key None) key (Some is)) (replaced is puts)
 
 -- a key that was vacated is vacant
 vacated : (w : World) (key : ℕ) → put w.wire key None key ≡ None

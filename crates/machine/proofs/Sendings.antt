@@ -22,27 +22,10 @@ use Rattle.machine.specs.Inside.{IsSound}
 use Rattle.machine.specs.declared.machine.Machine.TheInside.{Inside}
 use Rattle.machine.specs.Simulation.{TheMachine, Keeps, Shows, Stands, Steps, process_at, log_at}
 use Rattle.machine.proofs.Standing.{wire-is, payload_at, last_at}
-use Rattle.machine.proofs.Steps.{put-wire, step}
+use Rattle.machine.proofs.Steps.{put-wire, shows-wire, step}
 use Rattle.machine.proofs.Keeping.{later}
+use Rattle.machine.proofs.Committing.{keeps-extended}
 use Rattle.machine.proofs.Arrivals.{dropped}
-
--- one message more, without a number
-pub keeps-appended : (q : TheQueue) (ps : List Payload) (ns : ℕ → Option ℕ) (x : Payload) → Keeps q ps ns → ns (suc (length ps)) ≡ None → Keeps (appended x q) (ps ++ x ∷ []) ns
-keeps-appended q ps ns x k none =
-    record {
-      first = k.first;
-      payloads_are = ap (λ xs. xs ++ x ∷ []) k.payloads_are;
-      as_many = length-append q.numbers (None ∷ []) ∙ ap (λ n. n + 1) k.as_many ∙ sym (length-append ps (x ∷ []));
-      numbers_are = λ i h. by_place i (i == length ps) refl (let e = length-append ps (x ∷ []) in omega (arith, e, h));
-    }
-  where
-    by_place : (i : ℕ) (b : Bool) → (i == length ps) ≡ b → i < length ps + 1 → slice_index_or (q.numbers ++ None ∷ []) i None ≡ ns (suc i)
-    by_place i true e h =
-        let last : i ≡ length ps = grind (arith, nat_tests) in
-        ap (λ j. slice_index_or (q.numbers ++ None ∷ []) j None) (last ∙ sym k.as_many) ∙ get_or-append_seam q.numbers None [] None ∙ sym none ∙ ap (λ j. ns (suc j)) (sym last)
-    by_place i false e h =
-        let before : i < length ps = grind (arith, nat_tests) in
-        get_or_append_left q.numbers (None ∷ []) None i (omega (arith, before, k.as_many)) ∙ k.numbers_are i before
 
 -- An input
 
@@ -53,19 +36,11 @@ module _ (m : TheMachine) (w : World) (s : Stands m w) (room d feed calls n : �
   apart : 0 ≢ d
   apart = λ e. absurd (omega (arith, e))
 
-  -- an input that is new has no number yet
-  fresh : w.numbers 0 d (suc (length (sent w 0 d))) ≡ None
-  fresh = by_number (w.numbers 0 d (suc (length (sent w 0 d)))) refl
-    where
-      by_number : (o : Option ℕ) → w.numbers 0 d (suc (length (sent w 0 d))) ≡ o → o ≡ None
-      by_number None e = refl
-      by_number (Some k) e = absurd (let t = (s.tidy 0).numbered d _ k e in omega (arith, t.1))
-
   keeps_outside : (q : ℕ) (b : Bool) → (q == d) ≡ b → q ≤ length m.processes → 0 ≢ q → Keeps (queue_of q o.log) (if b then w.inputs d ++ x ∷ [] else w.inputs q) (w.numbers 0 q)
   keeps_outside q true e to other =
       let same : d ≡ q = grind (arith, nat_tests) in
       let at : queue_of d o.log ≡ appended x (queue_of d m.outside.log) = ap (queue_of d) log ∙ get_or-set_same m.outside.log.queues d (appended x (queue_of d m.outside.log)) no_queue (omega (arith, width)) in
-      let there : Keeps (queue_of d o.log) (w.inputs d ++ x ∷ []) (w.numbers 0 d) = rw at (keeps-appended (queue_of d m.outside.log) (w.inputs d) (w.numbers 0 d) x (s.shows.logs 0 d (omega arith) within apart) fresh) in
+      let there : Keeps (queue_of d o.log) (w.inputs d ++ x ∷ []) (w.numbers 0 d) = rw at (keeps-extended (queue_of d m.outside.log) (w.inputs d) (x ∷ []) (w.numbers 0 d) (λ i k t. ((s.tidy 0).numbered d i k t).1) (s.shows.logs 0 d (omega arith) within apart)) in
       subst (λ j. Keeps (queue_of j o.log) (w.inputs d ++ x ∷ []) (w.numbers 0 j)) same there
   keeps_outside q false e to other =
       let at : queue_of q o.log ≡ queue_of q m.outside.log = ap (queue_of q) log ∙ get_or-set_other m.outside.log.queues d q (appended x (queue_of d m.outside.log)) no_queue (grind (arith, nat_tests)) in
@@ -134,20 +109,7 @@ module _ (m : TheMachine) (w : World) (s : Stands m w) (room key calls : ℕ) (s
   vacant = s.shows.wire key ∙ puts.before
 
   on_wire : (o : Option Packet) → o ≡ Some is → Shows (record m { slots = slots; calls = calls }) (record w { wire = put w.wire key o })
-  on_wire o o_is =
-      record {
-        count = s.shows.count;
-        handlers = s.shows.handlers;
-        process = s.shows.process;
-        logs = s.shows.logs;
-        gates = s.shows.gates;
-        feeds = s.shows.feeds;
-        shown = s.shows.shown;
-        wire = λ j. ap (λ k. put w.wire key k j) o_is ∙ put-wire w m.slots slots key None (Some is) s.shows.wire puts j;
-        started = s.shows.started;
-        outside = s.shows.outside;
-        trims = s.shows.trims;
-      }
+  on_wire o o_is = shows-wire m w s calls slots (put w.wire key o) (λ j. ap (λ k. put w.wire key k j) o_is ∙ put-wire w m.slots slots key None (Some is) s.shows.wire puts j)
 
   pub transmitted : (p d i : ℕ) → refusal_of w room (Transmit p d i) ≡ None → p ≤ length m.processes → d ≤ length m.processes → p ≢ d → is_logged i (queue_of d (log_at m p)) ≡ true
       → is ≡ Delivery d (record { sender = p; ssn = i; payload = payload_of i (queue_of d (log_at m p)) }) → Steps m (record m { slots = slots; calls = calls }) room (Transmit p d i) (Placed key) w

@@ -19,6 +19,23 @@ use Rattle.machine.proofs.Updates.{put-is}
 pub put-wire : (w : World) (old new : List (Option Packet)) (key : ℕ) (was is : Option Packet) → ((j : ℕ) → w.wire j ≡ slice_index_or old j None) → Puts old new key was is → (j : ℕ) → put w.wire key is j ≡ slice_index_or new j None
 put-wire w old new key was is wire puts j = put-is w.wire (λ k. slice_index_or new k None) key is puts.now (λ k apart. puts.others k apart ∙ sym (wire k)) j
 
+-- a machine that keeps other packets, and counts other calls, shows the world with these packets
+pub shows-wire : (m : TheMachine) (w : World) → Stands m w → (calls : ℕ) (slots : List (Option Packet)) (wire : ℕ → Option Packet) → ((j : ℕ) → wire j ≡ slice_index_or slots j None) → Shows (record m { slots = slots; calls = calls }) (record w { wire = wire })
+shows-wire m w s calls slots wire wire_is =
+    record {
+      count = s.shows.count;
+      handlers = s.shows.handlers;
+      process = s.shows.process;
+      logs = s.shows.logs;
+      gates = s.shows.gates;
+      feeds = s.shows.feeds;
+      shown = s.shows.shown;
+      wire = wire_is;
+      started = s.shows.started;
+      outside = s.shows.outside;
+      trims = s.shows.trims;
+    }
+
 -- a step whose new machine shows the new world stands for it: what every call keeps still holds
 pub step : (old new : TheMachine) (room : ℕ) (call : Call) (answer : Answer) (w : World) → Stands old w → refusal_of w room call ≡ None → MayAnswer w call answer → Shows new (after w call answer) → new.images ≡ old.images → Steps old new room call answer w
 step old new room call answer w s accepted answered shows images =
