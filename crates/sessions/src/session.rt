@@ -6,7 +6,6 @@ ghost use Rattle.world.specs.Phases.{name_of};
 ghost use Rattle.world.specs.Bounds.{open_jobs};
 ghost use Rattle.world.specs.Logs.{state_of, length_of};
 ghost use Rattle.machine.specs.Simulation.{answering};
-ghost use Rattle.machine.specs.Sending.{losing};
 ghost use Rattle.machine.specs.Arrival.{answer_of};
 ghost use Rattle.world.specs.Useful.{may_call};
 ghost use Rattle.sessions.specs.Seats.{AreSeats, new_seats, seat_at};
@@ -235,7 +234,7 @@ impl<L: Ledger> Session<L> {
     /// without a packet, a full journal, and want of memory.
     pub fn lose(&mut self, by: &mut Seat<L>, key: usize) -> Result<(), Refusal>
         requires { may_call (world_at self.old) by.old.worker (Call.Lose key) ≡ true }
-        ensures adds { Adds self.old self.new by.old by.new (Call.Lose key) (losing result) }
+        ensures adds { Adds self.old self.new by.old by.new (Call.Lose key) (answering (λ _. Answer.Lost) result) }
         ensures worker { by.new.worker ≡ by.old.worker }
     {
         let room = self.journal.room();

@@ -21,10 +21,10 @@ done g c =
     let answer = Lost in
     let w = here m es in
     let room_is : c.room-room.result ≡ LIMIT - length es = c.room-room.ensures.value in
-    let step = rw room_is at c.in_ok.ensures.step in
+    let step = rw room_is at c.in_ok-lose.ensures.step in
     let items : c.append.new.self.entries ≡ es ++ entry c.args.by.now.worker call answer ∷ [] = c.append.ensures.entries ∙ ap (λ xs. xs ++ entry c.args.by.now.worker call answer ∷ []) c.reserve.ensures.entries in
     let place = room-lose w (LIMIT - length es) c.args.key (step w c.self.invariant.0.leads).accepted in
-    accepted m c.lose.new.self es c.self.inside.seats.items c.args.by.now call answer c.self.invariant.0 (ap (λ v. may_call (world_at v) c.args.by.now.worker call) c.self.view_is ∙ c.requires) step c.append.new.self.entries items c.append.new.by c.append.ensures.seat c.in_ok.ensures.calls (omega (arith, place, c.self.invariant.0.room))
+    accepted m c.lose.new.self es c.self.inside.seats.items c.args.by.now call answer c.self.invariant.0 (ap (λ v. may_call (world_at v) c.args.by.now.worker call) c.self.view_is ∙ c.requires) step c.append.new.self.entries items c.append.new.by c.append.ensures.seat c.in_ok-lose.ensures.calls (omega (arith, place, c.self.invariant.0.room))
 
 pub invariant_of-self-2 : goal.invariant_of-self-2
 invariant_of-self-2 g c = ((done g (goal.at.invariant_of-self-2 g c).After-append).0, c.self.invariant.1)

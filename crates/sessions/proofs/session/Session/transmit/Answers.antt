@@ -1,10 +1,14 @@
-use Rattle.std.proofs.Common.{◌≡◌, ◌-◌, ◌++◌, ◌∷◌, [], length, arith, ap, ◌∙◌}
-use Rattle.std.specs.Prelude.{Ok}
+use Rattle.std.proofs.Common.{◌≡◌, ℕ, ◌-◌, ◌++◌, ◌∷◌, [], length, arith, refl, sym, ap, ◌∙◌, subst}
+use Rattle.std.specs.Prelude.{Result, Ok, Err}
+use Rattle.std.proofs.lemmas.Result.{err_from_is_err_and}
 use Rattle.world.specs.declared.call.Call.TheVariants.{Transmit}
 use Rattle.world.specs.declared.answer.Answer.TheVariants.{Placed}
+use Rattle.world.specs.declared.refusal.Refusal.{Refusal}
 use Rattle.world.specs.Bounds.{LIMIT}
+use Rattle.world.specs.Refusals.{refusal_of, cause_of}
+use Rattle.machine.specs.Simulation.{answering}
 use Rattle.world.specs.Useful.{may_call}
-use Rattle.sessions.specs.Journal.{entry, world_at, Adds}
+use Rattle.sessions.specs.Journal.{TheSession, entry, world_at, room_at, Adds}
 use Rattle.sessions.specs.Inside.{IsSession}
 use Rattle.sessions.proofs.Rooms.{room-transmit}
 use Rattle.sessions.proofs.Steps.{here, accepted, session}
@@ -31,3 +35,20 @@ invariant_of-self-2 g c = ((done g (goal.at.invariant_of-self-2 g c).After-appen
 
 pub returns-clause-adds : goal.returns-clause-adds
 returns-clause-adds g c = rw (← c.self.view_is) (done g (goal.at.returns-clause-adds g c).After-append).1
+
+pub returns-in_err-key-clause-adds : goal.returns-in_err-key-clause-adds
+returns-in_err-key-clause-adds g c =
+    let m = c.self.inside.machine in
+    let es = c.self.inside.journal.entries in
+    let call = Transmit c.args.from c.args.to c.args.ssn in
+    let refusal = c.in_err-key.field-0.0 in
+    let w = here m es in
+    let step = c.in_err-key.ensures.step in
+    let out = err_from_is_err_and c.from_residual.result c.from_residual.ensures.1 in
+    let told : c.from_residual.result ≡ Err refusal = out.1 ∙ ap Err out.2 in
+    let kept : session c.transmit.new.self c.reserve.new.self.entries c.self.inside.seats.items ≡ session m es c.self.inside.seats.items =
+    λ i. session (step.0 i) (c.reserve.ensures.entries i) c.self.inside.seats.items in
+    let P : TheSession → Type 0 = λ s. refusal_of (world_at s) (room_at s) call ≡ cause_of refusal in
+    let cause : refusal_of w (LIMIT - length es) call ≡ cause_of refusal = ap (λ r. refusal_of w r call) (sym c.room-room.ensures.value) ∙ step.1 w c.self.invariant.0.leads in
+    let Q : Result ℕ Refusal → Type 0 = λ r. Adds c.args.self.now (session c.transmit.new.self c.reserve.new.self.entries c.self.inside.seats.items) c.args.by.now c.args.by.now call (answering Placed r) in
+    subst Q (sym told) (kept ∙ c.self.view_is, refl, subst P c.self.view_is cause)
