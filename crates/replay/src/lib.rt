@@ -1,4 +1,4 @@
-//! Handler calls that leave the session, run wherever there is time, and come back.
+//! Handler calls that leave the session, and what a recovery replays.
 //!
 //! A [`Job`] is a handler call that is to be made, and holds all that the call takes (its
 //! [`Task`]). [`Job::run`] makes the call without taking memory. The [`Done`] that it gives holds
@@ -6,16 +6,36 @@
 //! these are the handler's answer to that task: so whoever takes a `Done` back has only to compare
 //! the task with what it handed out.
 //!
+//! A [`Plan`] is what a recovered process receives again: [`collect`] takes from the logs of all
+//! senders the messages with the numbers after those that the process still has, without a gap.
+//! [`same_is_found`] and [`plan_is_gathered`] say that this is the plan of the protocol's
+//! definitions. The process's own log lost its numbers; [`resync`] restores them from a peer's
+//! receipts.
+//!
 //! ```text
-//! let done = job.run();
-//! let end = done.end();   // r0 at the exit, and how many steps were taken
+//! let mut plan = collect(alloc, &logs, 1, &receipts)?;
+//! let next = plan.next_job();   // the number and the message that come next, if any
+//! let done = job.run();         // of a job that was made of them
+//! let end = done.end();         // r0 at the exit, and how many steps were taken
+//! plan.advance(&done);
 //! ```
 #![tactic(auto)]
 
+mod agreement;
+mod collecting;
 mod done;
 mod job;
+mod plan;
+mod resyncing;
 mod task;
 
+pub use agreement::{plan_is_gathered, same_is_found};
+pub use collecting::collect;
 pub use done::Done;
 pub use job::Job;
+pub use plan::Plan;
+pub use resyncing::resync;
 pub use task::{Task, Ticket};
+
+#[cfg(test)]
+mod tests;

@@ -1,0 +1,82 @@
+//! What a recovery replays.
+
+ghost use Rattle.std.specs.Prelude.{◌≡◌, ◌==◌, ◌≤◌, ◌+◌, Some, length};
+ghost use Rattle.replay.specs.Plan.{ThePlan, next_of};
+
+use crate::done::Done;
+use std::marker::Model;
+use world::Message;
+
+/// The messages that a process receives again, in order, by the numbers that it gave them before:
+/// from its checkpoint on, and without a gap. [`collect`](crate::collect) makes it.
+#[derive(Drop)]
+pub struct Plan {
+    before: u32,
+    messages: Vec<Message>,
+    replayed: u32,
+    probes: u32,
+}
+
+impl Model for Plan {
+    ghost use Rattle.std.specs.Prelude.{◌≤◌, length};
+    ghost use Rattle.replay.specs.Plan.{ThePlan};
+
+    ghost Value = { ThePlan };
+
+    ghost view = { λ p. record { before = p.before; messages = p.messages.items; replayed = p.replayed; probes = p.probes } };
+
+    ghost invariant = { λ p. record { before : p.before ≤ 65536; few : length p.messages.items ≤ 8388608; within : p.replayed ≤ length p.messages.items } };
+}
+
+impl Plan {
+    pub(crate) fn new(before: u32, messages: Vec<Message>, probes: u32) -> Plan
+        requires before { before ≤ 65536 }
+        requires few { length messages.items ≤ 8388608 }
+        ensures { result ≡ record { before = before; messages = messages.items; replayed = 0; probes = probes } }
+    {
+        Plan {
+            before,
+            messages,
+            replayed: 0,
+            probes,
+        }
+    }
+
+    /// The next message that is to be received again, behind its number (RSN). None at the end.
+    pub fn next_job(&self) -> Option<(u32, Message)>
+        ensures { result ≡ next_of self.now }
+    {
+        let next = self.messages.get(self.replayed as usize)?;
+        let message = *next;
+        Some((self.before + self.replayed + 1, message))
+    }
+
+    /// Goes on behind the message whose handler call this was.
+    pub fn advance(&mut self, done: &Done)
+        requires { next_of self.old ≡ Some (done.now.rsn, done.now.message) }
+        ensures { self.new ≡ record self.old { replayed = self.old.replayed + 1 } }
+    {
+        self.replayed = done.task().rsn() - self.before;
+    }
+
+    /// How many messages were collected.
+    pub fn len(&self) -> u32
+        ensures { result ≡ length self.now.messages }
+    {
+        self.messages.len() as u32
+    }
+
+    /// Whether none was.
+    pub fn is_empty(&self) -> bool
+        ensures { result ≡ (length self.now.messages == 0) }
+    {
+        self.messages.is_empty()
+    }
+
+    /// How often a log was asked for a number, while the messages were collected.
+    pub fn probes(&self) -> u32
+        ensures { result ≡ self.now.probes }
+    {
+        self.probes
+    }
+}
