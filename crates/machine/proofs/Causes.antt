@@ -1,6 +1,6 @@
 -- The causes of a refusal, as the machine's fields tell them
-use Rattle.std.proofs.Common.{◌≡◌, ◌≢◌, ℕ, suc, ◌+◌, ◌-◌, ◌<◌, ◌≤◌, List, [], ◌∷◌, length, Bool, true, false, refl, sym, ap, ◌∙◌, arith}
-use Rattle.std.specs.Prelude.{if◌then◌else◌, ◌==◌, ◌&&◌, ◌||◌, not, nat_lt, nat_le, Option, Some, None, is_some, count_by, slice_index_or, option_and_then}
+use Rattle.std.proofs.Common.{◌≡◌, ◌≢◌, ℕ, ◌+◌, ◌-◌, ◌<◌, ◌≤◌, List, [], ◌∷◌, length, Bool, true, false, refl, sym, ap, ◌∙◌, arith}
+use Rattle.std.specs.Prelude.{◌==◌, ◌&&◌, ◌||◌, not, nat_lt, nat_le, Option, Some, None, is_some, count_by, slice_index_or, option_and_then}
 use Rattle.std.proofs.lemmas.Bool.Decides.{nat_tests}
 use Rattle.sender_log.specs.Queue.{is_logged}
 use Rattle.sender_log.specs.Log.{queue_of}
@@ -8,7 +8,6 @@ use Rattle.world.specs.declared.message.Message.{Message}
 use Rattle.world.specs.declared.packet.Packet.{Packet}
 use Rattle.world.specs.declared.packet.Packet.TheVariants.{Delivery}
 use Rattle.world.specs.declared.call.Call.TheVariants.{Input, Transmit, Copy, Lose, Arrive}
-use Rattle.world.specs.declared.refusal.Refusal.TheVariants.{JournalFull, WireFull}
 use Rattle.world.specs.World.{World}
 use Rattle.world.specs.Logs.{sent, released_to, is_entry}
 use Rattle.world.specs.Bounds.{is_none, open_jobs, journal_full, wire_full}

@@ -1,14 +1,14 @@
 -- The step of a result that is taken in
-use Rattle.std.proofs.Common.{◌≡◌, ◌≢◌, ℕ, zero, suc, ◌+◌, ◌-◌, ◌<◌, ◌≤◌, List, [], ◌∷◌, ◌++◌, length, length-append, replicate, take, Bool, true, false, refl, sym, ap, ◌∙◌, subst, arith, set}
+use Rattle.std.proofs.Common.{◌≡◌, ◌≢◌, ℕ, suc, ◌+◌, ◌-◌, ◌<◌, ◌≤◌, List, [], ◌∷◌, ◌++◌, length, length-append, replicate, take, Bool, true, false, refl, sym, ap, ◌∙◌, subst, arith, set}
 use Rattle.std.specs.Prelude.{if◌then◌else◌, ◌==◌, nat_lt, nat_le, cond, Option, Some, None, slice_index_or}
 use Rattle.std.specs.List.{filter, All}
 use Rattle.std.proofs.lemmas.Bool.Decides.{nat_tests}
-use Rattle.std.proofs.lemmas.List.{append-nil, length-replicate, get_or_append_left, get_or-append_right, get_or-replicate, get_or-set_same, get_or-set_other, length-set, map_push}
+use Rattle.std.proofs.lemmas.List.{length-replicate, get_or_append_left, get_or-append_right, get_or-replicate, get_or-set_same, get_or-set_other, length-set, map_push}
 use Rattle.std.proofs.lemmas.List.Elements.{filter-append}
 use Rattle.std.proofs.lemmas.List.Sums.{sum_by-append}
 use Rattle.rsn.specs.Receipts.{Received}
 use Rattle.sender_log.specs.Queue.{TheQueue}
-use Rattle.sender_log.specs.Log.{IsDestination, TheLog, queue_of}
+use Rattle.sender_log.specs.Log.{IsDestination, queue_of}
 use Rattle.send_gate.specs.declared.gate.Held.{Held}
 use Rattle.send_gate.specs.Gate.{TheGate, count_to}
 use Rattle.verifier.specs.Typed.{Typed}
@@ -21,7 +21,7 @@ use Rattle.world.specs.declared.packet.Packet.TheVariants.{Number}
 use Rattle.world.specs.declared.call.Call.TheVariants.{Finish}
 use Rattle.world.specs.declared.answer.Answer.TheVariants.{Committed}
 use Rattle.world.specs.History.{Payload, nth, count_of}
-use Rattle.world.specs.Phases.{Phase, Up, Busy}
+use Rattle.world.specs.Phases.{Up, Busy}
 use Rattle.world.specs.Handlers.{Handlers}
 use Rattle.world.specs.Fold.{handlers_of, emitted_to}
 use Rattle.world.specs.World.{World, put}
@@ -29,7 +29,7 @@ use Rattle.world.specs.Logs.{length_in, sent, run_to, run_of}
 use Rattle.world.proofs.FoldLemmas.{handlers_of-push, sends-push}
 use Rattle.theorems.proofs.ListLemmas.{take-all, take-push}
 use Rattle.theorems.proofs.RunLemmas.{run_to-is, run_to-ends}
-use Rattle.machine.specs.Outbox.{extended, Gives}
+use Rattle.machine.specs.Outbox.{extended}
 use Rattle.machine.specs.Process.{TheProcess, idle_process, received, HasSent, Commits}
 use Rattle.machine.specs.Wire.{Puts}
 use Rattle.machine.specs.Inside.{IsLogOf}
@@ -39,7 +39,7 @@ use Rattle.machine.specs.Arrival.{IsOpen}
 use Rattle.machine.proofs.ReceiptLemmas.{InOrderFrom-push}
 use Rattle.machine.proofs.Standing.{wire-is, at_process}
 use Rattle.machine.proofs.Updates.{set-is}
-use Rattle.machine.proofs.JobLemmas.{opens, nth-inside, length_is, length_of-standing}
+use Rattle.machine.proofs.JobLemmas.{opens, nth-inside, length_is}
 use Rattle.machine.proofs.Steps.{put-wire, step}
 
 -- A log that goes on

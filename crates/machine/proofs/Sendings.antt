@@ -1,10 +1,9 @@
 -- The steps of inputs, and of what is put on the wire or taken from it without arriving
-use Rattle.std.proofs.Common.{◌≡◌, ◌≢◌, ℕ, suc, ◌+◌, ◌-◌, ◌<◌, ◌≤◌, List, [], ◌∷◌, ◌++◌, length, length-append, Bool, true, false, refl, sym, ap, ◌∙◌, subst, arith}
+use Rattle.std.proofs.Common.{◌≡◌, ◌≢◌, ℕ, suc, ◌+◌, ◌<◌, ◌≤◌, List, [], ◌∷◌, ◌++◌, length, length-append, Bool, true, false, refl, sym, ap, ◌∙◌, subst, arith}
 use Rattle.std.specs.Prelude.{if◌then◌else◌, ◌==◌, ◌||◌, Option, Some, None, slice_index_or}
 use Rattle.std.proofs.lemmas.Bool.Decides.{nat_tests}
-use Rattle.std.proofs.lemmas.List.{get_or-set_same, get_or-set_other, get_or_append_left, length-set}
-use Rattle.std.proofs.Math.Seq.{get_or-append_seam}
-use Rattle.sender_log.specs.Queue.{TheQueue, no_queue, is_logged, payload_of, appended}
+use Rattle.std.proofs.lemmas.List.{get_or-set_same, get_or-set_other, length-set}
+use Rattle.sender_log.specs.Queue.{no_queue, is_logged, payload_of, appended}
 use Rattle.sender_log.specs.Log.{TheLog, queue_of, with_queue}
 use Rattle.world.specs.declared.packet.Packet.{Packet}
 use Rattle.world.specs.declared.packet.Packet.TheVariants.{Delivery}
@@ -20,7 +19,7 @@ use Rattle.machine.specs.Outside.{TheOutside, is_taken, Takes}
 use Rattle.machine.specs.Wire.{Puts}
 use Rattle.machine.specs.Inside.{IsSound}
 use Rattle.machine.specs.declared.machine.Machine.TheInside.{Inside}
-use Rattle.machine.specs.Simulation.{TheMachine, Keeps, Shows, Stands, Steps, process_at, log_at}
+use Rattle.machine.specs.Simulation.{TheMachine, Keeps, Shows, Stands, Steps, log_at}
 use Rattle.machine.proofs.Standing.{wire-is, payload_at, last_at}
 use Rattle.machine.proofs.Steps.{put-wire, shows-wire, step}
 use Rattle.machine.proofs.Keeping.{later}

@@ -1,16 +1,11 @@
 -- What the fields keep when one process changes
-use Rattle.std.proofs.Common.{◌≡◌, ℕ, suc, ◌+◌, ◌-◌, ◌<◌, ◌≤◌, List, length, map, Bool, true, false, refl, sym, ap, ◌∙◌, subst, arith, set}
-use Rattle.std.specs.Prelude.{slice_index_or, Option, Some, None, is_some, ◌==◌}
-use Rattle.std.proofs.lemmas.Bool.Decides.{nat_tests}
+use Rattle.std.proofs.Common.{◌≡◌, ℕ, suc, ◌+◌, ◌-◌, ◌<◌, ◌≤◌, List, length, map, Bool, true, arith, set}
+use Rattle.std.specs.Prelude.{slice_index_or}
 use Rattle.std.proofs.lemmas.List.{length-set}
 use Rattle.std.specs.Arc.{arc_value}
 use Rattle.verifier.specs.Typed.{Typed}
-use Rattle.world.specs.declared.packet.Packet.{Packet}
-use Rattle.world.specs.declared.packet.Packet.TheVariants.{Number}
-use Rattle.world.specs.Refusals.{one_if}
-use Rattle.machine.specs.Process.{TheProcess, received}
-use Rattle.machine.specs.Wire.{Puts}
-use Rattle.machine.specs.Inside.{IsCarried, AreCarried, IsSoundAt, IsSound, begun}
+use Rattle.machine.specs.Process.{TheProcess}
+use Rattle.machine.specs.Inside.{IsSoundAt, IsSound}
 use Rattle.machine.specs.declared.machine.Machine.TheInside.{Inside}
 use Rattle.machine.proofs.Updates.{set-is}
 use Rattle.machine.proofs.Keeping.{later}

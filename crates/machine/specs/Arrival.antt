@@ -1,8 +1,11 @@
 -- What an arrival answers, and what a result that comes back has to be
-use Rattle.std.specs.Prelude.{◌≡◌, ◌+◌, List, Option, Some, None, Result, Ok, Err, true}
+use Rattle.std.specs.Prelude.{◌≡◌, ℕ, ◌+◌, ◌<◌, List, Option, Some, None, Result, Ok, Err, true}
 use Rattle.decode.specs.declared.insn.Insn.{Insn}
 use Rattle.verifier.specs.Typed.{Typed}
 use Rattle.replay.specs.Task.{TheTask}
+use Rattle.world.specs.declared.message.Message.{Message}
+use Rattle.world.specs.declared.packet.Packet.{Packet}
+use Rattle.world.specs.declared.packet.Packet.TheVariants.{Delivery}
 use Rattle.world.specs.declared.answer.Answer.{Answer}
 use Rattle.world.specs.declared.answer.Answer.TheVariants as answers
 use Rattle.world.specs.declared.call.Call.TheVariants.{Finish}
@@ -48,6 +51,11 @@ pub record IsOpen (images : List Typed) (t : TheTask) (w : World) : Type 0 where
 abbrev pub IsJobOf : TheMachine → Arrival → Type 0
 IsJobOf m (Started task) = (w : World) → Stands m w → IsOpen m.images task w
 IsJobOf m other = Unit {0}
+
+-- and it is one of the process that the packet is a message for
+abbrev pub IsJobFor : Option Packet → Arrival → Type 0
+IsJobFor found (Started task) = (d : ℕ) (m : Message) → 0 < d → found ≡ Some (Delivery d m) → task.who.me ≡ d
+IsJobFor found other = Unit {0}
 
 -- a result is refused where it isn't of the open job, or where memory runs out
 abbrev pub Told : Refusal → Type 0 → Type 0

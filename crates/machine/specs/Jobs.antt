@@ -3,7 +3,7 @@ use Rattle.std.specs.Prelude.{◌≡◌, ◌≢◌, ◌<◌, ◌≤◌, ℕ, ◌
 use Rattle.verifier.specs.Typed.{Typed}
 use Rattle.replay.specs.Task.{TheTask}
 use Rattle.world.specs.declared.message.Message.{Message}
-use Rattle.machine.specs.Process.{TheProcess, received}
+use Rattle.machine.specs.Process.{received}
 use Rattle.machine.specs.Simulation.{TheMachine, process_at}
 
 -- a message of another for a process

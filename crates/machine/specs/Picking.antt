@@ -1,7 +1,7 @@
 -- What brings the work on
 use Rattle.std.specs.Prelude.{◌≡◌, ◌≢◌, ℕ, zero, suc, ◌≤◌, length, None, true}
 use Rattle.world.specs.declared.call.Call.{Call}
-use Rattle.world.specs.declared.call.Call.TheVariants.{Transmit}
+use Rattle.world.specs.declared.call.Call.TheVariants.{Transmit, Arrive}
 use Rattle.world.specs.History.{count_of}
 use Rattle.world.specs.World.{World}
 use Rattle.world.specs.Refusals.{refusal_of}
@@ -12,6 +12,12 @@ use Rattle.machine.specs.Simulation.{TheMachine, Stands}
 pub record IsPick (w : World) (room : ℕ) (call : Call) : Type 0 where
   pub useful : is_useful w call ≡ true
   pub accepted : refusal_of w room call ≡ None
+
+-- a packet that arrives, or a message that leaves: no other call is useful, where no process is down
+abbrev pub IsMove : Call → Type 0
+IsMove (Arrive key) = Unit {0}
+IsMove (Transmit from to ssn) = Unit {0}
+IsMove other = ⊥
 
 -- two that a message may pass between, the first of which may be the outside, or the second
 pub record ArePeers (m : TheMachine) (from to : ℕ) : Type 0 where

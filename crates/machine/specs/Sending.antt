@@ -1,10 +1,10 @@
 -- What leaves a machine's logs, and what has no place on its wire
-use Rattle.std.specs.Prelude.{◌≡◌, ◌≢◌, ℕ, ◌+◌, ◌-◌, ◌<◌, ◌≤◌, length, Option, Some, None, is_some, count_by, nat_le, ◌==◌, if◌then◌else◌, slice_index_or}
+use Rattle.std.specs.Prelude.{◌≢◌, ℕ, ◌+◌, ◌-◌, ◌<◌, ◌≤◌, length, Option, Some, None, is_some, count_by, nat_le, ◌==◌, if◌then◌else◌, slice_index_or}
 use Rattle.sender_log.specs.Log.{queue_of}
 use Rattle.world.specs.declared.refusal.Refusal.{Refusal}
 use Rattle.world.specs.declared.refusal.Refusal.TheVariants.{JournalFull, WireFull}
 use Rattle.machine.specs.Process.{TheProcess}
-use Rattle.machine.specs.Simulation.{TheMachine, log_at, gate_at}
+use Rattle.machine.specs.Simulation.{TheMachine, gate_at}
 
 -- how many jobs are open
 abbrev pub busy : TheMachine → ℕ

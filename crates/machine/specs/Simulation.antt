@@ -1,9 +1,8 @@
 -- Which worlds a machine stands for, and what a call owes
-use Rattle.std.specs.Prelude.{◌≡◌, ◌≢◌, ℕ, suc, ◌+◌, ◌-◌, ◌<◌, ◌≤◌, List, [], length, map, take, Option, Some, None, Result, Ok, Err, Bool, false, ◌==◌, nat_le, if◌then◌else◌, slice_index_or}
+use Rattle.std.specs.Prelude.{◌≡◌, ◌≢◌, ℕ, suc, ◌+◌, ◌-◌, ◌<◌, ◌≤◌, List, length, map, take, Option, Some, None, Result, Ok, Err, Bool, false, ◌==◌, nat_le, if◌then◌else◌, slice_index_or}
 use Rattle.std.specs.List.{filter}
 use Rattle.sender_log.specs.Queue.{TheQueue}
 use Rattle.sender_log.specs.Log.{TheLog, queue_of}
-use Rattle.send_gate.specs.declared.gate.Held.{Held}
 use Rattle.send_gate.specs.Gate.{TheGate, count_to}
 use Rattle.verifier.specs.Typed.{Typed}
 use Rattle.world.specs.declared.message.Message.{Message}

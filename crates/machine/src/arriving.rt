@@ -8,7 +8,7 @@ ghost use Rattle.world.specs.World.{World};
 ghost use Rattle.world.specs.Refusals.{refusal_of, cause_of, is_to_busy, starts, one_if};
 ghost use Rattle.machine.specs.Inside.{IsCarried};
 ghost use Rattle.machine.specs.Simulation.{Stands, Simulates, answering, log_at, IsTold};
-ghost use Rattle.machine.specs.Arrival.{answer_of, IsJobOf};
+ghost use Rattle.machine.specs.Arrival.{answer_of, IsJobFor, IsJobOf};
 ghost use Rattle.machine.specs.Arriving.{IsJudged, IsNumbered, MayArrive, Drops, Records, IsNumber, IsAcknowledgement};
 
 use crate::arrival::Arrival;
@@ -93,6 +93,7 @@ impl Machine {
         requires { self.old.calls + room ≤ 65536 }
         ensures step { Simulates self.old self.new room (Call.Arrive key) (answering answer_of result) }
         ensures job { IfOk result (IsJobOf self.new) }
+        ensures target { IfOk result (IsJobFor (slice_index_or self.old.slots key None)) }
         ensures calls { OnOk result (self.new.calls ≡ self.old.calls + 1) }
     {
         if let Some(refusal) = self.arrive_cause(room, key) {
@@ -146,6 +147,7 @@ impl Machine {
         requires may { MayArrive self.old room key (Packet.Delivery to message) }
         ensures step { Simulates self.old self.new room (Call.Arrive key) (answering answer_of result) }
         ensures job { IfOk result (IsJobOf self.new) }
+        ensures target { IfOk result (IsJobFor (Some (Packet.Delivery to message))) }
         ensures calls { OnOk result (self.new.calls ≡ self.old.calls + 1) }
     {
         match self.judge(to, &message) {

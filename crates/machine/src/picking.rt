@@ -8,7 +8,7 @@ ghost use Rattle.world.specs.Refusals.{refusal_of};
 ghost use Rattle.world.specs.Useful.{belongs, is_unacknowledged, is_useful, wants, works_on};
 ghost use Rattle.machine.specs.Inside.{IsCarried};
 ghost use Rattle.machine.specs.Simulation.{Stands, phase_of, process_at};
-ghost use Rattle.machine.specs.Picking.{IsPick, ArePeers, IsWanted, NoneWanted, next_ssn};
+ghost use Rattle.machine.specs.Picking.{IsPick, IsMove, ArePeers, IsWanted, NoneWanted, next_ssn};
 
 use crate::machine::Machine;
 use rsn::Judgement;
@@ -21,6 +21,7 @@ impl Machine {
     pub fn pick(&self, room: u32) -> Option<Call>
         ensures some { IfSome result (λ call. (w : World) → Stands self.now w → IsPick w room call) }
         ensures none { IfNone result ((w : World) → Stands self.now w → (call : Call) → ¬ IsPick w room call) }
+        ensures moves { IfSome result IsMove }
     {
         if let Some(key) = self.pick_arrival(room) {
             return Some(Call::Arrive { key });
@@ -45,6 +46,7 @@ impl Machine {
     fn pick_transmit(&self, room: u32) -> Option<Call>
         ensures some { IfSome result (λ call. (w : World) → Stands self.now w → IsPick w room call) }
         ensures none { IfNone result ((w : World) → Stands self.now w → (p d i : ℕ) → ¬ IsPick w room (Call.Transmit p d i)) }
+        ensures moves { IfSome result IsMove }
     {
         let count = self.processes.len() as u8;
         if self.place_cause(room).is_some() {

@@ -1,5 +1,5 @@
-use Rattle.std.proofs.Common.{rules, ◌≡◌, ◌≢◌, ◌<◌, ◌≤◌, ◌+◌, ◌-◌, ◌++◌, ◌∷◌, [], List, ℕ, suc, arith, subst, sym, ap, ◌∙◌, length, length-append, map, set, slice_index_or, refl, true≢false}
-use Rattle.std.specs.Prelude.{Option, Some, None, is_some}
+use Rattle.std.proofs.Common.{rules, ◌≡◌, ◌≢◌, ◌<◌, ◌≤◌, ◌+◌, ◌-◌, ◌∷◌, [], ℕ, suc, arith, subst, sym, ap, ◌∙◌, length, length-append, map, set, slice_index_or, refl, true≢false}
+use Rattle.std.specs.Prelude.{Some, None, is_some}
 use Rattle.std.specs.Arc.{arc_value}
 use Rattle.std.proofs.lemmas.Bool.{OnTrue_at}
 use Rattle.std.proofs.lemmas.Grind.{common_steps}
@@ -7,17 +7,16 @@ use Rattle.std.proofs.lemmas.List.{get_or_default, length-map, length-set, set-g
 use Rattle.rsn.specs.Receipts.{Received}
 use Rattle.verifier.specs.Typed.{Typed}
 use Rattle.world.specs.declared.message.Message.{Message}
-use Rattle.world.specs.declared.packet.Packet.{Packet}
 use Rattle.world.specs.declared.packet.Packet.TheVariants.{Number}
 use Rattle.world.specs.declared.call.Call.TheVariants.{Finish}
 use Rattle.world.specs.declared.answer.Answer.TheVariants.{Committed}
 use Rattle.world.specs.Refusals.{one_if}
 use Rattle.world.specs.World.{World}
-use Rattle.replay.specs.Task.{TheTask, MayCall, answer_of}
+use Rattle.replay.specs.Task.{TheTask, MayCall}
 use Rattle.machine.specs.Process.{TheProcess, idle_process, received, HasSent, Commits}
 use Rattle.machine.specs.Wire.{Puts}
 use Rattle.machine.specs.Simulation.{TheMachine, Stands, Steps, process_at}
-use Rattle.machine.specs.Inside.{view_of, AreCarried, IsLogOf, IsSoundAt}
+use Rattle.machine.specs.Inside.{AreCarried, IsLogOf, IsSoundAt}
 use Rattle.machine.specs.Arrival.{IsOpen}
 use Rattle.machine.specs.Jobs.{Matches, HaveSlots}
 use Rattle.machine.proofs.JobLemmas.{opens, matches}

@@ -1,4 +1,4 @@
-use Rattle.std.proofs.Common.{rules, ◌≡◌, ◌≢◌, arith, slice_index_or}
+use Rattle.std.proofs.Common.{rules, ◌≢◌, arith, slice_index_or}
 use Rattle.std.specs.Prelude.{None}
 use Rattle.std.proofs.lemmas.Grind.{common_steps}
 use Rattle.machine.proofs.Causes.{lose-full, lose-free}

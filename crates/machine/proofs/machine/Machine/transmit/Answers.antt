@@ -1,5 +1,5 @@
-use Rattle.std.proofs.Common.{rules, ◌≡◌, ◌≢◌, ◌≤◌, ◌<◌, ◌+◌, arith, ap, subst, sym, ◌∙◌, length, true, false, refl, true≢false}
-use Rattle.std.specs.Prelude.{Some, None, slice_index_or}
+use Rattle.std.proofs.Common.{rules, ◌≡◌, ◌≤◌, ◌<◌, ◌+◌, arith, ap, subst, sym, ◌∙◌, length, true, false, refl, true≢false}
+use Rattle.std.specs.Prelude.{Some, None}
 use Rattle.std.proofs.lemmas.Grind.{common_steps}
 use Rattle.sender_log.specs.Queue.{is_logged, payload_of}
 use Rattle.sender_log.specs.Log.{TheLog, queue_of}
