@@ -48,7 +48,7 @@ impl<L: Ledger> Stage<L> {
     fn act(&mut self, held: &mut Option<Job>, act: Act) -> Result<Answer, Refusal> {
         match act {
             Act::Input(dst, value) => {
-                let number = self.entries() as u32;
+                let number = u32::try_from(self.entries()).unwrap_or(u32::MAX);
                 let feed = Feed {
                     number,
                     dst,
