@@ -65,11 +65,7 @@ fn relay_and_echo(alloc: Global) -> Result<Vec<Arc<Image>>, Fail> {
 }
 
 /// Processes with these images, each waiting for its first message.
-fn open<L: Ledger>(
-    alloc: Global,
-    blank: Blank,
-    images: Vec<Arc<Image>>,
-) -> Result<Stage<L>, Fail>
+fn open<L: Ledger>(alloc: Global, blank: Blank, images: Vec<Arc<Image>>) -> Result<Stage<L>, Fail>
     requires name { blank.name ≡ L.name }
     requires parts { (blank.parts ≡ L.parts) × (blank.parts ≡ 17) }
 {
