@@ -1,3 +1,4 @@
 pub mod Rooms
 pub mod Steps
 mod SeatLemmas
+pub mod Driven

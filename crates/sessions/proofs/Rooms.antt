@@ -5,7 +5,9 @@ use Rattle.std.proofs.lemmas.Bool.Decides.{nat_tests}
 use Rattle.world.specs.declared.message.Message.{Message}
 use Rattle.world.specs.declared.packet.Packet.{Packet}
 use Rattle.world.specs.declared.packet.Packet.TheVariants.{Delivery, Number, Acknowledgement}
-use Rattle.world.specs.declared.call.Call.TheVariants.{Input, Transmit, Copy, Lose, Arrive, Finish}
+use Rattle.world.specs.declared.call.Call.{Call}
+use Rattle.world.specs.declared.call.Call.TheVariants.{Input, Transmit, Copy, Lose, Arrive, Finish, Checkpoint, Trim, Crash, Recover, RecoverAlone, ReplayBegin, Resync as ResyncWith}
+use Rattle.machine.specs.Picking.{IsPick, IsMove}
 use Rattle.world.specs.declared.answer.Answer.{Answer}
 use Rattle.world.specs.declared.answer.Answer.TheVariants.{Placed, Lost, Started, Duplicate, Shown, Numbered, Acknowledged, Committed}
 use Rattle.world.specs.Phases.{Phase, Up, Busy, is_up, is_working}
@@ -128,6 +130,22 @@ pub room-arrive : (w : World) (room key : ℕ) (a : Answer) → refusal_of w roo
 room-arrive w room key a accepted may =
     let place = places room (open_jobs w + one_if (starts w (w.wire key))) (clear (causes w room (Arrive key)) accepted).1.1.0 in
     omega (arith, place, jobs-arrive w key (w.wire key) a may)
+
+-- a call that is picked has a place
+pub room-pick : (w : World) (room : ℕ) (call : Call) → IsMove call → IsPick w room call → 0 < room
+room-pick w room (Transmit p d i) move k = omega (arith, places room (open_jobs w) (clear (causes w room (Transmit p d i)) k.accepted).1.1.1.1.1.0)
+room-pick w room (Arrive key) move k = omega (arith, places room (open_jobs w + one_if (starts w (w.wire key))) (clear (causes w room (Arrive key)) k.accepted).1.1.0)
+room-pick w room (Input d feed x) move k = absurd move
+room-pick w room (Copy key) move k = absurd move
+room-pick w room (Lose key) move k = absurd move
+room-pick w room (Finish p) move k = absurd move
+room-pick w room (Checkpoint p) move k = absurd move
+room-pick w room (Trim d) move k = absurd move
+room-pick w room (Crash p) move k = absurd move
+room-pick w room (Recover p) move k = absurd move
+room-pick w room (RecoverAlone p) move k = absurd move
+room-pick w room (ReplayBegin p) move k = absurd move
+room-pick w room (ResyncWith p r) move k = absurd move
 
 -- a finished job gives its place back
 pub room-finish : (w : World) (p n key : ℕ) (m : Message) → is_inside w p ≡ true → w.phase p ≡ Busy m → open_jobs (after w (Finish p) (Committed n key)) + 1 ≡ open_jobs w

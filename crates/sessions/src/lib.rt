@@ -22,6 +22,7 @@
 //! ```
 #![tactic(auto)]
 
+mod driving;
 mod journal;
 mod seat;
 mod session;

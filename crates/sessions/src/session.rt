@@ -1,13 +1,15 @@
 //! The calls of a session.
 
-ghost use Rattle.std.specs.Prelude.{◌≡◌, ◌≤◌, IfOk, IfSome, None, Some, true, length, map, slice_set};
+ghost use Rattle.std.specs.Prelude.{◌≡◌, ◌≤◌, IfNone, IfOk, IfSome, None, Some, true, length, map, slice_set};
 ghost use Rattle.std.specs.Arc.{arc_value};
 ghost use Rattle.world.specs.Phases.{name_of};
 ghost use Rattle.world.specs.Bounds.{open_jobs};
 ghost use Rattle.world.specs.Logs.{state_of, length_of};
 ghost use Rattle.machine.specs.Simulation.{answering};
-ghost use Rattle.machine.specs.Arrival.{answer_of};
+ghost use Rattle.machine.specs.Arrival.{answer_of, IsJobFor};
+ghost use Rattle.machine.specs.Picking.{IsPick, IsMove};
 ghost use Rattle.world.specs.Useful.{may_call};
+ghost use Rattle.sessions.specs.Driving.{IsQuiet};
 ghost use Rattle.sessions.specs.Seats.{AreSeats, new_seats, seat_at};
 ghost use Rattle.sessions.specs.Journal.{IsExact, IsLegal, world_at, room_at, Adds, HandsOut, Takes, OpensWith};
 ghost use Rattle.theorems.specs.Orphans.{NoOrphan, ShownBegin};
@@ -164,6 +166,16 @@ impl<L: Ledger> Session<L> {
         self.machine.phase(p)
     }
 
+    /// A useful call that isn't refused for another cause than want of memory, and `None` only where
+    /// there is none. Takes no memory.
+    pub fn pick(&self) -> Option<Call>
+        ensures some { IfSome result (λ call. IsPick (world_at self.now) (room_at self.now) call) }
+        ensures none { IfNone result (IsQuiet self.now) }
+        ensures moves { IfSome result IsMove }
+    {
+        self.machine.pick(self.journal.room())
+    }
+
     /// Logs a message of the outside for a process, and answers its SSN. It refuses, in this order,
     /// a number that isn't a process's, a full journal, a feed number that is taken, and want of
     /// memory. Any seat may call it.
@@ -256,6 +268,7 @@ impl<L: Ledger> Session<L> {
         ensures adds { Adds self.old self.new by.old by.new (Call.Arrive key) (answering answer_of result) }
         ensures worker { by.new.worker ≡ by.old.worker }
         ensures job { IfOk result (HandsOut self.new) }
+        ensures target { IfOk result (IsJobFor ((world_at self.old).wire key)) }
     {
         let room = self.journal.room();
         if !self.journal.reserve() {

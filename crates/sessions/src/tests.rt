@@ -1,5 +1,6 @@
 ghost use Rattle.std.specs.Prelude.{◌≡◌};
 
+mod driven;
 mod messages;
 
 use crate::{Arrival, Seat, Session};
@@ -65,11 +66,7 @@ fn relay_and_echo(alloc: Global) -> Result<Vec<Arc<Image>>, Fail> {
 }
 
 /// Processes with these images, each waiting for its first message.
-fn open<L: Ledger>(
-    alloc: Global,
-    blank: Blank,
-    images: Vec<Arc<Image>>,
-) -> Result<Stage<L>, Fail>
+fn open<L: Ledger>(alloc: Global, blank: Blank, images: Vec<Arc<Image>>) -> Result<Stage<L>, Fail>
     requires name { blank.name ≡ L.name }
     requires parts { (blank.parts ≡ L.parts) × (blank.parts ≡ 17) }
 {
@@ -99,6 +96,10 @@ enum Scene {
     Round,
     FullWire,
     FullJournal,
+    Driven,
+    DrivenEarly,
+    DrivenShort,
+    DrivenRound,
 }
 
 fn play_in<L: Ledger>(
@@ -129,6 +130,10 @@ fn play_in<L: Ledger>(
         Scene::Round => messages::round(rt, stage),
         Scene::FullWire => messages::full_wire(rt, stage),
         Scene::FullJournal => messages::full_journal(rt, stage),
+        Scene::Driven => driven::one_message(rt, stage),
+        Scene::DrivenEarly => driven::early(rt, stage),
+        Scene::DrivenShort => driven::budget(rt, stage),
+        Scene::DrivenRound => driven::round(rt, stage),
     }
 }
 
@@ -555,4 +560,24 @@ fn a_full_wire_takes_no_packet(rt: HostRuntime) -> Result<(), Fail> {
 #[test]
 fn a_full_journal_takes_no_call(rt: HostRuntime) -> Result<(), Fail> {
     play(&rt, rt.alloc(), 1, Scene::FullJournal)
+}
+
+#[test]
+fn a_message_is_driven_all_its_way(rt: HostRuntime) -> Result<(), Fail> {
+    play(&rt, rt.alloc(), 1, Scene::Driven)
+}
+
+#[test]
+fn an_early_message_is_sent_anew(rt: HostRuntime) -> Result<(), Fail> {
+    play(&rt, rt.alloc(), 1, Scene::DrivenEarly)
+}
+
+#[test]
+fn a_started_job_is_finished_past_the_budget(rt: HostRuntime) -> Result<(), Fail> {
+    play(&rt, rt.alloc(), 1, Scene::DrivenShort)
+}
+
+#[test]
+fn an_output_is_driven_out(rt: HostRuntime) -> Result<(), Fail> {
+    play_round(&rt, rt.alloc(), Scene::DrivenRound)
 }

@@ -242,7 +242,12 @@ pub fn full_wire<L: Ledger>(rt: &impl Abort, stage: Stage<L>) -> Result<(), Fail
     assert_eq!(rt; stage.refusal(Act::Transmit(0, 1, 1)), 13);
     assert!(rt; matches!(stage.act(&mut held, Act::Arrive(0)), Ok(Answer::Started(1))));
     assert_eq!(rt; stage.refusal(Act::Copy(1)), 13);
-    assert!(rt; matches!(stage.act(&mut held, Act::Finish), Ok(Answer::Committed { rsn: 1, key: 0 })));
+    assert!(rt;
+        matches!(
+            stage.act(&mut held, Act::Finish),
+            Ok(Answer::Committed { rsn: 1, key: 0 })
+        )
+    );
     assert_eq!(rt; stage.refusal(Act::Copy(1)), 13);
     assert_eq!(rt; stage.entries(), 4_099);
     Ok(())

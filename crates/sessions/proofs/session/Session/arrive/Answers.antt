@@ -1,10 +1,10 @@
-use Rattle.std.proofs.Common.{◌≡◌, ◌-◌, ◌++◌, ◌∷◌, [], length, arith, ap, ◌∙◌}
+use Rattle.std.proofs.Common.{◌≡◌, ◌-◌, ◌++◌, ◌∷◌, [], length, arith, sym, ap, subst, ◌∙◌}
 use Rattle.std.specs.Prelude.{Ok}
 use Rattle.world.specs.declared.call.Call.TheVariants.{Arrive}
-use Rattle.machine.specs.Arrival.{answer_of}
+use Rattle.machine.specs.Arrival.{answer_of, IsJobFor}
 use Rattle.world.specs.Bounds.{LIMIT}
 use Rattle.world.specs.Useful.{may_call}
-use Rattle.sessions.specs.Journal.{entry, world_at, Adds}
+use Rattle.sessions.specs.Journal.{TheSession, entry, world_at, Adds}
 use Rattle.sessions.specs.Inside.{IsSession}
 use Rattle.sessions.proofs.Rooms.{room-arrive}
 use Rattle.sessions.proofs.Steps.{here, accepted, session, handed}
@@ -36,3 +36,11 @@ pub returns-clause-job : goal.returns-clause-job
 returns-clause-job g c =
     let s = (done g (goal.at.returns-clause-job g c).After-append).0 in
     handed c.arrive.new.self c.append.new.self.entries c.self.inside.seats.items c.in_ok-arrival.arrival c.in_ok-arrival.ensures.job s.leads
+
+pub returns-clause-target : goal.returns-clause-target
+returns-clause-target g c =
+    let m = c.self.inside.machine in
+    let es = c.self.inside.journal.entries in
+    let arrival = c.in_ok-arrival.arrival in
+    let P : TheSession → Type 0 = λ s. IsJobFor ((world_at s).wire c.args.key) arrival in
+    subst P c.self.view_is (subst (λ found. IsJobFor found arrival) (sym (c.self.invariant.0.leads.shows.wire c.args.key)) c.in_ok-arrival.ensures.target)

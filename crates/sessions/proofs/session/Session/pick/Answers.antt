@@ -1,0 +1,33 @@
+use Rattle.std.proofs.Common.{◌≡◌, ◌-◌, length, subst}
+use Rattle.std.specs.Prelude.{Option, Some, None, IfNone, IfSome}
+use Rattle.world.specs.Bounds.{LIMIT}
+use Rattle.world.specs.declared.call.Call.{Call}
+use Rattle.machine.specs.Picking.{IsPick}
+use Rattle.sessions.specs.Journal.{TheSession, world_at, room_at}
+use Rattle.sessions.specs.Driving.{IsQuiet}
+use Rattle.sessions.proofs.Steps.{here}
+use Rattle.sessions.proofs.session.Session.pick.Goals as goal
+
+if_some : {X : Type 0} {P Q : X → Type 0} (o : Option X) → ((x : X) → P x → Q x) → IfSome o P → IfSome o Q
+if_some None f p = tt
+if_some (Some x) f p = f x p
+
+if_none : {X : Type 0} {P Q : Type 0} (o : Option X) → (P → Q) → IfNone o P → IfNone o Q
+if_none None f p = f p
+if_none (Some x) f p = tt
+
+pub returns-clause-some : goal.returns-clause-some
+returns-clause-some g c =
+    let m = c.self.inside.machine in
+    let es = c.self.inside.journal.entries in
+    let room : c.room.result ≡ LIMIT - length es = c.room.ensures.value in
+    let P : TheSession → Type 0 = λ s. IfSome c.pick.result (λ call. IsPick (world_at s) (room_at s) call) in
+    subst P c.self.view_is (if_some c.pick.result (λ call k. subst (λ r. IsPick (here m es) r call) room (k (here m es) c.self.invariant.0.leads)) c.pick.ensures.some)
+
+pub returns-clause-none : goal.returns-clause-none
+returns-clause-none g c =
+    let m = c.self.inside.machine in
+    let es = c.self.inside.journal.entries in
+    let room : c.room.result ≡ LIMIT - length es = c.room.ensures.value in
+    let P : TheSession → Type 0 = λ s. IfNone c.pick.result (IsQuiet s) in
+    subst P c.self.view_is (if_none c.pick.result (λ none call. subst (λ r. ¬ IsPick (here m es) r call) room (none (here m es) c.self.invariant.0.leads call)) c.pick.ensures.none)

@@ -1,0 +1,53 @@
+-- Calls that are picked and made, with the jobs that they start
+use Rattle.std.specs.Prelude.{◌≡◌, ℕ, ◌+◌, ◌-◌, ◌<◌, ◌≤◌, ◌⊎◌, List, [], ◌∷◌, ◌++◌, length, Option, Some, None, Result, Ok, Err}
+use Rattle.world.specs.declared.packet.Packet.{Packet}
+use Rattle.world.specs.declared.packet.Packet.TheVariants.{Delivery}
+use Rattle.world.specs.declared.call.Call.{Call}
+use Rattle.world.specs.declared.call.Call.TheVariants.{Arrive, Finish}
+use Rattle.world.specs.declared.answer.Answer.{Answer}
+use Rattle.world.specs.declared.answer.Answer.TheVariants.{Started}
+use Rattle.world.specs.declared.entry.Entry.{Entry}
+use Rattle.world.specs.declared.refusal.Refusal.{Refusal}
+use Rattle.world.specs.declared.refusal.Refusal.TheVariants.{Memory}
+use Rattle.world.specs.World.{World}
+use Rattle.world.specs.Calls.{after}
+use Rattle.machine.specs.Picking.{IsPick}
+use Rattle.sessions.specs.Seats.{TheSeat}
+use Rattle.sessions.specs.Journal.{TheSession, world_at, room_at}
+
+-- whose job the answer to a packet tells as started
+abbrev pub begun_by : Answer → Option Packet → Option ℕ
+begun_by (Started n) (Some (Delivery d m)) = Some d
+begun_by answer packet = None
+
+-- the process whose job a call started
+abbrev pub job_of : World → Call → Answer → Option ℕ
+job_of w (Arrive key) answer = begun_by answer (w.wire key)
+job_of w call answer = None
+
+-- each of these entries of a worker is a call that can be picked where it is made, before so many were accepted, or the finish of
+-- the job that the entry before it started. `job` is the process whose job is open before them, and `left` that after them
+abbrev pub Drives : ℕ → ℕ → ℕ → Option ℕ → World → List Entry → Option ℕ → Type 0
+Drives worker budget room job w [] left = job ≡ left
+Drives worker budget room None w (e ∷ es) left =
+    (0 < budget) × (e.worker ≡ worker) × IsPick w room e.call × Drives worker (budget - 1) (room - 1) (job_of w e.call e.answer) (after w e.call e.answer) es left
+Drives worker budget room (Some p) w (e ∷ es) left =
+    (e.worker ≡ worker) × (e.call ≡ Finish p) × Drives worker (budget - 1) (room - 1) None (after w e.call e.answer) es left
+
+-- the session and the seat after n calls more, which are driven
+pub record Advances (budget : ℕ) (old new : TheSession) (by by' : TheSeat) (n : ℕ) (left : Option ℕ) : Type 0 where
+  pub added : List Entry
+  pub as_many : length added ≡ n
+  pub entries : new ≡ record old { entries = old.entries ++ added }
+  pub seat : by' ≡ record by { answered = by.answered + n }
+  pub run : Drives by.worker budget (room_at old) None (world_at old) added left
+
+-- no call can be picked
+abbrev pub IsQuiet : TheSession → Type 0
+IsQuiet s = (call : Call) → ¬ IsPick (world_at s) (room_at s) call
+
+-- what a drive owes: it ends with no job of its own open, where the budget is reached or no call can be picked; or where memory ran
+-- out, and the calls that were accepted stand
+abbrev pub Driven : ℕ → TheSession → TheSession → TheSeat → TheSeat → Result ℕ Refusal → Type 0
+Driven budget old new by by' (Ok n) = Advances budget old new by by' n None × ((budget ≤ n) ⊎ IsQuiet new)
+Driven budget old new by by' (Err r) = (r ≡ Memory) × ((n : ℕ) × (left : Option ℕ) × Advances budget old new by by' n left)
