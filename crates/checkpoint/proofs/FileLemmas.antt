@@ -36,7 +36,7 @@ length-inserted xs zero x le = refl
 length-inserted [] (suc i) x le = absurd (omega arith)
 length-inserted (y ∷ ys) (suc i) x le = ap suc (length-inserted ys i x (omega arith))
 
-length-removed : {X : Type 0} (xs : List X) (i : ℕ) → i < length xs → suc (length (remove xs i)) ≡ length xs
+pub length-removed : {X : Type 0} (xs : List X) (i : ℕ) → i < length xs → suc (length (remove xs i)) ≡ length xs
 length-removed [] i lt = absurd (omega arith)
 length-removed (y ∷ ys) zero lt = refl
 length-removed (y ∷ ys) (suc i) lt = ap suc (length-removed ys i (omega arith))
@@ -51,7 +51,7 @@ all-inserted P xs zero x p all = (p, all)
 all-inserted P [] (suc i) x p all = (p, tt)
 all-inserted P (y ∷ ys) (suc i) x p all = (all.0, all-inserted P ys i x p all.1)
 
-all-removed : {X : Type 0} (P : X → Type 0) (xs : List X) (i : ℕ) → AllByRecursion P xs → AllByRecursion P (remove xs i)
+pub all-removed : {X : Type 0} (P : X → Type 0) (xs : List X) (i : ℕ) → AllByRecursion P xs → AllByRecursion P (remove xs i)
 all-removed P [] zero all = tt
 all-removed P [] (suc i) all = tt
 all-removed P (y ∷ ys) zero all = all.1
@@ -59,10 +59,10 @@ all-removed P (y ∷ ys) (suc i) all = (all.0, all-removed P ys i all.1)
 
 -- ---- the first fields
 
-abbrev head_bytes : Head → List ℕ
+abbrev pub head_bytes : Head → List ℕ
 head_bytes h = magic h.form ++ (to_le_bytes w16 h.state ++ (h.count ∷ h.me ∷ to_le_bytes w32 h.received))
 
-abbrev head : Form → TheSaved → Head
+abbrev pub head : Form → TheSaved → Head
 head form s = record { form = form; state = length s.state; count = s.count; me = s.me; received = length s.senders }
 
 head_takes : (bytes : List ℕ) (x : Head × List ℕ) → IsBytes bytes → head_at bytes ≡ Ok x → Takes bytes (head_bytes x.0) x.1 × HeadFits x.0
@@ -91,7 +91,7 @@ head_takes bytes x fits e =
     let ranges : HeadFits h = record { state = t1.2; some = t2.1; few = t2.2; least = t3.1; own = t3.2; received = t4.2 } in
     subst (λ (y : Head × List ℕ). Takes bytes (head_bytes y.0) y.1 × HeadFits y.0) (ok_is (h, f.0.1) x f.2) (whole, ranges)
 
-head_again : (h : Head) (rest : List ℕ) → HeadFits h → head_at (head_bytes h ++ rest) ≡ Ok (h, rest)
+pub head_again : (h : Head) (rest : List ℕ) → HeadFits h → head_at (head_bytes h ++ rest) ≡ Ok (h, rest)
 unfolding head_at
 head_again h rest fits =
     let numbers = h.count ∷ h.me ∷ to_le_bytes w32 h.received in
@@ -107,7 +107,7 @@ head_again h rest fits =
 
 -- ---- what follows them
 
-abbrev body_bytes : Form → TheSaved → List ℕ
+abbrev pub body_bytes : Form → TheSaved → List ℕ
 body_bytes form s = s.state ++ (s.senders ++ flat_map (kept_bytes form) (remove s.queues s.me))
 
 body_takes : (h : Head) (bytes : List ℕ) (x : TheSaved × List ℕ) → HeadFits h → IsBytes bytes → body_at h bytes ≡ Ok x → Takes bytes (body_bytes h.form x.0) x.1 × (h ≡ head h.form x.0) × Fits h.form x.0
@@ -179,7 +179,7 @@ reading_takes bytes s fits e =
     let whole : bytes ≡ bytes_of form b.0.0 = front ∙ append_assoc (magic form) (number_bytes b.0.0) (body_bytes form b.0.0) in
     (form, subst (λ (y : TheSaved). IsCheckpoint form y bytes) p.1 (record { fits = u.2; bytes_are = whole }))
 
-head_fits : (form : Form) (s : TheSaved) → Fits form s → HeadFits (head form s)
+pub head_fits : (form : Form) (s : TheSaved) → Fits form s → HeadFits (head form s)
 head_fits form s fits = record { state = fits.state; some = fits.some; few = fits.few; least = fits.least; own = fits.own; received = fits.received }
 
 pub reading_again : (form : Form) (s : TheSaved) (bytes : List ℕ) → IsCheckpoint form s bytes → reading bytes ≡ Ok s

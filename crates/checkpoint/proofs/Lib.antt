@@ -3,3 +3,4 @@ pub mod Counted
 pub mod FieldLemmas
 pub mod KeptLemmas
 pub mod FileLemmas
+pub mod CutLemmas

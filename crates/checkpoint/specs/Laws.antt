@@ -15,6 +15,10 @@ IsOneCheckpoint = (form form' : Form) (s s' : TheSaved) (bytes : List ℕ) → I
 abbrev pub IsTooLong : Type 0
 IsTooLong = (form : Form) (s : TheSaved) (bytes more : List ℕ) → IsCheckpoint form s bytes → 0 < length more → reading (bytes ++ more) ≡ Err Length
 
+-- a checkpoint that is cut short is refused for its length, wherever it is cut
+abbrev pub IsTooShort : Type 0
+IsTooShort = (form : Form) (s : TheSaved) (bytes more : List ℕ) → IsCheckpoint form s (bytes ++ more) → 0 < length more → reading bytes ≡ Err Length
+
 -- new is the second form of what old is the checkpoint of
 abbrev pub IsMigrated : List ℕ → List ℕ → Type 0
 IsMigrated old new = (form : Form) × (s : TheSaved) × IsCheckpoint form s old × IsCheckpoint Second s new

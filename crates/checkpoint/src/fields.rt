@@ -27,10 +27,6 @@ pub struct Head {
 /// How many bytes a payload of the first form has.
 const FIRST_PAYLOAD: usize = 64;
 
-const FIRST_MAGIC: [u8; 4] = [0x53, 0x42, 0x43, 0x31];
-
-const SECOND_MAGIC: [u8; 4] = [0x53, 0x42, 0x43, 0x32];
-
 /// So many bytes, and those after them.
 pub fn bytes_of(len: usize, bytes: &[u8]) -> Result<(&[u8], &[u8]), SavedError>
     ensures exact { Gives (λ x. (x.0.now, x.1.now)) result (bytes_at len bytes.now) }
@@ -42,6 +38,7 @@ pub fn bytes_of(len: usize, bytes: &[u8]) -> Result<(&[u8], &[u8]), SavedError>
     Ok(bytes.split_at(len))
 }
 
+/// A byte in a range.
 pub fn byte_of(least: u8, most: u8, bytes: &[u8]) -> Result<(u8, &[u8]), SavedError>
     ensures exact { Gives (λ x. (x.0, x.1.now)) result (byte_at least most bytes.now) }
     ensures range { IfOk result (λ x. (least ≤ x.0) × (x.0 ≤ most)) }
@@ -55,6 +52,7 @@ pub fn byte_of(least: u8, most: u8, bytes: &[u8]) -> Result<(u8, &[u8]), SavedEr
     Ok((*byte, rest))
 }
 
+/// A number of two bytes, in a range.
 #[tactic(auto, unfolding(crate::specs::Reading::number_at))]
 pub fn u16_of(least: u16, most: u16, bytes: &[u8]) -> Result<(u16, &[u8]), SavedError>
     ensures exact { Gives (λ x. (x.0, x.1.now)) result (number_at w16 least most bytes.now) }
@@ -68,6 +66,7 @@ pub fn u16_of(least: u16, most: u16, bytes: &[u8]) -> Result<(u16, &[u8]), Saved
     Ok((number, rest))
 }
 
+/// A number of four bytes, in a range.
 #[tactic(auto, unfolding(crate::specs::Reading::number_at))]
 pub fn u32_of(least: u32, most: u32, bytes: &[u8]) -> Result<(u32, &[u8]), SavedError>
     ensures exact { Gives (λ x. (x.0, x.1.now)) result (number_at w32 least most bytes.now) }
@@ -81,20 +80,22 @@ pub fn u32_of(least: u32, most: u32, bytes: &[u8]) -> Result<(u32, &[u8]), Saved
     Ok((number, rest))
 }
 
+/// The form whose magic this is.
 #[tactic(auto, unfolding(crate::specs::Reading::form_at))]
 fn form_of(bytes: &[u8]) -> Result<(Form, &[u8]), SavedError>
     ensures { Gives (λ x. (x.0, x.1.now)) result (form_at bytes.now) }
 {
     let (front, rest) = bytes_of(4, bytes)?;
-    if front == FIRST_MAGIC.as_slice() {
+    if front == Form::First.magic().as_slice() {
         Ok((Form::First, rest))
-    } else if front == SECOND_MAGIC.as_slice() {
+    } else if front == Form::Second.magic().as_slice() {
         Ok((Form::Second, rest))
     } else {
         Err(SavedError::Fault(SavedFault::Magic))
     }
 }
 
+/// The fields up to the number of receipts.
 #[tactic(auto, unfolding(crate::specs::Reading::head_at))]
 pub fn head_of(bytes: &[u8]) -> Result<(Head, &[u8]), SavedError>
     ensures exact { Gives (λ x. (x.0, x.1.now)) result (head_at bytes.now) }

@@ -1,7 +1,7 @@
 //! What holds of all checkpoints.
 
 ghost use Rattle.std.specs.Prelude.{Ok};
-ghost use Rattle.checkpoint.specs.Laws.{IsOneCheckpoint, IsTooLong};
+ghost use Rattle.checkpoint.specs.Laws.{IsOneCheckpoint, IsTooLong, IsTooShort};
 ghost use Rattle.checkpoint.specs.Reading.{Gives};
 
 use crate::fault::SavedError;
@@ -13,6 +13,11 @@ use std::alloc::Global;
 /// Bytes are the checkpoint of one saved process, in one form, if they are one.
 pub fn one_checkpoint()
     ensures { IsOneCheckpoint }
+{}
+
+/// The beginning of a checkpoint is refused for its length, wherever it ends.
+pub fn too_short()
+    ensures { IsTooShort }
 {}
 
 /// A checkpoint with bytes behind it is refused for its length.

@@ -28,7 +28,7 @@ mod saved;
 mod writing;
 
 pub use fault::{SavedError, SavedFault};
-pub use laws::{one_checkpoint, there_and_back, too_long};
+pub use laws::{one_checkpoint, there_and_back, too_long, too_short};
 pub use migrating::migrate;
 pub use reading::decode;
 pub use saved::{COUNT_LIMIT, RECEIPT_LIMIT, STATE_LIMIT, Saved};

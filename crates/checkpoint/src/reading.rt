@@ -30,6 +30,7 @@ pub fn decode(alloc: Global, bytes: &[u8]) -> Result<Saved, SavedError>
     whole(alloc, bytes)
 }
 
+/// All of the bytes, by fields.
 #[tactic(auto, unfolding(crate::specs::Reading::reading))]
 fn whole(alloc: Global, bytes: &[u8]) -> Result<Saved, SavedError>
     ensures { Gives (λ x. x) result (reading bytes.now) }

@@ -5,18 +5,16 @@ ghost use Rattle.std.specs.List.{flat_map, AllByRecursion};
 ghost use Rattle.checkpoint.specs.declared.form.Form.TheVariants.{Second};
 ghost use Rattle.checkpoint.specs.Format.{number_bytes, payload_bytes, kept_bytes, IsCheckpoint};
 
+use crate::form::Form;
 use crate::kept::Kept;
 use crate::saved::Saved;
 use std::alloc::{AllocError, Global};
-
-/// `SBC2`: what `encode` writes begins so.
-const MAGIC: [u8; 4] = [0x53, 0x42, 0x43, 0x32];
 
 /// The checkpoint of a saved process, in the second form.
 pub fn encode(alloc: Global, saved: &Saved) -> Result<Vec<u8>, AllocError>
     ensures { IfOk result (λ v. IsCheckpoint Second saved.now v.items) }
 {
-    let mut out = Vec::from_slice(alloc, &MAGIC)?;
+    let mut out = Vec::from_slice(alloc, &Form::Second.magic())?;
     put_numbers(&mut out, saved)?;
     out.extend_from_slice(saved.state())?;
     out.extend_from_slice(saved.senders())?;
