@@ -1,20 +1,19 @@
 -- A checkpoint that is cut short is refused for its length, wherever it is cut
-use Rattle.std.proofs.Common.{◌≡◌, ℕ, zero, suc, ◌+◌, ◌-◌, ◌^◌, ◌<◌, ◌≤◌, Bool, true, false, cond, eqb, ltb, List, [], ◌∷◌, ◌++◌, length, Result, Ok, Err, refl, sym, ap, subst, ◌∙◌, append_assoc, arith, inl, inr, ◌⊎◌}
-use Rattle.std.specs.Prelude.{nat_eq, nat_lt}
-use Rattle.std.specs.Int.{Width, w16, w32, byte_len, from_le_bytes, to_le_bytes}
-use Rattle.std.specs.List.{list_all, flat_map, remove, insert, AllByRecursion}
-use Rattle.std.specs.Cmp.Lexicographic.{pointwise}
+use Rattle.std.proofs.Common.{◌≡◌, ℕ, ◌-◌, ◌^◌, ◌<◌, true, cond, eqb, List, [], ◌∷◌, ◌++◌, length, Result, Ok, Err, refl, sym, ap, subst, ◌∙◌, append_assoc, arith, inl, inr, ◌⊎◌}
+use Rattle.std.specs.Prelude.{nat_lt}
+use Rattle.std.specs.Int.{Width, w16, w32, byte_len, to_le_bytes}
+use Rattle.std.specs.List.{flat_map, remove, insert, AllByRecursion}
 use Rattle.std.proofs.lemmas.Bool.Decides.{nat_tests}
 use Rattle.std.proofs.lemmas.List.{length-append}
 use Rattle.checkpoint.specs.declared.form.Form.{Form}
 use Rattle.checkpoint.specs.declared.form.Form.TheVariants.{First, Second}
 use Rattle.checkpoint.specs.declared.fault.SavedFault.{SavedFault}
-use Rattle.checkpoint.specs.declared.fault.SavedFault.TheVariants.{Magic, Length, Range}
+use Rattle.checkpoint.specs.declared.fault.SavedFault.TheVariants.{Length}
 use Rattle.checkpoint.specs.declared.fields.Head.{Head}
-use Rattle.checkpoint.specs.Saved.{TheKept, TheSaved, nothing_kept, is_sender, PayloadFits, KeptFits, HeadFits, Fits}
+use Rattle.checkpoint.specs.Saved.{TheKept, TheSaved, nothing_kept, PayloadFits, KeptFits, HeadFits, Fits}
 use Rattle.checkpoint.specs.Format.{magic, payload_bytes, kept_bytes, number_bytes}
 use Rattle.checkpoint.specs.Laws.{IsTooShort}
-use Rattle.checkpoint.specs.Reading.{◌>>=◌, bytes_at, in_range, byte_at, number_at, form_at, senders_at, payload_at, times, kept_at, head_at, body_at, reading}
+use Rattle.checkpoint.specs.Reading.{◌>>=◌, bytes_at, byte_at, number_at, form_at, senders_at, payload_at, times, kept_at, head_at, body_at, reading}
 use Rattle.checkpoint.proofs.Counted.{Field}
 use Rattle.checkpoint.proofs.FieldLemmas.{IsWide, wide16, wide32, bytes_again, byte_again, number_again, form_again, senders_again, payload_again}
 use Rattle.checkpoint.proofs.KeptLemmas.{kept_again}

@@ -10,6 +10,10 @@
 //! before it. [`encode`] writes the second, [`decode`] reads both, and [`migrate`] makes the
 //! second of either.
 //!
+//! The promise: `decode` reads bytes exactly where they are the checkpoint of a saved process in one
+//! of the forms, and of one only; any other bytes are refused by the first fault from left to right.
+//! So what `encode` wrote is read back.
+//!
 //! ```
 //! let saved = Saved::of(alloc, 1, 2, &state, &receipts, &log)?;
 //! let bytes = encode(alloc, &saved)?;
