@@ -1,0 +1,5 @@
+pub mod Saved
+pub mod Format
+pub mod FaultNumbers
+pub mod Reading
+pub mod Laws

@@ -1,0 +1,89 @@
+-- What clauses see of a saved process
+use Rattle.std.specs.Prelude.{◌≡◌, ℕ, ◌+◌, ◌≤◌, List, [], length, map, replicate, slice_index_or, Bool, true, not, ◌==◌, ◌&&◌, nat_le, None}
+use Rattle.std.specs.List.{AllByRecursion, list_all}
+use Rattle.rsn.specs.Receipts.{Received}
+use Rattle.sender_log.specs.Queue.{TheQueue}
+use Rattle.sender_log.specs.Log.{TheLog}
+use Rattle.checkpoint.specs.declared.form.Form.{Form}
+use Rattle.checkpoint.specs.declared.fields.Head.{Head}
+use Rattle.checkpoint.specs.declared.form.Form.TheVariants.{First, Second}
+
+-- ---- values
+
+-- what is kept for one destination: the SSN of the first message, and the payloads from there on
+pub record TheKept : Type 0 where
+  pub first : ℕ
+  pub payloads : List (List ℕ)
+
+-- nothing kept, nothing trimmed
+abbrev pub nothing_kept : TheKept
+nothing_kept = record { first = 1; payloads = [] }
+
+-- the process, how many there are, its state, the senders of what it received, and what it keeps for 0, 1, .. count. For itself it keeps nothing
+pub record TheSaved : Type 0 where
+  pub me : ℕ
+  pub count : ℕ
+  pub state : List ℕ
+  pub senders : List ℕ
+  pub queues : List TheKept
+
+-- ---- ranges
+
+-- how many bytes a payload of a form can have
+abbrev pub PayloadFits : Form → List ℕ → Type 0
+PayloadFits First payload = length payload ≡ 64
+PayloadFits Second payload = length payload ≤ 256
+
+-- SSNs are at most 524,288
+pub record KeptFits (form : Form) (kept : TheKept) : Type 0 where
+  pub least : 1 ≤ kept.first
+  pub bound : kept.first + length kept.payloads ≤ 524289
+  pub payloads : AllByRecursion (PayloadFits form) kept.payloads
+
+-- 0, the outside, and each other process can send
+abbrev pub is_sender : ℕ → ℕ → ℕ → Bool
+is_sender me count s = nat_le s count && not (s == me)
+
+-- what can be saved in a form
+pub record Fits (form : Form) (s : TheSaved) : Type 0 where
+  pub some : 1 ≤ s.count
+  pub few : s.count ≤ 15
+  pub least : 1 ≤ s.me
+  pub own : s.me ≤ s.count
+  pub state : length s.state ≤ 1024
+  pub received : length s.senders ≤ 65536
+  pub senders : list_all (is_sender s.me s.count) s.senders ≡ true
+  pub queues : length s.queues ≡ s.count + 1
+  pub nothing : slice_index_or s.queues s.me nothing_kept ≡ nothing_kept
+  pub kept : AllByRecursion (KeptFits form) s.queues
+
+-- the ranges of the first fields of a file
+pub record HeadFits (head : Head) : Type 0 where
+  pub state : head.state ≤ 1024
+  pub some : 1 ≤ head.count
+  pub few : head.count ≤ 15
+  pub least : 1 ≤ head.me
+  pub own : head.me ≤ head.count
+  pub received : head.received ≤ 65536
+
+-- ---- from receipts and a log, and back
+
+-- what is saved of a queue: its numbers are not
+abbrev pub kept_of : TheQueue → TheKept
+kept_of q = record { first = q.first; payloads = q.payloads }
+
+-- the queue of what was saved: no message has a number
+abbrev pub queue_again : TheKept → TheQueue
+queue_again kept = record { first = kept.first; payloads = kept.payloads; numbers = replicate (length kept.payloads) None }
+
+-- a process with this state, these receipts and this log
+abbrev pub saved_of : ℕ → ℕ → List ℕ → Received → TheLog → TheSaved
+saved_of me count state receipts log = record { me = me; count = count; state = state; senders = receipts.senders; queues = map kept_of log.queues }
+
+-- all that was received counts as acknowledged
+abbrev pub receipts_again : TheSaved → Received
+receipts_again s = record { senders = s.senders; acknowledged = replicate (length s.senders) true }
+
+-- no message has a number
+abbrev pub log_again : TheSaved → TheLog
+log_again s = record { owner = s.me; queues = map queue_again s.queues }

@@ -1,0 +1,155 @@
+//! The fields of a checkpoint, from bytes.
+
+ghost use Rattle.std.specs.Prelude.{◌≡◌, ◌≤◌, true, length, IfOk};
+ghost use Rattle.std.specs.Int.{w16, w32};
+ghost use Rattle.std.specs.List.{list_all};
+ghost use Rattle.checkpoint.specs.Saved.{is_sender, HeadFits};
+ghost use Rattle.checkpoint.specs.Reading.{Gives, bytes_at, byte_at, number_at, form_at, senders_at, payload_at, head_at};
+
+use crate::fault::{SavedError, SavedFault};
+use crate::form::Form;
+use crate::saved::{COUNT_LIMIT, RECEIPT_LIMIT, STATE_LIMIT};
+use helpers::PAYLOAD_LIMIT;
+use std::alloc::Global;
+
+/// The first fields of a checkpoint.
+#[derive(Clone, Copy, Debug, PartialEq, Eq)]
+pub struct Head {
+    pub form: Form,
+    /// How many bytes the state has.
+    pub state: u16,
+    pub count: u8,
+    pub me: u8,
+    /// How many messages were received.
+    pub received: u32,
+}
+
+/// How many bytes a payload of the first form has.
+const FIRST_PAYLOAD: usize = 64;
+
+/// So many bytes, and those after them.
+pub fn bytes_of(len: usize, bytes: &[u8]) -> Result<(&[u8], &[u8]), SavedError>
+    ensures exact { Gives (λ x. (x.0.now, x.1.now)) result (bytes_at len bytes.now) }
+    ensures len { IfOk result (λ x. length x.0.now ≡ len) }
+{
+    if bytes.len() < len {
+        return Err(SavedError::Fault(SavedFault::Length));
+    }
+    Ok(bytes.split_at(len))
+}
+
+/// A byte in a range.
+pub fn byte_of(least: u8, most: u8, bytes: &[u8]) -> Result<(u8, &[u8]), SavedError>
+    ensures exact { Gives (λ x. (x.0, x.1.now)) result (byte_at least most bytes.now) }
+    ensures range { IfOk result (λ x. (least ≤ x.0) × (x.0 ≤ most)) }
+{
+    let [byte, rest @ ..] = bytes else {
+        return Err(SavedError::Fault(SavedFault::Length));
+    };
+    if *byte < least || *byte > most {
+        return Err(SavedError::Fault(SavedFault::Range));
+    }
+    Ok((*byte, rest))
+}
+
+/// A number of two bytes, in a range.
+#[tactic(auto, unfolding(crate::specs::Reading::number_at))]
+pub fn u16_of(least: u16, most: u16, bytes: &[u8]) -> Result<(u16, &[u8]), SavedError>
+    ensures exact { Gives (λ x. (x.0, x.1.now)) result (number_at w16 least most bytes.now) }
+    ensures range { IfOk result (λ x. (least ≤ x.0) × (x.0 ≤ most)) }
+{
+    let (front, rest) = bytes_of(2, bytes)?;
+    let number = u16::from_le_bytes([front[0], front[1]]);
+    if number < least || number > most {
+        return Err(SavedError::Fault(SavedFault::Range));
+    }
+    Ok((number, rest))
+}
+
+/// A number of four bytes, in a range.
+#[tactic(auto, unfolding(crate::specs::Reading::number_at))]
+pub fn u32_of(least: u32, most: u32, bytes: &[u8]) -> Result<(u32, &[u8]), SavedError>
+    ensures exact { Gives (λ x. (x.0, x.1.now)) result (number_at w32 least most bytes.now) }
+    ensures range { IfOk result (λ x. (least ≤ x.0) × (x.0 ≤ most)) }
+{
+    let (front, rest) = bytes_of(4, bytes)?;
+    let number = u32::from_le_bytes([front[0], front[1], front[2], front[3]]);
+    if number < least || number > most {
+        return Err(SavedError::Fault(SavedFault::Range));
+    }
+    Ok((number, rest))
+}
+
+/// The form whose magic this is.
+#[tactic(auto, unfolding(crate::specs::Reading::form_at))]
+fn form_of(bytes: &[u8]) -> Result<(Form, &[u8]), SavedError>
+    ensures { Gives (λ x. (x.0, x.1.now)) result (form_at bytes.now) }
+{
+    let (front, rest) = bytes_of(4, bytes)?;
+    if front == Form::First.magic().as_slice() {
+        Ok((Form::First, rest))
+    } else if front == Form::Second.magic().as_slice() {
+        Ok((Form::Second, rest))
+    } else {
+        Err(SavedError::Fault(SavedFault::Magic))
+    }
+}
+
+/// The fields up to the number of receipts.
+#[tactic(auto, unfolding(crate::specs::Reading::head_at))]
+pub fn head_of(bytes: &[u8]) -> Result<(Head, &[u8]), SavedError>
+    ensures exact { Gives (λ x. (x.0, x.1.now)) result (head_at bytes.now) }
+    ensures fits { IfOk result (λ x. HeadFits x.0) }
+{
+    let (form, rest) = form_of(bytes)?;
+    let (state, rest) = u16_of(0, STATE_LIMIT, rest)?;
+    let (count, rest) = byte_of(1, COUNT_LIMIT, rest)?;
+    let (me, rest) = byte_of(1, count, rest)?;
+    let (received, rest) = u32_of(0, RECEIPT_LIMIT, rest)?;
+    let head = Head {
+        form,
+        state,
+        count,
+        me,
+        received,
+    };
+    Ok((head, rest))
+}
+
+/// A byte for each receipt: its sender.
+#[tactic(auto, unfolding(crate::specs::Reading::senders_at))]
+pub fn senders_of(head: Head, bytes: &[u8]) -> Result<(&[u8], &[u8]), SavedError>
+    ensures exact { Gives (λ x. (x.0.now, x.1.now)) result (senders_at head.me head.count head.received bytes.now) }
+    ensures len { IfOk result (λ x. length x.0.now ≡ head.received) }
+    ensures senders { IfOk result (λ x. list_all (is_sender head.me head.count) x.0.now ≡ true) }
+{
+    let (senders, rest) = bytes_of(head.received as usize, bytes)?;
+    if !are_senders(head, senders) {
+        return Err(SavedError::Fault(SavedFault::Range));
+    }
+    Ok((senders, rest))
+}
+
+/// Whether each of these numbers is the outside or another process.
+fn are_senders(head: Head, senders: &[u8]) -> bool
+    ensures { result ≡ list_all (is_sender head.me head.count) senders.now }
+{
+    senders
+        .iter()
+        .all(|sender| *sender <= head.count && *sender != head.me)
+}
+
+/// A payload, in the second form behind its length.
+#[tactic(auto, unfolding(crate::specs::Reading::payload_at))]
+pub fn payload_of(form: Form, bytes: &[u8]) -> Result<(&[u8], &[u8]), SavedError>
+    ensures exact { Gives (λ x. (x.0.now, x.1.now)) result (payload_at form bytes.now) }
+    ensures bound { IfOk result (λ x. length x.0.now ≤ 256) }
+{
+    match form {
+        Form::First => bytes_of(FIRST_PAYLOAD, bytes),
+        Form::Second => {
+            let (len, rest) = u16_of(0, PAYLOAD_LIMIT as u16, bytes)?;
+            bytes_of(len as usize, rest)
+        }
+    }
+}

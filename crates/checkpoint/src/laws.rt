@@ -1,0 +1,34 @@
+//! What holds of all checkpoints.
+
+ghost use Rattle.std.specs.Prelude.{Ok};
+ghost use Rattle.checkpoint.specs.Laws.{IsOneCheckpoint, IsTooLong, IsTooShort};
+ghost use Rattle.checkpoint.specs.Reading.{Gives};
+
+use crate::fault::SavedError;
+use crate::reading::decode;
+use crate::saved::Saved;
+use crate::writing::encode;
+use std::alloc::Global;
+
+/// Bytes are the checkpoint of one saved process, in one form, if they are one.
+pub fn one_checkpoint()
+    ensures { IsOneCheckpoint }
+{}
+
+/// The beginning of a checkpoint is refused for its length, wherever it ends.
+pub fn too_short()
+    ensures { IsTooShort }
+{}
+
+/// A checkpoint with bytes behind it is refused for its length.
+pub fn too_long()
+    ensures { IsTooLong }
+{}
+
+/// What is written is read back, unless memory runs out.
+pub fn there_and_back(alloc: Global, saved: &Saved) -> Result<Saved, SavedError>
+    ensures { Gives (λ s. s) result (Ok saved.now) }
+{
+    let bytes = encode(alloc, saved)?;
+    decode(alloc, &bytes)
+}

@@ -1,0 +1,42 @@
+//! A saved process: what a checkpoint holds, and its bytes.
+//!
+//! [`Saved`] is what a process needs to come back as it was when it was saved: its number, the
+//! number of processes, its state, the senders of the messages that it had received, and for each
+//! destination the messages that it kept. Its type keeps every field in the range that the format
+//! has for it. [`Saved::of`] takes it from receipts and a log, [`Saved::restore`] makes receipts
+//! and a log of it again, which know no receive sequence numbers of others any more.
+//!
+//! A checkpoint has two forms: in `SBC1` each payload has 64 bytes, in `SBC2` its length stands
+//! before it. [`encode`] writes the second, [`decode`] reads both, and [`migrate`] makes the
+//! second of either.
+//!
+//! The promise: `decode` reads bytes exactly where they are the checkpoint of a saved process in one
+//! of the forms, and of one only; any other bytes are refused by the first fault from left to right.
+//! So what `encode` wrote is read back.
+//!
+//! ```
+//! let saved = Saved::of(alloc, 1, 2, &state, &receipts, &log)?;
+//! let bytes = encode(alloc, &saved)?;
+//! let (receipts, log) = decode(alloc, &bytes)?.restore(alloc)?;
+//! ```
+#![tactic(auto)]
+
+mod fault;
+mod fields;
+mod form;
+mod kept;
+mod laws;
+mod migrating;
+mod reading;
+mod saved;
+mod writing;
+
+pub use fault::{SavedError, SavedFault};
+pub use laws::{one_checkpoint, there_and_back, too_long, too_short};
+pub use migrating::migrate;
+pub use reading::decode;
+pub use saved::{COUNT_LIMIT, RECEIPT_LIMIT, STATE_LIMIT, Saved};
+pub use writing::encode;
+
+#[cfg(test)]
+mod tests;

@@ -1,0 +1,116 @@
+//! Bytes to a saved process.
+
+ghost use Rattle.std.specs.Prelude.{◌≡◌, ◌≢◌, ◌+◌, ◌≤◌, true, length, IfOk, Ok};
+ghost use Rattle.std.specs.List.{AllByRecursion};
+ghost use Rattle.checkpoint.specs.declared.form.Form.{Form};
+ghost use Rattle.checkpoint.specs.declared.form.Form.TheVariants.{Second};
+ghost use Rattle.checkpoint.specs.Saved.{TheSaved, PayloadFits, KeptFits, HeadFits};
+ghost use Rattle.checkpoint.specs.Format.{IsCheckpoint, bytes_of};
+ghost use Rattle.checkpoint.specs.Reading.{Gives, payload_at, kept_at, times, body_at, reading};
+
+use crate::fault::{SavedError, SavedFault};
+use crate::fields::{Head, bytes_of, head_of, payload_of, senders_of, u32_of};
+use crate::form::Form;
+use crate::kept::Kept;
+use crate::saved::Saved;
+use helpers::Payload;
+use sender_log::LIMIT;
+use std::alloc::Global;
+
+/// The saved process of a checkpoint, in either form. The first fault is named, in the order of
+/// reading.
+pub fn decode(alloc: Global, bytes: &[u8]) -> Result<Saved, SavedError>
+    // What is read is written so, in one of the forms.
+    ensures found { IfOk result (λ s. (form : Form) × IsCheckpoint form s bytes.now) }
+    // What is written so is read, unless memory runs out.
+    ensures only { (form : Form) (s : TheSaved) → IsCheckpoint form s bytes.now → Gives (λ x. x) result (Ok s) }
+    // Each refusal is the first fault that reading meets.
+    ensures exact { Gives (λ x. x) result (reading bytes.now) }
+{
+    whole(alloc, bytes)
+}
+
+/// All of the bytes, by fields.
+#[tactic(auto, unfolding(crate::specs::Reading::reading))]
+fn whole(alloc: Global, bytes: &[u8]) -> Result<Saved, SavedError>
+    ensures { Gives (λ x. x) result (reading bytes.now) }
+{
+    let (head, rest) = head_of(bytes)?;
+    let (saved, rest) = body_of(alloc, head, rest)?;
+    if !rest.is_empty() {
+        return Err(SavedError::Fault(SavedFault::Length));
+    }
+    Ok(saved)
+}
+
+/// The state, the receipts, and what is kept.
+#[tactic(auto, unfolding(crate::specs::Reading::body_at))]
+fn body_of(alloc: Global, head: Head, bytes: &[u8]) -> Result<(Saved, &[u8]), SavedError>
+    requires { HeadFits head }
+    ensures { Gives (λ x. (x.0, x.1.now)) result (body_at head bytes.now) }
+{
+    let (state, rest) = bytes_of(head.state as usize, bytes)?;
+    let (senders, rest) = senders_of(head, rest)?;
+    let (mut queues, rest) = queues_of(alloc, head.form, head.count, rest)?;
+    queues.insert(head.me as usize, Kept::nothing(alloc))?;
+    let state = Vec::from_slice(alloc, state)?;
+    let senders = Vec::from_slice(alloc, senders)?;
+    Ok((
+        Saved::new(head.me, head.count, state, senders, queues),
+        rest,
+    ))
+}
+
+/// What is kept for so many destinations.
+fn queues_of(
+    alloc: Global,
+    form: Form,
+    count: u8,
+    bytes: &[u8],
+) -> Result<(Vec<Kept>, &[u8]), SavedError>
+    ensures exact { Gives (λ x. (x.0.items, x.1.now)) result (times (kept_at form) count bytes.now) }
+    ensures count { IfOk result (λ x. length x.0.items ≡ count) }
+    ensures fits { IfOk result (λ x. AllByRecursion (KeptFits Second) x.0.items) }
+{
+    let mut queues = Vec::new(alloc);
+    let mut rest = bytes;
+    for _ in 0..count {
+        let (kept, after) = kept_of(alloc, form, rest)?;
+        queues.push(kept)?;
+        rest = after;
+    }
+    Ok((queues, rest))
+}
+
+/// What is kept for one destination.
+#[tactic(auto, unfolding(crate::specs::Reading::kept_at))]
+fn kept_of(alloc: Global, form: Form, bytes: &[u8]) -> Result<(Kept, &[u8]), SavedError>
+    ensures exact { Gives (λ x. (x.0, x.1.now)) result (kept_at form bytes.now) }
+    ensures fits { IfOk result (λ x. KeptFits Second x.0) }
+{
+    let (first, rest) = u32_of(1, LIMIT + 1, bytes)?;
+    let (count, rest) = u32_of(0, LIMIT + 1 - first, rest)?;
+    let (payloads, rest) = payloads_of(alloc, form, count, rest)?;
+    Ok((Kept::new(first, payloads), rest))
+}
+
+/// So many payloads.
+fn payloads_of(
+    alloc: Global,
+    form: Form,
+    count: u32,
+    bytes: &[u8],
+) -> Result<(Vec<Payload>, &[u8]), SavedError>
+    ensures exact { Gives (λ x. (x.0.items, x.1.now)) result (times (payload_at form) count bytes.now) }
+    ensures count { IfOk result (λ x. length x.0.items ≡ count) }
+    ensures fits { IfOk result (λ x. AllByRecursion (PayloadFits Second) x.0.items) }
+{
+    let mut payloads = Vec::new(alloc);
+    let mut rest = bytes;
+    for _ in 0..count {
+        let (payload, after) = payload_of(form, rest)?;
+        payloads.push(Payload::from_slice(payload))?;
+        rest = after;
+    }
+    Ok((payloads, rest))
+}
