@@ -24,7 +24,7 @@ impl<L: Ledger> Stage<L> {
 }
 
 /// A message goes all its way, and then nothing is left to do.
-pub fn one_message<L: Ledger>(rt: &impl Abort, stage: Stage<L>) -> Result<(), Fail> {
+pub(crate) fn one_message<L: Ledger>(rt: &impl Abort, stage: Stage<L>) -> Result<(), Fail> {
     let mut stage = stage;
     assert_eq!(rt; stage.drive(10), Some(0));
     assert_eq!(rt; stage.input(1, 1, 5), 0);
@@ -44,7 +44,7 @@ pub fn one_message<L: Ledger>(rt: &impl Abort, stage: Stage<L>) -> Result<(), Fa
 }
 
 /// A message that came early is sent anew when its turn has come.
-pub fn early<L: Ledger>(rt: &impl Abort, stage: Stage<L>) -> Result<(), Fail> {
+pub(crate) fn early<L: Ledger>(rt: &impl Abort, stage: Stage<L>) -> Result<(), Fail> {
     let mut stage = stage;
     stage.input(1, 1, 1);
     stage.input(2, 1, 2);
@@ -56,7 +56,7 @@ pub fn early<L: Ledger>(rt: &impl Abort, stage: Stage<L>) -> Result<(), Fail> {
 }
 
 /// A job that starts is finished, past the budget too.
-pub fn budget<L: Ledger>(rt: &impl Abort, stage: Stage<L>) -> Result<(), Fail> {
+pub(crate) fn budget<L: Ledger>(rt: &impl Abort, stage: Stage<L>) -> Result<(), Fail> {
     let mut stage = stage;
     stage.input(1, 1, 5);
     assert_eq!(rt; stage.drive(0), Some(0));
@@ -68,7 +68,7 @@ pub fn budget<L: Ledger>(rt: &impl Abort, stage: Stage<L>) -> Result<(), Fail> {
 }
 
 /// A message is sent on to an echo, and shown once.
-pub fn round<L: Ledger>(rt: &impl Abort, stage: Stage<L>) -> Result<(), Fail> {
+pub(crate) fn round<L: Ledger>(rt: &impl Abort, stage: Stage<L>) -> Result<(), Fail> {
     let mut stage = stage;
     stage.input(1, 1, 7);
     assert_eq!(rt; stage.drive(100), Some(12));

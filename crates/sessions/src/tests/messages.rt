@@ -170,7 +170,7 @@ const ROUND: [(Act, Answer); 14] = [
     (Act::Arrive(0), Answer::Shown(1)),
 ];
 
-pub fn acknowledged<L: Ledger>(rt: &impl Abort, stage: Stage<L>) -> Result<(), Fail> {
+pub(crate) fn acknowledged<L: Ledger>(rt: &impl Abort, stage: Stage<L>) -> Result<(), Fail> {
     let mut stage = stage;
     assert!(rt; stage.follows(&ACKNOWLEDGED));
     assert!(rt; stage.is_at(1, PhaseName::Up, 1, 5));
@@ -181,7 +181,7 @@ pub fn acknowledged<L: Ledger>(rt: &impl Abort, stage: Stage<L>) -> Result<(), F
     Ok(())
 }
 
-pub fn copied<L: Ledger>(rt: &impl Abort, stage: Stage<L>) -> Result<(), Fail> {
+pub(crate) fn copied<L: Ledger>(rt: &impl Abort, stage: Stage<L>) -> Result<(), Fail> {
     let mut stage = stage;
     assert!(rt; stage.follows(&COPIED));
     assert!(rt; stage.is_at(1, PhaseName::Up, 1, 5));
@@ -190,14 +190,14 @@ pub fn copied<L: Ledger>(rt: &impl Abort, stage: Stage<L>) -> Result<(), Fail> {
     Ok(())
 }
 
-pub fn early<L: Ledger>(rt: &impl Abort, stage: Stage<L>) -> Result<(), Fail> {
+pub(crate) fn early<L: Ledger>(rt: &impl Abort, stage: Stage<L>) -> Result<(), Fail> {
     let mut stage = stage;
     assert!(rt; stage.follows(&EARLY));
     assert!(rt; stage.is_at(1, PhaseName::Up, 0, 0));
     Ok(())
 }
 
-pub fn lost<L: Ledger>(rt: &impl Abort, stage: Stage<L>) -> Result<(), Fail> {
+pub(crate) fn lost<L: Ledger>(rt: &impl Abort, stage: Stage<L>) -> Result<(), Fail> {
     let mut stage = stage;
     assert!(rt; stage.follows(&LOST));
     assert!(rt; stage.is_at(1, PhaseName::Up, 1, 5));
@@ -207,7 +207,7 @@ pub fn lost<L: Ledger>(rt: &impl Abort, stage: Stage<L>) -> Result<(), Fail> {
     Ok(())
 }
 
-pub fn by_position<L: Ledger>(rt: &impl Abort, stage: Stage<L>) -> Result<(), Fail> {
+pub(crate) fn by_position<L: Ledger>(rt: &impl Abort, stage: Stage<L>) -> Result<(), Fail> {
     let mut stage = stage;
     assert!(rt; stage.follows(&BY_POSITION));
     assert_eq!(rt; stage.refusal(Act::Transmit(1, 2, 2)), 6);
@@ -216,7 +216,7 @@ pub fn by_position<L: Ledger>(rt: &impl Abort, stage: Stage<L>) -> Result<(), Fa
     Ok(())
 }
 
-pub fn round<L: Ledger>(rt: &impl Abort, stage: Stage<L>) -> Result<(), Fail> {
+pub(crate) fn round<L: Ledger>(rt: &impl Abort, stage: Stage<L>) -> Result<(), Fail> {
     let mut stage = stage;
     assert!(rt; stage.follows(&ROUND));
     // The copy shows nothing.
@@ -230,7 +230,7 @@ pub fn round<L: Ledger>(rt: &impl Abort, stage: Stage<L>) -> Result<(), Fail> {
 }
 
 /// 4,096 packets are the most, those of the open jobs among them.
-pub fn full_wire<L: Ledger>(rt: &impl Abort, stage: Stage<L>) -> Result<(), Fail> {
+pub(crate) fn full_wire<L: Ledger>(rt: &impl Abort, stage: Stage<L>) -> Result<(), Fail> {
     let mut stage = stage;
     let mut held = None;
     assert_eq!(rt; stage.refusal(Act::Input(1, 5)), 0);
@@ -254,7 +254,7 @@ pub fn full_wire<L: Ledger>(rt: &impl Abort, stage: Stage<L>) -> Result<(), Fail
 }
 
 /// 65,536 entries are the most, those of the open jobs among them.
-pub fn full_journal<L: Ledger>(rt: &impl Abort, stage: Stage<L>) -> Result<(), Fail> {
+pub(crate) fn full_journal<L: Ledger>(rt: &impl Abort, stage: Stage<L>) -> Result<(), Fail> {
     let mut stage = stage;
     assert_eq!(rt; stage.refusal(Act::Input(1, 5)), 0);
     assert_eq!(rt; stage.refusal(Act::Transmit(0, 1, 1)), 0);
