@@ -272,6 +272,11 @@ module _ (image : Typed) (x : Payload) where
   is_started (arrivals.Started task) is other = other task refl
   is_started (arrivals.Duplicate key) is other = cc
   is_started arrivals.Early is other = cc
+  is_started (arrivals.Shown ssn) is other = cc
+  is_started arrivals.ShownBefore is other = cc
+  is_started (arrivals.Numbered key) is other = cc
+  is_started arrivals.Acknowledged is other = cc
+  is_started arrivals.Stale is other = cc
 
   -- the started job is open
   pub is_open : (key : ℕ) (t : TheSession) (r : Result Arrival Refusal) (a : Arrival) (task : TheTask) → t ≡ started key → IfOk r (HandsOut t) → r ≡ Ok a
