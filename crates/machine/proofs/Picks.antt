@@ -1,6 +1,6 @@
 -- Useful calls, as the machine's fields tell them
 use Rattle.std.proofs.Common.{◌≡◌, ◌≢◌, ℕ, zero, suc, ◌+◌, ◌-◌, ◌<◌, ◌≤◌, List, [], ◌∷◌, length, Bool, true, false, refl, sym, ap, ◌∙◌, subst, arith, true≢false}
-use Rattle.std.specs.Prelude.{if◌then◌else◌, ◌==◌, ◌&&◌, ◌||◌, not, nat_lt, nat_le, Option, Some, None, is_some, count_by, slice_index_or, option_and_then}
+use Rattle.std.specs.Prelude.{if◌then◌else◌, ◌==◌, ◌&&◌, ◌||◌, not, nat_lt, nat_le, Option, Some, None, is_some, count_by, slice_index_or, option_and_then, IfNone, IfSome}
 use Rattle.std.proofs.lemmas.Bool.Decides.{nat_tests}
 use Rattle.std.proofs.lemmas.List.{length-map}
 use Rattle.rsn.specs.Receipts.{numbers_from, numbers_of, judged, run_of}
@@ -25,6 +25,15 @@ use Rattle.machine.proofs.ReceiptLemmas.{senders, length-numbers, rsn_from-numbe
 use Rattle.machine.proofs.NumberLemmas.{numbers_from-above, numbers_from-within, numbers_from-ascend, run_of-ends, rsn_from-none}
 use Rattle.machine.proofs.Standing.{wire-is, key-low, at_process, up_at, released_is}
 use Rattle.machine.proofs.Causes.{transmit-outside, transmit-same, transmit-rest, released-entry}
+
+-- what follows where there is no value, or of the value
+pub if_none : {X : Type 0} {P Q : Type 0} (o : Option X) → (P → Q) → IfNone o P → IfNone o Q
+if_none None f p = f p
+if_none (Some x) f p = tt
+
+pub if_some : {X : Type 0} {P Q : X → Type 0} (o : Option X) → ((x : X) → P x → Q x) → IfSome o P → IfSome o Q
+if_some None f p = tt
+if_some (Some x) f p = f x p
 
 -- the number that a judgement tells
 abbrev pub known_as : Judgement → Option ℕ

@@ -1,14 +1,13 @@
 -- One driven call more
-use Rattle.std.proofs.Common.{◌≡◌, ◌≢◌, ℕ, zero, suc, ◌+◌, ◌-◌, ◌<◌, ◌≤◌, List, [], ◌∷◌, ◌++◌, length, length-append, append_assoc, Bool, true, false, refl, sym, ap, ◌∙◌, subst, arith, true≢false}
-use Rattle.std.specs.Prelude.{Option, Some, None, Ok, Err, ◌&&◌, ◌||◌, ◌==◌, nat_lt}
+use Rattle.std.proofs.Common.{◌≡◌, ℕ, suc, ◌+◌, ◌-◌, ◌<◌, ◌≤◌, List, [], ◌∷◌, ◌++◌, length, length-append, append_assoc, Bool, true, false, refl, sym, ap, ◌∙◌, subst, arith, true≢false}
+use Rattle.std.specs.Prelude.{Option, Some, None, Ok, ◌||◌, ◌==◌, nat_lt}
 use Rattle.std.proofs.lemmas.Bool.Decides.{nat_tests}
 use Rattle.std.proofs.lemmas.List.{append-nil}
 use Rattle.replay.specs.Task.{TheTask}
-use Rattle.world.specs.declared.message.Message.{Message}
 use Rattle.world.specs.declared.packet.Packet.{Packet}
 use Rattle.world.specs.declared.packet.Packet.TheVariants.{Delivery, Number, Acknowledgement}
 use Rattle.world.specs.declared.call.Call.{Call}
-use Rattle.world.specs.declared.call.Call.TheVariants.{Transmit, Arrive, Finish}
+use Rattle.world.specs.declared.call.Call.TheVariants.{Arrive, Finish}
 use Rattle.world.specs.declared.answer.Answer.{Answer}
 use Rattle.world.specs.declared.answer.Answer.TheVariants as answers
 use Rattle.world.specs.declared.entry.Entry.{Entry}
@@ -17,7 +16,6 @@ use Rattle.world.specs.declared.refusal.Refusal.TheVariants as refusals
 use Rattle.world.specs.declared.refusal.Refusal.TheVariants.{Memory}
 use Rattle.world.specs.Fold.{handlers_of}
 use Rattle.world.specs.World.{World, opening}
-use Rattle.world.specs.Bounds.{LIMIT}
 use Rattle.world.specs.Calls.{after}
 use Rattle.world.specs.Answers.{Receives}
 use Rattle.world.specs.Refusals.{cause_of, starts}
@@ -29,7 +27,7 @@ use Rattle.machine.specs.Picking.{IsPick}
 use Rattle.machine.specs.declared.arrival.Arrival.{Arrival}
 use Rattle.machine.specs.declared.arrival.Arrival.TheVariants.{Started, Duplicate, Early, Shown, ShownBefore, Numbered, Acknowledged, Stale}
 use Rattle.sessions.specs.Seats.{TheSeat}
-use Rattle.sessions.specs.Journal.{TheSession, world_at, room_at, entry, answered_once, Adds}
+use Rattle.sessions.specs.Journal.{TheSession, world_at, room_at, entry, Adds}
 use Rattle.sessions.specs.Driving.{begun_by, job_of, Drives, Advances}
 use Rattle.sessions.proofs.Rooms.{started-starts}
 

@@ -1,20 +1,12 @@
 use Rattle.std.proofs.Common.{◌≡◌, ◌-◌, length, subst}
-use Rattle.std.specs.Prelude.{Option, Some, None, IfNone, IfSome}
+use Rattle.std.specs.Prelude.{IfNone, IfSome}
 use Rattle.world.specs.Bounds.{LIMIT}
-use Rattle.world.specs.declared.call.Call.{Call}
 use Rattle.machine.specs.Picking.{IsPick}
+use Rattle.machine.proofs.Picks.{if_none, if_some}
 use Rattle.sessions.specs.Journal.{TheSession, world_at, room_at}
 use Rattle.sessions.specs.Driving.{IsQuiet}
 use Rattle.sessions.proofs.Steps.{here}
 use Rattle.sessions.proofs.session.Session.pick.Goals as goal
-
-if_some : {X : Type 0} {P Q : X → Type 0} (o : Option X) → ((x : X) → P x → Q x) → IfSome o P → IfSome o Q
-if_some None f p = tt
-if_some (Some x) f p = f x p
-
-if_none : {X : Type 0} {P Q : Type 0} (o : Option X) → (P → Q) → IfNone o P → IfNone o Q
-if_none None f p = f p
-if_none (Some x) f p = tt
 
 pub returns-clause-some : goal.returns-clause-some
 returns-clause-some g c =

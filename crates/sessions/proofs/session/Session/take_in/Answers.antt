@@ -5,8 +5,7 @@ use Rattle.world.specs.declared.call.Call.TheVariants.{Arrive}
 use Rattle.machine.specs.Arrival.{answer_of, committed_of, IsOpen, IsJobFor}
 use Rattle.machine.specs.declared.arrival.Arrival.TheVariants.{Started}
 use Rattle.world.specs.Answers.{Receives}
-use Rattle.sessions.specs.Seats.{TheSeat}
-use Rattle.sessions.specs.Journal.{TheSession, world_at, HandsOut}
+use Rattle.sessions.specs.Journal.{world_at, HandsOut}
 use Rattle.sessions.specs.Driving.{job_of, Advances}
 use Rattle.sessions.proofs.Driven.{told-memory, advance-one, advance-two, one-begun}
 use Rattle.sessions.proofs.session.Session.take_in.Goals as goal
