@@ -1,0 +1,3 @@
+-- What the functions of this crate say to one another.
+pub mod Loop
+pub mod Reads

@@ -1,0 +1,50 @@
+-- The processes of a scenario.
+use Rattle.std.specs.Prelude.{◌≡◌, ◌≢◌, ◌≤◌, ◌<◌, ◌==◌, Bool, false, true, not, ℕ, List, [], ◌∷◌, ◌++◌, codes, map, length, String}
+use Rattle.std.specs.List.{AllByRecursion, list_all}
+use Rattle.std.specs.Global.{Global}
+use Rattle.std.specs.String.{string_bytes}
+use Rattle.indexmap.specs.IndexMap.{IndexMap}
+use Rattle.scenario.specs.declared.process.Process.{Process}
+use Rattle.scenario.specs.Order.{IsName}
+
+-- the names of processes, in the order of their numbers
+abbrev pub names_in : List (String Global × Process) → List (List ℕ)
+names_in entries = map (λ e. string_bytes e.0) entries
+
+abbrev pub names_of : {S : Type 0} → IndexMap (String Global) Process S → List (List ℕ)
+names_of processes = names_in processes.entries
+
+-- 1 or more bytes without a space
+pub record IsPath (text : List ℕ) : Type 0 where
+  pub some : 0 < length text
+  pub plain : list_all (λ c. not (c == 32)) text ≡ true
+
+-- the line of a process: its name, and the path of its image
+abbrev pub declaration_text : List ℕ → List ℕ → List ℕ
+declaration_text name path = codes "process" ++ 32 ∷ (name ++ 32 ∷ path)
+
+-- a name and a path
+abbrev pub IsDeclared : String Global × Process → Type 0
+IsDeclared e = IsName (string_bytes e.0) × IsPath (string_bytes e.1.path)
+
+-- no name is this one
+abbrev pub IsFresh : List ℕ → List (List ℕ) → Type 0
+IsFresh name names = AllByRecursion (λ x. x ≢ name) names
+
+-- no name is there twice
+abbrev pub AreDifferent : List (List ℕ) → Type 0
+AreDifferent [] = Unit {0}
+AreDifferent (x ∷ xs) = IsFresh x xs × AreDifferent xs
+
+-- the next process may have this name and this path: no order was given yet, and there are fewer than 15
+pub record MayDeclare (names : List (List ℕ)) (begun : Bool) (name path : List ℕ) : Type 0 where
+  pub first : begun ≡ false
+  pub room : length names < 15
+  pub named : IsName name
+  pub pathed : IsPath path
+  pub fresh : IsFresh name names
+
+-- at most 15 processes, with names
+pub record AreNamed {S : Type 0} (processes : IndexMap (String Global) Process S) : Type 0 where
+  pub few : length processes.entries ≤ 15
+  pub named : AllByRecursion IsName (names_of processes)

@@ -1,0 +1,106 @@
+//! Lines of a scenario.
+
+ghost use Rattle.std.specs.Prelude.{◌≡◌, ◌==◌, ◌↔◌, IsTrue, not};
+ghost use Rattle.std.specs.List.{list_all};
+ghost use Rattle.scenario.specs.Inside.Loop.{ReadsDeclaration, ReadsLine, TellsFree};
+ghost use Rattle.scenario.specs.Process.{AreNamed, IsPath, names_of};
+ghost use Rattle.scenario.specs.Scenario.{is_silent};
+
+use crate::order::{Order, order_of};
+use crate::process::{Process, is_name};
+use crate::split::split_at_space;
+use indexmap::IndexMap;
+
+/// The most processes of a scenario.
+const PROCESS_LIMIT: usize = 15;
+
+/// What a line is.
+pub enum Line<'a> {
+    /// An empty line, or a comment.
+    Silent,
+    /// The next process.
+    Process { name: &'a str, path: &'a str },
+    Order(Order),
+}
+
+/// What a line is behind these processes; an order has begun if one was given.
+pub fn line_of<'a>(
+    processes: &IndexMap<String, Process>,
+    begun: bool,
+    text: &'a str,
+) -> Option<Line<'a>>
+    requires { AreNamed processes.now }
+    ensures { ReadsLine (names_of processes.now) begun text.now result }
+{
+    if is_silent(text.as_bytes()) {
+        return Some(Line::Silent);
+    }
+    match declaration_of(processes, begun, text) {
+        Some((name, path)) => Some(Line::Process { name, path }),
+        None => {
+            let order = order_of(processes, text)?;
+            Some(Line::Order(order))
+        }
+    }
+}
+
+/// Whether a line says nothing.
+fn is_silent(line: &[u8]) -> bool
+    ensures { result ≡ is_silent line.now }
+{
+    line.is_empty() || line[0] == b'#'
+}
+
+/// Whether the text is a path: not empty, and without a space.
+fn is_path(text: &str) -> bool
+    ensures { IsTrue result ↔ IsPath text.now }
+{
+    let bytes = text.as_bytes();
+    !bytes.is_empty() && has_no_space(bytes)
+}
+
+/// Whether no byte is a space.
+fn has_no_space(text: &[u8]) -> bool
+    ensures { result ≡ list_all (λ c. not (c == 32)) text.now }
+{
+    text.iter().all(|byte| *byte != b' ')
+}
+
+/// Whether the next process may have this name.
+fn is_free(processes: &IndexMap<String, Process>, name: &str) -> bool
+    ensures { TellsFree name.now (names_of processes.now) result }
+{
+    match processes.get_index_of(name) {
+        Some(_) => false,
+        None => true,
+    }
+}
+
+/// The name and the path of the next process, if this is its line.
+fn declaration_of<'a>(
+    processes: &IndexMap<String, Process>,
+    begun: bool,
+    text: &'a str,
+) -> Option<(&'a str, &'a str)>
+    requires { AreNamed processes.now }
+    ensures { ReadsDeclaration (names_of processes.now) begun text.now result }
+{
+    if begun || processes.len() >= PROCESS_LIMIT {
+        return None;
+    }
+    let (word, operands) = split_at_space(text)?;
+    if word != "process" {
+        return None;
+    }
+    let (name, path) = split_at_space(operands)?;
+    if !is_name(name) {
+        return None;
+    }
+    if !is_path(path) {
+        return None;
+    }
+    if !is_free(processes, name) {
+        return None;
+    }
+    Some((name, path))
+}

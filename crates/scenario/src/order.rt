@@ -1,0 +1,105 @@
+//! Orders: what a line of a scenario asks for.
+
+ghost use Rattle.scenario.specs.Inside.Reads.{ReadsOperands, ReadsOrder};
+ghost use Rattle.scenario.specs.Process.{AreNamed, names_of};
+
+use crate::number::number_of;
+use crate::pair::{party_and_message, process_and_payload, process_and_word, two_processes};
+use crate::process::{Process, party_of, process_of};
+use crate::split::split_at_space;
+use crate::verb::{Verb, verb_named};
+use helpers::Payload;
+use indexmap::IndexMap;
+
+/// What a line asks for. Processes stand by their numbers, from 1 in the order of their lines; 0 is
+/// the outside.
+#[derive(Clone, Copy, PartialEq, Eq, Debug)]
+pub enum Order {
+    /// The outside hands in a word: 8 bytes, little-endian, and 56 zeros.
+    Input { to: u8, word: u64 },
+    /// The outside hands in these bytes.
+    Bytes { to: u8, payload: Payload },
+    Transmit { from: u8, to: u8, ssn: u32 },
+    Copy { key: u32 },
+    Lose { key: u32 },
+    Arrive { key: u32 },
+    /// The job of the process that is held is run, and its result handed in.
+    Finish { process: u8 },
+    Checkpoint { process: u8 },
+    Trim { to: u8 },
+    Crash { process: u8 },
+    Recover { process: u8 },
+    RecoverAlone { process: u8 },
+    ReplayBegin { process: u8 },
+    Resync { process: u8, peer: u8 },
+    /// Useful calls are made, as many as the budget at most.
+    Drive { budget: u32 },
+}
+
+/// The order of a line.
+pub fn order_of(processes: &IndexMap<String, Process>, line: &str) -> Option<Order>
+    requires { AreNamed processes.now }
+    ensures { ReadsOrder (names_of processes.now) line.now result }
+{
+    let (word, operands) = split_at_space(line)?;
+    let verb = verb_named(word)?;
+    with_operands(processes, verb, operands)
+}
+
+/// The order of a kind with these operands.
+fn with_operands(processes: &IndexMap<String, Process>, verb: Verb, text: &str) -> Option<Order>
+    requires { AreNamed processes.now }
+    ensures { ReadsOperands (names_of processes.now) verb text.now result }
+{
+    match verb {
+        Verb::Input => {
+            let (to, word) = process_and_word(processes, text)?;
+            Some(Order::Input { to, word })
+        }
+        Verb::Bytes => {
+            let (to, payload) = process_and_payload(processes, text)?;
+            Some(Order::Bytes { to, payload })
+        }
+        Verb::Transmit => {
+            let (from, (to, ssn)) = party_and_message(processes, text)?;
+            Some(Order::Transmit { from, to, ssn })
+        }
+        Verb::Copy => Some(Order::Copy {
+            key: number_of(text)?,
+        }),
+        Verb::Lose => Some(Order::Lose {
+            key: number_of(text)?,
+        }),
+        Verb::Arrive => Some(Order::Arrive {
+            key: number_of(text)?,
+        }),
+        Verb::Finish => Some(Order::Finish {
+            process: process_of(processes, text)?,
+        }),
+        Verb::Checkpoint => Some(Order::Checkpoint {
+            process: process_of(processes, text)?,
+        }),
+        Verb::Trim => Some(Order::Trim {
+            to: party_of(processes, text)?,
+        }),
+        Verb::Crash => Some(Order::Crash {
+            process: process_of(processes, text)?,
+        }),
+        Verb::Recover => Some(Order::Recover {
+            process: process_of(processes, text)?,
+        }),
+        Verb::Alone => Some(Order::RecoverAlone {
+            process: process_of(processes, text)?,
+        }),
+        Verb::Replay => Some(Order::ReplayBegin {
+            process: process_of(processes, text)?,
+        }),
+        Verb::Resync => {
+            let (process, peer) = two_processes(processes, text)?;
+            Some(Order::Resync { process, peer })
+        }
+        Verb::Drive => Some(Order::Drive {
+            budget: number_of(text)?,
+        }),
+    }
+}

@@ -1,0 +1,75 @@
+//! Operands with a space between them.
+
+ghost use Rattle.std.specs.Prelude.{decimal, length};
+ghost use Rattle.scenario.specs.Hex.{IsPayload, hex_text};
+ghost use Rattle.scenario.specs.Inside.Reads.{Both, HasBits, IsParty, Reads, spaced};
+ghost use Rattle.scenario.specs.Order.{IsProcess, party_text, process_text};
+ghost use Rattle.scenario.specs.Process.{AreNamed, names_of};
+
+use crate::hex::payload_of;
+use crate::number::{number_of, word_of};
+use crate::process::{Process, party_of, process_of};
+use crate::split::split_at_space;
+use helpers::Payload;
+use indexmap::IndexMap;
+
+/// A process and a word.
+pub fn process_and_word(processes: &IndexMap<String, Process>, text: &str) -> Option<(u8, u64)>
+    requires { AreNamed processes.now }
+    ensures { Reads (spaced (process_text (names_of processes.now)) decimal) (Both (IsProcess (length (names_of processes.now))) (HasBits 64)) text.now result }
+{
+    let (name, word) = split_at_space(text)?;
+    let process = process_of(processes, name)?;
+    let number = word_of(word)?;
+    Some((process, number))
+}
+
+/// A process and bytes.
+pub fn process_and_payload(
+    processes: &IndexMap<String, Process>,
+    text: &str,
+) -> Option<(u8, Payload)>
+    requires { AreNamed processes.now }
+    ensures { Reads (spaced (process_text (names_of processes.now)) hex_text) (Both (IsProcess (length (names_of processes.now))) IsPayload) text.now result }
+{
+    let (name, bytes) = split_at_space(text)?;
+    let process = process_of(processes, name)?;
+    let payload = payload_of(bytes)?;
+    Some((process, payload))
+}
+
+/// Two processes.
+pub fn two_processes(processes: &IndexMap<String, Process>, text: &str) -> Option<(u8, u8)>
+    requires { AreNamed processes.now }
+    ensures { Reads (spaced (process_text (names_of processes.now)) (process_text (names_of processes.now))) (Both (IsProcess (length (names_of processes.now))) (IsProcess (length (names_of processes.now)))) text.now result }
+{
+    let (left, right) = split_at_space(text)?;
+    let process = process_of(processes, left)?;
+    let peer = process_of(processes, right)?;
+    Some((process, peer))
+}
+
+/// A receiver and a message's number.
+fn party_and_number(processes: &IndexMap<String, Process>, text: &str) -> Option<(u8, u32)>
+    requires { AreNamed processes.now }
+    ensures { Reads (spaced (party_text (names_of processes.now)) decimal) (Both (IsParty (length (names_of processes.now))) (HasBits 32)) text.now result }
+{
+    let (name, number) = split_at_space(text)?;
+    let party = party_of(processes, name)?;
+    let ssn = number_of(number)?;
+    Some((party, ssn))
+}
+
+/// A sender, a receiver and a message's number.
+pub fn party_and_message(
+    processes: &IndexMap<String, Process>,
+    text: &str,
+) -> Option<(u8, (u8, u32))>
+    requires { AreNamed processes.now }
+    ensures { Reads (spaced (party_text (names_of processes.now)) (spaced (party_text (names_of processes.now)) decimal)) (Both (IsParty (length (names_of processes.now))) (Both (IsParty (length (names_of processes.now))) (HasBits 32))) text.now result }
+{
+    let (name, message) = split_at_space(text)?;
+    let sender = party_of(processes, name)?;
+    let rest = party_and_number(processes, message)?;
+    Some((sender, rest))
+}
