@@ -4,8 +4,8 @@ ghost use Rattle.scenario.specs.Inside.Reads.{ReadsOperands, ReadsOrder};
 ghost use Rattle.scenario.specs.Process.{AreNamed, names_of};
 
 use crate::number::number_of;
-use crate::pair::{party_and_message, process_and_payload, process_and_word, two_processes};
-use crate::process::{Process, party_of, process_of};
+use crate::pair::{party_and_message, receiver_and_payload, receiver_and_word, two_processes};
+use crate::process::{Process, named_process, party_of};
 use crate::split::split_at_space;
 use crate::verb::{Verb, verb_named};
 use helpers::Payload;
@@ -53,11 +53,11 @@ fn with_operands(processes: &IndexMap<String, Process>, verb: Verb, text: &str) 
 {
     match verb {
         Verb::Input => {
-            let (to, word) = process_and_word(processes, text)?;
+            let (to, word) = receiver_and_word(processes, text)?;
             Some(Order::Input { to, word })
         }
         Verb::Bytes => {
-            let (to, payload) = process_and_payload(processes, text)?;
+            let (to, payload) = receiver_and_payload(processes, text)?;
             Some(Order::Bytes { to, payload })
         }
         Verb::Transmit => {
@@ -74,25 +74,25 @@ fn with_operands(processes: &IndexMap<String, Process>, verb: Verb, text: &str) 
             key: number_of(text)?,
         }),
         Verb::Finish => Some(Order::Finish {
-            process: process_of(processes, text)?,
+            process: named_process(processes, text)?,
         }),
         Verb::Checkpoint => Some(Order::Checkpoint {
-            process: process_of(processes, text)?,
+            process: named_process(processes, text)?,
         }),
         Verb::Trim => Some(Order::Trim {
             to: party_of(processes, text)?,
         }),
         Verb::Crash => Some(Order::Crash {
-            process: process_of(processes, text)?,
+            process: named_process(processes, text)?,
         }),
         Verb::Recover => Some(Order::Recover {
-            process: process_of(processes, text)?,
+            process: named_process(processes, text)?,
         }),
         Verb::Alone => Some(Order::RecoverAlone {
-            process: process_of(processes, text)?,
+            process: named_process(processes, text)?,
         }),
         Verb::Replay => Some(Order::ReplayBegin {
-            process: process_of(processes, text)?,
+            process: named_process(processes, text)?,
         }),
         Verb::Resync => {
             let (process, peer) = two_processes(processes, text)?;

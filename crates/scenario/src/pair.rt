@@ -8,24 +8,24 @@ ghost use Rattle.scenario.specs.Process.{AreNamed, names_of};
 
 use crate::hex::payload_of;
 use crate::number::{number_of, word_of};
-use crate::process::{Process, party_of, process_of};
+use crate::process::{Process, named_process, party_of};
 use crate::split::split_at_space;
 use helpers::Payload;
 use indexmap::IndexMap;
 
 /// A process and a word.
-pub fn process_and_word(processes: &IndexMap<String, Process>, text: &str) -> Option<(u8, u64)>
+pub fn receiver_and_word(processes: &IndexMap<String, Process>, text: &str) -> Option<(u8, u64)>
     requires { AreNamed processes.now }
     ensures { Reads (spaced (process_text (names_of processes.now)) decimal) (Both (IsProcess (length (names_of processes.now))) (HasBits 64)) text.now result }
 {
     let (name, word) = split_at_space(text)?;
-    let process = process_of(processes, name)?;
+    let process = named_process(processes, name)?;
     let number = word_of(word)?;
     Some((process, number))
 }
 
 /// A process and bytes.
-pub fn process_and_payload(
+pub fn receiver_and_payload(
     processes: &IndexMap<String, Process>,
     text: &str,
 ) -> Option<(u8, Payload)>
@@ -33,7 +33,7 @@ pub fn process_and_payload(
     ensures { Reads (spaced (process_text (names_of processes.now)) hex_text) (Both (IsProcess (length (names_of processes.now))) IsPayload) text.now result }
 {
     let (name, bytes) = split_at_space(text)?;
-    let process = process_of(processes, name)?;
+    let process = named_process(processes, name)?;
     let payload = payload_of(bytes)?;
     Some((process, payload))
 }
@@ -44,8 +44,8 @@ pub fn two_processes(processes: &IndexMap<String, Process>, text: &str) -> Optio
     ensures { Reads (spaced (process_text (names_of processes.now)) (process_text (names_of processes.now))) (Both (IsProcess (length (names_of processes.now))) (IsProcess (length (names_of processes.now)))) text.now result }
 {
     let (left, right) = split_at_space(text)?;
-    let process = process_of(processes, left)?;
-    let peer = process_of(processes, right)?;
+    let process = named_process(processes, left)?;
+    let peer = named_process(processes, right)?;
     Some((process, peer))
 }
 

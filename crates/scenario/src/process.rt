@@ -47,7 +47,7 @@ pub fn is_name(text: &str) -> bool
 }
 
 /// The number of the process of this name.
-pub fn process_of(processes: &IndexMap<String, Process>, text: &str) -> Option<u8>
+pub fn named_process(processes: &IndexMap<String, Process>, text: &str) -> Option<u8>
     requires { AreNamed processes.now }
     ensures { Reads (process_text (names_of processes.now)) (IsProcess (length (names_of processes.now))) text.now result }
 {
@@ -63,5 +63,5 @@ pub fn party_of(processes: &IndexMap<String, Process>, text: &str) -> Option<u8>
     if text == "outside" {
         return Some(0);
     }
-    process_of(processes, text)
+    named_process(processes, text)
 }

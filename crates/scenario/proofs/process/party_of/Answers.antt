@@ -7,4 +7,4 @@ use Rattle.scenario.proofs.process.party_of.Goals as goal
 pub returns : goal.returns
 returns c =
     let other : c.args.text.now ≢ codes "outside" = search rules in
-    party_reads (names_of c.args.processes.now) c.args.text.now c.process_of.result other c.process_of.ensures
+    party_reads (names_of c.args.processes.now) c.args.text.now c.named_process.result other c.named_process.ensures

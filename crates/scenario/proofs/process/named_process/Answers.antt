@@ -1,7 +1,7 @@
 use Rattle.std.proofs.Common.{◌≡◌, ◌+◌, [], ◌∙◌, ◌-◌, sym, arith, get_or, ap}
 use Rattle.scenario.specs.Process.{names_of}
 use Rattle.scenario.proofs.Names.{found, missing, names_place}
-use Rattle.scenario.proofs.process.process_of.Goals as goal
+use Rattle.scenario.proofs.process.named_process.Goals as goal
 
 pub returns-in_err-index : goal.returns-in_err-index
 returns-in_err-index c =

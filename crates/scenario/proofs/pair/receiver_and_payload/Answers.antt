@@ -4,7 +4,7 @@ use Rattle.scenario.specs.Order.{IsProcess, process_text}
 use Rattle.scenario.specs.Process.{names_of}
 use Rattle.scenario.proofs.Names.{process_lacks}
 use Rattle.scenario.proofs.Pairs.{no_left, no_right, no_space}
-use Rattle.scenario.proofs.pair.process_and_payload.Goals as goal
+use Rattle.scenario.proofs.pair.receiver_and_payload.Goals as goal
 
 pub returns-in_err-name : goal.returns-in_err-name
 returns-in_err-name c =
