@@ -1,7 +1,7 @@
 //! The processes, the outside and the wire of a session, without its journal.
 //!
-//! A [`Machine`] keeps bytes and forgets histories: of each process its state, the senders of what
-//! it received, and its open job; of the outside its inputs; and the packets on the wire. It
+//! A [`Machine`] keeps bytes and forgets histories: of each process its state, receipts, log, gate
+//! and open job; of the outside its inputs and what it was shown; and the packets on the wire. It
 //! *stands for* the worlds that agree with that. Each call that it accepts is a step of every world
 //! that it stands for, and leaves it standing for the world after the step. Each refusal changes
 //! nothing and tells the least number whose cause holds there. The calls take `room`, the free

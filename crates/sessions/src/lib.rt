@@ -4,8 +4,8 @@
 //! call that it refuses changes nothing and tells the least number whose cause holds. Its type
 //! keeps that the journal is legal, so that each entry is a step of the world from the opening on,
 //! and that it leads to where the session is: states, lengths and phases are those of the world
-//! after the journal's last entry. Handlers don't run in it: `arrive` hands out a job, and `finish`
-//! takes its result back.
+//! after the journal's last entry. But for `drive`, handlers don't run in it: `arrive` hands out a
+//! job, and `finish` takes its result back.
 //!
 //! A call is made by a [`Seat`], whose worker the entry bears and which counts it. The seats hold
 //! the parts of a ledger whose book, beside the journal, has the journal's length as total: so no
