@@ -19,7 +19,8 @@ enum sblog_code {
     SBLOG_STATE = 5,   /* the state isn't as long as the file says */
     SBLOG_MESSAGE = 6, /* no whole messages of 64 bytes */
     SBLOG_WHO = 7,     /* numbers of processes out of range */
-    SBLOG_ROOM = 8     /* the buffer for the answer is too short */
+    SBLOG_ROOM = 8,    /* the buffer for the answer is too short */
+    SBLOG_FORM = 9     /* the file is an SBI2, which these functions only check */
 };
 
 enum { SBLOG_MESSAGE_SIZE = 64, SBLOG_FAULT_SIZE = 16, SBLOG_REPORT_LIMIT = 1064 };

@@ -4,6 +4,7 @@ use Rattle.std.specs.List.{flat_map}
 use Rattle.decode.specs.declared.insn.Insn.{Insn}
 use Rattle.decode.specs.Slots.{slots_of}
 use Rattle.helpers.specs.declared.effects.Who.{Who}
+use Rattle.regtypes.specs.declared.image_form.ImageForm.{ImageForm}
 use Rattle.regtypes.specs.Typing.{Table, IsTyping}
 use Rattle.verifier.specs.ImageFile.{IsFile}
 use Rattle.interp.specs.HandlerCall.{Handled, IsHandled}
@@ -11,10 +12,10 @@ use Rattle.operations.specs.Bytes.{overwritten}
 use Rattle.embed.specs.Layout.{report_bytes}
 
 -- the file of code that has a typing: the files that are accepted
-pub record IsTypableFile (code : List Insn) (len : ℕ) (file : List ℕ) : Type 0 where
-  pub file_is : IsFile code len file
+pub record IsTypableFile (form : ImageForm) (code : List Insn) (len : ℕ) (file : List ℕ) : Type 0 where
+  pub file_is : IsFile form code len file
   pub table : Table
-  pub typing : IsTyping (slots_of code) len table
+  pub typing : IsTyping form (slots_of code) len table
 
 -- a process is called by a message of another one, or of the outside, which is number 0
 pub record IsSeat (who : Who) : Type 0 where
@@ -29,22 +30,22 @@ abbrev pub report_of : Handled → List ℕ
 report_of h = report_bytes h.r0 h.steps h.effects
 
 -- one call: the state after it, and the report written from a place on, up to another
-pub record IsReported (slots : List (Option Insn)) (who : Who) (state message after out : List ℕ) (at : ℕ) (written : List ℕ) (end : ℕ) : Type 0 where
+pub record IsReported (form : ImageForm) (slots : List (Option Insn)) (who : Who) (state message after out : List ℕ) (at : ℕ) (written : List ℕ) (end : ℕ) : Type 0 where
   pub handled : Handled
-  pub handles : IsHandled slots who state message handled
+  pub handles : IsHandled form slots who state message handled
   pub state_is : after ≡ handled.state
   pub out_is : written ≡ overwritten out at (report_of handled)
   pub end_is : end ≡ at + length (report_of handled)
   pub size : length (report_of handled) ≤ 1064
 
 -- calls one after another, by one message of 64 bytes each: a call gets the state that the one before left
-abbrev pub AreHandled : List (Option Insn) → Who → List ℕ → List ℕ → List Handled → List ℕ → Type 0
-AreHandled slots who state messages [] last = (messages ≡ []) × (last ≡ state)
-AreHandled slots who state messages (h ∷ hs) last =
-    IsHandled slots who state (take 64 messages) h × AreHandled slots who h.state (drop 64 messages) hs last
+abbrev pub AreHandled : ImageForm → List (Option Insn) → Who → List ℕ → List ℕ → List Handled → List ℕ → Type 0
+AreHandled form slots who state messages [] last = (messages ≡ []) × (last ≡ state)
+AreHandled form slots who state messages (h ∷ hs) last =
+    IsHandled form slots who state (take 64 messages) h × AreHandled form slots who h.state (drop 64 messages) hs last
 
 -- such calls, and their reports written one behind the other from the front
-pub record AreReported (slots : List (Option Insn)) (who : Who) (state messages after out written : List ℕ) : Type 0 where
+pub record AreReported (form : ImageForm) (slots : List (Option Insn)) (who : Who) (state messages after out written : List ℕ) : Type 0 where
   pub calls : List Handled
-  pub handles : AreHandled slots who state messages calls after
+  pub handles : AreHandled form slots who state messages calls after
   pub out_is : written ≡ overwritten out 0 (flat_map report_of calls)

@@ -4,6 +4,8 @@ use Rattle.decode.specs.declared.insn.Insn.{Insn}
 use Rattle.decode.specs.Refusal as decoding
 use Rattle.decode.specs.Slots.{slots_of}
 use Rattle.helpers.specs.declared.effects.Who.{Who}
+use Rattle.regtypes.specs.declared.image_form.ImageForm.{ImageForm}
+use Rattle.regtypes.specs.declared.image_form.ImageForm.TheVariants.{Sbi1, Sbi2}
 use Rattle.regtypes.specs.Rules as rules
 use Rattle.verifier.specs.declared.fault.ImageError.{ImageError}
 use Rattle.verifier.specs.declared.fault.ImageError.TheVariants as error
@@ -11,7 +13,7 @@ use Rattle.verifier.specs.FaultNumbers.{header_fault_number}
 use Rattle.verifier.specs.ImageFile.{IsRefusal}
 use Rattle.operations.specs.Bytes.{overwritten}
 use Rattle.embed.specs.declared.refusal.Refusal.{Refusal}
-use Rattle.embed.specs.declared.refusal.Refusal.TheVariants.{Image, State, Message, Who as NotSeat, Room}
+use Rattle.embed.specs.declared.refusal.Refusal.TheVariants.{Image, State, Message, Who as NotSeat, Room, Form}
 use Rattle.embed.specs.Layout.{fault_bytes}
 use Rattle.embed.specs.Calls.{IsTypableFile, IsSeat, IsReported, AreReported}
 
@@ -24,13 +26,14 @@ error_number (error.Header fault) = 2
 error_number (error.Decode rule slot) = 3
 error_number (error.Verify rule slot) = 4
 
--- the code of a refusal, 1 to 8
+-- the code of a refusal, 1 to 9
 abbrev pub refusal_number : Refusal → ℕ
 refusal_number (Image e) = error_number e
 refusal_number State = 5
 refusal_number Message = 6
 refusal_number NotSeat = 7
 refusal_number Room = 8
+refusal_number Form = 9
 
 -- the broken rule, 0 where there is none
 abbrev pub refused_rule : ImageError → ℕ
@@ -54,9 +57,10 @@ Answers code done refused = ((code ≡ 0) × done) ⊎ ((why : Refusal) × (code
 
 -- the file is accepted, and nothing is written
 pub record IsChecked (file out written : List ℕ) : Type 0 where
+  pub form : ImageForm
   pub code : List Insn
   pub len : ℕ
-  pub file_is : IsTypableFile code len file
+  pub file_is : IsTypableFile form code len file
   pub room : 16 ≤ length out
   pub same : written ≡ out
 
@@ -68,12 +72,14 @@ IsUnchecked file out written State = ⊥
 IsUnchecked file out written Message = ⊥
 IsUnchecked file out written NotSeat = ⊥
 IsUnchecked file out written Room = (length out < 16) × (written ≡ out)
+IsUnchecked file out written Form = ⊥
 
--- calls by whole messages, with room for their reports, are done on a state as long as the file says, by its code
+-- calls by whole messages, with room for their reports, are done on a state as long as the file says, by its code, which
+-- is of form 1
 pub record IsDone (file state : List ℕ) (who : Who) (whole room : Type 0) (calls : List Insn → Type 0) : Type 0 where
   pub code : List Insn
   pub len : ℕ
-  pub file_is : IsTypableFile code len file
+  pub file_is : IsTypableFile Sbi1 code len file
   pub state_fits : length state ≡ len
   pub seat : IsSeat who
   pub messages_are : whole
@@ -82,16 +88,24 @@ pub record IsDone (file state : List ℕ) (who : Who) (whole room : Type 0) (cal
 
 -- the file is that of code that has a typing
 abbrev pub IsTypable : List ℕ → Type 0
-IsTypable file = (code : List Insn) × (len : ℕ) × IsTypableFile code len file
+IsTypable file = (form : ImageForm) × (code : List Insn) × (len : ℕ) × IsTypableFile form code len file
 
 -- this refusal says why the file is none. Want of memory says nothing of it
 abbrev pub IsFileRefusal : List ℕ → Refusal → Type 0
 IsFileRefusal file why = (e : ImageError) × (why ≡ Image e) × IsRefusal file e
 
+-- the code is of form 1, in which messages and payloads have 64 bytes
+abbrev pub IsCallable : List ℕ → Type 0
+IsCallable file = (code : List Insn) × (len : ℕ) × IsTypableFile Sbi1 code len file
+
+-- this refusal says that it is of form 2
+abbrev pub IsFormRefusal : List ℕ → Refusal → Type 0
+IsFormRefusal file why = (why ≡ Form) × ((code : List Insn) × (len : ℕ) × IsTypableFile Sbi2 code len file)
+
 -- this refusal says that the state isn't as long as the file says
 abbrev pub IsStateRefusal : List ℕ → List ℕ → Refusal → Type 0
 IsStateRefusal file state why =
-    (why ≡ State) × ((code : List Insn) × (len : ℕ) × IsTypableFile code len file × (length state ≢ len))
+    (why ≡ State) × ((code : List Insn) × (len : ℕ) × IsTypableFile Sbi1 code len file × (length state ≢ len))
 
 -- what the arguments of a call are judged by
 pub data Test : Type 0 where
@@ -99,11 +113,12 @@ pub data Test : Type 0 where
   OfMessages : Test
   OfRoom : Test
   OfFile : Test
+  OfForm : Test
   OfState : Test
 
 -- the order in which they are judged
 abbrev pub order : List Test
-order = OfSeat ∷ OfMessages ∷ OfRoom ∷ OfFile ∷ OfState ∷ []
+order = OfSeat ∷ OfMessages ∷ OfRoom ∷ OfFile ∷ OfForm ∷ OfState ∷ []
 
 -- the arguments pass a test: whole says that the messages are whole, room that their reports fit
 abbrev pub Passes : List ℕ → List ℕ → Who → Type 0 → Type 0 → Test → Type 0
@@ -111,7 +126,8 @@ Passes file state who whole room OfSeat = IsSeat who
 Passes file state who whole room OfMessages = whole
 Passes file state who whole room OfRoom = room
 Passes file state who whole room OfFile = IsTypable file
-Passes file state who whole room OfState = (code : List Insn) × IsTypableFile code (length state) file
+Passes file state who whole room OfForm = IsCallable file
+Passes file state who whole room OfState = (code : List Insn) × IsTypableFile Sbi1 code (length state) file
 
 -- the arguments fail it, and this is the refusal for that
 abbrev pub Fails : List ℕ → List ℕ → Who → Type 0 → Type 0 → Test → Refusal → Type 0
@@ -119,6 +135,7 @@ Fails file state who whole room OfSeat why = (why ≡ NotSeat) × (¬ IsSeat who
 Fails file state who whole room OfMessages why = (why ≡ Message) × (¬ whole)
 Fails file state who whole room OfRoom why = (why ≡ Room) × (¬ room)
 Fails file state who whole room OfFile why = IsFileRefusal file why
+Fails file state who whole room OfForm why = IsFormRefusal file why
 Fails file state who whole room OfState why = IsStateRefusal file state why
 
 -- the refusal is for the first of these tests that the arguments fail
@@ -131,7 +148,7 @@ FailsFirst file state who whole room (t ∷ ts) why =
 abbrev pub IsCalled : List ℕ → Who → List ℕ → List ℕ → List ℕ → List ℕ → List ℕ → Type 0
 IsCalled file who state message after out written =
     IsDone file state who (length message ≡ 64) (1064 ≤ length out)
-    (λ code. (end : ℕ) × IsReported (slots_of code) who state message after out 0 written end)
+    (λ code. (end : ℕ) × IsReported Sbi1 (slots_of code) who state message after out 0 written end)
 
 -- why such a call is refused
 abbrev pub IsCallRefusal : List ℕ → Who → List ℕ → List ℕ → List ℕ → Refusal → Type 0
@@ -142,7 +159,7 @@ IsCallRefusal file who state message out why =
 abbrev pub AreCalled : List ℕ → Who → List ℕ → List ℕ → List ℕ → List ℕ → List ℕ → Type 0
 AreCalled file who state messages after out written =
     IsDone file state who (length messages % 64 ≡ 0) (1064 * (length messages / 64) ≤ length out)
-    (λ code. AreReported (slots_of code) who state messages after out written)
+    (λ code. AreReported Sbi1 (slots_of code) who state messages after out written)
 
 -- why such calls are refused
 abbrev pub AreCallsRefused : List ℕ → Who → List ℕ → List ℕ → List ℕ → Refusal → Type 0

@@ -2,16 +2,18 @@
 
 ghost use Rattle.std.specs.Prelude.{◌≡◌, ◌≤◌, ◌<◌, ◌+◌, ◌*◌, ◌/◌, ◌%◌, ◌↔◌, ◌⊎◌, IsTrue, IfOk, IfErr, MatchResult, OnErr, length, slice_range};
 ghost use Rattle.decode.specs.Slots.{slots_of};
+ghost use Rattle.regtypes.specs.declared.image_form.ImageForm.TheVariants.{Sbi1};
 ghost use Rattle.regtypes.specs.declared.frame.Region.TheVariants as region;
 ghost use Rattle.verifier.specs.ImageFile.{IsRefusal};
 ghost use Rattle.interp.specs.Flat.{part, Holds, entry_in, IsSpent};
 ghost use Rattle.embed.specs.Calls.{IsTypableFile, IsSeat, IsReported, AreReported};
-ghost use Rattle.embed.specs.Exports.{IsChecked, IsUnchecked, IsTypable, IsFileRefusal, IsStateRefusal, IsCalled, IsCallRefusal, AreCalled, AreCallsRefused};
+ghost use Rattle.embed.specs.Exports.{IsChecked, IsUnchecked, IsTypable, IsFileRefusal, IsCallable, IsFormRefusal, IsStateRefusal, IsCalled, IsCallRefusal, AreCalled, AreCallsRefused};
 
 use crate::refusal::{Refusal, refused_rule, refused_slot};
 use crate::report::{FAULT_SIZE, REPORT_LIMIT, put_fault, put_report};
 use helpers::{Effects, Who};
 use interp::{call_flat, fill, refill, take};
+use regtypes::ImageForm;
 use std::alloc::Global;
 use verifier::{Image, load};
 
@@ -46,17 +48,21 @@ fn is_seat(who: Who) -> bool
         && who.me != who.from
 }
 
-/// The image of a file, for a state of this length.
+/// The image of a file of form 1, for a state of this length.
 fn open(alloc: Global, file: &[u8], state: &[u8]) -> Result<Image, Refusal>
-    ensures file { IfOk result (λ image. IsTypableFile image.code image.len file.now) }
+    ensures file { IfOk result (λ image. IsTypableFile image.form image.code image.len file.now) }
+    ensures form { IfOk result (λ image. image.form ≡ Sbi1) }
     ensures slots { IfOk result (λ image. image.slots ≡ slots_of image.code) }
     ensures state { IfOk result (λ image. length state.now ≡ image.len) }
-    ensures refused { IfErr result (λ why. IsFileRefusal file.now why ⊎ (IsTypable file.now × IsStateRefusal file.now state.now why)) }
+    ensures refused { IfErr result (λ why. IsFileRefusal file.now why ⊎ (IsTypable file.now × (IsFormRefusal file.now why ⊎ (IsCallable file.now × IsStateRefusal file.now state.now why)))) }
 {
     let image = match load(alloc, file) {
         Ok(image) => image,
         Err(error) => return Err(Refusal::Image(error)),
     };
+    if image.form() != ImageForm::Sbi1 {
+        return Err(Refusal::Form);
+    }
     if state.len() != image.state_len() as usize {
         return Err(Refusal::State);
     }
@@ -74,36 +80,37 @@ fn call_once(
     out: &mut [u8],
     at: usize,
 ) -> usize
-    requires holds { Holds image.now.len (entry_in image.now.len mem.old) mem.old }
+    requires form { image.now.form ≡ Sbi1 }
+    requires holds { Holds 64 image.now.len (entry_in image.now.form 64 image.now.len mem.old) mem.old }
     requires room { at + REPORT_LIMIT ≤ length out.old }
-    ensures reported { IsReported image.now.slots who
-        (part image.now.len region.State mem.old) (part image.now.len region.Message mem.old)
-        (part image.now.len region.State mem.new) out.old at out.new result }
-    ensures spent { IsSpent image.now.len image.now.low mem.new }
+    ensures reported { IsReported image.now.form image.now.slots who
+        (part 64 image.now.len region.State mem.old) (part 64 image.now.len region.Message mem.old)
+        (part 64 image.now.len region.State mem.new) out.old at out.new result }
+    ensures spent { IsSpent 64 image.now.len image.now.low mem.new }
 {
     effects.clear();
-    let end = call_flat(image, mem, who, effects);
+    let end = call_flat(image, mem, MESSAGE, who, effects);
     put_report(out, at, end, effects)
 }
 
 /// The 64 bytes of a message from a place on.
-fn message_at(messages: &[u8], at: usize) -> &[u8; 64]
+#[inline(always)]
+fn message_at(messages: &[u8], at: usize) -> &[u8]
     requires { at + 64 ≤ length messages.now }
-    ensures { result.now ≡ slice_range messages.now at (at + 64) }
+    ensures value { result.now ≡ slice_range messages.now at (at + 64) }
+    ensures size { length result.now ≡ 64 }
 {
-    let Some(message) = messages[at..at + 64].first_chunk() else {
-        unreachable!()
-    };
-    message
+    &messages[at..at + MESSAGE]
 }
 
 /// Calls the handler by one message after another, and writes the reports from the front on. The
 /// state stays in one array for all calls.
 fn call_each(image: &Image, state: &mut [u8], messages: &[u8], who: Who, out: &mut [u8])
+    requires form { image.now.form ≡ Sbi1 }
     requires state { length state.old ≡ image.now.len }
     requires whole { length messages.now % 64 ≡ 0 }
     requires room { 1064 * (length messages.now / 64) ≤ length out.old }
-    ensures { AreReported image.now.slots who state.old messages.now state.new out.old out.new }
+    ensures { AreReported image.now.form image.now.slots who state.old messages.now state.new out.old out.new }
 {
     let _len = image.state_len();
     let mut mem = [0; 1792];
@@ -112,7 +119,7 @@ fn call_each(image: &Image, state: &mut [u8], messages: &[u8], who: Who, out: &m
     let mut end = 0;
     'calls: for i in 0..messages.len() / MESSAGE {
         let message = message_at(messages, MESSAGE * i);
-        refill(image, &mut mem, message);
+        refill(image, &mut mem, MESSAGE, message);
         end = call_once(image, &mut mem, who, &mut effects, out, end);
     }
     take(&mem, state);

@@ -18,10 +18,12 @@ pub enum Refusal {
     Who,
     /// 8: the buffer for the answer is too short.
     Room,
+    /// 9: the file is of form 2, whose messages and payloads have lengths.
+    Form,
 }
 
 impl Refusal {
-    /// Its number, 1 to 8.
+    /// Its number, 1 to 9.
     pub fn number(&self) -> u32
         ensures { result ≡ refusal_number self.now }
     {
@@ -34,6 +36,7 @@ impl Refusal {
             Refusal::Message => 6,
             Refusal::Who => 7,
             Refusal::Room => 8,
+            Refusal::Form => 9,
         }
     }
 }

@@ -47,8 +47,8 @@ fn refused(rt: HostRuntime) -> Result<(), Fail> {
     file[8] = 0xff;
     assert_eq!(rt; number_of(check(rt.alloc(), &file, &mut out)), 3);
     assert_eq!(rt; out, [2, 0, 0, 0, 0, 0, 0, 0, 0, 0, 0, 0, 0, 0, 0, 0]);
-    // SBI2
-    file[3] = 0x32;
+    // SBI3
+    file[3] = 0x33;
     assert_eq!(rt; number_of(check(rt.alloc(), &file, &mut out)), 2);
     assert_eq!(rt; number_of(check(rt.alloc(), &ADDER, &mut out[..15])), 8);
     Ok(())
@@ -157,6 +157,19 @@ fn two_faults(rt: HostRuntime) -> Result<(), Fail> {
     assert_eq!(rt; code_of(alloc, &ADDER, &[0; 64], CALLED, &mut room), 5);
     assert_eq!(rt; number_of(check(alloc, &broken, &mut less[..15])), 8);
     assert_eq!(rt; less[0], 7);
+    Ok(())
+}
+
+// An image of form 2 is checked, and not called: mov r0, 0; exit. The state's length is judged later.
+#[test]
+fn form_2(rt: HostRuntime) -> Result<(), Fail> {
+    let alloc = rt.alloc();
+    let file =
+        *b"SBI2\x00\x00\x02\x00\xb7\x00\x00\x00\x00\x00\x00\x00\x95\x00\x00\x00\x00\x00\x00\x00";
+    let mut out = [7u8; REPORT_LIMIT];
+    assert_eq!(rt; number_of(check(alloc, &file, &mut out)), 0);
+    assert_eq!(rt; code_of(alloc, &file, &[0; 64], CALLED, &mut out), 9);
+    assert_eq!(rt; out[0], 7);
     Ok(())
 }
 

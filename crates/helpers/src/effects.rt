@@ -1,8 +1,9 @@
 //! What one call of a handler emits.
 
-ghost use Rattle.std.specs.Prelude.{◌≡◌, [], length, ◌≤◌};
+ghost use Rattle.std.specs.Prelude.{◌≡◌, [], length, ◌≤◌, Some};
+ghost use Rattle.helpers.specs.Helpers as rows;
 
-use crate::payload::Payload;
+use crate::payload::{PAYLOAD_LIMIT, Payload};
 use std::marker::Model;
 
 /// How many sends, and how many outputs, one call of a handler can emit.
@@ -47,7 +48,7 @@ impl Model for Effects {
 }
 
 impl Effects {
-    ghost use Rattle.helpers.specs.Helpers.{send_code, after_send, output_code, after_output};
+    ghost use Rattle.helpers.specs.Helpers.{send_code, after_send, output_code, after_output, sized_payload};
 
     /// No effects.
     pub fn new() -> Effects
@@ -95,10 +96,10 @@ impl Effects {
     /// the destination, as a 64-bit number, isn't another process, else 2: no room is left.
     pub fn send(&mut self, who: Who, dst: u64, payload: &[u8]) -> u64
         requires { length payload.now ≤ 256 }
-        ensures code { result ≡ send_code who dst self.old }
-        ensures after { self.new ≡ after_send who dst payload.now self.old }
+        ensures code { result ≡ send_code who dst (Some payload.now) self.old }
+        ensures after { self.new ≡ after_send who dst (Some payload.now) self.old }
     {
-        if dst < 1 || dst > u64::from(who.count) || dst == u64::from(who.me) {
+        if is_no_peer(who, dst) {
             return 1;
         }
         if self.send_count == LIMIT {
@@ -115,8 +116,8 @@ impl Effects {
     /// room is left.
     pub fn output(&mut self, payload: &[u8]) -> u64
         requires { length payload.now ≤ 256 }
-        ensures code { result ≡ output_code self.old }
-        ensures after { self.new ≡ after_output payload.now self.old }
+        ensures code { result ≡ output_code (Some payload.now) self.old }
+        ensures after { self.new ≡ after_output (Some payload.now) self.old }
     {
         if self.output_count == LIMIT {
             return 2;
@@ -125,4 +126,45 @@ impl Effects {
         self.output_count += 1;
         0
     }
+
+    /// Helper 5: sends as many of 256 bytes as are asked for. The code is as helper 1's, but 3 where
+    /// the destination is good, room is left and more than 256 are asked for: nothing is appended.
+    pub fn send_sized(&mut self, who: Who, dst: u64, bytes: &[u8], len: u64) -> u64
+        requires { length bytes.now ≡ 256 }
+        ensures code { result ≡ send_code who dst (sized_payload bytes.now len) self.old }
+        ensures after { self.new ≡ after_send who dst (sized_payload bytes.now len) self.old }
+    {
+        if len <= PAYLOAD_LIMIT as u64 {
+            return self.send(who, dst, &bytes[..len as usize]);
+        }
+        if is_no_peer(who, dst) {
+            1
+        } else if self.send_count < LIMIT {
+            3
+        } else {
+            2
+        }
+    }
+
+    /// Helper 6: gives as many of 256 bytes as are asked for to the outside. The code is as helper
+    /// 2's, but 3 where room is left and more than 256 are asked for: nothing is appended.
+    pub fn output_sized(&mut self, bytes: &[u8], len: u64) -> u64
+        requires { length bytes.now ≡ 256 }
+        ensures code { result ≡ output_code (sized_payload bytes.now len) self.old }
+        ensures after { self.new ≡ after_output (sized_payload bytes.now len) self.old }
+    {
+        if len > PAYLOAD_LIMIT as u64 {
+            let is_full = self.output_count == LIMIT;
+            return if is_full { 2 } else { 3 };
+        }
+        self.output(&bytes[..len as usize])
+    }
+}
+
+// Whether a number names no other process.
+#[inline(always)]
+fn is_no_peer(who: Who, dst: u64) -> bool
+    ensures { result ≡ rows.is_no_peer who dst }
+{
+    dst < 1 || dst > u64::from(who.count) || dst == u64::from(who.me)
 }

@@ -1,7 +1,8 @@
 //! What a handler asks of the runtime: messages to other processes, and outputs.
 //!
-//! A handler calls helpers by number. Helper 1 sends, helper 2 gives an output, helper 3 answers
-//! the handler's own process number and helper 4 the sender's; the last two only read [`Who`].
+//! A handler calls helpers by number. Helper 1 sends 64 bytes, helper 2 outputs 64 bytes, helper 3
+//! answers the handler's own process number and helper 4 the sender's; these two only read
+//! [`Who`]. Helpers 5 and 6 send and output as many bytes as the handler says, 0 to 256.
 //! [`Effects`] keeps what one call of a handler emits, without taking memory. Each method's
 //! contract is its helper's row: which code r0 gets, and what was appended, or that nothing was.
 //! What a message says is a [`Payload`], 0 to 256 bytes.

@@ -19,6 +19,37 @@ fn one_send_and_one_output(rt: HostRuntime) -> Result<(), Fail> {
     Ok(())
 }
 
+// A length of 0 and of 256 is sent as it is, 257 is code 3, and the codes 1 and 2 come before it.
+#[test]
+fn sized_sends_and_outputs(rt: HostRuntime) -> Result<(), Fail> {
+    let mut effects = Effects::new();
+    let who = Who {
+        me: 1,
+        from: 0,
+        count: 2,
+    };
+    let bytes = [7; 256];
+    assert_eq!(rt; effects.send_sized(who, 2, &bytes, 0), 0);
+    assert_eq!(rt; effects.send_sized(who, 2, &bytes, 257), 3);
+    assert_eq!(rt; effects.send_sized(who, 1, &bytes, 257), 1);
+    assert_eq!(rt; effects.send_sized(who, 2, &bytes, 256), 0);
+    assert_eq!(rt; effects.sends().len(), 2);
+    assert_eq!(rt; effects.sends()[0].payload.len(), 0);
+    assert_eq!(rt; effects.sends()[1].payload.len(), 256);
+    assert_eq!(rt; effects.output_sized(&bytes, 0x1_0000_0001), 3);
+    for _ in 0..8 {
+        assert_eq!(rt; effects.output_sized(&bytes, 3), 0);
+    }
+    assert_eq!(rt; effects.output_sized(&bytes, 257), 2);
+    assert_eq!(rt; effects.output_sized(&bytes, 3), 2);
+    assert!(rt; effects.outputs()[7] == Payload::from_slice(&[7, 7, 7]));
+    for _ in 0..6 {
+        assert_eq!(rt; effects.send(who, 2, &[]), 0);
+    }
+    assert_eq!(rt; effects.send_sized(who, 2, &bytes, 257), 2);
+    Ok(())
+}
+
 #[test]
 fn a_payload_fills_up_to_64_bytes(rt: HostRuntime) -> Result<(), Fail> {
     let payload = Payload::from_slice(&[1, 2]);

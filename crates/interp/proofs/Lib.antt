@@ -1,6 +1,7 @@
 pub mod Shows
 pub mod ByteLemmas
 pub mod WordLemmas
+pub mod Values
 pub mod ArithmeticLemmas
 pub mod AccessLemmas
 pub mod Simulation
@@ -11,6 +12,6 @@ pub mod CallLemmas
 pub mod Parts
 pub mod Operations
 pub mod FlatCalls
-pub mod Preservation
+pub mod Fitting
 pub mod Exits
 pub mod WordsKept

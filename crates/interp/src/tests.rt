@@ -1,7 +1,8 @@
 ghost use Rattle.std.specs.Prelude.{◌≤◌, length};
 
-use crate::{CallEnd, call, call_flat, fill};
+use crate::{CallEnd, call, call_flat, fill, refill};
 use helpers::{Effects, Payload, Who};
+use regtypes::ImageForm;
 use std::alloc::Global;
 use std::test::Fail;
 use verifier::{Image, load};
@@ -24,11 +25,12 @@ const FIRST: Who = Who {
     count: 2,
 };
 
-/// The image of this code.
-fn image_of(alloc: Global, state_len: u8, code: &[u8]) -> Result<Image, Fail>
-    requires { length code.now ≤ 2000 }
+/// The image of this code, of form 1 or 2.
+fn image_of(alloc: Global, form: u8, state_len: u8, code: &[u8]) -> Result<Image, Fail>
+    requires form { form ≤ 9 }
+    requires code { length code.now ≤ 2000 }
 {
-    let mut bytes = Vec::from_slice(alloc, &[0x53, 0x42, 0x49, 0x31])?;
+    let mut bytes = Vec::from_slice(alloc, &[0x53, 0x42, 0x49, 0x30 + form])?;
     bytes.extend_from_slice(&[state_len, 0, (code.len() / 8) as u8, 0])?;
     bytes.extend_from_slice(code)?;
     Ok(load(alloc, &bytes)?)
@@ -45,7 +47,10 @@ fn run(
     requires code { length code.now ≤ 2000 }
     requires state { length state.old ≤ 255 }
 {
-    let image = image_of(alloc, state.len() as u8, code)?;
+    let image = image_of(alloc, 1, state.len() as u8, code)?;
+    if image.form() != ImageForm::Sbi1 {
+        return Err("another form")?;
+    }
     if usize::from(image.state_len()) != state.len() {
         return Err("another length of the state")?;
     }
@@ -70,7 +75,10 @@ fn adder_on_zeros(rt: HostRuntime) -> Result<(), Fail> {
 // The array afterwards: the message at 0, the new state at 256, zeros elsewhere.
 #[test]
 fn adder_in_the_array(rt: HostRuntime) -> Result<(), Fail> {
-    let image = image_of(rt.alloc(), 8, &ADDER)?;
+    let image = image_of(rt.alloc(), 1, 8, &ADDER)?;
+    if image.form() != ImageForm::Sbi1 {
+        return Err("another form")?;
+    }
     if image.state_len() != 8 {
         return Err("another length of the state")?;
     }
@@ -79,11 +87,122 @@ fn adder_in_the_array(rt: HostRuntime) -> Result<(), Fail> {
     let mut mem = [0; 1792];
     fill(&image, &mut mem, &message, &[0; 8]);
     let mut out = Effects::new();
-    let end = call_flat(&image, &mut mem, FIRST, &mut out);
+    let end = call_flat(&image, &mut mem, 64, FIRST, &mut out);
     assert_eq!(rt; end, CallEnd { r0: 0, steps: 6 });
     let mut left = [0; 1792];
     left[0] = 5;
     left[256] = 5;
+    assert!(rt; mem == left);
+    Ok(())
+}
+
+/// `jlt r3, 8, +4`, `ldxdw r4, [r1+0]`, `ldxdw r5, [r2+0]`, `add r5, r4`, `stxdw [r2+0], r5`, `mov r0, 0`,
+/// `exit`: the message's first word is added where there is one.
+const LONG_ADDER: [u8; 56] = [
+    0xa5, 0x03, 4, 0, 8, 0, 0, 0, 0x79, 0x14, 0, 0, 0, 0, 0, 0, 0x79, 0x25, 0, 0, 0, 0, 0, 0, 0x0f,
+    0x45, 0, 0, 0, 0, 0, 0, 0x7b, 0x52, 0, 0, 0, 0, 0, 0, 0xb7, 0, 0, 0, 0, 0, 0, 0, 0x95, 0, 0, 0,
+    0, 0, 0, 0,
+];
+
+/// Calls code of form 2 on a state of 8 bytes and a message.
+fn run_long(
+    alloc: Global,
+    code: &[u8],
+    state: &mut [u8; 8],
+    message: &[u8],
+) -> Result<(CallEnd, Effects), Fail>
+    requires code { length code.now ≤ 2000 }
+    requires message { length message.now ≤ 256 }
+{
+    let image = image_of(alloc, 2, 8, code)?;
+    if image.form() != ImageForm::Sbi2 {
+        return Err("another form")?;
+    }
+    if image.state_len() != 8 {
+        return Err("another length of the state")?;
+    }
+    let mut out = Effects::new();
+    let end = call(&image, state, message, FIRST, &mut out);
+    Ok((end, out))
+}
+
+// The state word is 5 after a message of 8 bytes; 7 bytes, or none, aren't read.
+#[test]
+fn a_message_that_is_long_enough(rt: HostRuntime) -> Result<(), Fail> {
+    let mut state = [0; 8];
+    let message = [5, 0, 0, 0, 0, 0, 0, 0];
+    let (end, _) = run_long(rt.alloc(), &LONG_ADDER, &mut state, &message[..7])?;
+    assert_eq!(rt; end, CallEnd { r0: 0, steps: 3 });
+    let (end, _) = run_long(rt.alloc(), &LONG_ADDER, &mut state, &[])?;
+    assert_eq!(rt; end, CallEnd { r0: 0, steps: 3 });
+    assert_eq!(rt; state, [0; 8]);
+    let (end, _) = run_long(rt.alloc(), &LONG_ADDER, &mut state, &message)?;
+    assert_eq!(rt; end, CallEnd { r0: 0, steps: 7 });
+    assert_eq!(rt; state, [5, 0, 0, 0, 0, 0, 0, 0]);
+    Ok(())
+}
+
+/// `mov r2, r3`, `call 6`, `mov r0, 0`, `exit`: the message is output.
+#[test]
+fn output_of_the_whole_message(rt: HostRuntime) -> Result<(), Fail> {
+    let code = [
+        0xbf, 0x32, 0, 0, 0, 0, 0, 0, 0x85, 0, 0, 0, 6, 0, 0, 0, 0xb7, 0, 0, 0, 0, 0, 0, 0, 0x95,
+        0, 0, 0, 0, 0, 0, 0,
+    ];
+    let mut state = [0; 8];
+    for message in [&[][..], &[1, 2], &[7; 256]] {
+        let (end, out) = run_long(rt.alloc(), &code, &mut state, message)?;
+        assert_eq!(rt; end, CallEnd { r0: 0, steps: 4 });
+        assert_eq!(rt; out.outputs().len(), 1);
+        assert!(rt; out.outputs()[0] == Payload::from_slice(message));
+    }
+    Ok(())
+}
+
+/// `mov r2, r10`, `add r2, -256`, `ldxb r3, [r2+0]`, `add r3, N`, `mov r1, 2`, `call 5`, `exit`: N zeros are
+/// sent to process 2, and nothing where N is above 256.
+#[test]
+fn sends_of_a_length(rt: HostRuntime) -> Result<(), Fail> {
+    for (low, high, r0, sent) in [(0, 0, 0, 1), (0, 1, 0, 1), (1, 1, 3, 0)] {
+        let code = [
+            0xbf, 0xa2, 0, 0, 0, 0, 0, 0, 0x07, 0x02, 0, 0, 0x00, 0xff, 0xff, 0xff, 0x71, 0x23, 0,
+            0, 0, 0, 0, 0, 0x07, 0x03, 0, 0, low, high, 0, 0, 0xb7, 0x01, 0, 0, 2, 0, 0, 0, 0x85,
+            0, 0, 0, 5, 0, 0, 0, 0x95, 0, 0, 0, 0, 0, 0, 0,
+        ];
+        let mut state = [0; 8];
+        let (end, out) = run_long(rt.alloc(), &code, &mut state, &[])?;
+        assert_eq!(rt; end, CallEnd { r0, steps: 7 });
+        assert_eq!(rt; out.sends().len(), sent);
+        for one in out.sends() {
+            assert_eq!(rt; one.dst, 2);
+            assert_eq!(rt; one.payload.len(), usize::from(high) * 256);
+        }
+    }
+    Ok(())
+}
+
+// A shorter message behind a longer one: nothing of the longer one is left in the array.
+#[test]
+fn one_array_for_two_messages(rt: HostRuntime) -> Result<(), Fail> {
+    let image = image_of(rt.alloc(), 2, 8, &LONG_ADDER)?;
+    if image.form() != ImageForm::Sbi2 {
+        return Err("another form")?;
+    }
+    if image.state_len() != 8 {
+        return Err("another length of the state")?;
+    }
+    let mut mem = [0; 1792];
+    fill(&image, &mut mem, &[1; 256], &[0; 8]);
+    let mut out = Effects::new();
+    let end = call_flat(&image, &mut mem, 256, FIRST, &mut out);
+    assert_eq!(rt; end, CallEnd { r0: 0, steps: 7 });
+    refill(&image, &mut mem, 256, &[1; 2]);
+    out.clear();
+    let end = call_flat(&image, &mut mem, 2, FIRST, &mut out);
+    assert_eq!(rt; end, CallEnd { r0: 0, steps: 3 });
+    let mut left = [0; 1792];
+    left[..2].fill(1);
+    left[256..264].fill(1);
     assert!(rt; mem == left);
     Ok(())
 }

@@ -1,5 +1,5 @@
 -- The steps of arrivals, as steps of each world that the machine stands for
-use Rattle.std.proofs.Common.{◌≡◌, ◌≢◌, ℕ, zero, suc, ◌+◌, ◌-◌, ◌<◌, ◌≤◌, List, [], ◌∷◌, ◌++◌, length, take, max, set, Bool, true, false, refl, sym, ap, ◌∙◌, subst, arith}
+use Rattle.std.proofs.Common.{◌≡◌, ◌≢◌, ℕ, zero, suc, ◌+◌, ◌-◌, ◌<◌, ◌≤◌, List, [], ◌∷◌, ◌++◌, length, take, max, set, Bool, true, false, true≢false, refl, sym, ap, ◌∙◌, subst, arith}
 use Rattle.std.specs.Prelude.{if◌then◌else◌, ◌==◌, ◌&&◌, nat_lt, nat_le, Option, Some, None, slice_index_or}
 use Rattle.std.proofs.lemmas.Bool.Decides.{nat_tests}
 use Rattle.std.proofs.Math.ListN.{get_or-eq_default}
@@ -13,9 +13,9 @@ use Rattle.world.specs.declared.packet.Packet.{Packet}
 use Rattle.world.specs.declared.packet.Packet.TheVariants.{Delivery, Number, Acknowledgement}
 use Rattle.world.specs.declared.call.Call.TheVariants.{Arrive}
 use Rattle.world.specs.declared.answer.Answer.{Answer}
-use Rattle.world.specs.declared.answer.Answer.TheVariants.{Started, Duplicate, Early, Shown, ShownBefore, Numbered, Acknowledged, Stale}
+use Rattle.world.specs.declared.answer.Answer.TheVariants.{Started, Duplicate, Early, Shown, ShownBefore, Numbered, Acknowledged, Unreachable, Stale}
 use Rattle.world.specs.History.{count_of, rsn_of}
-use Rattle.world.specs.Phases.{Busy, is_up}
+use Rattle.world.specs.Phases.{Phase, Busy, is_up, is_down}
 use Rattle.world.specs.World.{World, put}
 use Rattle.world.specs.Logs.{length_in, length_of, payloads, sent, run_to, run_of, is_entry}
 use Rattle.world.specs.Calls.{lose, begin, note, number_for, recorded as written, arrive}
@@ -27,11 +27,16 @@ use Rattle.theorems.proofs.RunLemmas.{run_to-is, run_to-more}
 use Rattle.machine.specs.Process.{TheProcess, idle_process, received, Acknowledges}
 use Rattle.machine.specs.Wire.{Puts}
 use Rattle.machine.specs.Arriving.{numbered, Records}
-use Rattle.machine.specs.Simulation.{TheMachine, process_at, log_at, gate_at, StandsAt, Keeps, Holds, Shows, Stands, Steps, IsNextAfter, sent_by}
+use Rattle.machine.specs.Simulation.{TheMachine, process_at, log_at, gate_at, is_up_at, StandsAt, Keeps, Holds, Shows, Stands, Steps, sent_by}
+use Rattle.machine.specs.Stage.{IsNextAfter, is_live, held_by}
 use Rattle.machine.proofs.Updates.{put-is, set-is}
-use Rattle.machine.proofs.Standing.{wire-is, at_process, up_at, entry_at}
+use Rattle.machine.proofs.Standing.{wire-is, at_process, up_is, up_at, up-down, is_live-at, live-lost, live-busy, live-works, held-live, entry_at}
 use Rattle.machine.proofs.Steps.{put-wire, shows-wire, step}
 use Rattle.machine.proofs.Releasing.{run_of-run_to, flags-set, holds-released}
+
+-- what is kept of p stands for this history, this phase and these acknowledged numbers, and for the rest as the world has it
+abbrev pub Stood : TheMachine → World → ℕ → List Message → Phase → (ℕ → Bool) → TheProcess → Type 0
+Stood m w p h phase told z = StandsAt (length m.processes) p z (w.handlers.state p) (w.handlers.sends p) h phase (w.incarnation p) told (w.saved p) (w.saved_trims p)
 
 -- the answer that a packet gets whose target is up
 module _ (m : TheMachine) (w : World) (s : Stands m w) (room key : ℕ) (accepted : refusal_of w room (Arrive key) ≡ None) (packet : Packet) (found : slice_index_or m.slots key None ≡ Some packet) (up : is_up (w.phase (target_of packet)) ≡ true) where
@@ -39,6 +44,20 @@ module _ (m : TheMachine) (w : World) (s : Stands m w) (room key : ℕ) (accepte
   arrives new a fits shows images =
       let is : w.wire key ≡ Some packet = s.shows.wire key ∙ found in
       step m new room (Arrive key) a w s accepted (rw is (rw up fits)) (rw is shows) images
+
+-- the answer that it gets where its target isn't
+module _ (m : TheMachine) (w : World) (s : Stands m w) (room key calls : ℕ) (slots : List (Option Packet)) (accepted : refusal_of w room (Arrive key) ≡ None) where
+  pub unreachable : (packet : Packet) → slice_index_or m.slots key None ≡ Some packet → target_of packet ≤ length m.processes → is_up_at m (target_of packet) ≡ false → Puts m.slots slots key (Some packet) None
+      → Steps m (record m { slots = slots; calls = calls }) room (Arrive key) Unreachable w
+  unreachable packet found within off puts =
+      let is : w.wire key ≡ Some packet = s.shows.wire key ∙ found in
+      let away : is_up (w.phase (target_of packet)) ≡ false = up_is m w s (target_of packet) within ∙ off in
+      step m (record m { slots = slots; calls = calls }) room (Arrive key) Unreachable w s accepted (rw is (rw away refl)) (rw is (leaves packet (shows-wire m w s calls slots (put w.wire key None) (put-wire w m.slots slots key (Some packet) None s.shows.wire puts)))) refl
+    where
+      leaves : (k : Packet) → Shows (record m { slots = slots; calls = calls }) (lose w key) → Shows (record m { slots = slots; calls = calls }) (arrive w key (Some k) Unreachable)
+      leaves (Delivery d x) shows = shows
+      leaves (Number r t i n incarnation) shows = shows
+      leaves (Acknowledgement t r n incarnation) shows = shows
 
 -- The wire
 
@@ -86,9 +105,9 @@ module _ (m : TheMachine) (to : ℕ) (y : TheProcess) (positive : 0 < to) (withi
 
 -- A message that arrives
 
-module _ (m : TheMachine) (w : World) (s : Stands m w) (room key to calls : ℕ) (x : Message) (slots : List (Option Packet)) (accepted : refusal_of w room (Arrive key) ≡ None) (found : slice_index_or m.slots key None ≡ Some (Delivery to x)) (within : to ≤ length m.processes) where
+module _ (m : TheMachine) (w : World) (s : Stands m w) (room key to calls : ℕ) (x : Message) (slots : List (Option Packet)) (accepted : refusal_of w room (Arrive key) ≡ None) (found : slice_index_or m.slots key None ≡ Some (Delivery to x)) (within : to ≤ length m.processes) (live : is_up_at m to ≡ true) where
   up : is_up (w.phase to) ≡ true
-  up = up_at m w s to within
+  up = up_at m w s to within live
 
   module _ (puts : Puts m.slots slots key (Some (Delivery to x)) None) where
     pub early : judge w to x ≡ Ahead → Steps m (record m { slots = slots; calls = calls }) room (Arrive key) Early w
@@ -110,7 +129,7 @@ module _ (m : TheMachine) (w : World) (s : Stands m w) (room key to calls : ℕ)
       by_number false e = refl
 
   module _ (positive : 0 < to) where
-    at_to : StandsAt (process_at m to) (w.handlers.state to) (w.history to) (w.phase to) (w.incarnation to) (w.acknowledged to)
+    at_to : Stood m w to (w.history to) (w.phase to) (w.acknowledged to) (process_at m to)
     at_to = at_process m w s to positive within
 
     receives : (d : ℕ) → 0 < d → (v : Verdict) → judge w to x ≡ v → (a : Answer) → ReceivesAs w key (suc (d - 1)) x v a → ReceivesAs w key d x (judge w to x) a
@@ -124,29 +143,49 @@ module _ (m : TheMachine) (w : World) (s : Stands m w) (room key to calls : ℕ)
         let y : TheProcess = record (process_at m to) { working = Some x } in
         let new : TheMachine = record m { processes = set m.processes (to - 1) y; slots = slots; started = m.started + 1; calls = calls } in
         let back : suc (to - 1) ≡ to = omega arith in
-        let P : ℕ → Bool → TheProcess → Type 0 = λ p b z. StandsAt z (w.handlers.state (suc p)) (w.history (suc p)) (if b then Busy x else w.phase (suc p)) (w.incarnation (suc p)) (w.acknowledged (suc p)) in
-        let now : StandsAt y (w.handlers.state to) (w.history to) (Busy x) (w.incarnation to) (w.acknowledged to) =
-        record { state_is = at_to.state_is; senders = at_to.senders; flags = at_to.flags; acknowledged_is = at_to.acknowledged_is; in_order = at_to.in_order; phase_is = refl; next = next; incarnation_is = at_to.incarnation_is } in
+        let P : ℕ → Bool → TheProcess → Type 0 = λ p b z. Stood m w (suc p) (w.history (suc p)) (if b then Busy x else w.phase (suc p)) (w.acknowledged (suc p)) z in
+        let stage : is_live y.stage ≡ true = is_live-at m to positive live in
+        let now : Stood m w to (w.history to) (Busy x) (w.acknowledged to) y =
+        record {
+          state_is = at_to.state_is;
+          gone = at_to.gone;
+          senders = at_to.senders;
+          flags = at_to.flags;
+          acknowledged_is = at_to.acknowledged_is;
+          in_order = at_to.in_order;
+          phase_is = live-busy (length m.processes) y.stage x stage;
+          works = live-works y.stage (Some x) (w.saved to) (w.history to) stage next;
+          incarnation_is = at_to.incarnation_is;
+          saves = at_to.saves;
+        } in
         let there : P (to - 1) true y = rw back now in
         let len = length-set m.processes (to - 1) y in
         arrives m w s room key accepted (Delivery to x) found up new (Started serial) (receives to positive Next verdict (Started serial) (ap Started (serial_is ∙ ap (λ k. k + 1) (sym s.shows.started))))
         (record {
           count = s.shows.count ∙ sym len;
           handlers = s.shows.handlers;
-          process = set-is P m.processes to y positive within there s.shows.process;
-          logs = λ p d h k apart. kept new p d (log-same m to y positive within new refl refl refl p) (s.shows.logs p d (omega (arith, len, h)) (omega (arith, len, k)) apart);
-          gates = λ p d h k to_d apart. at-set m to y positive within (λ q b z. q ≤ length m.processes → q ≢ d → Holds d z.outbox.gate (run_of w q) (length (w.history q)) (w.released q d) (sent_by w q d)) (λ a. s.shows.gates to d positive a (omega (arith, len, to_d))) (λ q b a. s.shows.gates q d b a (omega (arith, len, to_d))) p h (omega (arith, len, k)) apart;
+          process = λ p d h. rw len (set-is P m.processes to y positive within there s.shows.process p d h);
+          logs = λ p d h k apart back. kept new p d (log-same m to y positive within new refl refl refl p) (s.shows.logs p d (omega (arith, len, h)) (omega (arith, len, k)) apart (not-down p back));
+          gates = λ p d h k to_d apart now_up. at-set m to y positive within (λ q b z. q ≤ length m.processes → q ≢ d → is_up (if b then Busy x else w.phase q) ≡ true → Holds d z.outbox.gate (run_of w q) (length (w.history q)) (w.released q d) (sent_by w q d)) (λ a other u. s.shows.gates to d positive a (omega (arith, len, to_d)) other up) (λ q b a other u. s.shows.gates q d b a (omega (arith, len, to_d)) other u) p h (omega (arith, len, k)) apart now_up;
+          shut = λ p d h k off. at-set m to y positive within (λ q b z. q ≤ length m.processes → is_up (if b then Busy x else w.phase q) ≡ false → slice_index_or z.outbox.gate.released d 0 ≡ 0) (λ a u. absurd (true≢false u)) (λ q b a u. s.shows.shut q d b a u) p h (omega (arith, len, k)) off;
           feeds = s.shows.feeds;
           shown = s.shows.shown;
           wire = put-wire w m.slots slots key (Some (Delivery to x)) None s.shows.wire puts;
           started = ap (λ k. k + 1) s.shows.started;
           outside = let other : (0 == to) ≡ false = grind (arith, nat_tests) in rw other s.shows.outside;
-          trims = s.shows.trims;
         })
         refl
       where
-        kept : (new : TheMachine) (p d : ℕ) → log_at new p ≡ log_at m p → Keeps (queue_of d (log_at m p)) (sent w p d) (w.numbers p d) → Keeps (queue_of d (log_at new p)) (sent (begin w key to x) p d) (w.numbers p d)
-        kept new p d e k = subst (λ xs. Keeps (queue_of d (log_at new p)) xs (w.numbers p d)) (sym (sent-begun p d)) (subst (λ l. Keeps (queue_of d l) (sent w p d) (w.numbers p d)) (sym e) k)
+        -- one that isn't down then wasn't down before
+        not-down : (p : ℕ) → is_down (if p == to then Busy x else w.phase p) ≡ false → is_down (w.phase p) ≡ false
+        not-down p = by_number (p == to) refl
+          where
+            by_number : (b : Bool) → (p == to) ≡ b → is_down (if b then Busy x else w.phase p) ≡ false → is_down (w.phase p) ≡ false
+            by_number true e back = let same : to ≡ p = grind (arith, nat_tests) in up-down (w.phase p) (ap (λ q. is_up (w.phase q)) (sym same) ∙ up)
+            by_number false e back = back
+
+        kept : (new : TheMachine) (p d : ℕ) → log_at new p ≡ log_at m p → Keeps (queue_of d (log_at m p)) (w.trims p d) (sent w p d) (w.numbers p d) → Keeps (queue_of d (log_at new p)) (w.trims p d) (sent (begin w key to x) p d) (w.numbers p d)
+        kept new p d e k = subst (λ xs. Keeps (queue_of d (log_at new p)) (w.trims p d) xs (w.numbers p d)) (sym (sent-begun p d)) (subst (λ l. Keeps (queue_of d l) (w.trims p d) (sent w p d) (w.numbers p d)) (sym e) k)
 
         next : IsNextAfter (w.history to) (Some x)
         next = nexted to positive verdict
@@ -182,12 +221,12 @@ module _ (m : TheMachine) (w : World) (s : Stands m w) (room key calls : ℕ) (x
         process = s.shows.process;
         logs = s.shows.logs;
         gates = s.shows.gates;
+        shut = s.shows.shut;
         feeds = s.shows.feeds;
         shown = ap (λ xs. xs ++ x ∷ []) s.shows.shown;
         wire = put-wire w m.slots slots key (Some (Delivery 0 x)) None s.shows.wire puts;
         started = s.shows.started;
         outside = s.shows.outside;
-        trims = s.shows.trims;
       })
       refl
 
@@ -197,31 +236,29 @@ module _ (m : TheMachine) (w : World) (s : Stands m w) (room key calls : ℕ) (x
 -- A number that arrives at the sender of its message
 
 -- a queue with a number more keeps it
-module _ (q : TheQueue) (xs : List (List ℕ)) (numbers : ℕ → Option ℕ) (i k : ℕ) (kept : Keeps q xs numbers) (logged : is_logged i q ≡ true) where
-  here : (0 < i) × (i ≤ length q.numbers)
-  here = let at : (nat_le 1 i && nat_lt (i - 1) (length xs)) ≡ true = rw (kept.first, kept.payloads_are) at logged in (grind (arith, nat_tests), grind (arith, nat_tests, kept.as_many))
+module _ (q : TheQueue) (dropped : ℕ) (xs : List (List ℕ)) (numbers : ℕ → Option ℕ) (i k : ℕ) (kept : Keeps q dropped xs numbers) (logged : is_logged i q ≡ true) where
+  here : (dropped < i) × (i - q.first < length q.payloads)
+  here = let from : q.first ≤ i = grind (arith, nat_tests) in (omega (arith, from, kept.first), grind (arith, nat_tests))
 
-  place : i - q.first ≡ i - 1
-  place = ap (λ f. i - f) kept.first
-
-  number_at : (j : ℕ) → j < length xs → (b : Bool) → (suc j == i) ≡ b → slice_index_or (set q.numbers (i - 1) (Some k)) j None ≡ (if b then Some k else numbers (suc j))
+  number_at : (j : ℕ) → j < length q.payloads → (b : Bool) → (suc (dropped + j) == i) ≡ b → slice_index_or (set q.numbers (i - q.first) (Some k)) j None ≡ (if b then Some k else numbers (suc (dropped + j)))
   number_at j h true e =
-      let same : j ≡ i - 1 = grind (arith, nat_tests) in
-      let h1 = here.0 in
-      let h2 = here.1 in
-      ap (λ p. slice_index_or (set q.numbers (i - 1) (Some k)) p None) same ∙ get_or-set_same q.numbers (i - 1) (Some k) None (omega (arith, h1, h2))
+      let at : suc (dropped + j) ≡ i = grind (arith, nat_tests) in
+      let same : j ≡ i - q.first = omega (arith, at, kept.first) in
+      let inside = here.1 in
+      ap (λ p. slice_index_or (set q.numbers (i - q.first) (Some k)) p None) same ∙ get_or-set_same q.numbers (i - q.first) (Some k) None (omega (arith, inside, kept.as_many))
   number_at j h false e =
-      let h1 = here.0 in
-      let apart : j ≢ i - 1 = grind (arith, nat_tests, h1) in
-      get_or-set_other q.numbers (i - 1) j (Some k) None apart ∙ kept.numbers_are j h
+      let away : suc (dropped + j) ≢ i = grind (arith, nat_tests) in
+      let above = here.0 in
+      let apart : j ≢ i - q.first = λ f. away (omega (arith, f, kept.first, above)) in
+      get_or-set_other q.numbers (i - q.first) j (Some k) None apart ∙ kept.numbers_are j h
 
-  pub keeps-recorded : Keeps (recorded i k q) xs (put numbers i (Some k))
+  pub keeps-recorded : Keeps (recorded i k q) dropped xs (put numbers i (Some k))
   keeps-recorded =
       record {
         first = kept.first;
-        payloads_are = kept.payloads_are;
+        rest = kept.rest;
         as_many = length-set q.numbers (i - q.first) (Some k) ∙ kept.as_many;
-        numbers_are = λ j h. ap (λ p. slice_index_or (set q.numbers p (Some k)) j None) place ∙ number_at j h (suc j == i) refl;
+        numbers_are = λ j h. number_at j h (suc (dropped + j) == i) refl;
       }
 
 -- the log has a queue for what it keeps
@@ -235,16 +272,19 @@ queue-inside l d i logged = by_width (nat_lt d (length l.queues)) refl
         let empty : is_logged i no_queue ≡ true = rw none at logged in
         absurd (grind (arith, nat_tests))
 
-module _ (m : TheMachine) (w : World) (s : Stands m w) (room key r t i k incarnation calls : ℕ) (slots : List (Option Packet)) (accepted : refusal_of w room (Arrive key) ≡ None) (found : slice_index_or m.slots key None ≡ Some (Number r t i k incarnation)) (inside : 0 < r) (within : r ≤ length m.processes) (from : t ≤ length m.processes) (apart : t ≢ r) where
+module _ (m : TheMachine) (w : World) (s : Stands m w) (room key r t i k incarnation calls : ℕ) (slots : List (Option Packet)) (accepted : refusal_of w room (Arrive key) ≡ None) (found : slice_index_or m.slots key None ≡ Some (Number r t i k incarnation)) (inside : 0 < r) (within : r ≤ length m.processes) (from : t ≤ length m.processes) (apart : t ≢ r) (live : is_up_at m t ≡ true) where
+  sender_up : is_up (w.phase t) ≡ true
+  sender_up = up_at m w s t from live
+
   present : w.incarnation r ≡ (process_at m r).incarnation
   present = (at_process m w s r inside within).incarnation_is
 
   entry : is_entry w t r i ≡ is_logged i (queue_of r (log_at m t))
-  entry = entry_at m w s t r from within apart i
+  entry = entry_at m w s t r from within apart (up-down (w.phase t) sender_up) i
 
   module _ (puts : Puts m.slots slots key (Some (Number r t i k incarnation)) None) where
     stale : (b : Bool) → ((incarnation == w.incarnation r) && is_entry w t r i) ≡ b → b ≡ false → Steps m (record m { slots = slots; calls = calls }) room (Arrive key) Stale w
-    stale b is e = arrives m w s room key accepted (Number r t i k incarnation) found (up_at m w s t from) _ Stale (rw (is ∙ e) refl) (dropped m w s key calls slots (Some (Number r t i k incarnation)) puts) refl
+    stale b is e = arrives m w s room key accepted (Number r t i k incarnation) found sender_up _ Stale (rw (is ∙ e) refl) (dropped m w s key calls slots (Some (Number r t i k incarnation)) puts) refl
 
     pub number-past : incarnation ≢ (process_at m r).incarnation → Steps m (record m { slots = slots; calls = calls }) room (Arrive key) Stale w
     number-past other = let e : (incarnation == (process_at m r).incarnation) ≡ false = grind (arith, nat_tests) in stale _ (rw (present, e) refl) refl
@@ -261,32 +301,32 @@ module _ (m : TheMachine) (w : World) (s : Stands m w) (room key r t i k incarna
     abbrev pub l : TheLog
     l = numbered (log_at m t) r i k
 
-    kept-in : (d : ℕ) → d ≤ length m.processes → t ≢ d → (b : Bool) → (d == r) ≡ b → Keeps (queue_of d l) (sent w t d) (if b then put (w.numbers t r) i (Some k) else w.numbers t d)
+    kept-in : (d : ℕ) → d ≤ length m.processes → t ≢ d → (b : Bool) → (d == r) ≡ b → Keeps (queue_of d l) (w.trims t d) (sent w t d) (if b then put (w.numbers t r) i (Some k) else w.numbers t d)
     kept-in d to other true e =
         let same : d ≡ r = grind (arith, nat_tests) in
         let is : queue_of r l ≡ recorded i k (queue_of r (log_at m t)) = get_or-set_same (log_at m t).queues r (recorded i k (queue_of r (log_at m t))) no_queue (queue-inside (log_at m t) r i logged) in
-        let now : Keeps (queue_of r l) (sent w t r) (put (w.numbers t r) i (Some k)) = subst (λ q. Keeps q (sent w t r) (put (w.numbers t r) i (Some k))) (sym is) (keeps-recorded (queue_of r (log_at m t)) (sent w t r) (w.numbers t r) i k (s.shows.logs t r from within apart) logged) in
-        subst (λ p. Keeps (queue_of p l) (sent w t p) (put (w.numbers t r) i (Some k))) (sym same) now
+        let now : Keeps (queue_of r l) (w.trims t r) (sent w t r) (put (w.numbers t r) i (Some k)) = subst (λ q. Keeps q (w.trims t r) (sent w t r) (put (w.numbers t r) i (Some k))) (sym is) (keeps-recorded (queue_of r (log_at m t)) (w.trims t r) (sent w t r) (w.numbers t r) i k (s.shows.logs t r from within apart (up-down (w.phase t) sender_up)) logged) in
+        subst (λ p. Keeps (queue_of p l) (w.trims t p) (sent w t p) (put (w.numbers t r) i (Some k))) (sym same) now
     kept-in d to other false e =
         let away : d ≢ r = grind (arith, nat_tests) in
         let is : queue_of d l ≡ queue_of d (log_at m t) = get_or-set_other (log_at m t).queues r d (recorded i k (queue_of r (log_at m t))) no_queue away in
-        subst (λ q. Keeps q (sent w t d) (w.numbers t d)) (sym is) (s.shows.logs t d from to other)
+        subst (λ q. Keeps q (w.trims t d) (sent w t d) (w.numbers t d)) (sym is) (s.shows.logs t d from to other (up-down (w.phase t) sender_up))
 
-    kept-at : (p d : ℕ) → p ≤ length m.processes → d ≤ length m.processes → p ≢ d → (b : Bool) → (p == t) ≡ b → Keeps (queue_of d (if b then l else log_at m p)) (sent w p d) ((if b then put (w.numbers t) r (put (w.numbers t r) i (Some k)) else w.numbers p) d)
-    kept-at p d h to other true e =
+    kept-at : (p d : ℕ) → p ≤ length m.processes → d ≤ length m.processes → p ≢ d → is_down (w.phase p) ≡ false → (b : Bool) → (p == t) ≡ b → Keeps (queue_of d (if b then l else log_at m p)) (w.trims p d) (sent w p d) ((if b then put (w.numbers t) r (put (w.numbers t r) i (Some k)) else w.numbers p) d)
+    kept-at p d h to other back true e =
         let same : t ≡ p = grind (arith, nat_tests) in
-        let F : ℕ → Type 0 = λ q. q ≢ d → Keeps (queue_of d l) (sent w q d) (put (w.numbers t) r (put (w.numbers t r) i (Some k)) d) in
+        let F : ℕ → Type 0 = λ q. q ≢ d → Keeps (queue_of d l) (w.trims q d) (sent w q d) (put (w.numbers t) r (put (w.numbers t r) i (Some k)) d) in
         subst F same (λ a. kept-in d to a (d == r) refl) other
-    kept-at p d h to other false e = s.shows.logs p d h to other
+    kept-at p d h to other back false e = s.shows.logs p d h to other back
 
-    kept : (new : TheMachine) → ((p : ℕ) → log_at new p ≡ (if p == t then l else log_at m p)) → (p d : ℕ) → p ≤ length m.processes → d ≤ length m.processes → p ≢ d → Keeps (queue_of d (log_at new p)) (sent w p d) (written w t r i k p d)
-    kept new logs p d h to other = subst (λ z. Keeps (queue_of d z) (sent w p d) (written w t r i k p d)) (sym (logs p)) (kept-at p d h to other (p == t) refl)
+    kept : (new : TheMachine) → ((p : ℕ) → log_at new p ≡ (if p == t then l else log_at m p)) → (p d : ℕ) → p ≤ length m.processes → d ≤ length m.processes → p ≢ d → is_down (w.phase p) ≡ false → Keeps (queue_of d (log_at new p)) (w.trims p d) (sent w p d) (written w t r i k p d)
+    kept new logs p d h to other back = subst (λ z. Keeps (queue_of d z) (w.trims p d) (sent w p d) (written w t r i k p d)) (sym (logs p)) (kept-at p d h to other back (p == t) refl)
 
     good : ((incarnation == w.incarnation r) && is_entry w t r i) ≡ true
     good = let e : (incarnation == (process_at m r).incarnation) ≡ true = grind (arith, nat_tests) in rw (present, e, entry, logged) refl
 
     notes : (new : TheMachine) → Shows new (note w key r t i k incarnation key) → new.images ≡ m.images → Steps m new room (Arrive key) (Numbered key) w
-    notes new shows images = arrives m w s room key accepted (Number r t i k incarnation) found (up_at m w s t from) new (Numbered key) (rw good (key, (rw wire-is low, vacated w key), refl)) shows images
+    notes new shows images = arrives m w s room key accepted (Number r t i k incarnation) found sender_up new (Numbered key) (rw good (key, (rw wire-is low, vacated w key), refl)) shows images
 
     wire : (j : ℕ) → put (put w.wire key None) key (Some (Acknowledgement t r k incarnation)) j ≡ slice_index_or slots j None
     wire j = replaced m w s key calls slots (Some (Number r t i k incarnation)) (Acknowledgement t r k incarnation) puts j
@@ -302,12 +342,12 @@ module _ (m : TheMachine) (w : World) (s : Stands m w) (room key r t i k incarna
           process = s.shows.process;
           logs = kept new (λ p. log_is p (p == 0) refl);
           gates = s.shows.gates;
+          shut = s.shows.shut;
           feeds = s.shows.feeds;
           shown = s.shows.shown;
           wire = wire;
           started = s.shows.started;
           outside = s.shows.outside;
-          trims = s.shows.trims;
         })
         refl
       where
@@ -323,23 +363,34 @@ module _ (m : TheMachine) (w : World) (s : Stands m w) (room key r t i k incarna
         let len = length-set m.processes (t - 1) y in
         let back : suc (t - 1) ≡ t = omega arith in
         let before = at_process m w s t some from in
-        let P : ℕ → Bool → TheProcess → Type 0 = λ p b z. StandsAt z (w.handlers.state (suc p)) (w.history (suc p)) (w.phase (suc p)) (w.incarnation (suc p)) (w.acknowledged (suc p)) in
-        let now : StandsAt y (w.handlers.state t) (w.history t) (w.phase t) (w.incarnation t) (w.acknowledged t) =
-        record { state_is = before.state_is; senders = before.senders; flags = before.flags; acknowledged_is = before.acknowledged_is; in_order = before.in_order; phase_is = before.phase_is; next = before.next; incarnation_is = before.incarnation_is } in
+        let P : ℕ → Bool → TheProcess → Type 0 = λ p b z. Stood m w (suc p) (w.history (suc p)) (w.phase (suc p)) (w.acknowledged (suc p)) z in
+        let now : Stood m w t (w.history t) (w.phase t) (w.acknowledged t) y =
+        record {
+          state_is = before.state_is;
+          gone = λ lost. absurd (true≢false (sym lost ∙ live-lost y.stage (is_live-at m t some live)));
+          senders = before.senders;
+          flags = before.flags;
+          acknowledged_is = before.acknowledged_is;
+          in_order = before.in_order;
+          phase_is = before.phase_is;
+          works = before.works;
+          incarnation_is = before.incarnation_is;
+          saves = before.saves;
+        } in
         let there : P (t - 1) true y = rw back now in
         notes new
         (record {
           count = s.shows.count ∙ sym len;
           handlers = s.shows.handlers;
-          process = set-is P m.processes t y some from there s.shows.process;
+          process = λ p d h. rw len (set-is P m.processes t y some from there s.shows.process p d h);
           logs = λ p d h h2. kept new (λ q. log_is q (process_at new q) (q == 0) refl (at-set m t y some from (λ j b z. z.outbox.log ≡ (if b then l else (process_at m j).outbox.log)) refl (λ j a. refl) q)) p d (omega (arith, len, h)) (omega (arith, len, h2));
-          gates = λ p d h k to_d other. at-set m t y some from (λ q b z. q ≤ length m.processes → q ≢ d → Holds d z.outbox.gate (run_of w q) (length (w.history q)) (w.released q d) (sent_by w q d)) (λ a. s.shows.gates t d some a (omega (arith, len, to_d))) (λ q b a. s.shows.gates q d b a (omega (arith, len, to_d))) p h (omega (arith, len, k)) other;
+          gates = λ p d h k to_d other. at-set m t y some from (λ q b z. q ≤ length m.processes → q ≢ d → is_up (w.phase q) ≡ true → Holds d z.outbox.gate (run_of w q) (length (w.history q)) (w.released q d) (sent_by w q d)) (λ a. s.shows.gates t d some a (omega (arith, len, to_d))) (λ q b a. s.shows.gates q d b a (omega (arith, len, to_d))) p h (omega (arith, len, k)) other;
+          shut = λ p d h k. at-set m t y some from (λ q b z. q ≤ length m.processes → is_up (w.phase q) ≡ false → slice_index_or z.outbox.gate.released d 0 ≡ 0) (s.shows.shut t d some) (λ q b. s.shows.shut q d b) p h (omega (arith, len, k));
           feeds = s.shows.feeds;
           shown = s.shows.shown;
           wire = wire;
           started = s.shows.started;
           outside = s.shows.outside;
-          trims = s.shows.trims;
         })
         refl
       where
@@ -368,15 +419,18 @@ records-else old new t r i k records = by_sender (t == 0) records
 pub acknowledges-is : (k : ℕ) (x y : TheProcess) → Acknowledges k x y → y ≡ record x { receipts = rsn.acknowledged k x.receipts; outbox = record x.outbox { gate = y.outbox.gate } }
 acknowledges-is k x y a = a.others ∙ ap (λ (e : rsn.Received). record x { receipts = e; outbox = record x.outbox { gate = y.outbox.gate } }) a.receipts
 
-module _ (m : TheMachine) (w : World) (s : Stands m w) (room key t r k incarnation calls : ℕ) (slots : List (Option Packet)) (accepted : refusal_of w room (Arrive key) ≡ None) (found : slice_index_or m.slots key None ≡ Some (Acknowledgement t r k incarnation)) (inside : 0 < r) (within : r ≤ length m.processes) (puts : Puts m.slots slots key (Some (Acknowledgement t r k incarnation)) None) where
-  receiver : StandsAt (process_at m r) (w.handlers.state r) (w.history r) (w.phase r) (w.incarnation r) (w.acknowledged r)
+module _ (m : TheMachine) (w : World) (s : Stands m w) (room key t r k incarnation calls : ℕ) (slots : List (Option Packet)) (accepted : refusal_of w room (Arrive key) ≡ None) (found : slice_index_or m.slots key None ≡ Some (Acknowledgement t r k incarnation)) (inside : 0 < r) (within : r ≤ length m.processes) (live : is_up_at m r ≡ true) (puts : Puts m.slots slots key (Some (Acknowledgement t r k incarnation)) None) where
+  receiver : Stood m w r (w.history r) (w.phase r) (w.acknowledged r) (process_at m r)
   receiver = at_process m w s r inside within
 
   running : is_up (w.phase r) ≡ true
-  running = up_at m w s r within
+  running = up_at m w s r within live
+
+  stage : is_live (process_at m r).stage ≡ true
+  stage = is_live-at m r inside live
 
   as_long : received (process_at m r) ≡ length (w.history r)
-  as_long = ap length receiver.senders ∙ length-map (w.history r) (λ (x : Message). x.sender)
+  as_long = ap length receiver.senders ∙ length-map (held_by (process_at m r).stage (w.saved r) (w.history r)) (λ (x : Message). x.sender) ∙ ap length (held-live (process_at m r).stage (w.saved r) (w.history r) stage)
 
   in_state : length_of w r ≡ received (process_at m r)
   in_state = up-length (w.phase r) running (w.history r) (w.saved r) ∙ sym as_long
@@ -399,21 +453,32 @@ module _ (m : TheMachine) (w : World) (s : Stands m w) (room key t r k incarnati
     among = omega (arith, known, as_long)
 
     flags_are : (j : ℕ) → j < length (w.history r) → slice_index_or (set (process_at m r).receipts.acknowledged (k - 1) true) j false ≡ put (w.acknowledged r) k true (suc j)
-    flags_are = flags-set (process_at m r).receipts.acknowledged (w.acknowledged r) (length (w.history r)) k receiver.flags first among receiver.acknowledged_is
+    flags_are = flags-set (process_at m r).receipts.acknowledged (w.acknowledged r) (length (w.history r)) k (receiver.flags ∙ as_long) first among (λ j h. receiver.acknowledged_is j (omega (arith, h, as_long)))
 
     as_many : length (set (process_at m r).receipts.acknowledged (k - 1) true) ≡ length (w.history r)
-    as_many = length-set (process_at m r).receipts.acknowledged (k - 1) true ∙ receiver.flags
+    as_many = length-set (process_at m r).receipts.acknowledged (k - 1) true ∙ receiver.flags ∙ as_long
 
     run_is : rsn.run_of (set (process_at m r).receipts.acknowledged (k - 1) true) ≡ run_to (put (w.acknowledged r) k true) (length (w.history r))
     run_is = run_of-run_to (set (process_at m r).receipts.acknowledged (k - 1) true) (put (w.acknowledged r) k true) (length (w.history r)) as_many flags_are
 
-    acks : StandsAt y (w.handlers.state r) (w.history r) (w.phase r) (w.incarnation r) (put (w.acknowledged r) k true)
+    acks : Stood m w r (w.history r) (w.phase r) (put (w.acknowledged r) k true) y
     acks =
         let z : TheProcess = record (process_at m r) { receipts = rsn.acknowledged k (process_at m r).receipts; outbox = record (process_at m r).outbox { gate = y.outbox.gate } } in
         let is : y ≡ z = acknowledges-is k (process_at m r) y a in
-        let at : StandsAt z (w.handlers.state r) (w.history r) (w.phase r) (w.incarnation r) (put (w.acknowledged r) k true) =
-        record { state_is = receiver.state_is; senders = receiver.senders; flags = as_many; acknowledged_is = flags_are; in_order = receiver.in_order; phase_is = receiver.phase_is; next = receiver.next; incarnation_is = receiver.incarnation_is } in
-        subst (λ v. StandsAt v (w.handlers.state r) (w.history r) (w.phase r) (w.incarnation r) (put (w.acknowledged r) k true)) (sym is) at
+        let at : Stood m w r (w.history r) (w.phase r) (put (w.acknowledged r) k true) z =
+        record {
+          state_is = receiver.state_is;
+          gone = λ lost. absurd (true≢false (sym lost ∙ live-lost z.stage stage));
+          senders = receiver.senders;
+          flags = as_many ∙ sym as_long;
+          acknowledged_is = λ j h. flags_are j (omega (arith, h, as_long));
+          in_order = receiver.in_order;
+          phase_is = receiver.phase_is;
+          works = receiver.works;
+          incarnation_is = receiver.incarnation_is;
+          saves = receiver.saves;
+        } in
+        subst (Stood m w r (w.history r) (w.phase r) (put (w.acknowledged r) k true)) (sym is) at
 
     more : run_of w r ≤ run_to (put (w.acknowledged r) k true) (length (w.history r))
     more = run_to-more (w.acknowledged r) (put (w.acknowledged r) k true) (length (w.history r)) (choose k (λ i c. w.acknowledged r i ≡ true → (if c then true else w.acknowledged r i) ≡ true) (λ e. refl) (λ i e f. f))
@@ -421,7 +486,7 @@ module _ (m : TheMachine) (w : World) (s : Stands m w) (room key t r k incarnati
     holds : (d : ℕ) → d ≤ length m.processes → r ≢ d → Holds d y.outbox.gate (run_to (put (w.acknowledged r) k true) (length (w.history r))) (length (w.history r)) (max (w.released r d) (length (payloads w r (take (run_to (put (w.acknowledged r) k true) (length (w.history r))) (w.history r)) d))) (sent_by w r d)
     holds d to other =
         let e : (r == 0) ≡ false = grind (arith, nat_tests) in
-        rw e (holds-released (gate_at m r) y.outbox.gate d (run_of w r) (run_to (put (w.acknowledged r) k true) (length (w.history r))) (length (w.history r)) (w.released r d) (sent_by w r d) (omega (arith, few, to)) more (run_to-is (put (w.acknowledged r) k true) (length (w.history r))).0 (s.shows.gates r d inside within to other) (subst (λ n. Releases n (gate_at m r) y.outbox.gate) run_is a.releases))
+        rw e (holds-released (gate_at m r) y.outbox.gate d (run_of w r) (run_to (put (w.acknowledged r) k true) (length (w.history r))) (length (w.history r)) (w.released r d) (sent_by w r d) (omega (arith, few, to)) more (run_to-is (put (w.acknowledged r) k true) (length (w.history r))).0 (s.shows.gates r d inside within to other running) (subst (λ n. Releases n (gate_at m r) y.outbox.gate) run_is a.releases))
 
     fresh : ((incarnation == w.incarnation r) && nat_le k (length_of w r)) ≡ true
     fresh =
@@ -434,23 +499,23 @@ module _ (m : TheMachine) (w : World) (s : Stands m w) (room key t r k incarnati
         let new : TheMachine = record m { processes = set m.processes (r - 1) y; slots = slots; calls = calls } in
         let len = length-set m.processes (r - 1) y in
         let back : suc (r - 1) ≡ r = omega arith in
-        let P : ℕ → Bool → TheProcess → Type 0 = λ p b z. StandsAt z (w.handlers.state (suc p)) (w.history (suc p)) (w.phase (suc p)) (w.incarnation (suc p)) (if b then put (w.acknowledged r) k true else w.acknowledged (suc p)) in
+        let P : ℕ → Bool → TheProcess → Type 0 = λ p b z. Stood m w (suc p) (w.history (suc p)) (w.phase (suc p)) (if b then put (w.acknowledged r) k true else w.acknowledged (suc p)) z in
         let there : P (r - 1) true y = rw back acks in
         let n : ℕ = run_to (put (w.acknowledged r) k true) (length (w.history r)) in
-        let G : ℕ → ℕ → Bool → TheProcess → Type 0 = λ d q b z. q ≤ length m.processes → q ≢ d → Holds d z.outbox.gate (run_to (if b then put (w.acknowledged r) k true else w.acknowledged q) (length (w.history q))) (length (w.history q)) ((if b then (λ d. max (w.released r d) (length (payloads w r (take n (w.history r)) d))) else w.released q) d) (sent_by w q d) in
+        let G : ℕ → ℕ → Bool → TheProcess → Type 0 = λ d q b z. q ≤ length m.processes → q ≢ d → is_up (w.phase q) ≡ true → Holds d z.outbox.gate (run_to (if b then put (w.acknowledged r) k true else w.acknowledged q) (length (w.history q))) (length (w.history q)) ((if b then (λ d. max (w.released r d) (length (payloads w r (take n (w.history r)) d))) else w.released q) d) (sent_by w q d) in
         let same_log : y.outbox.log ≡ (process_at m r).outbox.log = ap (λ (v : TheProcess). v.outbox.log) a.others in
         arrives m w s room key accepted (Acknowledgement t r k incarnation) found running new Acknowledged (rw fresh refl)
         (record {
           count = s.shows.count ∙ sym len;
           handlers = s.shows.handlers;
-          process = set-is P m.processes r y inside within there s.shows.process;
-          logs = λ p d h h2 apart. subst (λ l. Keeps (queue_of d l) (sent w p d) (w.numbers p d)) (sym (log-same m r y inside within new refl refl same_log p)) (s.shows.logs p d (omega (arith, len, h)) (omega (arith, len, h2)) apart);
-          gates = λ p d h h2 to apart. at-set m r y inside within (G d) (λ u other. holds d (omega (arith, len, to)) other) (λ q u v. s.shows.gates q d u v (omega (arith, len, to))) p h (omega (arith, len, h2)) apart;
+          process = λ p d h. rw len (set-is P m.processes r y inside within there s.shows.process p d h);
+          logs = λ p d h h2 apart back. subst (λ l. Keeps (queue_of d l) (w.trims p d) (sent w p d) (w.numbers p d)) (sym (log-same m r y inside within new refl refl same_log p)) (s.shows.logs p d (omega (arith, len, h)) (omega (arith, len, h2)) apart back);
+          gates = λ p d h h2 to apart. at-set m r y inside within (G d) (λ u other on. holds d (omega (arith, len, to)) other) (λ q u v. s.shows.gates q d u v (omega (arith, len, to))) p h (omega (arith, len, h2)) apart;
+          shut = λ p d h h2. at-set m r y inside within (λ q b z. q ≤ length m.processes → is_up (w.phase q) ≡ false → slice_index_or z.outbox.gate.released d 0 ≡ 0) (λ u off. absurd (true≢false (sym running ∙ off))) (λ q u. s.shows.shut q d u) p h (omega (arith, len, h2));
           feeds = s.shows.feeds;
           shown = s.shows.shown;
           wire = put-wire w m.slots slots key (Some (Acknowledgement t r k incarnation)) None s.shows.wire puts;
           started = s.shows.started;
           outside = s.shows.outside;
-          trims = s.shows.trims;
         })
         refl

@@ -1,5 +1,5 @@
 -- The causes of a refusal, as the machine's fields tell them
-use Rattle.std.proofs.Common.{◌≡◌, ◌≢◌, ℕ, ◌+◌, ◌-◌, ◌<◌, ◌≤◌, List, [], ◌∷◌, length, Bool, true, false, refl, sym, ap, ◌∙◌, arith}
+use Rattle.std.proofs.Common.{◌≡◌, ◌≢◌, ℕ, zero, suc, ◌+◌, ◌-◌, ◌<◌, ◌≤◌, List, [], ◌∷◌, length, Bool, true, false, refl, sym, ap, ◌∙◌, arith}
 use Rattle.std.specs.Prelude.{◌==◌, ◌&&◌, ◌||◌, not, nat_lt, nat_le, Option, Some, None, is_some, count_by, slice_index_or, option_and_then}
 use Rattle.std.proofs.lemmas.Bool.Decides.{nat_tests}
 use Rattle.sender_log.specs.Queue.{is_logged}
@@ -14,9 +14,9 @@ use Rattle.world.specs.Bounds.{is_none, open_jobs, journal_full, wire_full}
 use Rattle.world.specs.Answers.{Next, judge}
 use Rattle.world.specs.Refusals.{least, refusal_of, cause_of, is_to_busy, starts, one_if}
 use Rattle.machine.specs.Outside.{is_taken}
-use Rattle.machine.specs.Simulation.{TheMachine, Stands, log_at}
-use Rattle.machine.specs.Sending.{busy, placing, released_at}
-use Rattle.machine.proofs.Standing.{wire-is, jobs, live, packets-is, up_at, down_at, entry_at, released_is, released_sent}
+use Rattle.machine.specs.Simulation.{TheMachine, Stands, log_at, is_up_at}
+use Rattle.machine.specs.Sending.{busy, live, placing, released_at}
+use Rattle.machine.proofs.Standing.{wire-is, jobs, live-is, packets-is, up_is, up_at, down_at, entry_at, released_is, released_sent}
 
 -- An input
 
@@ -44,21 +44,21 @@ module _ (m : TheMachine) (w : World) (s : Stands m w) (room d feed : ℕ) (x : 
 -- A place for one packet more
 
 module _ (m : TheMachine) (w : World) (s : Stands m w) (room : ℕ) (keys : (key : ℕ) → 4096 ≤ key → slice_index_or m.slots key None ≡ None) where
-  by_fields : (full crowded : Bool) → nat_le room (busy m) ≡ full → nat_le (4096 - busy m) (count_by is_some m.slots) ≡ crowded
-      → least ((nat_lt room (busy m + 1), 12) ∷ (nat_lt 4096 (count_by is_some m.slots + busy m + 1), 13) ∷ []) ≡ option_and_then cause_of (placing m room)
+  by_fields : (full crowded : Bool) → nat_le room (busy m) ≡ full → nat_le (4096 - live m) (count_by is_some m.slots) ≡ crowded
+      → least ((nat_lt room (busy m + 1), 12) ∷ (nat_lt 4096 (count_by is_some m.slots + live m + 1), 13) ∷ []) ≡ option_and_then cause_of (placing m room)
   by_fields true b e f = let late : nat_lt room (busy m + 1) ≡ true = grind (arith, nat_tests) in rw (e, late) refl
   by_fields false true e f =
       let early : nat_lt room (busy m + 1) ≡ false = grind (arith, nat_tests) in
-      let many : nat_lt 4096 (count_by is_some m.slots + busy m + 1) ≡ true = grind (arith, nat_tests) in
+      let many : nat_lt 4096 (count_by is_some m.slots + live m + 1) ≡ true = grind (arith, nat_tests) in
       rw (e, f, early, many) refl
   by_fields false false e f =
       let early : nat_lt room (busy m + 1) ≡ false = grind (arith, nat_tests) in
-      let few : nat_lt 4096 (count_by is_some m.slots + busy m + 1) ≡ false = grind (arith, nat_tests) in
+      let few : nat_lt 4096 (count_by is_some m.slots + live m + 1) ≡ false = grind (arith, nat_tests) in
       rw (e, f, early, few) refl
 
   -- what the world says of a place is what the fields say
   pub place-is : least ((journal_full room (open_jobs w), 12) ∷ (wire_full w, 13) ∷ []) ≡ option_and_then cause_of (placing m room)
-  place-is = rw (jobs m w s, live m w s, packets-is m w s keys, wire-is) (by_fields (nat_le room (busy m)) (nat_le (4096 - busy m) (count_by is_some m.slots)) refl refl)
+  place-is = rw (jobs m w s, live-is m w s, packets-is m w s keys, wire-is) (by_fields (nat_le room (busy m)) (nat_le (4096 - live m) (count_by is_some m.slots)) refl refl)
 
 -- A message that is to leave
 
@@ -70,51 +70,39 @@ module _ (m : TheMachine) (w : World) (s : Stands m w) (room p d i : ℕ) where
     inside : (nat_lt (length m.processes) p || nat_lt (length m.processes) d) ≡ false
     inside = grind (arith, nat_tests)
 
-    pub transmit-same : p ≡ d → refusal_of w room (Transmit p d i) ≡ Some 5
-    transmit-same e = let same : (p == d) ≡ true = grind (arith, nat_tests) in rw (s.shows.count, inside, up_at m w s p within, same) refl
+    pub transmit-down : is_up_at m p ≡ false → refusal_of w room (Transmit p d i) ≡ Some 2
+    transmit-down off = rw (s.shows.count, inside, up_is m w s p within, off) refl
 
-    module _ (apart : p ≢ d) where
-      other : (p == d) ≡ false
-      other = grind (arith, nat_tests)
+    module _ (up : is_up_at m p ≡ true) where
+      pub transmit-same : p ≡ d → refusal_of w room (Transmit p d i) ≡ Some 5
+      transmit-same e = let same : (p == d) ≡ true = grind (arith, nat_tests) in rw (s.shows.count, inside, up_at m w s p within up, same) refl
 
-      released : released_to w p d ≡ released_at m p d
-      released = released_is m w s p d within to apart
+      module _ (apart : p ≢ d) where
+        other : (p == d) ≡ false
+        other = grind (arith, nat_tests)
 
-      rest : refusal_of w room (Transmit p d i) ≡ least ((nat_lt (released_at m p d) i, 6) ∷ (not (is_entry w p d i), 7) ∷ (journal_full room (open_jobs w), 12) ∷ (wire_full w, 13) ∷ [])
-      rest = rw (s.shows.count, inside, up_at m w s p within, other, released) refl
+        released : released_to w p d ≡ released_at m p d
+        released = released_is m w s p d within to apart up
 
-      pub transmit-early : released_at m p d < i → refusal_of w room (Transmit p d i) ≡ Some 6
-      transmit-early above = let late : nat_lt (released_at m p d) i ≡ true = grind (arith, nat_tests) in rest ∙ rw late refl
+        rest : refusal_of w room (Transmit p d i) ≡ least ((nat_lt (released_at m p d) i, 6) ∷ (not (is_entry w p d i), 7) ∷ (journal_full room (open_jobs w), 12) ∷ (wire_full w, 13) ∷ [])
+        rest = rw (s.shows.count, inside, up_at m w s p within up, other, released) refl
 
-      module _ (among : i ≤ released_at m p d) where
-        out : nat_lt (released_at m p d) i ≡ false
-        out = grind (arith, nat_tests)
+        pub transmit-early : released_at m p d < i → refusal_of w room (Transmit p d i) ≡ Some 6
+        transmit-early above = let late : nat_lt (released_at m p d) i ≡ true = grind (arith, nat_tests) in rest ∙ rw late refl
 
-        pub transmit-nothing : i ≡ 0 → refusal_of w room (Transmit p d i) ≡ Some 7
-        transmit-nothing none =
-            let below : nat_lt 0 i ≡ false = grind (arith, nat_tests) in
-            let entry : is_entry w p d i ≡ false = rw (down_at m w s p within, s.shows.trims p d, below) refl in
-            rest ∙ rw (out, entry) refl
+        module _ (among : i ≤ released_at m p d) where
+          out : nat_lt (released_at m p d) i ≡ false
+          out = grind (arith, nat_tests)
 
-        -- what is released was logged
-        pub released-entry : 0 < i → is_entry w p d i ≡ true
-        released-entry first =
-            let below : i ≤ length (sent w p d) = omega (arith, among, released, released_sent m w s p d within to apart) in
-            let above : nat_lt 0 i ≡ true = grind (arith, nat_tests) in
-            let there : nat_le i (length (sent w p d)) ≡ true = grind (arith, nat_tests) in
-            rw (down_at m w s p within, s.shows.trims p d, above, there) refl
+          pub transmit-nothing : (0 < i → is_logged i (queue_of d (log_at m p)) ≡ false) → refusal_of w room (Transmit p d i) ≡ Some 7
+          transmit-nothing none = rest ∙ rw (out, missing i none) refl
+            where
+              missing : (j : ℕ) → (0 < j → is_logged j (queue_of d (log_at m p)) ≡ false) → is_entry w p d j ≡ false
+              missing zero n = let below : nat_lt (w.trims p d) 0 ≡ false = grind (arith, nat_tests) in rw (down_at m w s p within up, below) refl
+              missing (suc j) n = entry_at m w s p d within to apart (down_at m w s p within up) (suc j) ∙ n (omega arith)
 
-        pub released-logged : 0 < i → is_logged i (queue_of d (log_at m p)) ≡ true
-        released-logged first = sym (entry_at m w s p d within to apart i) ∙ released-entry first
-
-        pub transmit-rest : 0 < i → ((key : ℕ) → 4096 ≤ key → slice_index_or m.slots key None ≡ None) → refusal_of w room (Transmit p d i) ≡ option_and_then cause_of (placing m room)
-        transmit-rest first keys = rest ∙ rw (out, released-entry first) (place-is m w s room keys)
-
--- the next message for a process starts a job
-pub starts-next : (m : TheMachine) (w : World) → Stands m w → (to : ℕ) (x : Message) → 0 < to → to ≤ length m.processes → judge w to x ≡ Next → starts w (Some (Delivery to x)) ≡ true
-starts-next m w s to x inside within next =
-    let here : nat_lt 0 to ≡ true = grind (arith, nat_tests) in
-    rw (here, up_at m w s to within, next) refl
+          pub transmit-rest : is_logged i (queue_of d (log_at m p)) ≡ true → ((key : ℕ) → 4096 ≤ key → slice_index_or m.slots key None ≡ None) → refusal_of w room (Transmit p d i) ≡ option_and_then cause_of (placing m room)
+          transmit-rest logged keys = rest ∙ rw (out, entry_at m w s p d within to apart (down_at m w s p within up) i ∙ logged) (place-is m w s room keys)
 
 -- What lies under a key
 

@@ -1,36 +1,51 @@
 -- Open jobs, as the fields and as the worlds tell them
-use Rattle.std.proofs.Common.{◌≡◌, ℕ, zero, suc, ◌+◌, ◌-◌, ◌<◌, ◌≤◌, List, length, refl, sym, ap, ◌∙◌, subst, arith}
-use Rattle.std.specs.Prelude.{Option, Some, None, slice_index_or}
+use Rattle.std.proofs.Common.{◌≡◌, ℕ, zero, suc, ◌+◌, ◌-◌, ◌<◌, ◌≤◌, List, [], ◌∷◌, ◌++◌, length, take, false, refl, sym, ap, ◌∙◌, subst, arith}
+use Rattle.std.specs.Prelude.{Option, Some, None, slice_get, slice_index_or}
 use Rattle.std.proofs.lemmas.Bool.Decides.{nat_tests}
-use Rattle.std.proofs.lemmas.List.{get_or-set_same, length-set, length-map, take_all}
+use Rattle.std.proofs.lemmas.List.{get_or-set_same, length-set}
 use Rattle.std.proofs.lemmas.Option.{slice_get-get_or}
+use Rattle.decode.specs.declared.insn.Insn.{Insn}
 use Rattle.helpers.specs.declared.effects.Who.{Who}
 use Rattle.verifier.specs.Typed.{Typed}
 use Rattle.replay.specs.Task.{TheTask}
+use Rattle.theorems.proofs.ListLemmas.{nth-within, take-length}
 use Rattle.world.specs.declared.message.Message.{Message}
 use Rattle.world.specs.declared.packet.Packet.{Packet}
 use Rattle.world.specs.History.{nth}
-use Rattle.world.specs.Phases.{Busy}
 use Rattle.world.specs.World.{World}
 use Rattle.world.specs.Logs.{length_of, state_of, open_in, open_message}
 use Rattle.machine.specs.Process.{TheProcess, idle_process, received}
-use Rattle.machine.specs.Simulation.{TheMachine, StandsAt, Stands, process_at, phase_of}
+use Rattle.machine.specs.Simulation.{TheMachine, StandsAt, Stands, process_at}
+use Rattle.machine.specs.Stage.{is_lost, phase_of, MayWork}
+use Rattle.machine.specs.declared.stage.Stage.{Stage}
+use Rattle.machine.specs.declared.stage.Stage.TheVariants as stages
 use Rattle.machine.specs.Jobs.{Begins, Matches}
-use Rattle.machine.specs.Arrival.{HasCode, IsOpen}
-use Rattle.machine.proofs.Standing.{at_process}
+use Rattle.machine.specs.Arrival.{HasCode, HasForm, IsOpen}
+use Rattle.machine.proofs.Standing.{at_process, down_is}
+use Rattle.machine.proofs.Readings.{length-back, state-back}
 
-open_in-phase_of : (h : List Message) (saved : ℕ) (o : Option Message) → open_in h saved (phase_of o) ≡ o
-open_in-phase_of h saved None = refl
-open_in-phase_of h saved (Some m) = refl
+-- the elements of the second list follow those of the first
+pub slice_get-behind : {X : Type 0} (xs ys : List X) (j : ℕ) → slice_get (xs ++ ys) (length xs + j) ≡ slice_get ys j
+slice_get-behind [] ys j = let e : 0 + j ≡ j = omega arith in ap (slice_get ys) e
+slice_get-behind (x ∷ xs) ys j = let e : suc (length xs) + j ≡ suc (length xs + j) = omega arith in ap (slice_get (x ∷ xs ++ ys)) e ∙ slice_get-behind xs ys j
 
-pub length_of-standing : (w : World) (p : ℕ) (o : Option Message) → w.phase p ≡ phase_of o → length_of w p ≡ length (w.history p)
-length_of-standing w p None e = rw (length_of, e) refl
-length_of-standing w p (Some m) e = rw (length_of, e) refl
+-- the message that a process in this stage works on is its open one: a replayed one is the next of its history
+open_in-phase_of : (n : ℕ) (t : Stage) (o : Option Message) (saved : ℕ) (h : List Message) → saved ≤ length h → MayWork t o saved h → open_in h saved (phase_of n t o) ≡ o
+open_in-phase_of n stages.Live None saved h l may = refl
+open_in-phase_of n stages.Live (Some m) saved h l may = refl
+open_in-phase_of n stages.Down o saved h l may = sym may
+open_in-phase_of n (stages.Resync peers) o saved h l may = sym may
+open_in-phase_of n (stages.Replaying plan alone) None saved h l may = refl
+open_in-phase_of n (stages.Replaying plan alone) (Some m) saved h l may =
+    let at : saved + plan.replayed + 1 ≡ suc (length (take saved h) + plan.replayed) = omega (arith, take-length h saved l) in
+    ap (nth h) at ∙ ap (λ xs. slice_get xs (length (take saved h) + plan.replayed)) (sym may.messages) ∙ slice_get-behind (take saved h) plan.messages plan.replayed ∙ may.next
 
--- a process that waits or works has its whole history in its state
-pub state_of-standing : (w : World) (p : ℕ) (o : Option Message) → w.phase p ≡ phase_of o → state_of w p ≡ w.handlers.state p (w.history p)
-state_of-standing w p None e = rw (state_of, e) (ap (w.handlers.state p) (take_all (length (w.history p)) (w.history p) (omega arith)))
-state_of-standing w p (Some m) e = rw (state_of, e) (ap (w.handlers.state p) (take_all (length (w.history p)) (w.history p) (omega arith)))
+-- a process that works isn't down
+working-back : (t : Stage) (o : Option Message) (saved : ℕ) (h : List Message) (x : Message) → MayWork t o saved h → o ≡ Some x → is_lost t ≡ false
+working-back stages.Live o saved h x may e = refl
+working-back stages.Down o saved h x may e = absurd (cc)
+working-back (stages.Replaying plan alone) o saved h x may e = refl
+working-back (stages.Resync peers) o saved h x may e = refl
 
 pub nth-inside : {X : Type 0} (xs : List X) (p : ℕ) (d : X) → 0 < p → p ≤ length xs → nth xs p ≡ Some (slice_index_or xs (p - 1) d)
 nth-inside xs zero d h k = absurd (omega arith)
@@ -38,61 +53,72 @@ nth-inside xs (suc p) d h k =
     let back : suc p - 1 ≡ p = omega arith in
     slice_get-get_or xs p d (omega arith) ∙ ap (λ q. Some (slice_index_or xs q d)) (sym back)
 
-module _ (m : TheMachine) (t : TheTask) (w : World) (s : Stands m w) (sizes : length m.images ≡ length m.processes) where
-  me : ℕ
-  me = t.who.me
+-- an image of this number is one of the images
+image-within : (images : List Typed) (p : ℕ) (code : List Insn) (o : Option Typed) → nth images p ≡ o → HasCode o code → p ≤ length images
+image-within images p code None e has = absurd has
+image-within images p code (Some x) e has = (nth-within images p x e).1
 
-  abbrev IsAt : ℕ → Type 0
-  IsAt p = StandsAt (process_at m p) (w.handlers.state p) (w.history p) (w.phase p) (w.incarnation p) (w.acknowledged p)
+module _ (m : TheMachine) (t : TheTask) (w : World) (s : Stands m w) where
+  module _ (inside : 0 < t.who.me) (within : t.who.me ≤ length m.processes) where
+    at : StandsAt (length m.processes) t.who.me (process_at m t.who.me) (w.handlers.state t.who.me) (w.handlers.sends t.who.me) (w.history t.who.me) (w.phase t.who.me) (w.incarnation t.who.me) (w.acknowledged t.who.me) (w.saved t.who.me) (w.saved_trims t.who.me)
+    at = at_process m w s t.who.me inside within
 
-  pub length_is : (p : ℕ) → IsAt p → received (process_at m p) ≡ length (w.history p)
-  length_is p at = ap length at.senders ∙ length-map (w.history p) (λ (x : Message). x.sender)
+    open_is : open_message w t.who.me ≡ (process_at m t.who.me).working
+    open_is = ap (open_in (w.history t.who.me) (w.saved t.who.me)) at.phase_is ∙ open_in-phase_of (length m.processes) (process_at m t.who.me).stage (process_at m t.who.me).working (w.saved t.who.me) (w.history t.who.me) (s.sound.saved t.who.me) at.works
 
-  open_is : (p : ℕ) → IsAt p → open_message w p ≡ (process_at m p).working
-  open_is p at = ap (open_in (w.history p) (w.saved p)) at.phase_is ∙ open_in-phase_of (w.history p) (w.saved p) (process_at m p).working
+    incarnation_is : w.incarnation t.who.me ≡ (process_at m t.who.me).incarnation
+    incarnation_is = at.incarnation_is
+
+    module _ (working : (process_at m t.who.me).working ≡ Some t.message) where
+      lost : is_lost (process_at m t.who.me).stage ≡ false
+      lost = working-back (process_at m t.who.me).stage (process_at m t.who.me).working (w.saved t.who.me) (w.history t.who.me) t.message at.works working
+
+      rsn_is : received (process_at m t.who.me) + 1 ≡ length_of w t.who.me + 1
+      rsn_is = ap (λ j. j + 1) (length-back m w s t.who.me inside within lost)
+
+      state_is : (process_at m t.who.me).state ≡ state_of w t.who.me
+      state_is = state-back m w s t.who.me inside within (down_is m w s t.who.me inside within ∙ lost)
 
   -- what matches the fields is open
-  pub opens : Matches m t → IsOpen m.images t w
-  unfolding me
-  opens k =
-      let at = at_process m w s t.who.me k.inside k.within in
+  pub opens-at : t.who.me ≤ length m.images → Matches m t → IsOpen m.images t w
+  opens-at image k =
       let code : HasCode (nth m.images t.who.me) t.image.code =
-      subst (λ o. HasCode o t.image.code) (sym (nth-inside m.images t.who.me t.image k.inside (omega (arith, sizes, k.within)))) (k.code t.image) in
+      subst (λ o. HasCode o t.image.code) (sym (nth-inside m.images t.who.me t.image k.inside image)) (k.code t.image) in
+      let form : HasForm (nth m.images t.who.me) t.image.form =
+      subst (λ o. HasForm o t.image.form) (sym (nth-inside m.images t.who.me t.image k.inside image)) (k.form t.image) in
       record {
         inside = grind (arith, nat_tests, s.shows.count, k.inside, k.within);
-        incarnation = sym k.incarnation ∙ sym at.incarnation_is;
-        rsn = sym k.rsn ∙ ap (λ j. j + 1) (length_is t.who.me at ∙ sym (length_of-standing w t.who.me (process_at m t.who.me).working at.phase_is));
-        state = sym k.state ∙ at.state_is ∙ sym (state_of-standing w t.who.me (process_at m t.who.me).working at.phase_is);
-        message = open_is t.who.me at ∙ k.message;
+        incarnation = sym k.incarnation ∙ sym (incarnation_is k.inside k.within);
+        rsn = sym k.rsn ∙ rsn_is k.inside k.within k.message;
+        state = sym k.state ∙ state_is k.inside k.within k.message;
+        message = open_is k.inside k.within ∙ k.message;
         from = k.from;
         count = k.count ∙ sym s.shows.count;
         code = code;
+        form = form;
       }
+
+  pub opens : length m.images ≡ length m.processes → Matches m t → IsOpen m.images t w
+  opens sizes k = opens-at (omega (arith, sizes, k.within)) k
 
   -- and the other way round
   pub matches : IsOpen m.images t w → Matches m t
-  unfolding me
   matches o =
       let inside : 0 < t.who.me = grind (arith, nat_tests, o.inside) in
       let within : t.who.me ≤ length m.processes = grind (arith, nat_tests, o.inside, s.shows.count) in
-      let at = at_process m w s t.who.me inside within in
+      let message : (process_at m t.who.me).working ≡ Some t.message = sym (open_is inside within) ∙ o.message in
       record {
         inside = inside;
         within = within;
-        message = sym (open_is t.who.me at) ∙ o.message;
-        incarnation = sym at.incarnation_is ∙ sym o.incarnation;
-        rsn = ap (λ j. j + 1) (length_is t.who.me at ∙ sym (length_of-standing w t.who.me (process_at m t.who.me).working at.phase_is)) ∙ sym o.rsn;
-        state = at.state_is ∙ sym (state_of-standing w t.who.me (process_at m t.who.me).working at.phase_is) ∙ sym o.state;
+        message = message;
+        incarnation = sym (incarnation_is inside within) ∙ sym o.incarnation;
+        rsn = rsn_is inside within message ∙ sym o.rsn;
+        state = state_is inside within message ∙ sym o.state;
         from = o.from;
         count = o.count ∙ s.shows.count;
-        code = λ e. subst (λ k. HasCode k t.image.code) (nth-inside m.images t.who.me e inside (omega (arith, sizes, within))) o.code;
+        code = λ e. subst (λ k. HasCode k t.image.code) (nth-inside m.images t.who.me e inside (image-within m.images t.who.me t.image.code (nth m.images t.who.me) refl o.code)) o.code;
+        form = λ e. subst (λ k. HasForm k t.image.form) (nth-inside m.images t.who.me e inside (image-within m.images t.who.me t.image.code (nth m.images t.who.me) refl o.code)) o.form;
       }
-
-  -- as long as all jobs are live, its process is busy
-  pub busy-on : IsOpen m.images t w → w.phase t.who.me ≡ Busy t.message
-  busy-on o =
-      let k : Matches m t = matches o in
-      (at_process m w s t.who.me k.inside k.within).phase_is ∙ ap phase_of k.message
 
 -- the job that a process begins matches, whatever is on the wire
 pub begun-matches : (m new : TheMachine) (to : ℕ) (x : Message) (t : TheTask) (slots : List (Option Packet)) → Begins m new to x t → 0 < to → to ≤ length m.processes → Matches (record new { slots = slots }) t
@@ -112,5 +138,6 @@ begun-matches m new to x t slots b positive within =
       state = ap (λ (z : TheProcess). z.state) at ∙ sym b.state;
       from = ap (λ (q : Who). q.from) b.who ∙ ap (λ (z : Message). z.sender) (sym b.message_is);
       count = ap (λ (q : Who). q.count) b.who ∙ sym len;
+      form = λ e. ap (λ (z : Typed). z.form) (ap (λ zs. slice_index_or zs (t.who.me - 1) e) images ∙ ap (λ q. slice_index_or m.images (q - 1) e) me_is ∙ sym (b.image e));
       code = λ e. ap (λ (z : Typed). z.code) (ap (λ zs. slice_index_or zs (t.who.me - 1) e) images ∙ ap (λ q. slice_index_or m.images (q - 1) e) me_is ∙ sym (b.image e));
     }

@@ -13,7 +13,21 @@ IsSomeCarried n None = Unit {0}
 IsSomeCarried n (Some x) = IsCarried n x
 
 pub later : (n me len calls : ℕ) (x : TheProcess) → IsSoundAt n me len calls x → IsSoundAt n me len (calls + 1) x
-later n me len calls x s = record { state = s.state; log = s.log; begun_by = omega (arith, s.begun_by) }
+later n me len calls x s =
+    record {
+      short = s.short;
+      state = s.state;
+      log = s.log;
+      senders = s.senders;
+      whole = s.whole;
+      planned = s.planned;
+      begun_by = omega (arith, s.begun_by);
+      incarnation = omega (arith, s.incarnation);
+      own = s.own;
+      count = s.count;
+      saved_state = s.saved_state;
+      saved_by = omega (arith, s.saved_by);
+    }
 
 module _ (old new : List (Option Packet)) (key : ℕ) (was is : Option Packet) (puts : Puts old new key was is) where
   pub carried-put : (n : ℕ) → IsSomeCarried n is → AreCarried old n → AreCarried new n

@@ -1,12 +1,16 @@
 -- A machine that opens
-use Rattle.std.proofs.Common.{◌≡◌, ℕ, suc, ◌+◌, ◌-◌, ◌<◌, ◌≤◌, List, [], ◌∷◌, ◌++◌, length, map, take, replicate, Bool, true, false, refl, sym, ap, ◌∙◌, subst, arith, get_or}
+use Rattle.std.proofs.Common.{◌≡◌, ℕ, suc, ◌+◌, ◌-◌, ◌<◌, ◌≤◌, List, [], ◌∷◌, ◌++◌, length, map, take, replicate, Bool, true, false, true≢false, refl, sym, ap, ◌∙◌, subst, arith, get_or}
 use Rattle.std.specs.Prelude.{◌==◌, if◌then◌else◌, None, slice_index_or, nat_lt}
 use Rattle.std.proofs.lemmas.List.{get_or-replicate, get_or_push, get_or_append_left, length-replicate, length-map, length_push}
 use Rattle.std.proofs.Math.ListN.{get_or-eq_default}
 use Rattle.std.proofs.Math.Seq.{take-nil}
+use Rattle.std.proofs.lemmas.List.Elements.{All-push}
+use Rattle.std.proofs.lemmas.Bool.{false≢true}
 use Rattle.std.proofs.lemmas.Bool.Decides.{nat_tests}
 use Rattle.std.proofs.lemmas.Option.{slice_get-get_or}
+use Rattle.regtypes.specs.declared.image_form.ImageForm.TheVariants.{Sbi1}
 use Rattle.verifier.specs.Typed.{Typed}
+use Rattle.checkpoint.specs.Saved.{TheKept, nothing_kept}
 use Rattle.sender_log.specs.Queue.{TheQueue, no_queue}
 use Rattle.sender_log.specs.Log.{queue_of}
 use Rattle.world.specs.Fold.{handlers_of}
@@ -20,6 +24,7 @@ use Rattle.theorems.proofs.TidyLemmas.{opens-tidy}
 use Rattle.theorems.proofs.GateLemmas.{opens-gated}
 use Rattle.machine.specs.Process.{TheProcess, idle_process}
 use Rattle.machine.specs.Outside.{empty_outside}
+use Rattle.machine.specs.Stable.{Saves, idle_saved}
 use Rattle.machine.specs.Simulation.{TheMachine, StandsAt, Keeps, Holds, Shows, Stands}
 use Rattle.machine.specs.Inside.{IsSoundAt, IsLogOf}
 use Rattle.machine.specs.Opening.{AreIdle}
@@ -37,9 +42,10 @@ idle-split n images i ps a p d e h false f =
     ∙ ap (λ (x : Typed). idle_process (suc p) n x.len) (sym (get_or_push images i e p last))
 
 -- one process more
-pub idle-push : (n : ℕ) (images : List Typed) (i : Typed) (ps : List TheProcess) → AreIdle n images ps → AreIdle n (images ++ i ∷ []) (ps ++ idle_process (suc (length images)) n i.len ∷ [])
-idle-push n images i ps a = record {
+pub idle-push : (n : ℕ) (images : List Typed) (i : Typed) (ps : List TheProcess) → i.len ≤ 1024 → AreIdle n images ps → AreIdle n (images ++ i ∷ []) (ps ++ idle_process (suc (length images)) n i.len ∷ [])
+idle-push n images i ps short a = record {
   count = omega (arith, length_push ps (idle_process (suc (length images)) n i.len), length_push images i, a.count);
+  short = All-push (λ (x : Typed). x.len ≤ 1024) images i a.short short;
   idle = λ p d e h. idle-split n images i ps a p d e (let l = length_push images i in omega (arith, l, h)) (nat_lt p (length images)) refl;
 }
 
@@ -52,11 +58,11 @@ replicate-split : {X : Type 0} (n k : ℕ) (x : X) (b : Bool) → nat_lt k n ≡
 replicate-split n k x true e = get_or-replicate n k x x (grind (arith, nat_tests))
 replicate-split n k x false e = get_or-eq_default (replicate n x) x {n = k} (let len = length-replicate n x in let h : n ≤ k = grind (arith, nat_tests) in omega (arith, len, h))
 
-replicate-at : {X : Type 0} (n k : ℕ) (x : X) → slice_index_or (replicate n x) k x ≡ x
+pub replicate-at : {X : Type 0} (n k : ℕ) (x : X) → slice_index_or (replicate n x) k x ≡ x
 replicate-at n k x = replicate-split n k x (nat_lt k n) refl
 
 abbrev none : Typed
-none = record { code = []; slots = []; table = []; len = 0; low = 0 }
+none = record { form = Sbi1; code = []; slots = []; table = []; len = 0; low = 0 }
 
 abbrev pub fresh : List Typed → List TheProcess → TheMachine
 fresh images ps = record { images = images; processes = ps; outside = empty_outside (length images); slots = []; started = 0; calls = 0 }
@@ -69,21 +75,39 @@ module _ (images : List Typed) (ps : List TheProcess) (a : AreIdle (length image
   pub idle-is : (p : ℕ) (d : TheProcess) → p < length ps → slice_index_or ps p d ≡ idle_process (suc p) (length images) (get_or images p none).len
   idle-is p d h = a.idle p d none (within p h)
 
-  idle-stands : (p : ℕ) (d : TheProcess) → p < length ps → StandsAt (slice_index_or ps p d) ((handlers_of images).state (suc p)) [] Up 1 (λ k. false)
+  -- nothing was sent by the checkpoint
+  idle-saves : (p len : ℕ) → Saves (length ps) (suc p) (idle_saved (suc p) (length images) len) (replicate len 0) [] (λ d. 0) ((handlers_of images).sends (suc p) [])
+  idle-saves p len =
+      record {
+        state_is = refl;
+        senders_are = refl;
+        first = λ d within other. ap (λ (q : TheKept). q.first) (replicate-at (length images + 1) d nothing_kept);
+        rest = λ d within other. record {
+          before = [];
+          count = refl;
+          joined = ap (λ (q : TheKept). q.payloads) (replicate-at (length images + 1) d nothing_kept) ∙ sym (handlers-start images (suc p) d);
+        };
+      }
+
+  idle-stands : (p : ℕ) (d : TheProcess) → p < length ps
+      → StandsAt (length ps) (suc p) (slice_index_or ps p d) ((handlers_of images).state (suc p)) ((handlers_of images).sends (suc p)) [] Up 1 (λ k. false) 0 (λ d. 0)
   idle-stands p d h =
       let image = get_or images p none in
-      let kept : StandsAt (idle_process (suc p) (length images) image.len) ((handlers_of images).state (suc p)) [] Up 1 (λ k. false) =
+      let nothing : (handlers_of images).state (suc p) [] ≡ replicate image.len 0 = handlers_of-nothing images (suc p) image (slice_get-get_or images p none (within p h)) in
+      let kept : StandsAt (length ps) (suc p) (idle_process (suc p) (length images) image.len) ((handlers_of images).state (suc p)) ((handlers_of images).sends (suc p)) [] Up 1 (λ k. false) 0 (λ d. 0) =
       record {
-        state_is = sym (handlers_of-nothing images (suc p) image (slice_get-get_or images p none (within p h)));
+        state_is = λ back. sym nothing;
+        gone = λ lost. absurd (false≢true lost);
         senders = refl;
         flags = refl;
         acknowledged_is = λ k l. absurd (omega (arith, l));
         in_order = tt;
         phase_is = refl;
-        next = tt;
+        works = tt;
         incarnation_is = refl;
+        saves = rw nothing (idle-saves p image.len);
       } in
-      subst (λ (x : TheProcess). StandsAt x ((handlers_of images).state (suc p)) [] Up 1 (λ k. false)) (sym (idle-is p d h)) kept
+      subst (λ (x : TheProcess). StandsAt (length ps) (suc p) x ((handlers_of images).state (suc p)) ((handlers_of images).sends (suc p)) [] Up 1 (λ k. false) 0 (λ d. 0)) (sym (idle-is p d h)) kept
 
   w : World
   w = opening (length images) (handlers_of images)
@@ -102,15 +126,15 @@ module _ (images : List Typed) (ps : List TheProcess) (a : AreIdle (length image
   unsent p d true = refl
   unsent p d false = handlers-start images p d
 
-  empty-keeps : Keeps no_queue [] (λ k. None)
-  empty-keeps = record { first = refl; payloads_are = refl; as_many = refl; numbers_are = λ i l. absurd (omega (arith, l)) }
+  empty-keeps : Keeps no_queue 0 [] (λ k. None)
+  empty-keeps = record { first = refl; rest = record { before = []; count = refl; joined = refl }; as_many = refl; numbers_are = λ i l. absurd (omega (arith, l)) }
 
-  logs-kept : (p d : ℕ) → p ≤ length ps → Keeps (queue_of d (if p == 0 then (empty_outside (length images)).log else (slice_index_or ps (p - 1) (idle_process 0 0 0)).outbox.log)) (if p == 0 then [] else (handlers_of images).sends p [] d) (λ k. None)
+  logs-kept : (p d : ℕ) → p ≤ length ps → Keeps (queue_of d (if p == 0 then (empty_outside (length images)).log else (slice_index_or ps (p - 1) (idle_process 0 0 0)).outbox.log)) 0 (if p == 0 then [] else (handlers_of images).sends p [] d) (λ k. None)
   logs-kept p d h =
       let q = sym (unlogged p d h (p == 0) refl) in
       let s = sym (unsent p d (p == 0)) in
       let xs = if p == 0 then [] else (handlers_of images).sends p [] d in
-      subst (λ (x : TheQueue). Keeps x xs (λ k. None)) q (subst (λ (ys : List Payload). Keeps no_queue ys (λ k. None)) s empty-keeps)
+      subst (λ (x : TheQueue). Keeps x 0 xs (λ k. None)) q (subst (λ (ys : List Payload). Keeps no_queue 0 ys (λ k. None)) s empty-keeps)
 
   gate-holds : (p d : ℕ) → 0 < p → p ≤ length ps → Holds d (slice_index_or ps (p - 1) (idle_process 0 0 0)).outbox.gate 0 0 0 (λ k. length ((handlers_of images).sends p (take k []) d))
   gate-holds p d positive h =
@@ -130,14 +154,14 @@ module _ (images : List Typed) (ps : List TheProcess) (a : AreIdle (length image
         count = sym a.count;
         handlers = refl;
         process = λ p d h. idle-stands p d h;
-        logs = λ p d hp hd apart. logs-kept p d hp;
-        gates = λ p d positive hp hd apart. gate-holds p d positive hp;
+        logs = λ p d hp hd apart back. logs-kept p d hp;
+        gates = λ p d positive hp hd apart up. gate-holds p d positive hp;
+        shut = λ p d positive hp off. absurd (true≢false off);
         feeds = λ k. refl;
         shown = refl;
         wire = λ key. refl;
         started = refl;
         outside = refl;
-        trims = λ s d. refl;
       }
 
   pub opens : Stands (fresh images ps) (opening (length images) (handlers_of images))
@@ -145,16 +169,25 @@ module _ (images : List Typed) (ps : List TheProcess) (a : AreIdle (length image
   opens =
       let n = length images in
       let f = handlers_of images in
-      record { shows = shown; sound = opens-sound n f (handlers-grow images); tidy = opens-tidy n f; gated = opens-gated n f (handlers-start images) }
+      record { shows = shown; sound = opens-sound n f (handlers-grow images); tidy = opens-tidy n f; gated = opens-gated n f (handlers-start images); unsent = refl }
 
   pub idle-sound : (p : ℕ) (d : TheProcess) (e : Typed) → p < length ps → IsSoundAt (length ps) (suc p) (slice_index_or images p e).len 0 (slice_index_or ps p d)
   idle-sound p d e h =
       let len = (slice_index_or images p e).len in
       let sound : IsSoundAt (length ps) (suc p) len 0 (idle_process (suc p) (length images) len) =
       record {
-        state = length-replicate len 0;
+        short = a.short p e (within p h);
+        state = λ back. length-replicate len 0;
         log = record { owner = refl; width = omega (arith, length-replicate (length images + 1) no_queue, a.count) };
+        senders = refl;
+        whole = λ e. refl;
+        planned = tt;
         begun_by = omega arith;
+        incarnation = omega arith;
+        own = refl;
+        count = sym a.count;
+        saved_state = length-replicate len 0;
+        saved_by = omega arith;
       } in
       subst (IsSoundAt (length ps) (suc p) len 0) (sym (a.idle p d e (within p h))) sound
 

@@ -1,11 +1,16 @@
 -- What the fields keep when one process changes
-use Rattle.std.proofs.Common.{◌≡◌, ℕ, suc, ◌+◌, ◌-◌, ◌<◌, ◌≤◌, List, length, map, Bool, true, arith, set}
-use Rattle.std.specs.Prelude.{slice_index_or}
+use Rattle.std.proofs.Common.{◌≡◌, ℕ, suc, ◌+◌, ◌-◌, ◌<◌, ◌≤◌, List, [], ◌∷◌, length, map, Bool, true, arith, set}
+use Rattle.std.specs.Prelude.{slice_index_or, Option, Some}
 use Rattle.std.proofs.lemmas.List.{length-set}
 use Rattle.std.specs.Arc.{arc_value}
 use Rattle.verifier.specs.Typed.{Typed}
-use Rattle.machine.specs.Process.{TheProcess}
-use Rattle.machine.specs.Inside.{IsSoundAt, IsSound}
+use Rattle.world.specs.declared.message.Message.{Message}
+use Rattle.machine.specs.Process.{TheProcess, received}
+use Rattle.machine.specs.Stage.{IsNextFor, IsInPlan}
+use Rattle.machine.specs.declared.stage.Stage.{Stage}
+use Rattle.machine.specs.declared.stage.Stage.TheVariants as stages
+use Rattle.machine.specs.Outbox.{TheOutbox}
+use Rattle.machine.specs.Inside.{IsSoundAt, IsLogOf, IsSound}
 use Rattle.machine.specs.declared.machine.Machine.TheInside.{Inside}
 use Rattle.machine.proofs.Updates.{set-is}
 use Rattle.machine.proofs.Keeping.{later}
@@ -15,6 +20,49 @@ pub sound_at : (m : Inside) → IsSound m → (p : ℕ) (d : TheProcess) (e : Ty
 sound_at m i p d e positive within =
     let back : suc (p - 1) ≡ p = omega arith in
     rw back at (i.processes (p - 1) d e (omega arith))
+
+-- it stays so with another outbox, whose log is its own
+pub sound-outbox : (n me len calls : ℕ) (x : TheProcess) (b : TheOutbox) → IsSoundAt n me len calls x → IsLogOf n me b.log → IsSoundAt n me len calls (record x { outbox = b })
+sound-outbox n me len calls x b s log =
+    record {
+      short = s.short;
+      state = s.state;
+      log = log;
+      senders = s.senders;
+      whole = s.whole;
+      planned = s.planned;
+      begun_by = s.begun_by;
+      incarnation = s.incarnation;
+      own = s.own;
+      count = s.count;
+      saved_state = s.saved_state;
+      saved_by = s.saved_by;
+    }
+
+-- where a message is the next for a process, it may be worked on
+next-planned : (t : Stage) (o : Option Message) (x : Message) (n : ℕ) → IsNextFor t x → IsInPlan t o n → IsInPlan t (Some x) n
+next-planned stages.Live o x n next planned = tt
+next-planned stages.Down o x n next planned = absurd next
+next-planned (stages.Replaying plan alone) o x n next planned = (planned.0, next)
+next-planned (stages.Resync peers) o x n next planned = absurd next
+
+-- one more call, in which it begins to work on a message
+pub sound-begun : (n me len calls : ℕ) (x : TheProcess) (message : Message) → IsSoundAt n me len calls x → IsNextFor x.stage message → IsSoundAt n me len (calls + 1) (record x { working = Some message })
+sound-begun n me len calls x message s next =
+    record {
+      short = s.short;
+      state = s.state;
+      log = s.log;
+      senders = s.senders;
+      whole = s.whole;
+      planned = next-planned x.stage x.working message (received x) next s.planned;
+      begun_by = omega (arith, s.begun_by);
+      incarnation = omega (arith, s.incarnation);
+      own = s.own;
+      count = s.count;
+      saved_state = s.saved_state;
+      saved_by = omega (arith, s.saved_by);
+    }
 
 -- one process changes, and stays sound
 module _ (xs : List TheProcess) (images : List Typed) (to calls : ℕ) (y : TheProcess) (positive : 0 < to) (within : to ≤ length xs) where
@@ -34,3 +82,8 @@ pub sound-set : (xs : List TheProcess) (images : List Typed) (to calls : ℕ) (y
     → ((e : Typed) → IsSoundAt (length xs) to (slice_index_or images (to - 1) e).len (calls + 1) y)
     → (p : ℕ) (d : TheProcess) (e : Typed) → p < length (set xs (to - 1) y) → IsSoundAt (length (set xs (to - 1) y)) (suc p) (slice_index_or images p e).len (calls + 1) (slice_index_or (set xs (to - 1) y) p d)
 sound-set xs images to calls y positive within all = sound-put xs images to (calls + 1) y positive within (λ q d e h. later _ _ _ _ _ (all q d e h))
+
+-- an element of a list that isn't empty
+pub some-of : {X : Type 0} (xs : List X) → 0 < length xs → X
+some-of [] h = absurd (omega (arith, h))
+some-of (x ∷ xs) h = x

@@ -14,6 +14,7 @@ use Rattle.theorems.proofs.GateCalls.{gated-call}
 use Rattle.machine.specs.Wire.{Puts}
 use Rattle.machine.specs.Simulation.{TheMachine, Shows, Stands, Steps}
 use Rattle.machine.proofs.Updates.{put-is}
+use Rattle.machine.proofs.Inputs.{unsent-after}
 
 -- the wire after one key has changed
 pub put-wire : (w : World) (old new : List (Option Packet)) (key : ℕ) (was is : Option Packet) → ((j : ℕ) → w.wire j ≡ slice_index_or old j None) → Puts old new key was is → (j : ℕ) → put w.wire key is j ≡ slice_index_or new j None
@@ -28,12 +29,12 @@ shows-wire m w s calls slots wire wire_is =
       process = s.shows.process;
       logs = s.shows.logs;
       gates = s.shows.gates;
+      shut = s.shows.shut;
       feeds = s.shows.feeds;
       shown = s.shows.shown;
       wire = wire_is;
       started = s.shows.started;
       outside = s.shows.outside;
-      trims = s.shows.trims;
     }
 
 -- a step whose new machine shows the new world stands for it: what every call keeps still holds
@@ -47,6 +48,7 @@ step old new room call answer w s accepted answered shows images =
         sound = sound-call room w call answer accepted answered s.sound;
         tidy = tidy-call room w call answer accepted answered s.sound s.tidy;
         gated = gated-call room w call answer accepted answered s.sound s.gated;
+        unsent = unsent-after w room call answer accepted s.unsent;
       };
       images = images;
     }

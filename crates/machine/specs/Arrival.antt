@@ -1,6 +1,7 @@
 -- What an arrival answers, and what a result that comes back has to be
 use Rattle.std.specs.Prelude.{◌≡◌, ℕ, ◌+◌, ◌<◌, List, Option, Some, None, Result, Ok, Err, true}
 use Rattle.decode.specs.declared.insn.Insn.{Insn}
+use Rattle.regtypes.specs.declared.image_form.ImageForm.{ImageForm}
 use Rattle.verifier.specs.Typed.{Typed}
 use Rattle.replay.specs.Task.{TheTask}
 use Rattle.world.specs.declared.message.Message.{Message}
@@ -16,8 +17,9 @@ use Rattle.world.specs.World.{World, is_inside}
 use Rattle.world.specs.Logs.{length_of, state_of, open_message}
 use Rattle.machine.specs.Simulation.{TheMachine, Stands, Steps}
 use Rattle.machine.specs.declared.arrival.Arrival.{Arrival}
-use Rattle.machine.specs.declared.arrival.Arrival.TheVariants.{Started, Duplicate, Early, Shown, ShownBefore, Numbered, Acknowledged, Stale}
-use Rattle.machine.specs.declared.arrival.Committed.{Committed}
+use Rattle.machine.specs.declared.arrival.Arrival.TheVariants.{Started, Duplicate, Early, Shown, ShownBefore, Numbered, Acknowledged, Unreachable, Stale}
+use Rattle.machine.specs.declared.arrival.Finished.{Finished}
+use Rattle.machine.specs.declared.arrival.Finished.TheVariants.{Committed, Replayed}
 
 abbrev pub answer_of : Arrival → Answer
 answer_of (Started task) = answers.Started task.serial
@@ -27,14 +29,20 @@ answer_of (Shown ssn) = answers.Shown ssn
 answer_of ShownBefore = answers.ShownBefore
 answer_of (Numbered key) = answers.Numbered key
 answer_of Acknowledged = answers.Acknowledged
+answer_of Unreachable = answers.Unreachable
 answer_of Stale = answers.Stale
 
-abbrev pub committed_of : Committed → Answer
-committed_of c = answers.Committed c.rsn c.key
+abbrev pub finished_of : Finished → Answer
+finished_of (Committed rsn key) = answers.Committed rsn key
+finished_of (Replayed rsn) = answers.Replayed rsn
 
 abbrev pub HasCode : Option Typed → List Insn → Type 0
 HasCode None code = ⊥
 HasCode (Some image) code = image.code ≡ code
+
+abbrev pub HasForm : Option Typed → ImageForm → Type 0
+HasForm None form = ⊥
+HasForm (Some image) form = image.form ≡ form
 
 -- the task is that of the job that its process has open in this world, live or replayed, in all that a result is compared by
 pub record IsOpen (images : List Typed) (t : TheTask) (w : World) : Type 0 where
@@ -46,10 +54,15 @@ pub record IsOpen (images : List Typed) (t : TheTask) (w : World) : Type 0 where
   pub from : t.who.from ≡ t.message.sender
   pub count : t.who.count ≡ w.count
   pub code : HasCode (nth images t.who.me) t.image.code
+  pub form : HasForm (nth images t.who.me) t.image.form
+
+-- the task is that of an open job of each world that the machine stands for
+abbrev pub IsHandedOut : TheMachine → TheTask → Type 0
+IsHandedOut m task = (w : World) → Stands m w → IsOpen m.images task w
 
 -- the job that is handed out is open
 abbrev pub IsJobOf : TheMachine → Arrival → Type 0
-IsJobOf m (Started task) = (w : World) → Stands m w → IsOpen m.images task w
+IsJobOf m (Started task) = IsHandedOut m task
 IsJobOf m other = Unit {0}
 
 -- and it is one of the process that the packet is a message for
@@ -64,6 +77,6 @@ Told StaleJob P = ¬ P
 Told other P = ⊥
 
 -- what a finish owes. With a refusal the result comes back
-abbrev pub Finishes : TheMachine → TheMachine → TheTask → Result Committed (Refusal × TheTask) → Type 0
-Finishes old new task (Ok c) = (w : World) → Stands old w → IsOpen old.images task w × Steps old new 0 (Finish task.who.me) (committed_of c) w
+abbrev pub Finishes : TheMachine → TheMachine → TheTask → Result Finished (Refusal × TheTask) → Type 0
+Finishes old new task (Ok c) = (w : World) → Stands old w → IsOpen old.images task w × Steps old new 0 (Finish task.who.me) (finished_of c) w
 Finishes old new task (Err r) = (r.1 ≡ task) × (new ≡ old) × ((w : World) → Stands old w → Told r.0 (IsOpen old.images task w))

@@ -1,5 +1,5 @@
 -- What an arrival changes
-use Rattle.std.specs.Prelude.{◌≡◌, ℕ, ◌+◌, ◌-◌, ◌<◌, length, Some, None, ◌==◌, if◌then◌else◌, slice_index_or, slice_set}
+use Rattle.std.specs.Prelude.{◌≡◌, ℕ, ◌+◌, ◌-◌, ◌<◌, length, Some, None, true, ◌==◌, if◌then◌else◌, slice_index_or, slice_set}
 use Rattle.rsn.specs.declared.receipts.Judgement.{Judgement}
 use Rattle.rsn.specs.declared.receipts.Judgement.TheVariants as judgements
 use Rattle.sender_log.specs.Queue.{recorded}
@@ -10,11 +10,11 @@ use Rattle.world.specs.declared.packet.Packet.TheVariants.{Number, Acknowledgeme
 use Rattle.world.specs.declared.call.Call.TheVariants.{Arrive}
 use Rattle.world.specs.History.{rsn_of}
 use Rattle.world.specs.World.{World}
-use Rattle.world.specs.Answers.{Next, Known, Ahead, judge}
+use Rattle.world.specs.Answers.{Next, Known, Ahead, judge, target_of}
 use Rattle.world.specs.Refusals.{refusal_of}
 use Rattle.machine.specs.Inside.{IsCarried}
 use Rattle.machine.specs.Wire.{Puts}
-use Rattle.machine.specs.Simulation.{TheMachine, Stands, process_at, log_at}
+use Rattle.machine.specs.Simulation.{TheMachine, Stands, process_at, log_at, is_up_at}
 
 -- the world judges the message so too. A process knows the number of one that it has
 abbrev pub IsJudged : World → ℕ → Message → Judgement → Type 0
@@ -28,10 +28,11 @@ IsNumbered judgements.Next = Unit {0}
 IsNumbered (judgements.Duplicate k) = 0 < k
 IsNumbered judgements.Early = Unit {0}
 
--- this packet lies under the key, and may be taken
+-- this packet lies under the key, may be taken, and its target is up
 pub record MayArrive (m : TheMachine) (room key : ℕ) (packet : Packet) : Type 0 where
   pub found : slice_index_or m.slots key None ≡ Some packet
   pub carried : IsCarried (length m.processes) packet
+  pub up : is_up_at m (target_of packet) ≡ true
   pub accepted : (w : World) → Stands m w → refusal_of w room (Arrive key) ≡ None
   pub calls : m.calls < 65536
 

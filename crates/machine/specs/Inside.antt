@@ -1,12 +1,16 @@
 -- The fields behind what clauses see of a machine
-use Rattle.std.specs.Prelude.{◌≡◌, ◌≢◌, ℕ, suc, ◌+◌, ◌<◌, ◌≤◌, List, length, map, Option, Some, None, is_some, slice_index_or}
+use Rattle.std.specs.Prelude.{◌≡◌, ◌≢◌, ℕ, suc, ◌+◌, ◌<◌, ◌≤◌, List, length, map, Option, Some, None, is_some, true, false, slice_index_or}
 use Rattle.std.specs.Arc.{arc_value}
+use Rattle.std.specs.List.{list_all}
 use Rattle.verifier.specs.Typed.{Typed}
 use Rattle.sender_log.specs.Log.{TheLog, queue_of}
 use Rattle.world.specs.declared.packet.Packet.{Packet}
 use Rattle.world.specs.declared.packet.Packet.TheVariants.{Delivery, Number, Acknowledgement}
 use Rattle.world.specs.Refusals.{one_if}
+use Rattle.rsn.specs.Receipts.{run_of}
+use Rattle.checkpoint.specs.Saved.{is_sender}
 use Rattle.machine.specs.Process.{TheProcess, received}
+use Rattle.machine.specs.Stage.{is_live, is_lost, IsInPlan}
 use Rattle.machine.specs.Simulation.{TheMachine}
 use Rattle.machine.specs.declared.machine.Machine.TheInside.{Inside}
 
@@ -34,9 +38,18 @@ begun x = received x + one_if (is_some x.working)
 
 -- one of n processes, with this number, an image of this state length, after so many calls
 pub record IsSoundAt (n me len calls : ℕ) (x : TheProcess) : Type 0 where
-  pub state : length x.state ≡ len
+  pub short : len ≤ 1024
+  pub state : is_lost x.stage ≡ false → length x.state ≡ len
   pub log : IsLogOf n me x.outbox.log
+  pub senders : list_all (is_sender me n) x.receipts.senders ≡ true
+  pub whole : is_live x.stage ≡ false → run_of x.receipts.acknowledged ≡ received x
+  pub planned : IsInPlan x.stage x.working (received x)
   pub begun_by : begun x ≤ calls
+  pub incarnation : x.incarnation ≤ calls + 1
+  pub own : x.saved.me ≡ me
+  pub count : x.saved.count ≡ n
+  pub saved_state : length x.saved.state ≡ len
+  pub saved_by : length x.saved.senders ≤ calls
 
 -- the sizes, and who is named on the wire
 pub record IsSound (m : Inside) : Type 0 where

@@ -1,17 +1,20 @@
 -- Open jobs, as the fields tell them
-use Rattle.std.specs.Prelude.{◌≡◌, ◌≢◌, ◌<◌, ◌≤◌, ℕ, ◌+◌, ◌-◌, length, Some, slice_index_or, slice_set}
+use Rattle.std.specs.Prelude.{◌≡◌, ◌≢◌, ◌<◌, ◌≤◌, ℕ, ◌+◌, ◌-◌, length, Some, false, slice_index_or, slice_set}
 use Rattle.verifier.specs.Typed.{Typed}
 use Rattle.replay.specs.Task.{TheTask}
 use Rattle.world.specs.declared.message.Message.{Message}
 use Rattle.machine.specs.Process.{received}
+use Rattle.machine.specs.Stage.{is_lost, IsNextFor}
 use Rattle.machine.specs.Simulation.{TheMachine, process_at}
 
--- a message of another for a process
+-- a message of another for a process that isn't down, and where one is replayed, the next of the plan
 pub record MayBegin (m : TheMachine) (me : ℕ) (message : Message) : Type 0 where
   pub inside : 0 < me
   pub within : me ≤ length m.processes
   pub from : message.sender ≤ length m.processes
   pub other : message.sender ≢ me
+  pub back : is_lost (process_at m me).stage ≡ false
+  pub next : IsNextFor (process_at m me).stage message
   pub calls : m.calls < 65536
 
 -- the process works on the message, and the job has all that its handler takes
@@ -36,6 +39,7 @@ pub record Matches (m : TheMachine) (t : TheTask) : Type 0 where
   pub from : t.who.from ≡ t.message.sender
   pub count : t.who.count ≡ length m.processes
   pub code : (e : Typed) → (slice_index_or m.images (t.who.me - 1) e).code ≡ t.image.code
+  pub form : (e : Typed) → (slice_index_or m.images (t.who.me - 1) e).form ≡ t.image.form
 
 -- the task's code stands in the slots of its process's image
 abbrev pub HaveSlots : TheMachine → TheTask → Type 0

@@ -1,6 +1,12 @@
 pub mod Mail
 pub mod Outbox
 pub mod Process
+pub mod Queue
+pub mod Stable
+pub mod Stage
+pub mod Saving
+pub mod Recovering
+pub mod Replaying
 pub mod Outside
 pub mod Wire
 pub mod Receipts
@@ -12,3 +18,4 @@ pub mod Arrival
 pub mod Sending
 pub mod Arriving
 pub mod Picking
+pub mod Reading

@@ -1,5 +1,6 @@
 -- How a machine opens
 use Rattle.std.specs.Prelude.{◌≡◌, ℕ, suc, ◌<◌, ◌≤◌, List, length, slice_index_or, Result, Ok, Err}
+use Rattle.std.specs.List.{All}
 use Rattle.verifier.specs.Typed.{Typed}
 use Rattle.world.specs.declared.refusal.Refusal.{Refusal}
 use Rattle.world.specs.declared.refusal.Refusal.TheVariants.{NoSuchProcess, Memory}
@@ -8,9 +9,10 @@ use Rattle.world.specs.World.{opening}
 use Rattle.machine.specs.Process.{TheProcess, idle_process}
 use Rattle.machine.specs.Simulation.{TheMachine, Stands}
 
--- for each image a process among n that received nothing, numbered from 1
+-- for each image, whose state has at most 1,024 bytes, a process among n that received nothing, numbered from 1
 pub record AreIdle (n : ℕ) (images : List Typed) (processes : List TheProcess) : Type 0 where
   pub count : length processes ≡ length images
+  pub short : All (λ (i : Typed). i.len ≤ 1024) images
   pub idle : (p : ℕ) (d : TheProcess) (e : Typed) → p < length images → slice_index_or processes p d ≡ idle_process (suc p) n (slice_index_or images p e).len
 
 abbrev pub AreFew : List Typed → Type 0

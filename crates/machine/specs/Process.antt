@@ -1,25 +1,40 @@
 -- What clauses see of a process
-use Rattle.std.specs.Prelude.{◌≡◌, ◌≤◌, ℕ, List, [], length, replicate, Option, None}
+use Rattle.std.specs.Prelude.{◌≡◌, ◌≤◌, ℕ, ◌+◌, List, [], length, replicate, Option, Some, None, Bool, true, false}
 use Rattle.std.specs.List.{All}
 use Rattle.rsn.specs.Receipts.{Received, accepted, acknowledged, run_of}
 use Rattle.send_gate.specs.declared.gate.Held.{Held}
 use Rattle.send_gate.specs.Gate.{Releases}
+use Rattle.sender_log.specs.Queue.{count_up_to, trimmed, unnumbered}
+use Rattle.sender_log.specs.Log.{queue_of}
+use Rattle.checkpoint.specs.Saved.{TheSaved, receipts_again}
 use Rattle.world.specs.declared.message.Message.{Message}
+use Rattle.replay.specs.Plan.{ThePlan, next_of}
 use Rattle.replay.specs.Task.{TheTask, answer_of}
-use Rattle.machine.specs.Outbox.{TheOutbox, empty_outbox, Gives}
+use Rattle.machine.specs.Outbox.{TheOutbox, empty_outbox, outbox_again, with_messages, Gives, Opens}
+use Rattle.machine.specs.Stable.{idle_saved}
+use Rattle.machine.specs.Stage.{has_no_peer}
+use Rattle.machine.specs.declared.stage.Stage.{Stage}
+use Rattle.machine.specs.declared.stage.Peers.{Peers}
+use Rattle.machine.specs.declared.stage.Stage.TheVariants.{Live, Down, Replaying, Resync}
 
--- its state, its incarnation, what it received, what it sent, and the message that it works on
+-- its state, its incarnation, what it received, what it sent, the message that it works on, its checkpoint, and what else it does
 pub record TheProcess : Type 0 where
   pub state : List ℕ
   pub incarnation : ℕ
   pub receipts : Received
   pub outbox : TheOutbox
   pub working : Option Message
+  pub saved : TheSaved
+  pub stage : Stage
+
+-- no receipts
+abbrev pub nothing_received : Received
+nothing_received = record { senders = []; acknowledged = [] }
 
 -- a process that received nothing: its number, that of the last process, and the length of its state
 abbrev pub idle_process : ℕ → ℕ → ℕ → TheProcess
 idle_process me n len =
-    record { state = replicate len 0; incarnation = 1; receipts = record { senders = []; acknowledged = [] }; outbox = empty_outbox me n; working = None }
+    record { state = replicate len 0; incarnation = 1; receipts = nothing_received; outbox = empty_outbox me n; working = None; saved = idle_saved me n len; stage = Live }
 
 -- how many messages it received
 abbrev pub received : TheProcess → ℕ
@@ -43,3 +58,59 @@ pub record Commits (t : TheTask) (old new : TheProcess) : Type 0 where
   pub outbox : Gives (answer_of t).effects old.outbox new.outbox
   pub working : new.working ≡ None
   pub incarnation : new.incarnation ≡ old.incarnation
+  pub saved : new.saved ≡ old.saved
+  pub stage : new.stage ≡ old.stage
+
+-- all that it received is acknowledged
+abbrev pub all_acknowledged : Received → Received
+all_acknowledged x = record { senders = x.senders; acknowledged = replicate (length x.senders) true }
+
+-- its checkpoint is this one, which counts as the acknowledgement of all that it received, and what waited is released
+pub record IsSaved (s : TheSaved) (old new : TheProcess) : Type 0 where
+  pub releases : Releases (received old) old.outbox.gate new.outbox.gate
+  pub others : new ≡ record old { receipts = all_acknowledged old.receipts; outbox = record old.outbox { gate = new.outbox.gate }; saved = s }
+
+-- a crash takes all but the checkpoint and the incarnation
+abbrev pub crashed : TheOutbox → TheProcess → TheProcess
+crashed outbox x = record { state = []; incarnation = x.incarnation + 1; receipts = nothing_received; outbox = outbox; working = None; saved = x.saved; stage = Down }
+
+-- it is back as its checkpoint says, and has the plan before it
+abbrev pub restored : ThePlan → Bool → TheProcess → TheProcess
+restored plan alone x = record { state = x.saved.state; incarnation = x.incarnation; receipts = receipts_again x.saved; outbox = outbox_again x.saved; working = None; saved = x.saved; stage = Replaying plan alone }
+
+-- so many more messages of the plan are replayed
+abbrev pub advanced : Stage → Stage
+advanced Live = Live
+advanced Down = Down
+advanced (Replaying plan alone) = Replaying (record plan { replayed = plan.replayed + 1 }) alone
+advanced (Resync peers) = Resync peers
+
+-- the result of this task, which the process was called for before, is taken in
+pub record Recalls (t : TheTask) (old new : TheProcess) : Type 0 where
+  pub state : new.state ≡ (answer_of t).state
+  pub receipts : new.receipts ≡ acknowledged (received old + 1) (accepted t.message.sender old.receipts)
+  pub outbox : Gives (answer_of t).effects old.outbox new.outbox
+  pub working : new.working ≡ None
+  pub incarnation : new.incarnation ≡ old.incarnation
+  pub saved : new.saved ≡ old.saved
+  pub stage : new.stage ≡ advanced old.stage
+
+-- it has these peers to do, or where there is none, is up, and all that it sent is released
+pub record Settles (peers : Peers) (old new : TheProcess) : Type 0 where
+  pub some : has_no_peer peers ≡ false → new ≡ record old { stage = Resync peers }
+  pub none : has_no_peer peers ≡ true → Opens old.outbox new.outbox × (new ≡ record old { outbox = new.outbox; stage = Live })
+
+-- the message that the task is for is the next of the plan, where one is replayed
+abbrev pub IsNextAt : Stage → TheTask → Type 0
+IsNextAt Live t = Unit {0}
+IsNextAt Down t = Unit {0}
+IsNextAt (Replaying plan alone) t = next_of plan ≡ Some (t.rsn, t.message)
+IsNextAt (Resync peers) t = Unit {0}
+
+-- the numbers above this one of its messages to a destination are forgotten
+abbrev pub unnumbered_at : ℕ → ℕ → TheProcess → TheProcess
+unnumbered_at d k x = record x { outbox = with_messages d (unnumbered k (queue_of d x.outbox.log)) x.outbox }
+
+-- its messages to a destination up to this SSN are dropped
+abbrev pub trimmed_at : ℕ → ℕ → TheProcess → TheProcess
+trimmed_at d i x = record x { outbox = with_messages d (trimmed (count_up_to i (queue_of d x.outbox.log)) (queue_of d x.outbox.log)) x.outbox }

@@ -1,29 +1,37 @@
 -- What leaves a machine's logs, and what has no place on its wire
-use Rattle.std.specs.Prelude.{◌≢◌, ℕ, ◌+◌, ◌-◌, ◌<◌, ◌≤◌, length, Option, Some, None, is_some, count_by, nat_le, ◌==◌, if◌then◌else◌, slice_index_or}
+use Rattle.std.specs.Prelude.{◌≡◌, ◌≢◌, ℕ, ◌+◌, ◌-◌, ◌<◌, ◌≤◌, length, Option, Some, None, is_some, true, count_by, nat_le, ◌==◌, ◌&&◌, if◌then◌else◌, slice_index_or}
+use Rattle.sender_log.specs.Queue.{is_logged}
 use Rattle.sender_log.specs.Log.{queue_of}
 use Rattle.world.specs.declared.refusal.Refusal.{Refusal}
 use Rattle.world.specs.declared.refusal.Refusal.TheVariants.{JournalFull, WireFull}
 use Rattle.machine.specs.Process.{TheProcess}
-use Rattle.machine.specs.Simulation.{TheMachine, gate_at}
+use Rattle.machine.specs.Simulation.{TheMachine, gate_at, is_up_at, log_at}
+use Rattle.machine.specs.Stage.{is_live}
 
 -- how many jobs are open
 abbrev pub busy : TheMachine → ℕ
 busy m = count_by (λ (x : TheProcess). is_some x.working) m.processes
 
+-- how many of these are live
+abbrev pub live : TheMachine → ℕ
+live m = count_by (λ (x : TheProcess). is_live x.stage && is_some x.working) m.processes
+
 -- why one packet more has no place, in the journal or on the wire
 abbrev pub placing : TheMachine → ℕ → Option Refusal
 placing m room =
-    if nat_le room (busy m) then Some JournalFull else (if nat_le (4096 - busy m) (count_by is_some m.slots) then Some WireFull else None)
+    if nat_le room (busy m) then Some JournalFull else (if nat_le (4096 - live m) (count_by is_some m.slots) then Some WireFull else None)
 
 -- how many messages are released: of the outside, all inputs
 abbrev pub released_at : TheMachine → ℕ → ℕ → ℕ
 released_at m from to =
     if from == 0 then (queue_of to m.outside.log).first + length (queue_of to m.outside.log).payloads - 1 else slice_index_or (gate_at m from).released to 0
 
--- a message that is logged and released
+-- a message that is logged and released, of one that is up
 pub record MayLeave (m : TheMachine) (from to ssn : ℕ) : Type 0 where
   pub from_within : from ≤ length m.processes
   pub to_within : to ≤ length m.processes
   pub other : from ≢ to
+  pub up : is_up_at m from ≡ true
   pub first : 0 < ssn
+  pub logged : is_logged ssn (queue_of to (log_at m from)) ≡ true
   pub released : ssn ≤ released_at m from to

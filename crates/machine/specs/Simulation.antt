@@ -1,5 +1,5 @@
 -- Which worlds a machine stands for, and what a call owes
-use Rattle.std.specs.Prelude.{◌≡◌, ◌≢◌, ℕ, suc, ◌+◌, ◌-◌, ◌<◌, ◌≤◌, List, length, map, take, Option, Some, None, Result, Ok, Err, Bool, false, ◌==◌, nat_le, if◌then◌else◌, slice_index_or}
+use Rattle.std.specs.Prelude.{◌≡◌, ◌≢◌, ℕ, suc, ◌+◌, ◌-◌, ◌<◌, ◌≤◌, List, [], length, map, take, Option, Some, None, Result, Ok, Err, Bool, true, false, ◌==◌, ◌||◌, nat_le, if◌then◌else◌, slice_index_or}
 use Rattle.std.specs.List.{filter}
 use Rattle.sender_log.specs.Queue.{TheQueue}
 use Rattle.sender_log.specs.Log.{TheLog, queue_of}
@@ -11,8 +11,8 @@ use Rattle.world.specs.declared.call.Call.{Call}
 use Rattle.world.specs.declared.answer.Answer.{Answer}
 use Rattle.world.specs.declared.refusal.Refusal.{Refusal}
 use Rattle.world.specs.declared.refusal.Refusal.TheVariants.{Memory}
-use Rattle.world.specs.History.{Payload, count_of}
-use Rattle.world.specs.Phases.{Phase, Up, Busy}
+use Rattle.world.specs.History.{Payload}
+use Rattle.world.specs.Phases.{Phase, Up, is_up, is_down}
 use Rattle.world.specs.Fold.{handlers_of}
 use Rattle.world.specs.World.{World}
 use Rattle.world.specs.Logs.{sent, run_of}
@@ -25,6 +25,10 @@ use Rattle.theorems.specs.Invariants.Gated.{Gated}
 use Rattle.machine.specs.Process.{TheProcess, idle_process}
 use Rattle.machine.specs.Outside.{TheOutside, is_taken}
 use Rattle.machine.specs.Receipts.{InOrder}
+use Rattle.machine.specs.Outbox.{empty_outbox}
+use Rattle.machine.specs.Stable.{Saves}
+use Rattle.machine.specs.Stage.{is_live, is_lost, held_by, phase_of, MayWork}
+use Rattle.machine.specs.Queue.{IsRest}
 
 -- what clauses see of a machine: no capacities. The processes and their images are those of numbers 1, 2, ..
 pub record TheMachine : Type 0 where
@@ -46,32 +50,30 @@ log_at m p = if p == 0 then m.outside.log else (process_at m p).outbox.log
 abbrev pub gate_at : TheMachine → ℕ → TheGate
 gate_at m p = (process_at m p).outbox.gate
 
-abbrev pub phase_of : Option Message → Phase
-phase_of None = Up
-phase_of (Some m) = Busy m
+-- whether this one is up. The outside always is
+abbrev pub is_up_at : TheMachine → ℕ → Bool
+is_up_at m p = (p == 0) || is_live (process_at m p).stage
 
--- the message that a process works on is the next of its sender
-abbrev pub IsNextAfter : List Message → Option Message → Type 0
-IsNextAfter h None = Unit {0}
-IsNextAfter h (Some m) = m.ssn ≡ suc (count_of m.sender h)
-
--- what is kept of a process stands for what it received and what it does
-pub record StandsAt (kept : TheProcess) (state : List Message → List ℕ) (history : List Message) (phase : Phase) (incarnation : ℕ) (acknowledged : ℕ → Bool) : Type 0 where
-  pub state_is : kept.state ≡ state history
-  pub senders : kept.receipts.senders ≡ map (λ (m : Message). m.sender) history
-  pub flags : length kept.receipts.acknowledged ≡ length history
-  pub acknowledged_is : (k : ℕ) → k < length history → slice_index_or kept.receipts.acknowledged k false ≡ acknowledged (suc k)
+-- what is kept of the process me of n stands for what it received, what it does, and what its checkpoint covers. While it is down its
+-- state and its logs are gone
+pub record StandsAt (n me : ℕ) (kept : TheProcess) (state : List Message → List ℕ) (sends : List Message → ℕ → List Payload) (history : List Message) (phase : Phase) (incarnation : ℕ) (acknowledged : ℕ → Bool) (saved : ℕ) (saved_trims : ℕ → ℕ) : Type 0 where
+  pub state_is : is_lost kept.stage ≡ false → kept.state ≡ state (held_by kept.stage saved history)
+  pub gone : is_lost kept.stage ≡ true → (kept.state ≡ []) × (kept.outbox ≡ empty_outbox me n)
+  pub senders : kept.receipts.senders ≡ map (λ (m : Message). m.sender) (held_by kept.stage saved history)
+  pub flags : length kept.receipts.acknowledged ≡ length kept.receipts.senders
+  pub acknowledged_is : (k : ℕ) → k < length kept.receipts.senders → slice_index_or kept.receipts.acknowledged k false ≡ acknowledged (suc k)
   pub in_order : InOrder history
-  pub phase_is : phase ≡ phase_of kept.working
-  pub next : IsNextAfter history kept.working
+  pub phase_is : phase ≡ phase_of n kept.stage kept.working
+  pub works : MayWork kept.stage kept.working saved history
   pub incarnation_is : incarnation ≡ kept.incarnation
+  pub saves : Saves n me kept.saved (state (take saved history)) (take saved history) saved_trims (sends (take saved history))
 
--- a queue keeps these messages, with their numbers by SSN
-pub record Keeps (q : TheQueue) (payloads : List Payload) (numbers : ℕ → Option ℕ) : Type 0 where
-  pub first : q.first ≡ 1
-  pub payloads_are : q.payloads ≡ payloads
-  pub as_many : length q.numbers ≡ length payloads
-  pub numbers_are : (i : ℕ) → i < length payloads → slice_index_or q.numbers i None ≡ numbers (suc i)
+-- of these messages so many are dropped, and a queue keeps the others, with their numbers by SSN
+pub record Keeps (q : TheQueue) (dropped : ℕ) (payloads : List Payload) (numbers : ℕ → Option ℕ) : Type 0 where
+  pub first : q.first ≡ suc dropped
+  pub rest : IsRest dropped q.payloads payloads
+  pub as_many : length q.numbers ≡ length q.payloads
+  pub numbers_are : (i : ℕ) → i < length q.payloads → slice_index_or q.numbers i None ≡ numbers (suc (dropped + i))
 
 -- to a destination d a gate let out what is released, and what waits follows it: with the sends of the first k of n messages, from
 -- the run on, it has let out or holds as many as these messages send
@@ -83,19 +85,19 @@ pub record Holds (d : ℕ) (g : TheGate) (run n released : ℕ) (sent_by : ℕ �
 abbrev pub sent_by : World → ℕ → ℕ → ℕ → ℕ
 sent_by w p d k = length (w.handlers.sends p (take k (w.history p)) d)
 
--- the machine shows this world. No call trims yet, so no log entry is dropped
+-- the machine shows this world. The log of a process that is down is empty, and the gate of one that isn't up lets nothing out
 pub record Shows (m : TheMachine) (w : World) : Type 0 where
   pub count : w.count ≡ length m.processes
   pub handlers : w.handlers ≡ handlers_of m.images
-  pub process : (p : ℕ) (d : TheProcess) → p < length m.processes → StandsAt (slice_index_or m.processes p d) (w.handlers.state (suc p)) (w.history (suc p)) (w.phase (suc p)) (w.incarnation (suc p)) (w.acknowledged (suc p))
-  pub logs : (p d : ℕ) → p ≤ length m.processes → d ≤ length m.processes → p ≢ d → Keeps (queue_of d (log_at m p)) (sent w p d) (w.numbers p d)
-  pub gates : (p d : ℕ) → 0 < p → p ≤ length m.processes → d ≤ length m.processes → p ≢ d → Holds d (gate_at m p) (run_of w p) (length (w.history p)) (w.released p d) (sent_by w p d)
+  pub process : (p : ℕ) (d : TheProcess) → p < length m.processes → StandsAt (length m.processes) (suc p) (slice_index_or m.processes p d) (w.handlers.state (suc p)) (w.handlers.sends (suc p)) (w.history (suc p)) (w.phase (suc p)) (w.incarnation (suc p)) (w.acknowledged (suc p)) (w.saved (suc p)) (w.saved_trims (suc p))
+  pub logs : (p d : ℕ) → p ≤ length m.processes → d ≤ length m.processes → p ≢ d → is_down (w.phase p) ≡ false → Keeps (queue_of d (log_at m p)) (w.trims p d) (sent w p d) (w.numbers p d)
+  pub gates : (p d : ℕ) → 0 < p → p ≤ length m.processes → d ≤ length m.processes → p ≢ d → is_up (w.phase p) ≡ true → Holds d (gate_at m p) (run_of w p) (length (w.history p)) (w.released p d) (sent_by w p d)
+  pub shut : (p d : ℕ) → 0 < p → p ≤ length m.processes → is_up (w.phase p) ≡ false → slice_index_or (gate_at m p).released d 0 ≡ 0
   pub feeds : (k : ℕ) → w.feeds k ≡ is_taken k m.outside
   pub shown : w.shown ≡ m.outside.shown
   pub wire : (key : ℕ) → w.wire key ≡ slice_index_or m.slots key None
   pub started : w.started ≡ m.started
   pub outside : w.phase 0 ≡ Up
-  pub trims : (s d : ℕ) → w.trims s d ≡ 0
 
 -- the machine stands for this world, in which what every call keeps holds
 pub record Stands (m : TheMachine) (w : World) : Type 0 where
@@ -103,6 +105,8 @@ pub record Stands (m : TheMachine) (w : World) : Type 0 where
   pub sound : Sound w
   pub tidy : Tidy w
   pub gated : Gated w
+  -- the outside has no inputs for itself
+  pub unsent : w.inputs 0 ≡ []
 
 -- an accepted call is a step of the world, and the new machine, of the same images, stands for the world after it
 pub record Steps (old new : TheMachine) (room : ℕ) (call : Call) (answer : Answer) (w : World) : Type 0 where

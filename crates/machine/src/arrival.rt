@@ -1,7 +1,7 @@
 //! What a packet does where it arrives.
 
 ghost use Rattle.std.specs.Prelude.{◌≡◌};
-ghost use Rattle.machine.specs.Arrival.{answer_of};
+ghost use Rattle.machine.specs.Arrival.{answer_of, finished_of};
 
 use replay::Job;
 use world::Answer;
@@ -25,6 +25,8 @@ pub enum Arrival {
     Acknowledged,
     /// The packet speaks of what is past.
     Stale,
+    /// Its target isn't up.
+    Unreachable,
 }
 
 impl Arrival {
@@ -41,13 +43,28 @@ impl Arrival {
             Arrival::Numbered(key) => Answer::Numbered(*key),
             Arrival::Acknowledged => Answer::Acknowledged,
             Arrival::Stale => Answer::Stale,
+            Arrival::Unreachable => Answer::Unreachable,
         }
     }
 }
 
-/// What a finished job gave: the number of its message, and the key of the packet that tells it.
+/// What a finished job gave.
 #[derive(Clone, Copy, PartialEq, Eq, Debug)]
-pub struct Committed {
-    pub rsn: u32,
-    pub key: usize,
+pub enum Finished {
+    /// The message is received: its number, and the key of the packet that tells it.
+    Committed { rsn: u32, key: usize },
+    /// The message with this number is replayed.
+    Replayed(u32),
+}
+
+impl Finished {
+    /// What a journal keeps of it.
+    pub fn answer(self) -> Answer
+        ensures { result ≡ finished_of self }
+    {
+        match self {
+            Finished::Committed { rsn, key } => Answer::Committed { rsn, key },
+            Finished::Replayed(rsn) => Answer::Replayed(rsn),
+        }
+    }
 }

@@ -5,9 +5,10 @@ ghost use Rattle.sender_log.specs.Queue.{is_logged};
 ghost use Rattle.sender_log.specs.Log.{queue_of};
 ghost use Rattle.sender_log.specs.declared.error.LogError.TheVariants.{NotLogged};
 ghost use Rattle.world.specs.World.{World};
+ghost use Rattle.world.specs.Answers.{target_of};
 ghost use Rattle.world.specs.Refusals.{refusal_of, cause_of, is_to_busy, starts, one_if};
 ghost use Rattle.machine.specs.Inside.{IsCarried};
-ghost use Rattle.machine.specs.Simulation.{Stands, Simulates, answering, log_at, IsTold};
+ghost use Rattle.machine.specs.Simulation.{Stands, Simulates, answering, log_at, is_up_at, IsTold};
 ghost use Rattle.machine.specs.Arrival.{answer_of, IsJobFor, IsJobOf};
 ghost use Rattle.machine.specs.Arriving.{IsJudged, IsNumbered, MayArrive, Drops, Records, IsNumber, IsAcknowledgement};
 
@@ -23,6 +24,7 @@ impl Machine {
     // What a message is to its receiver: of the outside, by what it was shown.
     fn judge(&self, to: u8, message: &Message) -> Judgement
         requires to { to ≤ length self.now.processes }
+        requires up { is_up_at self.now to ≡ true }
         requires from { (message.now.sender ≤ length self.now.processes) × (0 < message.now.ssn) }
         ensures verdict { (w : World) → Stands self.now w → IsJudged w to message.now result }
         ensures number { IsNumbered result }
@@ -50,11 +52,13 @@ impl Machine {
         ensures bound { result ≤ 1 }
     {
         match packet {
-            Packet::Delivery { to, message } if *to > 0 => match self.judge(*to, message) {
-                Judgement::Next => 1,
-                Judgement::Duplicate(_) => 0,
-                Judgement::Early => 0,
-            },
+            Packet::Delivery { to, message } if *to > 0 && self.is_up(*to) => {
+                match self.judge(*to, message) {
+                    Judgement::Next => 1,
+                    Judgement::Duplicate(_) => 0,
+                    Judgement::Early => 0,
+                }
+            }
             _ => 0,
         }
     }
@@ -83,7 +87,7 @@ impl Machine {
         ensures { (w : World) → Stands self.now w → result ≡ is_to_busy w (Some packet.now) }
     {
         match packet {
-            Packet::Delivery { to, .. } if *to > 0 => self.process(*to).working().is_some(),
+            Packet::Delivery { to, .. } if *to > 0 => self.process(*to).is_busy(),
             _ => false,
         }
     }
@@ -102,6 +106,10 @@ impl Machine {
         let Some(packet) = self.wire.get(key) else {
             return Err(Refusal::NoPacket);
         };
+        if !self.is_up(target(&packet)) {
+            self.drop_packet(key);
+            return Ok(Arrival::Unreachable);
+        }
         match packet {
             Packet::Delivery { to: 0, message } => self.show(room, key, message),
             Packet::Delivery { to, message } => self.receive(room, key, to, message),
@@ -266,5 +274,16 @@ impl Machine {
         self.wire.remove(key);
         self.calls += 1;
         Arrival::Acknowledged
+    }
+}
+
+// Whom a packet is for.
+fn target(packet: &Packet) -> u8
+    ensures { result ≡ target_of packet.now }
+{
+    match packet {
+        Packet::Delivery { to, .. } => *to,
+        Packet::Number { sender, .. } => *sender,
+        Packet::Acknowledgement { receiver, .. } => *receiver,
     }
 }

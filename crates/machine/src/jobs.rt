@@ -1,15 +1,17 @@
 //! Jobs: begun, compared and finished.
 
-ghost use Rattle.std.specs.Prelude.{◌≡◌, ◌+◌, ◌≤◌, ◌↔◌, IsTrue, IfOk, IfErr, OnOk};
+ghost use Rattle.std.specs.Prelude.{◌≡◌, ◌+◌, ◌≤◌, ◌↔◌, true, false, IsTrue, IfOk, IfErr, OnOk};
 ghost use Rattle.std.specs.Bool.{OnTrue};
 ghost use Rattle.world.specs.declared.refusal.Refusal.TheVariants.{Memory};
 ghost use Rattle.machine.specs.Arrival.{Finishes};
 ghost use Rattle.machine.specs.Jobs.{MayBegin, Begins, Matches, HaveSlots};
+ghost use Rattle.machine.specs.Simulation.{is_up_at};
 
-use crate::arrival::Committed;
+use crate::arrival::Finished;
 use crate::machine::Machine;
 use replay::{Done, Job, Task, Ticket};
 use std::sync::Arc;
+use verifier::Image;
 use world::{Message, Packet, Refusal};
 
 impl Machine {
@@ -59,11 +61,15 @@ impl Machine {
         {
             return false;
         }
-        self.images[me as usize - 1].code() == task.image().code()
+        let image: &Image = &self.images[me as usize - 1];
+        if image.form() != task.image().form() {
+            return false;
+        }
+        image.code() == task.image().code()
     }
 
     /// Takes in what a handler left, if it is the result of the open job.
-    pub fn finish(&mut self, done: Done) -> Result<Committed, (Refusal, Done)>
+    pub fn finish(&mut self, done: Done) -> Result<Finished, (Refusal, Done)>
         requires { self.old.calls ≤ 65536 }
         ensures step { Finishes self.old self.new done result }
         ensures calls { OnOk result (self.new.calls ≡ self.old.calls + 1) }
@@ -72,6 +78,22 @@ impl Machine {
         if !self.is_open(task) {
             return Err((Refusal::StaleJob, done));
         }
+        if self.is_up(task.process()) {
+            return self.commit(done);
+        }
+        self.recall(done)
+    }
+
+    // A message is received.
+    fn commit(&mut self, done: Done) -> Result<Finished, (Refusal, Done)>
+        requires calls { self.old.calls ≤ 65536 }
+        requires matches { Matches self.old done }
+        requires slots { HaveSlots self.old done }
+        requires up { is_up_at self.old done.who.me ≡ true }
+        ensures step { Finishes self.old self.new done result }
+        ensures calls { OnOk result (self.new.calls ≡ self.old.calls + 1) }
+    {
+        let task = done.task();
         let me = task.who().me;
         let message = task.message();
         let rsn = task.rsn();
@@ -87,6 +109,28 @@ impl Machine {
             return Err((Refusal::Memory, done));
         };
         self.calls += 1;
-        Ok(Committed { rsn, key })
+        Ok(Finished::Committed { rsn, key })
+    }
+
+    // A message is replayed.
+    fn recall(&mut self, done: Done) -> Result<Finished, (Refusal, Done)>
+        requires calls { self.old.calls ≤ 65536 }
+        requires matches { Matches self.old done }
+        requires slots { HaveSlots self.old done }
+        requires down { is_up_at self.old done.who.me ≡ false }
+        ensures step { Finishes self.old self.new done result }
+        ensures calls { OnOk result (self.new.calls ≡ self.old.calls + 1) }
+    {
+        let me = done.task().who().me;
+        let rsn = done.task().rsn();
+        let process = &mut self.processes[me as usize - 1];
+        if process.recall(&done).is_err() {
+            return Err((Refusal::Memory, done));
+        }
+        if let Some(alone) = process.stage().is_replayed() {
+            self.settle(me, alone);
+        }
+        self.calls += 1;
+        Ok(Finished::Replayed(rsn))
     }
 }

@@ -22,8 +22,13 @@ mod outbox;
 mod outside;
 mod picking;
 mod process;
+mod recovering;
+mod replaying;
+mod saving;
 mod sending;
+mod stable;
+mod stage;
 mod wire;
 
-pub use arrival::{Arrival, Committed};
+pub use arrival::{Arrival, Finished};
 pub use machine::Machine;

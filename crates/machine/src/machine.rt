@@ -1,17 +1,22 @@
 //! A machine, and what is read of it.
 
-ghost use Rattle.std.specs.Prelude.{◌≡◌, ℕ, ◌+◌, ◌<◌, ◌≤◌, ◌&&◌, IfOk, is_some, count_by, length, map, nat_lt, nat_le};
+ghost use Rattle.std.specs.Prelude.{◌≡◌, ℕ, ◌+◌, ◌<◌, ◌≤◌, ◌&&◌, [], true, false, IfOk, is_some, count_by, length, map, nat_lt, nat_le};
 ghost use Rattle.std.specs.Arc.{arc_value};
-ghost use Rattle.world.specs.Phases.{name_of};
+ghost use Rattle.world.specs.Phases.{name_of, is_down};
 ghost use Rattle.world.specs.World.{World};
 ghost use Rattle.world.specs.Logs.{state_of, length_of};
-ghost use Rattle.machine.specs.Simulation.{Stands, process_at, log_at};
+ghost use Rattle.machine.specs.Simulation.{Stands, process_at, log_at, is_up_at};
+ghost use Rattle.machine.specs.Sending.{live};
 ghost use Rattle.machine.specs.Opening.{Opens, AreIdle};
+ghost use Rattle.machine.specs.Reading.{ReceiptsStand, LogStands, GateStands};
 
 use crate::outside::Outside;
 use crate::process::Process;
+use crate::stage::Stage;
 use crate::wire::Wire;
 use helpers::Who;
+use rsn::Receipts;
+use send_gate::Gate;
 use sender_log::Log;
 use std::alloc::{AllocError, Global};
 use std::marker::Model;
@@ -111,20 +116,25 @@ impl Machine {
         self.wire.get(key)
     }
 
-    /// The state of a process.
+    /// The state of a process, which is empty while the process is down.
     pub fn state(&self, p: u8) -> &[u8]
         requires { (1 ≤ p) × (p ≤ length self.now.processes) }
-        ensures { (w : World) → Stands self.now w → result.now ≡ state_of w p }
+        ensures live { (w : World) → Stands self.now w → is_down (w.phase p) ≡ false → result.now ≡ state_of w p }
+        ensures down { (w : World) → Stands self.now w → is_down (w.phase p) ≡ true → result.now ≡ [] }
     {
         self.process(p).state()
     }
 
-    /// How many messages it received.
+    /// How many messages its state has: while it is down, those of its checkpoint.
     pub fn length(&self, p: u8) -> u32
         requires { (1 ≤ p) × (p ≤ length self.now.processes) }
         ensures { (w : World) → Stands self.now w → result ≡ length_of w p }
     {
-        self.process(p).length()
+        let process = self.process(p);
+        if process.stage().is_lost() {
+            return process.stable().length();
+        }
+        process.length()
     }
 
     /// The name of its phase.
@@ -132,10 +142,50 @@ impl Machine {
         requires { (1 ≤ p) × (p ≤ length self.now.processes) }
         ensures { (w : World) → Stands self.now w → result ≡ name_of (w.phase p) }
     {
-        match self.process(p).working() {
-            None => PhaseName::Up,
-            Some(_) => PhaseName::Busy,
+        let process = self.process(p);
+        match process.stage() {
+            Stage::Live if process.working().is_some() => PhaseName::Busy,
+            Stage::Live => PhaseName::Up,
+            Stage::Down => PhaseName::Down,
+            Stage::Replaying { .. } => PhaseName::Replaying,
+            Stage::Resync(_) => PhaseName::Resync,
         }
+    }
+
+    /// Its incarnation, from 1.
+    pub fn incarnation(&self, p: u8) -> u32
+        requires { (1 ≤ p) × (p ≤ length self.now.processes) }
+        ensures { (w : World) → Stands self.now w → result ≡ w.incarnation p }
+    {
+        self.process(p).incarnation()
+    }
+
+    /// The senders of the messages that it received, and which of these are acknowledged.
+    pub fn receipts(&self, p: u8) -> &Receipts
+        requires { (1 ≤ p) × (p ≤ length self.now.processes) }
+        ensures { (w : World) → Stands self.now w → ReceiptsStand w p result.now }
+    {
+        self.process(p).receipts()
+    }
+
+    /// The messages that it sent, with their numbers. 0 is the outside, which sent its inputs.
+    pub fn log(&self, p: u8) -> &Log
+        requires { p ≤ length self.now.processes }
+        ensures value { result.now ≡ log_at self.now p }
+        ensures sent { (w : World) → Stands self.now w → LogStands w p result.now }
+    {
+        if p == 0 {
+            return self.outside.log();
+        }
+        self.process(p).outbox().log()
+    }
+
+    /// Those of its messages that wait, and how many were released to each destination.
+    pub fn gate(&self, p: u8) -> &Gate
+        requires { (1 ≤ p) × (p ≤ length self.now.processes) }
+        ensures { (w : World) → Stands self.now w → GateStands w p result.now }
+    {
+        self.process(p).outbox().gate()
     }
 
     // What is kept of the process of this number.
@@ -145,17 +195,6 @@ impl Machine {
         ensures few { length self.now.processes ≤ 15 }
     {
         &self.processes[p as usize - 1]
-    }
-
-    // The log of this number: of the outside, its inputs.
-    pub(crate) fn log(&self, p: u8) -> &Log
-        requires { p ≤ length self.now.processes }
-        ensures { result.now ≡ log_at self.now p }
-    {
-        if p == 0 {
-            return self.outside.log();
-        }
-        self.process(p).outbox().log()
     }
 
     // Whether this is a process, and not the outside.
@@ -172,6 +211,23 @@ impl Machine {
     {
         let open = self.processes.iter().filter(|p| p.working().is_some());
         open.count() as u32
+    }
+
+    // How many of these are of processes that are up.
+    pub(crate) fn live_jobs(&self) -> u32
+        ensures value { result ≡ live self.now }
+        ensures bound { result ≤ 15 }
+    {
+        let open = self.processes.iter().filter(|p| p.is_busy());
+        open.count() as u32
+    }
+
+    // Whether this one is up. The outside always is.
+    pub(crate) fn is_up(&self, p: u8) -> bool
+        requires { p ≤ length self.now.processes }
+        ensures { result ≡ is_up_at self.now p }
+    {
+        p == 0 || self.process(p).stage().is_live()
     }
 
     // How the process is called for a message of this sender.

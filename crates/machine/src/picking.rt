@@ -7,7 +7,9 @@ ghost use Rattle.world.specs.Bounds.{WIRE, any_below};
 ghost use Rattle.world.specs.Refusals.{refusal_of};
 ghost use Rattle.world.specs.Useful.{belongs, is_unacknowledged, is_useful, wants, works_on};
 ghost use Rattle.machine.specs.Inside.{IsCarried};
-ghost use Rattle.machine.specs.Simulation.{Stands, phase_of, process_at};
+ghost use Rattle.machine.specs.Simulation.{Stands, process_at, is_up_at};
+ghost use Rattle.machine.specs.Stage.{phase_of};
+ghost use Rattle.machine.specs.declared.stage.Stage.TheVariants.{Live};
 ghost use Rattle.machine.specs.Picking.{IsPick, IsMove, ArePeers, IsWanted, NoneWanted, next_ssn};
 
 use crate::machine::Machine;
@@ -17,7 +19,8 @@ use world::{Call, Message, Packet};
 impl Machine {
     /// A call that is useful and isn't refused with so much room in the journal for another cause
     /// than want of memory, and `None` only where there is none: a packet that can be taken from
-    /// the wire, else a message that is put on it. Takes no memory.
+    /// the wire, else a message that is replayed, else numbers that are restored, else a message
+    /// that is put on the wire. Takes no memory.
     pub fn pick(&self, room: u32) -> Option<Call>
         ensures some { IfSome result (λ call. (w : World) → Stands self.now w → IsPick w room call) }
         ensures none { IfNone result ((w : World) → Stands self.now w → (call : Call) → ¬ IsPick w room call) }
@@ -26,7 +29,53 @@ impl Machine {
         if let Some(key) = self.pick_arrival(room) {
             return Some(Call::Arrive { key });
         }
+        if let Some(process) = self.pick_replay(room) {
+            return Some(Call::ReplayBegin { process });
+        }
+        if let Some((process, peer)) = self.pick_resync(room) {
+            return Some(Call::Resync { process, peer });
+        }
         self.pick_transmit(room)
+    }
+
+    // A process whose next job can be started.
+    fn pick_replay(&self, room: u32) -> Option<u8>
+        ensures some { IfSome result (λ p. (w : World) → Stands self.now w → IsPick w room (Call.ReplayBegin p)) }
+        ensures none { IfNone result ((w : World) → Stands self.now w → (p : ℕ) → ¬ IsPick w room (Call.ReplayBegin p)) }
+    {
+        for p in 1..self.count() + 1 {
+            if self.replay_begin_cause(room, p).is_none() {
+                return Some(p);
+            }
+        }
+        None
+    }
+
+    // A process that can restore its numbers for a peer, and the peer.
+    fn pick_resync(&self, room: u32) -> Option<(u8, u8)>
+        ensures some { IfSome result (λ x. (w : World) → Stands self.now w → IsPick w room (Call.Resync x.0 x.1)) }
+        ensures none { IfNone result ((w : World) → Stands self.now w → (p r : ℕ) → ¬ IsPick w room (Call.Resync p r)) }
+    {
+        for process in 1..self.count() + 1 {
+            if let Some(peer) = self.resync_peer(room, process) {
+                return Some((process, peer));
+            }
+        }
+        None
+    }
+
+    // A peer for which this one can restore its numbers.
+    fn resync_peer(&self, room: u32, p: u8) -> Option<u8>
+        requires { (0 < p) × (p ≤ length self.now.processes) }
+        ensures some { IfSome result (λ r. (w : World) → Stands self.now w → IsPick w room (Call.Resync p r)) }
+        ensures none { IfNone result ((w : World) → Stands self.now w → (r : ℕ) → ¬ IsPick w room (Call.Resync p r)) }
+    {
+        for r in 1..self.count() + 1 {
+            if self.resync_cause(room, p, r).is_none() {
+                return Some(r);
+            }
+        }
+        None
     }
 
     // The key of a packet that can be taken from the wire.
@@ -34,9 +83,9 @@ impl Machine {
         ensures some { IfSome result (λ key. (w : World) → Stands self.now w → refusal_of w room (Call.Arrive key) ≡ None) }
         ensures none { IfNone result ((w : World) → Stands self.now w → (key : ℕ) → refusal_of w room (Call.Arrive key) ≢ None) }
     {
-        for key in 0..self.wire.end() {
-            if self.arrive_cause(room, key).is_none() {
-                return Some(key);
+        for key in self.wire.keys() {
+            if self.arrive_cause(room, *key).is_none() {
+                return Some(*key);
             }
         }
         None
@@ -66,8 +115,11 @@ impl Machine {
         ensures some { IfSome result (λ x. ArePeers self.now from x.0 × IsWanted self.now from x.0 x.1) }
         ensures none { IfNone result ((to : ℕ) → ArePeers self.now from to → NoneWanted self.now from to) }
     {
+        if !self.is_up(from) {
+            return None;
+        }
         for to in 0..self.count() + 1 {
-            if to == from {
+            if to == from || !self.is_up(to) {
                 continue;
             }
             if let Some(ssn) = self.wanted_between(from, to) {
@@ -121,7 +173,7 @@ impl Machine {
         requires ssn { 0 < ssn }
         ensures { (w : World) → Stands self.now w → result ≡ is_useful w (Call.Transmit from to ssn) }
     {
-        if ssn > self.released(from, to) {
+        if ssn > self.released(from, to) || !self.log(from).is_logged(to, ssn) {
             return false;
         }
         if !self.wants(from, to, ssn) {
@@ -164,6 +216,7 @@ impl Machine {
     // The number under which a process has the message of this SSN.
     fn number_of(&self, from: u8, to: u8, ssn: u32) -> Option<u32>
         requires inside { (0 < to) × (to ≤ length self.now.processes) }
+        requires up { is_up_at self.now to ≡ true }
         requires from { from ≤ length self.now.processes }
         requires ssn { 0 < ssn }
         ensures value { (w : World) → Stands self.now w → result ≡ rsn_of (w.history to) from ssn }
@@ -181,8 +234,8 @@ impl Machine {
         requires ssn { 0 < ssn }
         ensures { (w : World) → Stands self.now w → result ≡ any_below (λ key. belongs w from to ssn (w.wire key)) WIRE }
     {
-        for key in 0..self.wire.end() {
-            if let Some(packet) = self.wire.get(key) {
+        for key in self.wire.keys() {
+            if let Some(packet) = self.wire.get(*key) {
                 if self.belongs(from, to, ssn, &packet) {
                     return true;
                 }
@@ -232,7 +285,7 @@ impl Machine {
 
 // Whether the message that is worked on is this one.
 fn works_on(working: Option<Message>, from: u8, ssn: u32) -> bool
-    ensures { result ≡ works_on (phase_of working) from ssn }
+    ensures { result ≡ works_on (phase_of 0 Live working) from ssn }
 {
     match working {
         Some(message) => message.sender == from && message.ssn == ssn,

@@ -48,11 +48,10 @@ impl Machine {
     pub(crate) fn place_cause(&self, room: u32) -> Option<Refusal>
         ensures { result ≡ placing self.now room }
     {
-        let jobs = self.open_jobs();
-        if room <= jobs {
+        if room <= self.open_jobs() {
             return Some(Refusal::JournalFull);
         }
-        if self.wire.len() >= MOST_PACKETS - jobs as usize {
+        if self.wire.len() >= MOST_PACKETS - self.live_jobs() as usize {
             return Some(Refusal::WireFull);
         }
         None
@@ -68,13 +67,16 @@ impl Machine {
         if from as usize > count || to as usize > count {
             return Some(Refusal::NoSuchProcess);
         }
+        if !self.is_up(from) {
+            return Some(Refusal::NotUp);
+        }
         if from == to {
             return Some(Refusal::SameProcess);
         }
         if ssn > self.released(from, to) {
             return Some(Refusal::NotReleased);
         }
-        if ssn == 0 {
+        if ssn == 0 || !self.log(from).is_logged(to, ssn) {
             return Some(Refusal::NotLogged);
         }
         self.place_cause(room)

@@ -1,7 +1,7 @@
 //! The packets on the wire, each under a key.
 
-ghost use Rattle.std.specs.Prelude.{◌≡◌, ℕ, ◌<◌, ◌≤◌, [], Some, None, is_some, IsSome, IfOk, OnErr, slice_index_or, count_by};
-ghost use Rattle.machine.specs.Wire.{Puts};
+ghost use Rattle.std.specs.Prelude.{◌≡◌, ◌<◌, ◌≤◌, [], length, Some, None, is_some, IsSome, IfOk, OnErr, slice_index_or, count_by};
+ghost use Rattle.machine.specs.Wire.{Puts, AreListed};
 
 use slab::Slab;
 use std::alloc::{AllocError, Global};
@@ -15,6 +15,8 @@ pub const MOST_PACKETS: usize = 4096;
 #[derive(Drop)]
 pub struct Wire {
     slab: Slab<Packet>,
+    /// The keys with a packet, in ascending order.
+    keys: Vec<usize>,
 }
 
 impl Model for Wire {
@@ -24,6 +26,10 @@ impl Model for Wire {
     ghost Value = { List (Option Packet) };
 
     ghost view = { λ w. w.slab.slots };
+
+    ghost use Rattle.machine.specs.Wire.{AreListed};
+
+    ghost invariant = { λ w. AreListed w.slab.slots w.keys.items };
 }
 
 impl Wire {
@@ -33,6 +39,7 @@ impl Wire {
     {
         Wire {
             slab: Slab::new(alloc),
+            keys: Vec::new(alloc),
         }
     }
 
@@ -43,11 +50,11 @@ impl Wire {
         self.slab.len()
     }
 
-    /// A key from which on no packet lies.
-    pub fn end(&self) -> usize
-        ensures { (key : ℕ) → result ≤ key → slice_index_or self.now key None ≡ None }
+    /// The keys under which packets lie.
+    pub fn keys(&self) -> &[usize]
+        ensures { AreListed self.now result.now }
     {
-        self.slab.capacity()
+        self.keys.as_slice()
     }
 
     /// The packet under this key.
@@ -65,9 +72,12 @@ impl Wire {
         ensures err { OnErr result (self.new ≡ self.old) }
     {
         self.slab.reserve(1)?;
-        if self.slab.vacant_key() >= MOST_PACKETS {
+        let key = self.slab.vacant_key();
+        if key >= MOST_PACKETS {
             return Err(AllocError);
         }
+        let place = rank(self.keys.as_slice(), key);
+        self.keys.insert(place, key)?;
         Ok(self.slab.insert_reserved(packet))
     }
 
@@ -85,5 +95,16 @@ impl Wire {
         ensures { Puts self.old self.new key (slice_index_or self.old key None) None }
     {
         self.slab.try_remove(key);
+        let place = rank(self.keys.as_slice(), key);
+        if place < self.keys.len() && self.keys[place] == key {
+            self.keys.remove(place);
+        }
     }
+}
+
+/// How many of these keys, which ascend, are below this one.
+fn rank(keys: &[usize], key: usize) -> usize
+    ensures { result ≤ length keys.now }
+{
+    keys.partition_point(|other| *other < key)
 }

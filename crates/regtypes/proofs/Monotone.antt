@@ -1,23 +1,30 @@
 -- A frame that says more breaks no more rules, and leaves more.
-use Rattle.std.proofs.Common.{◌≡◌, ◌≢◌, ℕ, zero, suc, ◌+◌, ◌<◌, ◌≤◌, Bool, true, false, cond, List, [], ◌∷◌, length, drop, length-drop, Option, Some, None, ℤ, pos, negsuc, refl, sym, ap, ◌∙◌, subst, ⊎_elim, arith}
-use Rattle.std.specs.Prelude.{slice_set, not, ◌||◌}
+use Rattle.std.proofs.Common.{◌≡◌, ◌≢◌, ℕ, zero, suc, ◌+◌, ◌<◌, ◌≤◌, Bool, true, false, cond, List, [], ◌∷◌, length, drop, length-drop, Option, Some, None, ℤ, pos, negsuc, ◌+ℤ◌, refl, sym, ap, ◌∙◌, subst, ⊎_elim, ◌⊎◌, inl, inr, arith}
+use Rattle.std.specs.Prelude.{slice_set, not, ◌||◌, ◌&&◌}
 use Rattle.std.proofs.lemmas.Bool.{or_parts, cases_eq, cases_lt, false≢true}
-use Rattle.std.proofs.lemmas.List.{get_or-set_same, get_or-set_other, get_or_past, length-set, get_or-drop}
+use Rattle.std.proofs.lemmas.Bool.Decides.{nat_tests}
+use Rattle.std.proofs.lemmas.List.{get_or-set_same, get_or-set_other, get_or_past, length-set, get_or-drop, ext_get_or}
 use Rattle.decode.specs.declared.insn.Reg.{Reg}
-use Rattle.decode.specs.declared.insn.Operand.{Operand}
+use Rattle.decode.specs.declared.insn.Width.TheVariants.{W32, W64}
+use Rattle.decode.specs.declared.insn.Condition.{Condition}
 use Rattle.decode.specs.declared.insn.Operand.TheVariants as operand
 use Rattle.decode.specs.declared.insn.Insn.{Insn}
 use Rattle.decode.specs.declared.insn.Insn.TheVariants.{Alu, MovSx, Neg, End, Jump, JumpLong, JumpIf, Call, Exit, Load, LoadSx, StoreReg, StoreImm, Wide}
+use Rattle.regtypes.specs.declared.image_form.ImageForm.{ImageForm}
+use Rattle.regtypes.specs.declared.frame.Region.{Region}
+use Rattle.regtypes.specs.declared.frame.Region.TheVariants.{Message, State, Stack}
 use Rattle.regtypes.specs.declared.frame.Kind.{Kind}
-use Rattle.regtypes.specs.declared.frame.Kind.TheVariants.{Unset, Num}
-use Rattle.regtypes.specs.declared.form.Form.{Form}
-use Rattle.regtypes.specs.declared.form.Form.TheVariants.{Copies, Moves, Sets, Computes}
+use Rattle.regtypes.specs.declared.frame.Kind.TheVariants.{Unset, Num, Len, Place}
+use Rattle.regtypes.specs.declared.frame.Frame.{Frame}
+use Rattle.regtypes.specs.declared.attributes.Access.{Access}
+use Rattle.regtypes.specs.declared.attributes.Attributes.{Attributes}
 use Rattle.regtypes.specs.declared.rule.Rule.{Rule}
-use Rattle.regtypes.specs.declared.rule.Rule.TheVariants.{V3, V4, V5, V6, V7, V9, V10}
-use Rattle.regtypes.specs.Frame.{kind_at, Leq}
-use Rattle.regtypes.specs.Form.{form_of}
+use Rattle.regtypes.specs.Frame.{kind_at, is_num, LeqKind, LeqKinds, Leq}
+use Rattle.regtypes.specs.Attributes.{attributes_of}
+use Rattle.regtypes.specs.Rules.{is_unset, is_len, is_place, is_in_message, is_message, region_len, lie_inside, reaches, moves, is_payload, is_sized, Argument, Number, Payload, Sized, arguments_of, takes, takes_all, has, base_of, moved_of, reads_unset, has_number_as_base, mixes, reaches_out, moves_out, stores_in_message, refuses, misgives, ends_without, Tests, first_broken, tests_by, tests_of}
+use Rattle.regtypes.specs.Leaving.{moved, given_by, given, written_with, after_by, after_helper, after, least_met, least_unmet, shown, raised, IsMonotone}
 use Rattle.regtypes.specs.Typing.{or_else}
-use Rattle.regtypes.specs.Rules.{is_unset, is_num, is_place, is_in_message, is_payload, is_frame_pointer, reaches, moved, bytes_in, signed_bytes_in, operand_unset, operand_place, Tests, first_broken, copy_tests, move_tests, set_tests, compute_tests, alu_tests, load_tests, store_tests, branch_tests, helper_tests, after_alu, after_helper, after, IsMonotone}
+use Rattle.regtypes.proofs.Order.{LeqKind-refl}
 
 -- ---- tests of which none holds
 
@@ -36,6 +43,10 @@ pub none_holds : (ts : Tests) → Passes ts → NoneHolds ts
 none_holds [] h = tt
 none_holds (t ∷ ts) h = let k = first_holds t.0 t.1 (first_broken ts) h in (k.0, none_holds ts k.1)
 
+pub passes : (ts : Tests) → NoneHolds ts → Passes ts
+passes [] h = refl
+passes (t ∷ ts) h = ap (λ b. cond b (Some t.1) (first_broken ts)) h.0 ∙ passes ts h.1
+
 pub both_none : (a b : Option Rule) → or_else a b ≡ None → (a ≡ None) × (b ≡ None)
 both_none None b h = (refl, h)
 both_none (Some r) b h = cc
@@ -44,186 +55,374 @@ pub not_false : (b : Bool) → not b ≡ false → b ≡ true
 not_false true h = refl
 not_false false h = cc
 
--- ---- kinds that are known
+neither : (a b : Bool) → a ≡ false → b ≡ false → (a || b) ≡ false
+neither true b p q = cc
+neither false b p q = q
 
--- a kind that is known is the same in the frame that says more
-same_kind : (f g : List Kind) (r : ℕ) → Leq f g → is_unset (kind_at g r) ≡ false → kind_at g r ≡ kind_at f r
-same_kind f g r le h =
-    let known : kind_at g r ≢ Unset = λ e. false≢true (sym h ∙ ap is_unset e) in
-    sym (le r known)
+both : (a b : Bool) → a ≡ true → b ≡ true → (a && b) ≡ true
+both true b p q = q
+both false b p q = cc
 
-num_same : (f g : List Kind) (r : ℕ) → Leq f g → not (is_num (kind_at g r)) ≡ false → kind_at g r ≡ kind_at f r
-num_same f g r le h = sym (le r (λ e. false≢true (sym (ap (λ k. is_num k) e) ∙ not_false (is_num (kind_at g r)) h)))
+pub both_parts : (a b : Bool) → (a && b) ≡ true → (a ≡ true) × (b ≡ true)
+both_parts true b h = (refl, h)
+both_parts false b h = cc
 
-payload_same : (f g : List Kind) (r len : ℕ) → Leq f g → not (is_payload len (kind_at g r)) ≡ false → kind_at g r ≡ kind_at f r
-payload_same f g r len le h = sym (le r (λ e. false≢true (sym (ap (is_payload len) e) ∙ not_false (is_payload len (kind_at g r)) h)))
+one_part : (a b c d : Bool) → (a ≡ true → c ≡ true) → (b ≡ true → d ≡ true) → (a || b) ≡ true → (c || d) ≡ true
+one_part true b true d p q h = refl
+one_part true b false d p q h = absurd (false≢true (p refl))
+one_part false b true d p q h = refl
+one_part false b false d p q h = q h
 
--- an operand that is read
-same_operand : (f g : List Kind) (o : Operand) → Leq f g → operand_unset g o ≡ false → (operand_unset g o ≡ operand_unset f o) × (operand_place g o ≡ operand_place f o)
-same_operand f g (operand.Imm n) le h = (refl, refl)
-same_operand f g (operand.Reg r) le h = let e = same_kind f g r.number le h in (ap is_unset e, ap is_place e)
+pub kept : (a b : Bool) → (a ≡ true → b ≡ true) → not a ≡ false → not b ≡ false
+kept a b m h = ap not (m (not_false a h))
 
--- a register and an operand that are read
-pair_same : (f g : List Kind) (r : ℕ) (o : Operand) → Leq f g → (is_unset (kind_at g r) || operand_unset g o) ≡ false → (kind_at g r ≡ kind_at f r) × (operand_unset g o ≡ operand_unset f o) × (operand_place g o ≡ operand_place f o)
-pair_same f g r o le h =
-    let u = or_parts (is_unset (kind_at g r)) (operand_unset g o) h in
-    let e = same_operand f g o le u.1 in
-    (same_kind f g r le u.0, e.0, e.1)
+-- ---- kinds
 
--- ---- frames
+-- a kind that says no less: it is the same, or the length in place of a number
+narrows : (P : Kind → Kind → Type 0) → ((x : Kind) → P x Unset) → ((k : Kind) → P k k) → P Len Num → (x y : Kind) → LeqKind x y → P x y
+narrows P none same length x Unset le = none x
+narrows P none same length Unset Num le = cc
+narrows P none same length Num Num le = same Num
+narrows P none same length Len Num le = length
+narrows P none same length (Place r k) Num le = cc
+narrows P none same length x Len le = subst (λ k. P k Len) (sym le) (same Len)
+narrows P none same length x (Place r k) le = subst (λ z. P z (Place r k)) (sym le) (same (Place r k))
+
+-- a test that fails of a kind that is known
+abbrev Fails : (Kind → Bool) → Type 0
+Fails p = (x y : Kind) → LeqKind x y → is_unset y ≡ false → p y ≡ false → p x ≡ false
+
+fails : (p : Kind → Bool) → (p Num ≡ false → p Len ≡ false) → Fails p
+fails p l = narrows (λ x y. is_unset y ≡ false → p y ≡ false → p x ≡ false) (λ x u. absurd (false≢true (sym u))) (λ k u h. h) (λ u h. l h)
+
+-- a test that holds of a kind that is known
+holds : (p q : Kind → Bool) → p Unset ≡ false → ((k : Kind) → p k ≡ true → q k ≡ true) → (p Num ≡ true → q Len ≡ true) → (x y : Kind) → LeqKind x y → p y ≡ true → q x ≡ true
+holds p q u s l = narrows (λ x y. p y ≡ true → q x ≡ true) (λ x h. absurd (false≢true (sym u ∙ h))) s l
+
+region_grows : (low low' len : ℕ) (r : Region) → low ≤ low' → region_len low len r ≤ region_len low' len r
+region_grows low low' len Message h = h
+region_grows low low' len State h = omega arith
+region_grows low low' len Stack h = omega arith
+
+inside_grows : (m m' n : ℕ) (z : ℤ) → m ≤ m' → lie_inside m n z ≡ true → lie_inside m' n z ≡ true
+inside_grows m m' n (pos a) le h = grind (arith, nat_tests)
+inside_grows m m' n (negsuc a) le h = h
+
+reaches_grows : (low low' len n : ℕ) (o : ℤ) → low ≤ low' → (k : Kind) → reaches low len n o k ≡ true → reaches low' len n o k ≡ true
+reaches_grows low low' len n o le Unset h = refl
+reaches_grows low low' len n o le Num h = refl
+reaches_grows low low' len n o le Len h = refl
+reaches_grows low low' len n o le (Place r k) h = inside_grows (region_len low len r) (region_len low' len r) n (k +ℤ o) (region_grows low low' len r le) h
+
+payload_grows : (low low' len n : ℕ) → low ≤ low' → (k : Kind) → is_payload low len n k ≡ true → is_payload low' len n k ≡ true
+payload_grows low low' len n le Unset h = h
+payload_grows low low' len n le Num h = h
+payload_grows low low' len n le Len h = h
+payload_grows low low' len n le (Place r k) h = inside_grows (region_len low len r) (region_len low' len r) n k (region_grows low low' len r le) h
+
+pub num_holds : (x y : Kind) → LeqKind x y → is_num y ≡ true → is_num x ≡ true
+num_holds = holds is_num is_num refl (λ k h. h) (λ h. refl)
+
+payload_holds : (low low' len n : ℕ) → low ≤ low' → (x y : Kind) → LeqKind x y → is_payload low len n y ≡ true → is_payload low' len n x ≡ true
+payload_holds low low' len n le = holds (is_payload low len n) (is_payload low' len n) refl (payload_grows low low' len n le) (λ h. h)
+
+sized_holds : (low low' len : ℕ) → low ≤ low' → (p q c d : Kind) → LeqKind p q → LeqKind c d → is_sized low len q d ≡ true → is_sized low' len p c ≡ true
+sized_holds low low' len le p q c d a b h =
+    let n = both_parts (is_num d) (is_payload low len 256 q || (is_message q && is_len d)) h in
+    let whole = λ (w : (is_message q && is_len d) ≡ true). let k = both_parts (is_message q) (is_len d) w in both (is_message p) (is_len c) (holds is_message is_message refl (λ k h. h) (λ h. h) p q a k.0) (holds is_len is_len refl (λ k h. h) (λ h. refl) c d b k.1) in
+    both (is_num c) (is_payload low' len 256 p || (is_message p && is_len c)) (num_holds c d b n.0) (one_part (is_payload low len 256 q) (is_message q && is_len d) (is_payload low' len 256 p) (is_message p && is_len c) (payload_holds low low' len 256 le p q a) whole n.1)
+
+-- ---- rules
+
+has_kept : (p : Kind → Bool) → Fails p → (f g : List Kind) → LeqKinds f g → (r : Option Reg) → has is_unset g r ≡ false → has p g r ≡ false → has p f r ≡ false
+has_kept p m f g le None u h = refl
+has_kept p m f g le (Some r) u h = m (kind_at f r.number) (kind_at g r.number) (le r.number) u h
+
+set_kept : (f g : List Kind) → LeqKinds f g → (r : Option Reg) → has is_unset g r ≡ false → has is_unset f r ≡ false
+set_kept f g le r h = has_kept is_unset (fails is_unset (λ h. refl)) f g le r h h
+
+-- what a frame knows of the registers that are read
+pub record AllSet (f : List Kind) (a : Attributes) : Type 0 where
+  pub number : has is_unset f a.number ≡ false
+  pub operand : has is_unset f a.operand ≡ false
+  pub copied : has is_unset f a.copied ≡ false
+  pub base : has is_unset f (base_of a.access) ≡ false
+  pub moved : has is_unset f (moved_of a.moved) ≡ false
+
+pub all_set : (f : List Kind) (a : Attributes) → reads_unset f a ≡ false → AllSet f a
+all_set f a h =
+    let one = or_parts (has is_unset f a.number) (has is_unset f a.operand || (has is_unset f a.copied || (has is_unset f (base_of a.access) || has is_unset f (moved_of a.moved)))) h in
+    let two = or_parts (has is_unset f a.operand) (has is_unset f a.copied || (has is_unset f (base_of a.access) || has is_unset f (moved_of a.moved))) one.1 in
+    let three = or_parts (has is_unset f a.copied) (has is_unset f (base_of a.access) || has is_unset f (moved_of a.moved)) two.1 in
+    let four = or_parts (has is_unset f (base_of a.access)) (has is_unset f (moved_of a.moved)) three.1 in
+    record { number = one.0; operand = two.0; copied = three.0; base = four.0; moved = four.1 }
+
+reads_kept : (f g : List Kind) (a : Attributes) → LeqKinds f g → AllSet g a → reads_unset f a ≡ false
+reads_kept f g a le s =
+    neither (has is_unset f a.number) _ (set_kept f g le a.number s.number) (neither (has is_unset f a.operand) _ (set_kept f g le a.operand s.operand) (neither (has is_unset f a.copied) _ (set_kept f g le a.copied s.copied) (neither (has is_unset f (base_of a.access)) _ (set_kept f g le (base_of a.access) s.base) (set_kept f g le (moved_of a.moved) s.moved))))
+
+base_kept : (f g : List Kind) → LeqKinds f g → (a : Option Access) → has is_unset g (base_of a) ≡ false → has_number_as_base g a ≡ false → has_number_as_base f a ≡ false
+base_kept f g le None u h = refl
+base_kept f g le (Some a) u h = fails is_num (λ h. h) (kind_at f a.base.number) (kind_at g a.base.number) (le a.base.number) u h
+
+mixes_kept : (f g : List Kind) (a : Attributes) → LeqKinds f g → AllSet g a → mixes g a ≡ false → mixes f a ≡ false
+mixes_kept f g a le s h =
+    let one = or_parts (has is_place g a.number) (has is_place g a.operand || has_number_as_base g a.access) h in
+    let two = or_parts (has is_place g a.operand) (has_number_as_base g a.access) one.1 in
+    let place = fails is_place (λ h. refl) in
+    neither (has is_place f a.number) _ (has_kept is_place place f g le a.number s.number one.0) (neither (has is_place f a.operand) _ (has_kept is_place place f g le a.operand s.operand two.0) (base_kept f g le a.access s.base two.1))
+
+reaches_kept : (len : ℕ) (f g : Frame) → Leq f g → (a : Option Access) → has is_unset g.kinds (base_of a) ≡ false → reaches_out len g a ≡ false → reaches_out len f a ≡ false
+reaches_kept len f g le None u h = refl
+reaches_kept len f g le (Some a) u h =
+    let P = λ (x y : Kind). is_unset y ≡ false → reaches g.low len a.bytes a.offset y ≡ true → reaches f.low len a.bytes a.offset x ≡ true in
+    let m = narrows P (λ x u. absurd (false≢true (sym u))) (λ k u. reaches_grows g.low f.low len a.bytes a.offset le.low k) (λ u h. refl) (kind_at f.kinds a.base.number) (kind_at g.kinds a.base.number) (le.kinds a.base.number) u in
+    kept (reaches g.low len a.bytes a.offset (kind_at g.kinds a.base.number)) (reaches f.low len a.bytes a.offset (kind_at f.kinds a.base.number)) m h
+
+moves_kept : (f g : List Kind) → LeqKinds f g → (m : Option (Reg × ℤ)) → has is_unset g (moved_of m) ≡ false → moves_out g m ≡ false → moves_out f m ≡ false
+moves_kept f g le None u h = refl
+moves_kept f g le (Some m) u h =
+    fails (λ k. not (moves m.1 k)) (λ h. refl) (kind_at f m.0.number) (kind_at g m.0.number) (le m.0.number) u h
+
+stores_kept : (f g : List Kind) → LeqKinds f g → (a : Option Access) → has is_unset g (base_of a) ≡ false → stores_in_message g a ≡ false → stores_in_message f a ≡ false
+stores_kept f g le None u h = refl
+stores_kept f g le (Some a) u h =
+    fails (λ k. a.stores && is_in_message k) (λ h. h) (kind_at f a.base.number) (kind_at g a.base.number) (le a.base.number) u h
+
+takes_kept : (len : ℕ) (f g : Frame) → Leq f g → (x : Argument) → takes len g x ≡ true → takes len f x ≡ true
+takes_kept len f g le (Number r) h = num_holds (kind_at f.kinds r) (kind_at g.kinds r) (le.kinds r) h
+takes_kept len f g le (Payload r) h = payload_holds g.low f.low len 64 le.low (kind_at f.kinds r) (kind_at g.kinds r) (le.kinds r) h
+takes_kept len f g le (Sized r n) h = sized_holds g.low f.low len le.low (kind_at f.kinds r) (kind_at g.kinds r) (kind_at f.kinds n) (kind_at g.kinds n) (le.kinds r) (le.kinds n) h
+
+takes_all_kept : (len : ℕ) (f g : Frame) → Leq f g → (xs : List Argument) → takes_all len g xs ≡ true → takes_all len f xs ≡ true
+takes_all_kept len f g le [] h = refl
+takes_all_kept len f g le (x ∷ xs) h =
+    let k = both_parts (takes len g x) (takes_all len g xs) h in
+    both (takes len f x) (takes_all len f xs) (takes_kept len f g le x k.0) (takes_all_kept len f g le xs k.1)
+
+refuses_kept : (len : ℕ) (f g : Frame) → Leq f g → (o : Option (List Argument)) → refuses len g o ≡ false → refuses len f o ≡ false
+refuses_kept len f g le None h = refl
+refuses_kept len f g le (Some xs) h = kept (takes_all len g xs) (takes_all len f xs) (takes_all_kept len f g le xs) h
+
+misgives_kept : (form : ImageForm) (len : ℕ) (i : Insn) (f g : Frame) → Leq f g → misgives form len i g ≡ false → misgives form len i f ≡ false
+misgives_kept form len (Call helper) f g le h = refuses_kept len f g le (arguments_of form helper) h
+misgives_kept form len (Alu op width dst o) f g le h = refl
+misgives_kept form len (MovSx extension dst src) f g le h = refl
+misgives_kept form len (Neg width dst) f g le h = refl
+misgives_kept form len (End order bits dst) f g le h = refl
+misgives_kept form len (Jump offset) f g le h = refl
+misgives_kept form len (JumpLong distance) f g le h = refl
+misgives_kept form len (JumpIf condition width dst o offset) f g le h = refl
+misgives_kept form len Exit f g le h = refl
+misgives_kept form len (Load size dst src offset) f g le h = refl
+misgives_kept form len (LoadSx size dst src offset) f g le h = refl
+misgives_kept form len (StoreReg size dst src offset) f g le h = refl
+misgives_kept form len (StoreImm size dst offset imm) f g le h = refl
+misgives_kept form len (Wide dst value) f g le h = refl
+
+ends_kept : (i : Insn) (f g : List Kind) → LeqKinds f g → ends_without i g ≡ false → ends_without i f ≡ false
+ends_kept Exit f g le h = kept (is_num (kind_at g 0)) (is_num (kind_at f 0)) (num_holds (kind_at f 0) (kind_at g 0) (le 0)) h
+ends_kept (Call helper) f g le h = refl
+ends_kept (Alu op width dst o) f g le h = refl
+ends_kept (MovSx extension dst src) f g le h = refl
+ends_kept (Neg width dst) f g le h = refl
+ends_kept (End order bits dst) f g le h = refl
+ends_kept (Jump offset) f g le h = refl
+ends_kept (JumpLong distance) f g le h = refl
+ends_kept (JumpIf condition width dst o offset) f g le h = refl
+ends_kept (Load size dst src offset) f g le h = refl
+ends_kept (LoadSx size dst src offset) f g le h = refl
+ends_kept (StoreReg size dst src offset) f g le h = refl
+ends_kept (StoreImm size dst offset imm) f g le h = refl
+ends_kept (Wide dst value) f g le h = refl
+
+rules_kept : (a : Attributes) (form : ImageForm) (len : ℕ) (i : Insn) (f g : Frame) → Leq f g → NoneHolds (tests_by a form len i g) → NoneHolds (tests_by a form len i f)
+rules_kept a form len i f g le h =
+    let s = all_set g.kinds a h.0 in
+    let six = or_parts (reaches_out len g a.access) (moves_out g.kinds a.moved) h.1.1.1.0 in
+    let v3 = reads_kept f.kinds g.kinds a le.kinds s in
+    let v5 = mixes_kept f.kinds g.kinds a le.kinds s h.1.1.0 in
+    let v6 = neither (reaches_out len f a.access) (moves_out f.kinds a.moved) (reaches_kept len f g le a.access s.base six.0) (moves_kept f.kinds g.kinds le.kinds a.moved s.moved six.1) in
+    let v7 = stores_kept f.kinds g.kinds le.kinds a.access s.base h.1.1.1.1.0 in
+    let v9 = misgives_kept form len i f g le h.1.1.1.1.1.1.0 in
+    let v10 = ends_kept i f.kinds g.kinds le.kinds h.1.1.1.1.1.1.1.0 in
+    (v3, (h.1.0, (v5, (v6, (v7, (h.1.1.1.1.1.0, (v9, (v10, tt))))))))
+
+-- ---- registers that leave
 
 -- one kind is written in both
-pub Leq-set : (f g : List Kind) (r : ℕ) (k : Kind) → length f ≡ length g → Leq f g → Leq (slice_set f r k) (slice_set g r k)
-Leq-set f g r k n le q known = ⊎_elim same other (cases_eq q r)
+LeqKinds-set : (f g : List Kind) (r : ℕ) (x y : Kind) → length f ≡ length g → LeqKinds f g → LeqKind x y → LeqKinds (slice_set f r x) (slice_set g r y)
+LeqKinds-set f g r x y n le k q = ⊎_elim same other (cases_eq q r)
   where
-    other : q ≢ r → kind_at (slice_set f r k) q ≡ kind_at (slice_set g r k) q
+    other : q ≢ r → LeqKind (kind_at (slice_set f r x) q) (kind_at (slice_set g r y) q)
     other ne =
-        let ef : kind_at (slice_set f r k) q ≡ kind_at f q = get_or-set_other f r q k Unset ne in
-        let eg : kind_at (slice_set g r k) q ≡ kind_at g q = get_or-set_other g r q k Unset ne in
-        ef ∙ le q (λ e. known (eg ∙ e)) ∙ sym eg
+        let one = subst (λ z. LeqKind z (kind_at g q)) (sym (get_or-set_other f r q x Unset ne)) (le q) in
+        subst (LeqKind (kind_at (slice_set f r x) q)) (sym (get_or-set_other g r q y Unset ne)) one
 
-    at_r : kind_at (slice_set f r k) r ≡ kind_at (slice_set g r k) r
+    at_r : LeqKind (kind_at (slice_set f r x) r) (kind_at (slice_set g r y) r)
     at_r = ⊎_elim within past (cases_lt r (length f))
       where
-        within : r < length f → kind_at (slice_set f r k) r ≡ kind_at (slice_set g r k) r
-        within lt = get_or-set_same f r k Unset lt ∙ sym (get_or-set_same g r k Unset (omega arith))
+        within : r < length f → LeqKind (kind_at (slice_set f r x) r) (kind_at (slice_set g r y) r)
+        within lt =
+            let one = subst (λ z. LeqKind z y) (sym (get_or-set_same f r x Unset lt)) k in
+            subst (LeqKind (kind_at (slice_set f r x) r)) (sym (get_or-set_same g r y Unset (omega arith))) one
 
-        past : length f ≤ r → kind_at (slice_set f r k) r ≡ kind_at (slice_set g r k) r
-        past l = get_or_past (slice_set f r k) r Unset (omega (arith, length-set f r k)) ∙ sym (get_or_past (slice_set g r k) r Unset (omega (arith, length-set g r k)))
+        past : length f ≤ r → LeqKind (kind_at (slice_set f r x) r) (kind_at (slice_set g r y) r)
+        past l = subst (LeqKind (kind_at (slice_set f r x) r)) (sym (get_or_past (slice_set g r y) r Unset (omega (arith, length-set g r y)))) tt
 
-    same : q ≡ r → kind_at (slice_set f r k) q ≡ kind_at (slice_set g r k) q
-    same e = ap (kind_at (slice_set f r k)) e ∙ at_r ∙ ap (kind_at (slice_set g r k)) (sym e)
+    same : q ≡ r → LeqKind (kind_at (slice_set f r x) q) (kind_at (slice_set g r y) q)
+    same e = subst (λ z. LeqKind (kind_at (slice_set f r x) z) (kind_at (slice_set g r y) z)) (sym e) at_r
 
-Leq-helper : (f g : List Kind) → Leq f g → Leq (after_helper f) (after_helper g)
-Leq-helper f g le zero known = refl
-Leq-helper f g le (suc zero) known = refl
-Leq-helper f g le (suc (suc zero)) known = refl
-Leq-helper f g le (suc (suc (suc zero))) known = refl
-Leq-helper f g le (suc (suc (suc (suc zero)))) known = refl
-Leq-helper f g le (suc (suc (suc (suc (suc zero))))) known = refl
-Leq-helper f g le (suc (suc (suc (suc (suc (suc q)))))) known =
+LeqKinds-helper : (f g : List Kind) → LeqKinds f g → LeqKinds (after_helper f) (after_helper g)
+LeqKinds-helper f g le zero = refl
+LeqKinds-helper f g le (suc zero) = tt
+LeqKinds-helper f g le (suc (suc zero)) = tt
+LeqKinds-helper f g le (suc (suc (suc zero))) = tt
+LeqKinds-helper f g le (suc (suc (suc (suc zero)))) = tt
+LeqKinds-helper f g le (suc (suc (suc (suc (suc zero))))) = tt
+LeqKinds-helper f g le (suc (suc (suc (suc (suc (suc q)))))) =
     let ef : kind_at f (6 + q) ≡ kind_at (drop 6 f) q = sym (get_or-drop 6 f q Unset) in
     let eg : kind_at g (6 + q) ≡ kind_at (drop 6 g) q = sym (get_or-drop 6 g q Unset) in
-    sym ef ∙ le (6 + q) (λ e. known (sym eg ∙ e)) ∙ eg
+    subst (LeqKind (kind_at (drop 6 f) q)) eg (subst (λ z. LeqKind z (kind_at g (6 + q))) ef (le (6 + q)))
 
--- ---- tests, form by form
+moved_kept : (z : ℤ) (x y : Kind) → LeqKind x y → is_unset y ≡ false → LeqKind (moved z x) (moved z y)
+moved_kept z = narrows (λ x y. is_unset y ≡ false → LeqKind (moved z x) (moved z y)) (λ x u. absurd (false≢true (sym u))) (λ k u. LeqKind-refl (moved z k)) (λ u. refl)
 
-copy_monotone : (f g : List Kind) (r : ℕ) (dst : Reg) → Leq f g → Passes (copy_tests (kind_at g r) dst) → (kind_at g r ≡ kind_at f r) × Passes (copy_tests (kind_at f r) dst)
-copy_monotone f g r dst le h =
-    let k = none_holds (copy_tests (kind_at g r) dst) h in
-    let e = same_kind f g r le k.0 in
-    (e, subst (λ x. Passes (copy_tests x dst)) e h)
+given_kept : (f g : List Kind) (a : Attributes) → LeqKinds f g → AllSet g a → LeqKind (given f a) (given g a)
+given_kept f g a le s = by_both a.copied a.moved s.moved
+  where
+    by_both : (c : Option Reg) (m : Option (Reg × ℤ)) → has is_unset g (moved_of m) ≡ false → LeqKind (given_by f c m) (given_by g c m)
+    by_both (Some r) m u = le r.number
+    by_both None (Some m) u = moved_kept m.1 (kind_at f m.0.number) (kind_at g m.0.number) (le m.0.number) u
+    by_both None None u = refl
 
-move_monotone : (f g : List Kind) (z : ℤ) (r : ℕ) (dst : Reg) → Leq f g → Passes (move_tests z (kind_at g r) dst) → (kind_at g r ≡ kind_at f r) × Passes (move_tests z (kind_at f r) dst)
-move_monotone f g z r dst le h =
-    let k = none_holds (move_tests z (kind_at g r) dst) h in
-    let e = same_kind f g r le k.0 in
-    (e, subst (λ x. Passes (move_tests z x dst)) e h)
+written_kept : (f g : List Kind) (x y : Kind) (r : Option Reg) → length f ≡ length g → LeqKinds f g → LeqKind x y → LeqKinds (written_with x r f) (written_with y r g)
+written_kept f g x y None n le k = le
+written_kept f g x y (Some r) n le k = LeqKinds-set f g r.number x y n le k
 
-set_monotone : (f g : List Kind) (dst : Reg) (o : Operand) → Leq f g → Passes (set_tests dst o g) → Passes (set_tests dst o f)
-set_monotone f g dst o le h =
-    let k = none_holds (set_tests dst o g) h in
-    let e = same_operand f g o le k.0 in
-    let one = subst (λ x. Passes ((x, V3) ∷ (is_frame_pointer dst, V4) ∷ (operand_place g o, V5) ∷ [])) e.0 h in
-    subst (λ x. Passes ((operand_unset f o, V3) ∷ (is_frame_pointer dst, V4) ∷ (x, V5) ∷ [])) e.1 one
+by_kept : (a : Attributes) (f g : List Kind) → length f ≡ length g → LeqKinds f g → AllSet g a → LeqKinds (after_by a f) (after_by a g)
+by_kept a f g n le s = written_kept f g (given f a) (given g a) a.written n le (given_kept f g a le s)
 
-compute_monotone : (f g : List Kind) (dst : Reg) (o : Operand) → Leq f g → Passes (compute_tests dst o g) → Passes (compute_tests dst o f)
-compute_monotone f g dst o le h =
-    let k = none_holds (compute_tests dst o g) h in
-    let e = pair_same f g dst.number o le k.0 in
-    let one = subst (λ x. Passes ((is_unset x || operand_unset g o, V3) ∷ (is_frame_pointer dst, V4) ∷ (is_place x || operand_place g o, V5) ∷ [])) e.0 h in
-    let two = subst (λ x. Passes ((is_unset (kind_at f dst.number) || x, V3) ∷ (is_frame_pointer dst, V4) ∷ (is_place (kind_at f dst.number) || operand_place g o, V5) ∷ [])) e.1 one in
-    subst (λ x. Passes ((is_unset (kind_at f dst.number) || operand_unset f o, V3) ∷ (is_frame_pointer dst, V4) ∷ (is_place (kind_at f dst.number) || x, V5) ∷ [])) e.2 two
+-- what leaves is by the attributes, but behind a helper
+pub after_cases : (P : (List Kind → List Kind) → Type 0) (i : Insn) → P after_helper → P (after_by (attributes_of i)) → P (after i)
+after_cases P (Call helper) h a = h
+after_cases P (Alu op width dst o) h a = a
+after_cases P (MovSx extension dst src) h a = a
+after_cases P (Neg width dst) h a = a
+after_cases P (End order bits dst) h a = a
+after_cases P (Jump offset) h a = a
+after_cases P (JumpLong distance) h a = a
+after_cases P (JumpIf condition width dst o offset) h a = a
+after_cases P Exit h a = a
+after_cases P (Load size dst src offset) h a = a
+after_cases P (LoadSx size dst src offset) h a = a
+after_cases P (StoreReg size dst src offset) h a = a
+after_cases P (StoreImm size dst offset imm) h a = a
+after_cases P (Wide dst value) h a = a
 
-branch_monotone : (f g : List Kind) (r : ℕ) (o : Operand) → Leq f g → Passes (branch_tests (kind_at g r) o g) → Passes (branch_tests (kind_at f r) o f)
-branch_monotone f g r o le h =
-    let k = none_holds (branch_tests (kind_at g r) o g) h in
-    let e = pair_same f g r o le k.0 in
-    let one = subst (λ x. Passes (branch_tests x o g)) e.0 h in
-    let two = subst (λ x. Passes ((is_unset (kind_at f r) || x, V3) ∷ (is_place (kind_at f r) || operand_place g o, V5) ∷ [])) e.1 one in
-    subst (λ x. Passes ((is_unset (kind_at f r) || operand_unset f o, V3) ∷ (is_place (kind_at f r) || x, V5) ∷ [])) e.2 two
+after_kept : (i : Insn) (f g : List Kind) → length f ≡ length g → LeqKinds f g → AllSet g (attributes_of i) → LeqKinds (after i f) (after i g)
+after_kept i f g n le s = after_cases (λ h. LeqKinds (h f) (h g)) i (LeqKinds-helper f g le) (by_kept (attributes_of i) f g n le s)
 
-load_monotone : (f g : List Kind) (len n : ℕ) (dst : Reg) (r : ℕ) (z : ℤ) → Leq f g → Passes (load_tests len n dst (kind_at g r) z) → Passes (load_tests len n dst (kind_at f r) z)
-load_monotone f g len n dst r z le h =
-    let k = none_holds (load_tests len n dst (kind_at g r) z) h in
-    subst (λ x. Passes (load_tests len n dst x z)) (same_kind f g r le k.0) h
+-- ---- the length that is known
 
-store_monotone : (f g : List Kind) (len n r : ℕ) (z : ℤ) (o : Operand) → Leq f g → Passes (store_tests len n (kind_at g r) z o g) → Passes (store_tests len n (kind_at f r) z o f)
-store_monotone f g len n r z o le h =
-    let k = none_holds (store_tests len n (kind_at g r) z o g) h in
-    let e = pair_same f g r o le k.0 in
-    let one = subst (λ x. Passes (store_tests len n x z o g)) e.0 h in
-    let two = subst (λ x. Passes ((is_unset (kind_at f r) || x, V3) ∷ (is_num (kind_at f r) || operand_place g o, V5) ∷ (not (reaches len n z (kind_at f r)), V6) ∷ (is_in_message (kind_at f r), V7) ∷ [])) e.1 one in
-    subst (λ x. Passes ((is_unset (kind_at f r) || operand_unset f o, V3) ∷ (is_num (kind_at f r) || x, V5) ∷ (not (reaches len n z (kind_at f r)), V6) ∷ (is_in_message (kind_at f r), V7) ∷ [])) e.2 two
+pub raised_grows : (low : ℕ) (o : Option ℤ) → low ≤ raised low o
+raised_grows low None = omega arith
+raised_grows low (Some (pos n)) = grind (arith, nat_tests)
+raised_grows low (Some (negsuc n)) = omega arith
 
-helper_monotone : (z : ℤ) (f g : List Kind) (len : ℕ) → Leq f g → Passes (helper_tests z g len) → Passes (helper_tests z f len)
-helper_monotone (pos zero) f g len le h = h
-helper_monotone (pos (suc zero)) f g len le h =
-    let k = none_holds (helper_tests (pos 1) g len) h in
-    let p = or_parts (not (is_num (kind_at g 1))) (not (is_payload len (kind_at g 2))) k.0 in
-    let one = subst (λ x. Passes ((not (is_num x) || not (is_payload len (kind_at g 2)), V9) ∷ [])) (num_same f g 1 le p.0) h in
-    subst (λ x. Passes ((not (is_num (kind_at f 1)) || not (is_payload len x), V9) ∷ [])) (payload_same f g 2 len le p.1) one
-helper_monotone (pos (suc (suc zero))) f g len le h =
-    let k = none_holds (helper_tests (pos 2) g len) h in
-    subst (λ x. Passes ((not (is_payload len x), V9) ∷ [])) (payload_same f g 1 len le k.0) h
-helper_monotone (pos (suc (suc (suc zero)))) f g len le h = h
-helper_monotone (pos (suc (suc (suc (suc zero))))) f g len le h = h
-helper_monotone (pos (suc (suc (suc (suc (suc n)))))) f g len le h = h
-helper_monotone (negsuc n) f g len le h = h
+pub raised_within : (low : ℕ) (o : Option ℤ) → low ≤ 256 → raised low o ≤ 256
+raised_within low None h = h
+raised_within low (Some (pos n)) h = grind (arith, nat_tests)
+raised_within low (Some (negsuc n)) h = h
 
-exit_monotone : (f g : List Kind) → Leq f g → Passes ((not (is_num (kind_at g 0)), V10) ∷ []) → Passes ((not (is_num (kind_at f 0)), V10) ∷ [])
-exit_monotone f g le h =
-    let k = none_holds ((not (is_num (kind_at g 0)), V10) ∷ []) h in
-    subst (λ x. Passes ((not (is_num x), V10) ∷ [])) (num_same f g 0 le k.0) h
+raised_more : (a b : ℕ) (o : Option ℤ) → a ≤ b → raised a o ≤ raised b o
+raised_more a b None h = h
+raised_more a b (Some (pos n)) h = grind (arith, nat_tests)
+raised_more a b (Some (negsuc n)) h = h
 
-alu_monotone : (form : Form) (dst : Reg) (o : Operand) (f g : List Kind) → length f ≡ length g → Leq f g → Passes (alu_tests form dst o g) → Passes (alu_tests form dst o f) × Leq (after_alu form dst f) (after_alu form dst g)
-alu_monotone (Copies src) dst o f g n le h =
-    let k = copy_monotone f g src.number dst le h in
-    (k.1, subst (λ x. Leq (slice_set f dst.number x) (slice_set g dst.number (kind_at g src.number))) k.0 (Leq-set f g dst.number (kind_at g src.number) n le))
-alu_monotone (Moves z) dst o f g n le h =
-    let k = move_monotone f g z dst.number dst le h in
-    (k.1, subst (λ x. Leq (slice_set f dst.number (moved z x)) (slice_set g dst.number (moved z (kind_at g dst.number)))) k.0 (Leq-set f g dst.number (moved z (kind_at g dst.number)) n le))
-alu_monotone Sets dst o f g n le h = (set_monotone f g dst o le h, Leq-set f g dst.number Num n le)
-alu_monotone Computes dst o f g n le h = (compute_monotone f g dst o le h, Leq-set f g dst.number Num n le)
+shown_if : (x y : Kind) (o : Option ℤ) → LeqKind x y → (cond (is_len y) o None ≡ None) ⊎ (cond (is_len x) o None ≡ cond (is_len y) o None)
+shown_if x Unset o le = inl refl
+shown_if x Num o le = inl refl
+shown_if x Len o le = inr (ap (λ k. cond (is_len k) o None) le)
+shown_if x (Place r k) o le = inl refl
+
+shown_kept : (least : Condition → ℤ → Option ℤ) (i : Insn) (f g : List Kind) → LeqKinds f g → (shown least i g ≡ None) ⊎ (shown least i f ≡ shown least i g)
+shown_kept least (JumpIf condition W64 dst (operand.Imm c) offset) f g le = shown_if (kind_at f dst.number) (kind_at g dst.number) (least condition c) (le dst.number)
+shown_kept least (JumpIf condition W64 dst (operand.Reg r) offset) f g le = inl refl
+shown_kept least (JumpIf condition W32 dst o offset) f g le = inl refl
+shown_kept least (Call helper) f g le = inl refl
+shown_kept least (Alu op width dst o) f g le = inl refl
+shown_kept least (MovSx extension dst src) f g le = inl refl
+shown_kept least (Neg width dst) f g le = inl refl
+shown_kept least (End order bits dst) f g le = inl refl
+shown_kept least (Jump offset) f g le = inl refl
+shown_kept least (JumpLong distance) f g le = inl refl
+shown_kept least Exit f g le = inl refl
+shown_kept least (Load size dst src offset) f g le = inl refl
+shown_kept least (LoadSx size dst src offset) f g le = inl refl
+shown_kept least (StoreReg size dst src offset) f g le = inl refl
+shown_kept least (StoreImm size dst offset imm) f g le = inl refl
+shown_kept least (Wide dst value) f g le = inl refl
+
+low_kept : (least : Condition → ℤ → Option ℤ) (i : Insn) (f g : Frame) → Leq f g → raised g.low (shown least i g.kinds) ≤ raised f.low (shown least i f.kinds)
+low_kept least i f g le = ⊎_elim none same (shown_kept least i f.kinds g.kinds le.kinds)
+  where
+    none : shown least i g.kinds ≡ None → raised g.low (shown least i g.kinds) ≤ raised f.low (shown least i f.kinds)
+    none e = let a = ap (raised g.low) e in let b = raised_grows f.low (shown least i f.kinds) in let c = le.low in omega (arith, a, b, c)
+
+    same : shown least i f.kinds ≡ shown least i g.kinds → raised g.low (shown least i g.kinds) ≤ raised f.low (shown least i f.kinds)
+    same e = subst (λ o. raised g.low (shown least i g.kinds) ≤ raised f.low o) (sym e) (raised_more g.low f.low (shown least i g.kinds) le.low)
 
 -- ---- instructions
 
 pub monotone : IsMonotone
-monotone (Alu op width dst o) f g len n le h = alu_monotone (form_of op width o) dst o f g n le h
-monotone (MovSx extension dst src) f g len n le h = (set_monotone f g dst (operand.Reg src) le h, Leq-set f g dst.number Num n le)
-monotone (Neg width dst) f g len n le h = (set_monotone f g dst (operand.Reg dst) le h, Leq-set f g dst.number Num n le)
-monotone (End order bits dst) f g len n le h = (set_monotone f g dst (operand.Reg dst) le h, Leq-set f g dst.number Num n le)
-monotone (Jump offset) f g len n le h = (refl, le)
-monotone (JumpLong distance) f g len n le h = (refl, le)
-monotone (JumpIf condition width dst o offset) f g len n le h = (branch_monotone f g dst.number o le h, le)
-monotone (Call helper) f g len n le h = (helper_monotone helper f g len le h, Leq-helper f g le)
-monotone Exit f g len n le h = (exit_monotone f g le h, le)
-monotone (Load size dst src offset) f g len n le h = (load_monotone f g len (bytes_in size) dst src.number offset le h, Leq-set f g dst.number Num n le)
-monotone (LoadSx size dst src offset) f g len n le h = (load_monotone f g len (signed_bytes_in size) dst src.number offset le h, Leq-set f g dst.number Num n le)
-monotone (StoreReg size dst src offset) f g len n le h = (store_monotone f g len (bytes_in size) dst.number offset (operand.Reg src) le h, le)
-monotone (StoreImm size dst offset imm) f g len n le h = (store_monotone f g len (bytes_in size) dst.number offset (operand.Imm imm) le h, le)
-monotone (Wide dst value) f g len n le h = (h, Leq-set f g dst.number Num n le)
+monotone form len i f g n le h =
+    let k = none_holds (tests_of form len i g) h in
+    let a = after_kept i f.kinds g.kinds n le.kinds (all_set g.kinds (attributes_of i) k.0) in
+    (passes (tests_of form len i f) (rules_kept (attributes_of i) form len i f g le k), record { kinds = a; low = low_kept least_unmet i f g le }, record { kinds = a; low = low_kept least_met i f g le })
 
 -- ---- eleven kinds stay eleven
 
-alu_length : (form : Form) (dst : Reg) (f : List Kind) → length f ≡ 11 → length (after_alu form dst f) ≡ 11
-alu_length (Copies src) dst f h = length-set f dst.number (kind_at f src.number) ∙ h
-alu_length (Moves z) dst f h = length-set f dst.number (moved z (kind_at f dst.number)) ∙ h
-alu_length Sets dst f h = length-set f dst.number Num ∙ h
-alu_length Computes dst f h = length-set f dst.number Num ∙ h
+written_length : (k : Kind) (r : Option Reg) (f : List Kind) → length f ≡ 11 → length (written_with k r f) ≡ 11
+written_length k None f h = h
+written_length k (Some r) f h = length-set f r.number k ∙ h
 
 pub after_length : (i : Insn) (f : List Kind) → length f ≡ 11 → length (after i f) ≡ 11
-after_length (Alu op width dst o) f h = alu_length (form_of op width o) dst f h
-after_length (MovSx extension dst src) f h = length-set f dst.number Num ∙ h
-after_length (Neg width dst) f h = length-set f dst.number Num ∙ h
-after_length (End order bits dst) f h = length-set f dst.number Num ∙ h
-after_length (Jump offset) f h = h
-after_length (JumpLong distance) f h = h
-after_length (JumpIf condition width dst o offset) f h = h
-after_length (Call helper) f h = omega (arith, h, length-drop {A = Kind} 6 f)
-after_length Exit f h = h
-after_length (Load size dst src offset) f h = length-set f dst.number Num ∙ h
-after_length (LoadSx size dst src offset) f h = length-set f dst.number Num ∙ h
-after_length (StoreReg size dst src offset) f h = h
-after_length (StoreImm size dst offset imm) f h = h
-after_length (Wide dst value) f h = length-set f dst.number Num ∙ h
+after_length i f h =
+    after_cases (λ x. length (x f) ≡ 11) i (omega (arith, h, length-drop {A = Kind} 6 f)) (written_length (given f (attributes_of i)) (attributes_of i).written f h)
+
+-- ---- the order of frames
+
+LeqKind-trans : (a b c : Kind) → LeqKind a b → LeqKind b c → LeqKind a c
+LeqKind-trans a b Unset p q = tt
+LeqKind-trans a b Num p q = num_holds a b p q
+LeqKind-trans a b Len p q = subst (LeqKind a) q p
+LeqKind-trans a b (Place r k) p q = subst (LeqKind a) q p
+
+LeqKind-antisym : (a b : Kind) → LeqKind a b → LeqKind b a → a ≡ b
+LeqKind-antisym Unset Unset p q = refl
+LeqKind-antisym Num Unset p q = cc
+LeqKind-antisym Len Unset p q = cc
+LeqKind-antisym (Place r k) Unset p q = cc
+LeqKind-antisym Unset Num p q = cc
+LeqKind-antisym Num Num p q = refl
+LeqKind-antisym Len Num p q = cc
+LeqKind-antisym (Place r k) Num p q = cc
+LeqKind-antisym a Len p q = p
+LeqKind-antisym a (Place r k) p q = p
+
+pub Leq-refl : (f : Frame) → Leq f f
+Leq-refl f = record { kinds = λ r. LeqKind-refl (kind_at f.kinds r); low = omega arith }
+
+pub Leq-trans : (f g h : Frame) → Leq f g → Leq g h → Leq f h
+Leq-trans f g h a b = record {
+  kinds = λ r. LeqKind-trans (kind_at f.kinds r) (kind_at g.kinds r) (kind_at h.kinds r) (a.kinds r) (b.kinds r);
+  low = let x = a.low in let y = b.low in omega (arith, x, y);
+}
+
+-- two frames of one length of which each says what the other says are one
+pub Leq-antisym : (f g : Frame) → length f.kinds ≡ length g.kinds → Leq f g → Leq g f → f ≡ g
+Leq-antisym f g n a b =
+    let k : f.kinds ≡ g.kinds = ext_get_or Unset f.kinds g.kinds n (λ r lt. LeqKind-antisym (kind_at f.kinds r) (kind_at g.kinds r) (a.kinds r) (b.kinds r)) in
+    let l : f.low ≡ g.low = let x = a.low in let y = b.low in omega (arith, x, y) in
+    ap (λ x. record f { kinds = x }) k ∙ ap (λ x. record g { low = x }) l

@@ -1,17 +1,52 @@
--- What is known of the eleven registers, and its order.
-use Rattle.std.specs.Prelude.{◌≡◌, ◌≢◌, ℕ, List, [], ◌∷◌, pos, slice_index_or}
+-- What is known of the eleven registers and of the message's length, and its order.
+use Rattle.std.specs.Prelude.{◌≡◌, ◌≤◌, ℕ, Bool, true, false, List, [], ◌∷◌, pos, slice_index_or}
+use Rattle.regtypes.specs.declared.image_form.ImageForm.{ImageForm}
+use Rattle.regtypes.specs.declared.image_form.ImageForm.TheVariants.{Sbi1, Sbi2}
 use Rattle.regtypes.specs.declared.frame.Region.TheVariants.{Message, State, Stack}
 use Rattle.regtypes.specs.declared.frame.Kind.{Kind}
-use Rattle.regtypes.specs.declared.frame.Kind.TheVariants.{Unset, Place}
+use Rattle.regtypes.specs.declared.frame.Kind.TheVariants.{Unset, Num, Len, Place}
+use Rattle.regtypes.specs.declared.frame.Frame.{Frame}
+
+abbrev pub form_number : ImageForm → ℕ
+form_number Sbi1 = 1
+form_number Sbi2 = 2
 
 abbrev pub kind_at : List Kind → ℕ → Kind
 kind_at f r = slice_index_or f r Unset
 
--- r1 is the message, r2 the state, r10 the end of the stack, and nothing else is set
-abbrev pub entry_kinds : List Kind
-entry_kinds =
-    Unset ∷ Place Message (pos 0) ∷ Place State (pos 0) ∷ Unset ∷ Unset ∷ Unset ∷ Unset ∷ Unset ∷ Unset ∷ Unset ∷ Place Stack (pos 512) ∷ []
+-- the message's length is a number
+abbrev pub is_num : Kind → Bool
+is_num Num = true
+is_num Len = true
+is_num k = false
 
--- where the second says something of a register, the first says the same
-abbrev pub Leq : List Kind → List Kind → Type 0
-Leq f g = (r : ℕ) → kind_at g r ≢ Unset → kind_at f r ≡ kind_at g r
+-- r1 is the message, r2 the state, r10 the end of the stack; of r3 this is known, and nothing else is set
+abbrev pub entry_kinds : Kind → List Kind
+entry_kinds third =
+    Unset ∷ Place Message (pos 0) ∷ Place State (pos 0) ∷ third ∷ Unset ∷ Unset ∷ Unset ∷ Unset ∷ Unset ∷ Unset ∷ Place Stack (pos 512) ∷ []
+
+-- in form 1 the message has 64 bytes; in form 2 it may have none, and r3 is how many it has
+abbrev pub entry_frame : ImageForm → Frame
+entry_frame Sbi1 = record { kinds = entry_kinds Unset; low = 64 }
+entry_frame Sbi2 = record { kinds = entry_kinds Len; low = 0 }
+
+-- what the second kind says of a register, the first says too
+abbrev pub LeqKind : Kind → Kind → Type 0
+LeqKind a Unset = Unit {0}
+LeqKind a Num = is_num a ≡ true
+LeqKind a Len = a ≡ Len
+LeqKind a (Place r k) = a ≡ Place r k
+
+abbrev pub LeqKinds : List Kind → List Kind → Type 0
+LeqKinds f g = (r : ℕ) → LeqKind (kind_at f r) (kind_at g r)
+
+-- what the second frame says, the first says too: of each register, and how long the message is at least
+pub record Leq (f g : Frame) : Type 0 where
+  pub kinds : LeqKinds f.kinds g.kinds
+  pub low : g.low ≤ f.low
+
+-- what two kinds both say
+pub record IsJoin (a b k : Kind) : Type 0 where
+  pub first : LeqKind a k
+  pub second : LeqKind b k
+  pub least : (x : Kind) → LeqKind a x → LeqKind b x → LeqKind k x

@@ -1,5 +1,7 @@
 pub mod Frame
 pub mod Form
 pub mod Flow
+pub mod Attributes
 pub mod Rules
+pub mod Leaving
 pub mod Typing

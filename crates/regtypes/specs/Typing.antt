@@ -1,17 +1,17 @@
 -- When code is typable.
-use Rattle.std.specs.Prelude.{◌≡◌, ℕ, ◌+◌, List, [], ◌∷◌, Option, Some, None, ℤ, pos, negsuc, ◌+ℤ◌, Bool, false, nat_lt, ◌&&◌, not, slice_get, length, unwrap_or, is_some}
+use Rattle.std.specs.Prelude.{◌≡◌, ℕ, ◌+◌, ◌≤◌, List, [], ◌∷◌, Option, Some, None, ℤ, pos, negsuc, ◌+ℤ◌, Bool, false, nat_lt, ◌&&◌, not, slice_get, length, unwrap_or, is_some}
 use Rattle.std.specs.List.{AllByRecursion}
 use Rattle.decode.specs.declared.insn.Insn.{Insn}
 use Rattle.decode.specs.Slots.{insn_at}
 use Rattle.regtypes.specs.declared.flow.Flow.{Flow}
 use Rattle.regtypes.specs.declared.flow.Flow.TheVariants.{Ends, Leaps, Forks, Falls}
-use Rattle.regtypes.specs.declared.frame.Kind.{Kind}
+use Rattle.regtypes.specs.declared.image_form.ImageForm.{ImageForm}
 use Rattle.regtypes.specs.declared.frame.Frame.{Frame}
 use Rattle.regtypes.specs.declared.rule.Rule.{Rule}
 use Rattle.regtypes.specs.declared.rule.Rule.TheVariants.{V1, V2}
-use Rattle.regtypes.specs.Frame.{entry_kinds, Leq}
-use Rattle.regtypes.specs.Flow.{flow_of, successors}
-use Rattle.regtypes.specs.Rules.{Tests, first_broken, tests_of, after}
+use Rattle.regtypes.specs.Frame.{entry_frame, Leq}
+use Rattle.regtypes.specs.Flow.{flow_of, exits}
+use Rattle.regtypes.specs.Rules.{Tests, first_broken, tests_of}
 
 -- an instruction that begins at a later slot
 abbrev pub is_target : List (Option Insn) → ℕ → ℤ → Bool
@@ -34,9 +34,9 @@ or_else None o = o
 or_else (Some r) o = Some r
 
 -- the least rule that an instruction breaks at a slot under a frame
-abbrev pub broken : List (Option Insn) → ℕ → ℕ → Insn → List Kind → Option Rule
-broken slots len s i f =
-    or_else (first_broken (jump_tests slots s i)) (first_broken (tests_of i f len))
+abbrev pub broken : ImageForm → List (Option Insn) → ℕ → ℕ → Insn → Frame → Option Rule
+broken form slots len s i f =
+    or_else (first_broken (jump_tests slots s i)) (first_broken (tests_of form len i f))
 
 -- a frame for each slot, or none
 abbrev pub Table : Type 0
@@ -45,17 +45,18 @@ Table = List (Option Frame)
 abbrev pub frame_at : Table → ℕ → Option Frame
 frame_at table s = unwrap_or (slice_get table s) None
 
--- the slot has a frame, which says no more than this one
-abbrev pub Enters : Table → List Kind → ℤ → Type 0
-Enters table f to = (t : ℕ) × (g : Frame) × (to ≡ pos t) × (frame_at table t ≡ Some g) × Leq f g.kinds
+-- the slot has a frame, which says no more than the one that leaves on the way there
+abbrev pub Enters : Table → ℤ × Frame → Type 0
+Enters table e = (t : ℕ) × (g : Frame) × (e.0 ≡ pos t) × (frame_at table t ≡ Some g) × Leq e.1 g
 
 -- the table is a typing: what enters a slot fits its frame, and no rule is broken under a frame
-pub record IsTyping (slots : List (Option Insn)) (len : ℕ) (table : Table) : Type 0 where
-  pub start : Enters table entry_kinds (pos 0)
+pub record IsTyping (form : ImageForm) (slots : List (Option Insn)) (len : ℕ) (table : Table) : Type 0 where
+  pub start : Enters table (pos 0, entry_frame form)
   pub whole : (s : ℕ) (g : Frame) → frame_at table s ≡ Some g → length g.kinds ≡ 11
+  pub short : (s : ℕ) (g : Frame) → frame_at table s ≡ Some g → g.low ≤ 256
   pub begins : (s : ℕ) (g : Frame) → frame_at table s ≡ Some g → (i : Insn) × (insn_at slots s ≡ Some i)
-  pub keeps : (s : ℕ) (g : Frame) (i : Insn) → frame_at table s ≡ Some g → insn_at slots s ≡ Some i → broken slots len s i g.kinds ≡ None
-  pub leads : (s : ℕ) (g : Frame) (i : Insn) → frame_at table s ≡ Some g → insn_at slots s ≡ Some i → AllByRecursion (Enters table (after i g.kinds)) (successors s i)
+  pub keeps : (s : ℕ) (g : Frame) (i : Insn) → frame_at table s ≡ Some g → insn_at slots s ≡ Some i → broken form slots len s i g ≡ None
+  pub leads : (s : ℕ) (g : Frame) (i : Insn) → frame_at table s ≡ Some g → insn_at slots s ≡ Some i → AllByRecursion (Enters table) (exits s i g)
 
 -- the slot has a frame
 abbrev pub IsReached : Table → ℕ → Type 0

@@ -1,12 +1,14 @@
 //! Kinds and frames.
 
-ghost use Rattle.std.specs.Prelude.{◌≡◌, ◌↔◌, IsTrue, List};
-ghost use Rattle.regtypes.specs.Frame.{Leq};
+ghost use Rattle.std.specs.Prelude.{◌≡◌, ◌↔◌, IsTrue};
+ghost use Rattle.regtypes.specs.declared.frame.Frame.{Frame};
+ghost use Rattle.regtypes.specs.Frame.{is_num, LeqKind, Leq, IsJoin};
 
+use crate::image_form::ImageForm;
 use decode::Reg;
 
-/// A part of the memory that a handler can reach: the message of 64 bytes, its state, and its
-/// stack of 512 bytes.
+/// A part of the memory that a handler can reach: the message, its state, and its stack of 512
+/// bytes.
 #[derive(Clone, Copy, Debug, PartialEq, Eq)]
 pub enum Region {
     Message,
@@ -14,34 +16,43 @@ pub enum Region {
     Stack,
 }
 
-/// What is known of a register: nothing, that it holds a number, or that it holds this place of a
-/// region, in bytes from the region's first one.
+/// What is known of a register: nothing, that it holds a number, that it holds the number of the
+/// message's bytes, or that it holds this place of a region, in bytes from the region's first one.
 #[derive(Clone, Copy, Debug, PartialEq, Eq)]
 pub enum Kind {
     Unset,
     Num,
+    Len,
     Place(Region, i16),
 }
 
-/// What is known of the eleven registers, r0 to r10.
+/// What is known of the eleven registers, r0 to r10, and how many bytes the message has at least.
 #[derive(Clone, Copy, Debug, PartialEq, Eq)]
 pub struct Frame {
     pub kinds: [Kind; 11],
+    pub low: u16,
 }
 
 impl Frame {
     ghost use Rattle.std.specs.Prelude.{◌≡◌, slice_set};
-    ghost use Rattle.regtypes.specs.Frame.{kind_at, entry_kinds};
+    ghost use Rattle.regtypes.specs.Frame.{kind_at, entry_frame};
 
     /// What is known as a call begins: r1 is the message, r2 the state, r10 the end of the stack.
-    pub fn entry() -> Frame
-        ensures { result.kinds ≡ entry_kinds }
+    /// In form 1 the message has 64 bytes; in form 2 r3 is how many it has.
+    pub fn entry(form: ImageForm) -> Frame
+        ensures { result ≡ entry_frame form }
     {
         let mut kinds = [Kind::Unset; 11];
         kinds[1] = Kind::Place(Region::Message, 0);
         kinds[2] = Kind::Place(Region::State, 0);
         kinds[10] = Kind::Place(Region::Stack, 512);
-        Frame { kinds }
+        match form {
+            ImageForm::Sbi1 => Frame { kinds, low: 64 },
+            ImageForm::Sbi2 => {
+                kinds[3] = Kind::Len;
+                Frame { kinds, low: 0 }
+            }
+        }
     }
 
     /// What is known of one register.
@@ -53,37 +64,69 @@ impl Frame {
 
     /// The frame with this kind in one register.
     pub fn with(&self, reg: Reg, kind: Kind) -> Frame
-        ensures { result.kinds ≡ slice_set self.now.kinds reg.number kind }
+        ensures { result ≡ record self.now { kinds = slice_set self.now.kinds reg.number kind } }
     {
         let mut kinds = self.kinds;
         kinds[reg.number as usize] = kind;
-        Frame { kinds }
+        Frame {
+            kinds,
+            low: self.low,
+        }
+    }
+}
+
+pub fn is_num(kind: Kind) -> bool
+    ensures { result ≡ is_num kind }
+{
+    matches!(kind, Kind::Num | Kind::Len)
+}
+
+fn leq_kind(a: Kind, b: Kind) -> bool
+    ensures { IsTrue result ↔ LeqKind a b }
+{
+    match b {
+        Kind::Unset => true,
+        Kind::Num => is_num(a),
+        Kind::Len => a == Kind::Len,
+        Kind::Place(_, _) => a == b,
+    }
+}
+
+#[tactic(auto, using(crate::proofs::Order::join_same, crate::proofs::Order::join_numbers, crate::proofs::Order::join_nothing))]
+fn join_kind(a: Kind, b: Kind) -> Kind
+    ensures { IsJoin a b result }
+{
+    if a == b {
+        a
+    } else if is_num(a) && is_num(b) {
+        Kind::Num
+    } else {
+        Kind::Unset
     }
 }
 
 /// Whether the first frame says all that the second says.
 pub fn leq(a: &Frame, b: &Frame) -> bool
-    ensures { IsTrue result ↔ Leq a.now.kinds b.now.kinds }
+    ensures { IsTrue result ↔ Leq a.now b.now }
 {
     for i in 0..11 {
-        if b.kinds[i] != Kind::Unset && a.kinds[i] != b.kinds[i] {
+        if !leq_kind(a.kinds[i], b.kinds[i]) {
             return false;
         }
     }
-    true
+    b.low <= a.low
 }
 
 /// What both frames say.
 pub fn join(a: &Frame, b: &Frame) -> Frame
-    ensures first { Leq a.now.kinds result.kinds }
-    ensures second { Leq b.now.kinds result.kinds }
-    ensures least { (f : List Kind) → Leq a.now.kinds f → Leq b.now.kinds f → Leq result.kinds f }
+    ensures first { Leq a.now result }
+    ensures second { Leq b.now result }
+    ensures least { (f : Frame) → Leq a.now f → Leq b.now f → Leq result f }
 {
     let mut kinds = a.kinds;
     for i in 0..11 {
-        if kinds[i] != b.kinds[i] {
-            kinds[i] = Kind::Unset;
-        }
+        kinds[i] = join_kind(a.kinds[i], b.kinds[i]);
     }
-    Frame { kinds }
+    let low = if a.low <= b.low { a.low } else { b.low };
+    Frame { kinds, low }
 }

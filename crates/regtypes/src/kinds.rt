@@ -1,16 +1,10 @@
 //! What the rules ask of a kind.
 
 ghost use Rattle.std.specs.Prelude.{◌≡◌, ◌≤◌, IsTrue};
-ghost use Rattle.regtypes.specs.Rules.{is_unset, is_num, is_place, is_in_message, is_frame_pointer, bytes_in, signed_bytes_in, reaches, moves, moved, is_payload, operand_unset, operand_place, region_len};
+ghost use Rattle.regtypes.specs.Rules.{is_unset, is_len, is_place, is_in_message, is_message, is_sized, reaches, moves, is_payload, region_len};
+ghost use Rattle.regtypes.specs.Leaving.{moved};
 
-use crate::frame::{Frame, Kind, Region};
-use decode::{Operand, Reg, SignedSize, Size};
-
-pub fn is_frame_pointer(reg: Reg) -> bool
-    ensures { result ≡ is_frame_pointer reg }
-{
-    reg.number == 10
-}
+use crate::frame::{Kind, Region, is_num};
 
 pub fn is_unset(kind: Kind) -> bool
     ensures { result ≡ is_unset kind }
@@ -18,10 +12,10 @@ pub fn is_unset(kind: Kind) -> bool
     matches!(kind, Kind::Unset)
 }
 
-pub fn is_num(kind: Kind) -> bool
-    ensures { result ≡ is_num kind }
+pub fn is_len(kind: Kind) -> bool
+    ensures { result ≡ is_len kind }
 {
-    matches!(kind, Kind::Num)
+    matches!(kind, Kind::Len)
 }
 
 pub fn is_place(kind: Kind) -> bool
@@ -36,81 +30,55 @@ pub fn is_in_message(kind: Kind) -> bool
     matches!(kind, Kind::Place(Region::Message, _))
 }
 
-pub fn operand_unset(frame: &Frame, operand: &Operand) -> bool
-    ensures { result ≡ operand_unset frame.now.kinds operand.now }
+fn is_message(kind: Kind) -> bool
+    ensures { result ≡ is_message kind }
 {
-    match operand {
-        Operand::Imm(_) => false,
-        Operand::Reg(reg) => is_unset(frame.kind(*reg)),
-    }
+    matches!(kind, Kind::Place(Region::Message, 0))
 }
 
-pub fn operand_place(frame: &Frame, operand: &Operand) -> bool
-    ensures { result ≡ operand_place frame.now.kinds operand.now }
-{
-    match operand {
-        Operand::Imm(_) => false,
-        Operand::Reg(reg) => is_place(frame.kind(*reg)),
-    }
-}
-
-/// How many bytes a load or store of this size reaches.
-pub fn bytes_in(size: Size) -> usize
-    ensures value { result ≡ bytes_in size }
-    ensures bound { result ≤ 8 }
-{
-    match size {
-        Size::Byte => 1,
-        Size::Half => 2,
-        Size::Word => 4,
-        Size::Double => 8,
-    }
-}
-
-/// How many bytes a load of this size reaches.
-pub fn signed_bytes_in(size: SignedSize) -> usize
-    ensures value { result ≡ signed_bytes_in size }
-    ensures bound { result ≤ 8 }
-{
-    match size {
-        SignedSize::Byte => 1,
-        SignedSize::Half => 2,
-        SignedSize::Word => 4,
-    }
-}
-
-fn region_len(region: Region, state_len: u16) -> usize
-    ensures { result ≡ region_len state_len region }
+/// How many bytes a region has at least: the message of `low`, the state of `state_len`.
+fn region_len(region: Region, low: u16, state_len: u16) -> usize
+    ensures { result ≡ region_len low state_len region }
 {
     match region {
-        Region::Message => 64,
+        Region::Message => low as usize,
         Region::State => state_len as usize,
         Region::Stack => 512,
     }
 }
 
 /// Whether some bytes at a place and an offset lie in its region.
-pub fn reaches(kind: Kind, offset: i16, bytes: usize, state_len: u16) -> bool
-    requires { bytes ≤ 64 }
-    ensures { result ≡ reaches state_len bytes offset kind }
+pub fn reaches(kind: Kind, offset: i16, bytes: u8, low: u16, state_len: u16) -> bool
+    ensures { result ≡ reaches low state_len bytes offset kind }
 {
     match kind {
         Kind::Place(region, at) => {
             let from = i32::from(at) + i32::from(offset);
-            from >= 0 && from as usize + bytes <= region_len(region, state_len)
+            from >= 0 && from as usize + bytes as usize <= region_len(region, low, state_len)
         }
         _ => true,
     }
 }
 
-/// Whether 64 bytes at a place lie in its region.
-pub fn is_payload(kind: Kind, state_len: u16) -> bool
-    ensures { result ≡ is_payload state_len kind }
+/// Whether this many bytes at a place lie in its region.
+pub fn is_payload(kind: Kind, bytes: u16, low: u16, state_len: u16) -> bool
+    ensures { result ≡ is_payload low state_len bytes kind }
 {
     match kind {
-        Kind::Place(region, at) => at >= 0 && at as usize + 64 <= region_len(region, state_len),
+        Kind::Place(region, at) => {
+            at >= 0 && at as usize + bytes as usize <= region_len(region, low, state_len)
+        }
         _ => false,
     }
+}
+
+/// Whether these are a place and the count of its bytes: 256 bytes lie there, or they are the
+/// whole message.
+pub fn is_sized(place: Kind, count: Kind, low: u16, state_len: u16) -> bool
+    ensures { result ≡ is_sized low state_len place count }
+{
+    is_num(count)
+        && (is_payload(place, 256, low, state_len) || (is_message(place) && is_len(count)))
 }
 
 /// Whether a place that is moved stays one that a frame can name.

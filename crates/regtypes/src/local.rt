@@ -1,268 +1,164 @@
 //! The rules of one instruction under a frame.
 
-ghost use Rattle.std.specs.Prelude.{◌≤◌, [], ◌∷◌, slice_set};
-ghost use Rattle.decode.specs.declared.insn.Insn.TheVariants.{Exit};
-ghost use Rattle.regtypes.specs.declared.frame.Kind.TheVariants.{Num};
-ghost use Rattle.regtypes.specs.declared.rule.Rule.TheVariants.{V4};
-ghost use Rattle.regtypes.specs.Frame.{kind_at};
-ghost use Rattle.regtypes.specs.Rules.{Leaves, is_frame_pointer, moved, copy_tests, move_tests, set_tests, compute_tests, alu_tests, load_tests, store_tests, branch_tests, after_alu, helper_tests, after_helper, tests_of, after};
+ghost use Rattle.std.specs.Prelude.{◌≡◌, false};
+ghost use Rattle.regtypes.specs.Rules.{reads_unset, writes_frame_pointer, mixes, reaches_out, moves_out, stores_in_message, is_unknown, misgives, ends_without, has, base_of, moved_of, is_unset, is_place, has_number_as_base};
 
-use crate::form::{Form, form_from};
-use crate::frame::{Frame, Kind};
-use crate::kinds::{
-    bytes_in, is_frame_pointer, is_in_message, is_num, is_payload, is_place, is_unset, moved,
-    moves, operand_place, operand_unset, reaches, signed_bytes_in,
-};
-use crate::rule::Rule;
-use decode::{Insn, Operand, Reg};
+use crate::attributes::{Access, Attributes};
+use crate::frame::{Frame, is_num};
+use crate::image_form::ImageForm;
+use crate::kinds::{is_in_message, is_payload, is_place, is_sized, is_unset, moves, reaches};
+use decode::{Insn, Reg};
 
-/// Copies what is known of one register to another.
-fn copied(frame: &Frame, dst: Reg, kind: Kind) -> Result<Frame, Rule>
-    ensures { Leaves (copy_tests kind dst) (slice_set frame.now.kinds dst.number kind) result }
+fn holds_nothing(frame: &Frame, reg: Option<Reg>) -> bool
+    ensures { result ≡ has is_unset frame.now.kinds reg }
 {
-    if is_unset(kind) {
-        return Err(Rule::V3);
-    }
-    if is_frame_pointer(dst) {
-        return Err(Rule::V4);
-    }
-    Ok(frame.with(dst, kind))
-}
-
-/// Adds a number to a register that may hold a place.
-fn shifted(frame: &Frame, dst: Reg, by: i64) -> Result<Frame, Rule>
-    ensures { Leaves (move_tests by (kind_at frame.now.kinds dst.number) dst) (slice_set frame.now.kinds dst.number (moved by (kind_at frame.now.kinds dst.number))) result }
-{
-    let kind = frame.kind(dst);
-    if is_unset(kind) {
-        return Err(Rule::V3);
-    }
-    if is_frame_pointer(dst) {
-        return Err(Rule::V4);
-    }
-    if !moves(kind, by) {
-        return Err(Rule::V6);
-    }
-    Ok(frame.with(dst, moved(kind, by)))
-}
-
-/// Sets a register from a number alone.
-fn assigned(frame: &Frame, dst: Reg, operand: &Operand) -> Result<Frame, Rule>
-    ensures { Leaves (set_tests dst operand.now frame.now.kinds) (slice_set frame.now.kinds dst.number Num) result }
-{
-    if operand_unset(frame, operand) {
-        return Err(Rule::V3);
-    }
-    if is_frame_pointer(dst) {
-        return Err(Rule::V4);
-    }
-    if operand_place(frame, operand) {
-        return Err(Rule::V5);
-    }
-    Ok(frame.with(dst, Kind::Num))
-}
-
-/// Computes a register from itself and a number.
-fn computed(frame: &Frame, dst: Reg, operand: &Operand) -> Result<Frame, Rule>
-    ensures { Leaves (compute_tests dst operand.now frame.now.kinds) (slice_set frame.now.kinds dst.number Num) result }
-{
-    let kind = frame.kind(dst);
-    if is_unset(kind) || operand_unset(frame, operand) {
-        return Err(Rule::V3);
-    }
-    if is_frame_pointer(dst) {
-        return Err(Rule::V4);
-    }
-    if is_place(kind) || operand_place(frame, operand) {
-        return Err(Rule::V5);
-    }
-    Ok(frame.with(dst, Kind::Num))
-}
-
-/// Loads a number of some bytes.
-fn loaded(
-    frame: &Frame,
-    dst: Reg,
-    src: Reg,
-    offset: i16,
-    bytes: usize,
-    state_len: u16,
-) -> Result<Frame, Rule>
-    requires { bytes ≤ 8 }
-    ensures { Leaves (load_tests state_len bytes dst (kind_at frame.now.kinds src.number) offset) (slice_set frame.now.kinds dst.number Num) result }
-{
-    let base = frame.kind(src);
-    if is_unset(base) {
-        return Err(Rule::V3);
-    }
-    if is_frame_pointer(dst) {
-        return Err(Rule::V4);
-    }
-    if is_num(base) {
-        return Err(Rule::V5);
-    }
-    if !reaches(base, offset, bytes, state_len) {
-        return Err(Rule::V6);
-    }
-    Ok(frame.with(dst, Kind::Num))
-}
-
-/// Stores a number in some bytes.
-fn stored(
-    frame: &Frame,
-    dst: Reg,
-    operand: &Operand,
-    offset: i16,
-    bytes: usize,
-    state_len: u16,
-) -> Result<Frame, Rule>
-    requires { bytes ≤ 8 }
-    ensures { Leaves (store_tests state_len bytes (kind_at frame.now.kinds dst.number) offset operand.now frame.now.kinds) frame.now.kinds result }
-{
-    let base = frame.kind(dst);
-    if is_unset(base) || operand_unset(frame, operand) {
-        return Err(Rule::V3);
-    }
-    if is_num(base) || operand_place(frame, operand) {
-        return Err(Rule::V5);
-    }
-    if !reaches(base, offset, bytes, state_len) {
-        return Err(Rule::V6);
-    }
-    if is_in_message(base) {
-        return Err(Rule::V7);
-    }
-    Ok(*frame)
-}
-
-/// Compares two numbers.
-fn compared(frame: &Frame, dst: Reg, operand: &Operand) -> Result<Frame, Rule>
-    ensures { Leaves (branch_tests (kind_at frame.now.kinds dst.number) operand.now frame.now.kinds) frame.now.kinds result }
-{
-    let kind = frame.kind(dst);
-    if is_unset(kind) || operand_unset(frame, operand) {
-        return Err(Rule::V3);
-    }
-    if is_place(kind) || operand_place(frame, operand) {
-        return Err(Rule::V5);
-    }
-    Ok(*frame)
-}
-
-/// Calls a helper.
-fn helped(frame: &Frame, helper: i32, state_len: u16) -> Result<Frame, Rule>
-    ensures { Leaves (helper_tests helper frame.now.kinds state_len) (after_helper frame.now.kinds) result }
-{
-    if helper == 1 {
-        if !is_num(frame.kinds[1]) || !is_payload(frame.kinds[2], state_len) {
-            return Err(Rule::V9);
-        }
-    } else if helper == 2 {
-        if !is_payload(frame.kinds[1], state_len) {
-            return Err(Rule::V9);
-        }
-    } else if helper < 1 || helper > 4 {
-        return Err(Rule::V8);
-    }
-    let mut kinds = frame.kinds;
-    kinds[0] = Kind::Num;
-    kinds[1] = Kind::Unset;
-    kinds[2] = Kind::Unset;
-    kinds[3] = Kind::Unset;
-    kinds[4] = Kind::Unset;
-    kinds[5] = Kind::Unset;
-    Ok(Frame { kinds })
-}
-
-/// Ends the call.
-fn ended(frame: &Frame) -> Result<Frame, Rule>
-    ensures { Leaves (tests_of Exit frame.now.kinds 0) frame.now.kinds result }
-{
-    if !is_num(frame.kinds[0]) {
-        return Err(Rule::V10);
-    }
-    Ok(*frame)
-}
-
-/// Sets a register to a number that the code names.
-fn named(frame: &Frame, dst: Reg) -> Result<Frame, Rule>
-    ensures { Leaves ((is_frame_pointer dst, V4) ∷ []) (slice_set frame.now.kinds dst.number Num) result }
-{
-    if is_frame_pointer(dst) {
-        return Err(Rule::V4);
-    }
-    Ok(frame.with(dst, Kind::Num))
-}
-
-/// Applies arithmetic of a form.
-fn transfer_alu(form: &Form, dst: Reg, operand: &Operand, frame: &Frame) -> Result<Frame, Rule>
-    ensures { Leaves (alu_tests form.now dst operand.now frame.now.kinds) (after_alu form.now dst frame.now.kinds) result }
-{
-    match *form {
-        Form::Copies(src) => copied(frame, dst, frame.kind(src)),
-        Form::Moves(by) => shifted(frame, dst, by),
-        Form::Sets => assigned(frame, dst, operand),
-        Form::Computes => computed(frame, dst, operand),
+    match reg {
+        None => false,
+        Some(reg) => is_unset(frame.kind(reg)),
     }
 }
 
-/// The frame that leaves an instruction, or the least of the rules V3 to V10 that it breaks.
-pub fn transfer(insn: &Insn, frame: &Frame, state_len: u16) -> Result<Frame, Rule>
-    ensures { Leaves (tests_of insn.now frame.now.kinds state_len) (after insn.now frame.now.kinds) result }
+fn holds_place(frame: &Frame, reg: Option<Reg>) -> bool
+    ensures { result ≡ has is_place frame.now.kinds reg }
+{
+    match reg {
+        None => false,
+        Some(reg) => is_place(frame.kind(reg)),
+    }
+}
+
+fn base(access: Option<Access>) -> Option<Reg>
+    ensures { result ≡ base_of access }
+{
+    match access {
+        None => None,
+        Some(access) => Some(access.base),
+    }
+}
+
+fn shifted(moved: Option<(Reg, i64)>) -> Option<Reg>
+    ensures { result ≡ moved_of moved }
+{
+    match moved {
+        None => None,
+        Some((reg, _)) => Some(reg),
+    }
+}
+
+/// V3: whether a register that is not set is read.
+pub fn reads_unset(frame: &Frame, what: &Attributes) -> bool
+    ensures { result ≡ reads_unset frame.now.kinds what.now }
+{
+    holds_nothing(frame, what.number)
+        || (holds_nothing(frame, what.operand)
+            || (holds_nothing(frame, what.copied)
+                || (holds_nothing(frame, base(what.access))
+                    || holds_nothing(frame, shifted(what.moved)))))
+}
+
+/// V4: whether r10 is written.
+pub fn writes_frame_pointer(written: Option<Reg>) -> bool
+    ensures { result ≡ writes_frame_pointer written }
+{
+    match written {
+        None => false,
+        Some(reg) => reg.number == 10,
+    }
+}
+
+fn has_number_as_base(frame: &Frame, access: Option<Access>) -> bool
+    ensures { result ≡ has_number_as_base frame.now.kinds access }
+{
+    match access {
+        None => false,
+        Some(access) => is_num(frame.kind(access.base)),
+    }
+}
+
+/// V5: whether a place is read where a number is wanted, or a number is a base.
+pub fn mixes(frame: &Frame, what: &Attributes) -> bool
+    ensures { result ≡ mixes frame.now.kinds what.now }
+{
+    holds_place(frame, what.number)
+        || (holds_place(frame, what.operand) || has_number_as_base(frame, what.access))
+}
+
+/// V6: whether an access leaves its region.
+pub fn reaches_out(frame: &Frame, access: Option<Access>, state_len: u16) -> bool
+    ensures { result ≡ reaches_out state_len frame.now access }
+{
+    match access {
+        None => false,
+        Some(access) => !reaches(
+            frame.kind(access.base),
+            access.offset,
+            access.bytes,
+            frame.low,
+            state_len,
+        ),
+    }
+}
+
+/// V6: whether a place is moved out of 16 bits and a sign.
+pub fn moves_out(frame: &Frame, moved: Option<(Reg, i64)>) -> bool
+    ensures { result ≡ moves_out frame.now.kinds moved }
+{
+    match moved {
+        None => false,
+        Some((reg, by)) => !moves(frame.kind(reg), by),
+    }
+}
+
+/// V7: whether the message is written.
+pub fn stores_in_message(frame: &Frame, access: Option<Access>) -> bool
+    ensures { result ≡ stores_in_message frame.now.kinds access }
+{
+    match access {
+        None => false,
+        Some(access) => access.stores && is_in_message(frame.kind(access.base)),
+    }
+}
+
+/// V8: whether no helper has this number.
+pub fn is_unknown(form: ImageForm, insn: &Insn) -> bool
+    ensures { result ≡ is_unknown form insn.now }
 {
     match *insn {
-        Insn::Alu {
-            op,
-            width,
-            dst,
-            operand,
-        } => transfer_alu(&form_from(op, width, operand), dst, &operand, frame),
-        Insn::MovSx { dst, src, .. } => assigned(frame, dst, &Operand::Reg(src)),
-        Insn::Neg { dst, .. } => assigned(frame, dst, &Operand::Reg(dst)),
-        Insn::End { dst, .. } => assigned(frame, dst, &Operand::Reg(dst)),
-        Insn::Jump { .. } => Ok(*frame),
-        Insn::JumpLong { .. } => Ok(*frame),
-        Insn::JumpIf { dst, operand, .. } => compared(frame, dst, &operand),
-        Insn::Call { helper } => helped(frame, helper, state_len),
-        Insn::Exit => ended(frame),
-        Insn::Load {
-            size,
-            dst,
-            src,
-            offset,
-        } => loaded(frame, dst, src, offset, bytes_in(size), state_len),
-        Insn::LoadSx {
-            size,
-            dst,
-            src,
-            offset,
-        } => loaded(frame, dst, src, offset, signed_bytes_in(size), state_len),
-        Insn::StoreReg {
-            size,
-            dst,
-            src,
-            offset,
-        } => stored(
-            frame,
-            dst,
-            &Operand::Reg(src),
-            offset,
-            bytes_in(size),
-            state_len,
-        ),
-        Insn::StoreImm {
-            size,
-            dst,
-            offset,
-            imm,
-        } => stored(
-            frame,
-            dst,
-            &Operand::Imm(imm),
-            offset,
-            bytes_in(size),
-            state_len,
-        ),
-        Insn::Wide { dst, .. } => named(frame, dst),
+        Insn::Call { helper } => match (form, helper) {
+            (_, 1..=4) => false,
+            (ImageForm::Sbi2, 5..=6) => false,
+            _ => true,
+        },
+        _ => false,
+    }
+}
+
+/// V9: whether a helper's argument isn't what it takes.
+pub fn misgives(form: ImageForm, insn: &Insn, frame: &Frame, state_len: u16) -> bool
+    ensures { result ≡ misgives form state_len insn.now frame.now }
+{
+    let kinds = &frame.kinds;
+    let low = frame.low;
+    match *insn {
+        Insn::Call { helper } => match (form, helper) {
+            (_, 1) => !(is_num(kinds[1]) && is_payload(kinds[2], 64, low, state_len)),
+            (_, 2) => !is_payload(kinds[1], 64, low, state_len),
+            (ImageForm::Sbi2, 5) => {
+                !(is_num(kinds[1]) && is_sized(kinds[2], kinds[3], low, state_len))
+            }
+            (ImageForm::Sbi2, 6) => !is_sized(kinds[1], kinds[2], low, state_len),
+            _ => false,
+        },
+        _ => false,
+    }
+}
+
+/// V10: whether r0 isn't a number at the end.
+pub fn ends_without(insn: &Insn, frame: &Frame) -> bool
+    ensures { result ≡ ends_without insn.now frame.now.kinds }
+{
+    match *insn {
+        Insn::Exit => !is_num(frame.kinds[0]),
+        _ => false,
     }
 }

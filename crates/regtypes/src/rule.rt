@@ -17,9 +17,10 @@ pub enum Rule {
     V6,
     /// The message is written.
     V7,
-    /// No helper has this number.
+    /// No helper of the image's form has this number.
     V8,
-    /// A helper's argument isn't the number, or the place of 64 bytes, that it takes.
+    /// A helper's argument isn't the number, the place of 64 bytes, or the place with a length,
+    /// that it takes.
     V9,
     /// r0 isn't a number at the end.
     V10,

@@ -1,5 +1,6 @@
 use crate::{
-    Flow, Frame, Kind, Region, Rule, bytes_in, flow_from, join, leq, signed_bytes_in, transfer,
+    Flow, Frame, ImageForm, Kind, Region, Rule, bytes_in, flow_from, join, leq, signed_bytes_in,
+    transfer,
 };
 use decode::{AluOp, Condition, Extension, Insn, Operand, Reg, SignedSize, Size, Width};
 use std::test::Fail;
@@ -25,7 +26,7 @@ fn alu(op: AluOp, width: Width, dst: Reg, operand: Operand) -> Insn {
 
 /// The number of the rule that an instruction breaks as a call with a state of 8 bytes begins.
 fn breaks(insn: Insn) -> Option<u8> {
-    match transfer(&insn, &Frame::entry(), 8) {
+    match transfer(ImageForm::Sbi1, &insn, &Frame::entry(ImageForm::Sbi1), 8) {
         Ok(_) => None,
         Err(rule) => Some(rule.number()),
     }
@@ -55,14 +56,14 @@ fn rules_of_arithmetic(rt: HostRuntime) -> Result<(), Fail> {
 
 #[test]
 fn places(rt: HostRuntime) -> Result<(), Fail> {
-    let entry = Frame::entry();
+    let entry = Frame::entry(ImageForm::Sbi1);
     let copy = alu(AluOp::Mov, Width::W64, R3, Operand::Reg(R1));
-    if let Ok(left) = transfer(&copy, &entry, 0) {
-        assert_eq!(rt; left.kind(R3), Kind::Place(Region::Message, 0));
+    if let Ok(left) = transfer(ImageForm::Sbi1, &copy, &entry, 0) {
+        assert_eq!(rt; left.next.kind(R3), Kind::Place(Region::Message, 0));
     }
     let back = alu(AluOp::Sub, Width::W64, R2, Operand::Imm(32768));
-    if let Ok(left) = transfer(&back, &entry, 0) {
-        assert_eq!(rt; left.kind(R2), Kind::Place(Region::State, -32768));
+    if let Ok(left) = transfer(ImageForm::Sbi1, &back, &entry, 0) {
+        assert_eq!(rt; left.next.kind(R2), Kind::Place(Region::State, -32768));
     }
     assert_eq!(rt; breaks(copy), None);
     assert_eq!(rt; breaks(back), None);
@@ -138,7 +139,7 @@ fn rules_of_jumps_helpers_and_the_end(rt: HostRuntime) -> Result<(), Fail> {
 
 #[test]
 fn order_of_frames(rt: HostRuntime) -> Result<(), Fail> {
-    let entry = Frame::entry();
+    let entry = Frame::entry(ImageForm::Sbi1);
     let more = entry.with(R3, Kind::Num);
     assert!(rt; leq(&more, &entry));
     assert!(rt; !leq(&entry, &more));
@@ -146,5 +147,46 @@ fn order_of_frames(rt: HostRuntime) -> Result<(), Fail> {
     let other = entry.with(R2, Kind::Place(Region::State, 8));
     assert_eq!(rt; join(&more, &other).kind(R2), Kind::Unset);
     assert_eq!(rt; Rule::V10.number(), 10);
+    Ok(())
+}
+
+/// The least length that is known on both ways, next and taken, of a comparison of the message's
+/// length, as a call begins.
+fn known(condition: Condition, width: Width, number: i32) -> Option<(u16, u16)> {
+    let compare = Insn::JumpIf {
+        condition,
+        width,
+        dst: R3,
+        operand: Operand::Imm(number),
+        offset: 1,
+    };
+    match transfer(ImageForm::Sbi2, &compare, &Frame::entry(ImageForm::Sbi2), 8) {
+        Ok(left) => Some((left.next.low, left.taken.low)),
+        Err(_) => None,
+    }
+}
+
+#[test]
+fn lengths(rt: HostRuntime) -> Result<(), Fail> {
+    let entry = Frame::entry(ImageForm::Sbi2);
+    assert_eq!(rt; entry.low, 0);
+    assert_eq!(rt; ImageForm::Sbi2.number(), 2);
+    assert_eq!(rt; known(Condition::Less, Width::W64, 8), Some((8, 0)));
+    assert_eq!(rt; known(Condition::Greater, Width::W64, 7), Some((0, 8)));
+    assert_eq!(rt; known(Condition::Less, Width::W32, 8), Some((0, 0)));
+    assert_eq!(rt;
+        known(Condition::GreaterEqual, Width::W64, 257),
+        Some((0, 0))
+    );
+    assert_eq!(rt; known(Condition::Greater, Width::W64, 255), Some((0, 256)));
+    assert_eq!(rt; known(Condition::Equal, Width::W64, -1), Some((0, 0)));
+    let sized = Insn::Call { helper: 6 };
+    let whole = entry.with(R2, Kind::Len);
+    assert!(rt; transfer(ImageForm::Sbi2, &sized, &whole, 0).is_ok());
+    assert!(rt; transfer(ImageForm::Sbi1, &sized, &whole, 0).is_err());
+    let number = entry.with(R2, Kind::Num);
+    assert!(rt; transfer(ImageForm::Sbi2, &sized, &number, 0).is_err());
+    assert!(rt; leq(&whole, &number));
+    assert_eq!(rt; join(&whole, &number), number);
     Ok(())
 }

@@ -1,10 +1,10 @@
 -- All that a handler call takes, and its answer
 use Rattle.std.specs.Prelude.{◌≡◌, ◌≢◌, ◌≤◌, ℕ, List, [], length, Option, Some, None}
 use Rattle.helpers.specs.declared.effects.Who.{Who}
-use Rattle.helpers.specs.Payload.{view64}
 use Rattle.verifier.specs.Typed.{Typed}
 use Rattle.interp.specs.HandlerCall.{Handled, IsHandled, handled_by}
 use Rattle.world.specs.declared.message.Message.{Message}
+use Rattle.world.specs.Fold.{seen}
 
 -- which job it is, what is run, and on what
 pub record TheTask : Type 0 where
@@ -26,7 +26,7 @@ pub record MayCall (image : Typed) (state : List ℕ) (who : Who) : Type 0 where
   pub other : who.from ≢ who.me
 
 abbrev pub handled : TheTask → Option Handled
-handled t = handled_by t.image.slots t.who t.state (view64 t.message.payload)
+handled t = handled_by t.image.form t.image.slots t.who t.state (seen t.image.form t.message.payload)
 
 -- what the handler leaves, if it answers
 abbrev pub given : Option Handled → Handled
@@ -39,7 +39,7 @@ answer_of t = given (handled t)
 -- the handler's answer to this task: that of a run from its entry to its exit, which makes at most as many steps as there are
 -- instructions
 pub record IsAnswer (t : TheTask) (h : Handled) : Type 0 where
-  pub runs : IsHandled t.image.slots t.who t.state (view64 t.message.payload) h
+  pub runs : IsHandled t.image.form t.image.slots t.who t.state (seen t.image.form t.message.payload) h
   pub answers : handled t ≡ Some h
   pub within : h.steps ≤ length t.image.code
   pub state_len : length h.state ≡ t.image.len

@@ -1,13 +1,16 @@
 //! Handler calls that are to be made.
 
-ghost use Rattle.std.specs.Prelude.{◌≡◌, IfOk};
+ghost use Rattle.std.specs.Prelude.{◌≡◌, IfOk, length};
 ghost use Rattle.std.specs.Arc.{arc_value};
+ghost use Rattle.interp.specs.Configuration.{IsLong};
 ghost use Rattle.replay.specs.Task.{TheTask, MayCall};
+ghost use Rattle.world.specs.Fold.{seen};
 
 use crate::done::Done;
 use crate::task::{Task, Ticket, copied};
-use helpers::{Effects, Who};
+use helpers::{Effects, Payload, Who};
 use interp::call;
+use regtypes::ImageForm;
 use std::alloc::{AllocError, Global};
 use std::marker::Model;
 use std::sync::Arc;
@@ -30,6 +33,17 @@ impl Model for Job {
     ghost view = { λ j. j.task };
 
     ghost invariant = { λ j. j.next.items ≡ j.task.state };
+}
+
+/// What the handler of an image sees of a payload.
+fn seen<'a>(image: &Image, payload: &'a Payload) -> &'a [u8]
+    ensures value { result.now ≡ seen image.now.form payload.now }
+    ensures size { IsLong image.now.form (length result.now) }
+{
+    match image.form() {
+        ImageForm::Sbi1 => payload.view64(),
+        ImageForm::Sbi2 => payload.as_slice(),
+    }
 }
 
 impl Job {
@@ -68,7 +82,7 @@ impl Job {
         let end = call(
             task.image(),
             next.as_mut_slice(),
-            message.payload.view64(),
+            seen(task.image(), &message.payload),
             task.who(),
             &mut effects,
         );

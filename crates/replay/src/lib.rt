@@ -30,7 +30,7 @@ mod resyncing;
 mod task;
 
 pub use agreement::{plan_is_gathered, same_is_found};
-pub use collecting::collect;
+pub use collecting::{collect, collect_from};
 pub use done::Done;
 pub use job::Job;
 pub use plan::Plan;

@@ -1,7 +1,7 @@
 ghost use Rattle.std.specs.Prelude.{◌≤◌, ◌+◌, length};
 ghost use Rattle.sender_log.specs.Log.{IsDestination, queue_of};
 
-use crate::{Job, Plan, Ticket, collect, resync};
+use crate::{Job, Plan, Ticket, collect, collect_from, resync};
 use helpers::{Payload, Who};
 use rsn::Receipts;
 use sender_log::Log;
@@ -85,6 +85,21 @@ fn three_messages_by_five_probes(rt: HostRuntime) -> Result<(), Fail> {
     assert_eq!(rt; plan.next_job(), None);
     assert_eq!(rt; plan.len(), 3);
     assert_eq!(rt; plan.is_empty(), false);
+    Ok(())
+}
+
+#[test]
+fn logs_that_lie_apart_are_asked_in_the_order_given(rt: HostRuntime) -> Result<(), Fail> {
+    let mut outside = Log::new(rt.alloc(), 0, 2)?;
+    let own = Log::new(rt.alloc(), 1, 2)?;
+    let mut other = Log::new(rt.alloc(), 2, 2)?;
+    keep(&mut outside, 1, 10, 2)?;
+    keep(&mut other, 1, 20, 1)?;
+    let receipts = Receipts::new(rt.alloc(), &[])?;
+    let plan = collect_from(rt.alloc(), &[&outside, &own, &other], 1, &receipts)?;
+    assert_eq!(rt; plan.next_job(), Some((1, message(2, 1, 20))));
+    assert_eq!(rt; plan.len(), 2);
+    assert_eq!(rt; plan.probes(), 7);
     Ok(())
 }
 

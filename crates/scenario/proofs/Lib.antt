@@ -6,3 +6,6 @@ pub mod HexLemmas
 pub mod Names
 pub mod Orders
 pub mod Lines
+pub mod Spellings
+pub mod OneScenario
+pub mod OneFault

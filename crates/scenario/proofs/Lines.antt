@@ -1,5 +1,5 @@
 -- Lines of a scenario, and the processes and steps that they add.
-use Rattle.std.proofs.Common.{◌≡◌, ◌≢◌, ◌<◌, ◌+◌, ℕ, zero, suc, Bool, true, false, List, [], ◌∷◌, ◌++◌, length, map, get_or, Option, Some, None, refl, sym, ap, subst, ◌∙◌, arith, rules, cond, append_assoc, append-nil, Bor}
+use Rattle.std.proofs.Common.{◌≡◌, ◌≢◌, ◌<◌, ◌+◌, ℕ, zero, suc, Bool, true, false, List, [], ◌∷◌, ◌++◌, length, map, get_or, Option, Some, None, refl, sym, ap, subst, ◌∙◌, arith, rules, cond, true≢false, append_assoc, append-nil, Bor}
 use Rattle.std.specs.Prelude.{◌==◌, codes, position, String}
 use Rattle.std.specs.declared.alloc.Global.{Global}
 use Rattle.std.specs.String.{string_bytes}
@@ -8,16 +8,20 @@ use Rattle.std.specs.List.{AllByRecursion, onto_first}
 use Rattle.std.proofs.lemmas.Bool.Decides.{nat_tests}
 use Rattle.std.proofs.lemmas.List.{length-append, length-map}
 use Rattle.indexmap.specs.IndexMap.{insert_entry}
+use Rattle.scenario.specs.declared.order.Order.{Order}
+use Rattle.scenario.specs.declared.order.Allowed.{Allowed}
+use Rattle.scenario.specs.declared.order.Allowed.TheVariants.{All, Inputs}
 use Rattle.scenario.specs.declared.process.Process.{Process}
 use Rattle.scenario.specs.declared.scenario.Step.{Step}
 use Rattle.scenario.specs.Inside.Reads.{Lacks}
 use Rattle.scenario.specs.Inside.Loop.{lines_left, Declares, HaveRead, ReadsDeclaration}
-use Rattle.scenario.specs.Order.{IsName, IsInRange, order_text}
+use Rattle.scenario.specs.Order.{IsName, IsInRange, is_input, order_text, takes, verb_of}
 use Rattle.scenario.specs.Process.{names_in, declaration_text, IsDeclared, IsPath, IsFresh, AreDifferent, MayDeclare}
 use Rattle.scenario.specs.Scenario.{lines_of, is_silent, rows, process_row, step_row, AreLines, IsFaulty, IsFault, IsRefusal, has_begun}
 use Rattle.scenario.specs.declared.scenario.ScenarioError.TheVariants.{Line}
 use Rattle.scenario.proofs.Cuts.{one_cut, has_cut}
 use Rattle.scenario.proofs.Names.{bytes_lack, found, missing}
+use Rattle.scenario.proofs.Orders.{other_verb, same_verb, verb_lacks}
 
 -- ---- cutting a text into lines
 
@@ -35,7 +39,7 @@ lines_end (c ∷ cs) la = cut_no c ([] ∷ lines_of cs) (onto_first c (lines_of 
 
 -- ---- declarations
 
-process_lacks : Lacks 32 (codes "process")
+pub process_lacks : Lacks 32 (codes "process")
 process_lacks = bytes_lack (codes "process") refl
 
 module _ (text word operands : List ℕ) (whole : text ≡ word ++ 32 ∷ operands) (first : Lacks 32 word) where
@@ -118,7 +122,7 @@ rows_cond : (b : Bool) (p : ℕ × List ℕ) (x z : List (ℕ × List ℕ)) → 
 rows_cond true p x z = refl
 rows_cond false p x z = refl
 
-rows_append : (n : ℕ) (a b : List (List ℕ)) → rows n (a ++ b) ≡ rows n a ++ rows (n + length a) b
+pub rows_append : (n : ℕ) (a b : List (List ℕ)) → rows n (a ++ b) ≡ rows n a ++ rows (n + length a) b
 rows_append n [] b = let at : n ≡ n + 0 = omega arith in ap (λ k. rows k b) at
 rows_append n (l ∷ ls) b =
     let at : n + 1 + length ls ≡ n + length (l ∷ ls) = omega arith in
@@ -133,7 +137,7 @@ spoken_row : (b : Bool) (p : ℕ × List ℕ) → b ≡ false → cond b [] (p �
 spoken_row false p e = refl
 spoken_row true p e = absurd cc
 
-module _ (before : List (List ℕ)) (line : List ℕ) where
+module _ (allowed : Allowed) (before : List (List ℕ)) (line : List ℕ) where
   rows_silent : is_silent line ≡ true → rows 1 (before ++ line ∷ []) ≡ rows 1 before
   rows_silent e =
       rows_append 1 before (line ∷ []) ∙ ap (λ x. rows 1 before ++ x) (silent_row (is_silent line) (1 + length before, line) e) ∙ append-nil (rows 1 before)
@@ -142,18 +146,19 @@ module _ (before : List (List ℕ)) (line : List ℕ) where
   rows_spoken e = rows_append 1 before (line ∷ []) ∙ ap (λ x. rows 1 before ++ x) (spoken_row (is_silent line) (1 + length before, line) e)
 
   module _ (es : List (String Global × Process)) where
-    silent_more : (ss : List Step) → AreLines before es ss → is_silent line ≡ true → AreLines (before ++ line ∷ []) es ss
+    silent_more : (ss : List Step) → AreLines allowed before es ss → is_silent line ≡ true → AreLines allowed (before ++ line ∷ []) es ss
     silent_more ss h e = record {
       few = h.few;
       declared = h.declared;
       different = h.different;
       ranged = h.ranged;
+      taken = h.taken;
       written = rows_silent e ∙ h.written;
     }
 
-    step_more : (ss : List Step) (x : Step) → AreLines before es ss → is_silent line ≡ false → x.line ≡ length before + 1 → line ≡ order_text (names_in es) x.order → IsInRange (length (names_in es)) x.order
-        → AreLines (before ++ line ∷ []) es (ss ++ x ∷ [])
-    step_more ss x h speaks number is range =
+    step_more : (ss : List Step) (x : Step) → AreLines allowed before es ss → is_silent line ≡ false → x.line ≡ length before + 1 → line ≡ order_text (names_in es) x.order → IsInRange (length (names_in es)) x.order
+        → takes allowed x.order ≡ true → AreLines allowed (before ++ line ∷ []) es (ss ++ x ∷ [])
+    step_more ss x h speaks number is range may =
         let names = names_in es in
         let at : 1 + length before ≡ x.line = omega (arith, number) in
         record {
@@ -161,15 +166,16 @@ module _ (before : List (List ℕ)) (line : List ℕ) where
           declared = h.declared;
           different = h.different;
           ranged = all_push (λ (y : Step). IsInRange (length names) y.order) ss x h.ranged range;
+          taken = all_push (λ (y : Step). takes allowed y.order ≡ true) ss x h.taken may;
           written =
               rows_spoken speaks ∙ (λ k. h.written k ++ (at k, is k) ∷ [])
               ∙ append_assoc (map process_row es) (map (step_row names) ss) (step_row names x ∷ [])
               ∙ ap (λ t. map process_row es ++ t) (sym (map_push (step_row names) ss x));
         }
 
-    process_more : (ss : List Step) (e : String Global × Process) → AreLines before es ss → is_silent line ≡ false → e.1.line ≡ length before + 1
+    process_more : (ss : List Step) (e : String Global × Process) → AreLines allowed before es ss → is_silent line ≡ false → e.1.line ≡ length before + 1
         → line ≡ declaration_text (string_bytes e.0) (string_bytes e.1.path) → MayDeclare (names_in es) (has_begun ss) (string_bytes e.0) (string_bytes e.1.path)
-        → AreLines (before ++ line ∷ []) (es ++ e ∷ []) ss
+        → AreLines allowed (before ++ line ∷ []) (es ++ e ∷ []) ss
     process_more (x ∷ xs) e h speaks number is may = absurd (let wrong : has_begun (x ∷ xs) ≡ true = search (rules, nat_tests) in let no_more = may.first in cc)
     process_more [] e h speaks number is may =
         let at : 1 + length before ≡ e.1.line = omega (arith, number) in
@@ -179,6 +185,7 @@ module _ (before : List (List ℕ)) (line : List ℕ) where
           declared = all_push IsDeclared es e h.declared (may.named, may.pathed);
           different = subst (λ (t : List (List ℕ)). AreDifferent t) (sym names) (different_push (names_in es) (string_bytes e.0) h.different may.fresh);
           ranged = tt;
+          taken = tt;
           written =
               rows_spoken speaks ∙ (λ k. (h.written ∙ append-nil (map process_row es)) k ++ (at k, is k) ∷ [])
               ∙ sym (map_push process_row es e) ∙ sym (append-nil (map process_row (es ++ e ∷ [])));
@@ -186,8 +193,8 @@ module _ (before : List (List ℕ)) (line : List ℕ) where
 
 -- ---- reading on
 
-module _ (text : List ℕ) (here : Bor (List ℕ)) (line : List ℕ) (rest : Option (Bor (List ℕ))) (n : ℕ) (es : List (String Global × Process)) (ss : List Step)
-    (h : HaveRead text (Some here) n es ss) (cut : lines_of here.now ≡ line ∷ lines_left rest) where
+module _ (allowed : Allowed) (text : List ℕ) (here : Bor (List ℕ)) (line : List ℕ) (rest : Option (Bor (List ℕ))) (n : ℕ) (es : List (String Global × Process)) (ss : List Step)
+    (h : HaveRead allowed text (Some here) n es ss) (cut : lines_of here.now ≡ line ∷ lines_left rest) where
   whole_now : lines_of text ≡ h.before ++ line ∷ lines_left rest
   whole_now = h.whole ∙ ap (λ (x : List (List ℕ)). h.before ++ x) cut
 
@@ -197,19 +204,19 @@ module _ (text : List ℕ) (here : Bor (List ℕ)) (line : List ℕ) (rest : Opt
   counted : n + 1 ≡ length (h.before ++ line ∷ [])
   counted = omega (arith, length-append h.before (line ∷ []), h.number_is)
 
-  pub read_silent : is_silent line ≡ true → HaveRead text rest (n + 1) es ss
-  read_silent e = record { before = h.before ++ line ∷ []; whole = whole_then; number_is = counted; fine = silent_more h.before line es ss h.fine e }
+  pub read_silent : is_silent line ≡ true → HaveRead allowed text rest (n + 1) es ss
+  read_silent e = record { before = h.before ++ line ∷ []; whole = whole_then; number_is = counted; fine = silent_more allowed h.before line es ss h.fine e }
 
-  pub read_step : (x : Step) → x.line ≡ n + 1 → is_silent line ≡ false → line ≡ order_text (names_in es) x.order → IsInRange (length (names_in es)) x.order → HaveRead text rest (n + 1) es (ss ++ x ∷ [])
-  read_step x number speaks is range = record {
+  pub read_step : (x : Step) → x.line ≡ n + 1 → is_silent line ≡ false → line ≡ order_text (names_in es) x.order → IsInRange (length (names_in es)) x.order → takes allowed x.order ≡ true → HaveRead allowed text rest (n + 1) es (ss ++ x ∷ [])
+  read_step x number speaks is range may = record {
     before = h.before ++ line ∷ [];
     whole = whole_then;
     number_is = counted;
-    fine = step_more h.before line es ss x h.fine speaks (omega (arith, number, h.number_is)) is range;
+    fine = step_more allowed h.before line es ss x h.fine speaks (omega (arith, number, h.number_is)) is range may;
   }
 
   pub read_process : (name path : List ℕ) (new : List (String Global × Process)) → is_silent line ≡ false → line ≡ declaration_text name path → MayDeclare (names_in es) (has_begun ss) name path
-      → Declares (n + 1) name path es new → HaveRead text rest (n + 1) new ss
+      → Declares (n + 1) name path es new → HaveRead allowed text rest (n + 1) new ss
   read_process name path new speaks is may d =
       let may_bytes = subst (λ (t : List ℕ). MayDeclare (names_in es) (has_begun ss) t (string_bytes d.entry.1.path)) (sym d.name_is)
       (subst (λ (t : List ℕ). MayDeclare (names_in es) (has_begun ss) name t) (sym d.path_is) may) in
@@ -218,11 +225,28 @@ module _ (text : List ℕ) (here : Bor (List ℕ)) (line : List ℕ) (rest : Opt
         before = h.before ++ line ∷ [];
         whole = whole_then;
         number_is = counted;
-        fine = subst (λ (t : List (String Global × Process)). AreLines (h.before ++ line ∷ []) t ss) (sym d.last)
-            (process_more h.before line es ss d.entry h.fine speaks (omega (arith, d.line_is, h.number_is)) is_bytes may_bytes);
+        fine = subst (λ (t : List (String Global × Process)). AreLines allowed (h.before ++ line ∷ []) t ss) (sym d.last)
+            (process_more allowed h.before line es ss d.entry h.fine speaks (omega (arith, d.line_is, h.number_is)) is_bytes may_bytes);
       }
 
-  pub is_fault : IsFaulty es ss line → IsRefusal text (Line (n + 1))
+  -- an order that may not stand here
+  takes_verb : (o p : Order) → verb_of o ≡ verb_of p → takes allowed o ≡ takes allowed p
+  takes_verb o p same = by allowed
+    where
+      by : (k : Allowed) → takes k o ≡ takes k p
+      by All = refl
+      by Inputs = ap is_input same
+
+  pub not_taken : (o : Order) → is_silent line ≡ false → line ≡ order_text (names_in es) o → takes allowed o ≡ false → IsFaulty allowed es ss line
+  not_taken o speaks is refused = record {
+    speaks = speaks;
+    no_process = λ name path may declares.
+        other_verb (verb_of o) (one_cut 32 _ _ _ _ (verb_lacks (verb_of o)) process_lacks (sym is ∙ declares)).0;
+    no_order = λ p range may orders_it.
+        true≢false (sym may ∙ takes_verb p o (same_verb (names_in es) p o (sym orders_it ∙ is)) ∙ refused);
+  }
+
+  pub is_fault : IsFaulty allowed es ss line → IsRefusal allowed text (Line (n + 1))
   is_fault faulty = by (n + 1) (omega arith) (record {
     before = h.before;
     line = line;
@@ -235,6 +259,6 @@ module _ (text : List ℕ) (here : Bor (List ℕ)) (line : List ℕ) (rest : Opt
     faulty = faulty;
   })
     where
-      by : (m : ℕ) → 0 < m → IsFault text m → IsRefusal text (Line m)
+      by : (m : ℕ) → 0 < m → IsFault allowed text m → IsRefusal allowed text (Line m)
       by zero lt f = absurd (omega arith)
       by (suc m) lt f = f

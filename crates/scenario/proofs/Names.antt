@@ -41,7 +41,7 @@ pub party_lacks : (names : List (List ℕ)) (p : ℕ) → AllByRecursion IsName 
 party_lacks names zero h = outside_lacks
 party_lacks names (suc p) h = at_lacks names p h
 
-at_named : (names : List (List ℕ)) (i : ℕ) → AllByRecursion IsName names → i < length names → IsName (get_or names i [])
+pub at_named : (names : List (List ℕ)) (i : ℕ) → AllByRecursion IsName names → i < length names → IsName (get_or names i [])
 at_named [] i h lt = absurd (omega arith)
 at_named (x ∷ xs) zero h lt = h.0
 at_named (x ∷ xs) (suc i) h lt = at_named xs i h.1 (omega arith)

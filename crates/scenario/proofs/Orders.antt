@@ -1,5 +1,5 @@
 -- A line is of one kind of order.
-use Rattle.std.proofs.Common.{◌≡◌, ◌≢◌, ℕ, List, ◌∷◌, ◌++◌, length, Option, Some, None, true, refl, sym, ap, ap₂, subst, ◌∙◌}
+use Rattle.std.proofs.Common.{◌≡◌, ◌≢◌, ℕ, List, ◌∷◌, ◌++◌, length, Option, Some, None, true, false, true≢false, refl, sym, ap, ap₂, subst, ◌∙◌}
 use Rattle.std.specs.Prelude.{codes, if◌then◌else◌}
 use Rattle.std.specs.List.{list_all}
 use Rattle.std.specs.Str.{bytes_eq}
@@ -34,8 +34,20 @@ verb_bytes : (v : Verb) → list_all is_name_byte (verb_text v) ≡ true
 verb_bytes verb.Input = refl
 verb_bytes v = refl
 
-verb_lacks : (v : Verb) → Lacks 32 (verb_text v)
+pub verb_lacks : (v : Verb) → Lacks 32 (verb_text v)
 verb_lacks v = bytes_lack (verb_text v) (verb_bytes v)
+
+-- no word of an order is that of a process
+no_process : (v : Verb) → bytes_eq (verb_text v) (codes "process") ≡ false
+no_process verb.Input = refl
+no_process v = refl
+
+pub other_verb : (v : Verb) → verb_text v ≡ codes "process" → ⊥
+other_verb v e = true≢false (sym (ap (λ t. bytes_eq t (codes "process")) e) ∙ no_process v)
+
+-- orders with one line are of one kind
+pub same_verb : (names : List (List ℕ)) (o p : Order) → order_text names o ≡ order_text names p → verb_of o ≡ verb_of p
+same_verb names o p is = one_verb (verb_of o) (verb_of p) (one_cut 32 _ _ _ _ (verb_lacks (verb_of o)) (verb_lacks (verb_of p)) is).0
 
 none_of : (names : List (List ℕ)) (v : Verb) (text : List ℕ) → NoOperands names v text → (o : Order) → IsInRange (length names) o → verb_of o ≡ v → text ≢ operands_text names o
 none_of names v text h (order.Input to word) r e is = let no : NoOperands names verb.Input text = subst (λ w. NoOperands names w text) (sym e) h in no (to, word) r is

@@ -3,6 +3,8 @@ use Rattle.std.specs.Prelude.{◌≡◌, ◌≢◌, ◌≤◌, ◌<◌, ◌-◌,
 use Rattle.std.specs.List.{list_all}
 use Rattle.scenario.specs.declared.order.Order.{Order}
 use Rattle.scenario.specs.declared.order.Order.TheVariants as order
+use Rattle.scenario.specs.declared.order.Allowed.{Allowed}
+use Rattle.scenario.specs.declared.order.Allowed.TheVariants.{All, Inputs}
 use Rattle.scenario.specs.declared.verb.Verb.{Verb}
 use Rattle.scenario.specs.declared.verb.Verb.TheVariants as verb
 use Rattle.scenario.specs.Hex.{IsPayload, hex_text}
@@ -79,6 +81,17 @@ verb_of (order.RecoverAlone process) = verb.Alone
 verb_of (order.ReplayBegin process) = verb.Replay
 verb_of (order.Resync process peer) = verb.Resync
 verb_of (order.Drive budget) = verb.Drive
+
+-- whether orders of this kind hand in a message
+abbrev pub is_input : Verb → Bool
+is_input verb.Input = true
+is_input verb.Bytes = true
+is_input v = false
+
+-- whether a text with these orders may have this one
+abbrev pub takes : Allowed → Order → Bool
+takes All o = true
+takes Inputs o = is_input (verb_of o)
 
 -- what stands behind its word and a space
 abbrev pub operands_text : List (List ℕ) → Order → List ℕ

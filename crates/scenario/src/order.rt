@@ -1,6 +1,8 @@
 //! Orders: what a line of a scenario asks for.
 
+ghost use Rattle.std.specs.Prelude.{◌≡◌};
 ghost use Rattle.scenario.specs.Inside.Reads.{ReadsOperands, ReadsOrder};
+ghost use Rattle.scenario.specs.Order.{takes};
 ghost use Rattle.scenario.specs.Process.{AreNamed, names_of};
 
 use crate::number::number_of;
@@ -34,6 +36,26 @@ pub enum Order {
     Resync { process: u8, peer: u8 },
     /// Useful calls are made, as many as the budget at most.
     Drive { budget: u32 },
+}
+
+/// Which orders a text may have.
+#[derive(Clone, Copy, PartialEq, Eq, Debug)]
+pub enum Allowed {
+    All,
+    /// Those that hand in a message: `input` and `bytes`.
+    Inputs,
+}
+
+impl Allowed {
+    /// Whether a text may have this order.
+    pub(crate) fn take(self, order: &Order) -> bool
+        ensures { result ≡ takes self order.now }
+    {
+        match self {
+            Allowed::All => true,
+            Allowed::Inputs => matches!(order, Order::Input { .. } | Order::Bytes { .. }),
+        }
+    }
 }
 
 /// The order of a line.

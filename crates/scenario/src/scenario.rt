@@ -7,7 +7,7 @@ ghost use Rattle.scenario.specs.Scenario.{AreLines, IsFault, IsRefusal, IsScenar
 ghost use Rattle.scenario.specs.declared.scenario.ScenarioError.TheVariants.{Memory};
 
 use crate::line::{Line, line_of};
-use crate::order::Order;
+use crate::order::{Allowed, Order};
 use crate::process::Process;
 use crate::split::split_at_line_feed;
 use indexmap::IndexMap;
@@ -56,13 +56,13 @@ impl<T: Drop> From<AllocFailed<T>> for ScenarioError {
     }
 }
 
-/// The scenario that a text is (docs/FORMATS.md, "Scenario"). The whole text is checked; the error
-/// names the first faulty line.
-pub fn parse(alloc: Global, text: &str) -> Result<Scenario, ScenarioError>
-    ensures found { IfOk result (IsScenario text.now) }
-    ensures refused { IfErr result (IsRefusal text.now) }
+/// The scenario that a text with these orders is (docs/FORMATS.md, "Scenario"). The whole text is
+/// checked; the error names the first faulty line.
+pub fn parse(alloc: Global, text: &str, allowed: Allowed) -> Result<Scenario, ScenarioError>
+    ensures found { IfOk result (IsScenario allowed text.now) }
+    ensures refused { IfErr result (IsRefusal allowed text.now) }
 {
-    let scenario = read_lines(alloc, text)?;
+    let scenario = read_lines(alloc, text, allowed)?;
     if scenario.processes.is_empty() {
         return Err(ScenarioError::Line(0));
     }
@@ -70,9 +70,9 @@ pub fn parse(alloc: Global, text: &str) -> Result<Scenario, ScenarioError>
 }
 
 /// The processes and the steps of all lines.
-fn read_lines(alloc: Global, text: &str) -> Result<Scenario, ScenarioError>
-    ensures found { IfOk result (λ s. AreLines (lines_of text.now) s.processes.entries s.steps.items) }
-    ensures refused { IfErr result (IsRefusal text.now) }
+fn read_lines(alloc: Global, text: &str, allowed: Allowed) -> Result<Scenario, ScenarioError>
+    ensures found { IfOk result (λ s. AreLines allowed (lines_of text.now) s.processes.entries s.steps.items) }
+    ensures refused { IfErr result (IsRefusal allowed text.now) }
 {
     let mut processes = IndexMap::new(alloc);
     let mut steps: Vec<Step> = Vec::new(alloc);
@@ -87,10 +87,15 @@ fn read_lines(alloc: Global, text: &str) -> Result<Scenario, ScenarioError>
         match what {
             Line::Silent => {}
             Line::Process { name, path } => declare(alloc, &mut processes, number, name, path)?,
-            Line::Order(order) => steps.push(Step {
-                line: number,
-                order,
-            })?,
+            Line::Order(order) => {
+                if !allowed.take(&order) {
+                    return Err(ScenarioError::Line(number));
+                }
+                steps.push(Step {
+                    line: number,
+                    order,
+                })?;
+            }
         }
         rest = after;
     }

@@ -1,4 +1,5 @@
-//! Traces and scenarios that were worked out by hand.
+//! Traces, reports and scenarios that were worked out by hand.
 
+mod reports;
 mod scenarios;
 mod traces;

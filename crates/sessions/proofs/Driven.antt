@@ -25,7 +25,7 @@ use Rattle.world.proofs.Runs.{world_after-append}
 use Rattle.machine.specs.Arrival.{answer_of, IsJobFor, Told}
 use Rattle.machine.specs.Picking.{IsPick}
 use Rattle.machine.specs.declared.arrival.Arrival.{Arrival}
-use Rattle.machine.specs.declared.arrival.Arrival.TheVariants.{Started, Duplicate, Early, Shown, ShownBefore, Numbered, Acknowledged, Stale}
+use Rattle.machine.specs.declared.arrival.Arrival.TheVariants.{Started, Duplicate, Early, Shown, ShownBefore, Numbered, Acknowledged, Unreachable, Stale}
 use Rattle.sessions.specs.Seats.{TheSeat}
 use Rattle.sessions.specs.Journal.{TheSession, world_at, room_at, entry, Adds}
 use Rattle.sessions.specs.Driving.{begun_by, job_of, Drives, Advances}
@@ -182,6 +182,7 @@ not-begun found (Shown ssn) other = refl
 not-begun found ShownBefore other = refl
 not-begun found (Numbered key) other = refl
 not-begun found Acknowledged other = refl
+not-begun found Unreachable other = refl
 not-begun found Stale other = refl
 
 -- an arrival that starts none

@@ -1,6 +1,6 @@
 -- The places of the journal that open jobs hold
-use Rattle.std.proofs.Common.{◌≡◌, ℕ, zero, suc, ◌+◌, ◌<◌, ◌≤◌, List, [], ◌∷◌, Bool, true, false, refl, ap, ◌∙◌, subst, arith}
-use Rattle.std.specs.Prelude.{if◌then◌else◌, ◌==◌, ◌&&◌, nat_lt, Option, Some, None}
+use Rattle.std.proofs.Common.{◌≡◌, ℕ, zero, suc, ◌+◌, ◌-◌, ◌<◌, ◌≤◌, List, [], ◌∷◌, length, Bool, true, false, refl, sym, ap, ◌∙◌, subst, arith}
+use Rattle.std.specs.Prelude.{if◌then◌else◌, ◌==◌, ◌&&◌, not, nat_lt, Option, Some, None}
 use Rattle.std.proofs.lemmas.Bool.Decides.{nat_tests}
 use Rattle.world.specs.declared.message.Message.{Message}
 use Rattle.world.specs.declared.packet.Packet.{Packet}
@@ -9,12 +9,13 @@ use Rattle.world.specs.declared.call.Call.{Call}
 use Rattle.world.specs.declared.call.Call.TheVariants.{Input, Transmit, Copy, Lose, Arrive, Finish, Checkpoint, Trim, Crash, Recover, RecoverAlone, ReplayBegin, Resync as ResyncWith}
 use Rattle.machine.specs.Picking.{IsPick, IsMove}
 use Rattle.world.specs.declared.answer.Answer.{Answer}
-use Rattle.world.specs.declared.answer.Answer.TheVariants.{Placed, Lost, Started, Duplicate, Shown, Numbered, Acknowledged, Committed}
-use Rattle.world.specs.Phases.{Phase, Up, Busy, is_up, is_working}
+use Rattle.world.specs.declared.answer.Answer.TheVariants.{Placed, Lost, Started, Duplicate, Shown, Numbered, Acknowledged, Committed, Replayed, Kept}
+use Rattle.world.specs.History.{Payload}
+use Rattle.world.specs.Phases.{Phase, Up, Busy, Down, Replaying, Resync, is_up, is_working, todo_of, without}
 use Rattle.world.specs.World.{World, put, is_inside}
 use Rattle.world.specs.Bounds.{count_below, open_jobs}
-use Rattle.world.specs.Calls.{after, arrive, commit, finish}
-use Rattle.world.specs.Answers.{MayAnswer, Receives, ReceivesIf, ReceivesAs, NumbersAs, AcknowledgesAs, Verdict, Next, Known, Ahead, judge}
+use Rattle.world.specs.Calls.{after, arrive, commit, finish, replay, recover, keep, ready, peers, phase_with, with_open_job}
+use Rattle.world.specs.Answers.{MayAnswer, Finishes, Receives, ReceivesIf, ReceivesAs, NumbersAs, AcknowledgesAs, Verdict, Next, Known, Ahead, judge}
 use Rattle.world.specs.Refusals.{least, refusal_of, causes, starts, is_next, one_if}
 use Rattle.world.proofs.Counts.{count_below-same, count_below-put}
 
@@ -144,16 +145,93 @@ room-pick w room (Trim d) move k = absurd move
 room-pick w room (Crash p) move k = absurd move
 room-pick w room (Recover p) move k = absurd move
 room-pick w room (RecoverAlone p) move k = absurd move
-room-pick w room (ReplayBegin p) move k = absurd move
-room-pick w room (ResyncWith p r) move k = absurd move
+room-pick w room (ReplayBegin p) move k = omega (arith, places room (open_jobs w + 1) (clear (causes w room (ReplayBegin p)) k.accepted).1.1.1.0)
+room-pick w room (ResyncWith p r) move k = omega (arith, places room (open_jobs w) (clear (causes w room (ResyncWith p r)) k.accepted).1.1.1.1.0)
+
+-- a process without an open job: not more are open
+fewer : (w : World) (p : ℕ) (x : Phase) → is_working x ≡ false → count_below (λ q. is_working (put w.phase p x q)) (suc w.count) ≤ open_jobs w
+fewer w p x idle = by_size (nat_lt p (suc w.count)) refl
+  where
+    by_size : (b : Bool) → nat_lt p (suc w.count) ≡ b → count_below (λ q. is_working (put w.phase p x q)) (suc w.count) ≤ open_jobs w
+    by_size true e =
+        let h : p < suc w.count = grind (arith, nat_tests) in
+        let same : count_below (λ q. is_working (put w.phase p x q)) (suc w.count) + one_if (is_working (w.phase p)) ≡ open_jobs w + one_if (is_working x) = jobs-put w.phase p (suc w.count) x h in
+        let none : one_if (is_working x) ≡ 0 = ap one_if idle in
+        omega (arith, same, none)
+    by_size false e = let h : suc w.count ≤ p = grind (arith, nat_tests) in omega (arith, jobs-beyond w.phase p (suc w.count) x h)
+
+phase_with-idle : (rs : List ℕ) → is_working (phase_with rs) ≡ false
+phase_with-idle [] = refl
+phase_with-idle (r ∷ rs) = refl
+
+jobs-recover : (w : World) (p k : ℕ) (alone : Bool) → open_jobs (recover w p k alone) ≤ open_jobs w
+jobs-recover w p k alone = by_whole (nat_lt (w.saved p) k)
+  where
+    by_whole : (b : Bool) → open_jobs (if b then record (keep w p k) { phase = put w.phase p (Replaying 0 false alone) } else ready (keep w p k) p (peers w p alone)) ≤ open_jobs w
+    by_whole true = fewer w p (Replaying 0 false alone) refl
+    by_whole false = fewer w p (phase_with (peers w p alone)) (phase_with-idle (peers w p alone))
+
+pub room-checkpoint : (w : World) (room p : ℕ) (a : Answer) → refusal_of w room (Checkpoint p) ≡ None → open_jobs (after w (Checkpoint p) a) + 1 ≤ room
+room-checkpoint w room p a accepted = places room (open_jobs w) (clear (causes w room (Checkpoint p)) accepted).1.1.1.0
+
+pub room-trim : (w : World) (room d : ℕ) (a : Answer) → refusal_of w room (Trim d) ≡ None → open_jobs (after w (Trim d) a) + 1 ≤ room
+room-trim w room d a accepted = places room (open_jobs w) (clear (causes w room (Trim d)) accepted).1.0
+
+pub room-recover : (w : World) (room p k : ℕ) → refusal_of w room (Recover p) ≡ None → open_jobs (after w (Recover p) (Kept k)) + 1 ≤ room
+room-recover w room p k accepted = omega (arith, places room (open_jobs w) (clear (causes w room (Recover p)) accepted).1.1.1.0, jobs-recover w p k false)
+
+pub room-alone : (w : World) (room p k : ℕ) → refusal_of w room (RecoverAlone p) ≡ None → open_jobs (after w (RecoverAlone p) (Kept k)) + 1 ≤ room
+room-alone w room p k accepted = omega (arith, places room (open_jobs w) (clear (causes w room (RecoverAlone p)) accepted).1.1.0, jobs-recover w p k true)
+
+pub room-begin : (w : World) (room p : ℕ) (a : Answer) → refusal_of w room (ReplayBegin p) ≡ None → open_jobs (after w (ReplayBegin p) a) + 1 ≤ room
+room-begin w room p a accepted = omega (arith, places room (open_jobs w + 1) (clear (causes w room (ReplayBegin p)) accepted).1.1.1.0, jobs-more w.phase p (suc w.count) (with_open_job (w.phase p)))
+
+pub room-resync : (w : World) (room p r : ℕ) (a : Answer) → refusal_of w room (ResyncWith p r) ≡ None → open_jobs (after w (ResyncWith p r) a) + 1 ≤ room
+room-resync w room p r a accepted = omega (arith, places room (open_jobs w) (clear (causes w room (ResyncWith p r)) accepted).1.1.1.1.0, fewer w p (phase_with (without (todo_of (w.phase p)) r)) (phase_with-idle (without (todo_of (w.phase p)) r)))
+
+inside-below : (w : World) (p : ℕ) → is_inside w p ≡ true → p < suc w.count
+inside-below w p inside = grind (arith, nat_tests)
+
+both-of : (a b : Bool) → not (a && b) ≡ false → (a ≡ true) × (b ≡ true)
+both-of true true e = (refl, refl)
+both-of true false e = absurd (cc)
+both-of false b e = absurd (cc)
+
+not-false : (b : Bool) → not b ≡ false → b ≡ true
+not-false true e = refl
+not-false false e = absurd (cc)
+
+-- the open job of a process that crashes is gone
+pub room-crash : (w : World) (room p : ℕ) (a : Answer) → refusal_of w room (Crash p) ≡ None → open_jobs (after w (Crash p) a) + 1 ≤ room
+room-crash w room p a accepted =
+    let inside : is_inside w p ≡ true = not-false (is_inside w p) (clear (causes w room (Crash p)) accepted).0 in
+    let same : count_below (λ q. is_working (put w.phase p Down q)) (suc w.count) + one_if (is_working (w.phase p)) ≡ open_jobs w + 0 = jobs-put w.phase p (suc w.count) Down (inside-below w p inside) in
+    omega (arith, places room (open_jobs w - one_if (is_working (w.phase p))) (clear (causes w room (Crash p)) accepted).1.1.0, same)
 
 -- a finished job gives its place back
-pub room-finish : (w : World) (p n key : ℕ) (m : Message) → is_inside w p ≡ true → w.phase p ≡ Busy m → open_jobs (after w (Finish p) (Committed n key)) + 1 ≡ open_jobs w
-room-finish w p n key m inside working =
-    let h : p < suc w.count = grind (arith, nat_tests) in
-    let was : is_working (w.phase p) ≡ true = ap is_working working in
-    let e : open_jobs (commit w p m key) + one_if (is_working (w.phase p)) ≡ open_jobs w + 0 = jobs-put w.phase p (suc w.count) Up h in
-    let f : open_jobs (commit w p m key) + 1 ≡ open_jobs w + 0 = subst (λ b. open_jobs (commit w p m key) + one_if b ≡ open_jobs w + 0) was e in
-    let is : after w (Finish p) (Committed n key) ≡ commit w p m key = ap (λ phase. finish w p phase (Committed n key)) working in
-    let none : open_jobs w + 0 ≡ open_jobs w = omega arith in
-    ap (λ v. open_jobs v + 1) is ∙ f ∙ none
+given-back : (w : World) (p : ℕ) (x : Phase) → is_inside w p ≡ true → is_working (w.phase p) ≡ true → is_working x ≡ false → count_below (λ q. is_working (put w.phase p x q)) (suc w.count) + 1 ≡ open_jobs w
+given-back w p x inside was idle =
+    let same : count_below (λ q. is_working (put w.phase p x q)) (suc w.count) + one_if (is_working (w.phase p)) ≡ open_jobs w + one_if (is_working x) = jobs-put w.phase p (suc w.count) x (inside-below w p inside) in
+    let one : one_if (is_working (w.phase p)) ≡ 1 = ap one_if was in
+    let none : one_if (is_working x) ≡ 0 = ap one_if idle in
+    omega (arith, same, one, none)
+
+finished-phase : (w : World) (p : ℕ) (phase : Phase) (a : Answer) → is_inside w p ≡ true → is_working (w.phase p) ≡ true → Finishes w p phase a → open_jobs (finish w p phase a) + 1 ≡ open_jobs w
+finished-phase w p (Busy m) a inside was may =
+    let P : Answer → Type 0 = λ a. open_jobs (finish w p (Busy m) a) + 1 ≡ open_jobs w in
+    subst P (sym may.2) (given-back w p Up inside was refl)
+finished-phase w p (Replaying j working alone) a inside was may =
+    let P : Answer → Type 0 = λ a. open_jobs (finish w p (Replaying j working alone) a) + 1 ≡ open_jobs w in
+    subst P (sym may) (by_whole (nat_lt (w.saved p + suc j) (length (w.history p))))
+  where
+    by_whole : (b : Bool) → open_jobs (if b then record w { phase = put w.phase p (Replaying (suc j) false alone) } else ready w p (peers w p alone)) + 1 ≡ open_jobs w
+    by_whole true = given-back w p (Replaying (suc j) false alone) inside was refl
+    by_whole false = given-back w p (phase_with (peers w p alone)) inside was (phase_with-idle (peers w p alone))
+finished-phase w p Up a inside was may = absurd may
+finished-phase w p Down a inside was may = absurd may
+finished-phase w p (Resync todo) a inside was may = absurd may
+
+pub room-finish : (w : World) (room p : ℕ) (a : Answer) → refusal_of w room (Finish p) ≡ None → MayAnswer w (Finish p) a → open_jobs (after w (Finish p) a) + 1 ≡ open_jobs w
+room-finish w room p a accepted may =
+    let both = both-of (is_inside w p) (is_working (w.phase p)) (clear (causes w room (Finish p)) accepted).0 in
+    finished-phase w p (w.phase p) a both.0 both.1 may

@@ -1,6 +1,6 @@
 -- What each accepted call of the machine does to the session
-use Rattle.std.proofs.Common.{◌≡◌, ℕ, Bool, ◌||◌, ◌==◌, zero, suc, ◌+◌, ◌-◌, ◌≤◌, List, [], ◌∷◌, ◌++◌, length, length-append, true, false, refl, sym, ap, ◌∙◌, subst, arith}
-use Rattle.std.specs.Prelude.{Option, Some, None, Ok, option_and_then, unwrap_or}
+use Rattle.std.proofs.Common.{◌≡◌, ℕ, Bool, ◌||◌, ◌==◌, zero, suc, ◌+◌, ◌-◌, ◌≤◌, List, [], ◌∷◌, ◌++◌, length, length-append, append_assoc, true, false, refl, sym, ap, ◌∙◌, subst, arith}
+use Rattle.std.specs.Prelude.{◌&&◌, Option, Some, None, Result, Ok, Err, option_and_then, unwrap_or}
 use Rattle.verifier.specs.Typed.{Typed}
 use Rattle.world.specs.declared.call.Call.{Call}
 use Rattle.world.specs.declared.answer.Answer.{Answer}
@@ -11,16 +11,19 @@ use Rattle.world.specs.Fold.{handlers_of}
 use Rattle.world.specs.World.{World, opening}
 use Rattle.world.specs.Bounds.{LIMIT, count_below, open_jobs}
 use Rattle.world.specs.Calls.{after}
-use Rattle.world.specs.Refusals.{cause_of}
+use Rattle.world.specs.Refusals.{refusal_of, cause_of}
 use Rattle.world.specs.Useful.{is_free, is_useful, may_call}
-use Rattle.world.specs.Legal.{WStep, world_of}
+use Rattle.world.specs.Legal.{WStep, world_of, world_after, is_single, all_single}
 use Rattle.world.proofs.Runs.{world_after-push, world_after-setting, Legal-push}
 use Rattle.machine.specs.Simulation.{TheMachine, Stands, Steps}
 use Rattle.machine.specs.Arrival.{IsJobOf}
 use Rattle.machine.specs.declared.arrival.Arrival.{Arrival}
-use Rattle.machine.specs.declared.arrival.Arrival.TheVariants.{Started, Duplicate, Early, Shown, ShownBefore, Numbered, Acknowledged, Stale}
+use Rattle.machine.specs.declared.arrival.Arrival.TheVariants.{Started, Duplicate, Early, Shown, ShownBefore, Numbered, Acknowledged, Unreachable, Stale}
+use Rattle.theorems.specs.Recovery.{RecoversExactly, recovery}
+use Rattle.theorems.specs.Single.{IsSingle}
+use Rattle.theorems.proofs.KeptLemmas.{recovers-exactly}
 use Rattle.sessions.specs.Seats.{TheSeat}
-use Rattle.sessions.specs.Journal.{TheSession, entry, answered_once, Adds, HandsOut}
+use Rattle.sessions.specs.Journal.{TheSession, entry, answered_once, Adds, HandsOut, ReturnsTo, is_exact_of, world_at, room_at}
 use Rattle.sessions.specs.Inside.{IsSession}
 
 -- the world of a session's fields
@@ -42,6 +45,46 @@ may-free w worker call free = by_worker (worker == 0)
     by_worker : (b : Bool) → (b || (is_free call || is_useful w call)) ≡ true
     by_worker true = refl
     by_worker false = rw free refl
+
+-- Failures that come one at a time
+
+and-true : (b : Bool) → (b && true) ≡ b
+and-true true = refl
+and-true false = refl
+
+and-false : (b : Bool) → (b && false) ≡ false
+and-false true = refl
+and-false false = refl
+
+and-and : (a b c : Bool) → (a && (b && c)) ≡ ((a && b) && c)
+and-and true b c = refl
+and-and false b c = refl
+
+single-push : (w : World) (es : List Entry) (e : Entry) → all_single w (es ++ e ∷ []) ≡ (all_single w es && is_single (world_after w es) e.call)
+single-push w [] e = and-true (is_single w e.call)
+single-push w (x ∷ es) e = ap (λ b. is_single w x.call && b) (single-push (after w x.call x.answer) es e) ∙ and-and (is_single w x.call) (all_single (after w x.call x.answer) es) (is_single (world_after w (x ∷ es)) e.call)
+
+-- whether failures came one at a time, after a call by which it stays so, and by which it doesn't
+abbrev pub Carries : TheMachine → TheMachine → List Entry → List Entry → Call → Type 0
+Carries m m' es entries call = (b : Bool) → b ≡ is_exact_of m.images es → (b && is_single (here m es) call) ≡ is_exact_of m'.images entries
+
+pub carried : (b x : Bool) → (b && true) ≡ x → b ≡ x
+carried b x e = sym (and-true b) ∙ e
+
+pub ended : (b x : Bool) → (b && false) ≡ x → false ≡ x
+ended b x e = sym (and-false b) ∙ e
+
+-- after a crash, with every other process up or not
+pub stays : (b y o u x : Bool) → b ≡ true → y ≡ o → o ≡ u → (b && u) ≡ x → y ≡ x
+stays b y o u x h is same e = is ∙ same ∙ sym (ap (λ z. z && u) h) ∙ e
+
+pub stops : (b y u x : Bool) → b ≡ false → y ≡ false → (b && u) ≡ x → y ≡ x
+stops b y u x h is e = is ∙ sym (ap (λ z. z && u) h) ∙ e
+
+-- what an accepted call makes of a session
+abbrev pub Accepts : TheMachine → TheMachine → List Entry → List Entry → List (Option TheSeat) → TheSeat → TheSeat → Call → Answer → Type 0
+Accepts m m' es entries seats by by' call answer =
+    IsSession m' entries × Adds (session m es seats) (session m' entries seats) by by' call (Ok answer) × Carries m m' es entries call
 
 module _ (m m' : TheMachine) (es : List Entry) (seats : List (Option TheSeat)) (by : TheSeat) (call : Call) (answer : Answer) (s : IsSession m es) (may : may_call (here m es) by.worker call ≡ true) (step : (w : World) → Stands m w → Steps m m' (LIMIT - length es) call answer w) where
   e : Entry
@@ -70,18 +113,36 @@ module _ (m m' : TheMachine) (es : List Entry) (seats : List (Option TheSeat)) (
         room = subst Q (sym taken.images) (omega (arith, len, room, ap open_jobs push));
       }
 
+  carry : (entries : List Entry) → entries ≡ es ++ entry by.worker call answer ∷ [] → Carries m m' es entries call
+  carry entries is b h =
+      let moved : is_exact_of m'.images entries ≡ is_exact_of m.images (es ++ entry by.worker call answer ∷ []) = λ i. is_exact_of (taken.images i) (is i) in
+      ap (λ x. x && is_single (here m es) call) h ∙ sym (single-push (opening (length m.images) (handlers_of m.images)) es (entry by.worker call answer)) ∙ sym moved
+
   -- the session after an accepted call
   pub accepted : (entries : List Entry) → entries ≡ es ++ entry by.worker call answer ∷ [] → (by' : TheSeat) → by' ≡ answered_once by
       → m'.calls ≡ m.calls + 1 → length es + 1 + open_jobs (after (here m es) call answer) ≤ LIMIT
-      → IsSession m' entries × Adds (session m es seats) (session m' entries seats) by by' call (Ok answer)
+      → Accepts m m' es entries seats by by' call answer
   unfolding e
   accepted entries is by' seat calls room =
-      (rw is (keeps calls room), (rw is stepped, (λ i. record { images = taken.images i; entries = is i; seats = seats }), seat))
+      (rw is (keeps calls room), (rw is stepped, (λ i. record { images = taken.images i; entries = is i; seats = seats }), seat), carry entries is)
 
 -- want of memory is told where there is no other cause
 pub told : (o : Option Refusal) → option_and_then cause_of o ≡ cause_of (unwrap_or o Memory)
 told None = refl
 told (Some r) = refl
+
+-- a call that the machine refuses changes nothing
+pub refused : (old : TheSession) (m m' : TheMachine) (es entries : List Entry) (seats : List (Option TheSeat)) (by : TheSeat) (call : Call) (refusal : Refusal) (room : ℕ) (r : Result Answer Refusal)
+    → session m es seats ≡ old → m' ≡ m → entries ≡ es → room ≡ LIMIT - length es → refusal_of (here m es) room call ≡ cause_of refusal → r ≡ Err refusal → Adds old (session m' entries seats) by by call r
+refused old m m' es entries seats by call refusal room r view same kept is cause err =
+    let P : TheSession → Type 0 = λ s. refusal_of (world_at s) (room_at s) call ≡ cause_of refusal in
+    let Q : Result Answer Refusal → Type 0 = λ r. Adds old (session m' entries seats) by by call r in
+    let back : session m' entries seats ≡ session m es seats = λ i. session (same i) (kept i) seats in
+    subst Q (sym err) (back ∙ view, refl, subst P view (ap (λ n. refusal_of (here m es) n call) (sym is) ∙ cause))
+
+-- a cause that is told, where there is none want of memory
+pub caused : (w : World) (room : ℕ) (call : Call) (o : Option Refusal) (r : Refusal) → refusal_of w room call ≡ option_and_then cause_of o → r ≡ unwrap_or o Memory → refusal_of w room call ≡ cause_of r
+caused w room call o r cause is = cause ∙ told o ∙ ap cause_of (sym is)
 
 no-jobs : (n : ℕ) → count_below (λ p. false) n ≡ 0
 no-jobs zero = refl
@@ -104,3 +165,16 @@ handed m es seats ShownBefore job s = tt
 handed m es seats (Numbered key) job s = tt
 handed m es seats Acknowledged job s = tt
 handed m es seats Stale job s = tt
+handed m es seats Unreachable job s = tt
+
+-- p came back with k messages
+pub returns-to : (old new : TheSession) (worker p k : ℕ) → new ≡ record old { entries = old.entries ++ recovery worker p k ∷ [] } → ReturnsTo old new p k
+returns-to old new worker p k is more single =
+    let es : List Entry = old.entries ++ recovery worker p k ∷ more in
+    let joined : new.entries ++ more ≡ es = ap (λ (s : TheSession). s.entries ++ more) is ∙ append_assoc old.entries (recovery worker p k ∷ []) more in
+    let images : new.images ≡ old.images = ap (λ (s : TheSession). s.images) is in
+    let P : List Typed → List Entry → Type 0 = λ images xs. IsSingle (length images) (handlers_of images) xs in
+    let Q : List Typed → List Entry → Type 0 = λ images xs. RecoversExactly (world_at old) (world_of (length images) (handlers_of images) xs) p k in
+    let given : P old.images es = subst (λ i. P i es) images (subst (P new.images) joined single) in
+    let all : Q old.images es = recovers-exactly (length old.images) (handlers_of old.images) old.entries more worker p k given in
+    subst (Q new.images) (sym joined) (subst (λ i. Q i es) (sym images) all)

@@ -3,7 +3,7 @@ use Rattle.std.specs.Prelude.{◌≡◌, ℕ, ◌+◌, ◌-◌, ◌<◌, ◌≤�
 use Rattle.world.specs.declared.packet.Packet.{Packet}
 use Rattle.world.specs.declared.packet.Packet.TheVariants.{Delivery}
 use Rattle.world.specs.declared.call.Call.{Call}
-use Rattle.world.specs.declared.call.Call.TheVariants.{Arrive, Finish}
+use Rattle.world.specs.declared.call.Call.TheVariants.{Arrive, Finish, ReplayBegin}
 use Rattle.world.specs.declared.answer.Answer.{Answer}
 use Rattle.world.specs.declared.answer.Answer.TheVariants.{Started}
 use Rattle.world.specs.declared.entry.Entry.{Entry}
@@ -11,9 +11,11 @@ use Rattle.world.specs.declared.refusal.Refusal.{Refusal}
 use Rattle.world.specs.declared.refusal.Refusal.TheVariants.{Memory}
 use Rattle.world.specs.World.{World}
 use Rattle.world.specs.Calls.{after}
+use Rattle.replay.specs.Task.{TheTask}
+use Rattle.machine.specs.Arrival.{IsOpen}
 use Rattle.machine.specs.Picking.{IsPick}
 use Rattle.sessions.specs.Seats.{TheSeat}
-use Rattle.sessions.specs.Journal.{TheSession, world_at, room_at}
+use Rattle.sessions.specs.Journal.{TheSession, world_at, room_at, Adds}
 
 -- whose job the answer to a packet tells as started
 abbrev pub begun_by : Answer → Option Packet → Option ℕ
@@ -23,6 +25,7 @@ begun_by answer packet = None
 -- the process whose job a call started
 abbrev pub job_of : World → Call → Answer → Option ℕ
 job_of w (Arrive key) answer = begun_by answer (w.wire key)
+job_of w (ReplayBegin p) answer = Some p
 job_of w call answer = None
 
 -- each of these entries of a worker is a call that can be picked where it is made, before so many were accepted, or the finish of
@@ -45,6 +48,16 @@ pub record Advances (budget : ℕ) (old new : TheSession) (by by' : TheSeat) (n 
 -- no call can be picked
 abbrev pub IsQuiet : TheSession → Type 0
 IsQuiet s = (call : Call) → ¬ IsPick (world_at s) (room_at s) call
+
+-- the job of this process was started and is open, or there is none
+abbrev pub Starts : TheSession → Option ℕ → Option TheTask → Type 0
+Starts s p None = p ≡ None
+Starts s p (Some task) = (p ≡ Some task.who.me) × IsOpen s.images task (world_at s)
+
+-- what a call that was picked owes: it is accepted, and hands out the job that it starts; or memory ran out, and nothing has changed
+abbrev pub Makes : TheSession → TheSession → TheSeat → TheSeat → Call → Result (Option TheTask) Refusal → Type 0
+Makes old new by by' call (Ok job) = (answer : Answer) × Adds old new by by' call (Ok answer) × Starts new (job_of (world_at old) call answer) job
+Makes old new by by' call (Err r) = (r ≡ Memory) × (new ≡ old) × (by' ≡ by)
 
 -- what a drive owes: it ends with no job of its own open, where the budget is reached or no call can be picked; or where memory ran
 -- out, and the calls that were accepted stand

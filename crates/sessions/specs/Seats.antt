@@ -1,5 +1,5 @@
 -- Seats, the rights to call
-use Rattle.std.specs.Prelude.{◌≡◌, ℕ, suc, zero, List, [], ◌∷◌, ◌++◌, length, Option, Some, None, slice_index_or}
+use Rattle.std.specs.Prelude.{◌≡◌, ℕ, suc, zero, ◌+◌, List, [], ◌∷◌, ◌++◌, length, Option, Some, None, All, IsSome, slice_index_or, sum_by}
 
 -- its worker, 0 for none, and how many of its calls were accepted
 pub record TheSeat : Type 0 where
@@ -19,3 +19,20 @@ seat_at seats k = slice_index_or seats k None
 pub record AreSeats (seats : List (Option TheSeat)) : Type 0 where
   pub all : length seats ≡ 17
   pub placed : (k : ℕ) (s : TheSeat) → seat_at seats k ≡ Some s → s.worker ≡ k
+
+-- no seat is out
+abbrev pub IsWhole : List (Option TheSeat) → Type 0
+IsWhole seats = All IsSome seats
+
+abbrev pub listed : Option TheSeat → List TheSeat
+listed None = []
+listed (Some s) = s ∷ []
+
+-- of so many workers from this one on, the seats that are at hand
+abbrev pub seats_from : List (Option TheSeat) → ℕ → ℕ → List TheSeat
+seats_from seats k zero = []
+seats_from seats k (suc n) = seats_from seats k n ++ listed (seat_at seats (k + n))
+
+-- how many calls of these seats were accepted
+abbrev pub answered_by : List TheSeat → ℕ
+answered_by seats = sum_by (λ s. s.answered) seats

@@ -24,12 +24,15 @@
 
 mod driving;
 mod journal;
+mod recovering;
 mod seat;
 mod session;
+mod share;
 
-pub use machine::{Arrival, Committed};
+pub use machine::{Arrival, Finished};
 pub use seat::Seat;
 pub use session::Session;
+pub use share::{End, Share};
 
 #[cfg(test)]
 mod tests;

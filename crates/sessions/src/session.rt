@@ -1,8 +1,8 @@
 //! The calls of a session.
 
-ghost use Rattle.std.specs.Prelude.{◌≡◌, ◌≤◌, IfNone, IfOk, IfSome, None, Some, true, length, map, slice_set};
+ghost use Rattle.std.specs.Prelude.{◌≡◌, ◌+◌, ◌≤◌, ◌↔◌, IfNone, IfOk, IfSome, IsTrue, None, Some, [], true, false, length, map, slice_set};
 ghost use Rattle.std.specs.Arc.{arc_value};
-ghost use Rattle.world.specs.Phases.{name_of};
+ghost use Rattle.world.specs.Phases.{name_of, is_down};
 ghost use Rattle.world.specs.Bounds.{open_jobs};
 ghost use Rattle.world.specs.Logs.{state_of, length_of};
 ghost use Rattle.machine.specs.Simulation.{answering};
@@ -10,18 +10,20 @@ ghost use Rattle.machine.specs.Arrival.{answer_of, IsJobFor};
 ghost use Rattle.machine.specs.Picking.{IsPick, IsMove};
 ghost use Rattle.world.specs.Useful.{may_call};
 ghost use Rattle.sessions.specs.Driving.{IsQuiet};
-ghost use Rattle.sessions.specs.Seats.{AreSeats, new_seats, seat_at};
+ghost use Rattle.sessions.specs.Seats.{AreSeats, IsWhole, answered_by, new_seats, seat_at};
+ghost use Rattle.sessions.specs.Shares.{answers_of};
 ghost use Rattle.sessions.specs.Journal.{IsExact, IsLegal, world_at, room_at, Adds, HandsOut, Takes, OpensWith};
 ghost use Rattle.theorems.specs.Orphans.{NoOrphan, ShownBegin};
 
 use crate::journal::Journal;
 use crate::seat::Seat;
-use machine::{Arrival, Committed, Machine};
+use crate::share::Share;
+use machine::{Arrival, Finished, Machine};
 use replay::Done;
 use std::alloc::{AllocError, Global};
 use std::marker::Model;
 use std::sync::Arc;
-use std::sync::ledger::{Blank, Ledger, Share};
+use std::sync::ledger::{Blank, Ledger, Share as Part};
 use verifier::Image;
 use world::{Answer, Call, Entry, Feed, Message, PhaseName, Refusal};
 
@@ -32,13 +34,15 @@ const SEATS: u8 = 17;
 /// nobody took. `L` names the session's ledger, which has a part for each seat.
 #[derive(Drop)]
 pub struct Session<L: Ledger> {
-    machine: Machine,
-    journal: Journal<L>,
+    pub(crate) machine: Machine,
+    pub(crate) journal: Journal<L>,
     seats: Vec<Option<Seat<L>>>,
+    pub(crate) exact: bool,
 }
 
 impl<L: Ledger> Model for Session<L> {
-    ghost use Rattle.sessions.specs.Journal.{TheSession};
+    ghost use Rattle.std.specs.Prelude.{◌≡◌};
+    ghost use Rattle.sessions.specs.Journal.{TheSession, is_exact_of};
     ghost use Rattle.sessions.specs.Seats.{AreSeats};
     ghost use Rattle.sessions.specs.Inside.{IsSession};
 
@@ -46,13 +50,13 @@ impl<L: Ledger> Model for Session<L> {
 
     ghost view = { λ s. record { images = s.machine.images; entries = s.journal.entries; seats = s.seats.items } };
 
-    ghost invariant = { λ s. IsSession s.machine s.journal.entries × AreSeats s.seats.items };
+    ghost invariant = { λ s. IsSession s.machine s.journal.entries × AreSeats s.seats.items × (s.exact ≡ is_exact_of s.machine.images s.journal.entries) };
 }
 
 // A seat for each part of the ledger.
 fn seats_of<L: Ledger>(
     alloc: Global,
-    mut parts: Share<L>,
+    mut parts: Part<L>,
 ) -> Result<Vec<Option<Seat<L>>>, AllocError>
     requires { (parts.parts ≡ 17) × (parts.amount ≡ 0) }
     ensures { IfOk result (λ v. v.items ≡ new_seats 17) }
@@ -82,6 +86,7 @@ impl<L: Ledger> Session<L> {
             machine,
             journal,
             seats,
+            exact: true,
         })
     }
 
@@ -107,6 +112,27 @@ impl<L: Ledger> Session<L> {
         self.seats[worker] = Some(seat);
     }
 
+    /// Whether no seat is out.
+    pub fn is_whole(&self) -> bool
+        ensures whole { IsTrue result ↔ IsWhole self.now.seats }
+        ensures places { length self.now.seats ≡ 17 }
+    {
+        self.seats.iter().all(|seat| seat.is_some())
+    }
+
+    /// Shows that the journal is as long as all seats were answered together, where those of the
+    /// shares and the others are all 17. Takes no memory.
+    pub fn settle(&mut self, shares: &mut [Share<L>], seats: &mut [Seat<L>])
+        requires { L.parts ≡ 17 }
+        ensures session { self.new ≡ self.old }
+        ensures shares { shares.new ≡ shares.old }
+        ensures seats { seats.new ≡ seats.old }
+        ensures legal { IsLegal self.new }
+        ensures all { length shares.old + length seats.old ≡ 17 → length self.old.entries ≡ answers_of shares.old + answered_by seats.old }
+    {
+        self.journal.settle(shares, seats);
+    }
+
     /// The accepted calls with their answers, the first one first.
     pub fn journal(&self) -> &[Entry]
         ensures entries { result.now ≡ self.now.entries }
@@ -125,15 +151,16 @@ impl<L: Ledger> Session<L> {
         self.machine.count()
     }
 
-    /// The state of a process.
+    /// The state of a process, which is empty while the process is down.
     pub fn state(&self, p: u8) -> &[u8]
         requires { (1 ≤ p) × (p ≤ length self.now.images) }
-        ensures { result.now ≡ state_of (world_at self.now) p }
+        ensures live { is_down ((world_at self.now).phase p) ≡ false → result.now ≡ state_of (world_at self.now) p }
+        ensures down { is_down ((world_at self.now).phase p) ≡ true → result.now ≡ [] }
     {
         self.machine.state(p)
     }
 
-    /// How many messages it has received.
+    /// How many messages its state has: while it is down, those of its checkpoint.
     pub fn length(&self, p: u8) -> u32
         requires { (1 ≤ p) × (p ≤ length self.now.images) }
         ensures { result ≡ length_of (world_at self.now) p }
@@ -282,9 +309,10 @@ impl<L: Ledger> Session<L> {
     }
 
     /// Takes in the result of the open job of its process: the message is received, and the packet
-    /// that tells its number is put on the wire. It refuses a result that isn't the open job's
-    /// (`StaleJob`), and want of memory. The result comes back with a refusal. Any seat may call it.
-    pub fn finish(&mut self, by: &mut Seat<L>, done: Done) -> Result<Committed, (Refusal, Done)>
+    /// that tells its number is put on the wire; or it is replayed. It refuses a result that isn't
+    /// the open job's (`StaleJob`), and want of memory. The result comes back with a refusal. Any
+    /// seat may call it.
+    pub fn finish(&mut self, by: &mut Seat<L>, done: Done) -> Result<Finished, (Refusal, Done)>
         ensures takes { Takes self.old self.new by.old by.new done result }
         ensures worker { by.new.worker ≡ by.old.worker }
     {
@@ -295,12 +323,9 @@ impl<L: Ledger> Session<L> {
             return Err((Refusal::StaleJob, done));
         }
         let process = done.task().process();
-        let committed = self.machine.finish(done)?;
-        let answer = Answer::Committed {
-            rsn: committed.rsn,
-            key: committed.key,
-        };
-        self.journal.append(by, Call::Finish { process }, answer);
-        Ok(committed)
+        let finished = self.machine.finish(done)?;
+        let call = Call::Finish { process };
+        self.journal.append(by, call, finished.answer());
+        Ok(finished)
     }
 }

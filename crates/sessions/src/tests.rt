@@ -2,10 +2,15 @@ ghost use Rattle.std.specs.Prelude.{◌≡◌};
 
 mod driven;
 mod messages;
+mod reading;
+mod recovering;
+mod refusals;
+mod script;
 
-use crate::{Arrival, Seat, Session};
+use crate::{Arrival, Finished, Seat, Session};
 use helpers::Payload;
 use replay::Done;
+use script::Step;
 use std::alloc::Global;
 use std::marker::Brand;
 use std::process::Abort;
@@ -20,6 +25,13 @@ const ADDER: [u8; 56] = [
     0x53, 0x42, 0x49, 0x31, 0x08, 0x00, 0x06, 0x00, 0x79, 0x13, 0, 0, 0, 0, 0, 0, 0x79, 0x24, 0, 0,
     0, 0, 0, 0, 0x0f, 0x34, 0, 0, 0, 0, 0, 0, 0x7b, 0x42, 0, 0, 0, 0, 0, 0, 0xb7, 0, 0, 0, 0, 0, 0,
     0, 0x95, 0, 0, 0, 0, 0, 0, 0,
+];
+
+/// Adds the first word of a message to the word at 1,016 of its state of 1,024 bytes.
+const WIDE_ADDER: [u8; 56] = [
+    0x53, 0x42, 0x49, 0x31, 0x00, 0x04, 0x06, 0x00, 0x79, 0x13, 0, 0, 0, 0, 0, 0, 0x79, 0x24, 0xf8,
+    0x03, 0, 0, 0, 0, 0x0f, 0x34, 0, 0, 0, 0, 0, 0, 0x7b, 0x42, 0xf8, 0x03, 0, 0, 0, 0, 0xb7, 0, 0,
+    0, 0, 0, 0, 0, 0x95, 0, 0, 0, 0, 0, 0, 0,
 ];
 
 /// Sends each message on to process 2.
@@ -57,6 +69,13 @@ fn adders(alloc: Global, count: usize) -> Result<Vec<Arc<Image>>, Fail> {
     Ok(images)
 }
 
+/// The image of an adder with a wide state.
+fn wide_adder(alloc: Global) -> Result<Vec<Arc<Image>>, Fail> {
+    let mut images = Vec::new(alloc);
+    images.push(Arc::new(alloc, load(alloc, &WIDE_ADDER)?)?)?;
+    Ok(images)
+}
+
 /// The images of a relay and an echo.
 fn relay_and_echo(alloc: Global) -> Result<Vec<Arc<Image>>, Fail> {
     let mut images = Vec::new(alloc);
@@ -83,23 +102,8 @@ enum Scene {
     OneMessage,
     ShortAndLong,
     PartsOfAResult,
-    EarlyAndDuplicate,
-    RefusedCalls,
-    RefusedArrivals,
-    AnotherSession,
+    Results,
     Seats,
-    Acknowledged,
-    Copied,
-    Early,
-    Lost,
-    ByPosition,
-    Round,
-    FullWire,
-    FullJournal,
-    Driven,
-    DrivenEarly,
-    DrivenShort,
-    DrivenRound,
 }
 
 fn play_in<L: Ledger>(
@@ -117,23 +121,8 @@ fn play_in<L: Ledger>(
         Scene::OneMessage => one_message(rt, stage),
         Scene::ShortAndLong => short_and_long_messages(rt, stage),
         Scene::PartsOfAResult => parts_of_a_result(rt, stage),
-        Scene::EarlyAndDuplicate => early_and_duplicate_messages(rt, stage),
-        Scene::RefusedCalls => refused_calls(rt, stage),
-        Scene::RefusedArrivals => refused_arrivals(rt, stage),
-        Scene::AnotherSession => results_of_another_session(rt, alloc, stage),
+        Scene::Results => results(rt, alloc, stage),
         Scene::Seats => seats(rt, stage),
-        Scene::Acknowledged => messages::acknowledged(rt, stage),
-        Scene::Copied => messages::copied(rt, stage),
-        Scene::Early => messages::early(rt, stage),
-        Scene::Lost => messages::lost(rt, stage),
-        Scene::ByPosition => messages::by_position(rt, stage),
-        Scene::Round => messages::round(rt, stage),
-        Scene::FullWire => messages::full_wire(rt, stage),
-        Scene::FullJournal => messages::full_journal(rt, stage),
-        Scene::Driven => driven::one_message(rt, stage),
-        Scene::DrivenEarly => driven::early(rt, stage),
-        Scene::DrivenShort => driven::budget(rt, stage),
-        Scene::DrivenRound => driven::round(rt, stage),
     }
 }
 
@@ -142,9 +131,29 @@ fn play(rt: &impl Abort, alloc: Global, count: usize, scene: Scene) -> Result<()
     play_in::<Brand>(rt, alloc, Blank::new(17), adders(alloc, count)?, scene)
 }
 
-/// Plays the scene in a session of a relay and an echo.
-fn play_round(rt: &impl Abort, alloc: Global, scene: Scene) -> Result<(), Fail> {
-    play_in::<Brand>(rt, alloc, Blank::new(17), relay_and_echo(alloc)?, scene)
+fn follow_in<L: Ledger>(
+    rt: &impl Abort,
+    alloc: Global,
+    blank: Blank,
+    images: Vec<Arc<Image>>,
+    script: &[Step],
+) -> Result<(), Fail>
+    requires name { blank.name ≡ L.name }
+    requires parts { (blank.parts ≡ L.parts) × (blank.parts ≡ 17) }
+{
+    let mut stage: Stage<L> = open(alloc, blank, images)?;
+    assert_eq!(rt; stage.first_wrong(script), None);
+    Ok(())
+}
+
+/// Follows the script in a session of these images.
+fn follow(
+    rt: &impl Abort,
+    alloc: Global,
+    images: Vec<Arc<Image>>,
+    script: &[Step],
+) -> Result<(), Fail> {
+    follow_in::<Brand>(rt, alloc, Blank::new(17), images, script)
 }
 
 /// The number of a refusal, or 0.
@@ -169,25 +178,9 @@ impl<L: Ledger> Stage<L> {
         number_of(self.session.input(&mut self.seat, &feed))
     }
 
-    fn transmit(&mut self, from: u8, to: u8, ssn: u32) -> u8 {
-        number_of(self.session.transmit(&mut self.seat, from, to, ssn))
-    }
-
     /// The key of a message of the outside to the first process.
     fn sent(&mut self, ssn: u32) -> Option<usize> {
         self.session.transmit(&mut self.seat, 0, 1, ssn).ok()
-    }
-
-    fn arrive(&mut self, key: usize) -> u8 {
-        number_of(self.session.arrive(&mut self.seat, key))
-    }
-
-    fn is_early(&mut self, key: usize) -> bool {
-        matches!(self.session.arrive(&mut self.seat, key), Ok(Arrival::Early))
-    }
-
-    fn is_duplicate(&mut self, key: usize) -> bool {
-        matches!(self.session.arrive(&mut self.seat, key), Ok(Arrival::Duplicate(number)) if number == key)
     }
 
     /// The result of the job that an arrival starts.
@@ -204,7 +197,8 @@ impl<L: Ledger> Stage<L> {
             return (0, 0, 0);
         };
         match self.session.finish(&mut self.seat, done) {
-            Ok(committed) => (committed.rsn, committed.key, 0),
+            Ok(Finished::Committed { rsn, key }) => (rsn, key, 0),
+            Ok(Finished::Replayed(rsn)) => (rsn, 0, 0),
             Err((refusal, _done)) => (0, 0, refusal.number()),
         }
     }
@@ -330,80 +324,67 @@ fn parts_of_a_result<L: Ledger>(rt: &impl Abort, stage: Stage<L>) -> Result<(), 
     Ok(())
 }
 
-fn early_and_duplicate_messages<L: Ledger>(rt: &impl Abort, stage: Stage<L>) -> Result<(), Fail> {
-    let mut stage = stage;
-    stage.input(1, 1, 1);
-    stage.input(2, 1, 2);
-    assert_eq!(rt; stage.sent(2), Some(0));
-    assert!(rt; stage.is_early(0));
-    assert!(rt; stage.is_at(1, PhaseName::Up, 0, 0));
-    assert_eq!(rt; stage.sent(1), Some(0));
-    let done = stage.run(0);
-    assert_eq!(rt; stage.finish(done), (1, 0, 0));
-    assert_eq!(rt; stage.sent(1), Some(1));
-    assert!(rt; stage.is_duplicate(1));
-    assert_eq!(rt; stage.sent(2), Some(2));
-    let done = stage.run(2);
-    assert_eq!(rt; stage.finish(done), (2, 2, 0));
-    assert!(rt; stage.is_at(1, PhaseName::Up, 2, 3));
-    Ok(())
+impl<L: Ledger> Stage<L> {
+    /// Two words for processes: the first one is committed, and the result of the second held back.
+    fn result_of(&mut self, words: [(u8, u8); 2]) -> Option<Done> {
+        let first = self.result(words[0]);
+        self.finish(first);
+        self.result(words[1])
+    }
+
+    /// The result of the job that a word for a process starts.
+    fn result(&mut self, (dst, value): (u8, u8)) -> Option<Done> {
+        let feed = Feed {
+            number: u32::try_from(self.entries()).unwrap_or(u32::MAX),
+            dst,
+            payload: word(value),
+        };
+        let ssn = self.session.input(&mut self.seat, &feed).ok()?;
+        let key = self.session.transmit(&mut self.seat, 0, dst, ssn).ok()?;
+        self.run(key)
+    }
 }
 
-fn refused_calls<L: Ledger>(rt: &impl Abort, stage: Stage<L>) -> Result<(), Fail> {
-    let mut stage = stage;
-    stage.input(1, 1, 5);
-    assert_eq!(rt; stage.input(2, 0, 7), 1);
-    assert_eq!(rt; stage.input(2, 3, 7), 1);
-    assert_eq!(rt; stage.input(1, 2, 7), 14);
-    assert_eq!(rt; stage.transmit(0, 3, 1), 1);
-    assert_eq!(rt; stage.transmit(1, 1, 1), 5);
-    assert_eq!(rt; stage.transmit(0, 1, 2), 6);
-    assert_eq!(rt; stage.transmit(1, 2, 1), 6);
-    assert_eq!(rt; stage.transmit(1, 0, 0), 7);
-    assert_eq!(rt; stage.transmit(0, 1, 0), 7);
-    assert_eq!(rt; stage.arrive(9), 4);
-    assert_eq!(rt; stage.entries(), 1);
-    Ok(())
-}
-
-fn refused_arrivals<L: Ledger>(rt: &impl Abort, stage: Stage<L>) -> Result<(), Fail> {
-    let mut stage = stage;
-    stage.input(1, 1, 5);
-    stage.input(2, 1, 6);
-    stage.sent(1);
-    stage.sent(2);
-    let done = stage.run(0);
-    assert_eq!(rt; stage.arrive(1), 3);
-    assert_eq!(rt; stage.finish(done), (1, 0, 0));
-    assert_eq!(rt; stage.entries(), 6);
-    Ok(())
-}
-
-/// The result of the first job of a session of its own, for this word.
-fn result_elsewhere<L: Ledger>(alloc: Global, blank: Blank, value: u8) -> Result<Option<Done>, Fail>
+/// The result of these words in another session, of so many adders.
+fn result_elsewhere<L: Ledger>(
+    alloc: Global,
+    blank: Blank,
+    count: usize,
+    words: [(u8, u8); 2],
+) -> Result<Option<Done>, Fail>
     requires name { blank.name ≡ L.name }
     requires parts { (blank.parts ≡ L.parts) × (blank.parts ≡ 17) }
 {
-    let mut other: Stage<L> = open(alloc, blank, adders(alloc, 1)?)?;
-    other.input(1, 1, value);
-    other.sent(1);
-    Ok(other.run(0))
+    let mut other: Stage<L> = open(alloc, blank, adders(alloc, count)?)?;
+    Ok(other.result_of(words))
 }
 
-fn results_of_another_session<L: Ledger>(
-    rt: &impl Abort,
-    alloc: Global,
-    stage: Stage<L>,
-) -> Result<(), Fail> {
+/// The words that a session of two adders gets.
+const WORDS: [(u8, u8); 2] = [(1, 7), (1, 5)];
+
+/// Sessions of so many adders with other words, so that the second result differs: by how many
+/// processes there are, the message's payload, its SSN, the state, and the process.
+const OTHERS: [(usize, [(u8, u8); 2]); 5] = [
+    (3, [(1, 7), (1, 5)]),
+    (2, [(1, 7), (1, 6)]),
+    (2, [(2, 7), (1, 5)]),
+    (2, [(1, 6), (1, 5)]),
+    (2, [(1, 7), (2, 5)]),
+];
+
+fn results<L: Ledger>(rt: &impl Abort, alloc: Global, stage: Stage<L>) -> Result<(), Fail> {
     let mut stage = stage;
-    stage.input(1, 1, 5);
-    stage.sent(1);
-    let done = stage.run(0);
-    let theirs = result_elsewhere::<Brand>(alloc, Blank::new(17), 6)?;
-    assert_eq!(rt; stage.finish(theirs), (0, 0, 9));
-    assert_eq!(rt; stage.entries(), 3);
-    assert_eq!(rt; stage.finish(done), (1, 0, 0));
-    assert!(rt; stage.is_at(1, PhaseName::Up, 1, 5));
+    let ours = stage.result_of(WORDS);
+    for (count, words) in OTHERS {
+        let theirs = result_elsewhere::<Brand>(alloc, Blank::new(17), count, words)?;
+        assert_eq!(rt; stage.finish(theirs), (0, 0, 9));
+    }
+    assert_eq!(rt; stage.entries(), 7);
+    // One that is the same in all parts is taken, and then its like is stale.
+    let theirs = result_elsewhere::<Brand>(alloc, Blank::new(17), 2, WORDS)?;
+    assert_eq!(rt; stage.finish(theirs), (2, 1, 0));
+    assert_eq!(rt; stage.finish(ours), (0, 0, 9));
+    assert!(rt; stage.is_at(1, PhaseName::Up, 2, 12));
     Ok(())
 }
 
@@ -498,23 +479,8 @@ fn results_tell_their_parts(rt: HostRuntime) -> Result<(), Fail> {
 }
 
 #[test]
-fn early_and_duplicate_messages_start_nothing(rt: HostRuntime) -> Result<(), Fail> {
-    play(&rt, rt.alloc(), 1, Scene::EarlyAndDuplicate)
-}
-
-#[test]
-fn refused_calls_tell_the_least_number(rt: HostRuntime) -> Result<(), Fail> {
-    play(&rt, rt.alloc(), 2, Scene::RefusedCalls)
-}
-
-#[test]
-fn refused_arrivals_leave_the_packet(rt: HostRuntime) -> Result<(), Fail> {
-    play(&rt, rt.alloc(), 1, Scene::RefusedArrivals)
-}
-
-#[test]
-fn results_of_another_session_are_stale(rt: HostRuntime) -> Result<(), Fail> {
-    play(&rt, rt.alloc(), 1, Scene::AnotherSession)
+fn results_of_other_jobs_are_stale(rt: HostRuntime) -> Result<(), Fail> {
+    play(&rt, rt.alloc(), 2, Scene::Results)
 }
 
 #[test]
@@ -523,61 +489,65 @@ fn each_seat_is_taken_once_and_counts(rt: HostRuntime) -> Result<(), Fail> {
 }
 
 #[test]
-fn a_message_is_numbered_and_acknowledged(rt: HostRuntime) -> Result<(), Fail> {
-    play(&rt, rt.alloc(), 1, Scene::Acknowledged)
+fn messages_are_numbered_and_acknowledged(rt: HostRuntime) -> Result<(), Fail> {
+    let alloc = rt.alloc();
+    follow(&rt, alloc, adders(alloc, 1)?, &messages::ACKNOWLEDGED)?;
+    follow(&rt, alloc, adders(alloc, 1)?, &messages::COPIED)
 }
 
 #[test]
-fn each_copy_is_numbered(rt: HostRuntime) -> Result<(), Fail> {
-    play(&rt, rt.alloc(), 1, Scene::Copied)
+fn early_messages_are_dropped_and_lost_ones_sent_again(rt: HostRuntime) -> Result<(), Fail> {
+    let alloc = rt.alloc();
+    follow(&rt, alloc, adders(alloc, 1)?, &messages::EARLY)?;
+    follow(&rt, alloc, adders(alloc, 1)?, &messages::LOST)
 }
 
 #[test]
-fn an_early_message_is_dropped(rt: HostRuntime) -> Result<(), Fail> {
-    play(&rt, rt.alloc(), 1, Scene::Early)
+fn sends_leave_by_position_and_are_shown_once(rt: HostRuntime) -> Result<(), Fail> {
+    let alloc = rt.alloc();
+    follow(&rt, alloc, relay_and_echo(alloc)?, &messages::BY_POSITION)?;
+    follow(&rt, alloc, relay_and_echo(alloc)?, &messages::ROUND)
 }
 
 #[test]
-fn a_lost_packet_arrives_nowhere(rt: HostRuntime) -> Result<(), Fail> {
-    play(&rt, rt.alloc(), 1, Scene::Lost)
+fn a_state_can_have_1024_bytes(rt: HostRuntime) -> Result<(), Fail> {
+    let alloc = rt.alloc();
+    follow(&rt, alloc, wide_adder(alloc)?, &messages::WIDE)
 }
 
 #[test]
-fn sends_leave_by_position(rt: HostRuntime) -> Result<(), Fail> {
-    play_round(&rt, rt.alloc(), Scene::ByPosition)
-}
-
-#[test]
-fn an_output_is_shown_once(rt: HostRuntime) -> Result<(), Fail> {
-    play_round(&rt, rt.alloc(), Scene::Round)
+fn refused_calls_tell_the_least_number(rt: HostRuntime) -> Result<(), Fail> {
+    let alloc = rt.alloc();
+    follow(&rt, alloc, adders(alloc, 2)?, &refusals::CALLS)?;
+    follow(&rt, alloc, adders(alloc, 1)?, &refusals::BUSY)
 }
 
 #[test]
 fn a_full_wire_takes_no_packet(rt: HostRuntime) -> Result<(), Fail> {
-    play(&rt, rt.alloc(), 1, Scene::FullWire)
+    let alloc = rt.alloc();
+    follow(&rt, alloc, adders(alloc, 1)?, &refusals::WIRE)
 }
 
 #[test]
 fn a_full_journal_takes_no_call(rt: HostRuntime) -> Result<(), Fail> {
-    play(&rt, rt.alloc(), 1, Scene::FullJournal)
+    let alloc = rt.alloc();
+    follow(&rt, alloc, adders(alloc, 1)?, &refusals::JOURNAL)?;
+    follow(&rt, alloc, adders(alloc, 1)?, &refusals::PLACE)
 }
 
 #[test]
-fn a_message_is_driven_all_its_way(rt: HostRuntime) -> Result<(), Fail> {
-    play(&rt, rt.alloc(), 1, Scene::Driven)
+fn a_session_drives_itself(rt: HostRuntime) -> Result<(), Fail> {
+    let alloc = rt.alloc();
+    follow(&rt, alloc, adders(alloc, 1)?, &driven::ONE)?;
+    follow(&rt, alloc, adders(alloc, 1)?, &driven::ANEW)?;
+    follow(&rt, alloc, adders(alloc, 1)?, &driven::BUDGET)?;
+    follow(&rt, alloc, relay_and_echo(alloc)?, &driven::OUT)
 }
 
 #[test]
-fn an_early_message_is_sent_anew(rt: HostRuntime) -> Result<(), Fail> {
-    play(&rt, rt.alloc(), 1, Scene::DrivenEarly)
-}
-
-#[test]
-fn a_started_job_is_finished_past_the_budget(rt: HostRuntime) -> Result<(), Fail> {
-    play(&rt, rt.alloc(), 1, Scene::DrivenShort)
-}
-
-#[test]
-fn an_output_is_driven_out(rt: HostRuntime) -> Result<(), Fail> {
-    play_round(&rt, rt.alloc(), Scene::DrivenRound)
+fn processes_come_back(rt: HostRuntime) -> Result<(), Fail> {
+    let alloc = rt.alloc();
+    follow(&rt, alloc, adders(alloc, 1)?, &recovering::REPLAYED)?;
+    follow(&rt, alloc, adders(alloc, 1)?, &recovering::STALE)?;
+    follow(&rt, alloc, adders(alloc, 2)?, &recovering::OVERLAP)
 }

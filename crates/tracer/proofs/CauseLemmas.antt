@@ -1,5 +1,6 @@
 -- What words come to a fault.
-use Rattle.std.proofs.Common.{◌≡◌, ◌≤◌, ℕ, IfErr, List, Result, Ok, Err, ap, arith, sym, subst}
+use Rattle.std.proofs.Common.{◌≡◌, ◌≤◌, ◌∙◌, ℕ, IfErr, List, Result, Ok, Err, ap, arith, sym, subst}
+use Rattle.std.specs.Prelude.{MatchResult}
 use Rattle.std.specs.Result.{IsErrAnd}
 use Rattle.cli.specs.Asks.{AsksFor, AsksNothing, IsUsage, Order}
 use Rattle.cli.specs.declared.refusal.Refusal.{Refusal}
@@ -21,6 +22,12 @@ refusal_is_cause words content refusal.Memory f nothing is = subst (IsCause word
 pub becomes : {T E : Type 0} (r : Result T E) (P Q : E → Type 0) → IsErrAnd r P → ((e : E) → P e → Q e) → IfErr r Q
 becomes (Ok x) P Q at step = tt
 becomes (Err e) P Q at step = step e at
+
+-- an error that became want of memory
+pub mapped_memory : {T E : Type 0} (r : Result T E) (s : Result T Fault) (f : Fault) (P : E → Fault → Type 0)
+    → s ≡ Err f → MatchResult r (λ x. s ≡ Ok x) (λ e. IsErrAnd s (P e)) → ((e : E) → P e f → f ≡ Memory) → f ≡ Memory
+mapped_memory (Ok x) s f P is m h = let q = sym is ∙ m in cc
+mapped_memory (Err e) s f P is m h = h e (subst (λ x. IsErrAnd x (P e)) is m)
 
 -- an order that is refused
 pub fault_is_cause : (words : List (List ℕ)) (content : Content) (order : Order) (f : Fault)

@@ -1,10 +1,11 @@
 -- One message of the outside to the only process of a session, call by call.
-use Rattle.std.proofs.Common.{◌≡◌, ◌∙◌, ◌&&◌, ◌≤◌, ℕ, Bool, cond, true, false, suc, zero, nat_lt, nat_le, true≢false, refl, sym, ap, subst, arith, List, [], ◌∷◌, ◌++◌, Option, Some, None, Result, Ok, Err, IfOk, replicate}
+use Rattle.std.proofs.Common.{◌≡◌, ◌∙◌, ◌&&◌, ◌≤◌, ℕ, Bool, cond, true, false, suc, zero, nat_lt, nat_le, true≢false, refl, sym, ap, subst, arith, List, [], ◌∷◌, ◌++◌, Option, Some, None, Result, Ok, Err, IfOk, length, replicate}
 use Rattle.std.specs.Prelude.{slice_set}
 use Rattle.std.proofs.lemmas.Bool.{eq-eqb, leb-true}
 use Rattle.decode.specs.Slots.{slots_of}
 use Rattle.verifier.specs.Typed.{Typed}
-use Rattle.helpers.specs.Payload.{view64}
+use Rattle.regtypes.specs.declared.image_form.ImageForm.{ImageForm}
+use Rattle.regtypes.specs.declared.image_form.ImageForm.TheVariants.{Sbi1, Sbi2}
 use Rattle.helpers.proofs.Filled.{view64-whole}
 use Rattle.interp.specs.HandlerCall.{Handled, handled_by}
 use Rattle.replay.specs.Task.{TheTask, answer_of as answer_of_task}
@@ -17,27 +18,34 @@ use Rattle.world.specs.declared.packet.Packet.{Packet}
 use Rattle.world.specs.declared.packet.Packet.TheVariants.{Delivery}
 use Rattle.world.specs.declared.call.Call.TheVariants.{Input, Transmit, Arrive, Finish}
 use Rattle.world.specs.declared.answer.Answer.{Answer}
-use Rattle.world.specs.declared.answer.Answer.TheVariants.{Logged, Placed, Started, Committed}
+use Rattle.world.specs.declared.answer.Answer.TheVariants.{Logged, Placed, Started, Committed, Replayed}
 use Rattle.world.specs.declared.refusal.Refusal.{Refusal}
 use Rattle.world.specs.declared.refusal.Refusal.TheVariants as refusals
-use Rattle.world.specs.Answers.{Receives}
+use Rattle.world.specs.Answers.{MayAnswer, Receives}
+use Rattle.world.specs.Phases.{is_down}
 use Rattle.world.specs.Bounds.{WIRE}
 use Rattle.world.specs.Calls.{arrive, begin}
-use Rattle.world.specs.Fold.{joined, unfolded}
+use Rattle.world.specs.Fold.{joined, unfolded, seen}
 use Rattle.world.specs.History.{Payload, nth}
 use Rattle.world.specs.Logs.{state_of, open_message}
 use Rattle.world.specs.Refusals.{cause_of, refusal_of}
 use Rattle.world.specs.World.{World}
-use Rattle.machine.specs.Arrival.{HasCode, IsOpen, Told, answer_of}
+use Rattle.machine.specs.Arrival.{HasCode, HasForm, IsOpen, Told, answer_of}
 use Rattle.machine.specs.Simulation.{answering}
 use Rattle.machine.specs.declared.arrival.Arrival.{Arrival}
 use Rattle.machine.specs.declared.arrival.Arrival.TheVariants as arrivals
-use Rattle.machine.specs.declared.arrival.Committed.{Committed as TheCommitted}
+use Rattle.machine.specs.declared.arrival.Finished.{Finished}
+use Rattle.machine.specs.declared.arrival.Finished.TheVariants as finishes
 use Rattle.sessions.specs.Seats.{TheSeat, new_seats, seat_at}
 use Rattle.sessions.specs.Journal.{Adds, HandsOut, OpensWith, Takes, TheSession, entry, room_at, world_at}
 use Rattle.world.specs.declared.call.Call.{Call}
 use Rattle.world.specs.Legal.{WStep}
 use Rattle.tracer.specs.First.{IsFirst, TakesSteps, alone, message_word}
+
+-- a handler sees 64 bytes as they are
+seen-whole : (form : ImageForm) (xs : List ℕ) → length xs ≡ 64 → seen form xs ≡ xs
+seen-whole Sbi1 xs size = view64-whole xs size
+seen-whole Sbi2 xs size = refl
 
 some≢none : {X : Type 0} {x : X} → Some x ≡ None → ⊥
 some≢none e = cc
@@ -180,6 +188,7 @@ module _ (image : Typed) (x : Payload) where
     pub state : task.state ≡ replicate image.len 0
     pub payload : task.message.payload ≡ x
     pub code : image.code ≡ task.image.code
+    pub form : image.form ≡ task.image.form
 
   pub open_call : (key : ℕ) (task : TheTask) → IsOpen (image ∷ []) task (world_at (started key)) → IsCallOf task
   open_call key task is =
@@ -193,6 +202,7 @@ module _ (image : Typed) (x : Payload) where
         state = subst (λ (p : ℕ). task.state ≡ state_of (begun key) p) me job.state;
         payload = ap (λ (m : Message). m.payload) (sym message);
         code = subst (λ (p : ℕ). HasCode (nth (image ∷ []) p) task.image.code) me job.code;
+        form = subst (λ (p : ℕ). HasForm (nth (image ∷ []) p) task.image.form) me job.form;
       }
 
   pub finish_memory : (key : ℕ) (task : TheTask) (e : Refusal) → IsOpen (image ∷ []) task (world_at (started key))
@@ -201,15 +211,35 @@ module _ (image : Typed) (x : Payload) where
   finish_memory key task refusals.StaleJob is told = absurd (told is)
   finish_memory key task other is told = absurd told
 
-  pub after_finish : (key : ℕ) (s : TheSession) (by by' : TheSeat) (task : TheTask) (c : TheCommitted) → by.worker ≡ 0 → Takes (started key) s by by' task (Ok c) → s ≡ committed key c.rsn c.key
-  after_finish key s by by' task c nobody takes =
+  -- the message is committed, under some number
+  pub record Ends (key : ℕ) (s : TheSession) : Type 0 where
+    pub rsn : ℕ
+    pub new : ℕ
+    pub is : s ≡ committed key rsn new
+
+  pub after_finish : (key : ℕ) (s : TheSession) (by by' : TheSeat) (task : TheTask) (c : Finished) → by.worker ≡ 0 → Takes (started key) s by by' task (Ok c) → Ends key s
+  after_finish key s by by' task (finishes.Committed rsn new) nobody takes =
       let job : IsOpen (image ∷ []) task (begun key) = subst (IsOpen (image ∷ []) task) (started_is key) takes.0 in
-      (alone_adds (started key) s by by' (Finish task.who.me) (Ok (Committed c.rsn c.key)) nobody takes.1).1 ∙ ap (λ (p : ℕ). record (started key) { entries = (started key).entries ++ entry 0 (Finish p) (Committed c.rsn c.key) ∷ [] }) (only task.who.me job.inside)
+      record {
+        rsn = rsn;
+        new = new;
+        is = (alone_adds (started key) s by by' (Finish task.who.me) (Ok (Committed rsn new)) nobody takes.1).1 ∙ ap (λ (p : ℕ). record (started key) { entries = (started key).entries ++ entry 0 (Finish p) (Committed rsn new) ∷ [] }) (only task.who.me job.inside);
+      }
+  after_finish key s by by' task (finishes.Replayed rsn) nobody takes =
+      let job : IsOpen (image ∷ []) task (begun key) = subst (IsOpen (image ∷ []) task) (started_is key) takes.0 in
+      let may : MayAnswer (begun key) (Finish task.who.me) (Replayed rsn) = subst (λ (w : World). MayAnswer w (Finish task.who.me) (Replayed rsn)) (started_is key) takes.1.0.answered in
+      let at : MayAnswer (begun key) (Finish 1) (Replayed rsn) = subst (λ (p : ℕ). MayAnswer (begun key) (Finish p) (Replayed rsn)) (only task.who.me job.inside) may in
+      let same = at.2 in
+      absurd (cc)
 
   -- the state that is left
-  pub state_after : (key rsn new : ℕ) (h : Handled) → handled_by image.slots alone (replicate image.len 0) (view64 x) ≡ Some h
+  pub state_after : (key rsn new : ℕ) (h : Handled) → handled_by image.form image.slots alone (replicate image.len 0) (seen image.form x) ≡ Some h
       → state_of (world_at (committed key rsn new)) 1 ≡ h.state
   state_after key rsn new h answer = rw (lies key) (ap (λ (o : Option Handled). (joined (unfolded image.len) o).state) answer)
+
+  -- it is up
+  pub up_after : (key rsn new : ℕ) → is_down ((world_at (committed key rsn new)).phase 1) ≡ false
+  up_after key rsn new = rw (lies key) refl
 
   -- ---- the same of results
 
@@ -277,6 +307,7 @@ module _ (image : Typed) (x : Payload) where
   is_started (arrivals.Numbered key) is other = cc
   is_started arrivals.Acknowledged is other = cc
   is_started arrivals.Stale is other = cc
+  is_started arrivals.Unreachable is other = cc
 
   -- the started job is open
   pub is_open : (key : ℕ) (t : TheSession) (r : Result Arrival Refusal) (a : Arrival) (task : TheTask) → t ≡ started key → IfOk r (HandsOut t) → r ≡ Ok a
@@ -285,38 +316,39 @@ module _ (image : Typed) (x : Payload) where
       let handed : HandsOut t (arrivals.Started task) = subst (HandsOut t) starts (subst (λ (q : Result Arrival Refusal). IfOk q (HandsOut t)) is hands) in
       subst (λ (p : TheSession). HandsOut p (arrivals.Started task)) at handed
 
-  pub finish_is : (key : ℕ) (s t : TheSession) (by by' : TheSeat) (task : TheTask) (r : Result TheCommitted (Refusal × TheTask)) (c : TheCommitted) → by.worker ≡ 0
-      → s ≡ started key → Takes s t by by' task r → r ≡ Ok c → t ≡ committed key c.rsn c.key
+  pub finish_is : (key : ℕ) (s t : TheSession) (by by' : TheSeat) (task : TheTask) (r : Result Finished (Refusal × TheTask)) (c : Finished) → by.worker ≡ 0
+      → s ≡ started key → Takes s t by by' task r → r ≡ Ok c → Ends key t
   finish_is key s t by by' task r c nobody at takes is =
       after_finish key t by by' task c nobody
-      (subst (λ (p : TheSession). Takes p t by by' task (Ok c)) at (subst (λ (q : Result TheCommitted (Refusal × TheTask)). Takes s t by by' task q) is takes))
+      (subst (λ (p : TheSession). Takes p t by by' task (Ok c)) at (subst (λ (q : Result Finished (Refusal × TheTask)). Takes s t by by' task q) is takes))
 
-  pub finish_wants : (key : ℕ) (s t : TheSession) (by by' : TheSeat) (task : TheTask) (r : Result TheCommitted (Refusal × TheTask)) (e : Refusal × TheTask) → s ≡ started key
+  pub finish_wants : (key : ℕ) (s t : TheSession) (by by' : TheSeat) (task : TheTask) (r : Result Finished (Refusal × TheTask)) (e : Refusal × TheTask) → s ≡ started key
       → IsOpen (image ∷ []) task (world_at (started key)) → Takes s t by by' task r → r ≡ Err e → e.0 ≡ refusals.Memory
   finish_wants key s t by by' task r e at is takes was =
       finish_memory key task e.0 is
-      (subst (λ (p : TheSession). Takes p t by by' task (Err e)) at (subst (λ (q : Result TheCommitted (Refusal × TheTask)). Takes s t by by' task q) was takes)).3
+      (subst (λ (p : TheSession). Takes p t by by' task (Err e)) at (subst (λ (q : Result Finished (Refusal × TheTask)). Takes s t by by' task q) was takes)).3
 
   -- ---- what is left
 
   -- what the open job leaves is what `first` answers
-  pub left_is : (bytes : List ℕ) (word key rsn new : ℕ) (task : TheTask) (steps : ℕ) (items : List ℕ) → IsFile image.code image.len bytes
-      → IsImageOf image.code image.len image → x ≡ message_word word → IsOpen (image ∷ []) task (world_at (started key)) → TakesSteps task steps
+  pub left_is : (bytes : List ℕ) (word key rsn new : ℕ) (task : TheTask) (steps : ℕ) (items : List ℕ) → IsFile image.form image.code image.len bytes
+      → IsImageOf image.form image.code image.len image → x ≡ message_word word → IsOpen (image ∷ []) task (world_at (started key)) → TakesSteps task steps
       → items ≡ state_of (world_at (committed key rsn new)) 1 → IsFirst bytes word items steps
   left_is bytes word key rsn new task steps items file is payload job takes state =
       let call = open_call key task job in
-      let whole : handled_by (slots_of image.code) alone (replicate image.len 0) (view64 x) ≡ Some (answer_of_task task) =
-      (λ i. handled_by (slots_of (call.code i)) (sym call.me i) (sym call.state i) (view64 (sym call.payload i))) ∙ takes.0 in
-      let answer : handled_by image.slots alone (replicate image.len 0) (view64 x) ≡ Some (answer_of_task task) =
-      ap (λ (slots : List (Option Insn)). handled_by slots alone (replicate image.len 0) (view64 x)) is.slots_is ∙ whole in
+      let whole : handled_by image.form (slots_of image.code) alone (replicate image.len 0) (seen image.form x) ≡ Some (answer_of_task task) =
+      (λ i. handled_by (call.form i) (slots_of (call.code i)) (sym call.me i) (sym call.state i) (seen (call.form i) (sym call.payload i))) ∙ takes.0 in
+      let answer : handled_by image.form image.slots alone (replicate image.len 0) (seen image.form x) ≡ Some (answer_of_task task) =
+      ap (λ (slots : List (Option Insn)). handled_by image.form slots alone (replicate image.len 0) (seen image.form x)) is.slots_is ∙ whole in
       record {
+        form = image.form;
         code = image.code;
         len = image.len;
         file = file;
         table = image.table;
         typing = is.typing.types;
         left = answer_of_task task;
-        handled = ap (handled_by (slots_of image.code) alone (replicate image.len 0)) (sym (view64-whole (message_word word) refl) ∙ ap view64 (sym payload)) ∙ whole;
+        handled = ap (handled_by image.form (slots_of image.code) alone (replicate image.len 0)) (sym (seen-whole image.form (message_word word) refl) ∙ ap (seen image.form) (sym payload)) ∙ whole;
         state_is = state ∙ state_after key rsn new (answer_of_task task) answer;
         steps_is = takes.1;
       }

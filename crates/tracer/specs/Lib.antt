@@ -3,6 +3,5 @@ pub mod Check
 pub mod Dis
 pub mod Fault
 pub mod First
-pub mod Hex
 pub mod Program
 pub mod Report

@@ -5,10 +5,11 @@ ghost use Rattle.tracer.specs.Asm.{IsAssembled, IsUnassembled};
 
 use crate::fault::Fault;
 use assemble::assemble;
+use regtypes::ImageForm;
 use std::alloc::Global;
 use verifier::file;
 
-/// The image file of a source, with a state of this length, at most 1,024 bytes. Its code is not
+/// The image file of form 1 of a source, with a state of this length, at most 1,024 bytes. Its code is not
 /// verified. A source that is not UTF-8 can't be read as a text: `Fault::InputOutput`.
 pub fn asm(alloc: Global, source: &[u8], state: u16) -> Result<Vec<u8>, Fault>
     requires { state ≤ 1024 }
@@ -19,6 +20,6 @@ pub fn asm(alloc: Global, source: &[u8], state: u16) -> Result<Vec<u8>, Fault>
         return Err(Fault::InputOutput);
     };
     let code = assemble(alloc, text)?;
-    let bytes = file(alloc, code.as_slice(), state)?;
+    let bytes = file(alloc, ImageForm::Sbi1, code.as_slice(), state)?;
     Ok(bytes)
 }

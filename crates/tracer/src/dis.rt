@@ -13,7 +13,7 @@ pub fn dis(alloc: Global, bytes: &[u8]) -> Result<String, Fault>
     ensures listing { IfOk result (λ t. IsListing bytes.now (string_bytes t)) }
     ensures refused { IfErr result (IsUnlisted bytes.now) }
 {
-    let (code, _state) = parts(alloc, bytes)?;
+    let (code, _state, _form) = parts(alloc, bytes)?;
     let text = disassemble(alloc, code.as_slice())?;
     Ok(text)
 }

@@ -7,9 +7,9 @@ ghost use Rattle.tracer.specs.declared.fault.Fault.TheVariants.{Memory as FaultM
 ghost use Rattle.world.specs.declared.refusal.Refusal.TheVariants.{Memory};
 
 use crate::fault::Fault;
-use crate::hex::Hex;
 use helpers::Payload;
 use replay::Done;
+use scenario::Hex;
 use sessions::{Arrival, Session};
 use std::alloc::Global;
 use std::fmt;

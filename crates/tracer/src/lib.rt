@@ -21,7 +21,6 @@ mod dis;
 mod fault;
 mod files;
 mod first;
-mod hex;
 mod program;
 mod report;
 
@@ -29,7 +28,6 @@ pub use check::Accepted;
 pub use fault::Fault;
 pub use files::{FileError, Files};
 pub use first::Final;
-pub use hex::Hex;
 pub use program::sblog;
 pub use report::Report;
 

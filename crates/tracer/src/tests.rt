@@ -36,7 +36,7 @@ fn statuses_and_lines(rt: HostRuntime) -> Result<(), Fail> {
     let adder = ADDER.as_slice();
     let cut = &ADDER[..55];
     let none = b"".as_slice();
-    let magic = b"SBI2\x08\x00\x01\x00\x95\x00\x00\x00\x00\x00\x00\x00".as_slice();
+    let magic = b"SBI3\x08\x00\x01\x00\x95\x00\x00\x00\x00\x00\x00\x00".as_slice();
     let bad_field = b"SBI1\x08\x00\x01\x00\x0f\x34\x00\x00\x01\x00\x00\x00".as_slice();
     let exit_of_zero =
         b"SBI1\x00\x00\x02\x00\xb7\x00\x00\x00\x00\x00\x00\x00\x95\x00\x00\x00\x00\x00\x00\x00".as_slice();

@@ -1,5 +1,5 @@
 -- A file has one header, one code and one fault at most.
-use Rattle.std.proofs.Common.{◌≡◌, ℕ, ◌≤◌, List, [], ◌∷◌, ◌++◌, length, refl, sym, ap, subst, ◌∙◌, append_assoc, inl, inr, arith}
+use Rattle.std.proofs.Common.{◌≡◌, ℕ, ◌≤◌, List, [], ◌∷◌, ◌++◌, length, get_or, refl, sym, ap, subst, ◌∙◌, append_assoc, inl, inr, arith}
 use Rattle.std.specs.Int.{w16, to_le_bytes, from_le_bytes}
 use Rattle.std.proofs.lemmas.Nat.{from_le_bytes-to_le_bytes_2}
 use Rattle.std.proofs.lemmas.List.{length-append}
@@ -12,6 +12,8 @@ use Rattle.decode.specs.Refusal as decoding
 use Rattle.decode.proofs.SlotLemmas.{length_encoding, length-slots_of}
 use Rattle.decode.proofs.Once.{encoding_once}
 use Rattle.decode.proofs.OneFault.{one_fault, no_fault}
+use Rattle.regtypes.specs.declared.image_form.ImageForm.{ImageForm}
+use Rattle.regtypes.specs.declared.image_form.ImageForm.TheVariants.{Sbi1, Sbi2}
 use Rattle.regtypes.specs.declared.rule.Rule as rules
 use Rattle.regtypes.specs.Typing.{Table, IsTyping}
 use Rattle.verifier.specs.declared.header.FileHeader.{FileHeader}
@@ -45,19 +47,19 @@ one_of (q ∷ qs) a b h rest (inr x) (inl y) = absurd (x.0 y.1)
 one_of (q ∷ qs) a b h rest (inr x) (inr y) = one_of qs a b h rest x.1 y.1
 
 -- a header without a fault has none of them
-sound_breaks : (q : HeaderFault) (h : FileHeader) (rest : List ℕ) → IsSound h rest → Breaks q h rest → ⊥
-sound_breaks TooShort h rest s b = b
-sound_breaks Magic h rest s b = b s.magic_is
-sound_breaks StateLength h rest s b = let k = s.state in omega arith
-sound_breaks SlotCount h rest s (inl b) = let k = s.some in omega arith
-sound_breaks SlotCount h rest s (inr b) = let k = s.short in omega arith
-sound_breaks FileLength h rest s b = b s.size
+sound_breaks : (form : ImageForm) (q : HeaderFault) (h : FileHeader) (rest : List ℕ) → IsSound form h rest → Breaks q h rest → ⊥
+sound_breaks form TooShort h rest s b = b
+sound_breaks form Magic h rest s b = b form s.magic_is
+sound_breaks form StateLength h rest s b = let k = s.state in omega arith
+sound_breaks form SlotCount h rest s (inl b) = let k = s.some in omega arith
+sound_breaks form SlotCount h rest s (inr b) = let k = s.short in omega arith
+sound_breaks form FileLength h rest s b = b s.size
 
-sound_first : (qs : List HeaderFault) (fault : HeaderFault) (h : FileHeader) (rest : List ℕ) → IsSound h rest → BreaksFirst qs fault h rest → ⊥
+sound_first : (form : ImageForm) (qs : List HeaderFault) (fault : HeaderFault) (h : FileHeader) (rest : List ℕ) → IsSound form h rest → BreaksFirst qs fault h rest → ⊥
 unfolding BreaksFirst
-sound_first [] fault h rest s b = b
-sound_first (q ∷ qs) fault h rest s (inl b) = sound_breaks q h rest s b.1
-sound_first (q ∷ qs) fault h rest s (inr b) = sound_first qs fault h rest s b.1
+sound_first form [] fault h rest s b = b
+sound_first form (q ∷ qs) fault h rest s (inl b) = sound_breaks form q h rest s b.1
+sound_first form (q ∷ qs) fault h rest s (inr b) = sound_first form qs fault h rest s b.1
 
 -- ---- the header
 
@@ -95,19 +97,23 @@ header_size h rest bytes x =
 
 -- ---- the file
 
-abbrev pub file_header : List Insn → ℕ → FileHeader
-file_header is len = record { magic = magic; state_len = len; slots = slots is }
+abbrev pub file_header : ImageForm → List Insn → ℕ → FileHeader
+file_header form is len = record { magic = magic form; state_len = len; slots = slots is }
 
-pub file_has : (is : List Insn) (len : ℕ) (bytes : List ℕ) → IsFile is len bytes → HasHeader (file_header is len) (encoding is) bytes
-file_has is len bytes f = record {
-  magic_len = refl;
+magic_length : (form : ImageForm) → length (magic form) ≡ 4
+magic_length Sbi1 = refl
+magic_length Sbi2 = refl
+
+pub file_has : (form : ImageForm) (is : List Insn) (len : ℕ) (bytes : List ℕ) → IsFile form is len bytes → HasHeader (file_header form is len) (encoding is) bytes
+file_has form is len bytes f = record {
+  magic_len = magic_length form;
   state_len = let k = f.state in omega arith;
   slots_len = let k = f.short in omega arith;
   fields = f.bytes_are;
 }
 
-pub file_sound : (is : List Insn) (len : ℕ) (bytes : List ℕ) → IsFile is len bytes → IsSound (file_header is len) (encoding is)
-file_sound is len bytes f = record {
+pub file_sound : (form : ImageForm) (is : List Insn) (len : ℕ) (bytes : List ℕ) → IsFile form is len bytes → IsSound form (file_header form is len) (encoding is)
+file_sound form is len bytes f = record {
   magic_is = refl;
   state = f.state;
   some = f.some;
@@ -116,8 +122,8 @@ file_sound is len bytes f = record {
 }
 
 -- a header without a fault and the code behind it
-pub file_of : (is : List Insn) (h : FileHeader) (rest bytes : List ℕ) → HasHeader h rest bytes → IsSound h rest → AllByRecursion Fits is → rest ≡ encoding is → IsFile is h.state_len bytes
-file_of is h rest bytes has s fits e = record {
+pub file_of : (form : ImageForm) (is : List Insn) (h : FileHeader) (rest bytes : List ℕ) → HasHeader h rest bytes → IsSound form h rest → AllByRecursion Fits is → rest ≡ encoding is → IsFile form is h.state_len bytes
+file_of form is h rest bytes has s fits e = record {
   bytes_are = has.fields ∙ ap (λ (x : List ℕ). header_bytes h ++ x) e ∙ ap (λ (x : FileHeader). header_bytes x ++ encoding is) same;
   fits = fits;
   state = s.state;
@@ -128,44 +134,50 @@ file_of is h rest bytes has s fits e = record {
     count : h.slots ≡ slots is
     count = let k = length_encoding is in let l = ap length e in let n = s.size in omega arith
 
-    same : h ≡ file_header is h.state_len
+    same : h ≡ file_header form is h.state_len
     same = λ i. record { magic = s.magic_is i; state_len = h.state_len; slots = count i }
 
-pub no_header_fault : (is : List Insn) (len : ℕ) (bytes : List ℕ) (fault : HeaderFault) → IsFile is len bytes → IsHeaderFault bytes fault → ⊥
-no_header_fault is len bytes fault f (inl b) =
-    let k = header_size (file_header is len) (encoding is) bytes (file_has is len bytes f) in
+pub no_header_fault : (form : ImageForm) (is : List Insn) (len : ℕ) (bytes : List ℕ) (fault : HeaderFault) → IsFile form is len bytes → IsHeaderFault bytes fault → ⊥
+no_header_fault form is len bytes fault f (inl b) =
+    let k = header_size (file_header form is len) (encoding is) bytes (file_has form is len bytes f) in
     let short = b.1 in
     omega arith
-no_header_fault is len bytes fault f (inr b) =
-    let k = header_once b.header (file_header is len) b.rest (encoding is) bytes b.has (file_has is len bytes f) in
+no_header_fault form is len bytes fault f (inr b) =
+    let k = header_once b.header (file_header form is len) b.rest (encoding is) bytes b.has (file_has form is len bytes f) in
     let one = subst (λ (h : FileHeader). BreaksFirst order fault h b.rest) k.0 b.broken in
-    let two = subst (λ (r : List ℕ). BreaksFirst order fault (file_header is len) r) k.1 one in
-    sound_first order fault (file_header is len) (encoding is) (file_sound is len bytes f) two
+    let two = subst (λ (r : List ℕ). BreaksFirst order fault (file_header form is len) r) k.1 one in
+    sound_first form order fault (file_header form is len) (encoding is) (file_sound form is len bytes f) two
 
-pub no_code_fault : (is : List Insn) (len : ℕ) (bytes : List ℕ) (rule : Rule) (slot : ℕ) → IsFile is len bytes → IsCodeFault bytes rule slot → ⊥
-no_code_fault is len bytes rule slot f b =
-    let k = header_once b.header (file_header is len) b.rest (encoding is) bytes b.has (file_has is len bytes f) in
+pub no_code_fault : (form : ImageForm) (is : List Insn) (len : ℕ) (bytes : List ℕ) (rule : Rule) (slot : ℕ) → IsFile form is len bytes → IsCodeFault bytes rule slot → ⊥
+no_code_fault form is len bytes rule slot f b =
+    let k = header_once b.header (file_header form is len) b.rest (encoding is) bytes b.has (file_has form is len bytes f) in
     no_fault is rule slot f.fits (subst (λ (r : List ℕ). decoding.IsFault r rule slot) k.1 b.fault)
 
-pub file_once : (is js : List Insn) (m n : ℕ) (bytes : List ℕ) → IsFile is m bytes → IsFile js n bytes → (is ≡ js) × (m ≡ n)
-file_once is js m n bytes f g =
-    let k = header_once (file_header is m) (file_header js n) (encoding is) (encoding js) bytes (file_has is m bytes f) (file_has js n bytes g) in
-    (encoding_once is js f.fits g.fits k.1, ap (λ (h : FileHeader). h.state_len) k.0)
+magic_once : (form form' : ImageForm) → magic form ≡ magic form' → form ≡ form'
+magic_once Sbi1 Sbi1 e = refl
+magic_once Sbi2 Sbi2 e = refl
+magic_once Sbi1 Sbi2 e = let k : 0x31 ≡ 0x32 = ap (λ l. get_or l 3 0) e in absurd (omega (arith, k))
+magic_once Sbi2 Sbi1 e = let k : 0x32 ≡ 0x31 = ap (λ l. get_or l 3 0) e in absurd (omega (arith, k))
 
-pub short_code : (is : List Insn) (len : ℕ) (bytes : List ℕ) → IsFile is len bytes → length (slots_of is) ≤ 1024
-short_code is len bytes f = let k = f.short in omega (arith, length-slots_of is)
+pub file_once : (form form' : ImageForm) (is js : List Insn) (m n : ℕ) (bytes : List ℕ) → IsFile form is m bytes → IsFile form' js n bytes → (is ≡ js) × (m ≡ n) × (form ≡ form')
+file_once form form' is js m n bytes f g =
+    let k = header_once (file_header form is m) (file_header form' js n) (encoding is) (encoding js) bytes (file_has form is m bytes f) (file_has form' js n bytes g) in
+    (encoding_once is js f.fits g.fits k.1, ap (λ (h : FileHeader). h.state_len) k.0, magic_once form form' (ap (λ (h : FileHeader). h.magic) k.0))
+
+pub short_code : (form : ImageForm) (is : List Insn) (len : ℕ) (bytes : List ℕ) → IsFile form is len bytes → length (slots_of is) ≤ 1024
+short_code form is len bytes f = let k = f.short in omega (arith, length-slots_of is)
 
 -- ---- what a file of typable code is answered by
 
-pub same_image : (is js : List Insn) (m n : ℕ) (bytes : List ℕ) (image : Typed) → IsFile is m bytes → IsFile js n bytes → IsImageOf is m image → IsImageOf js n image
-same_image is js m n bytes image f g h =
-    let k = file_once is js m n bytes f g in
-    subst (λ (x : ℕ). IsImageOf js x image) k.1 (subst (λ (l : List Insn). IsImageOf l m image) k.0 h)
+pub same_image : (form form' : ImageForm) (is js : List Insn) (m n : ℕ) (bytes : List ℕ) (image : Typed) → IsFile form is m bytes → IsFile form' js n bytes → IsImageOf form is m image → IsImageOf form' js n image
+same_image form form' is js m n bytes image f g h =
+    let k = file_once form form' is js m n bytes f g in
+    subst (λ (q : ImageForm). IsImageOf q js n image) k.2 (subst (λ (x : ℕ). IsImageOf form js x image) k.1 (subst (λ (l : List Insn). IsImageOf form l m image) k.0 h))
 
-pub not_typable : (is js : List Insn) (m n : ℕ) (bytes : List ℕ) (rule : rules.Rule) (slot : ℕ) → IsFile is m bytes → IsFile js n bytes → IsFault is m rule slot → (t : Table) → IsTyping (slots_of js) n t → ⊥
-not_typable is js m n bytes rule slot f g h t typing =
-    let k = file_once is js m n bytes f g in
-    let there = subst (λ (x : ℕ). IsFault js x rule slot) k.1 (subst (λ (l : List Insn). IsFault l m rule slot) k.0 h) in
+pub not_typable : (form form' : ImageForm) (is js : List Insn) (m n : ℕ) (bytes : List ℕ) (rule : rules.Rule) (slot : ℕ) → IsFile form is m bytes → IsFile form' js n bytes → IsFault form is m rule slot → (t : Table) → IsTyping form' (slots_of js) n t → ⊥
+not_typable form form' is js m n bytes rule slot f g h t typing =
+    let k = file_once form form' is js m n bytes f g in
+    let there = subst (λ (q : ImageForm). IsFault q js n rule slot) k.2 (subst (λ (x : ℕ). IsFault form js x rule slot) k.1 (subst (λ (l : List Insn). IsFault form l m rule slot) k.0 h)) in
     there.1 t typing
 
 -- ---- a refusal is the only one
@@ -195,30 +207,30 @@ header_or_code bytes fault rule slot (inr x) y =
     let k = header_once x.header y.header x.rest y.rest bytes x.has y.has in
     let one = subst (λ (h : FileHeader). BreaksFirst order fault h x.rest) k.0 x.broken in
     let two = subst (λ (r : List ℕ). BreaksFirst order fault y.header r) k.1 one in
-    sound_first order fault y.header y.rest y.sound two
+    sound_first y.form order fault y.header y.rest y.sound two
 
 one_code_fault : (bytes : List ℕ) (q r : Rule) (m n : ℕ) → IsCodeFault bytes q m → IsCodeFault bytes r n → (q ≡ r) × (m ≡ n)
 one_code_fault bytes q r m n x y =
     let k = header_once x.header y.header x.rest y.rest bytes x.has y.has in
     one_fault y.rest q r m n (subst (λ (l : List ℕ). decoding.IsFault l q m) k.1 x.fault) y.fault
 
-one_rule : (is js : List Insn) (l k : ℕ) (bytes : List ℕ) (q r : rules.Rule) (m n : ℕ) → IsFile is l bytes → IsFile js k bytes → IsFault is l q m → IsFault js k r n → (q ≡ r) × (m ≡ n)
-one_rule is js l k bytes q r m n f g x y =
-    let e = file_once is js l k bytes f g in
-    let there = subst (λ (z : ℕ). IsFault js z q m) e.1 (subst (λ (is : List Insn). IsFault is l q m) e.0 x) in
-    one_refusal (slots_of js) k q r m n there.0 y.0
+one_rule : (form form' : ImageForm) (is js : List Insn) (l k : ℕ) (bytes : List ℕ) (q r : rules.Rule) (m n : ℕ) → IsFile form is l bytes → IsFile form' js k bytes → IsFault form is l q m → IsFault form' js k r n → (q ≡ r) × (m ≡ n)
+one_rule form form' is js l k bytes q r m n f g x y =
+    let e = file_once form form' is js l k bytes f g in
+    let there = subst (λ (z : ImageForm). IsFault z js k q m) e.2 (subst (λ (z : ℕ). IsFault form js z q m) e.1 (subst (λ (is : List Insn). IsFault form is l q m) e.0 x)) in
+    one_refusal form' (slots_of js) k q r m n there.0 y.0
 
 pub one_file_refusal : IsOneFileRefusal
 one_file_refusal bytes Memory e x y n n' = absurd (n refl)
 one_file_refusal bytes (Header a) Memory x y n n' = absurd (n' refl)
 one_file_refusal bytes (Header a) (Header b) x y n n' = ap (λ (z : HeaderFault). Header z) (one_header_fault bytes a b x y)
 one_file_refusal bytes (Header a) (Decode r m) x y n n' = absurd (header_or_code bytes a r m x y)
-one_file_refusal bytes (Header a) (Verify r m) x y n n' = absurd (no_header_fault y.0 y.1 bytes a y.2 x)
+one_file_refusal bytes (Header a) (Verify r m) x y n n' = absurd (no_header_fault y.0 y.1 y.2 bytes a y.3 x)
 one_file_refusal bytes (Decode q l) Memory x y n n' = absurd (n' refl)
 one_file_refusal bytes (Decode q l) (Header b) x y n n' = absurd (header_or_code bytes b q l y x)
 one_file_refusal bytes (Decode q l) (Decode r m) x y n n' = let k = one_code_fault bytes q r l m x y in λ i. Decode (k.0 i) (k.1 i)
-one_file_refusal bytes (Decode q l) (Verify r m) x y n n' = absurd (no_code_fault y.0 y.1 bytes q l y.2 x)
+one_file_refusal bytes (Decode q l) (Verify r m) x y n n' = absurd (no_code_fault y.0 y.1 y.2 bytes q l y.3 x)
 one_file_refusal bytes (Verify q l) Memory x y n n' = absurd (n' refl)
-one_file_refusal bytes (Verify q l) (Header b) x y n n' = absurd (no_header_fault x.0 x.1 bytes b x.2 y)
-one_file_refusal bytes (Verify q l) (Decode r m) x y n n' = absurd (no_code_fault x.0 x.1 bytes r m x.2 y)
-one_file_refusal bytes (Verify q l) (Verify r m) x y n n' = let k = one_rule x.0 y.0 x.1 y.1 bytes q r l m x.2 y.2 x.3 y.3 in λ i. Verify (k.0 i) (k.1 i)
+one_file_refusal bytes (Verify q l) (Header b) x y n n' = absurd (no_header_fault x.0 x.1 x.2 bytes b x.3 y)
+one_file_refusal bytes (Verify q l) (Decode r m) x y n n' = absurd (no_code_fault x.0 x.1 x.2 bytes r m x.3 y)
+one_file_refusal bytes (Verify q l) (Verify r m) x y n n' = let k = one_rule x.0 y.0 x.1 y.1 x.2 y.2 bytes q r l m x.3 y.3 x.4 y.4 in λ i. Verify (k.0 i) (k.1 i)

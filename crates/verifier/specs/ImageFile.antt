@@ -1,9 +1,11 @@
--- Image files: the bytes "SBI1", the state's length and the number of slots in two bytes each, the code; numbers are little-endian.
+-- Image files: the bytes "SBI1" or "SBI2" by the form, the state's length and the number of slots in two bytes each, the code; numbers are little-endian.
 use Rattle.std.specs.Prelude.{◌≡◌, ◌≢◌, ◌<◌, ◌≤◌, ◌⊎◌, ℕ, ◌*◌, ◌^◌, ◌++◌, length, List, [], ◌∷◌, Result, Ok, Err}
 use Rattle.std.specs.Global.{Vec}
 use Rattle.std.specs.Int.{w16, to_le_bytes}
 use Rattle.std.specs.List.{AllByRecursion}
 use Rattle.decode.specs.declared.insn.Insn.{Insn}
+use Rattle.regtypes.specs.declared.image_form.ImageForm.{ImageForm}
+use Rattle.regtypes.specs.declared.image_form.ImageForm.TheVariants.{Sbi1, Sbi2}
 use Rattle.decode.specs.Slots.{slots}
 use Rattle.decode.specs.Encoding.{Fits, encoding}
 use Rattle.decode.specs.declared.fault.Rule.{Rule}
@@ -18,9 +20,10 @@ use Rattle.verifier.specs.Verdict as verdict
 
 -- ---- the bytes
 
--- "SBI1"
-abbrev pub magic : List ℕ
-magic = 0x53 ∷ 0x42 ∷ 0x49 ∷ 0x31 ∷ []
+-- "SBI1", "SBI2"
+abbrev pub magic : ImageForm → List ℕ
+magic Sbi1 = 0x53 ∷ 0x42 ∷ 0x49 ∷ 0x31 ∷ []
+magic Sbi2 = 0x53 ∷ 0x42 ∷ 0x49 ∷ 0x32 ∷ []
 
 abbrev pub header_bytes : FileHeader → List ℕ
 header_bytes h = h.magic ++ (to_le_bytes w16 h.state_len ++ to_le_bytes w16 h.slots)
@@ -33,8 +36,8 @@ pub record HasHeader (h : FileHeader) (rest bytes : List ℕ) : Type 0 where
   pub fields : bytes ≡ header_bytes h ++ rest
 
 -- the file of this code with a state of this length
-pub record IsFile (code : List Insn) (len : ℕ) (bytes : List ℕ) : Type 0 where
-  pub bytes_are : bytes ≡ header_bytes (record { magic = magic; state_len = len; slots = slots code }) ++ encoding code
+pub record IsFile (form : ImageForm) (code : List Insn) (len : ℕ) (bytes : List ℕ) : Type 0 where
+  pub bytes_are : bytes ≡ header_bytes (record { magic = magic form; state_len = len; slots = slots code }) ++ encoding code
   pub fits : AllByRecursion Fits code
   pub state : len ≤ 1024
   pub some : 0 < slots code
@@ -45,7 +48,7 @@ pub record IsFile (code : List Insn) (len : ℕ) (bytes : List ℕ) : Type 0 whe
 -- what each fault finds in a header and what follows it
 abbrev pub Breaks : HeaderFault → FileHeader → List ℕ → Type 0
 Breaks TooShort h rest = ⊥
-Breaks Magic h rest = h.magic ≢ magic
+Breaks Magic h rest = (form : ImageForm) → h.magic ≢ magic form
 Breaks StateLength h rest = 1024 < h.state_len
 Breaks SlotCount h rest = (h.slots ≡ 0) ⊎ (1024 < h.slots)
 Breaks FileLength h rest = length rest ≢ 8 * h.slots
@@ -69,8 +72,8 @@ abbrev pub IsHeaderFault : List ℕ → HeaderFault → Type 0
 IsHeaderFault bytes fault = ((fault ≡ TooShort) × (length bytes < 8)) ⊎ StartsBroken fault bytes
 
 -- a header without a fault
-pub record IsSound (h : FileHeader) (rest : List ℕ) : Type 0 where
-  pub magic_is : h.magic ≡ magic
+pub record IsSound (form : ImageForm) (h : FileHeader) (rest : List ℕ) : Type 0 where
+  pub magic_is : h.magic ≡ magic form
   pub state : h.state_len ≤ 1024
   pub some : 0 < h.slots
   pub short : h.slots ≤ 1024
@@ -78,10 +81,11 @@ pub record IsSound (h : FileHeader) (rest : List ℕ) : Type 0 where
 
 -- behind a header without a fault the code breaks this rule of its encoding, at this slot
 pub record IsCodeFault (bytes : List ℕ) (rule : Rule) (slot : ℕ) : Type 0 where
+  pub form : ImageForm
   pub header : FileHeader
   pub rest : List ℕ
   pub has : HasHeader header rest bytes
-  pub sound : IsSound header rest
+  pub sound : IsSound form header rest
   pub fault : decoding.IsFault rest rule slot
 
 -- why bytes are no image file; want of memory says nothing of them
@@ -93,7 +97,7 @@ IsUnread bytes (Verify rule slot) = ⊥
 
 -- why bytes are no file of typable code
 abbrev pub IsRefusal : List ℕ → ImageError → Type 0
-IsRefusal bytes (Verify rule slot) = (is : List Insn) × (len : ℕ) × IsFile is len bytes × verdict.IsFault is len rule slot
+IsRefusal bytes (Verify rule slot) = (form : ImageForm) × (is : List Insn) × (len : ℕ) × IsFile form is len bytes × verdict.IsFault form is len rule slot
 IsRefusal bytes error = IsUnread bytes error
 
 -- a file is refused for one cause, but for want of memory
@@ -103,21 +107,21 @@ IsOneFileRefusal =
 
 -- ---- answers
 
--- this code and this length, unless memory ran out
-abbrev pub GivesParts : Result (Vec Insn × ℕ) ImageError → List Insn → ℕ → Type 0
-GivesParts (Ok p) is len = (p.0.items ≡ is) × (p.1 ≡ len)
-GivesParts (Err Memory) is len = Unit {0}
-GivesParts (Err (Header fault)) is len = ⊥
-GivesParts (Err (Decode rule slot)) is len = ⊥
-GivesParts (Err (Verify rule slot)) is len = ⊥
+-- this code, this length and this form, unless memory ran out
+abbrev pub GivesParts : Result (Vec Insn × ℕ × ImageForm) ImageError → ImageForm → List Insn → ℕ → Type 0
+GivesParts (Ok p) form is len = (p.0.items ≡ is) × (p.1 ≡ len) × (p.2 ≡ form)
+GivesParts (Err Memory) form is len = Unit {0}
+GivesParts (Err (Header fault)) form is len = ⊥
+GivesParts (Err (Decode rule slot)) form is len = ⊥
+GivesParts (Err (Verify rule slot)) form is len = ⊥
 
 -- the image of this code, unless memory ran out
-abbrev pub GivesImage : Result Typed ImageError → List Insn → ℕ → Type 0
-GivesImage (Ok image) is len = verdict.IsImageOf is len image
-GivesImage (Err Memory) is len = Unit {0}
-GivesImage (Err (Header fault)) is len = ⊥
-GivesImage (Err (Decode rule slot)) is len = ⊥
-GivesImage (Err (Verify rule slot)) is len = ⊥
+abbrev pub GivesImage : Result Typed ImageError → ImageForm → List Insn → ℕ → Type 0
+GivesImage (Ok image) form is len = verdict.IsImageOf form is len image
+GivesImage (Err Memory) form is len = Unit {0}
+GivesImage (Err (Header fault)) form is len = ⊥
+GivesImage (Err (Decode rule slot)) form is len = ⊥
+GivesImage (Err (Verify rule slot)) form is len = ⊥
 
 -- code is written but where its slots are none or too many
 abbrev pub IsUnwritten : List Insn → ImageError → Type 0

@@ -1,10 +1,10 @@
 -- What the steps of the pass over the slots do.
-use Rattle.std.specs.Prelude.{◌≡◌, ◌≢◌, ℕ, ◌+◌, ◌<◌, List, Option, Some, None, length}
+use Rattle.std.specs.Prelude.{◌≡◌, ◌≢◌, ℕ, ◌+◌, ◌<◌, ◌≤◌, List, Option, Some, None, length}
 use Rattle.decode.specs.declared.insn.Insn.{Insn}
 use Rattle.decode.specs.Slots.{size_of, insn_at}
-use Rattle.regtypes.specs.declared.frame.Kind.{Kind}
+use Rattle.regtypes.specs.declared.image_form.ImageForm.{ImageForm}
 use Rattle.regtypes.specs.declared.frame.Frame.{Frame}
-use Rattle.regtypes.specs.Frame.{entry_kinds, Leq}
+use Rattle.regtypes.specs.Frame.{entry_frame, Leq}
 use Rattle.regtypes.specs.Typing.{Table, frame_at}
 
 -- behind an instruction that is not the last another begins
@@ -12,19 +12,18 @@ abbrev pub Follows : List (Option Insn) → Type 0
 Follows slots = (s n : ℕ) (i : Insn) → insn_at slots s ≡ Some i → n ≡ s + size_of i → n < length slots → (j : Insn) × (insn_at slots n ≡ Some j)
 
 -- a frame joined into what a slot has
-pub record Merged (old : Table) (to : ℕ) (f : List Kind) (new : Table) : Type 0 where
+pub record Merged (old : Table) (to : ℕ) (f : Frame) (new : Table) : Type 0 where
   pub size : length new ≡ length old
   pub other : (s : ℕ) → s ≢ to → frame_at new s ≡ frame_at old s
   pub frame : Frame
   pub there : frame_at new to ≡ Some frame
   pub whole : length frame.kinds ≡ 11
-  pub covers : Leq f frame.kinds
-  pub keeps : (g : Frame) → frame_at old to ≡ Some g → Leq g.kinds frame.kinds
-  pub least : (k : List Kind) → Leq f k → ((g : Frame) → frame_at old to ≡ Some g → Leq g.kinds k) → Leq frame.kinds k
+  pub short : frame.low ≤ 256
+  pub covers : Leq f frame
+  pub keeps : (g : Frame) → frame_at old to ≡ Some g → Leq g frame
+  pub least : (k : Frame) → Leq f k → ((g : Frame) → frame_at old to ≡ Some g → Leq g k) → Leq frame k
 
 -- the first slot has the entry's frame, and no other has one
-pub record IsOpening (table : Table) : Type 0 where
-  pub frame : Frame
-  pub first : frame_at table 0 ≡ Some frame
-  pub entry : frame.kinds ≡ entry_kinds
+pub record IsOpening (form : ImageForm) (table : Table) : Type 0 where
+  pub first : frame_at table 0 ≡ Some (entry_frame form)
   pub none : (s : ℕ) → s ≢ 0 → frame_at table s ≡ None

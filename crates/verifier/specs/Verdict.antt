@@ -2,6 +2,7 @@
 use Rattle.std.specs.Prelude.{◌≡◌, ℕ, List, Option}
 use Rattle.decode.specs.declared.insn.Insn.{Insn}
 use Rattle.decode.specs.Slots.{slots_of}
+use Rattle.regtypes.specs.declared.image_form.ImageForm.{ImageForm}
 use Rattle.regtypes.specs.declared.rule.Rule.{Rule}
 use Rattle.regtypes.specs.Typing.{Table, IsTyping}
 use Rattle.verifier.specs.declared.fault.VerifyError.{VerifyError}
@@ -10,22 +11,23 @@ use Rattle.verifier.specs.Typed.{Typed}
 use Rattle.verifier.specs.Least.{IsRefused, IsLeastTyping}
 
 -- the code and its least typing
-pub record IsImageOf (code : List Insn) (len : ℕ) (image : Typed) : Type 0 where
+pub record IsImageOf (form : ImageForm) (code : List Insn) (len : ℕ) (image : Typed) : Type 0 where
+  pub form_is : image.form ≡ form
   pub code_is : image.code ≡ code
   pub slots_is : image.slots ≡ slots_of code
   pub len_is : image.len ≡ len
-  pub typing : IsLeastTyping (slots_of code) len image.table
+  pub typing : IsLeastTyping form (slots_of code) len image.table
 
 -- the rule and the slot, of code that has no typing
-abbrev pub IsFault : List Insn → ℕ → Rule → ℕ → Type 0
-IsFault code len rule slot = IsRefused (slots_of code) len rule slot × ((t : Table) → IsTyping (slots_of code) len t → ⊥)
+abbrev pub IsFault : ImageForm → List Insn → ℕ → Rule → ℕ → Type 0
+IsFault form code len rule slot = IsRefused form (slots_of code) len rule slot × ((t : Table) → IsTyping form (slots_of code) len t → ⊥)
 
 -- want of memory says nothing of the code
-abbrev pub IsWhy : List Insn → ℕ → VerifyError → Type 0
-IsWhy code len (Fault rule slot) = IsFault code len rule slot
-IsWhy code len Memory = Unit {0}
+abbrev pub IsWhy : ImageForm → List Insn → ℕ → VerifyError → Type 0
+IsWhy form code len (Fault rule slot) = IsFault form code len rule slot
+IsWhy form code len Memory = Unit {0}
 
 -- code is refused for one rule at one slot
 abbrev pub IsOneRefusal : Type 0
 IsOneRefusal =
-    (slots : List (Option Insn)) (len : ℕ) (rule rule' : Rule) (s s' : ℕ) → IsRefused slots len rule s → IsRefused slots len rule' s' → (rule ≡ rule') × (s ≡ s')
+    (form : ImageForm) (slots : List (Option Insn)) (len : ℕ) (rule rule' : Rule) (s s' : ℕ) → IsRefused form slots len rule s → IsRefused form slots len rule' s' → (rule ≡ rule') × (s ≡ s')

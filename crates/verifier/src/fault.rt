@@ -24,7 +24,7 @@ pub enum HeaderFault {
     /// 1: fewer than eight bytes.
     #[error("shorter than a header")]
     TooShort,
-    /// 2: it doesn't begin with `SBI1`.
+    /// 2: it begins with neither `SBI1` nor `SBI2`.
     #[error("no image file")]
     Magic,
     /// 3: the state has more than 1,024 bytes.

@@ -1,16 +1,21 @@
 //! The header of an image file.
 
-ghost use Rattle.std.specs.Prelude.{◌≡◌, ◌≤◌, ◌++◌, length, IfOk, IfErr};
+ghost use Rattle.std.specs.Prelude.{◌≡◌, ◌≢◌, MatchOption, ◌≤◌, ◌++◌, length, IfOk, IfErr};
+ghost use Rattle.regtypes.specs.declared.image_form.ImageForm.{ImageForm};
 ghost use Rattle.verifier.specs.ImageFile.{HasHeader, IsSound, IsHeaderFault, header_bytes, magic};
 
 use crate::fault::HeaderFault;
 use byteorder::{ByteOrder, LittleEndian};
+use regtypes::ImageForm;
 
 /// How many bytes a header has, and so a slot.
 const HEADER: usize = 8;
 
-/// What a file begins with.
-const MAGIC: [u8; 4] = [0x53, 0x42, 0x49, 0x31];
+/// What a file of form 1 begins with.
+const MAGIC_1: [u8; 4] = [0x53, 0x42, 0x49, 0x31];
+
+/// What a file of form 2 begins with.
+const MAGIC_2: [u8; 4] = [0x53, 0x42, 0x49, 0x32];
 
 /// The most bytes that a state has.
 const STATE_LIMIT: u16 = 1024;
@@ -40,19 +45,33 @@ fn header_at(bytes: &[u8]) -> (FileHeader, &[u8])
     (header, rest)
 }
 
-/// The header of a file and its code, if the header has no fault.
-pub fn read_header(bytes: &[u8]) -> Result<(FileHeader, &[u8]), HeaderFault>
-    ensures found { IfOk result (λ x. HasHeader x.0 x.1.now bytes.now) }
-    ensures sound { IfOk result (λ x. IsSound x.0 x.1.now) }
+/// The form of files that begin so.
+fn form_of(begins: [u8; 4]) -> Option<ImageForm>
+    ensures { MatchOption result ((form : ImageForm) → begins ≢ magic form) (λ form. begins ≡ magic form) }
+{
+    if begins == MAGIC_1 {
+        Some(ImageForm::Sbi1)
+    } else if begins == MAGIC_2 {
+        Some(ImageForm::Sbi2)
+    } else {
+        None
+    }
+}
+
+/// The header of a file, its form and its code, if the header has no fault.
+pub fn read_header(bytes: &[u8]) -> Result<(FileHeader, ImageForm, &[u8]), HeaderFault>
+    ensures found { IfOk result (λ x. HasHeader x.0 x.2.now bytes.now) }
+    ensures sound { IfOk result (λ x. IsSound x.1 x.0 x.2.now) }
     ensures refused { IfErr result (IsHeaderFault bytes.now) }
 {
     if bytes.len() < HEADER {
         return Err(HeaderFault::TooShort);
     }
     let (header, code) = header_at(bytes);
-    if header.magic != MAGIC {
-        return Err(HeaderFault::Magic);
-    }
+    let form = match form_of(header.magic) {
+        Some(form) => form,
+        None => return Err(HeaderFault::Magic),
+    };
     if header.state_len > STATE_LIMIT {
         return Err(HeaderFault::StateLength);
     }
@@ -62,14 +81,17 @@ pub fn read_header(bytes: &[u8]) -> Result<(FileHeader, &[u8]), HeaderFault>
     if code.len() != HEADER * header.slots as usize {
         return Err(HeaderFault::FileLength);
     }
-    Ok((header, code))
+    Ok((header, form, code))
 }
 
 /// The eight bytes of a header.
-pub fn write_header(state_len: u16, slots: u16) -> [u8; 8]
-    ensures { result ≡ header_bytes (record { magic = magic; state_len = state_len; slots = slots }) }
+pub fn write_header(form: ImageForm, state_len: u16, slots: u16) -> [u8; 8]
+    ensures { result ≡ header_bytes (record { magic = magic form; state_len = state_len; slots = slots }) }
 {
-    let mut bytes = [MAGIC[0], MAGIC[1], MAGIC[2], MAGIC[3], 0, 0, 0, 0];
+    let mut bytes = match form {
+        ImageForm::Sbi1 => [0x53, 0x42, 0x49, 0x31, 0, 0, 0, 0],
+        ImageForm::Sbi2 => [0x53, 0x42, 0x49, 0x32, 0, 0, 0, 0],
+    };
     LittleEndian::write_u16(&mut bytes[4..6], state_len);
     LittleEndian::write_u16(&mut bytes[6..8], slots);
     bytes

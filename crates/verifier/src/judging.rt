@@ -8,13 +8,14 @@ ghost use Rattle.verifier.specs.Least.{IsLeast, Breaks};
 ghost use Rattle.verifier.specs.Pass.{Follows, Merged};
 
 use decode::Insn;
-use regtypes::{Flow, Frame, Rule, flow_from, join, transfer};
+use regtypes::{Flow, Frame, ImageForm, Rule, flow_from, join, transfer};
 
 /// Joins a frame into what a slot has.
 fn merge(table: &mut [Option<Frame>], to: usize, frame: &Frame)
     requires within { to < length table.old }
     requires whole { length frame.now.kinds ≡ 11 }
-    ensures { Merged table.old to frame.now.kinds table.new }
+    requires short { frame.now.low ≤ 256 }
+    ensures { Merged table.old to frame.now table.new }
 {
     table[to] = match &table[to] {
         Some(had) => Some(join(had, frame)),
@@ -81,6 +82,7 @@ fn leads(slots: &[Option<Insn>], slot: usize, flow: &Flow) -> Result<(), Rule>
 /// Judges one slot, and joins what leaves it into the slots that come next. A slot that no path
 /// leads to is not judged.
 pub fn judge(
+    form: ImageForm,
     slots: &[Option<Insn>],
     state_len: u16,
     slot: usize,
@@ -90,8 +92,8 @@ pub fn judge(
     requires within { slot < length slots.now }
     requires same { length table.old ≡ length slots.now }
     requires follows { Follows slots.now }
-    requires least { IsLeast slots.now state_len slot table.old }
-    ensures { MatchResult result (λ _. IsLeast slots.now state_len (slot + 1) table.new) (λ rule. Breaks slots.now state_len rule slot) }
+    requires least { IsLeast form slots.now state_len slot table.old }
+    ensures { MatchResult result (λ _. IsLeast form slots.now state_len (slot + 1) table.new) (λ rule. Breaks form slots.now state_len rule slot) }
 {
     let frame = match table[slot] {
         Some(frame) => frame,
@@ -105,18 +107,18 @@ pub fn judge(
     if let Err(rule) = leads(slots, slot, &flow) {
         return Err(rule);
     }
-    let left = match transfer(&insn, &frame, state_len) {
+    let left = match transfer(form, &insn, &frame, state_len) {
         Ok(left) => left,
         Err(rule) => return Err(rule),
     };
     match flow {
         Flow::Ends => {}
-        Flow::Leaps(distance) => merge(table, target(slots, slot, distance), &left),
+        Flow::Leaps(distance) => merge(table, target(slots, slot, distance), &left.taken),
         Flow::Forks(distance) => {
-            merge(table, slot + 1, &left);
-            merge(table, target(slots, slot, distance), &left);
+            merge(table, slot + 1, &left.next);
+            merge(table, target(slots, slot, distance), &left.taken);
         }
-        Flow::Falls(size) => merge(table, slot + size, &left),
+        Flow::Falls(size) => merge(table, slot + size, &left.next),
     }
     Ok(())
 }

@@ -1,7 +1,8 @@
 //! Images: code that is verified once, so that it can be run with no test for a fault.
 //!
-//! [`load`] reads an image file, [`verify`] takes instructions; both answer an [`Image`] exactly
-//! where the code is typable, or where memory runs out an error that says so. Code is typable where
+//! [`load`] reads an image file of either form, [`verify_form`] takes instructions and a form, and
+//! [`verify`] instructions of form 1; all answer an [`Image`] exactly where the code is typable, or
+//! where memory runs out an error that says so. Code is typable where
 //! there is a table of frames, one for each instruction that a path leads to, under which no rule
 //! is broken and into which all that leaves an instruction fits. The image keeps the least such
 //! table, and its type keeps the fact, and for each instruction that a path leads to the dense operation that
@@ -33,7 +34,7 @@ pub use image::Image;
 pub use laws::{file_refusals_are_one, refusals_are_one};
 pub use loading::{load, parts};
 pub use storing::file;
-pub use verifying::verify;
+pub use verifying::{verify, verify_form};
 
 #[cfg(test)]
 mod tests;

@@ -3,6 +3,7 @@
 ghost use Rattle.std.specs.Prelude.{◌≡◌, ℕ, List, IfOk, IfErr};
 ghost use Rattle.decode.specs.declared.insn.Insn.{Insn};
 ghost use Rattle.decode.specs.Slots.{slots_of};
+ghost use Rattle.regtypes.specs.declared.image_form.ImageForm.{ImageForm};
 ghost use Rattle.regtypes.specs.Typing.{Table, IsTyping};
 ghost use Rattle.verifier.specs.ImageFile.{IsFile, IsUnread, IsRefusal, GivesParts, GivesImage};
 ghost use Rattle.verifier.specs.Verdict.{IsImageOf};
@@ -10,24 +11,25 @@ ghost use Rattle.verifier.specs.Verdict.{IsImageOf};
 use crate::fault::{ImageError, VerifyError};
 use crate::header::read_header;
 use crate::image::Image;
-use crate::verifying::verify;
+use crate::verifying::verify_form;
 use decode::{DecodeError, Insn, decode};
+use regtypes::ImageForm;
 use std::alloc::Global;
 
-/// The instructions of an image file and the length of its state. The code is not verified.
-pub fn parts(alloc: Global, bytes: &[u8]) -> Result<(Vec<Insn>, u16), ImageError>
+/// The instructions of an image file, the length of its state, and its form. The code is not verified.
+pub fn parts(alloc: Global, bytes: &[u8]) -> Result<(Vec<Insn>, u16, ImageForm), ImageError>
     // What is read is written so.
-    ensures found { IfOk result (λ p. IsFile p.0.items p.1 bytes.now) }
+    ensures found { IfOk result (λ p. IsFile p.2 p.0.items p.1 bytes.now) }
     // What is written so is read, unless memory runs out.
-    ensures only { (code : List Insn) (len : ℕ) → IsFile code len bytes.now → GivesParts result code len }
+    ensures only { (form : ImageForm) (code : List Insn) (len : ℕ) → IsFile form code len bytes.now → GivesParts result form code len }
     ensures refused { IfErr result (IsUnread bytes.now) }
 {
-    let (header, code) = match read_header(bytes) {
+    let (header, form, code) = match read_header(bytes) {
         Ok(found) => found,
         Err(fault) => return Err(ImageError::Header(fault)),
     };
     match decode(alloc, code) {
-        Ok(insns) => Ok((insns, header.state_len)),
+        Ok(insns) => Ok((insns, header.state_len, form)),
         Err(DecodeError::Memory) => Err(ImageError::Memory),
         Err(DecodeError::Fault { rule, slot }) => Err(ImageError::Decode { rule, slot }),
     }
@@ -35,14 +37,14 @@ pub fn parts(alloc: Global, bytes: &[u8]) -> Result<(Vec<Insn>, u16), ImageError
 
 /// The image of a file of typable code. The first fault is named, in the order header, code, rules of the verifier.
 pub fn load(alloc: Global, bytes: &[u8]) -> Result<Image, ImageError>
-    ensures found { IfOk result (λ image. IsFile image.code image.len bytes.now) }
-    ensures image { IfOk result (λ image. IsImageOf image.code image.len image) }
+    ensures found { IfOk result (λ image. IsFile image.form image.code image.len bytes.now) }
+    ensures image { IfOk result (λ image. IsImageOf image.form image.code image.len image) }
     // A file of typable code is loaded, unless memory runs out.
-    ensures only { (code : List Insn) (len : ℕ) (t : Table) → IsFile code len bytes.now → IsTyping (slots_of code) len t → GivesImage result code len }
+    ensures only { (form : ImageForm) (code : List Insn) (len : ℕ) (t : Table) → IsFile form code len bytes.now → IsTyping form (slots_of code) len t → GivesImage result form code len }
     ensures refused { IfErr result (IsRefusal bytes.now) }
 {
-    let (code, state_len) = parts(alloc, bytes)?;
-    match verify(alloc, code, state_len) {
+    let (code, state_len, form) = parts(alloc, bytes)?;
+    match verify_form(alloc, code, state_len, form) {
         Ok(image) => Ok(image),
         Err(VerifyError::Memory) => Err(ImageError::Memory),
         Err(VerifyError::Fault { rule, slot }) => Err(ImageError::Verify { rule, slot }),

@@ -6,20 +6,26 @@ ghost use Rattle.verifier.specs.ImageFile.{IsFile, IsUnwritten};
 use crate::fault::{HeaderFault, ImageError};
 use crate::header::{SLOT_LIMIT, write_header};
 use decode::{Insn, encode, slots};
+use regtypes::ImageForm;
 use std::alloc::Global;
 
-/// The image file of these instructions with a state of this length, at most 1,024 bytes. They are
+/// The image file of this form, of these instructions with a state of this length, at most 1,024 bytes. They are
 /// not verified; `parts` gives them back.
-pub fn file(alloc: Global, code: &[Insn], state_len: u16) -> Result<Vec<u8>, ImageError>
+pub fn file(
+    alloc: Global,
+    form: ImageForm,
+    code: &[Insn],
+    state_len: u16,
+) -> Result<Vec<u8>, ImageError>
     requires { state_len ≤ 1024 }
-    ensures written { IfOk result (λ v. IsFile code.now state_len v.items) }
+    ensures written { IfOk result (λ v. IsFile form code.now state_len v.items) }
     ensures refused { IfErr result (IsUnwritten code.now) }
 {
     let count = slots(code);
     if count == 0 || count > SLOT_LIMIT as usize {
         return Err(ImageError::Header(HeaderFault::SlotCount));
     }
-    let header = write_header(state_len, count as u16);
+    let header = write_header(form, state_len, count as u16);
     let mut bytes = match Vec::from_slice(alloc, &header) {
         Ok(bytes) => bytes,
         Err(_) => return Err(ImageError::Memory),

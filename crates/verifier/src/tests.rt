@@ -1,8 +1,8 @@
 ghost use Rattle.std.specs.Prelude.{◌≤◌, length};
 
-use crate::{ImageError, file, load, parts, verify};
+use crate::{ImageError, file, load, parts, verify, verify_form};
 use decode::{Insn, Reg};
-use regtypes::{Kind, Region};
+use regtypes::{ImageForm, Kind, Region};
 use std::alloc::Global;
 use std::test::Fail;
 
@@ -31,11 +31,23 @@ fn verdict_of(alloc: Global, bytes: &[u8]) -> Verdict {
     }
 }
 
-/// The verdict of the file of these slots, with a state of this length.
+/// The verdict of the file of form 1 of these slots, with a state of this length.
 fn verdict_of_slots(alloc: Global, state_len: u8, slots: &[[u8; 8]]) -> Result<Verdict, Fail>
     requires { length slots.now ≤ 255 }
 {
-    let mut bytes = Vec::from_slice(alloc, &[0x53, 0x42, 0x49, 0x31])?;
+    verdict_of_form(alloc, 0x31, state_len, slots)
+}
+
+/// The verdict of the file of these slots whose fourth byte is this.
+fn verdict_of_form(
+    alloc: Global,
+    form: u8,
+    state_len: u8,
+    slots: &[[u8; 8]],
+) -> Result<Verdict, Fail>
+    requires { length slots.now ≤ 255 }
+{
+    let mut bytes = Vec::from_slice(alloc, &[0x53, 0x42, 0x49, form])?;
     bytes.extend_from_slice(&[state_len, 0, slots.len() as u8, 0])?;
     for slot in slots {
         bytes.extend_from_slice(slot)?;
@@ -74,11 +86,12 @@ fn adder_or_memory(rt: HostRuntime) -> Result<(), Fail> {
 
 #[test]
 fn there_and_back(rt: HostRuntime) -> Result<(), Fail> {
-    let (code, state_len) = parts(rt.alloc(), &ADDER)?;
+    let (code, state_len, form) = parts(rt.alloc(), &ADDER)?;
+    assert_eq!(rt; form, ImageForm::Sbi1);
     assert_eq!(rt; state_len, 8);
-    let bytes = file(rt.alloc(), &code, 8)?;
+    let bytes = file(rt.alloc(), form, &code, 8)?;
     assert_eq!(rt; bytes.as_slice(), ADDER.as_slice());
-    match file(rt.alloc(), &[], 8) {
+    match file(rt.alloc(), ImageForm::Sbi1, &[], 8) {
         Err(ImageError::Header(fault)) => assert_eq!(rt; fault.number(), 4),
         _ => assert!(rt; false),
     }
@@ -233,5 +246,64 @@ fn wide_instruction(rt: HostRuntime) -> Result<(), Fail> {
     assert!(rt; image.kinds_at(0).is_some());
     assert!(rt; image.kinds_at(1).is_none());
     assert!(rt; image.kinds_at(2).is_some());
+    Ok(())
+}
+
+#[test]
+fn handlers_that_know_the_length(rt: HostRuntime) -> Result<(), Fail> {
+    let alloc = rt.alloc();
+    let mut adder = Vec::from_slice(alloc, &ADDER)?;
+    adder[3] = 0x32;
+    assert_eq!(rt; verdict_of(alloc, &adder), Verdict::Verify(6, 0));
+    adder[3] = 0x33;
+    assert_eq!(rt; verdict_of(alloc, &adder), Verdict::Header(2));
+    let rest = |jump: [u8; 8]| {
+        [
+            jump,
+            [0x79, 0x14, 0, 0, 0, 0, 0, 0],
+            [0x79, 0x25, 0, 0, 0, 0, 0, 0],
+            [0x0f, 0x45, 0, 0, 0, 0, 0, 0],
+            [0x7b, 0x52, 0, 0, 0, 0, 0, 0],
+            R0_IS_0,
+            EXIT,
+        ]
+    };
+    let eight = rest([0xa5, 0x03, 4, 0, 8, 0, 0, 0]);
+    assert_eq!(rt;
+        verdict_of_form(alloc, 0x32, 8, &eight)?,
+        Verdict::Accepted(7)
+    );
+    assert_eq!(rt;
+        verdict_of_form(alloc, 0x31, 8, &eight)?,
+        Verdict::Verify(3, 0)
+    );
+    let seven = rest([0xa5, 0x03, 4, 0, 7, 0, 0, 0]);
+    assert_eq!(rt;
+        verdict_of_form(alloc, 0x32, 8, &seven)?,
+        Verdict::Verify(6, 1)
+    );
+    let half = rest([0xa6, 0x03, 4, 0, 8, 0, 0, 0]);
+    assert_eq!(rt;
+        verdict_of_form(alloc, 0x32, 8, &half)?,
+        Verdict::Verify(6, 1)
+    );
+    let sized = [0x85, 0, 0, 0, 6, 0, 0, 0];
+    let echo = [[0xbf, 0x32, 0, 0, 0, 0, 0, 0], sized, R0_IS_0, EXIT];
+    assert_eq!(rt;
+        verdict_of_form(alloc, 0x32, 0, &echo)?,
+        Verdict::Accepted(4)
+    );
+    let two = [[0xb7, 0x02, 0, 0, 2, 0, 0, 0], sized, R0_IS_0, EXIT];
+    assert_eq!(rt;
+        verdict_of_form(alloc, 0x32, 0, &two)?,
+        Verdict::Verify(9, 1)
+    );
+    assert_eq!(rt;
+        verdict_of_form(alloc, 0x31, 0, &two)?,
+        Verdict::Verify(8, 1)
+    );
+    let code = vec![in alloc; Insn::Call { helper: 3 }, Insn::Exit]?;
+    let image = verify_form(alloc, code, 0, ImageForm::Sbi2)?;
+    assert_eq!(rt; image.form(), ImageForm::Sbi2);
     Ok(())
 }

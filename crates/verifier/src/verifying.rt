@@ -2,6 +2,7 @@
 
 ghost use Rattle.std.specs.Prelude.{◌≡◌, ◌≤◌, ◌<◌, IfOk, MatchResult, length};
 ghost use Rattle.decode.specs.Slots.{slots_of};
+ghost use Rattle.regtypes.specs.declared.image_form.ImageForm.TheVariants.{Sbi1};
 ghost use Rattle.verifier.specs.Pass.{IsOpening};
 ghost use Rattle.verifier.specs.Verdict.{IsImageOf, IsWhy};
 
@@ -11,30 +12,45 @@ use crate::image::Image;
 use crate::judging::judge;
 use crate::layout::lay_out;
 use decode::Insn;
-use regtypes::{Frame, Rule};
+use regtypes::{Frame, ImageForm, Rule};
 use std::alloc::{AllocError, Global};
 
 /// A table with no frame but that of the entry.
-fn opening(alloc: Global, slots: usize) -> Result<Vec<Option<Frame>>, AllocError>
+fn opening(alloc: Global, form: ImageForm, slots: usize) -> Result<Vec<Option<Frame>>, AllocError>
     requires { 0 < slots }
     ensures size { IfOk result (λ table. length table.items ≡ slots) }
-    ensures only { IfOk result (λ table. IsOpening table.items) }
+    ensures only { IfOk result (λ table. IsOpening form table.items) }
 {
     let mut table = Vec::with_capacity(alloc, slots)?;
-    table.push(Some(Frame::entry()))?;
+    table.push(Some(Frame::entry(form)))?;
     'rest: for _ in 1..slots {
         table.push(None)?;
     }
     Ok(table)
 }
 
-/// The image of these instructions with a state of this length, if they are typable. Code is given
-/// in at most 1,024 slots, and its state has at most 1,024 bytes. The frame of a slot is the join
-/// of all that arrives there; an instruction that no path reaches is not judged.
+/// The image of these instructions with a state of this length, if they are typable in form 1, in
+/// which a message has 64 bytes.
 pub fn verify(alloc: Global, code: Vec<Insn>, state_len: u16) -> Result<Image, VerifyError>
     requires slots { length (slots_of code.items) ≤ 1024 }
     requires state { state_len ≤ 1024 }
-    ensures { MatchResult result (λ image. IsImageOf code.items state_len image) (λ why. IsWhy code.items state_len why) }
+    ensures { MatchResult result (λ image. IsImageOf Sbi1 code.items state_len image) (λ why. IsWhy Sbi1 code.items state_len why) }
+{
+    verify_form(alloc, code, state_len, ImageForm::Sbi1)
+}
+
+/// The image of these instructions with a state of this length, if they are typable in this form.
+/// Code is given in at most 1,024 slots, and its state has at most 1,024 bytes. The frame of a slot
+/// is the join of all that arrives there; an instruction that no path reaches is not judged.
+pub fn verify_form(
+    alloc: Global,
+    code: Vec<Insn>,
+    state_len: u16,
+    form: ImageForm,
+) -> Result<Image, VerifyError>
+    requires slots { length (slots_of code.items) ≤ 1024 }
+    requires state { state_len ≤ 1024 }
+    ensures { MatchResult result (λ image. IsImageOf form code.items state_len image) (λ why. IsWhy form code.items state_len why) }
 {
     let slots = match lay_out(alloc, &code) {
         Ok(slots) => slots,
@@ -46,17 +62,18 @@ pub fn verify(alloc: Global, code: Vec<Insn>, state_len: u16) -> Result<Image, V
             slot: 0,
         });
     }
-    let mut table = match opening(alloc, slots.len()) {
+    let mut table = match opening(alloc, form, slots.len()) {
         Ok(table) => table,
         Err(_) => return Err(VerifyError::Memory),
     };
     for slot in 0..slots.len() {
-        if let Err(rule) = judge(&slots, state_len, slot, &mut table) {
+        if let Err(rule) = judge(form, &slots, state_len, slot, &mut table) {
             return Err(VerifyError::Fault { rule, slot });
         }
     }
     match compile(alloc, &slots, &table, state_len) {
         Ok(operations) => Ok(Image {
+            form,
             code,
             table,
             state_len,

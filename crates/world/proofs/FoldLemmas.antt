@@ -4,11 +4,10 @@ use Rattle.std.specs.Prelude.{Some, if◌then◌else◌, ◌==◌}
 use Rattle.std.proofs.lemmas.List.Sums.{fold-append}
 use Rattle.helpers.specs.declared.effects.Sent.{Sent}
 use Rattle.verifier.specs.Typed.{Typed}
-use Rattle.helpers.specs.Payload.{view64}
 use Rattle.interp.specs.HandlerCall.{Handled, handled_by}
 use Rattle.world.specs.declared.message.Message.{Message}
 use Rattle.world.specs.History.{nth}
-use Rattle.world.specs.Fold.{Folded, joined, taken_in, folded, unfolded, payloads_to, emitted_to, handlers_of}
+use Rattle.world.specs.Fold.{Folded, joined, taken_in, folded, unfolded, seen, payloads_to, emitted_to, handlers_of}
 
 pub payloads_to-append : (d : ℕ) (xs ys : List Sent) → payloads_to d (xs ++ ys) ≡ payloads_to d xs ++ payloads_to d ys
 payloads_to-append d [] ys = refl
@@ -31,12 +30,12 @@ pub folded-push : (n p : ℕ) (image : Typed) (h : List Message) (m : Message) �
 folded-push n p image h m = fold-append (taken_in n image p) (unfolded image.len) h (m ∷ [])
 
 -- the handler's answer to one more message
-module _ (images : List Typed) (p : ℕ) (image : Typed) (h : List Message) (m : Message) (a : Handled) (at : nth images p ≡ Some image) (answers : handled_by image.slots (record { me = p; from = m.sender; count = length images }) ((handlers_of images).state p h) (view64 m.payload) ≡ Some a) where
+module _ (images : List Typed) (p : ℕ) (image : Typed) (h : List Message) (m : Message) (a : Handled) (at : nth images p ≡ Some image) (answers : handled_by image.form image.slots (record { me = p; from = m.sender; count = length images }) ((handlers_of images).state p h) (seen image.form m.payload) ≡ Some a) where
   here : folded (length images) p (nth images p) h ≡ folded (length images) p (Some image) h
   here = ap (λ o. folded (length images) p o h) at
 
-  given : handled_by image.slots (record { me = p; from = m.sender; count = length images }) (folded (length images) p (Some image) h).state (view64 m.payload) ≡ Some a
-  given = ap (λ (f : Folded). handled_by image.slots (record { me = p; from = m.sender; count = length images }) f.state (view64 m.payload)) (sym here) ∙ answers
+  given : handled_by image.form image.slots (record { me = p; from = m.sender; count = length images }) (folded (length images) p (Some image) h).state (seen image.form m.payload) ≡ Some a
+  given = ap (λ (f : Folded). handled_by image.form image.slots (record { me = p; from = m.sender; count = length images }) f.state (seen image.form m.payload)) (sym here) ∙ answers
 
   folded_is : folded (length images) p (nth images p) (h ++ m ∷ []) ≡ joined (folded (length images) p (Some image) h) (Some a)
   folded_is =

@@ -3,6 +3,8 @@ use Rattle.std.specs.Prelude.{ℕ, List, [], ◌∷◌, ◌++◌, length, replic
 use Rattle.helpers.specs.declared.effects.Sent.{Sent}
 use Rattle.helpers.specs.Effects.{Emitted}
 use Rattle.helpers.specs.Payload.{view64}
+use Rattle.regtypes.specs.declared.image_form.ImageForm.{ImageForm}
+use Rattle.regtypes.specs.declared.image_form.ImageForm.TheVariants.{Sbi1, Sbi2}
 use Rattle.verifier.specs.Typed.{Typed}
 use Rattle.interp.specs.HandlerCall.{Handled, handled_by}
 use Rattle.world.specs.declared.message.Message.{Message}
@@ -23,9 +25,14 @@ abbrev pub joined : Folded → Option Handled → Folded
 joined f None = f
 joined f (Some h) = record { state = h.state; effects = record { sends = f.effects.sends ++ h.effects.sends; outputs = f.effects.outputs ++ h.effects.outputs } }
 
--- the process p of n, with this image, takes in one more message, of which it sees 64 bytes
+-- what a handler sees of a payload: in form 1 the first 64 bytes, filled up with zeros
+abbrev pub seen : ImageForm → List ℕ → List ℕ
+seen Sbi1 payload = view64 payload
+seen Sbi2 payload = payload
+
+-- the process p of n, with this image, takes in one more message
 abbrev pub taken_in : ℕ → Typed → ℕ → Folded → Message → Folded
-taken_in n image p f m = joined f (handled_by image.slots (record { me = p; from = m.sender; count = n }) f.state (view64 m.payload))
+taken_in n image p f m = joined f (handled_by image.form image.slots (record { me = p; from = m.sender; count = n }) f.state (seen image.form m.payload))
 
 -- and a history, from the state of zeros on
 abbrev pub folded : ℕ → ℕ → Option Typed → List Message → Folded

@@ -3,6 +3,7 @@ use Rattle.std.specs.Prelude.{◌≡◌, ◌+◌, ◌++◌, ◌∷◌, ℕ, Bool
 use Rattle.std.specs.Borrow.{Bor}
 use Rattle.std.specs.declared.alloc.Global.{Global}
 use Rattle.std.specs.String.{string_bytes}
+use Rattle.scenario.specs.declared.order.Allowed.{Allowed}
 use Rattle.scenario.specs.declared.process.Process.{Process}
 use Rattle.scenario.specs.declared.scenario.Step.{Step}
 use Rattle.scenario.specs.declared.line.Line.{Line}
@@ -49,8 +50,8 @@ TellsFree name names true = IsFresh name names
 TellsFree name names false = IsFresh name names → ⊥
 
 -- the lines that were read
-pub record HaveRead (text : List ℕ) (rest : Option (Bor (List ℕ))) (number : ℕ) (entries : List (String Global × Process)) (steps : List Step) : Type 0 where
+pub record HaveRead (allowed : Allowed) (text : List ℕ) (rest : Option (Bor (List ℕ))) (number : ℕ) (entries : List (String Global × Process)) (steps : List Step) : Type 0 where
   pub before : List (List ℕ)
   pub whole : lines_of text ≡ before ++ lines_left rest
   pub number_is : number ≡ length before
-  pub fine : AreLines before entries steps
+  pub fine : AreLines allowed before entries steps

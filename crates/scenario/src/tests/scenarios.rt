@@ -1,6 +1,6 @@
 //! Texts of scenarios, and their faults.
 
-use crate::{Order, ScenarioError, parse};
+use crate::{Allowed, Order, ScenarioError, parse};
 use helpers::Payload;
 use std::alloc::Global;
 use std::test::Fail;
@@ -11,7 +11,7 @@ const TWO: &str = "# a run\n\nprocess a adder.sbi\nprocess b2 x/y.sbi\n";
 /// Whether a line behind two processes is this order.
 fn is_order(alloc: Global, line: &str, order: Order) -> Result<bool, Fail> {
     let text = format!(in alloc; "{TWO}{line}\n")?;
-    match parse(alloc, text.as_str()) {
+    match parse(alloc, text.as_str(), Allowed::All) {
         Ok(scenario) => {
             let steps = scenario.steps.as_slice();
             Ok(steps.len() == 1 && steps[0].line == 5 && steps[0].order == order)
@@ -22,7 +22,7 @@ fn is_order(alloc: Global, line: &str, order: Order) -> Result<bool, Fail> {
 
 /// Whether the text is refused at this line.
 fn is_refused(alloc: Global, text: &str, line: usize) -> bool {
-    match parse(alloc, text) {
+    match parse(alloc, text, Allowed::All) {
         Ok(_) => false,
         Err(error) => error == ScenarioError::Line(line),
     }
@@ -170,6 +170,7 @@ fn processes(rt: HostRuntime) -> Result<(), Fail> {
     let scenario = parse(
         alloc,
         "process abcdefghij123456 a.sbi\n# more\nprocess b x/y",
+        Allowed::All,
     )?;
     assert_eq!(rt; scenario.processes.len(), 2);
     assert_eq!(rt; scenario.steps.len(), 0);
@@ -202,7 +203,7 @@ const FIFTEEN: &str =
 #[test]
 fn fifteen_processes(rt: HostRuntime) -> Result<(), Fail> {
     let alloc = rt.alloc();
-    let scenario = parse(alloc, FIFTEEN)?;
+    let scenario = parse(alloc, FIFTEEN, Allowed::All)?;
     assert_eq!(rt; scenario.processes.len(), 15);
     let more = format!(in alloc; "{FIFTEEN}process p p\n")?;
     assert!(rt; is_refused(alloc, more.as_str(), 16));
@@ -217,9 +218,25 @@ fn long_payloads(rt: HostRuntime) -> Result<(), Fail> {
         digits.push_str("a0")?;
     }
     let text = format!(in alloc; "process a p\nbytes a {digits}\n")?;
-    let scenario = parse(alloc, text.as_str())?;
+    let scenario = parse(alloc, text.as_str(), Allowed::All)?;
     assert_eq!(rt; scenario.steps.len(), 1);
     let more = format!(in alloc; "process a p\nbytes a {digits}a0\n")?;
     assert!(rt; is_refused(alloc, more.as_str(), 2));
+    Ok(())
+}
+
+#[test]
+fn inputs_alone(rt: HostRuntime) -> Result<(), Fail> {
+    let alloc = rt.alloc();
+    let text = "process a adder.sbi\ninput a 5\nbytes a 05\n";
+    assert_eq!(rt; parse(alloc, text, Allowed::Inputs)?.steps.len(), 2);
+    let crash = "process a adder.sbi\ninput a 5\ncrash a\ndrive x\n";
+    let bare = "drive 1\n";
+    for (text, line) in [(crash, 3), (bare, 1)] {
+        match parse(alloc, text, Allowed::Inputs) {
+            Ok(_) => assert!(rt; false, "taken: {text}"),
+            Err(error) => assert_eq!(rt; error, ScenarioError::Line(line)),
+        }
+    }
     Ok(())
 }

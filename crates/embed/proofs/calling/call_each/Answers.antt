@@ -1,6 +1,8 @@
-use Rattle.std.proofs.Common.{sym, subst, ap, ◌∙◌}
+use Rattle.std.proofs.Common.{◌+◌, sym, subst, ap, ◌∙◌}
+use Rattle.std.specs.Prelude.{slice_range}
 use Rattle.regtypes.specs.declared.frame.Region.TheVariants.{Message, State}
-use Rattle.interp.specs.Flat.{part}
+use Rattle.interp.specs.Configuration.{entry}
+use Rattle.interp.specs.Flat.{part, Holds, entry_in}
 use Rattle.interp.proofs.FlatCalls.{filled_with}
 use Rattle.embed.specs.Calls.{IsReported, AreReported}
 use Rattle.embed.proofs.Calls.{Reported, none_reported, reported_more, all_reported}
@@ -12,25 +14,31 @@ calls-init c =
     let state = c.args.state.now in
     let messages = c.args.messages.now in
     let out = c.args.out.now in
-    let f = filled_with p.len state _ c.fill.new.mem c.fill.ensures.holds in
+    let f = filled_with p.form 64 p.len state _ c.fill.new.mem c.fill.ensures.holds in
     record {
-      reported = subst (λ s. Reported p.slots c.args.who state messages out 0 s out 0) (sym f.state_is) (none_reported p.slots c.args.who state messages out);
+      reported = subst (λ s. Reported p.form p.slots c.args.who state messages out 0 s out 0) (sym f.state_is) (none_reported p.form p.slots c.args.who state messages out);
       spent = c.fill.ensures.spent;
     }
+
+pub call_once-end-requires-clause-holds : goal.call_once-end-requires-clause-holds
+call_once-end-requires-clause-holds c =
+    let p = c.args.image.now in
+    let mem = c.refill.new.mem in
+    subst (λ n. Holds n p.len (entry_in p.form n p.len mem) mem) c.message_at-message.ensures.size c.refill.ensures.entry
 
 pub calls-preserved : goal.calls-preserved
 calls-preserved c =
     let p = c.args.image.now in
     let l = c.calls in
     let once = c.call_once-end in
-    let before = part p.len State l.mem in
+    let before = part 64 p.len State l.mem in
     let message = c.message_at-message.result.now in
-    let after = part p.len State once.new.mem in
-    let f = filled_with p.len before message c.refill.new.mem c.refill.ensures.holds in
-    let by_state = subst (λ s. IsReported p.slots c.args.who s (part p.len Message c.refill.new.mem) after l.out l.end once.new.out once.result) f.state_is once.ensures.reported in
-    let one = subst (λ m. IsReported p.slots c.args.who before m after l.out l.end once.new.out once.result) f.message_is by_state in
+    let after = part 64 p.len State once.new.mem in
+    let f = filled_with p.form 64 p.len before message c.refill.new.mem (subst (λ n. Holds n p.len (entry p.form before message) c.refill.new.mem) c.message_at-message.ensures.size c.refill.ensures.holds) in
+    let by_state = subst (λ s. IsReported p.form p.slots c.args.who s (part 64 p.len Message c.refill.new.mem) after l.out l.end once.new.out once.result) f.state_is once.ensures.reported in
+    let one = subst (λ m. IsReported p.form p.slots c.args.who before m after l.out l.end once.new.out once.result) f.message_is by_state in
     record {
-      reported = reported_more p.slots c.args.who c.args.state.now c.args.messages.now c.args.out.now l.i before l.out l.end message after once.new.out once.result l.invariant.reported c.message_at-message.ensures c.calls-test.true c.requires.room one;
+      reported = reported_more p.form p.slots c.args.who c.args.state.now c.args.messages.now c.args.out.now l.i before l.out l.end message after once.new.out once.result l.invariant.reported c.message_at-message.ensures.value c.calls-test.true c.requires.room one;
       spent = once.ensures.spent;
     }
 
@@ -38,6 +46,6 @@ pub returns : goal.returns
 returns c =
     let p = c.args.image.now in
     let l = c.calls in
-    let left = c.take.ensures ∙ ap (λ n. part n State l.mem) c.requires.state in
-    let all = all_reported p.slots c.args.who c.args.state.now c.args.messages.now c.args.out.now l.i (part p.len State l.mem) l.out l.end l.invariant.reported c.requires.whole c.calls-test.false in
-    subst (λ s. AreReported p.slots c.args.who c.args.state.now c.args.messages.now s c.args.out.now l.out) (sym left) all
+    let left = c.take.ensures ∙ ap (λ n. slice_range l.mem 256 (256 + n)) c.requires.state in
+    let all = all_reported p.form p.slots c.args.who c.args.state.now c.args.messages.now c.args.out.now l.i (part 64 p.len State l.mem) l.out l.end l.invariant.reported c.requires.whole c.calls-test.false in
+    subst (λ s. AreReported p.form p.slots c.args.who c.args.state.now c.args.messages.now s c.args.out.now l.out) (sym left) all

@@ -4,7 +4,7 @@ use Rattle.scenario.proofs.scenario.read_lines.Given as goal
 
 abbrev pub invariant-loop-rest : goal.invariant-loop-rest
 invariant-loop-rest l = record {
-  so_far : HaveRead l.text l.rest l.number l.processes.entries l.steps.items;
+  so_far : HaveRead l.allowed l.text l.rest l.number l.processes.entries l.steps.items;
   counted : l.number + left l.rest ≤ length l.text + 1;
 }
 

@@ -8,7 +8,10 @@ use Rattle.machine.specs.Arrival.{answer_of}
 use Rattle.machine.specs.Simulation.{answering}
 use Rattle.world.specs.History.{Payload}
 use Rattle.world.specs.Logs.{state_of}
-use Rattle.tracer.proofs.DeliveryLemmas.{alone_adds, arrive_is, arrive_wants, finish_is, finish_wants, input_is, input_wants, is_open, sit_is, sits, is_started, left_is, open_is, transmit_is, transmit_wants, unmapped}
+use Rattle.world.specs.Phases.{is_down}
+use Rattle.tracer.proofs.DeliveryLemmas.{alone_adds, arrive_is, arrive_wants, finish_is, finish_wants, input_is, input_wants, is_open, sit_is, sits, is_started, left_is, open_is, transmit_is, transmit_wants, unmapped, up_after}
+use Rattle.verifier.specs.declared.fault.ImageError.TheVariants.{Memory}
+use Rattle.tracer.proofs.CauseLemmas.{becomes, mapped_memory}
 use Rattle.tracer.proofs.first.first_in.Goals as goal
 
 pub map_err-requires-2 : goal.map_err-requires-2
@@ -75,9 +78,9 @@ returns-clause-left g c =
     (unmapped c.arrive.result c.map_err-4.result c.in_ok-job.field-0 _ c.map_err-4.ensures.cases c.in_ok-job.was) (c.in-Started.is ∙ ap (λ t. Started t) (sym c.run-done.ensures)) in
     let finished = finish_is image x key c.arrive.new.self c.finish.new.self c.arrive.new.by c.finish.new.by task c.finish.result committed (c.arrive.ensures.worker ∙ c.transmit.ensures.worker ∙ c.input.ensures.worker ∙ nobody) started.1 c.finish.ensures.takes c.in_default-finish.is in
     let items : c.in_ok-state.state.items ≡ c.state.result.now = search rules in
-    left_is image x c.args.bytes.now c.args.word key committed.rsn committed.key task c.steps_of-steps.result c.in_ok-state.state.items
+    left_is image x c.args.bytes.now c.args.word key finished.rsn finished.new task c.steps_of-steps.result c.in_ok-state.state.items
     c.in_ok-image.ensures.found c.in_ok-image.ensures.image c.payload_of.ensures job c.steps_of-steps.ensures
-    (items ∙ c.state.ensures ∙ ap (λ (s : TheSession). state_of (world_at s) 1) finished)
+    (items ∙ c.state.ensures.live (ap (λ (s : TheSession). is_down ((world_at s).phase 1)) finished.is ∙ up_after image x key finished.rsn finished.new) ∙ ap (λ (s : TheSession). state_of (world_at s) 1) finished.is)
 
 pub unreachable-requires : goal.unreachable-requires
 unreachable-requires g c =
@@ -103,3 +106,15 @@ memory_fault-requires g c =
     let job = is_open image x key c.arrive.new.self c.arrive.result c.in_ok-job.field-0 task started.1 c.arrive.ensures.job
     (unmapped c.arrive.result c.map_err-4.result c.in_ok-job.field-0 _ c.map_err-4.ensures.cases c.in_ok-job.was) (c.in-Started.is ∙ ap (λ t. Started t) (sym c.run-done.ensures)) in
     finish_wants image x key c.arrive.new.self c.finish.new.self c.arrive.new.by c.finish.new.by task c.finish.result (c.in-Err.refusal, c.in-Err._done) started.1 job c.finish.ensures.takes c.in-Err.is
+
+pub returns-in_err-key-clause-refused : goal.returns-in_err-key-clause-refused
+returns-in_err-key-clause-refused g c =
+    becomes c.from_residual-in_err-key.result _ _ c.from_residual-in_err-key.ensures.1 (λ f is. (Memory, tt, is ∙ mapped_memory c.transmit.result c.map_err-3.result c.in_err-key.field-0.0 _ c.in_err-key.was c.map_err-3.ensures.cases (λ e p. p)))
+
+pub returns-in_err-job-clause-refused : goal.returns-in_err-job-clause-refused
+returns-in_err-job-clause-refused g c =
+    becomes c.from_residual-in_err-job.result _ _ c.from_residual-in_err-job.ensures.1 (λ f is. (Memory, tt, is ∙ mapped_memory c.arrive.result c.map_err-4.result c.in_err-job.field-0.0 _ c.in_err-job.was c.map_err-4.ensures.cases (λ e p. p)))
+
+pub returns-in_err-ssn-clause-refused : goal.returns-in_err-ssn-clause-refused
+returns-in_err-ssn-clause-refused g c =
+    becomes c.from_residual-in_err-ssn.result _ _ c.from_residual-in_err-ssn.ensures.1 (λ f is. (Memory, tt, is ∙ mapped_memory c.input.result c.map_err-2.result c.in_err-ssn.field-0.0 _ c.in_err-ssn.was c.map_err-2.ensures.cases (λ e p. p)))

@@ -3,8 +3,8 @@ use Rattle.verifier.specs.declared.fault.HeaderFault.TheVariants.{Magic, StateLe
 use Rattle.verifier.proofs.Files.{stops, passes, starts_broken}
 use Rattle.verifier.proofs.header.read_header.Goals as goal
 
-pub returns-then-ne-clause-refused : goal.returns-then-ne-clause-refused
-returns-then-ne-clause-refused c = starts_broken Magic _ _ _ c.header_at.ensures (stops _ _ _ _ (search rules))
+pub returns-in-None-clause-refused : goal.returns-in-None-clause-refused
+returns-in-None-clause-refused c = starts_broken Magic _ _ _ c.header_at.ensures (stops _ _ _ _ (search rules))
 
 pub returns-then-header-gt-STATE_LIMIT-clause-refused : goal.returns-then-header-gt-STATE_LIMIT-clause-refused
 returns-then-header-gt-STATE_LIMIT-clause-refused c =

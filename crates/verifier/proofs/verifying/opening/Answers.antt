@@ -5,9 +5,9 @@ use Rattle.verifier.proofs.verifying.opening.Goals as goal
 pub rest-init : goal.rest-init
 rest-init c =
     let e : c.push.new.self.items ≡ Some c.entry.result ∷ [] = c.in_ok-push.ensures.items ∙ ap (λ l. l ++ Some c.entry.result ∷ []) c.in_ok-table.ensures.items in
-    (ap length e, opening_one c.entry.result c.push.new.self.items c.entry.ensures e)
+    (ap length e, opening_one c.args.form c.entry.result c.push.new.self.items c.entry.ensures e)
 
 pub rest-preserved : goal.rest-preserved
 rest-preserved c =
     let e : c.push-in-rest.new.self.items ≡ c.rest.table.items ++ None ∷ [] = c.in_ok-push-2.ensures.items in
-    (omega (arith, c.in_ok-push-2.ensures.len, c.rest.invariant.0), opening_more c.rest.table.items c.push-in-rest.new.self.items c.rest.invariant.1 e)
+    (omega (arith, c.in_ok-push-2.ensures.len, c.rest.invariant.0), opening_more c.args.form c.rest.table.items c.push-in-rest.new.self.items c.rest.invariant.1 e)

@@ -3,4 +3,4 @@ use Rattle.verifier.specs.Pass.{IsOpening}
 use Rattle.verifier.proofs.verifying.opening.Given as goal
 
 abbrev pub invariant-rest : goal.invariant-rest
-invariant-rest l = (length l.table.items ≡ l.counter) × IsOpening l.table.items
+invariant-rest l = (length l.table.items ≡ l.counter) × IsOpening l.fn.form l.table.items

@@ -1,15 +1,15 @@
-use Rattle.std.proofs.Common.{rules, ◌≡◌, ◌<◌, ◌≤◌, ◌+◌, ◌-◌, arith, subst, sym, ap, ◌∙◌, length, map, slice_index_or}
-use Rattle.std.specs.Prelude.{Some, is_some}
+use Rattle.std.proofs.Common.{rules, ◌≡◌, ◌<◌, ◌≤◌, ◌+◌, ◌-◌, false, arith, subst, sym, ap, ◌∙◌, length, map, slice_index_or}
+use Rattle.std.specs.Prelude.{Some}
 use Rattle.std.specs.Arc.{arc_value}
 use Rattle.std.proofs.lemmas.Grind.{common_steps}
-use Rattle.std.proofs.lemmas.List.{length-set, get_or-map}
+use Rattle.std.proofs.lemmas.List.{length-set, get_or-map, get_or_default}
 use Rattle.helpers.specs.declared.effects.Who.{Who}
 use Rattle.verifier.specs.Typed.{Typed}
-use Rattle.world.specs.Refusals.{one_if}
-use Rattle.machine.specs.Process.{TheProcess, idle_process, received}
+use Rattle.machine.specs.Process.{TheProcess, idle_process}
 use Rattle.machine.specs.Simulation.{TheMachine, process_at}
 use Rattle.machine.specs.Inside.{view_of, AreCarried, IsLogOf, IsSoundAt}
-use Rattle.machine.proofs.Soundness.{sound_at, sound-set}
+use Rattle.machine.specs.Stage.{is_lost, IsNextFor}
+use Rattle.machine.proofs.Soundness.{sound_at, sound-begun, sound-set}
 use Rattle.machine.proofs.machine.Machine.begin.Goals as goal
 
 pub new-requires : goal.new-requires
@@ -24,9 +24,10 @@ new-requires c =
     let image_is : slice_index_or m.images (me - 1) image ≡ image = get_or-map arc_value c.self.inside.images.items (me - 1) c.index.result.now image inside ∙ ap arc_value (sym c.index.ensures) ∙ sym c.in_ok-image.ensures in
     let state_is : c.state.result.now ≡ (process_at m me).state = c.state.ensures ∙ ap (λ (x : TheProcess). x.state) c.process-process.ensures.value ∙ ap (λ (v : TheMachine). (process_at v me).state) (sym c.self.view_is) in
     let few = c.self.invariant.few in
+    let back : is_lost (process_at m me).stage ≡ false = subst (λ (v : TheMachine). is_lost (process_at v me).stage ≡ false) (sym c.self.view_is) c.requires.back in
     let called : TheMachine → Who = λ v. record { me = me; from = c.args.message.sender; count = length v.processes } in
     let who : c.who-who.result ≡ record { me = me; from = c.args.message.sender; count = length m.processes } = c.who-who.ensures ∙ ap called (sym c.self.view_is) in
-    let len : length c.state.result.now ≡ image.len = ap length state_is ∙ (sound_at c.self.inside c.self.invariant me (idle_process 0 0 0) image positive within).state ∙ ap (λ (e : Typed). e.len) image_is in
+    let len : length c.state.result.now ≡ image.len = ap length state_is ∙ (sound_at c.self.inside c.self.invariant me (idle_process 0 0 0) image positive within).state back ∙ ap (λ (e : Typed). e.len) image_is in
     rw who (record { state_len = len; inside = positive; within = within; few = few; sender = sender; other = c.requires.other })
 
 pub invariant_of-self : goal.invariant_of-self
@@ -43,14 +44,11 @@ invariant_of-self c =
     let calls : m.calls < 65536 = subst (λ (v : TheMachine). v.calls < 65536) (sym c.self.view_is) c.requires.calls in
     let here : was ≡ slice_index_or xs (me - 1) was = first_of (search rules, grind (arith, common_steps)) in
     let begins : y ≡ record was { working = Some c.args.message } = first_of (search rules, grind (arith, common_steps)) in
-    let one : one_if (is_some y.working) ≡ 1 = ap (λ (x : TheProcess). one_if (is_some x.working)) begins in
+    let at : was ≡ process_at c.args.self.now me = here ∙ get_or_default xs (me - 1) was (idle_process 0 0 0) (omega (arith, positive, within)) ∙ ap (λ (v : TheMachine). process_at v me) c.self.view_is in
     let sound : (e : Typed) → IsSoundAt (length xs) me (slice_index_or images (me - 1) e).len c.self.inside.calls was = λ e. subst (IsSoundAt (length xs) me (slice_index_or images (me - 1) e).len c.self.inside.calls) (sym here) (sound_at c.self.inside i me was e positive within) in
-    let now : (e : Typed) → IsSoundAt (length xs) me (slice_index_or images (me - 1) e).len (c.self.inside.calls + 1) y = λ e.
-    record {
-      state = ap (λ (x : TheProcess). length x.state) begins ∙ (sound e).state;
-      log = subst (λ (x : TheProcess). IsLogOf (length xs) me x.outbox.log) (sym begins) (sound e).log;
-      begun_by = omega (arith, (sound e).begun_by, ap received begins, one);
-    } in
+    let now : (e : Typed) → IsSoundAt (length xs) me (slice_index_or images (me - 1) e).len (c.self.inside.calls + 1) y =
+    λ e. subst (IsSoundAt (length xs) me (slice_index_or images (me - 1) e).len (c.self.inside.calls + 1)) (sym begins)
+    (sound-begun (length xs) me _ c.self.inside.calls was c.args.message (sound e) (subst (λ (x : TheProcess). IsNextFor x.stage c.args.message) (sym at) c.requires.next)) in
     let len = length-set xs (me - 1) y in
     record {
       some = omega (arith, len, i.some);

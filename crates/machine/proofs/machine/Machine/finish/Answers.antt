@@ -1,191 +1,85 @@
-use Rattle.std.proofs.Common.{rules, ◌≡◌, ◌≢◌, ◌<◌, ◌≤◌, ◌+◌, ◌-◌, ◌∷◌, [], ℕ, suc, arith, subst, sym, ap, ◌∙◌, length, length-append, map, set, slice_index_or, refl, true≢false}
-use Rattle.std.specs.Prelude.{Some, None, is_some}
-use Rattle.std.specs.Arc.{arc_value}
+use Rattle.std.proofs.Common.{◌≡◌, ◌≤◌, length, subst, sym, ap, ◌∙◌, refl, true, false, true≢false, arith}
 use Rattle.std.proofs.lemmas.Bool.{OnTrue_at}
-use Rattle.std.proofs.lemmas.Grind.{common_steps}
-use Rattle.std.proofs.lemmas.List.{get_or_default, length-map, length-set, set-get_or}
-use Rattle.rsn.specs.Receipts.{Received}
-use Rattle.verifier.specs.Typed.{Typed}
-use Rattle.world.specs.declared.message.Message.{Message}
-use Rattle.world.specs.declared.packet.Packet.TheVariants.{Number}
-use Rattle.world.specs.declared.call.Call.TheVariants.{Finish}
-use Rattle.world.specs.declared.answer.Answer.TheVariants.{Committed}
-use Rattle.world.specs.Refusals.{one_if}
-use Rattle.world.specs.World.{World}
-use Rattle.replay.specs.Task.{TheTask, MayCall}
-use Rattle.machine.specs.Process.{TheProcess, idle_process, received, HasSent, Commits}
-use Rattle.machine.specs.Wire.{Puts}
-use Rattle.machine.specs.Simulation.{TheMachine, Stands, Steps, process_at}
-use Rattle.machine.specs.Inside.{AreCarried, IsLogOf, IsSoundAt}
-use Rattle.machine.specs.Arrival.{IsOpen}
+use Rattle.replay.specs.Task.{TheTask}
 use Rattle.machine.specs.Jobs.{Matches, HaveSlots}
-use Rattle.machine.proofs.JobLemmas.{opens, matches}
-use Rattle.machine.proofs.Soundness.{sound_at, sound-set}
-use Rattle.machine.proofs.Keeping.{carried-put, keys-put}
-use Rattle.machine.proofs.Committing.{committed, is_open}
+use Rattle.machine.specs.Simulation.{TheMachine, is_up_at}
+use Rattle.machine.proofs.JobLemmas.{matches}
 use Rattle.machine.proofs.machine.Machine.finish.Goals as goal
-use Rattle.machine.proofs.machine.Machine.finish.Goals.{Else-not-is_open}
-
-sizes : (c : Else-not-is_open) → length c.args.self.now.images ≡ length c.args.self.now.processes
-sizes c = subst (λ (v : TheMachine). length v.images ≡ length v.processes) c.self.view_is (length-map c.self.inside.images.items arc_value ∙ c.self.invariant.images)
-
--- the task is that of the open job
-matched : (c : Else-not-is_open) → Matches c.args.self.now c.args.done
-matched c = subst (Matches c.args.self.now) c.task-task.ensures (c.is_open.ensures.matches.0 c.if-not-is_open.false)
-
-slotted : (c : Else-not-is_open) → HaveSlots c.args.self.now c.args.done
-slotted c = subst (HaveSlots c.args.self.now) c.task-task.ensures (OnTrue_at c.if-not-is_open.false c.is_open.ensures.slots)
-
--- its process is sound
-sound : (c : Else-not-is_open) → (e : Typed) → IsSoundAt (length c.args.self.now.processes) c.args.done.who.me (slice_index_or c.args.self.now.images (c.args.done.who.me - 1) e).len c.args.self.now.calls (process_at c.args.self.now c.args.done.who.me)
-sound c e =
-    let me = c.args.done.who.me in
-    let k = matched c in
-    let P : TheMachine → Type 0 = λ v. me ≤ length v.processes → IsSoundAt (length v.processes) me (slice_index_or v.images (me - 1) e).len v.calls (process_at v me) in
-    subst P c.self.view_is (λ within. sound_at c.self.inside c.self.invariant me (idle_process 0 0 0) e k.inside within) k.within
-
--- the message that it works on is one of its calls
-room : (c : Else-not-is_open) → received (process_at c.args.self.now c.args.done.who.me) + 1 ≤ c.args.self.now.calls
-room c =
-    let x = process_at c.args.self.now c.args.done.who.me in
-    let one : one_if (is_some x.working) ≡ 1 = ap (λ o. one_if (is_some o)) (matched c).message in
-    omega (arith, (sound c c.args.done.image).begun_by, one)
-
-moved : (P : TheMachine → ℕ → ℕ → Type 0) {u v : TheMachine} {p q r n : ℕ} → u ≡ v → p ≡ q → r ≡ n → P v q n → P u p r
-moved P {u} {v} {p} {q} {r} {n} e f g x = subst (λ z. P z p r) (sym e) (subst (λ z. P v z r) (sym f) (subst (P v q) (sym g) x))
 
 pub returns-then-not-is_open-clause-step : goal.returns-then-not-is_open-clause-step
 returns-then-not-is_open-clause-step c =
     let m = c.args.self.now in
-    let sizes : length m.images ≡ length m.processes = subst (λ (v : TheMachine). length v.images ≡ length v.processes) c.self.view_is (length-map c.self.inside.images.items arc_value ∙ c.self.invariant.images) in
-    let none : Matches m c.args.done → ⊥ = λ k. true≢false (sym (c.is_open.ensures.matches.1 (subst (Matches m) (sym c.task-task.ensures) k)) ∙ c.if-not-is_open.true) in
-    (refl, refl, λ w s o. none (matches m c.args.done w s sizes o))
-
-pub commit-requires-clause-room : goal.commit-requires-clause-room
-commit-requires-clause-room c =
-    let g = (goal.at.commit-requires-clause-room c).Else-not-is_open in
     let t = c.args.done in
-    let p = c.who-me.result.me in
-    let p_is : p ≡ t.who.me = ap (λ z. z.me) c.who-me.ensures.value ∙ ap (λ (z : TheTask). z.who.me) c.task-task.ensures in
-    let was = c.index_mut-process.result.now in
-    let xs = c.self.inside.processes.items in
-    let k = matched g in
-    let within : p ≤ length xs = subst (λ (v : TheMachine). p ≤ length v.processes) (sym c.self.view_is) (omega (arith, p_is, k.within)) in
-    let inside : p - 1 < length xs = omega (arith, p_is, k.inside, within) in
-    let here : was ≡ slice_index_or xs (p - 1) was = first_of (search rules, grind (arith, common_steps)) in
-    let at : was ≡ process_at c.args.self.now t.who.me = here ∙ get_or_default xs (p - 1) was (idle_process 0 0 0) inside ∙ ap (λ (v : TheMachine). process_at v p) c.self.view_is ∙ ap (process_at c.args.self.now) p_is in
-    omega (arith, room g, ap received at, c.requires)
+    let task_is = c.task-task.ensures in
+    let none : Matches m t → ⊥ = λ k. true≢false (sym (c.is_open.ensures.matches.1 (subst (Matches m) (sym task_is) k)) ∙ c.if-not-is_open.true) in
+    (refl, refl, λ w s o. none (matches m t w s o))
 
-pub invariant_of-self : goal.invariant_of-self
-invariant_of-self c =
-    let p = c.who-me.result.me in
-    let xs = c.self.inside.processes.items in
-    let was = c.index_mut-process.result.now in
-    let here : was ≡ slice_index_or xs (p - 1) was = first_of (search rules, grind (arith, common_steps)) in
-    let undone : c.commit.new.self ≡ slice_index_or xs (p - 1) was = first_of (search rules, grind (arith, common_steps)) in
-    let kept : set xs (p - 1) c.commit.new.self ≡ xs = ap (set xs (p - 1)) undone ∙ set-get_or xs (p - 1) was in
-    let wire : c.commit.new.wire ≡ c.self.inside.wire = first_of (search rules, grind (arith, common_steps)) in
-    let i = c.self.invariant in
-    let len = ap length kept in
-    record {
-      some = omega (arith, len, i.some);
-      few = omega (arith, len, i.few);
-      images = i.images ∙ sym len;
-      processes = subst (λ zs. (q : ℕ) (d : TheProcess) (e : Typed) → q < length zs → IsSoundAt (length zs) (suc q) (slice_index_or (map arc_value c.self.inside.images.items) q e).len c.self.inside.calls (slice_index_or zs q d)) (sym kept) i.processes;
-      outside = subst (λ n. IsLogOf n 0 c.self.inside.outside.log) (sym len) i.outside;
-      calls = i.calls;
-      started = i.started;
-      inputs = i.inputs;
-      shown = i.shown;
-      wire = subst (λ ws. AreCarried ws (length (set xs (p - 1) c.commit.new.self))) (sym wire) (subst (AreCarried c.self.inside.wire) (sym len) i.wire);
-      keys = subst (λ ws. (key : ℕ) → 4096 ≤ key → slice_index_or ws key None ≡ None) (sym wire) i.keys;
-    }
-
-pub returns-in_default-clause-step : goal.returns-in_default-clause-step
-returns-in_default-clause-step c =
-    let g = (goal.at.returns-in_default-clause-step c).Else-not-is_open in (
-      refl,
-      first_of (search (rules, set-get_or), grind (arith, common_steps, set-get_or)),
-      λ w s. opens c.args.self.now c.args.done w s (sizes g) (matched g),
-    )
-
-pub invariant_of-self-2 : goal.invariant_of-self-2
-invariant_of-self-2 c =
-    let g = (goal.at.invariant_of-self-2 c).Else-not-is_open in
-    let t = c.args.done in
-    let i = c.self.invariant in
-    let xs = c.self.inside.processes.items in
-    let images = map arc_value c.self.inside.images.items in
-    let y = c.commit.new.self in
-    let was = c.index_mut-process.result.now in
-    let k = matched g in
-    let commits = c.in-Ok.ensures.process in
-    let p = c.who-me.result.me in
-    let p_is : p ≡ t.who.me = ap (λ z. z.me) c.who-me.ensures.value ∙ ap (λ (z : TheTask). z.who.me) c.task-task.ensures in
-    let positive : 0 < p = omega (arith, p_is, k.inside) in
-    let within : p ≤ length xs = subst (λ (v : TheMachine). p ≤ length v.processes) (sym c.self.view_is) (omega (arith, p_is, k.within)) in
-    let here : was ≡ slice_index_or xs (p - 1) was = first_of (search rules, grind (arith, common_steps)) in
-    let same : length y.state ≡ length was.state = first_of (search rules, grind (arith, common_steps)) in
-    let more : received y ≡ received was + 1 = ap (λ (r : Received). length r.senders) commits.receipts ∙ length-append was.receipts.senders (t.message.sender ∷ []) in
-    let sound : (e : Typed) → IsSoundAt (length xs) p (slice_index_or images (p - 1) e).len c.self.inside.calls was = λ e. subst (IsSoundAt (length xs) p (slice_index_or images (p - 1) e).len c.self.inside.calls) (sym here) (sound_at c.self.inside i p was e positive within) in
-    let idle : one_if (is_some y.working) ≡ 0 = ap (λ o. one_if (is_some o)) commits.working in
-    let now : (e : Typed) → IsSoundAt (length xs) p (slice_index_or images (p - 1) e).len (c.self.inside.calls + 1) y = λ e.
-    record {
-      state = same ∙ (sound e).state;
-      log = record { owner = commits.outbox.owner ∙ (sound e).log.owner; width = commits.outbox.width ∙ (sound e).log.width };
-      begun_by = omega (arith, (sound e).begun_by, more, idle);
-    } in
-    let len = length-set xs (p - 1) y in
-    let may : MayCall t.image t.state t.who = subst (λ (z : TheTask). MayCall z.image z.state z.who) c.task-task.ensures c.who-me.ensures.callable in
-    let sender_is : c.message-message.result.sender ≡ t.message.sender = ap (λ (z : Message). z.sender) c.message-message.ensures ∙ ap (λ (z : TheTask). z.message.sender) c.task-task.ensures in
-    let count : length c.args.self.now.processes ≡ length xs = ap (λ (v : TheMachine). length v.processes) (sym c.self.view_is) in
-    let from : c.message-message.result.sender ≤ length xs = omega (arith, sender_is, k.from, k.count, count, may.sender) in
-    let other : c.message-message.result.sender ≢ p = λ e. may.other (k.from ∙ sym sender_is ∙ e ∙ p_is) in
-    let rsn_is : c.rsn-rsn.result ≡ t.rsn = c.rsn-rsn.ensures ∙ ap (λ (z : TheTask). z.rsn) c.task-task.ensures in
-    let first : 0 < c.rsn-rsn.result = omega (arith, rsn_is, k.rsn) in
-    let puts = c.in-Ok.ensures.wire.1 in
-    record {
-      some = omega (arith, len, i.some);
-      few = omega (arith, len, i.few);
-      images = i.images ∙ sym len;
-      processes = sound-set xs images p c.self.inside.calls y positive within i.processes now;
-      outside = subst (λ n. IsLogOf n 0 c.self.inside.outside.log) (sym len) i.outside;
-      calls = subst (λ (v : TheMachine). v.calls + 1 ≤ 65537) (sym c.self.view_is) (omega (arith, c.requires));
-      started = omega (arith, i.started);
-      inputs = λ d. omega (arith, i.inputs d);
-      shown = omega (arith, i.shown);
-      wire = subst (AreCarried c.commit.new.wire) (sym len) (carried-put c.self.inside.wire c.commit.new.wire c.in-Ok.key None _ puts (length xs) (positive, within, from, other, first) i.wire);
-      keys = keys-put c.self.inside.wire c.commit.new.wire c.in-Ok.key None _ puts c.in-Ok.ensures.wire.0 i.keys;
-    }
-
-pub returns-clause-step : goal.returns-clause-step
-returns-clause-step c =
-    let g = (goal.at.returns-clause-step c).Else-not-is_open in
+pub is_up-requires : goal.is_up-requires
+is_up-requires c =
     let m = c.args.self.now in
     let t = c.args.done in
-    let y = c.commit.new.self in
-    let slots = c.commit.new.wire in
-    let was = c.index_mut-process.result.now in
-    let k = matched g in
     let task_is = c.task-task.ensures in
-    let p = c.who-me.result.me in
-    let p_is : p ≡ t.who.me = ap (λ z. z.me) c.who-me.ensures.value ∙ ap (λ (z : TheTask). z.who.me) task_is in
-    let message_is : c.message-message.result ≡ t.message = c.message-message.ensures ∙ ap (λ (z : TheTask). z.message) task_is in
-    let rsn_is : c.rsn-rsn.result ≡ t.rsn = c.rsn-rsn.ensures ∙ ap (λ (z : TheTask). z.rsn) task_is in
-    let incarnation_is : c.incarnation.result ≡ t.incarnation = c.incarnation.ensures ∙ ap (λ (z : TheTask). z.incarnation) task_is in
-    let xs = c.self.inside.processes.items in
-    let within : p ≤ length xs = subst (λ (v : TheMachine). p ≤ length v.processes) (sym c.self.view_is) (omega (arith, p_is, k.within)) in
-    let inside : p - 1 < length xs = omega (arith, p_is, k.inside, within) in
-    let here : was ≡ slice_index_or xs (p - 1) was = first_of (search rules, grind (arith, common_steps)) in
-    let at : was ≡ process_at m t.who.me = here ∙ get_or_default xs (p - 1) was (idle_process 0 0 0) inside ∙ ap (λ (v : TheMachine). process_at v p) c.self.view_is ∙ ap (process_at m) p_is in
-    let commits : Commits t (process_at m t.who.me) y = subst (λ (z : TheProcess). Commits t z y) at c.in-Ok.ensures.process in
-    let sent : HasSent (process_at m t.who.me) = subst HasSent at c.in-Ok.ensures.sent in
-    let wire : c.self.inside.wire ≡ m.slots = ap (λ (v : TheMachine). v.slots) c.self.view_is in
-    let puts : Puts m.slots slots c.in-Ok.key None (Some (Number t.who.me t.message.sender t.message.ssn t.rsn t.incarnation)) =
-    subst (λ ws. Puts ws slots c.in-Ok.key None (Some (Number t.who.me t.message.sender t.message.ssn t.rsn t.incarnation))) wire
-    (subst (λ k. Puts c.self.inside.wire slots c.in-Ok.key None (Some k)) (λ i. Number (p_is i) (message_is i).sender (message_is i).ssn (rsn_is i) (incarnation_is i)) c.in-Ok.ensures.wire.1) in
-    let P : TheMachine → ℕ → ℕ → Type 0 = λ v p r. (w : World) → Stands m w → IsOpen m.images t w × Steps m (record v { processes = set v.processes (p - 1) y; slots = slots; calls = c.self.inside.calls + 1 }) 0 (Finish t.who.me) (Committed r c.in-Ok.key) w in
-    moved P c.self.view_is p_is rsn_is (λ w s. (
-      is_open m w s t k c.in-Ok.ensures.answer (sizes g) (slotted g) y commits,
-      committed m w s t k c.in-Ok.ensures.answer (sizes g) (slotted g) y commits (sound g t.image).log sent c.in-Ok.key (c.self.inside.calls + 1) slots c.in-Ok.ensures.wire.0 puts,
-    ))
+    let k : Matches m t = subst (Matches m) task_is (c.is_open.ensures.matches.0 c.if-not-is_open.false) in
+    let slots : HaveSlots m t = subst (HaveSlots m) task_is (OnTrue_at c.if-not-is_open.false c.is_open.ensures.slots) in
+    let me_is : c.process.result ≡ t.who.me = c.process.ensures ∙ ap (λ (z : TheTask). z.who.me) task_is in
+    omega (arith, me_is, k.within)
+
+pub commit-requires-clause-matches : goal.commit-requires-clause-matches
+commit-requires-clause-matches c =
+    let m = c.args.self.now in
+    let t = c.args.done in
+    let task_is = c.task-task.ensures in
+    let k : Matches m t = subst (Matches m) task_is (c.is_open.ensures.matches.0 c.if-not-is_open.false) in
+    let slots : HaveSlots m t = subst (HaveSlots m) task_is (OnTrue_at c.if-not-is_open.false c.is_open.ensures.slots) in
+    let me_is : c.process.result ≡ t.who.me = c.process.ensures ∙ ap (λ (z : TheTask). z.who.me) task_is in
+    k
+
+pub commit-requires-clause-slots : goal.commit-requires-clause-slots
+commit-requires-clause-slots c =
+    let m = c.args.self.now in
+    let t = c.args.done in
+    let task_is = c.task-task.ensures in
+    let k : Matches m t = subst (Matches m) task_is (c.is_open.ensures.matches.0 c.if-not-is_open.false) in
+    let slots : HaveSlots m t = subst (HaveSlots m) task_is (OnTrue_at c.if-not-is_open.false c.is_open.ensures.slots) in
+    let me_is : c.process.result ≡ t.who.me = c.process.ensures ∙ ap (λ (z : TheTask). z.who.me) task_is in
+    slots
+
+pub commit-requires-clause-up : goal.commit-requires-clause-up
+commit-requires-clause-up c =
+    let m = c.args.self.now in
+    let t = c.args.done in
+    let task_is = c.task-task.ensures in
+    let k : Matches m t = subst (Matches m) task_is (c.is_open.ensures.matches.0 c.if-not-is_open.false) in
+    let slots : HaveSlots m t = subst (HaveSlots m) task_is (OnTrue_at c.if-not-is_open.false c.is_open.ensures.slots) in
+    let me_is : c.process.result ≡ t.who.me = c.process.ensures ∙ ap (λ (z : TheTask). z.who.me) task_is in
+    ap (is_up_at m) (sym me_is) ∙ sym c.is_up.ensures ∙ c.if-is_up.true
+
+pub recall-requires-clause-matches : goal.recall-requires-clause-matches
+recall-requires-clause-matches c =
+    let m = c.args.self.now in
+    let t = c.args.done in
+    let task_is = c.task-task.ensures in
+    let k : Matches m t = subst (Matches m) task_is (c.is_open.ensures.matches.0 c.if-not-is_open.false) in
+    let slots : HaveSlots m t = subst (HaveSlots m) task_is (OnTrue_at c.if-not-is_open.false c.is_open.ensures.slots) in
+    let me_is : c.process.result ≡ t.who.me = c.process.ensures ∙ ap (λ (z : TheTask). z.who.me) task_is in
+    k
+
+pub recall-requires-clause-slots : goal.recall-requires-clause-slots
+recall-requires-clause-slots c =
+    let m = c.args.self.now in
+    let t = c.args.done in
+    let task_is = c.task-task.ensures in
+    let k : Matches m t = subst (Matches m) task_is (c.is_open.ensures.matches.0 c.if-not-is_open.false) in
+    let slots : HaveSlots m t = subst (HaveSlots m) task_is (OnTrue_at c.if-not-is_open.false c.is_open.ensures.slots) in
+    let me_is : c.process.result ≡ t.who.me = c.process.ensures ∙ ap (λ (z : TheTask). z.who.me) task_is in
+    slots
+
+pub recall-requires-clause-down : goal.recall-requires-clause-down
+recall-requires-clause-down c =
+    let m = c.args.self.now in
+    let t = c.args.done in
+    let task_is = c.task-task.ensures in
+    let k : Matches m t = subst (Matches m) task_is (c.is_open.ensures.matches.0 c.if-not-is_open.false) in
+    let slots : HaveSlots m t = subst (HaveSlots m) task_is (OnTrue_at c.if-not-is_open.false c.is_open.ensures.slots) in
+    let me_is : c.process.result ≡ t.who.me = c.process.ensures ∙ ap (λ (z : TheTask). z.who.me) task_is in
+    ap (is_up_at m) (sym me_is) ∙ sym c.is_up.ensures ∙ c.if-is_up.false

@@ -13,7 +13,7 @@ judge-requires-clause-sender c = omega (arith, c.process.ensures.few, c.requires
 
 pub returns-then-to-gt0-clause-verdict : goal.returns-then-to-gt0-clause-verdict
 returns-then-to-gt0-clause-verdict c =
-    λ w s. rw (c.judge.ensures, c.receipts.ensures, c.process.ensures.value) (judged_at c.args.self.now w s c.args.to c.args.message.now c.if-to-gt0.true c.requires.to c.requires.from.1)
+    λ w s. rw (c.judge.ensures, c.receipts.ensures, c.process.ensures.value) (judged_at c.args.self.now w s c.args.to c.args.message.now c.if-to-gt0.true c.requires.to c.requires.up c.requires.from.1)
 
 -- the outside judges by what it was shown
 judges : (c : After-shown_of-shown) → (w : World) → Stands c.args.self.now w → judge w c.args.to c.args.message.now ≡ verdict_of c.shown_of-shown.result c.args.message.now.ssn

@@ -1,13 +1,14 @@
-use Rattle.std.proofs.Common.{arith, ◌≡◌, ◌+◌, subst, sym, ap, ◌∙◌, slice_index_or, length}
+use Rattle.std.proofs.Common.{arith, ◌≡◌, ◌+◌, subst, sym, ap, ◌∙◌, slice_index_or, length, true}
 use Rattle.std.specs.Prelude.{Some, None, Err}
 use Rattle.world.specs.declared.packet.Packet.TheVariants.{Number, Acknowledgement}
 use Rattle.world.specs.declared.call.Call.TheVariants.{Arrive}
 use Rattle.world.specs.declared.answer.Answer.TheVariants.{Numbered, Stale}
+use Rattle.world.specs.Answers.{target_of}
 use Rattle.machine.specs.Process.{TheProcess}
 use Rattle.machine.specs.Wire.{Puts}
 use Rattle.machine.specs.Inside.{IsCarried}
 use Rattle.machine.specs.Arriving.{Drops}
-use Rattle.machine.specs.Simulation.{TheMachine, Steps, process_at}
+use Rattle.machine.specs.Simulation.{TheMachine, Steps, process_at, is_up_at}
 use Rattle.machine.proofs.Arrivals.{number-past, number-unlogged, noted, records-else}
 use Rattle.machine.proofs.Keeping.{later, carried-put, keys-put}
 use Rattle.machine.proofs.Standing.{key-low}
@@ -22,10 +23,11 @@ returns-then-incarnation-clause-step c w s =
     let slots = c.drop_packet.new.self.slots in
     let carried : IsCarried (length m.processes) (Number n.receiver n.sender n.ssn n.rsn n.incarnation) = subst (IsCarried (length m.processes)) n.is c.requires.may.carried in
     let found : slice_index_or m.slots c.args.key None ≡ Some (Number n.receiver n.sender n.ssn n.rsn n.incarnation) = c.requires.may.found ∙ ap Some n.is in
+    let up : is_up_at m n.sender ≡ true = subst (λ k. is_up_at m (target_of k) ≡ true) n.is c.requires.may.up in
     let puts : Puts m.slots slots c.args.key (Some (Number n.receiver n.sender n.ssn n.rsn n.incarnation)) None = subst (λ was. Puts m.slots slots c.args.key was None) found d.wire in
     let present : c.incarnation.result ≡ (process_at m n.receiver).incarnation = c.incarnation.ensures ∙ ap (λ (z : TheProcess). z.incarnation) c.process.ensures.value in
     subst (λ v. Steps m v c.args.room (Arrive c.args.key) Stale w) (sym d.others)
-    (number-past m w s c.args.room c.args.key n.receiver n.sender n.ssn n.rsn n.incarnation (m.calls + 1) slots (c.requires.may.accepted w s) found carried.0 carried.1 carried.2 carried.3 puts (λ e. c.if-incarnation.true (e ∙ sym present)))
+    (number-past m w s c.args.room c.args.key n.receiver n.sender n.ssn n.rsn n.incarnation (m.calls + 1) slots (c.requires.may.accepted w s) found carried.0 carried.1 carried.2 carried.3 up puts (λ e. c.if-incarnation.true (e ∙ sym present)))
 
 pub returns-in-Err-NotLogged-clause-step : goal.returns-in-Err-NotLogged-clause-step
 returns-in-Err-NotLogged-clause-step c w s =
@@ -35,9 +37,10 @@ returns-in-Err-NotLogged-clause-step c w s =
     let slots = c.drop_packet-in-Err-NotLogged.new.self.slots in
     let carried : IsCarried (length m.processes) (Number n.receiver n.sender n.ssn n.rsn n.incarnation) = subst (IsCarried (length m.processes)) n.is c.requires.may.carried in
     let found : slice_index_or m.slots c.args.key None ≡ Some (Number n.receiver n.sender n.ssn n.rsn n.incarnation) = c.requires.may.found ∙ ap Some n.is in
+    let up : is_up_at m n.sender ≡ true = subst (λ k. is_up_at m (target_of k) ≡ true) n.is c.requires.may.up in
     let puts : Puts m.slots slots c.args.key (Some (Number n.receiver n.sender n.ssn n.rsn n.incarnation)) None = subst (λ was. Puts m.slots slots c.args.key was None) found d.wire in
     subst (λ v. Steps m v c.args.room (Arrive c.args.key) Stale w) (sym d.others)
-    (number-unlogged m w s c.args.room c.args.key n.receiver n.sender n.ssn n.rsn n.incarnation (m.calls + 1) slots (c.requires.may.accepted w s) found carried.0 carried.1 carried.2 carried.3 puts (c.record.ensures.cause.0 (c.in-Err-NotLogged.is ∙ ap Err c.in-Err-NotLogged.field-0-is)))
+    (number-unlogged m w s c.args.room c.args.key n.receiver n.sender n.ssn n.rsn n.incarnation (m.calls + 1) slots (c.requires.may.accepted w s) found carried.0 carried.1 carried.2 carried.3 up puts (c.record.ensures.cause.0 (c.in-Err-NotLogged.is ∙ ap Err c.in-Err-NotLogged.field-0-is)))
 
 pub invariant_of-self : goal.invariant_of-self
 invariant_of-self c =
@@ -49,6 +52,7 @@ invariant_of-self c =
     let count = length c.self.inside.processes.items in
     let carried : IsCarried (length m.processes) (Number n.receiver n.sender n.ssn n.rsn n.incarnation) = subst (IsCarried (length m.processes)) n.is c.requires.may.carried in
     let found : slice_index_or m.slots c.args.key None ≡ Some (Number n.receiver n.sender n.ssn n.rsn n.incarnation) = c.requires.may.found ∙ ap Some n.is in
+    let up : is_up_at m n.sender ≡ true = subst (λ k. is_up_at m (target_of k) ≡ true) n.is c.requires.may.up in
     let wire : c.self.inside.wire ≡ m.slots = ap (λ (u : TheMachine). u.slots) c.self.view_is ∙ else.0 in
     let many : length m.processes ≡ count = sym (ap (λ (u : TheMachine). length u.processes) c.self.view_is ∙ else.2) in
     let calls : c.self.inside.calls ≡ m.calls = ap (λ (u : TheMachine). u.calls) c.self.view_is ∙ else.1 in
@@ -78,6 +82,7 @@ returns-in-Ok-clause-step c w s =
     let counted : c.self.inside.calls + 1 ≡ m.calls + 1 = ap (λ (u : TheMachine). u.calls + 1) c.self.view_is ∙ ap (λ k. k + 1) else.1 in
     let carried : IsCarried (length m.processes) (Number n.receiver n.sender n.ssn n.rsn n.incarnation) = subst (IsCarried (length m.processes)) n.is c.requires.may.carried in
     let found : slice_index_or m.slots c.args.key None ≡ Some (Number n.receiver n.sender n.ssn n.rsn n.incarnation) = c.requires.may.found ∙ ap Some n.is in
+    let up : is_up_at m n.sender ≡ true = subst (λ k. is_up_at m (target_of k) ≡ true) n.is c.requires.may.up in
     let wire : c.self.inside.wire ≡ m.slots = ap (λ (u : TheMachine). u.slots) c.self.view_is ∙ else.0 in
     let low = key-low c.self.inside.wire c.args.key _ c.self.invariant.keys (ap (λ ws. slice_index_or ws c.args.key None) wire ∙ found) in
     let tells = Acknowledgement n.sender n.receiver n.rsn n.incarnation in
@@ -86,4 +91,4 @@ returns-in-Ok-clause-step c w s =
     let present : n.incarnation ≡ (process_at m n.receiver).incarnation = c.if-incarnation.false ∙ c.incarnation.ensures ∙ ap (λ (z : TheProcess). z.incarnation) c.process.ensures.value in
     let P : TheMachine → Type 0 = λ u. Steps m (record u { slots = slots; calls = calls }) c.args.room (Arrive c.args.key) (Numbered c.args.key) w in
     subst P (sym c.self.view_is)
-    (noted m w s c.args.room c.args.key n.receiver n.sender n.ssn n.rsn n.incarnation calls slots (c.requires.may.accepted w s) found carried.0 carried.1 carried.2 carried.3 present c.in-Ok.ensures.logged low puts v c.in-Ok.ensures.ok)
+    (noted m w s c.args.room c.args.key n.receiver n.sender n.ssn n.rsn n.incarnation calls slots (c.requires.may.accepted w s) found carried.0 carried.1 carried.2 carried.3 up present c.in-Ok.ensures.logged low puts v c.in-Ok.ensures.ok)

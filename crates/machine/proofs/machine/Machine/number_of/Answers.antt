@@ -8,7 +8,7 @@ use Rattle.machine.proofs.machine.Machine.number_of.Goals as goal
 
 pub returns-in-Duplicate-clause-value : goal.returns-in-Duplicate-clause-value
 returns-in-Duplicate-clause-value c =
-    λ w s. ap known_as (rw (c.receipts.ensures, c.process.ensures.value) at c.in-Duplicate.ensures) ∙ sym (number-is c.args.self.now w s c.args.from c.args.to c.requires.inside.0 c.requires.inside.1 c.args.ssn c.requires.ssn)
+    λ w s. ap known_as (rw (c.receipts.ensures, c.process.ensures.value) at c.in-Duplicate.ensures) ∙ sym (number-is c.args.self.now w s c.args.from c.args.to c.requires.inside.0 c.requires.inside.1 c.requires.up c.args.ssn c.requires.ssn)
 
 pub returns-in-Duplicate-clause-bound : goal.returns-in-Duplicate-clause-bound
 returns-in-Duplicate-clause-bound c =
@@ -22,6 +22,6 @@ none Early other = refl
 pub returns-in_default : goal.returns-in_default
 returns-in_default c =
     record {
-      value = λ w s. none c.judge.result c.in_default.not-Duplicate ∙ ap known_as (rw (c.receipts.ensures, c.process.ensures.value) at c.judge.ensures) ∙ sym (number-is c.args.self.now w s c.args.from c.args.to c.requires.inside.0 c.requires.inside.1 c.args.ssn c.requires.ssn);
+      value = λ w s. none c.judge.result c.in_default.not-Duplicate ∙ ap known_as (rw (c.receipts.ensures, c.process.ensures.value) at c.judge.ensures) ∙ sym (number-is c.args.self.now w s c.args.from c.args.to c.requires.inside.0 c.requires.inside.1 c.requires.up c.args.ssn c.requires.ssn);
       bound = tt;
     }

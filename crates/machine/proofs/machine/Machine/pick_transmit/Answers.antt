@@ -1,9 +1,10 @@
-use Rattle.std.proofs.Common.{◌≡◌, ◌<◌, ◌≤◌, ◌+◌, ℕ, Bool, true, false, arith, refl, sym, ap, ◌∙◌, subst, true≢false, slice_index_or}
+use Rattle.std.proofs.Common.{rules, ◌≡◌, length, ◌<◌, ◌≤◌, ◌+◌, ℕ, Bool, true, false, arith, refl, sym, ap, ◌∙◌, subst, true≢false, slice_index_or}
 use Rattle.std.specs.Prelude.{◌==◌, None, is_some}
 use Rattle.std.proofs.lemmas.Bool.Decides.{nat_tests}
+use Rattle.std.proofs.lemmas.Grind.{common_steps}
 use Rattle.machine.specs.Simulation.{TheMachine}
 use Rattle.machine.specs.Picking.{ArePeers, NoneWanted}
-use Rattle.machine.proofs.Picks.{pick-placed, useful-pick, none-is}
+use Rattle.machine.proofs.Picks.{pick-peers, pick-placed, useful-pick, none-is}
 use Rattle.machine.proofs.machine.Machine.pick_transmit.Goals as goal
 
 pub returns-then-is_some-clause-none : goal.returns-then-is_some-clause-none
@@ -26,3 +27,11 @@ more m n here below p d h false e = below p d (grind (arith, nat_tests))
 pub loop-from-preserved : goal.loop-from-preserved
 loop-from-preserved c =
     λ p d h. more c.args.self.now c.loop-from.from c.in_default.ensures.none c.loop-from.invariant p d h (c.loop-from.from == p) refl
+
+pub returns-clause-none : goal.returns-clause-none
+returns-clause-none c =
+    let all : length c.args.self.now.processes < c.loop-from.from = first_of (search rules, grind (arith, common_steps)) in
+    λ w s p d i k. (
+    let peers = pick-peers c.args.self.now w s c.args.room p d i k in
+    c.loop-from.invariant p d (omega (arith, peers.from_within, all)) peers w s i k.useful
+    )

@@ -49,7 +49,7 @@ returns-in-Early-clause-step c w s =
     let slots = c.drop_packet.new.self.slots in
     let puts : Puts m.slots slots c.args.key (Some (Delivery c.args.to c.args.message)) None = subst (λ was. Puts m.slots slots c.args.key was None) c.requires.may.found d.wire in
     subst (λ v. Steps m v c.args.room (Arrive c.args.key) Early w) (sym d.others)
-    (early m w s c.args.room c.args.key c.args.to (m.calls + 1) c.args.message slots (c.requires.may.accepted w s) c.requires.may.found c.requires.may.carried.0 puts (c.in-Early.ensures.verdict w s))
+    (early m w s c.args.room c.args.key c.args.to (m.calls + 1) c.args.message slots (c.requires.may.accepted w s) c.requires.may.found c.requires.may.carried.0 c.requires.may.up puts (c.in-Early.ensures.verdict w s))
 
 pub returns-in-Duplicate-clause-step : goal.returns-in-Duplicate-clause-step
 returns-in-Duplicate-clause-step c w s =
@@ -66,7 +66,7 @@ returns-in-Duplicate-clause-step c w s =
     subst (λ was. Puts m.slots slots c.args.key was (Some number)) c.requires.may.found (subst (λ ws. Puts ws slots c.args.key (slice_index_or ws c.args.key None) (Some number)) wire c.replace.ensures) in
     let P : TheMachine → Type 0 = λ v. Steps m (record v { slots = slots; calls = v.calls + 1 }) c.args.room (Arrive c.args.key) (Duplicate c.args.key) w in
     subst P (sym c.self.view_is)
-    (again m w s c.args.room c.args.key to (m.calls + 1) x slots (c.requires.may.accepted w s) c.requires.may.found c.requires.may.carried.0 c.requires.to verdict.0 c.in-Duplicate.rsn c.incarnation.result (verdict.1 c.requires.to) incarnation low puts)
+    (again m w s c.args.room c.args.key to (m.calls + 1) x slots (c.requires.may.accepted w s) c.requires.may.found c.requires.may.carried.0 c.requires.may.up c.requires.to verdict.0 c.in-Duplicate.rsn c.incarnation.result (verdict.1 c.requires.to) incarnation low puts)
 
 pub returns-in_ok-job-in-Next-clause-step : goal.returns-in_ok-job-in-Next-clause-step
 returns-in_ok-job-in-Next-clause-step c w s =
@@ -81,7 +81,7 @@ returns-in_ok-job-in-Next-clause-step c w s =
     subst (λ was. Puts m.slots slots c.args.key was None) c.requires.may.found (subst (λ ws. Puts ws slots c.args.key (slice_index_or ws c.args.key None) None) wire c.remove.ensures) in
     let P : TheMachine → Type 0 = λ v. Steps m (record v { slots = slots }) c.args.room (Arrive c.args.key) (Started c.in_ok-job-in-Next.job.serial) w in
     subst P (sym is)
-    (started m w s c.args.room c.args.key to (m.calls + 1) x slots (c.requires.may.accepted w s) c.requires.may.found c.requires.may.carried.0 c.requires.to (c.in-Next.ensures.verdict w s) puts c.in_ok-job-in-Next.job.serial b.serial)
+    (started m w s c.args.room c.args.key to (m.calls + 1) x slots (c.requires.may.accepted w s) c.requires.may.found c.requires.may.carried.0 c.requires.may.up c.requires.to (c.in-Next.ensures.verdict w s) puts c.in_ok-job-in-Next.job.serial b.serial)
 
 pub returns-in_ok-job-in-Next-clause-job : goal.returns-in_ok-job-in-Next-clause-job
 returns-in_ok-job-in-Next-clause-job c =

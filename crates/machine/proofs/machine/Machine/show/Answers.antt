@@ -63,4 +63,4 @@ returns-in-Early-clause-step c w s =
     let slots = c.drop_packet-in-Early.new.self.slots in
     let puts : Puts m.slots slots c.args.key (Some (Delivery 0 c.args.message)) None = subst (λ was. Puts m.slots slots c.args.key was None) c.requires.found d.wire in
     subst (λ v. Steps m v c.args.room (Arrive c.args.key) Early w) (sym d.others)
-    (early m w s c.args.room c.args.key 0 (m.calls + 1) c.args.message slots (c.requires.accepted w s) c.requires.found (omega arith) puts (c.in-Early.ensures.verdict w s))
+    (early m w s c.args.room c.args.key 0 (m.calls + 1) c.args.message slots (c.requires.accepted w s) c.requires.found (omega arith) c.requires.up puts (c.in-Early.ensures.verdict w s))

@@ -12,7 +12,6 @@ use Rattle.machine.specs.Wire.{Puts}
 use Rattle.machine.specs.Simulation.{TheMachine, Stands, log_at}
 use Rattle.machine.specs.Sending.{MayLeave}
 use Rattle.machine.specs.Inside.{view_of, IsCarried}
-use Rattle.machine.proofs.Causes.{released-logged}
 use Rattle.machine.proofs.Keeping.{keys-put, sound-wire}
 use Rattle.machine.proofs.Sendings.{transmitted}
 use Rattle.machine.proofs.machine.Machine.transmit.Goals as goal
@@ -33,7 +32,7 @@ may : (c : In_ok-key) → MayLeave (view_of c.self.inside) c.args.from c.args.to
 may c = subst (λ (v : TheMachine). MayLeave v c.args.from c.args.to c.args.ssn) (sym c.self.view_is) c.in_default.ensures.none.0
 
 log : (c : In_ok-key) → c.log.result.now ≡ log_at (view_of c.self.inside) c.args.from
-log c = c.log.ensures ∙ ap (λ (v : TheMachine). log_at v c.args.from) (sym c.self.view_is)
+log c = c.log.ensures.value ∙ ap (λ (v : TheMachine). log_at v c.args.from) (sym c.self.view_is)
 
 logged : (c : In_ok-key) → is_logged c.args.ssn (queue_of c.args.to (log_at (view_of c.self.inside) c.args.from)) ≡ true
 logged c =
@@ -45,13 +44,13 @@ payload_is c =
     let there : c.from_slice.result ≡ payload_of c.args.ssn (queue_of c.args.to c.log.result.now) = first_of (search rules, grind (arith, common_steps)) in
     there ∙ ap (λ (l : TheLog). payload_of c.args.ssn (queue_of c.args.to l)) (log c)
 
--- what is released was logged
+-- what may leave is logged
 pub returns-in_default-entry-clause-step : goal.returns-in_default-entry-clause-step
 returns-in_default-entry-clause-step c =
     let m = c.args.self.now in
     let may : MayLeave m c.args.from c.args.to c.args.ssn = c.in_default.ensures.none.0 in
     let none : is_logged c.args.ssn (queue_of c.args.to (log_at m c.args.from)) ≡ false = first_of (search rules, grind (arith, common_steps)) in
-    (refl, λ w s. absurd (true≢false (sym (released-logged m w s c.args.room c.args.from c.args.to c.args.ssn may.from_within may.to_within may.other may.released may.first) ∙ none)))
+    absurd (true≢false (sym may.logged ∙ none))
 
 pub invariant_of-self-2 : goal.invariant_of-self-2
 unfolding packet
@@ -71,4 +70,4 @@ returns-clause-step c =
     let m = may g in
     let accepted : (w : World) → Stands v w → refusal_of w c.args.room (Transmit c.args.from c.args.to c.args.ssn) ≡ None = rw c.self.view_is c.in_default.ensures.cause in
     let is : packet g ≡ Delivery c.args.to (record { sender = c.args.from; ssn = c.args.ssn; payload = payload_of c.args.ssn (queue_of c.args.to (log_at v c.args.from)) }) = ap (λ x. Delivery c.args.to (record { sender = c.args.from; ssn = c.args.ssn; payload = x })) (payload_is g) in
-    rw (← c.self.view_is) (λ w s. transmitted v w s c.args.room c.in_ok-key.key (c.self.inside.calls + 1) c.place.new.self (packet g) (low g) (puts g) c.args.from c.args.to c.args.ssn (accepted w s) m.from_within m.to_within m.other (logged g) is)
+    rw (← c.self.view_is) (λ w s. transmitted v w s c.args.room c.in_ok-key.key (c.self.inside.calls + 1) c.place.new.self (packet g) (low g) (puts g) c.args.from c.args.to c.args.ssn (accepted w s) m.from_within m.to_within m.other m.up (logged g) is)

@@ -25,3 +25,6 @@ returns-after-loop-ssn-clause-none c =
     let again = useful-again c.args.self.now w s 0 c.args.from c.args.to i c.requires.peers useful c.requires.inside apart in
     c.loop-ssn.invariant.looked_at w s i (omega (arith, first, c.loop-ssn-test.false)) again.0 useful
     )
+
+pub returns-then-is_wanted-clause-some : goal.returns-then-is_wanted-clause-some
+returns-then-is_wanted-clause-some c = λ w s. sym (c.is_wanted.ensures w s) ∙ c.if-is_wanted.true

@@ -30,3 +30,6 @@ returns-clause-none c =
         → (w : World) → Stands g.args.self.now w → (i : ℕ) → is_useful w (Transmit g.args.from g.args.to i) ≡ true → (b : Bool) → (i == next_ssn w g.args.from g.args.to) ≡ b → ⊥
     by_place g others w s i useful true e = next-not g w s i (grind (arith, nat_tests)) useful
     by_place g others w s i useful false e = others w s i (grind (arith, nat_tests)) useful
+
+pub returns-then-is_wanted-clause-some : goal.returns-then-is_wanted-clause-some
+returns-then-is_wanted-clause-some c = λ w s. sym (c.is_wanted.ensures w s) ∙ c.if-is_wanted.true

@@ -1,21 +1,23 @@
-use Rattle.std.proofs.Common.{◌≡◌, ℕ, sym, ap, ◌∙◌, subst}
-use Rattle.std.specs.Prelude.{Option, None, Result, Err, IfErr}
-use Rattle.std.proofs.lemmas.Result.{err_from_is_err_and}
-use Rattle.world.specs.declared.refusal.Refusal.{Refusal}
-use Rattle.world.specs.declared.refusal.Refusal.TheVariants.{Memory}
-use Rattle.world.specs.Refusals.{refusal_of, cause_of}
-use Rattle.sessions.specs.Journal.{world_at, room_at}
-use Rattle.sessions.specs.Driving.{Advances}
-use Rattle.sessions.proofs.Driven.{cause-memory, advance-none}
+use Rattle.std.proofs.Common.{ℕ, sym, subst}
+use Rattle.std.specs.Prelude.{Option, Ok}
+use Rattle.replay.specs.Task.{TheTask}
+use Rattle.machine.specs.Arrival.{IsOpen}
+use Rattle.sessions.specs.Journal.{world_at}
+use Rattle.sessions.specs.Driving.{job_of, Advances, Makes}
+use Rattle.sessions.proofs.Driven.{told-memory, advance-one}
 use Rattle.sessions.proofs.session.Session.advance.Goals as goal
 
-pub returns-in_err-transmit-in-Transmit-clause-err : goal.returns-in_err-transmit-in-Transmit-clause-err
-returns-in_err-transmit-in-Transmit-clause-err g c =
+pub returns-clause-err : goal.returns-clause-err
+returns-clause-err g c =
     let old = c.args.self.now in
-    let refusal = c.in_err-transmit-in-Transmit.field-0.0 in
-    let adds = c.in_err-transmit-in-Transmit.ensures.adds in
-    let out = err_from_is_err_and c.from_residual.result c.from_residual.ensures.1 in
-    let told : c.from_residual.result ≡ Err refusal = out.1 ∙ ap Err out.2 in
-    let none : cause_of refusal ≡ None = sym adds.2 ∙ ap (refusal_of (world_at old) (room_at old)) (sym c.in-Transmit.is) ∙ c.requires.pick.accepted in
-    let P : Result ℕ Refusal → Type 0 = λ r. IfErr r (λ x. (x ≡ Memory) × ((n : ℕ) × (left : Option ℕ) × Advances 1 old c.transmit.new.self c.args.by.now c.transmit.new.by n left)) in
-    subst P (sym told) (cause-memory refusal none, (0, None, advance-none 1 old c.transmit.new.self c.args.by.now c.transmit.new.by adds.0 adds.1))
+    let mid = c.make.new.self in
+    let by = c.args.by.now in
+    let call = c.args.call in
+    let made = subst (λ job. Makes old mid by c.make.new.by call (Ok job)) c.in-Some.is c.in_ok-started.ensures.makes in
+    let left : Option ℕ = job_of (world_at old) call made.0 in
+    let one = advance-one old mid by c.make.new.by call made.0 c.requires.pick made.1 in
+    let given : IsOpen mid.images c.run.result (world_at mid) = subst (λ (t : TheTask). IsOpen mid.images t (world_at mid)) (sym c.run.ensures) made.2.1 in
+    let takes = c.in-Err.ensures.takes in (
+      told-memory c.in-Err.refusal (IsOpen mid.images c.run.result (world_at mid)) takes.3 given,
+      (1, left, subst (λ s. Advances 1 old s by c.finish.new.by 1 left) (sym takes.1) (subst (λ s. Advances 1 old mid by s 1 left) (sym takes.2) one)),
+    )

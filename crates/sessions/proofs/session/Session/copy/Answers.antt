@@ -1,19 +1,20 @@
+use Rattle.std.proofs.Common.{refl}
+use Rattle.machine.specs.Simulation.{answering}
+use Rattle.std.proofs.lemmas.Result.{err_from_is_err_and}
+use Rattle.std.specs.Prelude.{Err}
 use Rattle.std.proofs.Common.{◌≡◌, ◌-◌, ◌++◌, ◌∷◌, [], length, arith, ap, ◌∙◌}
-use Rattle.std.specs.Prelude.{Ok}
 use Rattle.world.specs.declared.call.Call.TheVariants.{Copy}
 use Rattle.world.specs.declared.answer.Answer.TheVariants.{Placed}
 use Rattle.world.specs.Bounds.{LIMIT}
 use Rattle.world.specs.Useful.{may_call}
-use Rattle.sessions.specs.Journal.{entry, world_at, Adds}
-use Rattle.sessions.specs.Inside.{IsSession}
+use Rattle.sessions.specs.Journal.{entry, world_at}
 use Rattle.sessions.proofs.Rooms.{room-copy}
-use Rattle.sessions.proofs.Steps.{here, accepted, session}
+use Rattle.sessions.proofs.Steps.{Accepts, accepted, carried, caused, here, refused}
 use Rattle.sessions.proofs.session.Session.copy.Goals as goal
 use Rattle.sessions.proofs.session.Session.copy.Goals.{After-append}
 use Rattle.sessions.proofs.session.Session.copy.Given.{Over}
 
-done : (g : Over) (c : After-append g) → IsSession c.copy.new.self c.append.new.self.entries
-    × Adds (session c.self.inside.machine c.self.inside.journal.entries c.self.inside.seats.items) (session c.copy.new.self c.append.new.self.entries c.self.inside.seats.items) c.args.by.now c.append.new.by (Copy c.args.key) (Ok (Placed c.in_ok-new.new))
+done : (g : Over) (c : After-append g) → Accepts c.self.inside.machine c.copy.new.self c.self.inside.journal.entries c.append.new.self.entries c.self.inside.seats.items c.args.by.now c.append.new.by (Copy c.args.key) (Placed c.in_ok-new.new)
 done g c =
     let m = c.self.inside.machine in
     let es = c.self.inside.journal.entries in
@@ -27,7 +28,28 @@ done g c =
     accepted m c.copy.new.self es c.self.inside.seats.items c.args.by.now call answer c.self.invariant.0 (ap (λ v. may_call (world_at v) c.args.by.now.worker call) c.self.view_is ∙ c.requires) step c.append.new.self.entries items c.append.new.by c.append.ensures.seat c.in_ok-new.ensures.calls (omega (arith, place, c.self.invariant.0.room))
 
 pub invariant_of-self-2 : goal.invariant_of-self-2
-invariant_of-self-2 g c = ((done g (goal.at.invariant_of-self-2 g c).After-append).0, c.self.invariant.1)
+invariant_of-self-2 g c =
+    let d = done g (goal.at.invariant_of-self-2 g c).After-append in
+    (d.0, c.self.invariant.1, carried c.self.inside.exact _ (d.2 c.self.inside.exact c.self.invariant.2))
 
 pub returns-clause-adds : goal.returns-clause-adds
 returns-clause-adds g c = rw (← c.self.view_is) (done g (goal.at.returns-clause-adds g c).After-append).1
+
+pub returns-in_err-new-clause-adds : goal.returns-in_err-new-clause-adds
+returns-in_err-new-clause-adds g c =
+    let m = c.self.inside.machine in
+    let es = c.self.inside.journal.entries in
+    let w = here m es in
+    let refusal = c.in_err-new.field-0.0 in
+    let step = c.in_err-new.ensures.step in
+    let out = err_from_is_err_and c.from_residual.result c.from_residual.ensures.1 in
+    let told : c.from_residual.result ≡ Err refusal = out.1 ∙ ap Err out.2 in
+    refused c.args.self.now m c.copy.new.self es c.reserve.new.self.entries c.self.inside.seats.items c.args.by.now (Copy c.args.key) refusal c.room-room.result (answering Placed c.from_residual.result) c.self.view_is step.0 c.reserve.ensures.entries c.room-room.ensures.value (step.1 w c.self.invariant.0.leads) (ap (answering Placed) told)
+
+pub returns-then-not-reserve-clause-adds : goal.returns-then-not-reserve-clause-adds
+returns-then-not-reserve-clause-adds g c =
+    let m = c.self.inside.machine in
+    let es = c.self.inside.journal.entries in
+    let w = here m es in
+    let cause = caused w c.room-room.result (Copy c.args.key) c.copy_cause-cause.result c.unwrap_or.result (c.copy_cause-cause.ensures.cause w c.self.invariant.0.leads) c.unwrap_or.ensures in
+    refused c.args.self.now m m es c.reserve.new.self.entries c.self.inside.seats.items c.args.by.now (Copy c.args.key) c.unwrap_or.result c.room-room.result (Err c.unwrap_or.result) c.self.view_is refl c.reserve.ensures.entries c.room-room.ensures.value cause refl

@@ -1,8 +1,8 @@
-use Rattle.std.proofs.Common.{map}
+use Rattle.std.proofs.Common.{map, refl}
 use Rattle.std.specs.Arc.{arc_value}
 use Rattle.sessions.proofs.SeatLemmas.{new-are-seats}
 use Rattle.sessions.proofs.Steps.{opened}
 use Rattle.sessions.proofs.session.Session.open.Goals as goal
 
 pub invariant_of-result : goal.invariant_of-result
-invariant_of-result g c = let o = c.in_ok-machine.ensures in (rw c.new-journal.ensures (opened c.in_ok-machine.machine (map arc_value c.args.images.items) o.1 o.2 o.3), rw c.in_ok-seats.ensures new-are-seats)
+invariant_of-result g c = let o = c.in_ok-machine.ensures in (rw c.new-journal.ensures (opened c.in_ok-machine.machine (map arc_value c.args.images.items) o.1 o.2 o.3), rw c.in_ok-seats.ensures new-are-seats, rw c.new-journal.ensures refl)

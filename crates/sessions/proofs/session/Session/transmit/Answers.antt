@@ -9,15 +9,13 @@ use Rattle.world.specs.Refusals.{refusal_of, cause_of}
 use Rattle.machine.specs.Simulation.{answering}
 use Rattle.world.specs.Useful.{may_call}
 use Rattle.sessions.specs.Journal.{TheSession, entry, world_at, room_at, Adds}
-use Rattle.sessions.specs.Inside.{IsSession}
 use Rattle.sessions.proofs.Rooms.{room-transmit}
-use Rattle.sessions.proofs.Steps.{here, accepted, session}
+use Rattle.sessions.proofs.Steps.{Accepts, accepted, carried, here, session}
 use Rattle.sessions.proofs.session.Session.transmit.Goals as goal
 use Rattle.sessions.proofs.session.Session.transmit.Goals.{After-append}
 use Rattle.sessions.proofs.session.Session.transmit.Given.{Over}
 
-done : (g : Over) (c : After-append g) → IsSession c.transmit.new.self c.append.new.self.entries
-    × Adds (session c.self.inside.machine c.self.inside.journal.entries c.self.inside.seats.items) (session c.transmit.new.self c.append.new.self.entries c.self.inside.seats.items) c.args.by.now c.append.new.by (Transmit c.args.from c.args.to c.args.ssn) (Ok (Placed c.in_ok-key.key))
+done : (g : Over) (c : After-append g) → Accepts c.self.inside.machine c.transmit.new.self c.self.inside.journal.entries c.append.new.self.entries c.self.inside.seats.items c.args.by.now c.append.new.by (Transmit c.args.from c.args.to c.args.ssn) (Placed c.in_ok-key.key)
 done g c =
     let m = c.self.inside.machine in
     let es = c.self.inside.journal.entries in
@@ -31,7 +29,9 @@ done g c =
     accepted m c.transmit.new.self es c.self.inside.seats.items c.args.by.now call answer c.self.invariant.0 (ap (λ v. may_call (world_at v) c.args.by.now.worker call) c.self.view_is ∙ c.requires) step c.append.new.self.entries items c.append.new.by c.append.ensures.seat c.in_ok-key.ensures.calls (omega (arith, place, c.self.invariant.0.room))
 
 pub invariant_of-self-2 : goal.invariant_of-self-2
-invariant_of-self-2 g c = ((done g (goal.at.invariant_of-self-2 g c).After-append).0, c.self.invariant.1)
+invariant_of-self-2 g c =
+    let d = done g (goal.at.invariant_of-self-2 g c).After-append in
+    (d.0, c.self.invariant.1, carried c.self.inside.exact _ (d.2 c.self.inside.exact c.self.invariant.2))
 
 pub returns-clause-adds : goal.returns-clause-adds
 returns-clause-adds g c = rw (← c.self.view_is) (done g (goal.at.returns-clause-adds g c).After-append).1

@@ -1,0 +1,131 @@
+use Rattle.std.proofs.Common.{rules, arith, ◌≡◌, ◌<◌, ◌≤◌, ◌+◌, ◌-◌, ℕ, List, subst, sym, ap, ◌∙◌, slice_index_or, length, map, set, true, false}
+use Rattle.std.specs.Arc.{arc_value}
+use Rattle.std.proofs.lemmas.Grind.{common_steps}
+use Rattle.std.proofs.lemmas.List.{length-set, length-map, get_or_default, get_or-set_same}
+use Rattle.verifier.specs.Typed.{Typed}
+use Rattle.checkpoint.specs.Saved.{TheSaved, saved_of}
+use Rattle.world.specs.declared.call.Call.TheVariants.{Checkpoint}
+use Rattle.world.specs.declared.answer.Answer.TheVariants.{Saved}
+use Rattle.machine.specs.Process.{TheProcess, idle_process, received, IsSaved}
+use Rattle.machine.specs.Stage.{is_live, is_lost}
+use Rattle.machine.specs.Inside.{view_of, AreCarried, IsLogOf, IsSoundAt}
+use Rattle.machine.specs.Simulation.{TheMachine, Steps, process_at, is_up_at}
+use Rattle.machine.proofs.Standing.{is_live-at, live-lost}
+use Rattle.machine.proofs.Checkpoints.{checkpoint-step, saved-sound}
+use Rattle.machine.proofs.Soundness.{sound_at, sound-set, some-of}
+use Rattle.machine.proofs.machine.Machine.checkpoint.Goals as goal
+
+pub snapshot-requires-clause-state : goal.snapshot-requires-clause-state
+snapshot-requires-clause-state c =
+    let p = c.args.p in
+    let xs = c.self.inside.processes.items in
+    let n = length xs in
+    let positive = c.in_default.ensures.none.0 in
+    let within : p ≤ length xs = subst (λ (v : TheMachine). p ≤ length v.processes) (sym c.self.view_is) c.in_default.ensures.none.1 in
+    let image : Typed = some-of (map arc_value c.self.inside.images.items) (omega (arith, length-map c.self.inside.images.items arc_value, c.self.invariant.images, c.self.invariant.some)) in
+    let sound = sound_at c.self.inside c.self.invariant p (idle_process 0 0 0) image positive within in
+    let at : c.process.result.now ≡ process_at (view_of c.self.inside) p = c.process.ensures.value ∙ ap (λ (v : TheMachine). process_at v p) (sym c.self.view_is) in
+    let count : c.count.result ≡ n = c.count.ensures.value ∙ ap (λ (v : TheMachine). length v.processes) (sym c.self.view_is) in
+    let up : is_up_at (view_of c.self.inside) p ≡ true = subst (λ (v : TheMachine). is_up_at v p ≡ true) (sym c.self.view_is) c.in_default.ensures.none.3 in
+    let back : is_lost (process_at (view_of c.self.inside) p).stage ≡ false = live-lost _ (is_live-at (view_of c.self.inside) p positive up) in
+    let len : length c.process.result.now.state ≡ length (process_at (view_of c.self.inside) p).state = ap (λ (x : TheProcess). length x.state) at in
+    omega (arith, len, sound.state back, sound.short)
+
+pub snapshot-requires-clause-senders : goal.snapshot-requires-clause-senders
+snapshot-requires-clause-senders c =
+    let p = c.args.p in
+    let xs = c.self.inside.processes.items in
+    let n = length xs in
+    let positive = c.in_default.ensures.none.0 in
+    let within : p ≤ length xs = subst (λ (v : TheMachine). p ≤ length v.processes) (sym c.self.view_is) c.in_default.ensures.none.1 in
+    let image : Typed = some-of (map arc_value c.self.inside.images.items) (omega (arith, length-map c.self.inside.images.items arc_value, c.self.invariant.images, c.self.invariant.some)) in
+    let sound = sound_at c.self.inside c.self.invariant p (idle_process 0 0 0) image positive within in
+    let at : c.process.result.now ≡ process_at (view_of c.self.inside) p = c.process.ensures.value ∙ ap (λ (v : TheMachine). process_at v p) (sym c.self.view_is) in
+    let count : c.count.result ≡ n = c.count.ensures.value ∙ ap (λ (v : TheMachine). length v.processes) (sym c.self.view_is) in
+    rw (at, count) sound.senders
+
+pub snapshot-requires-clause-owner : goal.snapshot-requires-clause-owner
+snapshot-requires-clause-owner c =
+    let p = c.args.p in
+    let xs = c.self.inside.processes.items in
+    let n = length xs in
+    let positive = c.in_default.ensures.none.0 in
+    let within : p ≤ length xs = subst (λ (v : TheMachine). p ≤ length v.processes) (sym c.self.view_is) c.in_default.ensures.none.1 in
+    let image : Typed = some-of (map arc_value c.self.inside.images.items) (omega (arith, length-map c.self.inside.images.items arc_value, c.self.invariant.images, c.self.invariant.some)) in
+    let sound = sound_at c.self.inside c.self.invariant p (idle_process 0 0 0) image positive within in
+    let at : c.process.result.now ≡ process_at (view_of c.self.inside) p = c.process.ensures.value ∙ ap (λ (v : TheMachine). process_at v p) (sym c.self.view_is) in
+    let count : c.count.result ≡ n = c.count.ensures.value ∙ ap (λ (v : TheMachine). length v.processes) (sym c.self.view_is) in
+    rw at sound.log.owner
+
+pub snapshot-requires-clause-queues : goal.snapshot-requires-clause-queues
+snapshot-requires-clause-queues c =
+    let p = c.args.p in
+    let xs = c.self.inside.processes.items in
+    let n = length xs in
+    let positive = c.in_default.ensures.none.0 in
+    let within : p ≤ length xs = subst (λ (v : TheMachine). p ≤ length v.processes) (sym c.self.view_is) c.in_default.ensures.none.1 in
+    let image : Typed = some-of (map arc_value c.self.inside.images.items) (omega (arith, length-map c.self.inside.images.items arc_value, c.self.invariant.images, c.self.invariant.some)) in
+    let sound = sound_at c.self.inside c.self.invariant p (idle_process 0 0 0) image positive within in
+    let at : c.process.result.now ≡ process_at (view_of c.self.inside) p = c.process.ensures.value ∙ ap (λ (v : TheMachine). process_at v p) (sym c.self.view_is) in
+    let count : c.count.result ≡ n = c.count.ensures.value ∙ ap (λ (v : TheMachine). length v.processes) (sym c.self.view_is) in
+    let wide : length c.process.result.now.outbox.log.queues ≡ length (process_at (view_of c.self.inside) p).outbox.log.queues = ap (λ (x : TheProcess). length x.outbox.log.queues) at in
+    omega (arith, wide, sound.log.width, count)
+
+pub invariant_of-self : goal.invariant_of-self
+invariant_of-self c =
+    let i = c.self.invariant in
+    let p = c.args.p in
+    let m = view_of c.self.inside in
+    let xs = c.self.inside.processes.items in
+    let images = map arc_value c.self.inside.images.items in
+    let was = c.index_mut-process.result.now in
+    let y = c.save.new.self in
+    let positive = c.in_default.ensures.none.0 in
+    let within : p ≤ length xs = subst (λ (v : TheMachine). p ≤ length v.processes) (sym c.self.view_is) c.in_default.ensures.none.1 in
+    let calls : c.self.inside.calls + c.args.room ≤ 65536 = subst (λ (v : TheMachine). v.calls + c.args.room ≤ 65536) (sym c.self.view_is) c.requires in
+    let here : was ≡ slice_index_or xs (p - 1) was = first_of (search rules, grind (arith, common_steps)) in
+    let at : was ≡ process_at m p = here ∙ get_or_default xs (p - 1) was (idle_process 0 0 0) (omega (arith, positive, within)) in
+    let taken : c.process.result.now ≡ process_at m p = c.process.ensures.value ∙ ap (λ (v : TheMachine). process_at v p) (sym c.self.view_is) in
+    let count : c.count.result ≡ length xs = c.count.ensures.value ∙ ap (λ (v : TheMachine). length v.processes) (sym c.self.view_is) in
+    let stable : c.in_ok-stable.stable ≡ saved_of p (length xs) was.state was.receipts was.outbox.log = c.in_ok-stable.ensures ∙ (λ j. saved_of p (count j) (taken j).state (taken j).receipts (taken j).outbox.log) ∙ ap (λ (x : TheProcess). saved_of p (length xs) x.state x.receipts x.outbox.log) (sym at) in
+    let is : IsSaved (saved_of p (length xs) was.state was.receipts was.outbox.log) was y = subst (λ (z : TheSaved). IsSaved z was y) stable c.save.ensures in
+    let len = length-set xs (p - 1) y in
+    let now : (e : Typed) → IsSoundAt (length xs) p (slice_index_or images (p - 1) e).len (c.self.inside.calls + 1) y =
+    λ e. saved-sound (length xs) p _ c.self.inside.calls was y is (let up = subst (λ (v : TheMachine). is_up_at v p ≡ true) (sym c.self.view_is) c.in_default.ensures.none.3 in ap (λ (x : TheProcess). is_live x.stage) at ∙ is_live-at m p positive up) (subst (IsSoundAt (length xs) p (slice_index_or images (p - 1) e).len c.self.inside.calls) (sym here) (sound_at c.self.inside i p was e positive within)) in
+    record {
+      some = omega (arith, len, i.some);
+      few = omega (arith, len, i.few);
+      images = i.images ∙ sym len;
+      processes = sound-set xs images p c.self.inside.calls y positive within i.processes now;
+      outside = subst (λ n. IsLogOf n 0 c.self.inside.outside.log) (sym len) i.outside;
+      calls = omega (arith, calls, c.in_default.ensures.none.2);
+      started = omega (arith, i.started);
+      inputs = λ d. omega (arith, i.inputs d);
+      shown = omega (arith, i.shown);
+      wire = subst (AreCarried c.self.inside.wire) (sym len) i.wire;
+      keys = i.keys;
+    }
+
+pub returns-clause-step : goal.returns-clause-step
+returns-clause-step c w s =
+    let m = c.args.self.now in
+    let p = c.args.p in
+    let xs = c.self.inside.processes.items in
+    let was = c.index_mut-process.result.now in
+    let y = c.save.new.self in
+    let positive = c.in_default.ensures.none.0 in
+    let within = c.in_default.ensures.none.1 in
+    let inside : p ≤ length xs = subst (λ (v : TheMachine). p ≤ length v.processes) (sym c.self.view_is) within in
+    let few : length m.processes ≤ 15 = subst (λ (v : TheMachine). length v.processes ≤ 15) c.self.view_is c.self.invariant.few in
+    let here : was ≡ slice_index_or xs (p - 1) was = first_of (search rules, grind (arith, common_steps)) in
+    let at : was ≡ process_at m p = here ∙ get_or_default xs (p - 1) was (idle_process 0 0 0) (omega (arith, positive, inside)) ∙ ap (λ (v : TheMachine). process_at v p) c.self.view_is in
+    let image : Typed = some-of (map arc_value c.self.inside.images.items) (omega (arith, length-map c.self.inside.images.items arc_value, c.self.invariant.images, c.self.invariant.some)) in
+    let sound = sound_at c.self.inside c.self.invariant p (idle_process 0 0 0) image positive inside in
+    let width : length (process_at m p).outbox.log.queues ≡ length m.processes + 1 = subst (λ (v : TheMachine). length (process_at v p).outbox.log.queues ≡ length v.processes + 1) c.self.view_is (let wide = sound.log.width in omega (arith, wide)) in
+    let x = process_at m p in
+    let stable : c.in_ok-stable.stable ≡ saved_of p (length m.processes) x.state x.receipts x.outbox.log = c.in_ok-stable.ensures ∙ (λ j. saved_of p (c.count.ensures.value j) (c.process.ensures.value j).state (c.process.ensures.value j).receipts (c.process.ensures.value j).outbox.log) in
+    let is : IsSaved (saved_of p (length m.processes) x.state x.receipts x.outbox.log) x y = subst (λ (z : TheProcess). IsSaved (saved_of p (length m.processes) x.state x.receipts x.outbox.log) z y) at (subst (λ (z : TheSaved). IsSaved z was y) stable c.save.ensures) in
+    let answer : c.length.result ≡ length x.receipts.senders = c.length.ensures.value ∙ ap received (c.process-2.ensures.value ∙ get_or-set_same xs (p - 1) y (idle_process 0 0 0) (omega (arith, positive, inside)) ∙ is.others) in
+    let P : TheMachine → Type 0 = λ v. Steps m (record v { processes = set v.processes (p - 1) y; calls = v.calls + 1 }) c.args.room (Checkpoint p) (Saved c.length.result) w in
+    subst P (sym c.self.view_is)
+    (rw answer (checkpoint-step m w s c.args.room p (m.calls + 1) y positive within few c.in_default.ensures.none.3 (omega (arith, width)) is (c.in_default.ensures.cause w s)))

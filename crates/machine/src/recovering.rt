@@ -1,0 +1,202 @@
+//! Crashes, and how processes come back.
+
+ghost use Rattle.std.specs.Prelude.{◌≡◌, ◌+◌, ◌<◌, ◌≤◌, length, map, true, false, IfNone, IfOk, OnOk, option_and_then};
+ghost use Rattle.world.specs.World.{World};
+ghost use Rattle.world.specs.Refusals.{refusal_of, cause_of, others_up};
+ghost use Rattle.replay.specs.Plan.{IsPlan, found};
+ghost use Rattle.machine.specs.Simulation.{Stands, Simulates, answering, process_at, is_up_at, IsTold};
+ghost use Rattle.machine.specs.Recovering.{MayRecover, MaySettle, SettlesAt, returning, ArePeersOf, forgotten, logs_of, recovery_of};
+ghost use Rattle.machine.specs.Stage.{is_lost};
+
+use crate::machine::Machine;
+use crate::outbox::Outbox;
+use crate::stage::Peers;
+use replay::{Plan, collect_from};
+use rsn::Receipts;
+use std::alloc::{AllocError, Global};
+use world::{Answer, Call, Refusal};
+
+impl Machine {
+    /// Why a process would not crash.
+    pub fn crash_cause(&self, room: u32, p: u8) -> Option<Refusal>
+        requires { room ≤ 65536 }
+        ensures none { IfNone result ((0 < p) × (p ≤ length self.now.processes) × (0 < room) × (is_lost (process_at self.now p).stage ≡ false)) }
+        ensures cause { (w : World) → Stands self.now w → refusal_of w room (Call.Crash p) ≡ option_and_then cause_of result }
+        ensures told { IsTold result }
+    {
+        if !self.is_inside(p) {
+            return Some(Refusal::NoSuchProcess);
+        }
+        let process = self.process(p);
+        if process.stage().is_lost() {
+            return Some(Refusal::NotUp);
+        }
+        let own = process.working().is_some() as u32;
+        if room + own <= self.open_jobs() {
+            return Some(Refusal::JournalFull);
+        }
+        None
+    }
+
+    /// A process loses all but its checkpoint and its incarnation, which goes up: the new one.
+    pub fn crash(&mut self, room: u32, p: u8) -> Result<u32, Refusal>
+        requires { self.old.calls + room ≤ 65536 }
+        ensures step { Simulates self.old self.new room (Call.Crash p) (answering Answer.Crashed result) }
+        ensures calls { OnOk result (self.new.calls ≡ self.old.calls + 1) }
+    {
+        if let Some(refusal) = self.crash_cause(room, p) {
+            return Err(refusal);
+        }
+        let receipts = Receipts::new(self.alloc, &[])?;
+        let outbox = Outbox::new(self.alloc, p, self.count())?;
+        let process = &mut self.processes[p as usize - 1];
+        process.crash(receipts, outbox);
+        self.calls += 1;
+        Ok(self.process(p).incarnation())
+    }
+
+    /// Whether all processes but this one are up.
+    pub fn others_are_up(&self, p: u8) -> bool
+        ensures { (w : World) → Stands self.now w → result ≡ others_up w p }
+    {
+        for q in 1..self.count() + 1 {
+            if q != p && !self.is_up(q) {
+                return false;
+            }
+        }
+        true
+    }
+
+    /// Why a process would not come back.
+    pub fn recover_cause(&self, room: u32, p: u8) -> Option<Refusal>
+        ensures none { IfNone result ((0 < p) × (p ≤ length self.now.processes) × (0 < room) × (is_lost (process_at self.now p).stage ≡ true)) }
+        ensures cause { (w : World) → Stands self.now w → refusal_of w room (Call.Recover p) ≡ option_and_then cause_of result }
+        ensures told { IsTold result }
+    {
+        if !self.is_inside(p) {
+            return Some(Refusal::NoSuchProcess);
+        }
+        if !self.others_are_up(p) {
+            return Some(Refusal::PeerNotUp);
+        }
+        self.return_cause(room, p)
+    }
+
+    /// Why a process would not come back alone.
+    pub fn recover_alone_cause(&self, room: u32, p: u8) -> Option<Refusal>
+        ensures none { IfNone result ((0 < p) × (p ≤ length self.now.processes) × (0 < room) × (is_lost (process_at self.now p).stage ≡ true)) }
+        ensures cause { (w : World) → Stands self.now w → refusal_of w room (Call.RecoverAlone p) ≡ option_and_then cause_of result }
+        ensures told { IsTold result }
+    {
+        if !self.is_inside(p) {
+            return Some(Refusal::NoSuchProcess);
+        }
+        self.return_cause(room, p)
+    }
+
+    // Why one that may come back doesn't.
+    fn return_cause(&self, room: u32, p: u8) -> Option<Refusal>
+        requires { (0 < p) × (p ≤ length self.now.processes) }
+        ensures { result ≡ returning self.now room p }
+    {
+        if !self.process(p).stage().is_lost() {
+            return Some(Refusal::NotDown);
+        }
+        if room <= self.open_jobs() {
+            return Some(Refusal::JournalFull);
+        }
+        None
+    }
+
+    /// A process comes back as its checkpoint says, with the messages before it that senders logged
+    /// under the next numbers. Answers how many messages it keeps. All others have to be up.
+    pub fn recover(&mut self, room: u32, p: u8) -> Result<u32, Refusal>
+        requires { self.old.calls + room ≤ 65536 }
+        ensures step { Simulates self.old self.new room (Call.Recover p) (answering Answer.Kept result) }
+        ensures calls { OnOk result (self.new.calls ≡ self.old.calls + 1) }
+    {
+        if let Some(refusal) = self.recover_cause(room, p) {
+            return Err(refusal);
+        }
+        self.bring_back(room, p, false)
+    }
+
+    /// As `recover`, whatever the other processes do.
+    pub fn recover_alone(&mut self, room: u32, p: u8) -> Result<u32, Refusal>
+        requires { self.old.calls + room ≤ 65536 }
+        ensures step { Simulates self.old self.new room (Call.RecoverAlone p) (answering Answer.Kept result) }
+        ensures calls { OnOk result (self.new.calls ≡ self.old.calls + 1) }
+    {
+        if let Some(refusal) = self.recover_alone_cause(room, p) {
+            return Err(refusal);
+        }
+        self.bring_back(room, p, true)
+    }
+
+    // A process comes back. The growths come first.
+    fn bring_back(&mut self, room: u32, p: u8, alone: bool) -> Result<u32, Refusal>
+        requires { MayRecover self.old room p alone }
+        ensures step { Simulates self.old self.new room (recovery_of p alone) (answering Answer.Kept result) }
+        ensures calls { OnOk result (self.new.calls ≡ self.old.calls + 1) }
+    {
+        let stable = self.process(p).stable();
+        let (receipts, outbox) = stable.restore(self.alloc)?;
+        let state = Vec::from_slice(self.alloc, stable.state())?;
+        let plan = self.plan(p, &receipts)?;
+        let kept = receipts.length() + plan.len();
+        let is_whole = plan.is_empty();
+        self.forget_after(p, kept);
+        let process = &mut self.processes[p as usize - 1];
+        process.recover(state, receipts, outbox, plan, alone);
+        if is_whole {
+            self.settle(p, alone);
+        }
+        self.calls += 1;
+        Ok(kept)
+    }
+
+    // What the process replays after these receipts.
+    fn plan(&self, p: u8, receipts: &Receipts) -> Result<Plan, AllocError>
+        ensures plan { IfOk result (λ plan. IsPlan (found (logs_of self.now) p) receipts.now.senders plan.messages) }
+        ensures start { IfOk result (λ plan. (plan.before ≡ length receipts.now.senders) × (plan.replayed ≡ 0)) }
+    {
+        let mut logs = Vec::with_capacity(self.alloc, self.processes.len() + 1)?;
+        logs.push(self.outside.log())?;
+        for process in &self.processes {
+            logs.push(process.outbox().log())?;
+        }
+        collect_from(self.alloc, logs.as_slice(), p, receipts)
+    }
+
+    // All senders forget the numbers above this one of their messages to p.
+    fn forget_after(&mut self, p: u8, rsn: u32)
+        ensures { self.new ≡ forgotten p rsn self.old }
+    {
+        self.outside.unnumber_after(p, rsn);
+        for process in self.processes.iter_mut() {
+            process.unnumber_after(p, rsn);
+        }
+    }
+
+    // A process has replayed all: it has its peers to do, or where there is none, is up.
+    pub(crate) fn settle(&mut self, p: u8, alone: bool)
+        requires { MaySettle self.old p }
+        ensures { SettlesAt p alone self.old self.new }
+    {
+        let alloc = self.alloc;
+        let peers = self.peers(p, alone);
+        self.processes[p as usize - 1].settle(alloc, peers);
+    }
+
+    // The peers of a process that restore its numbers: all others, or where it came back alone those
+    // that are up.
+    fn peers(&self, p: u8, alone: bool) -> Peers
+        ensures { ArePeersOf self.now p alone result }
+    {
+        let mut peers = Peers::none();
+        for q in 1..self.count() + 1 {
+            peers.set(q, q != p && (!alone || self.is_up(q)));
+        }
+        peers
+    }
+}

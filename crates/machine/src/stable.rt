@@ -1,0 +1,110 @@
+//! What outlives a crash.
+
+ghost use Rattle.std.specs.Prelude.{◌≡◌, ◌+◌, ◌≤◌, ◌<◌, ◌==◌, true, length, count_by, IfOk};
+ghost use Rattle.std.specs.List.{list_all};
+ghost use Rattle.checkpoint.specs.declared.form.Form.TheVariants.{Second};
+ghost use Rattle.checkpoint.specs.Format.{IsCheckpoint};
+ghost use Rattle.checkpoint.specs.Saved.{Fits, is_sender, saved_of, receipts_again};
+ghost use Rattle.machine.specs.Outbox.{outbox_again};
+
+use crate::outbox::Outbox;
+use checkpoint::{Saved, encode};
+use rsn::Receipts;
+use std::alloc::{AllocError, Global};
+use std::marker::Model;
+
+/// The checkpoint of a process, as it was saved and as bytes, and by sender how many messages it
+/// covers.
+#[derive(Drop)]
+pub struct Stable {
+    saved: Saved,
+    bytes: Vec<u8>,
+    counts: [u32; 16],
+}
+
+impl Model for Stable {
+    ghost use Rattle.checkpoint.specs.Saved.{TheSaved};
+    ghost use Rattle.machine.specs.Stable.{IsStable};
+
+    ghost Value = { TheSaved };
+
+    ghost view = { λ s. s.saved };
+
+    ghost invariant = { λ s. IsStable s.saved s.bytes.items s.counts };
+}
+
+impl Stable {
+    /// The checkpoint of the process `me` of `n`: its state, 0 to 1,024 bytes, its receipts, and of
+    /// what it sent the log.
+    pub fn of(
+        alloc: Global,
+        me: u8,
+        n: u8,
+        state: &[u8],
+        receipts: &Receipts,
+        outbox: &Outbox,
+    ) -> Result<Stable, AllocError>
+        requires own { (1 ≤ me) × (me ≤ n) }
+        requires count { n ≤ 15 }
+        requires state { length state.now ≤ 1024 }
+        requires senders { list_all (is_sender me n) receipts.now.senders ≡ true }
+        requires owner { outbox.now.log.owner ≡ me }
+        requires queues { length outbox.now.log.queues ≡ n + 1 }
+        requires made { outbox.now.made ≡ length receipts.now.senders }
+        ensures { IfOk result (λ s. s ≡ saved_of me n state.now receipts.now outbox.now.log) }
+    {
+        let saved = Saved::of(alloc, me, n, state, receipts, outbox.log())?;
+        let bytes = encode(alloc, &saved)?;
+        let mut counts = [0; 16];
+        for sender in 0..n + 1 {
+            counts[sender as usize] = receipts.next(sender) - 1;
+        }
+        Ok(Stable {
+            saved,
+            bytes,
+            counts,
+        })
+    }
+
+    /// Its bytes, in the second form.
+    pub fn bytes(&self) -> &[u8]
+        ensures { IsCheckpoint Second self.now result.now }
+    {
+        self.bytes.as_slice()
+    }
+
+    /// How many messages it covers.
+    pub fn length(&self) -> u32
+        ensures value { result ≡ length self.now.senders }
+        ensures bound { result ≤ 65536 }
+    {
+        self.saved.length()
+    }
+
+    /// How many messages of this sender it covers.
+    pub fn count_of(&self, sender: u8) -> u32
+        requires { sender < 16 }
+        ensures value { result ≡ count_by (λ s. s == sender) self.now.senders }
+        ensures bound { result ≤ 65536 }
+    {
+        self.counts[sender as usize]
+    }
+
+    /// The state.
+    pub fn state(&self) -> &[u8]
+        ensures { result.now ≡ self.now.state }
+    {
+        self.saved.state()
+    }
+
+    /// Receipts of what it covers, all acknowledged, and what was sent on that, without numbers and
+    /// behind a shut gate.
+    pub fn restore(&self, alloc: Global) -> Result<(Receipts, Outbox), AllocError>
+        ensures receipts { IfOk result (λ r. r.0 ≡ receipts_again self.now) }
+        ensures outbox { IfOk result (λ r. r.1 ≡ outbox_again self.now) }
+        ensures fits { Fits Second self.now }
+    {
+        let (receipts, log) = self.saved.restore(alloc)?;
+        Ok((receipts, Outbox::restored(alloc, log, self.length())))
+    }
+}

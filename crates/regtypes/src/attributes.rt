@@ -1,0 +1,188 @@
+//! What an instruction reads, writes and reaches.
+
+ghost use Rattle.std.specs.Prelude.{◌≡◌, ◌≤◌};
+ghost use Rattle.regtypes.specs.Attributes.{bytes_in, signed_bytes_in, register_of, computes, loads, stores, alu_attributes, attributes_of};
+
+use crate::form::{Form, form_from};
+use decode::{Insn, Operand, Reg, SignedSize, Size};
+
+/// The bytes at a register and an offset that are read or written.
+#[derive(Clone, Copy, Debug, PartialEq, Eq)]
+pub struct Access {
+    pub base: Reg,
+    pub offset: i16,
+    pub bytes: u8,
+    pub stores: bool,
+}
+
+/// What an instruction reads, writes and reaches. The arguments of a helper and what is left at
+/// the end are not among it.
+#[derive(Clone, Copy, Debug, PartialEq, Eq)]
+pub struct Attributes {
+    /// Read as a number.
+    pub number: Option<Reg>,
+    /// Read as a number.
+    pub operand: Option<Reg>,
+    /// Copied, whatever it holds.
+    pub copied: Option<Reg>,
+    /// Moved by this many bytes if it is a place.
+    pub moved: Option<(Reg, i64)>,
+    pub access: Option<Access>,
+    /// Written.
+    pub written: Option<Reg>,
+}
+
+/// How many bytes a load or store of this size reaches.
+pub fn bytes_in(size: Size) -> u8
+    ensures value { result ≡ bytes_in size }
+    ensures bound { result ≤ 8 }
+{
+    match size {
+        Size::Byte => 1,
+        Size::Half => 2,
+        Size::Word => 4,
+        Size::Double => 8,
+    }
+}
+
+/// How many bytes a load of this size reaches.
+pub fn signed_bytes_in(size: SignedSize) -> u8
+    ensures value { result ≡ signed_bytes_in size }
+    ensures bound { result ≤ 8 }
+{
+    match size {
+        SignedSize::Byte => 1,
+        SignedSize::Half => 2,
+        SignedSize::Word => 4,
+    }
+}
+
+fn register(operand: &Operand) -> Option<Reg>
+    ensures { result ≡ register_of operand.now }
+{
+    match *operand {
+        Operand::Imm(_) => None,
+        Operand::Reg(reg) => Some(reg),
+    }
+}
+
+/// No attribute.
+const NOTHING: Attributes = Attributes {
+    number: None,
+    operand: None,
+    copied: None,
+    moved: None,
+    access: None,
+    written: None,
+};
+
+fn computes(number: Option<Reg>, operand: Option<Reg>, dst: Reg) -> Attributes
+    ensures { result ≡ computes number operand dst }
+{
+    Attributes {
+        number,
+        operand,
+        written: Some(dst),
+        ..NOTHING
+    }
+}
+
+fn loads(bytes: u8, dst: Reg, base: Reg, offset: i16) -> Attributes
+    ensures { result ≡ loads bytes dst base offset }
+{
+    Attributes {
+        written: Some(dst),
+        access: Some(Access {
+            base,
+            offset,
+            bytes,
+            stores: false,
+        }),
+        ..NOTHING
+    }
+}
+
+fn stores(bytes: u8, base: Reg, offset: i16, operand: Option<Reg>) -> Attributes
+    ensures { result ≡ stores bytes base offset operand }
+{
+    Attributes {
+        operand,
+        access: Some(Access {
+            base,
+            offset,
+            bytes,
+            stores: true,
+        }),
+        ..NOTHING
+    }
+}
+
+fn alu_attributes(form: &Form, dst: Reg, operand: &Operand) -> Attributes
+    ensures { result ≡ alu_attributes form.now dst operand.now }
+{
+    match *form {
+        Form::Copies(src) => Attributes {
+            copied: Some(src),
+            written: Some(dst),
+            ..NOTHING
+        },
+        Form::Moves(by) => Attributes {
+            written: Some(dst),
+            moved: Some((dst, by)),
+            ..NOTHING
+        },
+        Form::Sets => computes(None, register(operand), dst),
+        Form::Computes => computes(Some(dst), register(operand), dst),
+    }
+}
+
+/// The attributes of an instruction.
+pub fn attributes_from(insn: &Insn) -> Attributes
+    ensures { result ≡ attributes_of insn.now }
+{
+    match *insn {
+        Insn::Alu {
+            op,
+            width,
+            dst,
+            operand,
+        } => alu_attributes(&form_from(op, width, operand), dst, &operand),
+        Insn::MovSx { dst, src, .. } => computes(None, Some(src), dst),
+        Insn::Neg { dst, .. } => computes(None, Some(dst), dst),
+        Insn::End { dst, .. } => computes(None, Some(dst), dst),
+        Insn::Jump { .. } => NOTHING,
+        Insn::JumpLong { .. } => NOTHING,
+        Insn::JumpIf { dst, operand, .. } => Attributes {
+            number: Some(dst),
+            operand: register(&operand),
+            ..NOTHING
+        },
+        Insn::Call { .. } => NOTHING,
+        Insn::Exit => NOTHING,
+        Insn::Load {
+            size,
+            dst,
+            src,
+            offset,
+        } => loads(bytes_in(size), dst, src, offset),
+        Insn::LoadSx {
+            size,
+            dst,
+            src,
+            offset,
+        } => loads(signed_bytes_in(size), dst, src, offset),
+        Insn::StoreReg {
+            size,
+            dst,
+            src,
+            offset,
+        } => stores(bytes_in(size), dst, offset, Some(src)),
+        Insn::StoreImm {
+            size,
+            dst,
+            offset,
+            ..
+        } => stores(bytes_in(size), dst, offset, None),
+        Insn::Wide { dst, .. } => computes(None, None, dst),
+    }
+}

@@ -1,0 +1,2 @@
+mod SeatsFrom
+mod Served

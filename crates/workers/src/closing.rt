@@ -1,0 +1,42 @@
+//! The end of a run.
+
+ghost use Rattle.std.specs.Prelude.{◌≡◌, ◌+◌, length};
+ghost use Rattle.sessions.specs.Journal.{IsLegal};
+ghost use Rattle.sessions.specs.Seats.{answered_by};
+ghost use Rattle.sessions.specs.Shares.{answers_of};
+
+use sessions::{Seat, Session, Share};
+use std::sync::Mutex;
+use std::sync::ledger::Ledger;
+
+/// A session that no worker shares any more, what its workers handed back, and the other seats.
+#[derive(Drop)]
+pub struct Closed<L: Ledger> {
+    pub session: Session<L>,
+    pub shares: Vec<Share<L>>,
+    pub seats: Vec<Seat<L>>,
+}
+
+/// Takes the session from under its lock. Where all 17 seats are handed in, those of the shares
+/// among them, the journal is as long as they were answered together. Takes no memory.
+pub fn close<L: Ledger>(
+    session: Mutex<Session<L>>,
+    shares: Vec<Share<L>>,
+    seats: Vec<Seat<L>>,
+) -> Closed<L>
+    requires { L.parts ≡ 17 }
+    ensures shares { result.shares.items ≡ shares.items }
+    ensures seats { result.seats.items ≡ seats.items }
+    ensures legal { IsLegal result.session }
+    ensures all { length shares.items + length seats.items ≡ 17 → length result.session.entries ≡ answers_of shares.items + answered_by seats.items }
+{
+    let mut session = session.into_inner();
+    let mut shares = shares;
+    let mut seats = seats;
+    session.settle(shares.as_mut_slice(), seats.as_mut_slice());
+    Closed {
+        session,
+        shares,
+        seats,
+    }
+}

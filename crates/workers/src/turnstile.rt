@@ -1,0 +1,21 @@
+//! What is called beside a job.
+
+/// Called by a worker beside each job that it runs, both times with the lock free. A job is told by
+/// its serial number, from 1, in the order of their starts.
+pub trait Turnstile: Sync {
+    /// The job was taken, and isn't run yet.
+    fn between(&self, serial: u32);
+
+    /// The job's result was accepted.
+    fn committed(&self, serial: u32);
+}
+
+/// A turnstile that does nothing.
+#[derive(Clone, Copy, PartialEq, Eq, Debug)]
+pub struct Open;
+
+impl Turnstile for Open {
+    fn between(&self, _serial: u32) {}
+
+    fn committed(&self, _serial: u32) {}
+}

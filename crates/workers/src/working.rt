@@ -1,0 +1,148 @@
+//! What one worker does.
+
+ghost use Rattle.std.specs.Prelude.{◌≡◌, ◌+◌, ◌<◌, ◌≤◌};
+ghost use Rattle.workers.specs.Shares.{GoesOn, IsServed};
+
+use crate::feeding::{Item, next_feed};
+use crate::turn::{Turn, take_turn};
+use crate::turnstile::Turnstile;
+use crossbeam_channel::Receiver;
+use replay::Job;
+use sessions::{End, Seat, Session, Share};
+use std::sync::ledger::Ledger;
+use std::sync::{Mutex, Wait};
+use std::{hint, thread};
+use world::{Feed, Refusal};
+
+/// How many turns one after the other a worker finds nothing to do, while a job is open and no feed
+/// is left, before it ends.
+const PATIENCE: u32 = 1_000_000;
+
+/// For so many of them it leaves its processor to others each time, and then each time that so many
+/// are over: where all processors are busy it gives up in the end, too.
+const EAGER: u32 = 1_000;
+
+/// How long it leaves the lock to others between two of them, in looks at nothing.
+const PAUSE: u32 = 64;
+
+/// Takes turns at the session until nothing is left to do, `budget` of its calls were accepted, or a
+/// call is refused. In a turn it takes the next item, until it took the last one, gives the feed to
+/// `input`, and picks a call and makes it. A job that starts is run with the lock free, and its
+/// result is brought back. Ends are those of [`End`]; it waits for items, for the lock, and for jobs
+/// of others.
+pub fn worker<L: Ledger, R: Wait, G: Turnstile>(
+    rt: &R,
+    seat: Seat<L>,
+    session: &Mutex<Session<L>>,
+    items: Receiver<Item>,
+    turnstile: &G,
+    budget: u32,
+) -> Share<L>
+    ensures { IsServed budget seat result }
+{
+    serve(rt, seat, session, &items, turnstile, budget)
+}
+
+/// What [`worker`] does, on a channel that others receive from too.
+pub(crate) fn serve<L: Ledger, R: Wait, G: Turnstile>(
+    rt: &R,
+    seat: Seat<L>,
+    session: &Mutex<Session<L>>,
+    items: &Receiver<Item>,
+    turnstile: &G,
+    budget: u32,
+) -> Share<L>
+    ensures { IsServed budget seat result }
+{
+    let mut seat = seat;
+    let start = seat.answered();
+    let mut doubled = 0;
+    let mut is_fed = true;
+    let mut idle = 0;
+    for _ in rt.forever() {
+        if seat.answered() - start >= budget {
+            return Share {
+                seat,
+                doubled,
+                end: End::Budget,
+            };
+        }
+        let feed = if is_fed { next_feed(rt, items) } else { None };
+        is_fed = feed.is_some();
+        match turn(rt, &mut seat, session, turnstile, feed, &mut doubled) {
+            Err(refusal) => return Share {
+                seat,
+                doubled,
+                end: End::Refused(refusal),
+            },
+            Ok(Turn::Quiet) if !is_fed => return Share {
+                seat,
+                doubled,
+                end: End::Quiet,
+            },
+            Ok(Turn::Waiting) if !is_fed => idle += 1,
+            Ok(_) => idle = 0,
+        }
+        if idle == PATIENCE {
+            return Share {
+                seat,
+                doubled,
+                end: End::Stalled,
+            };
+        }
+        if idle > 0 {
+            rest(idle);
+        }
+    }
+    unreachable!()
+}
+
+// Leaves the lock to others, and the processor too, after so many turns without a call.
+fn rest(idle: u32) {
+    for _ in 0..PAUSE {
+        hint::spin_loop();
+    }
+    if idle < EAGER || idle % EAGER == 0 {
+        thread::yield_now();
+    }
+}
+
+// One turn, with the job that it starts.
+fn turn<L: Ledger, R: Wait, G: Turnstile>(
+    rt: &R,
+    seat: &mut Seat<L>,
+    session: &Mutex<Session<L>>,
+    turnstile: &G,
+    feed: Option<Feed>,
+    doubled: &mut u32,
+) -> Result<Turn, Refusal>
+    ensures { GoesOn seat.old seat.new }
+{
+    let taken = take_turn(&mut session.lock(rt), seat, feed, doubled)?;
+    let Turn::Started(job) = taken else {
+        return Ok(taken);
+    };
+    carry_out(rt, seat, session, turnstile, job)?;
+    Ok(Turn::Made)
+}
+
+// Runs a job with the lock free, and brings its result back.
+fn carry_out<L: Ledger, R: Wait, G: Turnstile>(
+    rt: &R,
+    seat: &mut Seat<L>,
+    session: &Mutex<Session<L>>,
+    turnstile: &G,
+    job: Job,
+) -> Result<(), Refusal>
+    ensures { GoesOn seat.old seat.new }
+{
+    let serial = job.task().serial();
+    turnstile.between(serial);
+    let done = job.run();
+    let finished = session.lock(rt).finish(seat, done);
+    if let Err((refusal, _)) = finished {
+        return Err(refusal);
+    }
+    turnstile.committed(serial);
+    Ok(())
+}
