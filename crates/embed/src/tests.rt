@@ -160,16 +160,43 @@ fn two_faults(rt: HostRuntime) -> Result<(), Fail> {
     Ok(())
 }
 
-// An image of form 2 is checked, and not called: mov r0, 0; exit. The state's length is judged later.
+/// mov r0, 0; exit
+const FORM_2: [u8; 24] =
+    *b"SBI2\x00\x00\x02\x00\xb7\x00\x00\x00\x00\x00\x00\x00\x95\x00\x00\x00\x00\x00\x00\x00";
+
+// An image of form 2 is checked, and not called. The state's length is judged later.
 #[test]
 fn form_2(rt: HostRuntime) -> Result<(), Fail> {
     let alloc = rt.alloc();
-    let file =
-        *b"SBI2\x00\x00\x02\x00\xb7\x00\x00\x00\x00\x00\x00\x00\x95\x00\x00\x00\x00\x00\x00\x00";
     let mut out = [7u8; REPORT_LIMIT];
-    assert_eq!(rt; number_of(check(alloc, &file, &mut out)), 0);
-    assert_eq!(rt; code_of(alloc, &file, &[0; 64], CALLED, &mut out), 9);
+    assert_eq!(rt; number_of(check(alloc, &FORM_2, &mut out)), 0);
+    assert_eq!(rt; code_of(alloc, &FORM_2, &[0; 64], CALLED, &mut out), 9);
     assert_eq!(rt; out[0], 7);
+    Ok(())
+}
+
+/// The codes of one call and of many, by these bytes as messages.
+fn codes_of(alloc: Global, file: &[u8], messages: &[u8]) -> (u32, u32) {
+    let mut out = [7u8; REPORT_LIMIT];
+    let one = code_of(alloc, file, messages, CALLED, &mut out);
+    let mut state = [0u8; 9];
+    let many = number_of(call_many(alloc, file, &mut state, messages, CALLED, &mut out));
+    (one, many)
+}
+
+// A message of another length is refused in either form, before the file is read.
+#[test]
+fn messages_of_other_lengths(rt: HostRuntime) -> Result<(), Fail> {
+    let alloc = rt.alloc();
+    let third = *b"SBI3\x00\x00\x00\x00";
+    for file in [&ADDER[..], &FORM_2, &third] {
+        for message in [&[0; 63][..], &[0; 65], &[0; 257]] {
+            assert_eq!(rt; codes_of(alloc, file, message), (6, 6));
+        }
+    }
+    assert_eq!(rt; codes_of(alloc, &ADDER, &[0; 64]), (5, 5));
+    assert_eq!(rt; codes_of(alloc, &FORM_2, &[0; 64]), (9, 9));
+    assert_eq!(rt; codes_of(alloc, &third, &[0; 64]), (2, 2));
     Ok(())
 }
 

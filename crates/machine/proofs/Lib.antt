@@ -12,7 +12,6 @@ pub mod Soundness
 pub mod Openings
 pub mod Readings
 pub mod JobLemmas
-pub mod InsnEquality
 pub mod Inputs
 pub mod Steps
 pub mod Sendings

@@ -62,10 +62,7 @@ impl Machine {
             return false;
         }
         let image: &Image = &self.images[me as usize - 1];
-        if image.form() != task.image().form() {
-            return false;
-        }
-        image.code() == task.image().code()
+        image.same_code(task.image())
     }
 
     /// Takes in what a handler left, if it is the result of the open job.

@@ -164,6 +164,12 @@ file_once form form' is js m n bytes f g =
     let k = header_once (file_header form is m) (file_header form' js n) (encoding is) (encoding js) bytes (file_has form is m bytes f) (file_has form' js n bytes g) in
     (encoding_once is js f.fits g.fits k.1, ap (λ (h : FileHeader). h.state_len) k.0, magic_once form form' (ap (λ (h : FileHeader). h.magic) k.0))
 
+-- what follows the first eight bytes is the code
+pub code_behind : (form : ImageForm) (is : List Insn) (len : ℕ) (front rest bytes : List ℕ) → IsFile form is len bytes → length front ≡ 8 → bytes ≡ front ++ rest → rest ≡ encoding is
+code_behind form is len front rest bytes f size e =
+    let whole = length-append (magic form) (to_le_bytes w16 len ++ to_le_bytes w16 (slots is)) in
+    (split front (header_bytes (file_header form is len)) rest (encoding is) (omega (arith, size, magic_length form)) (sym e ∙ f.bytes_are)).1
+
 pub short_code : (form : ImageForm) (is : List Insn) (len : ℕ) (bytes : List ℕ) → IsFile form is len bytes → length (slots_of is) ≤ 1024
 short_code form is len bytes f = let k = f.short in omega (arith, length-slots_of is)
 

@@ -9,7 +9,7 @@ use byteorder::{ByteOrder, LittleEndian};
 use regtypes::ImageForm;
 
 /// How many bytes a header has, and so a slot.
-const HEADER: usize = 8;
+pub const HEADER: usize = 8;
 
 /// What a file of form 1 begins with.
 const MAGIC_1: [u8; 4] = [0x53, 0x42, 0x49, 0x31];

@@ -9,9 +9,9 @@ ghost use Rattle.verifier.specs.ImageFile.{IsFile, IsUnread, IsRefusal, GivesPar
 ghost use Rattle.verifier.specs.Verdict.{IsImageOf};
 
 use crate::fault::{ImageError, VerifyError};
-use crate::header::read_header;
+use crate::header::{HEADER, read_header};
 use crate::image::Image;
-use crate::verifying::verify_form;
+use crate::verifying::verify_encoded;
 use decode::{DecodeError, Insn, decode};
 use regtypes::ImageForm;
 use std::alloc::Global;
@@ -44,7 +44,11 @@ pub fn load(alloc: Global, bytes: &[u8]) -> Result<Image, ImageError>
     ensures refused { IfErr result (IsRefusal bytes.now) }
 {
     let (code, state_len, form) = parts(alloc, bytes)?;
-    match verify_form(alloc, code, state_len, form) {
+    let (_header, rest) = bytes.split_at(HEADER);
+    let Ok(encoded) = Vec::from_slice(alloc, rest) else {
+        return Err(ImageError::Memory);
+    };
+    match verify_encoded(alloc, code, encoded, state_len, form) {
         Ok(image) => Ok(image),
         Err(VerifyError::Memory) => Err(ImageError::Memory),
         Err(VerifyError::Fault { rule, slot }) => Err(ImageError::Verify { rule, slot }),

@@ -1,6 +1,6 @@
 ghost use Rattle.std.specs.Prelude.{◌≤◌, length};
 
-use crate::{ImageError, file, load, parts, verify, verify_form};
+use crate::{Image, ImageError, file, load, parts, verify, verify_form};
 use decode::{Insn, Reg};
 use regtypes::{ImageForm, Kind, Region};
 use std::alloc::Global;
@@ -302,8 +302,45 @@ fn handlers_that_know_the_length(rt: HostRuntime) -> Result<(), Fail> {
         verdict_of_form(alloc, 0x31, 0, &two)?,
         Verdict::Verify(8, 1)
     );
+    assert_eq!(rt; caller(alloc, ImageForm::Sbi2)?.form(), ImageForm::Sbi2);
+    Ok(())
+}
+
+/// Whether this file and ADDER have the same code, asked of either.
+fn same_as_adder(alloc: Global, bytes: &[u8]) -> Result<(bool, bool), Fail> {
+    let adder = load(alloc, &ADDER)?;
+    let other = load(alloc, bytes)?;
+    Ok((adder.same_code(&other), other.same_code(&adder)))
+}
+
+#[test]
+fn same_code(rt: HostRuntime) -> Result<(), Fail> {
+    let alloc = rt.alloc();
+    let mut other = ADDER;
+    assert_eq!(rt; same_as_adder(alloc, &other)?, (true, true));
+    // The state has a byte more.
+    other[4] = 9;
+    assert_eq!(rt; same_as_adder(alloc, &other)?, (true, true));
+    // The last assignment is of 1.
+    other[44] = 1;
+    assert_eq!(rt; same_as_adder(alloc, &other)?, (false, false));
+    Ok(())
+}
+
+/// The image of two instructions that call helper 3.
+fn caller(alloc: Global, form: ImageForm) -> Result<Image, Fail> {
     let code = vec![in alloc; Insn::Call { helper: 3 }, Insn::Exit]?;
-    let image = verify_form(alloc, code, 0, ImageForm::Sbi2)?;
-    assert_eq!(rt; image.form(), ImageForm::Sbi2);
+    Ok(verify_form(alloc, code, 0, form)?)
+}
+
+#[test]
+fn same_code_of_a_form(rt: HostRuntime) -> Result<(), Fail> {
+    let alloc = rt.alloc();
+    let first = caller(alloc, ImageForm::Sbi1)?;
+    let second = caller(alloc, ImageForm::Sbi2)?;
+    let bytes = file(alloc, ImageForm::Sbi1, first.code(), 0)?;
+    assert!(rt; first.same_code(&load(alloc, &bytes)?));
+    assert!(rt; !first.same_code(&second));
+    assert!(rt; !second.same_code(&load(alloc, &ADDER)?));
     Ok(())
 }

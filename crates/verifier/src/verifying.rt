@@ -1,6 +1,8 @@
 //! One pass over the slots gives the least typing, or the first fault.
 
 ghost use Rattle.std.specs.Prelude.{◌≡◌, ◌≤◌, ◌<◌, IfOk, MatchResult, length};
+ghost use Rattle.std.specs.List.{AllByRecursion};
+ghost use Rattle.decode.specs.Encoding.{Fits, encoding};
 ghost use Rattle.decode.specs.Slots.{slots_of};
 ghost use Rattle.regtypes.specs.declared.image_form.ImageForm.TheVariants.{Sbi1};
 ghost use Rattle.verifier.specs.Pass.{IsOpening};
@@ -11,7 +13,7 @@ use crate::fault::VerifyError;
 use crate::image::Image;
 use crate::judging::judge;
 use crate::layout::lay_out;
-use decode::Insn;
+use decode::{Insn, encode};
 use regtypes::{Frame, ImageForm, Rule};
 use std::alloc::{AllocError, Global};
 
@@ -52,6 +54,26 @@ pub fn verify_form(
     requires state { state_len ≤ 1024 }
     ensures { MatchResult result (λ image. IsImageOf form code.items state_len image) (λ why. IsWhy form code.items state_len why) }
 {
+    match encode(alloc, &code) {
+        Ok(bytes) => verify_encoded(alloc, code, bytes, state_len, form),
+        Err(_) => Err(VerifyError::Memory),
+    }
+}
+
+/// The same of instructions whose bytes are at hand.
+pub fn verify_encoded(
+    alloc: Global,
+    code: Vec<Insn>,
+    bytes: Vec<u8>,
+    state_len: u16,
+    form: ImageForm,
+) -> Result<Image, VerifyError>
+    requires slots { length (slots_of code.items) ≤ 1024 }
+    requires state { state_len ≤ 1024 }
+    requires fits { AllByRecursion Fits code.items }
+    requires bytes { bytes.items ≡ encoding code.items }
+    ensures { MatchResult result (λ image. IsImageOf form code.items state_len image) (λ why. IsWhy form code.items state_len why) }
+{
     let slots = match lay_out(alloc, &code) {
         Ok(slots) => slots,
         Err(_) => return Err(VerifyError::Memory),
@@ -75,6 +97,7 @@ pub fn verify_form(
         Ok(operations) => Ok(Image {
             form,
             code,
+            bytes,
             table,
             state_len,
             operations,
