@@ -4,6 +4,7 @@ use crate::{Saved, SavedError, decode, encode, migrate, there_and_back};
 use rsn::Receipts;
 use sender_log::Log;
 use std::alloc::Global;
+use std::process::Abort;
 use std::test::Fail;
 
 /// The only process, with a state of eight zeros, as it is saved when a session opens.
@@ -28,11 +29,13 @@ fn refusal(alloc: Global, bytes: &[u8]) -> u8 {
     }
 }
 
-/// The refusal of the bytes with one of them changed.
-fn refusal_with(alloc: Global, bytes: &[u8], place: usize, byte: u8) -> Result<u8, Fail> {
+/// The refusal of the bytes with some of them changed: each one's place, and what stands there then.
+fn refusal_with(alloc: Global, bytes: &[u8], changes: &[(usize, u8)]) -> Result<u8, Fail> {
     let mut changed = Vec::from_slice(alloc, bytes)?;
-    if place < changed.len() {
-        changed[place] = byte;
+    for (place, byte) in changes {
+        if *place < changed.len() {
+            changed[*place] = *byte;
+        }
     }
     Ok(refusal(alloc, &changed))
 }
@@ -49,6 +52,14 @@ fn relay_bytes(alloc: Global) -> Result<Vec<u8>, Fail> {
     let mut bytes = Vec::from_slice(alloc, &RELAY)?;
     bytes.extend_from_slice(&[0x40, 0])?;
     bytes.extend_from_slice(&seven())?;
+    Ok(bytes)
+}
+
+/// The relay's bytes in the first form.
+fn first_relay_bytes(alloc: Global) -> Result<Vec<u8>, Fail> {
+    let mut bytes = Vec::from_slice(alloc, &RELAY)?;
+    bytes.extend_from_slice(&seven())?;
+    bytes[3] = 0x31;
     Ok(bytes)
 }
 
@@ -115,9 +126,7 @@ fn a_relay_is_saved_and_comes_back(rt: HostRuntime) -> Result<(), Fail> {
 #[test]
 fn a_relay_in_the_first_form_migrates(rt: HostRuntime) -> Result<(), Fail> {
     let alloc = rt.alloc();
-    let mut first = Vec::from_slice(alloc, &RELAY)?;
-    first.extend_from_slice(&seven())?;
-    first[3] = 0x31;
+    let first = first_relay_bytes(alloc)?;
     assert_eq!(rt; first.len(), 93);
     assert_eq!(rt;
         migrate(alloc, &first)?.as_slice(),
@@ -126,21 +135,24 @@ fn a_relay_in_the_first_form_migrates(rt: HostRuntime) -> Result<(), Fail> {
     Ok(())
 }
 
-#[test]
-fn beginnings_and_what_is_left_over(rt: HostRuntime) -> Result<(), Fail> {
-    let alloc = rt.alloc();
-    for len in 0..OPENING.len() {
-        assert_eq!(rt; refusal(alloc, &OPENING[..len]), 2);
+/// Each beginning of the bytes is refused for its length, and so are they with a byte behind them.
+fn is_whole(rt: &impl Abort, alloc: Global, bytes: &[u8]) -> Result<(), Fail> {
+    for len in 0..bytes.len() {
+        assert_eq!(rt; refusal(alloc, &bytes[..len]), 2);
     }
-    let relay = relay_bytes(alloc)?;
-    for len in 0..relay.len() {
-        assert_eq!(rt; refusal(alloc, &relay[..len]), 2);
-    }
-    let mut longer = Vec::from_slice(alloc, &OPENING)?;
+    let mut longer = Vec::from_slice(alloc, bytes)?;
     assert_eq!(rt; refusal(alloc, &longer), 0);
     longer.push(0)?;
     assert_eq!(rt; refusal(alloc, &longer), 2);
     Ok(())
+}
+
+#[test]
+fn beginnings_and_what_is_left_over(rt: HostRuntime) -> Result<(), Fail> {
+    let alloc = rt.alloc();
+    is_whole(&rt, alloc, &OPENING)?;
+    is_whole(&rt, alloc, &relay_bytes(alloc)?)?;
+    is_whole(&rt, alloc, &first_relay_bytes(alloc)?)
 }
 
 #[test]
@@ -149,6 +161,8 @@ fn fields_out_of_range(rt: HostRuntime) -> Result<(), Fail> {
     for (place, byte, number) in [
         // another magic
         (0, 0x54, 1),
+        (3, 0, 1),
+        (3, 3, 1),
         (3, 0x30, 1),
         (3, 0x33, 1),
         // 1,032 bytes of state, no process, 16 of them, no number, one above the count
@@ -167,7 +181,33 @@ fn fields_out_of_range(rt: HostRuntime) -> Result<(), Fail> {
         (26, 8, 2),
         (26, 9, 3),
     ] {
-        assert_eq!(rt; refusal_with(alloc, &OPENING, place, byte)?, number);
+        assert_eq!(rt; refusal_with(alloc, &OPENING, &[(place, byte)])?, number);
+    }
+    Ok(())
+}
+
+/// The greatest values of fields, and those above.
+#[test]
+fn fields_at_their_limits(rt: HostRuntime) -> Result<(), Fail> {
+    let alloc = rt.alloc();
+    for (first, second, number) in [
+        // 1,024 bytes of state, which are missing, and one more
+        ((4, 0), (5, 4), 2),
+        ((4, 1), (5, 4), 3),
+        // 65,536 receipts, and one more
+        ((8, 0), (10, 1), 2),
+        ((8, 1), (10, 1), 3),
+        // the last of 15 processes, and none of them
+        ((6, 15), (7, 15), 2),
+        ((6, 15), (7, 16), 3),
+        // 524,289 as the first SSN, with no payload, and one more
+        ((20, 1), (22, 8), 0),
+        ((20, 2), (22, 8), 3),
+        // 524,288 payloads from the first SSN on, and from the second
+        ((20, 1), (26, 8), 2),
+        ((20, 2), (26, 8), 3),
+    ] {
+        assert_eq!(rt; refusal_with(alloc, &OPENING, &[first, second])?, number);
     }
     Ok(())
 }
@@ -177,13 +217,13 @@ fn receipts_and_payload_lengths_out_of_range(rt: HostRuntime) -> Result<(), Fail
     let alloc = rt.alloc();
     let relay = relay_bytes(alloc)?;
     // the process itself, and a number above the count, as a sender
-    assert_eq!(rt; refusal_with(alloc, &relay, 12, 1)?, 3);
-    assert_eq!(rt; refusal_with(alloc, &relay, 12, 3)?, 3);
-    assert_eq!(rt; refusal_with(alloc, &relay, 12, 2)?, 0);
+    assert_eq!(rt; refusal_with(alloc, &relay, &[(12, 1)])?, 3);
+    assert_eq!(rt; refusal_with(alloc, &relay, &[(12, 3)])?, 3);
+    assert_eq!(rt; refusal_with(alloc, &relay, &[(12, 2)])?, 0);
     // 321 bytes: the length is judged before the bytes are missed
-    assert_eq!(rt; refusal_with(alloc, &relay, 30, 1)?, 3);
-    assert_eq!(rt; refusal_with(alloc, &relay, 29, 0x41)?, 2);
-    assert_eq!(rt; refusal_with(alloc, &relay, 29, 0x3f)?, 2);
+    assert_eq!(rt; refusal_with(alloc, &relay, &[(30, 1)])?, 3);
+    assert_eq!(rt; refusal_with(alloc, &relay, &[(29, 0x41)])?, 2);
+    assert_eq!(rt; refusal_with(alloc, &relay, &[(29, 0x3f)])?, 2);
     // cut inside the receipts, of which one is no sender
     let mut cut = Vec::from_slice(alloc, &RELAY[..12])?;
     cut[8] = 2;

@@ -9,7 +9,8 @@ use world::Refusal;
 pub enum End {
     /// No call could be picked, no job was open, and no feed was left.
     Quiet,
-    /// As many of its calls were accepted as it was allowed, or one more.
+    /// As many of its calls were accepted as it was allowed, or up to two more: a turn that was begun
+    /// is made whole.
     Budget,
     /// A call was refused, for another cause than a feed number that is taken.
     Refused(Refusal),

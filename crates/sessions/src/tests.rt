@@ -1,13 +1,17 @@
 ghost use Rattle.std.specs.Prelude.{◌≡◌};
 
+mod crashing;
 mod driven;
+mod lengths;
 mod messages;
 mod reading;
 mod recovering;
 mod refusals;
+mod saving;
 mod script;
 
 use crate::{Arrival, Finished, Seat, Session};
+use crashing::Course;
 use helpers::Payload;
 use replay::Done;
 use script::Step;
@@ -51,6 +55,10 @@ const ECHO: [u8; 24] = [
 struct Stage<L: Ledger> {
     session: Session<L>,
     seat: Seat<L>,
+    /// The result of the job that was started last, until it is accepted.
+    last: Option<Done>,
+    /// The one that was held when that job was started.
+    late: Option<Done>,
     ghost nobody: { seat.worker ≡ 0 },
 }
 
@@ -60,27 +68,28 @@ fn word(value: u8) -> Payload {
     Payload::from(bytes)
 }
 
-/// The images of so many adders.
-fn adders(alloc: Global, count: usize) -> Result<Vec<Arc<Image>>, Fail> {
+/// Which handlers a session has.
+#[derive(Clone, Copy)]
+enum Cast {
+    Adders(usize),
+    WideAdder,
+    RelayAndEcho,
+}
+
+fn images(alloc: Global, cast: Cast) -> Result<Vec<Arc<Image>>, Fail> {
     let mut images = Vec::new(alloc);
-    for made in 0..count {
-        images.push(Arc::new(alloc, load(alloc, &ADDER)?)?)?;
+    match cast {
+        Cast::Adders(count) => {
+            for _ in 0..count {
+                images.push(Arc::new(alloc, load(alloc, &ADDER)?)?)?;
+            }
+        }
+        Cast::WideAdder => images.push(Arc::new(alloc, load(alloc, &WIDE_ADDER)?)?)?,
+        Cast::RelayAndEcho => {
+            images.push(Arc::new(alloc, load(alloc, &RELAY)?)?)?;
+            images.push(Arc::new(alloc, load(alloc, &ECHO)?)?)?;
+        }
     }
-    Ok(images)
-}
-
-/// The image of an adder with a wide state.
-fn wide_adder(alloc: Global) -> Result<Vec<Arc<Image>>, Fail> {
-    let mut images = Vec::new(alloc);
-    images.push(Arc::new(alloc, load(alloc, &WIDE_ADDER)?)?)?;
-    Ok(images)
-}
-
-/// The images of a relay and an echo.
-fn relay_and_echo(alloc: Global) -> Result<Vec<Arc<Image>>, Fail> {
-    let mut images = Vec::new(alloc);
-    images.push(Arc::new(alloc, load(alloc, &RELAY)?)?)?;
-    images.push(Arc::new(alloc, load(alloc, &ECHO)?)?)?;
     Ok(images)
 }
 
@@ -93,7 +102,12 @@ fn open<L: Ledger>(alloc: Global, blank: Blank, images: Vec<Arc<Image>>) -> Resu
     let Some(seat) = session.sit(0) else {
         return Err("nobody has no seat")?;
     };
-    Ok(Stage { session, seat })
+    Ok(Stage {
+        session,
+        seat,
+        last: None,
+        late: None,
+    })
 }
 
 /// What is played on a stage.
@@ -128,32 +142,60 @@ fn play_in<L: Ledger>(
 
 /// Plays the scene in a session of so many adders.
 fn play(rt: &impl Abort, alloc: Global, count: usize, scene: Scene) -> Result<(), Fail> {
-    play_in::<Brand>(rt, alloc, Blank::new(17), adders(alloc, count)?, scene)
+    play_in::<Brand>(
+        rt,
+        alloc,
+        Blank::new(17),
+        images(alloc, Cast::Adders(count))?,
+        scene,
+    )
 }
 
 fn follow_in<L: Ledger>(
-    rt: &impl Abort,
     alloc: Global,
     blank: Blank,
-    images: Vec<Arc<Image>>,
+    cast: Cast,
     script: &[Step],
-) -> Result<(), Fail>
+) -> Result<Option<usize>, Fail>
     requires name { blank.name ≡ L.name }
     requires parts { (blank.parts ≡ L.parts) × (blank.parts ≡ 17) }
 {
-    let mut stage: Stage<L> = open(alloc, blank, images)?;
-    assert_eq!(rt; stage.first_wrong(script), None);
+    let mut stage: Stage<L> = open(alloc, blank, images(alloc, cast)?)?;
+    Ok(stage.first_wrong(script))
+}
+
+/// Follows each script in a session of its own.
+fn follow(rt: &impl Abort, alloc: Global, scripts: &[(Cast, &[Step])]) -> Result<(), Fail> {
+    for (place, (cast, script)) in scripts.iter().enumerate() {
+        let wrong = follow_in::<Brand>(alloc, Blank::new(17), *cast, *script)?;
+        assert_eq!(rt; wrong, None, "script {place}");
+    }
     Ok(())
 }
 
-/// Follows the script in a session of these images.
-fn follow(
-    rt: &impl Abort,
+fn survives_in<L: Ledger>(
     alloc: Global,
-    images: Vec<Arc<Image>>,
-    script: &[Step],
-) -> Result<(), Fail> {
-    follow_in::<Brand>(rt, alloc, Blank::new(17), images, script)
+    blank: Blank,
+    course: &Course,
+    after: usize,
+    failure: &[Step],
+) -> Result<bool, Fail>
+    requires name { blank.name ≡ L.name }
+    requires parts { (blank.parts ≡ L.parts) × (blank.parts ≡ 17) }
+{
+    let mut stage: Stage<L> = open(alloc, blank, images(alloc, course.cast)?)?;
+    Ok(stage.survives(course, after, failure))
+}
+
+/// Plays a course in sessions of their own, with each of its failures after each of its calls.
+fn survive(rt: &impl Abort, alloc: Global, course: &Course) -> Result<(), Fail> {
+    for failure in course.failures {
+        for after in 0..=course.calls.len() {
+            let is_right = survives_in::<Brand>(alloc, Blank::new(17), course, after, *failure)?;
+            assert!(rt; is_right, "after {after} calls");
+        }
+    }
+    Ok(())
 }
 
 /// The number of a refusal, or 0.
@@ -355,7 +397,7 @@ fn result_elsewhere<L: Ledger>(
     requires name { blank.name ≡ L.name }
     requires parts { (blank.parts ≡ L.parts) × (blank.parts ≡ 17) }
 {
-    let mut other: Stage<L> = open(alloc, blank, adders(alloc, count)?)?;
+    let mut other: Stage<L> = open(alloc, blank, images(alloc, Cast::Adders(count))?)?;
     Ok(other.result_of(words))
 }
 
@@ -446,7 +488,7 @@ fn opening<L: Ledger>(alloc: Global, blank: Blank, count: usize) -> Result<u8, F
     requires name { blank.name ≡ L.name }
     requires parts { (blank.parts ≡ L.parts) × (blank.parts ≡ 17) }
 {
-    let images = adders(alloc, count)?;
+    let images = images(alloc, Cast::Adders(count))?;
     let session: Result<Session<L>, Refusal> = Session::open(alloc, blank, images);
     Ok(number_of(session))
 }
@@ -490,64 +532,48 @@ fn each_seat_is_taken_once_and_counts(rt: HostRuntime) -> Result<(), Fail> {
 
 #[test]
 fn messages_are_numbered_and_acknowledged(rt: HostRuntime) -> Result<(), Fail> {
-    let alloc = rt.alloc();
-    follow(&rt, alloc, adders(alloc, 1)?, &messages::ACKNOWLEDGED)?;
-    follow(&rt, alloc, adders(alloc, 1)?, &messages::COPIED)
-}
-
-#[test]
-fn early_messages_are_dropped_and_lost_ones_sent_again(rt: HostRuntime) -> Result<(), Fail> {
-    let alloc = rt.alloc();
-    follow(&rt, alloc, adders(alloc, 1)?, &messages::EARLY)?;
-    follow(&rt, alloc, adders(alloc, 1)?, &messages::LOST)
-}
-
-#[test]
-fn sends_leave_by_position_and_are_shown_once(rt: HostRuntime) -> Result<(), Fail> {
-    let alloc = rt.alloc();
-    follow(&rt, alloc, relay_and_echo(alloc)?, &messages::BY_POSITION)?;
-    follow(&rt, alloc, relay_and_echo(alloc)?, &messages::ROUND)
-}
-
-#[test]
-fn a_state_can_have_1024_bytes(rt: HostRuntime) -> Result<(), Fail> {
-    let alloc = rt.alloc();
-    follow(&rt, alloc, wide_adder(alloc)?, &messages::WIDE)
+    follow(&rt, rt.alloc(), &messages::SCRIPTS)
 }
 
 #[test]
 fn refused_calls_tell_the_least_number(rt: HostRuntime) -> Result<(), Fail> {
-    let alloc = rt.alloc();
-    follow(&rt, alloc, adders(alloc, 2)?, &refusals::CALLS)?;
-    follow(&rt, alloc, adders(alloc, 1)?, &refusals::BUSY)
+    follow(&rt, rt.alloc(), &refusals::SCRIPTS)
 }
 
 #[test]
 fn a_full_wire_takes_no_packet(rt: HostRuntime) -> Result<(), Fail> {
-    let alloc = rt.alloc();
-    follow(&rt, alloc, adders(alloc, 1)?, &refusals::WIRE)
+    follow(&rt, rt.alloc(), &refusals::FULL_WIRE)
 }
 
 #[test]
 fn a_full_journal_takes_no_call(rt: HostRuntime) -> Result<(), Fail> {
-    let alloc = rt.alloc();
-    follow(&rt, alloc, adders(alloc, 1)?, &refusals::JOURNAL)?;
-    follow(&rt, alloc, adders(alloc, 1)?, &refusals::PLACE)
+    follow(&rt, rt.alloc(), &refusals::FULL)
+}
+
+#[test]
+fn failed_processes_refuse_in_order(rt: HostRuntime) -> Result<(), Fail> {
+    follow(&rt, rt.alloc(), &refusals::FAILED)
 }
 
 #[test]
 fn a_session_drives_itself(rt: HostRuntime) -> Result<(), Fail> {
-    let alloc = rt.alloc();
-    follow(&rt, alloc, adders(alloc, 1)?, &driven::ONE)?;
-    follow(&rt, alloc, adders(alloc, 1)?, &driven::ANEW)?;
-    follow(&rt, alloc, adders(alloc, 1)?, &driven::BUDGET)?;
-    follow(&rt, alloc, relay_and_echo(alloc)?, &driven::OUT)
+    follow(&rt, rt.alloc(), &driven::SCRIPTS)
 }
 
 #[test]
 fn processes_come_back(rt: HostRuntime) -> Result<(), Fail> {
-    let alloc = rt.alloc();
-    follow(&rt, alloc, adders(alloc, 1)?, &recovering::REPLAYED)?;
-    follow(&rt, alloc, adders(alloc, 1)?, &recovering::STALE)?;
-    follow(&rt, alloc, adders(alloc, 2)?, &recovering::OVERLAP)
+    follow(&rt, rt.alloc(), &recovering::SCRIPTS)
+}
+
+#[test]
+fn processes_are_saved(rt: HostRuntime) -> Result<(), Fail> {
+    follow(&rt, rt.alloc(), &saving::SCRIPTS)
+}
+
+#[test]
+fn a_crash_after_each_entry_is_survived(rt: HostRuntime) -> Result<(), Fail> {
+    for course in &crashing::COURSES {
+        survive(&rt, rt.alloc(), course)?;
+    }
+    Ok(())
 }

@@ -1,10 +1,19 @@
 //! What a session does by itself, each answer worked out by hand.
 
+use super::Cast;
 use super::script::{Act, Step};
 use world::{Answer, PhaseName};
 
+/// What is followed, and by which handlers.
+pub(crate) const SCRIPTS: [(Cast, &[Step]); 4] = [
+    (Cast::Adders(1), &ONE),
+    (Cast::Adders(1), &ANEW),
+    (Cast::Adders(1), &BUDGET),
+    (Cast::RelayAndEcho, &OUT),
+];
+
 /// A message goes all its way, and then nothing is left to do.
-pub(crate) const ONE: [Step; 12] = [
+const ONE: [Step; 12] = [
     Step::Drives(10, 0),
     Step::Does(Act::Input(1, 5), Answer::Logged(1)),
     Step::Drives(10, 5),
@@ -20,7 +29,7 @@ pub(crate) const ONE: [Step; 12] = [
 ];
 
 /// A message that came early is sent anew when its turn has come.
-pub(crate) const ANEW: [Step; 6] = [
+const ANEW: [Step; 6] = [
     Step::Does(Act::Input(1, 1), Answer::Logged(1)),
     Step::Does(Act::Input(1, 2), Answer::Logged(2)),
     Step::Does(Act::Transmit(0, 1, 2), Answer::Placed(0)),
@@ -30,7 +39,7 @@ pub(crate) const ANEW: [Step; 6] = [
 ];
 
 /// A job that starts is finished, past the budget too.
-pub(crate) const BUDGET: [Step; 6] = [
+const BUDGET: [Step; 6] = [
     Step::Does(Act::Input(1, 5), Answer::Logged(1)),
     Step::Drives(0, 0),
     Step::Drives(1, 1),
@@ -40,8 +49,8 @@ pub(crate) const BUDGET: [Step; 6] = [
 ];
 
 /// A message is sent on to an echo, and shown once.
-pub(crate) const OUT: [Step; 3] = [
+const OUT: [Step; 3] = [
     Step::Does(Act::Input(1, 7), Answer::Logged(1)),
     Step::Drives(100, 12),
-    Step::Shows(2, 1, 7),
+    Step::Shows(&[(2, 1, 7)]),
 ];

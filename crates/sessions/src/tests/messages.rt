@@ -1,10 +1,22 @@
 //! Messages with their numbers and acknowledgements, each answer worked out by hand.
 
+use super::Cast;
 use super::script::{Act, Step};
 use world::{Answer, PhaseName};
 
+/// What is followed, and by which handlers.
+pub(crate) const SCRIPTS: [(Cast, &[Step]); 7] = [
+    (Cast::Adders(1), &ACKNOWLEDGED),
+    (Cast::Adders(1), &COPIED),
+    (Cast::Adders(1), &EARLY),
+    (Cast::Adders(1), &LOST),
+    (Cast::RelayAndEcho, &BY_POSITION),
+    (Cast::RelayAndEcho, &ROUND),
+    (Cast::WideAdder, &WIDE),
+];
+
 /// A message, its number and its acknowledgement, after which nothing is left on the wire.
-pub(crate) const ACKNOWLEDGED: [Step; 10] = [
+const ACKNOWLEDGED: [Step; 10] = [
     Step::Does(Act::Input(1, 5), Answer::Logged(1)),
     Step::Does(Act::Transmit(0, 1, 1), Answer::Placed(0)),
     Step::Does(Act::Arrive(0), Answer::Started(1)),
@@ -18,7 +30,7 @@ pub(crate) const ACKNOWLEDGED: [Step; 10] = [
 ];
 
 /// A message twice: each copy is numbered, and each number acknowledged.
-pub(crate) const COPIED: [Step; 13] = [
+const COPIED: [Step; 13] = [
     Step::Does(Act::Input(1, 5), Answer::Logged(1)),
     Step::Does(Act::Transmit(0, 1, 1), Answer::Placed(0)),
     Step::Does(Act::Copy(0), Answer::Placed(1)),
@@ -35,7 +47,7 @@ pub(crate) const COPIED: [Step; 13] = [
 ];
 
 /// The second of two messages comes first, and is dropped; a message that comes again starts nothing.
-pub(crate) const EARLY: [Step; 14] = [
+const EARLY: [Step; 14] = [
     Step::Does(Act::Input(1, 1), Answer::Logged(1)),
     Step::Does(Act::Input(1, 2), Answer::Logged(2)),
     Step::Does(Act::Transmit(0, 1, 2), Answer::Placed(0)),
@@ -53,7 +65,7 @@ pub(crate) const EARLY: [Step; 14] = [
 ];
 
 /// A message and its number are lost, and sent again.
-pub(crate) const LOST: [Step; 13] = [
+const LOST: [Step; 13] = [
     Step::Does(Act::Input(1, 5), Answer::Logged(1)),
     Step::Does(Act::Transmit(0, 1, 1), Answer::Placed(0)),
     Step::Does(Act::Lose(0), Answer::Lost),
@@ -70,7 +82,7 @@ pub(crate) const LOST: [Step; 13] = [
 ];
 
 /// A relay takes two messages, of which the first alone is acknowledged: what it sent by then leaves.
-pub(crate) const BY_POSITION: [Step; 14] = [
+const BY_POSITION: [Step; 14] = [
     Step::Does(Act::Input(1, 1), Answer::Logged(1)),
     Step::Does(Act::Input(1, 2), Answer::Logged(2)),
     Step::Does(Act::Transmit(0, 1, 1), Answer::Placed(0)),
@@ -88,7 +100,7 @@ pub(crate) const BY_POSITION: [Step; 14] = [
 ];
 
 /// From the outside by a relay and an echo to the outside, where a copy shows nothing.
-pub(crate) const ROUND: [Step; 17] = [
+const ROUND: [Step; 17] = [
     Step::Does(Act::Input(1, 7), Answer::Logged(1)),
     Step::Does(Act::Transmit(0, 1, 1), Answer::Placed(0)),
     Step::Does(Act::Arrive(0), Answer::Started(1)),
@@ -105,11 +117,11 @@ pub(crate) const ROUND: [Step; 17] = [
     Step::Does(Act::Arrive(0), Answer::Shown(1)),
     Step::Does(Act::Arrive(1), Answer::ShownBefore),
     Step::Has(15),
-    Step::Shows(2, 1, 7),
+    Step::Shows(&[(2, 1, 7)]),
 ];
 
 /// Words are added at the end of a state of 1,024 bytes.
-pub(crate) const WIDE: [Step; 6] = [
+const WIDE: [Step; 6] = [
     Step::Does(Act::Input(1, 5), Answer::Logged(1)),
     Step::Drives(100, 5),
     Step::Does(Act::Input(1, 6), Answer::Logged(2)),

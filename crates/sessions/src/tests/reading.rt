@@ -1,6 +1,6 @@
 //! What a machine tells of its processes.
 
-use super::{relay_and_echo, word};
+use super::{Cast, images, word};
 use machine::{Arrival, Finished, Machine};
 use send_gate::Held;
 use std::alloc::Global;
@@ -14,7 +14,7 @@ const ROOM: u32 = 100;
 /// A relay that received a message and sends it on to an echo, and the key of the packet that tells
 /// the message's number.
 fn relayed(rt: &impl Abort, alloc: Global) -> Result<(Machine, usize), Fail> {
-    let mut machine = Machine::open(alloc, relay_and_echo(alloc)?)?;
+    let mut machine = Machine::open(alloc, images(alloc, Cast::RelayAndEcho)?)?;
     assert_eq!(rt; machine.calls(), 0);
     let feed = Feed {
         number: 7,

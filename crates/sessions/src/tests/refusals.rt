@@ -1,10 +1,32 @@
 //! Refused calls: each cause alone, and two at once, where the least number is told.
 
+use super::Cast;
 use super::script::{Act, Step};
 use world::{Answer, PhaseName};
 
+/// What is followed, and by which handlers.
+pub(crate) const SCRIPTS: [(Cast, &[Step]); 2] = [
+    (Cast::Adders(2), &CALLS),
+    (Cast::Adders(1), &BUSY),
+];
+
+/// A full wire, and then a full journal.
+pub(crate) const FULL_WIRE: [(Cast, &[Step]); 1] = [(Cast::Adders(1), &WIRE)];
+
+/// Full journals.
+pub(crate) const FULL: [(Cast, &[Step]); 2] = [
+    (Cast::Adders(1), &JOURNAL),
+    (Cast::Adders(1), &PLACE),
+];
+
+/// Full journals of processes that aren't up.
+pub(crate) const FAILED: [(Cast, &[Step]); 2] = [
+    (Cast::Adders(5), &PHASES),
+    (Cast::Adders(1), &DOWN),
+];
+
 /// Calls of two processes, with one message on the wire.
-pub(crate) const CALLS: [Step; 34] = [
+const CALLS: [Step; 38] = [
     Step::Does(Act::Input(1, 5), Answer::Logged(1)),
     Step::Does(Act::Transmit(0, 1, 1), Answer::Placed(0)),
     Step::Refuses(Act::Input(0, 7), 1),
@@ -38,11 +60,15 @@ pub(crate) const CALLS: [Step; 34] = [
     Step::Refuses(Act::Arrive(1), 4),
     Step::Refuses(Act::Arrive(9), 4),
     Step::Refuses(Act::Arrive(4_096), 4),
+    Step::Refuses(Act::Recover(1), 10),
+    Step::Refuses(Act::RecoverAlone(1), 10),
+    Step::Refuses(Act::Replay(1), 11),
+    Step::Refuses(Act::Resync(1, 2), 11),
     Step::Has(2),
 ];
 
 /// A process that works takes no message, and the key of the one that it works on is vacated.
-pub(crate) const BUSY: [Step; 12] = [
+const BUSY: [Step; 12] = [
     Step::Does(Act::Input(1, 5), Answer::Logged(1)),
     Step::Does(Act::Input(1, 6), Answer::Logged(2)),
     Step::Does(Act::Transmit(0, 1, 1), Answer::Placed(0)),
@@ -58,7 +84,7 @@ pub(crate) const BUSY: [Step; 12] = [
 ];
 
 /// 4,096 packets are the most, those of the open jobs among them; and then the journal is full too.
-pub(crate) const WIRE: [Step; 23] = [
+const WIRE: [Step; 23] = [
     Step::Does(Act::Input(1, 5), Answer::Logged(1)),
     Step::Does(Act::Transmit(0, 1, 1), Answer::Placed(0)),
     Step::Repeats(Act::Copy(0), Act::Copy(0), 2_047),
@@ -85,7 +111,7 @@ pub(crate) const WIRE: [Step; 23] = [
 ];
 
 /// 65,536 entries are the most. A job would need a place of its own.
-pub(crate) const JOURNAL: [Step; 23] = [
+const JOURNAL: [Step; 30] = [
     Step::Does(Act::Input(1, 5), Answer::Logged(1)),
     Step::Does(Act::Transmit(0, 1, 1), Answer::Placed(0)),
     Step::Repeats(Act::Copy(0), Act::Lose(1), 32_766),
@@ -108,11 +134,18 @@ pub(crate) const JOURNAL: [Step; 23] = [
     Step::Refuses(Act::Lose(0), 4),
     Step::Refuses(Act::Arrive(1), 12),
     Step::Refuses(Act::Arrive(0), 4),
+    Step::Refuses(Act::Checkpoint(1), 12),
+    Step::Refuses(Act::Trim(1), 12),
+    Step::Refuses(Act::Crash(1), 12),
+    Step::Refuses(Act::Recover(1), 10),
+    Step::Refuses(Act::RecoverAlone(1), 10),
+    Step::Refuses(Act::Replay(1), 11),
+    Step::Refuses(Act::Resync(1, 1), 5),
     Step::Has(65_536),
 ];
 
 /// An open job has a place in the journal, which its result gets.
-pub(crate) const PLACE: [Step; 16] = [
+const PLACE: [Step; 16] = [
     Step::Does(Act::Input(1, 5), Answer::Logged(1)),
     Step::Does(Act::Input(1, 6), Answer::Logged(2)),
     Step::Does(Act::Transmit(0, 1, 1), Answer::Placed(0)),
@@ -129,4 +162,169 @@ pub(crate) const PLACE: [Step; 16] = [
     Step::Refuses(Act::Arrive(1), 12),
     Step::IsAt(1, PhaseName::Up, 1, 5),
     Step::Has(65_536),
+];
+
+/// Five processes, one in each phase: each cause of a refusal alone and with others.
+const PHASES: [Step; 129] = [
+    // 3 replays two messages, 2 is down
+    Step::Does(Act::Input(3, 1), Answer::Logged(1)),
+    Step::Drives(100, 5),
+    Step::Does(Act::Input(3, 2), Answer::Logged(2)),
+    Step::Drives(100, 5),
+    Step::Does(Act::Crash(3), Answer::Crashed(2)),
+    Step::Does(Act::Crash(2), Answer::Crashed(2)),
+    Step::Does(Act::RecoverAlone(3), Answer::Kept(2)),
+    // 4 has numbers to restore, with 1 and 5
+    Step::Does(Act::Crash(4), Answer::Crashed(2)),
+    Step::Does(Act::RecoverAlone(4), Answer::Kept(0)),
+    // 5 works
+    Step::Does(Act::Input(5, 1), Answer::Logged(1)),
+    Step::Does(Act::Transmit(0, 5, 1), Answer::Placed(0)),
+    Step::Does(Act::Arrive(0), Answer::Started(3)),
+    Step::IsAt(1, PhaseName::Up, 0, 0),
+    Step::IsBare(2, PhaseName::Down, 0),
+    Step::IsAt(3, PhaseName::Replaying, 0, 0),
+    Step::IsAt(4, PhaseName::Resync, 0, 0),
+    Step::IsAt(5, PhaseName::Busy, 0, 0),
+    // no such process, whatever else holds
+    Step::Refuses(Act::Checkpoint(0), 1),
+    Step::Refuses(Act::Checkpoint(6), 1),
+    Step::Refuses(Act::Checkpoint(255), 1),
+    Step::Refuses(Act::Crash(0), 1),
+    Step::Refuses(Act::Crash(6), 1),
+    Step::Refuses(Act::Crash(255), 1),
+    Step::Refuses(Act::Recover(0), 1),
+    Step::Refuses(Act::Recover(6), 1),
+    Step::Refuses(Act::Recover(255), 1),
+    Step::Refuses(Act::RecoverAlone(0), 1),
+    Step::Refuses(Act::RecoverAlone(6), 1),
+    Step::Refuses(Act::RecoverAlone(255), 1),
+    Step::Refuses(Act::Replay(0), 1),
+    Step::Refuses(Act::Replay(6), 1),
+    Step::Refuses(Act::Replay(255), 1),
+    Step::Refuses(Act::Trim(6), 1),
+    Step::Refuses(Act::Trim(255), 1),
+    Step::Refuses(Act::Resync(0, 1), 1),
+    Step::Refuses(Act::Resync(6, 1), 1),
+    Step::Refuses(Act::Resync(255, 1), 1),
+    Step::Refuses(Act::Resync(1, 0), 1),
+    Step::Refuses(Act::Resync(1, 6), 1),
+    Step::Refuses(Act::Resync(4, 255), 1),
+    Step::Refuses(Act::Resync(4, 0), 1),
+    Step::Refuses(Act::Resync(0, 0), 1),
+    Step::Refuses(Act::Resync(6, 6), 1),
+    Step::Refuses(Act::Transmit(2, 6, 1), 1),
+    // not up, before a receiver that is the sender, what isn't released and what isn't logged
+    Step::Refuses(Act::Checkpoint(2), 2),
+    Step::Refuses(Act::Checkpoint(3), 2),
+    Step::Refuses(Act::Checkpoint(4), 2),
+    Step::Refuses(Act::Crash(2), 2),
+    Step::Refuses(Act::Transmit(2, 1, 1), 2),
+    Step::Refuses(Act::Transmit(3, 1, 1), 2),
+    Step::Refuses(Act::Transmit(4, 1, 1), 2),
+    Step::Refuses(Act::Transmit(2, 2, 1), 2),
+    Step::Refuses(Act::Transmit(4, 4, 0), 2),
+    Step::Refuses(Act::Transmit(3, 1, 0), 2),
+    // busy, before another phase
+    Step::Refuses(Act::Checkpoint(5), 3),
+    Step::Refuses(Act::Replay(5), 3),
+    // a process with itself, before a peer that isn't up and one that isn't to do
+    Step::Refuses(Act::Resync(4, 4), 5),
+    Step::Refuses(Act::Resync(2, 2), 5),
+    Step::Refuses(Act::Resync(1, 1), 5),
+    // a peer isn't up, before a process that isn't down and a peer that isn't to do
+    Step::Refuses(Act::Recover(2), 8),
+    Step::Refuses(Act::Recover(1), 8),
+    Step::Refuses(Act::Recover(5), 8),
+    Step::Refuses(Act::Resync(4, 2), 8),
+    Step::Refuses(Act::Resync(4, 3), 8),
+    Step::Refuses(Act::Resync(1, 4), 8),
+    Step::Refuses(Act::Resync(3, 2), 8),
+    // not down
+    Step::Refuses(Act::RecoverAlone(1), 10),
+    Step::Refuses(Act::RecoverAlone(3), 10),
+    Step::Refuses(Act::RecoverAlone(4), 10),
+    Step::Refuses(Act::RecoverAlone(5), 10),
+    // another phase, and a peer that isn't to do
+    Step::Refuses(Act::Replay(1), 11),
+    Step::Refuses(Act::Replay(2), 11),
+    Step::Refuses(Act::Replay(4), 11),
+    Step::Refuses(Act::Resync(1, 5), 11),
+    Step::Refuses(Act::Resync(2, 1), 11),
+    Step::Refuses(Act::Resync(3, 1), 11),
+    Step::Has(20),
+    // what the outside has for one that isn't up is logged and sent, and reaches nobody
+    Step::Does(Act::Input(2, 1), Answer::Logged(1)),
+    Step::Does(Act::Input(3, 1), Answer::Logged(3)),
+    Step::Does(Act::Input(4, 1), Answer::Logged(1)),
+    Step::Does(Act::Transmit(0, 2, 1), Answer::Placed(0)),
+    Step::Does(Act::Transmit(0, 3, 3), Answer::Placed(1)),
+    Step::Does(Act::Transmit(0, 4, 1), Answer::Placed(2)),
+    Step::Does(Act::Arrive(2), Answer::Unreachable),
+    Step::Does(Act::Arrive(1), Answer::Unreachable),
+    Step::Does(Act::Copy(0), Answer::Placed(1)),
+    Step::Does(Act::Arrive(1), Answer::Unreachable),
+    // the journal is filled but for the places of the open jobs, of which 3 has one too now
+    Step::Does(Act::Replay(3), Answer::Started(4)),
+    Step::Refuses(Act::Replay(3), 3),
+    Step::Has(31),
+    Step::Repeats(Act::Copy(0), Act::Lose(1), 32_751),
+    Step::Does(Act::Copy(0), Answer::Placed(1)),
+    Step::Has(65_534),
+    Step::Refuses(Act::Checkpoint(0), 1),
+    Step::Refuses(Act::Checkpoint(2), 2),
+    Step::Refuses(Act::Checkpoint(5), 3),
+    Step::Refuses(Act::Checkpoint(1), 12),
+    Step::Refuses(Act::Trim(6), 1),
+    Step::Refuses(Act::Trim(0), 12),
+    Step::Refuses(Act::Trim(1), 12),
+    Step::Refuses(Act::Crash(0), 1),
+    Step::Refuses(Act::Crash(2), 2),
+    Step::Refuses(Act::Crash(1), 12),
+    Step::Refuses(Act::Crash(4), 12),
+    Step::Refuses(Act::Recover(0), 1),
+    Step::Refuses(Act::Recover(2), 8),
+    Step::Refuses(Act::Recover(1), 8),
+    Step::Refuses(Act::RecoverAlone(0), 1),
+    Step::Refuses(Act::RecoverAlone(1), 10),
+    Step::Refuses(Act::RecoverAlone(2), 12),
+    Step::Refuses(Act::Replay(0), 1),
+    Step::Refuses(Act::Replay(3), 3),
+    Step::Refuses(Act::Replay(1), 11),
+    Step::Refuses(Act::Resync(0, 1), 1),
+    Step::Refuses(Act::Resync(4, 4), 5),
+    Step::Refuses(Act::Resync(4, 2), 8),
+    Step::Refuses(Act::Resync(1, 5), 11),
+    Step::Refuses(Act::Resync(4, 1), 12),
+    Step::Refuses(Act::Transmit(2, 1, 1), 2),
+    Step::Refuses(Act::Input(2, 1), 12),
+    Step::Refuses(Act::Arrive(0), 12),
+    // a crash gives back the place of its open job, and takes it for itself
+    Step::Does(Act::Crash(5), Answer::Crashed(2)),
+    Step::Refuses(Act::RecoverAlone(5), 12),
+    Step::Has(65_535),
+    // the result of the job that is replayed has its place
+    Step::Does(Act::Finish, Answer::Replayed(1)),
+    Step::Has(65_536),
+    Step::Refuses(Act::Replay(3), 12),
+    Step::Refuses(Act::Crash(3), 12),
+    Step::IsAt(3, PhaseName::Replaying, 1, 1),
+];
+
+/// The journal is full, and the only process is down.
+const DOWN: [Step; 14] = [
+    Step::Does(Act::Input(1, 5), Answer::Logged(1)),
+    Step::Does(Act::Transmit(0, 1, 1), Answer::Placed(0)),
+    Step::Repeats(Act::Copy(0), Act::Lose(1), 32_766),
+    Step::Does(Act::Copy(0), Answer::Placed(1)),
+    Step::Does(Act::Crash(1), Answer::Crashed(2)),
+    Step::Has(65_536),
+    Step::Refuses(Act::Recover(0), 1),
+    Step::Refuses(Act::Recover(1), 12),
+    Step::Refuses(Act::RecoverAlone(1), 12),
+    Step::Refuses(Act::Crash(1), 2),
+    Step::Refuses(Act::Checkpoint(1), 2),
+    Step::Refuses(Act::Replay(1), 11),
+    Step::Refuses(Act::Arrive(0), 12),
+    Step::IsBare(1, PhaseName::Down, 0),
 ];
