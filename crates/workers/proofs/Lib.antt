@@ -1,2 +1,3 @@
 mod SeatsFrom
 mod Served
+mod Continuing

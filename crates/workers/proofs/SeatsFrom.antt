@@ -1,5 +1,5 @@
 -- Seats that are taken one after the other
-use Rattle.std.proofs.Common.{◌≡◌, ◌≢◌, ℕ, suc, zero, ◌+◌, ◌-◌, ◌<◌, ◌≤◌, List, [], ◌++◌, length, length-append, append_assoc, refl, sym, ap, ◌∙◌, arith, inl, inr, true≢false}
+use Rattle.std.proofs.Common.{◌≡◌, ℕ, suc, zero, ◌+◌, ◌-◌, ◌<◌, ◌≤◌, List, [], ◌++◌, length, length-append, append_assoc, refl, sym, ap, ◌∙◌, arith, inl, inr, true≢false}
 use Rattle.std.specs.Prelude.{Option, Some, None, IsSome, ◌⊎◌, slice_set}
 use Rattle.std.proofs.lemmas.List.{get_or-set_other}
 use Rattle.std.proofs.lemmas.List.Sums.{sum_by-append}

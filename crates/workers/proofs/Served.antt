@@ -1,5 +1,5 @@
 -- Shares of seats, in order
-use Rattle.std.proofs.Common.{◌≡◌, ℕ, suc, zero, ◌+◌, ◌-◌, ◌≤◌, List, [], ◌∷◌, ◌++◌, length, length-append, take, drop, refl, ap, ◌∙◌, arith}
+use Rattle.std.proofs.Common.{◌≡◌, ℕ, suc, zero, ◌-◌, ◌≤◌, List, [], ◌∷◌, ◌++◌, length, length-append, take, drop, refl, ap, ◌∙◌, arith}
 use Rattle.sessions.specs.Seats.{TheSeat}
 use Rattle.sessions.specs.declared.share.Share.{Share}
 use Rattle.workers.specs.Shares.{IsServed, AreServed}

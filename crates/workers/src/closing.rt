@@ -17,6 +17,30 @@ pub struct Closed<L: Ledger> {
     pub seats: Vec<Seat<L>>,
 }
 
+/// Shows that the journal is as long as all seats were answered together, where they are all 17.
+pub(crate) fn settled<L: Ledger>(
+    session: Session<L>,
+    shares: Vec<Share<L>>,
+    seats: Vec<Seat<L>>,
+) -> Closed<L>
+    requires { L.parts ≡ 17 }
+    ensures session { result.session ≡ session }
+    ensures shares { result.shares.items ≡ shares.items }
+    ensures seats { result.seats.items ≡ seats.items }
+    ensures legal { IsLegal result.session }
+    ensures all { length shares.items + length seats.items ≡ 17 → length result.session.entries ≡ answers_of shares.items + answered_by seats.items }
+{
+    let mut session = session;
+    let mut shares = shares;
+    let mut seats = seats;
+    session.settle(shares.as_mut_slice(), seats.as_mut_slice());
+    Closed {
+        session,
+        shares,
+        seats,
+    }
+}
+
 /// Takes the session from under its lock. Where all 17 seats are handed in, those of the shares
 /// among them, the journal is as long as they were answered together. Takes no memory.
 pub fn close<L: Ledger>(
@@ -30,13 +54,5 @@ pub fn close<L: Ledger>(
     ensures legal { IsLegal result.session }
     ensures all { length shares.items + length seats.items ≡ 17 → length result.session.entries ≡ answers_of shares.items + answered_by seats.items }
 {
-    let mut session = session.into_inner();
-    let mut shares = shares;
-    let mut seats = seats;
-    session.settle(shares.as_mut_slice(), seats.as_mut_slice());
-    Closed {
-        session,
-        shares,
-        seats,
-    }
+    settled(session.into_inner(), shares, seats)
 }

@@ -4,7 +4,7 @@
 //! the lock free, and brings the result back under it. Each worker calls by its own seat, so each
 //! entry of the journal bears who made it. What a session keeps by its type, it keeps whenever the
 //! lock is free: its journal is legal and leads to where it is, and an accepted call is one entry
-//! and one more for its seat. When all seats are handed in, the journal is as long as they were
+//! and one more for its seat. In a run it also keeps its images, and the entries that it began with. When all seats are handed in, the journal is as long as they were
 //! answered together.
 //!
 //! No contract says that a worker gets on: [`worker`] and [`run`] promise what holds if they return.
@@ -18,6 +18,7 @@
 mod closing;
 mod feeding;
 mod running;
+mod shared;
 mod turn;
 mod turnstile;
 mod working;
@@ -28,3 +29,6 @@ pub use running::{RunError, run};
 pub use sessions::{End, Share};
 pub use turnstile::{Open, Turnstile};
 pub use working::worker;
+
+#[cfg(test)]
+mod tests;

@@ -7,15 +7,18 @@ ghost use Rattle.sessions.specs.Journal.{IsLegal};
 ghost use Rattle.sessions.specs.Seats.{answered_by, listed, seat_at, seats_from};
 ghost use Rattle.sessions.specs.Shares.{answers_of};
 ghost use Rattle.workers.specs.Shares.{AreServed, IsServed};
+ghost use Rattle.workers.specs.Continues.{Continues};
 ghost use Rattle.workers.specs.Running.{CanRun, IsCause, manned, unmanned, number_of};
 
-use crate::closing::{Closed, close};
+use crate::closing::{Closed, settled};
 use crate::feeding::{Item, channel_of};
+use crate::shared::{Running, Start};
 use crate::turnstile::Turnstile;
 use crate::working::serve;
 use crossbeam_channel::Receiver;
 use sessions::{Seat, Session, Share};
 use std::alloc::{AllocError, Global};
+use std::marker::{Brand, PhantomData};
 use std::sync::ledger::Ledger;
 use std::sync::{Mutex, Wait};
 use std::thread;
@@ -74,6 +77,7 @@ fn sit_at<L: Ledger>(session: &mut Session<L>, worker: u8, seats: &mut Vec<Seat<
     ensures len { vec_len seats.new ≤ vec_len seats.old + 1 }
     ensures capacity { vec_capacity seats.new ≡ vec_capacity seats.old }
     ensures entries { session.new.entries ≡ session.old.entries }
+    ensures images { session.new.images ≡ session.old.images }
     ensures out { session.new.seats ≡ slice_set session.old.seats worker None }
 {
     let Some(seat) = session.sit(worker) else {
@@ -90,6 +94,7 @@ fn sit_from<L: Ledger>(session: &mut Session<L>, worker: u8, count: u8, seats: &
     ensures len { vec_len seats.new ≤ vec_len seats.old + count }
     ensures capacity { vec_capacity seats.new ≡ vec_capacity seats.old }
     ensures entries { session.new.entries ≡ session.old.entries }
+    ensures images { session.new.images ≡ session.old.images }
     ensures others { (k : ℕ) → (k < worker) ⊎ (worker + count ≤ k) → seat_at session.new.seats k ≡ seat_at session.old.seats k }
 {
     for place in 0..count {
@@ -128,6 +133,8 @@ fn man<L: Ledger>(session: &mut Session<L>, seats: &mut Vec<Seat<L>>, workers: u
     ensures others { length (unmanned workers session.old.seats) ≡ 17 - workers }
     ensures theirs { length (manned workers session.old.seats) ≡ workers }
     ensures answered { length session.old.entries ≡ answered_by (unmanned workers session.old.seats) + answered_by (manned workers session.old.seats) }
+    ensures images { session.new.images ≡ session.old.images }
+    ensures entries { session.new.entries ≡ session.old.entries }
 {
     sit_from(session, 0, 1, seats);
     sit_from(session, workers + 1, MOST_WORKERS - workers, seats);
@@ -136,11 +143,16 @@ fn man<L: Ledger>(session: &mut Session<L>, seats: &mut Vec<Seat<L>>, workers: u
 }
 
 // Each of the last seats gets a worker in a thread of its own.
-fn serve_all<L: Ledger + Send + Sync, R: Threads + Wait + Sync, G: Turnstile>(
+fn serve_all<
+    L: Ledger + Send + Sync,
+    B: Start + Send + Sync,
+    R: Threads + Wait + Sync,
+    G: Turnstile,
+>(
     rt: &R,
     workers: usize,
     crew: Crew<L>,
-    session: &Mutex<Session<L>>,
+    session: &Mutex<Running<L, B>>,
     items: &Receiver<Item>,
     turnstile: &G,
     budget: u32,
@@ -178,6 +190,56 @@ fn serve_all<L: Ledger + Send + Sync, R: Threads + Wait + Sync, G: Turnstile>(
     crew
 }
 
+// Runs workers on a session that is the one of `B`.
+fn run_from<
+    L: Ledger + Send + Sync,
+    B: Start + Send + Sync,
+    R: Threads + Wait + Sync,
+    G: Turnstile,
+>(
+    rt: &R,
+    alloc: Global,
+    workers: u8,
+    session: Session<L>,
+    feeds: &[Feed],
+    budget: u32,
+    turnstile: &G,
+) -> Result<Closed<L>, (RunError, Session<L>)>
+    requires parts { L.parts ≡ 17 }
+    requires start { session ≡ B.session }
+    ensures can { OnOk result (CanRun workers session) }
+    ensures served { IfOk result (λ c. AreServed budget (manned workers session.seats) c.shares.items) }
+    ensures workers { IfOk result (λ c. vec_len c.shares ≡ workers) }
+    ensures others { IfOk result (λ c. c.seats.items ≡ unmanned workers session.seats) }
+    ensures legal { IfOk result (λ c. IsLegal c.session) }
+    ensures continues { IfOk result (λ c. Continues session c.session) }
+    ensures all { IfOk result (λ c. length c.session.entries ≡ answers_of c.shares.items + answered_by c.seats.items) }
+    ensures grew { IfOk result (λ c. length c.session.entries + answered_by (manned workers session.seats) ≡ length session.entries + answers_of c.shares.items) }
+    ensures refused { IfErr result (λ e. (e.1 ≡ session) × IsCause e.0 (CanRun workers session)) }
+{
+    if !is_ready(workers, &session) {
+        return Err((RunError::Workers, session));
+    }
+    let Ok(mut crew) = places_for(alloc, workers) else {
+        return Err((RunError::Memory, session));
+    };
+    let Ok((to, items)) = channel_of(rt, alloc, feeds, workers) else {
+        return Err((RunError::Memory, session));
+    };
+    let mut session = session;
+    man(&mut session, &mut crew.seats, workers);
+    let lock = Mutex::new(Running::<L, B> {
+        session,
+        start: PhantomData,
+    });
+    let count = workers as usize;
+    let crew = serve_all(rt, count, crew, &lock, &items, turnstile, budget);
+    // its end stays open until all workers have ended: only the items tell them that no feed comes
+    drop(to);
+    let Running { session, .. } = lock.into_inner();
+    Ok(settled(session, crew.shares, crew.seats))
+}
+
 /// Runs so many workers, 1 to 16, on the feeds, each in a thread of its own until it ends. Each feed and then an item [`Item::Last`] for each worker are in their channel
 /// before the first one starts. All seats are taken; those of the workers 1, 2, .. come back in the
 /// shares, in this order, and the others as they were. The session comes back with a refusal as it was.
@@ -196,25 +258,10 @@ pub fn run<L: Ledger + Send + Sync, R: Threads + Wait + Sync, G: Turnstile>(
     ensures workers { IfOk result (λ c. vec_len c.shares ≡ workers) }
     ensures others { IfOk result (λ c. c.seats.items ≡ unmanned workers session.seats) }
     ensures legal { IfOk result (λ c. IsLegal c.session) }
+    ensures continues { IfOk result (λ c. Continues session c.session) }
     ensures all { IfOk result (λ c. length c.session.entries ≡ answers_of c.shares.items + answered_by c.seats.items) }
     ensures grew { IfOk result (λ c. length c.session.entries + answered_by (manned workers session.seats) ≡ length session.entries + answers_of c.shares.items) }
     ensures refused { IfErr result (λ e. (e.1 ≡ session) × IsCause e.0 (CanRun workers session)) }
 {
-    if !is_ready(workers, &session) {
-        return Err((RunError::Workers, session));
-    }
-    let Ok(mut crew) = places_for(alloc, workers) else {
-        return Err((RunError::Memory, session));
-    };
-    let Ok((to, items)) = channel_of(rt, alloc, feeds, workers) else {
-        return Err((RunError::Memory, session));
-    };
-    let mut session = session;
-    man(&mut session, &mut crew.seats, workers);
-    let lock = Mutex::new(session);
-    let count = workers as usize;
-    let crew = serve_all(rt, count, crew, &lock, &items, turnstile, budget);
-    // its end stays open until all workers have ended: only the items tell them that no feed comes
-    drop(to);
-    Ok(close(lock, crew.shares, crew.seats))
+    run_from::<L, Brand, R, G>(rt, alloc, workers, session, feeds, budget, turnstile)
 }

@@ -1,9 +1,10 @@
 //! A turn under the lock.
 
 ghost use Rattle.std.specs.Prelude.{◌≡◌};
+ghost use Rattle.workers.specs.Continues.{Continues};
 ghost use Rattle.workers.specs.Shares.{GoesOn};
 
-use replay::Job;
+use replay::{Done, Job};
 use sessions::{Seat, Session};
 use std::sync::ledger::Ledger;
 use world::{Feed, Refusal};
@@ -21,6 +22,30 @@ pub(crate) enum Turn {
     Quiet,
 }
 
+/// Takes in the feed, if there is one. One whose number is taken is counted. It refuses what else
+/// `input` is refused for.
+fn take_feed<L: Ledger>(
+    session: &mut Session<L>,
+    seat: &mut Seat<L>,
+    feed: Option<Feed>,
+    doubled: &mut u32,
+) -> Result<(), Refusal>
+    ensures seat { GoesOn seat.old seat.new }
+    ensures session { Continues session.old session.new }
+{
+    let Some(feed) = feed else {
+        return Ok(());
+    };
+    match session.input(seat, &feed) {
+        Err(Refusal::FeedTaken) => {
+            *doubled = doubled.saturating_add(1);
+            Ok(())
+        }
+        Err(refusal) => Err(refusal),
+        Ok(_) => Ok(()),
+    }
+}
+
 /// Takes in the feed, if there is one, picks a call and makes it. A feed whose number is taken is
 /// counted. It refuses what else a call is refused for.
 pub(crate) fn take_turn<L: Ledger>(
@@ -29,15 +54,10 @@ pub(crate) fn take_turn<L: Ledger>(
     feed: Option<Feed>,
     doubled: &mut u32,
 ) -> Result<Turn, Refusal>
-    ensures { GoesOn seat.old seat.new }
+    ensures seat { GoesOn seat.old seat.new }
+    ensures session { Continues session.old session.new }
 {
-    if let Some(feed) = feed {
-        match session.input(seat, &feed) {
-            Err(Refusal::FeedTaken) => *doubled = doubled.saturating_add(1),
-            Err(refusal) => return Err(refusal),
-            Ok(_) => {}
-        }
-    }
+    take_feed(session, seat, feed, doubled)?;
     let Some(call) = session.pick() else {
         return Ok(if session.open_jobs() == 0 {
             Turn::Quiet
@@ -47,4 +67,19 @@ pub(crate) fn take_turn<L: Ledger>(
     };
     let started = session.make(seat, call)?;
     Ok(started.map_or(Turn::Made, Turn::Started))
+}
+
+/// Takes in the result of a job.
+pub(crate) fn finish_job<L: Ledger>(
+    session: &mut Session<L>,
+    seat: &mut Seat<L>,
+    done: Done,
+) -> Result<(), Refusal>
+    ensures seat { GoesOn seat.old seat.new }
+    ensures session { Continues session.old session.new }
+{
+    match session.finish(seat, done) {
+        Ok(_) => Ok(()),
+        Err((refusal, _done)) => Err(refusal),
+    }
 }

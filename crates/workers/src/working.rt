@@ -4,7 +4,8 @@ ghost use Rattle.std.specs.Prelude.{◌≡◌, ◌+◌, ◌<◌, ◌≤◌};
 ghost use Rattle.workers.specs.Shares.{GoesOn, IsServed};
 
 use crate::feeding::{Item, next_feed};
-use crate::turn::{Turn, take_turn};
+use crate::shared::Shared;
+use crate::turn::Turn;
 use crate::turnstile::Turnstile;
 use crossbeam_channel::Receiver;
 use replay::Job;
@@ -44,10 +45,10 @@ pub fn worker<L: Ledger, R: Wait, G: Turnstile>(
 }
 
 /// What [`worker`] does, on a channel that others receive from too.
-pub(crate) fn serve<L: Ledger, R: Wait, G: Turnstile>(
+pub(crate) fn serve<L: Ledger, S: Shared<L>, R: Wait, G: Turnstile>(
     rt: &R,
     seat: Seat<L>,
-    session: &Mutex<Session<L>>,
+    session: &Mutex<S>,
     items: &Receiver<Item>,
     turnstile: &G,
     budget: u32,
@@ -108,17 +109,17 @@ fn rest(idle: u32) {
 }
 
 // One turn, with the job that it starts.
-fn turn<L: Ledger, R: Wait, G: Turnstile>(
+fn turn<L: Ledger, S: Shared<L>, R: Wait, G: Turnstile>(
     rt: &R,
     seat: &mut Seat<L>,
-    session: &Mutex<Session<L>>,
+    session: &Mutex<S>,
     turnstile: &G,
     feed: Option<Feed>,
     doubled: &mut u32,
 ) -> Result<Turn, Refusal>
     ensures { GoesOn seat.old seat.new }
 {
-    let taken = take_turn(&mut session.lock(rt), seat, feed, doubled)?;
+    let taken = session.lock(rt).turn_of(seat, feed, doubled)?;
     let Turn::Started(job) = taken else {
         return Ok(taken);
     };
@@ -127,10 +128,10 @@ fn turn<L: Ledger, R: Wait, G: Turnstile>(
 }
 
 // Runs a job with the lock free, and brings its result back.
-fn carry_out<L: Ledger, R: Wait, G: Turnstile>(
+fn carry_out<L: Ledger, S: Shared<L>, R: Wait, G: Turnstile>(
     rt: &R,
     seat: &mut Seat<L>,
-    session: &Mutex<Session<L>>,
+    session: &Mutex<S>,
     turnstile: &G,
     job: Job,
 ) -> Result<(), Refusal>
@@ -139,10 +140,7 @@ fn carry_out<L: Ledger, R: Wait, G: Turnstile>(
     let serial = job.task().serial();
     turnstile.between(serial);
     let done = job.run();
-    let finished = session.lock(rt).finish(seat, done);
-    if let Err((refusal, _)) = finished {
-        return Err(refusal);
-    }
+    session.lock(rt).finish_of(seat, done)?;
     turnstile.committed(serial);
     Ok(())
 }

@@ -1,4 +1,4 @@
-use Rattle.std.proofs.Common.{◌≡◌, ◌+◌, ◌++◌, length, length-append, ap, ◌∙◌, arith}
+use Rattle.std.proofs.Common.{◌≡◌, ◌++◌, length, length-append, ap, ◌∙◌, arith}
 use Rattle.sessions.specs.Seats.{answered_by}
 use Rattle.workers.specs.Running.{manned, unmanned}
 use Rattle.workers.proofs.SeatsFrom.{all-taken, length-unmanned, length-manned, answered_by-append}

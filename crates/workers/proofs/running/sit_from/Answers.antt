@@ -10,9 +10,10 @@ loop-place-preserved g c =
     let n = c.loop-place.place in
     let kept = c.loop-place.invariant in
     let sat = c.sit_at.ensures in (
-      taken-more before now k n c.args.seats.now.items c.loop-place.seats.items c.sit_at.new.seats.items kept.0 (kept.4 (k + n) (inr (omega arith))) sat.seats,
+      taken-more before now k n c.args.seats.now.items c.loop-place.seats.items c.sit_at.new.seats.items kept.0 (kept.5 (k + n) (inr (omega arith))) sat.seats,
       omega (arith, sat.len, kept.1),
       sat.capacity ∙ kept.2,
       sat.entries ∙ kept.3,
-      others-more before now c.sit_at.new.session.seats k n kept.4 sat.out,
+      sat.images ∙ kept.4,
+      others-more before now c.sit_at.new.session.seats k n kept.5 sat.out,
     )

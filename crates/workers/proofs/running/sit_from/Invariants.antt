@@ -9,4 +9,5 @@ invariant-loop-place g l =
     × (vec_len l.seats ≤ vec_len l.fn.seats + l.place)
     × (vec_capacity l.seats ≡ vec_capacity l.fn.seats)
     × (l.session.entries ≡ l.fn.session.entries)
+    × (l.session.images ≡ l.fn.session.images)
     × ((k : ℕ) → (k < l.worker) ⊎ (l.worker + l.place ≤ k) → seat_at l.session.seats k ≡ seat_at l.fn.session.seats k)

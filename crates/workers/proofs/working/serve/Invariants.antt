@@ -1,4 +1,4 @@
-use Rattle.std.proofs.Common.{◌≡◌, ◌≤◌, ◌<◌}
+use Rattle.std.proofs.Common.{◌≡◌, ◌<◌}
 use Rattle.workers.specs.Shares.{GoesOn}
 use Rattle.workers.proofs.working.serve.Given as goal
 

@@ -1,0 +1,68 @@
+use Rattle.std.proofs.Common.{◌≡◌, ◌+◌, ◌-◌, length, length-append, sym, ap, ◌∙◌, subst, arith}
+use Rattle.sessions.specs.Journal.{TheSession}
+use Rattle.sessions.specs.Seats.{answered_by}
+use Rattle.sessions.specs.Shares.{answers_of}
+use Rattle.workers.specs.Shares.{AreServed}
+use Rattle.workers.specs.Running.{manned, unmanned}
+use Rattle.workers.specs.Continues.{Begins}
+use Rattle.workers.proofs.Continuing.{continues_of}
+use Rattle.workers.proofs.Served.{length-served, take-others, drop-others}
+use Rattle.workers.proofs.running.run_from.Goals as goal
+use Rattle.workers.proofs.running.run_from.Goals.{After-settled}
+use Rattle.workers.proofs.running.run_from.Given.{Over}
+
+pub serve_all-crew-requires-clause-seats : goal.serve_all-crew-requires-clause-seats
+serve_all-crew-requires-clause-seats g c κs within =
+    let seats = c.args.session.seats in
+    omega (arith, ap length c.man.ensures.seats, length-append (unmanned c.args.workers seats) (manned c.args.workers seats), c.man.ensures.theirs)
+
+served : (g : Over) (c : After-settled g) → AreServed c.args.budget (manned c.args.workers c.args.session.seats) c.settled.result.shares.items
+served g c =
+    let seats = c.args.session.seats in
+    let n = c.args.workers in
+    let cut = drop-others (unmanned n seats) (manned n seats) c.man.new.seats.items n c.man.ensures.seats c.man.ensures.theirs in
+    subst (AreServed c.args.budget (manned n seats)) (sym c.settled.ensures.shares)
+    (subst (λ l. AreServed c.args.budget l c.serve_all-crew.result.shares.items) cut c.serve_all-crew.ensures.shares)
+
+others : (g : Over) (c : After-settled g) → c.settled.result.seats.items ≡ unmanned c.args.workers c.args.session.seats
+others g c =
+    let seats = c.args.session.seats in
+    let n = c.args.workers in
+    c.settled.ensures.seats ∙ c.serve_all-crew.ensures.seats ∙ take-others (unmanned n seats) (manned n seats) c.man.new.seats.items n c.man.ensures.seats c.man.ensures.theirs
+
+total : (g : Over) (c : After-settled g) → length c.settled.result.session.entries ≡ answers_of c.settled.result.shares.items + answered_by c.settled.result.seats.items
+total g c =
+    let seats = c.args.session.seats in
+    let n = c.args.workers in
+    let shares : length c.serve_all-crew.result.shares.items ≡ n =
+    ap length (sym c.settled.ensures.shares) ∙ length-served c.args.budget (manned n seats) c.settled.result.shares.items (served g c) ∙ c.man.ensures.theirs in
+    let rest : length c.serve_all-crew.result.seats.items ≡ 17 - n = ap length (sym c.settled.ensures.seats) ∙ ap length (others g c) ∙ c.man.ensures.others in
+    let all : length c.serve_all-crew.result.shares.items + length c.serve_all-crew.result.seats.items ≡ 17 = omega (arith, shares, rest, c.if-not-is_ready.ensures.can.few) in
+    omega (arith, c.settled.ensures.all all, ap answers_of c.settled.ensures.shares, ap answered_by c.settled.ensures.seats)
+
+pub returns-clause-can : goal.returns-clause-can
+returns-clause-can g c = c.if-not-is_ready.ensures.can
+
+pub returns-clause-served : goal.returns-clause-served
+returns-clause-served g c = served g (goal.at.returns-clause-served g c).After-settled
+
+pub returns-clause-others : goal.returns-clause-others
+returns-clause-others g c = others g (goal.at.returns-clause-others g c).After-settled
+
+pub returns-clause-all : goal.returns-clause-all
+returns-clause-all g c = total g (goal.at.returns-clause-all g c).After-settled
+
+pub returns-clause-grew : goal.returns-clause-grew
+returns-clause-grew g c =
+    let at = (goal.at.returns-clause-grew g c).After-settled in
+    omega (arith, total g at, ap answered_by (others g at), c.man.ensures.answered)
+
+pub returns-clause-continues : goal.returns-clause-continues
+returns-clause-continues g c =
+    let start = g.B.Start.session in
+    let left = c.into_inner-session.result in
+    let end = c.settled.result.session in
+    let same : end ≡ left.session = c.settled.ensures.session in
+    let images : end.images ≡ c.args.session.images = ap (λ (s : TheSession). s.images) same ∙ left.images ∙ ap (λ (s : TheSession). s.images) (sym c.requires.start) in
+    let begins : Begins start.entries end.entries = subst (Begins start.entries) (ap (λ (s : TheSession). s.entries) (sym same)) left.entries in
+    continues_of c.args.session end images (subst (λ es. Begins es end.entries) (ap (λ (s : TheSession). s.entries) (sym c.requires.start)) begins)
