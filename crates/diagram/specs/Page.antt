@@ -1,0 +1,22 @@
+-- What a picture is as a text, and how large it is.
+use Rattle.std.specs.Prelude.{◌≡◌, ℕ, ◌+◌, ◌*◌, ◌/◌, min, max, List, ◌++◌, codes}
+
+-- one element `svg`, with something inside
+abbrev pub IsSvg : List ℕ → Type 0
+IsSvg text = (inside : List ℕ) × (text ≡ codes "<svg " ++ inside ++ codes "</svg>\n")
+
+-- where a column is: 44 pixels a column, and 140 after each 40 columns; those from 2^32 - 1 on are in one place
+abbrev pub column_place : ℕ → ℕ
+column_place column = 190 + min column 4294967295 * 44 + min column 4294967295 / 40 * 140
+
+-- as wide as that many columns, and at least as wide as the legend
+abbrev pub page_width : ℕ → ℕ
+page_width columns = max (column_place columns + 44) 900
+
+-- where the line of a process is, and that of the outside (0)
+abbrev pub line_place : ℕ → ℕ
+line_place number = 74 + number * 78
+
+-- as high as the lines of that many processes, of at most 255, and the legend
+abbrev pub page_height : ℕ → ℕ
+page_height processes = line_place (min processes 255) + 44 + 124

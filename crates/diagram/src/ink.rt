@@ -1,0 +1,130 @@
+//! What is written of a picture: lines, boxes, marks and labels, an element each.
+//!
+//! A class names a style of `legend::STYLE`.
+
+use std::alloc::AllocError;
+
+/// Half the height of a box, in pixels.
+const HALF: usize = 9;
+
+/// A point of the page, in pixels to the right and down.
+#[derive(Clone, Copy, PartialEq, Eq, Debug)]
+pub struct Point {
+    pub x: usize,
+    pub y: usize,
+}
+
+/// Where a label stands: above or below its point.
+#[derive(Clone, Copy, PartialEq, Eq, Debug)]
+pub enum Side {
+    Above,
+    Below,
+}
+
+impl Side {
+    /// The side of a lane that looks away from another.
+    pub(crate) fn away(lane: u8, other: u8) -> Side {
+        if other < lane {
+            Side::Below
+        } else {
+            Side::Above
+        }
+    }
+
+    /// Where the foot of a label is.
+    fn foot(self, at: Point) -> Point {
+        let y = match self {
+            Side::Above => at.y.saturating_sub(14),
+            Side::Below => at.y.saturating_add(22),
+        };
+        Point { x: at.x, y }
+    }
+}
+
+/// Writes a straight line.
+pub(crate) fn push_line(
+    out: &mut String,
+    class: &str,
+    start: Point,
+    end: Point,
+) -> Result<(), AllocError> {
+    let Point { x, y } = start;
+    let Point { x: x2, y: y2 } = end;
+    writeln!(
+        out,
+        "<line class='{class}' x1='{x}' y1='{y}' x2='{x2}' y2='{y2}'/>"
+    )
+}
+
+/// Writes a box on a lane, whose right side is left out where it is open.
+pub(crate) fn push_box(
+    out: &mut String,
+    class: &str,
+    start: Point,
+    end: usize,
+    is_open: bool,
+) -> Result<(), AllocError> {
+    let x = start.x;
+    let top = start.y.saturating_sub(HALF);
+    let bottom = start.y.saturating_add(HALF);
+    let close = if is_open { "" } else { "Z" };
+    writeln!(
+        out,
+        "<path class='{class}' d='M{end} {top}H{x}V{bottom}H{end}{close}'/>"
+    )
+}
+
+/// Writes a mark, one of the shapes of `legend::STYLE`.
+pub(crate) fn push_mark(out: &mut String, shape: &str, at: Point) -> Result<(), AllocError> {
+    let Point { x, y } = at;
+    writeln!(out, "<use href='#{shape}' x='{x}' y='{y}'/>")
+}
+
+/// Writes a text.
+pub(crate) fn push_text(
+    out: &mut String,
+    class: &str,
+    at: Point,
+    text: &str,
+) -> Result<(), AllocError> {
+    let Point { x, y } = at;
+    writeln!(out, "<text class='{class}' x='{x}' y='{y}'>{text}</text>")
+}
+
+/// Writes a text that ends in a number.
+pub(crate) fn push_count(
+    out: &mut String,
+    class: &str,
+    at: Point,
+    text: &str,
+    count: u64,
+) -> Result<(), AllocError> {
+    let Point { x, y } = at;
+    writeln!(
+        out,
+        "<text class='{class}' x='{x}' y='{y}'>{text}{count}</text>"
+    )
+}
+
+/// Writes a word beside a point.
+pub(crate) fn push_label(
+    out: &mut String,
+    class: &str,
+    at: Point,
+    side: Side,
+    word: &str,
+) -> Result<(), AllocError> {
+    push_text(out, class, side.foot(at), word)
+}
+
+/// Writes a word and a number beside a point.
+pub(crate) fn push_numbered(
+    out: &mut String,
+    class: &str,
+    at: Point,
+    side: Side,
+    word: &str,
+    number: u32,
+) -> Result<(), AllocError> {
+    push_count(out, class, side.foot(at), word, u64::from(number))
+}

@@ -1,0 +1,27 @@
+//! Runs as pictures.
+//!
+//! [`draw`] draws the entries of a journal as a space-time diagram: a line a process, one for the outside, and time to the
+//! right, a column an entry. A packet is an arrow from where it goes on the wire to where it arrives or is lost; a handler
+//! call is a box from its start to its finish. The result is the text of an SVG file, which a browser shows. Its promise: any
+//! list of entries and any processes come to a text, also a list that is no journal; only memory can run out. What the
+//! picture looks like is tested, and not proved.
+//!
+//! ```text
+//! let scenario = parse(alloc, text, Allowed::All)?;
+//! draw(alloc, &scenario.processes, session.journal())?; // "<svg xmlns=.."
+//! ```
+#![tactic(auto)]
+
+mod ink;
+mod lane;
+mod legend;
+mod packets;
+mod page;
+mod picture;
+mod processes;
+mod wire;
+
+pub use page::draw;
+
+#[cfg(test)]
+mod tests;

@@ -1,0 +1,113 @@
+//! What is drawn of packets.
+
+use crate::ink::{Point, Side, push_label, push_line, push_mark, push_numbered};
+use crate::picture::Picture;
+use crate::wire::{Kind, Wire};
+use std::alloc::AllocError;
+use world::Answer;
+
+impl Picture {
+    /// A message goes on the wire.
+    pub(crate) fn transmit(
+        &mut self,
+        column: usize,
+        (from, to): (u8, u8),
+        ssn: u32,
+        key: usize,
+    ) -> Result<(), AllocError> {
+        if !self.has(from) || !self.has(to) {
+            return Ok(());
+        }
+        let wire = Wire::new(Kind::Message, from, to, column);
+        let side = Side::away(from, to);
+        push_numbered(&mut self.marks, "t", wire.start(), side, "ssn ", ssn)?;
+        self.place(key, wire)
+    }
+
+    /// A packet goes on the wire under its key.
+    pub(crate) fn place(&mut self, key: usize, wire: Wire) -> Result<(), AllocError> {
+        self.wires.insert(key, wire)?;
+        Ok(())
+    }
+
+    /// A packet is copied: its copy begins where it began.
+    pub(crate) fn copy(&mut self, column: usize, key: usize, new: usize) -> Result<(), AllocError> {
+        let Some(wire) = self.wires.get(&key).copied() else {
+            return Ok(());
+        };
+        let copied = Some(column);
+        self.place(new, Wire { copied, ..wire })
+    }
+
+    /// A packet is lost half way.
+    pub(crate) fn lose(&mut self, column: usize, key: usize) -> Result<(), AllocError> {
+        let Some(wire) = self.wires.swap_remove(&key) else {
+            return Ok(());
+        };
+        let end = wire.half(column);
+        push_line(&mut self.arrows, wire.headless(), wire.start(), end)?;
+        push_mark(&mut self.marks, "lost", end)?;
+        self.mark_copy(wire, end)
+    }
+
+    /// A packet arrives.
+    pub(crate) fn arrive(
+        &mut self,
+        column: usize,
+        key: usize,
+        answer: Answer,
+    ) -> Result<(), AllocError> {
+        let Some(wire) = self.wires.swap_remove(&key) else {
+            return Ok(());
+        };
+        let end = wire.end(column);
+        let class = if answer == Answer::Unreachable {
+            wire.headless()
+        } else {
+            wire.class()
+        };
+        push_line(&mut self.arrows, class, wire.start(), end)?;
+        self.mark_copy(wire, end)?;
+        self.receive(column, wire, answer)
+    }
+
+    /// The answer to an arrival is marked at its end.
+    fn receive(&mut self, column: usize, wire: Wire, answer: Answer) -> Result<(), AllocError> {
+        let end = wire.end(column);
+        let side = Side::away(wire.to, wire.from);
+        let (here, back) = (wire.to, wire.from);
+        let word = match answer {
+            Answer::Started(serial) => {
+                return self.begin(column, here, serial, Some(back));
+            }
+            Answer::Numbered(new) => {
+                return self.place(new, Wire::new(Kind::Acknowledgement, here, back, column));
+            }
+            Answer::Shown(ssn) => {
+                push_mark(&mut self.marks, "shown", end)?;
+                return push_numbered(&mut self.marks, "s", end, Side::Above, "out ", ssn);
+            }
+            Answer::Duplicate(new) => {
+                self.place(new, Wire::new(Kind::Number, here, back, column))?;
+                "again"
+            }
+            Answer::ShownBefore => "again",
+            Answer::Early => "early",
+            Answer::Stale => "stale",
+            Answer::Unreachable => {
+                push_mark(&mut self.marks, "lost", end)?;
+                "down"
+            }
+            _ => return Ok(()),
+        };
+        push_label(&mut self.marks, "t", end, side, word)
+    }
+
+    /// A ring where a copied packet was copied.
+    pub(crate) fn mark_copy(&mut self, wire: Wire, end: Point) -> Result<(), AllocError> {
+        match wire.copied {
+            Some(column) => push_mark(&mut self.marks, "copy", wire.point_at(column, end)),
+            None => Ok(()),
+        }
+    }
+}

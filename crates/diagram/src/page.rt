@@ -1,0 +1,184 @@
+//! The page: where things stand, and the whole text.
+
+ghost use Rattle.std.specs.Prelude.{◌≡◌, IfOk, min, string_bytes};
+ghost use Rattle.indexmap.specs.IndexMap.{index_map_len};
+ghost use Rattle.diagram.specs.Page.{IsSvg, column_place, line_place, page_height, page_width};
+
+use crate::ink::{Point, push_count, push_line, push_text};
+use crate::legend::{LEGEND, LEGEND_HEIGHT, LEGEND_WIDTH, STYLE};
+use crate::picture::Picture;
+use indexmap::IndexMap;
+use scenario::{Process, name_at};
+use std::alloc::{AllocError, Global};
+use world::Entry;
+
+/// From a column to the next, in pixels.
+const STEP: usize = 44;
+/// Where the first column is.
+const FIRST: usize = 190;
+/// Where lines begin.
+const BEGIN: usize = 160;
+/// After so many columns names are written again.
+const BLOCK: usize = 40;
+/// How much room they have then.
+const GUTTER: usize = 140;
+/// Where the line of the outside is.
+const TOP: usize = 74;
+/// Columns from this one on are in one place.
+const COLUMN_LIMIT: usize = 4_294_967_295;
+/// From a line to the next.
+const GAP: usize = 78;
+/// What is free below the last line and behind the last column.
+const MARGIN: usize = 44;
+
+/// The middle of a column, in pixels.
+pub(crate) fn column_x(column: usize) -> usize
+    ensures { result ≡ column_place column }
+{
+    let column = column.min(COLUMN_LIMIT);
+    FIRST + column * STEP + column / BLOCK * GUTTER
+}
+
+/// The line of a process, or of the outside (0), in pixels.
+pub(crate) fn lane_y(number: u8) -> usize
+    ensures { result ≡ line_place number }
+{
+    TOP + usize::from(number) * GAP
+}
+
+/// The picture of a run as the text of an SVG file: a line for the outside and for each process, and
+/// a column for each entry, from left to right. Of more than 255 processes the first 255 have lines.
+/// Names are written as they are: those of a scenario are letters and digits, which mean nothing else
+/// in such a text. What names a process or a packet that isn't there is not drawn. Only memory can run
+/// out.
+pub fn draw(
+    alloc: Global,
+    processes: &IndexMap<String, Process>,
+    entries: &[Entry],
+) -> Result<String, AllocError>
+    ensures { IfOk result (λ text. IsSvg (string_bytes text)) }
+{
+    let inside = drawing(alloc, processes, entries)?;
+    let width = page_width(entries.len());
+    let height = page_height(processes);
+    let mut element = String::new(alloc);
+    push_size(&mut element, width, height)?;
+    element.push_str(inside.as_str())?;
+    enclosed(alloc, element.as_str())
+}
+
+/// What is drawn of the entries.
+fn drawing(
+    alloc: Global,
+    processes: &IndexMap<String, Process>,
+    entries: &[Entry],
+) -> Result<String, AllocError> {
+    let count = lane_count(processes);
+    let foot = lane_y(count) + MARGIN;
+    let mut picture = Picture::new(alloc, count, BEGIN)?;
+    for (column, entry) in entries.iter().enumerate() {
+        push_column(&mut picture.lines, column, foot)?;
+        picture.enter(column, entry)?;
+    }
+    picture.close(entries.len())?;
+    push_names(&mut picture.marks, processes, count, entries.len())?;
+    joined(alloc, &picture, foot)
+}
+
+/// The width of a page with so many columns, in pixels.
+fn page_width(columns: usize) -> usize
+    ensures { result ≡ page_width columns }
+{
+    (column_x(columns) + MARGIN).max(LEGEND_WIDTH)
+}
+
+/// The height of a page with these processes, in pixels.
+fn page_height(processes: &IndexMap<String, Process>) -> usize
+    ensures { result ≡ page_height (index_map_len processes.now) }
+{
+    lane_y(lane_count(processes)) + MARGIN + LEGEND_HEIGHT
+}
+
+/// How many processes have lines.
+fn lane_count(processes: &IndexMap<String, Process>) -> u8
+    ensures { result ≡ min (index_map_len processes.now) 255 }
+{
+    u8::try_from(processes.len()).unwrap_or(u8::MAX)
+}
+
+/// Writes the number of an entry, from 1, and a thin line through its column.
+fn push_column(out: &mut String, column: usize, foot: usize) -> Result<(), AllocError> {
+    let x = column_x(column);
+    push_line(out, "column", Point { x, y: 30 }, Point { x, y: foot })?;
+    let place = (column as u64).saturating_add(1);
+    push_count(out, "place", Point { x, y: 22 }, "", place)
+}
+
+/// Writes the names of the lines, left of them and again after each block of columns.
+fn push_names(
+    out: &mut String,
+    processes: &IndexMap<String, Process>,
+    count: u8,
+    columns: usize,
+) -> Result<(), AllocError> {
+    push_text(out, "name", Point { x: 12, y: 22 }, "entry")?;
+    push_lane_names(out, processes, count, "name", 12)?;
+    for block in 1..=columns / BLOCK {
+        let after = column_x(block.saturating_mul(BLOCK));
+        push_lane_names(out, processes, count, "more", after.saturating_sub(92))?;
+    }
+    Ok(())
+}
+
+/// Writes the names of the lines at one place.
+fn push_lane_names(
+    out: &mut String,
+    processes: &IndexMap<String, Process>,
+    count: u8,
+    class: &str,
+    x: usize,
+) -> Result<(), AllocError> {
+    let y = lane_y(0).saturating_add(4);
+    push_text(out, class, Point { x, y }, "0 outside")?;
+    for number in 1..=count {
+        let y = lane_y(number).saturating_add(4);
+        let name = name_at(processes, number);
+        writeln!(
+            out,
+            "<text class='{class}' x='{x}' y='{y}'>{number} {name}</text>"
+        )?;
+    }
+    Ok(())
+}
+
+/// The layers of a picture, and its legend.
+fn joined(alloc: Global, picture: &Picture, foot: usize) -> Result<String, AllocError> {
+    let mut out = String::from_str(alloc, STYLE)?;
+    out.push_str("<rect width='100%' height='100%' fill='#fff'/>\n")?;
+    out.push_str(picture.lines.as_str())?;
+    out.push_str(picture.boxes.as_str())?;
+    out.push_str(picture.arrows.as_str())?;
+    out.push_str(picture.marks.as_str())?;
+    writeln!(out, "<g transform='translate(0 {foot})'>")?;
+    out.push_str(LEGEND)?;
+    out.push_str("</g>\n")?;
+    Ok(out)
+}
+
+/// Writes the attributes of an element `svg` of this size, and the end of its tag.
+fn push_size(out: &mut String, width: usize, height: usize) -> Result<(), AllocError> {
+    writeln!(
+        out,
+        "xmlns='http://www.w3.org/2000/svg' width='{width}' height='{height}' viewBox='0 0 {width} {height}'>"
+    )
+}
+
+/// The text of an element `svg` with this behind the name.
+fn enclosed(alloc: Global, inside: &str) -> Result<String, AllocError>
+    ensures { IfOk result (λ text. IsSvg (string_bytes text)) }
+{
+    let mut out = String::from_str(alloc, "<svg ")?;
+    out.push_str(inside)?;
+    out.push_str("</svg>\n")?;
+    Ok(out)
+}

@@ -1,0 +1,159 @@
+//! Entries to what is drawn of them.
+
+use crate::ink::{Point, push_line};
+use crate::lane::{Job, Lane, Phase};
+use crate::page::{column_x, lane_y};
+use crate::wire::Wire;
+use indexmap::IndexMap;
+use std::alloc::{AllocError, Global};
+use world::{Answer, Call, Entry};
+
+/// What is drawn so far, in layers, and what goes on.
+#[derive(Drop)]
+pub struct Picture {
+    /// The lines by number, the first that of the outside.
+    pub lanes: Vec<Lane>,
+    /// The packets on their way, by their keys.
+    pub wires: IndexMap<usize, Wire>,
+    /// What is drawn first, the lines.
+    pub lines: String,
+    /// Then the boxes,
+    pub boxes: String,
+    /// the arrows,
+    pub arrows: String,
+    /// and marks and labels.
+    pub marks: String,
+}
+
+impl Picture {
+    /// A picture of the outside and so many processes, whose lines begin here.
+    pub(crate) fn new(alloc: Global, count: u8, since: usize) -> Result<Picture, AllocError> {
+        let mut lanes = Vec::new(alloc);
+        for _ in 0..=usize::from(count) {
+            lanes.push(Lane::new(since))?;
+        }
+        Ok(Picture {
+            lanes,
+            wires: IndexMap::new(alloc),
+            lines: String::new(alloc),
+            boxes: String::new(alloc),
+            arrows: String::new(alloc),
+            marks: String::new(alloc),
+        })
+    }
+
+    /// Draws an entry in its column. What names nobody that is there isn't drawn.
+    pub(crate) fn enter(&mut self, column: usize, entry: &Entry) -> Result<(), AllocError> {
+        match (entry.call, entry.answer) {
+            (Call::Input { to, feed, .. }, _) => self.input(column, to, feed),
+            (Call::Transmit { from, to, ssn }, Answer::Placed(key)) => {
+                self.transmit(column, (from, to), ssn, key)
+            }
+            (Call::Copy { key }, Answer::Placed(new)) => self.copy(column, key, new),
+            (Call::Lose { key }, _) => self.lose(column, key),
+            (Call::Arrive { key }, answer) => self.arrive(column, key, answer),
+            (Call::Finish { process }, answer) => self.finish(column, process, answer),
+            (Call::Checkpoint { process }, Answer::Saved(length)) => {
+                self.checkpoint(column, process, length)
+            }
+            (Call::Trim { to }, Answer::Trimmed(count)) => self.trim(column, to, count),
+            (Call::Crash { process }, Answer::Crashed(incarnation)) => {
+                self.crash(column, process, incarnation)
+            }
+            (Call::Recover { process }, Answer::Kept(kept)) => {
+                self.recover(column, process, kept, false)
+            }
+            (Call::RecoverAlone { process }, Answer::Kept(kept)) => {
+                self.recover(column, process, kept, true)
+            }
+            (Call::ReplayBegin { process }, Answer::Started(serial)) => {
+                self.begin(column, process, serial, None)
+            }
+            (Call::Resync { process, peer }, Answer::Restored(count)) => {
+                self.resync(column, process, peer, count)
+            }
+            _ => Ok(()),
+        }
+    }
+
+    /// The lines are drawn to their ends, with the handler calls that are still open, and the packets
+    /// that are on their way half the way to where they go.
+    pub(crate) fn close(&mut self, column: usize) -> Result<(), AllocError> {
+        let end = column_x(column);
+        for number in 0..=u8::MAX {
+            let Some(lane) = self.lanes.get(usize::from(number)).copied() else {
+                break;
+            };
+            self.stop(number, end, true)?;
+            let y = lane_y(number);
+            let start = Point { x: lane.since, y };
+            push_line(
+                &mut self.lines,
+                lane.phase.class(),
+                start,
+                Point { x: end, y },
+            )?;
+        }
+        for wire in self.wires.values() {
+            push_line(
+                &mut self.arrows,
+                wire.headless(),
+                wire.start(),
+                wire.half(column),
+            )?;
+        }
+        Ok(())
+    }
+
+    /// Whether there is a line of this number.
+    pub(crate) fn has(&self, number: u8) -> bool {
+        usize::from(number) < self.lanes.len()
+    }
+
+    /// What a process is doing.
+    pub(crate) fn phase(&self, process: u8) -> Phase {
+        match self.lanes.get(usize::from(process)) {
+            Some(lane) => lane.phase,
+            None => Phase::Up,
+        }
+    }
+
+    /// Who sent the message of the open handler call.
+    pub(crate) fn sender(&self, process: u8) -> Option<u8> {
+        self.lanes.get(usize::from(process))?.job?.sender
+    }
+
+    /// The open handler call of a process, which is none then.
+    pub(crate) fn take_job(&mut self, process: u8) -> Option<Job> {
+        self.lanes.get_mut(usize::from(process))?.job.take()
+    }
+
+    /// A process does something else, and its line looks the same.
+    pub(crate) fn set_phase(&mut self, process: u8, phase: Phase) {
+        if let Some(lane) = self.lanes.get_mut(usize::from(process)) {
+            lane.phase = phase;
+        }
+    }
+
+    /// A process does something else from here on.
+    pub(crate) fn begin_phase(&mut self, process: u8, since: usize, phase: Phase) {
+        if let Some(lane) = self.lanes.get_mut(usize::from(process)) {
+            lane.phase = phase;
+            lane.since = since;
+        }
+    }
+
+    /// How many peers restore the numbers of a process: all others, or where it came back alone those
+    /// that are up.
+    pub(crate) fn peers(&self, process: u8, alone: bool) -> usize {
+        self.lanes
+            .iter()
+            .enumerate()
+            .filter(|(number, lane)| {
+                *number != 0
+                    && *number != usize::from(process)
+                    && (!alone || lane.phase == Phase::Up)
+            })
+            .count()
+    }
+}

@@ -1,0 +1,230 @@
+//! What is drawn of processes: their lines, handler calls, checkpoints, crashes and recoveries.
+
+use crate::ink::{
+    Point, Side, push_box, push_count, push_label, push_line, push_mark, push_numbered,
+};
+use crate::lane::{Job, Lane, Phase};
+use crate::page::{column_x, lane_y};
+use crate::picture::Picture;
+use crate::wire::{Kind, Wire};
+use std::alloc::AllocError;
+use world::Answer;
+
+impl Picture {
+    /// The outside hands in a message for a process.
+    pub(crate) fn input(&mut self, column: usize, to: u8, feed: u32) -> Result<(), AllocError> {
+        let at = point(column, 0);
+        push_mark(&mut self.marks, "input", at)?;
+        push_numbered(&mut self.marks, "t", at, Side::Above, "in ", feed)?;
+        push_numbered(&mut self.marks, "t", at, Side::Below, "for ", u32::from(to))
+    }
+
+    /// A handler call begins: with a message of a sender, or one that is replayed.
+    pub(crate) fn begin(
+        &mut self,
+        column: usize,
+        process: u8,
+        serial: u32,
+        sender: Option<u8>,
+    ) -> Result<(), AllocError> {
+        self.stop(process, column_x(column), true)?;
+        if let Some(lane) = self.lanes.get_mut(usize::from(process)) {
+            lane.job = Some(Job {
+                serial,
+                column,
+                sender,
+            });
+        }
+        Ok(())
+    }
+
+    /// The open handler call of a process, if there is one, is drawn up to here: as an open box, or as
+    /// a whole one.
+    pub(crate) fn stop(
+        &mut self,
+        process: u8,
+        end: usize,
+        is_open: bool,
+    ) -> Result<(), AllocError> {
+        let Some(job) = self.take_job(process) else {
+            return Ok(());
+        };
+        let start = point(job.column, process);
+        push_box(&mut self.boxes, job.class(), start, end, is_open)?;
+        let at = Point {
+            x: start.x.saturating_add(5),
+            y: start.y.saturating_add(4),
+        };
+        push_count(&mut self.boxes, "j", at, "#", u64::from(job.serial))
+    }
+
+    /// A handler call is finished.
+    pub(crate) fn finish(
+        &mut self,
+        column: usize,
+        process: u8,
+        answer: Answer,
+    ) -> Result<(), AllocError> {
+        let sender = self.sender(process);
+        self.stop(process, column_x(column), false)?;
+        match answer {
+            Answer::Committed { rsn, key } => self.commit(column, process, sender, rsn, key),
+            Answer::Replayed(rsn) => self.replayed(column, process, rsn),
+            _ => Ok(()),
+        }
+    }
+
+    /// A message is received, and its number goes on the wire to its sender.
+    fn commit(
+        &mut self,
+        column: usize,
+        process: u8,
+        sender: Option<u8>,
+        rsn: u32,
+        key: usize,
+    ) -> Result<(), AllocError> {
+        let Some(sender) = sender else {
+            return Ok(());
+        };
+        let side = Side::away(process, sender);
+        let at = point(column, process);
+        push_numbered(&mut self.marks, "t", at, side, "rsn ", rsn)?;
+        self.place(key, Wire::new(Kind::Number, process, sender, column))
+    }
+
+    /// A message is received once more.
+    fn replayed(&mut self, column: usize, process: u8, rsn: u32) -> Result<(), AllocError> {
+        let at = point(column, process);
+        push_numbered(&mut self.marks, "t", at, Side::Below, "rsn ", rsn)?;
+        match self.phase(process) {
+            Phase::Replaying { kept, alone } if rsn >= kept => self.restore(column, process, alone),
+            _ => Ok(()),
+        }
+    }
+
+    /// A process is saved.
+    pub(crate) fn checkpoint(
+        &mut self,
+        column: usize,
+        process: u8,
+        length: u32,
+    ) -> Result<(), AllocError> {
+        let Some(lane) = self.lanes.get_mut(usize::from(process)) else {
+            return Ok(());
+        };
+        lane.saved = length;
+        let at = point(column, process);
+        push_mark(&mut self.marks, "saved", at)?;
+        push_numbered(&mut self.marks, "t", at, Side::Above, "save ", length)
+    }
+
+    /// Logged messages to a process are dropped.
+    pub(crate) fn trim(&mut self, column: usize, to: u8, count: u32) -> Result<(), AllocError> {
+        if !self.has(to) {
+            return Ok(());
+        }
+        let at = point(column, to);
+        push_mark(&mut self.marks, "trim", at)?;
+        push_numbered(&mut self.marks, "t", at, Side::Above, "trim ", count)
+    }
+
+    /// A process crashes.
+    pub(crate) fn crash(
+        &mut self,
+        column: usize,
+        process: u8,
+        incarnation: u32,
+    ) -> Result<(), AllocError> {
+        if !self.has(process) {
+            return Ok(());
+        }
+        self.stop(process, column_x(column), true)?;
+        self.turn(column, process, Phase::Down)?;
+        let at = point(column, process);
+        push_mark(&mut self.marks, "crash", at)?;
+        push_label(&mut self.marks, "c", at, Side::Above, "crash")?;
+        push_numbered(&mut self.marks, "t", at, Side::Below, "inc ", incarnation)
+    }
+
+    /// A process comes back with so many messages; alone, or with all others up.
+    pub(crate) fn recover(
+        &mut self,
+        column: usize,
+        process: u8,
+        kept: u32,
+        alone: bool,
+    ) -> Result<(), AllocError> {
+        let Some(lane) = self.lanes.get(usize::from(process)) else {
+            return Ok(());
+        };
+        if lane.saved < kept {
+            self.turn(column, process, Phase::Replaying { kept, alone })?;
+        } else {
+            self.restore(column, process, alone)?;
+        }
+        let at = point(column, process);
+        push_mark(&mut self.marks, "recover", at)?;
+        let word = if alone { "alone" } else { "recover" };
+        push_label(&mut self.marks, "r", at, Side::Above, word)?;
+        push_numbered(&mut self.marks, "t", at, Side::Below, "kept ", kept)
+    }
+
+    /// A process restores the numbers of its messages to a peer.
+    pub(crate) fn resync(
+        &mut self,
+        column: usize,
+        process: u8,
+        peer: u8,
+        count: u32,
+    ) -> Result<(), AllocError> {
+        if !self.has(process) || !self.has(peer) {
+            return Ok(());
+        }
+        let at = point(column, process);
+        push_line(&mut self.arrows, "sync", point(column, peer), at)?;
+        let side = Side::away(process, peer);
+        push_numbered(&mut self.marks, "t", at, side, "sync ", count)?;
+        match self.phase(process) {
+            Phase::Restoring { left } if left > 1 => {
+                self.set_phase(process, Phase::Restoring { left: left - 1 });
+                Ok(())
+            }
+            Phase::Restoring { .. } => self.turn(column, process, Phase::Up),
+            _ => Ok(()),
+        }
+    }
+
+    /// A process restores numbers next; where there are no peers, it is up.
+    fn restore(&mut self, column: usize, process: u8, alone: bool) -> Result<(), AllocError> {
+        let left = self.peers(process, alone);
+        let phase = if left == 0 {
+            Phase::Up
+        } else {
+            Phase::Restoring { left }
+        };
+        self.turn(column, process, phase)
+    }
+
+    /// The line of a process is drawn up to this column, and looks otherwise from there on.
+    fn turn(&mut self, column: usize, process: u8, phase: Phase) -> Result<(), AllocError> {
+        let Some(lane) = self.lanes.get(usize::from(process)) else {
+            return Ok(());
+        };
+        let end = point(column, process);
+        let start = Point {
+            x: lane.since,
+            y: end.y,
+        };
+        push_line(&mut self.lines, lane.phase.class(), start, end)?;
+        self.begin_phase(process, end.x, phase);
+        Ok(())
+    }
+}
+
+/// A point of a line.
+fn point(column: usize, process: u8) -> Point {
+    Point {
+        x: column_x(column),
+        y: lane_y(process),
+    }
+}

@@ -1,0 +1,96 @@
+//! Packets on their way.
+
+use crate::ink::Point;
+use crate::page::{column_x, lane_y};
+
+/// What a packet is.
+#[derive(Clone, Copy, PartialEq, Eq, Debug)]
+pub enum Kind {
+    Message,
+    Number,
+    Acknowledgement,
+}
+
+/// A packet on its way, from lane to lane.
+#[derive(Clone, Copy, PartialEq, Eq, Debug)]
+pub struct Wire {
+    pub kind: Kind,
+    pub from: u8,
+    pub to: u8,
+    /// The column where it went on the wire; of a copy, where the original did.
+    pub column: usize,
+    /// The column where it was copied, of a copy.
+    pub copied: Option<usize>,
+}
+
+impl Wire {
+    /// A packet that goes on the wire in this column.
+    pub(crate) fn new(kind: Kind, from: u8, to: u8, column: usize) -> Wire {
+        Wire {
+            kind,
+            from,
+            to,
+            column,
+            copied: None,
+        }
+    }
+
+    /// The style of its arrow. A message to the outside is an output.
+    pub(crate) fn class(&self) -> &'static str {
+        match self.kind {
+            Kind::Message => { if self.to == 0 { "out" } else { "message" } }
+            Kind::Number => "number",
+            Kind::Acknowledgement => "ack",
+        }
+    }
+
+    /// The style of an arrow without its head.
+    pub(crate) fn headless(&self) -> &'static str {
+        match self.class() {
+            "out" => "out cut",
+            "message" => "message cut",
+            "number" => "number cut",
+            _ => "ack cut",
+        }
+    }
+
+    /// Where its arrow begins.
+    pub(crate) fn start(&self) -> Point {
+        Point {
+            x: column_x(self.column),
+            y: lane_y(self.from),
+        }
+    }
+
+    /// Where its arrow ends if it arrives in this column.
+    pub(crate) fn end(&self, column: usize) -> Point {
+        Point {
+            x: column_x(column),
+            y: lane_y(self.to),
+        }
+    }
+
+    /// Where its arrow ends if it gets half the way by this column.
+    pub(crate) fn half(&self, column: usize) -> Point {
+        let y = (lane_y(self.from) / 2).saturating_add(lane_y(self.to) / 2);
+        Point {
+            x: column_x(column),
+            y,
+        }
+    }
+
+    /// The point of its arrow in a column on the way to an end.
+    pub(crate) fn point_at(&self, column: usize, end: Point) -> Point {
+        let start = self.start();
+        let x = column_x(column);
+        let length = end.x.saturating_sub(start.x).max(1);
+        let way = x.saturating_sub(start.x).min(length);
+        let rise = start.y.abs_diff(end.y).saturating_mul(way) / length;
+        let y = if start.y < end.y {
+            start.y.saturating_add(rise)
+        } else {
+            start.y.saturating_sub(rise)
+        };
+        Point { x, y }
+    }
+}
