@@ -1,5 +1,5 @@
 -- Words in which `clap` finds no fault ask for something.
-use Rattle.std.proofs.Common.{◌≡◌, ◌∙◌, ◌==◌, ◌&&◌, ◌||◌, ℕ, Bool, cond, true, false, not, true≢false, refl, sym, ap, subst, arith, append-nil, get_or, List, [], ◌∷◌, ◌++◌, length, Option, Some, None, is_some, codes}
+use Rattle.std.proofs.Common.{◌≡◌, ◌∙◌, ◌==◌, ◌&&◌, ◌||◌, ℕ, Bool, cond, true, false, not, true≢false, refl, sym, ap, subst, arith, append-nil, get_or, List, [], ◌∷◌, ◌++◌, length, Option, Some, None, is_some, codes, zero, suc, inl, inr}
 use Rattle.std.specs.Prelude.{slice_get}
 use Rattle.std.specs.List.{AllByRecursion, find}
 use Rattle.std.specs.Option.{option_map, option_map_or, option_and_then}
@@ -19,19 +19,25 @@ use Rattle.clap.specs.declared.builder.ValueParser.TheVariants as parser
 use Rattle.clap.specs.declared.error.ErrorKind.TheVariants.{ArgumentConflict, InvalidValue, MissingRequiredArgument, ValueValidation, WrongNumberOfValues}
 use Rattle.clap.specs.declared.parser.matches.ValueSource.TheVariants.{CommandLine}
 use Rattle.clap.proofs.ValueTestLemmas.{accepts-Accepts}
-use Rattle.cli.specs.Asks.{AsksBy, AsksFor, HasImage, HasPath, HasState, HasWord, Order}
+use Rattle.cli.specs.Asks.{AsksBy, AsksFor, HasForm, HasImage, HasNumber, HasPath, HasScenario, HasState, Order}
 use Rattle.cli.specs.Asks as order
+use Rattle.regtypes.specs.declared.image_form.ImageForm.{ImageForm}
+use Rattle.regtypes.specs.declared.image_form.ImageForm.TheVariants.{Sbi1, Sbi2}
 use Rattle.cli.specs.Program.{sblog_app}
 use Rattle.cli.proofs.WalkLemmas.{IsFineStop, Keeps, first_none, level_fine, second_none, some_kind}
 
 -- ---- rows
 
--- the row has one value, that of WORD is a number below 2^64, and that of `--state` one of at most 1,024
+-- the value of a row with this name is a number in this range
+abbrev IsNumbered : Text → ℕ → ℕ → Row → Text → Type 0
+IsNumbered id low high r text = bytes_eq r.id id ≡ true → (read_as r.reading text ≡ text) × (accepts false (parser.Unsigned low high) text ≡ true)
+
+-- the row has one value, and where it has to be a number it is one
 pub record IsSound (r : Row) : Type 0 where
   pub text : Text
   pub one : r.values ≡ text ∷ []
-  pub word : bytes_eq r.id (codes "WORD") ≡ true → (read_as r.reading text ≡ text) × (accepts false (parser.Unsigned 0 0xffff_ffff_ffff_ffff) text ≡ true)
-  pub state : bytes_eq r.id (codes "state") ≡ true → (read_as r.reading text ≡ text) × (accepts false (parser.Unsigned 0 1024) text ≡ true)
+  pub state : IsNumbered (codes "state") 0 1024 r text
+  pub form : IsNumbered (codes "form") 1 2 r text
 
 -- the row of a first use
 abbrev new_row : Rule → Text → Row
@@ -122,11 +128,11 @@ set_keeps P a sound (v ∷ w ∷ rest) rows none all =
 abbrev pub program : App
 program = built sblog_app
 
-abbrev pub check_leaf : Shape
-check_leaf = get_or program.subs 0 program.top
+abbrev run_leaf : Shape
+run_leaf = get_or program.subs 0 program.top
 
-abbrev first_leaf : Shape
-first_leaf = get_or program.subs 1 program.top
+abbrev pub check_leaf : Shape
+check_leaf = get_or program.subs 1 program.top
 
 abbrev asm_leaf : Shape
 asm_leaf = get_or program.subs 2 program.top
@@ -137,32 +143,32 @@ dis_leaf = get_or program.subs 3 program.top
 abbrev rule_in : Shape → ℕ → Rule
 rule_in s i = get_or s.rules i help_rule
 
-path_sound : (a : Rule) → bytes_eq a.id (codes "WORD") ≡ false → bytes_eq a.id (codes "state") ≡ false → (v : Text) → IsSound (new_row a v)
-path_sound a word state v = record {
-  text = v;
-  one = refl;
-  word = λ e. absurd (true≢false (sym e ∙ word));
-  state = λ e. absurd (true≢false (sym e ∙ state));
-}
+-- a name that is another one
+unlike : {A : Type 0} (id name : Text) → bytes_eq id name ≡ false → bytes_eq id name ≡ true → A
+unlike id name other same = absurd (true≢false (sym same ∙ other))
+
+path_sound : (a : Rule) → bytes_eq a.id (codes "state") ≡ false → bytes_eq a.id (codes "form") ≡ false → (v : Text) → IsSound (new_row a v)
+path_sound a state form v =
+    record { text = v; one = refl; state = unlike a.id (codes "state") state; form = unlike a.id (codes "form") form }
 
 accepted : (b : Bool) → cond b [] (ValueValidation ∷ []) ≡ [] → b ≡ true
 accepted true e = refl
 accepted false e = absurd (some_kind _ _ e)
 
-word_sound : (v : Text) → value_kinds false (parser.Unsigned 0 0xffff_ffff_ffff_ffff) v ≡ [] → IsSound (new_row (rule_in first_leaf 1) v)
-word_sound v fits = record {
-  text = v;
-  one = refl;
-  word = λ _. (refl, accepted (accepts false (parser.Unsigned 0 0xffff_ffff_ffff_ffff) v) fits);
-  state = λ e. absurd (true≢false (sym e));
-}
-
 state_sound : (v : Text) → value_kinds false (parser.Unsigned 0 1024) v ≡ [] → IsSound (new_row (rule_in asm_leaf 2) v)
 state_sound v fits = record {
   text = v;
   one = refl;
-  word = λ e. absurd (true≢false (sym e));
   state = λ _. (refl, accepted (accepts false (parser.Unsigned 0 1024) v) fits);
+  form = unlike (codes "state") (codes "form") refl;
+}
+
+form_sound : (v : Text) → value_kinds false (parser.Unsigned 1 2) v ≡ [] → IsSound (new_row (rule_in asm_leaf 3) v)
+form_sound v fits = record {
+  text = v;
+  one = refl;
+  state = unlike (codes "form") (codes "state") refl;
+  form = λ _. (refl, accepted (accepts false (parser.Unsigned 1 2) v) fits);
 }
 
 -- a use of `--help` is a fault
@@ -172,18 +178,18 @@ help_keeps values rows none all = absurd (some_kind _ _ (second_none (range_kind
 check_keeps : AllByRecursion (Keeps IsSound false) check_leaf.rules
 check_keeps = (set_keeps IsSound (rule_in check_leaf 0) (λ v fits. path_sound (rule_in check_leaf 0) refl refl v), (help_keeps, tt))
 
-first_keeps : AllByRecursion (Keeps IsSound false) first_leaf.rules
-first_keeps = (
-  set_keeps IsSound (rule_in first_leaf 0) (λ v fits. path_sound (rule_in first_leaf 0) refl refl v),
-  (set_keeps IsSound (rule_in first_leaf 1) (λ v fits. word_sound v fits), (help_keeps, tt)),
-)
+run_keeps : AllByRecursion (Keeps IsSound false) run_leaf.rules
+run_keeps = (set_keeps IsSound (rule_in run_leaf 0) (λ v fits. path_sound (rule_in run_leaf 0) refl refl v), (help_keeps, tt))
 
 asm_keeps : AllByRecursion (Keeps IsSound false) asm_leaf.rules
 asm_keeps = (
   set_keeps IsSound (rule_in asm_leaf 0) (λ v fits. path_sound (rule_in asm_leaf 0) refl refl v),
   (
     set_keeps IsSound (rule_in asm_leaf 1) (λ v fits. path_sound (rule_in asm_leaf 1) refl refl v),
-    (set_keeps IsSound (rule_in asm_leaf 2) (λ v fits. state_sound v fits), (help_keeps, tt)),
+    (
+      set_keeps IsSound (rule_in asm_leaf 2) (λ v fits. state_sound v fits),
+      (set_keeps IsSound (rule_in asm_leaf 3) (λ v fits. form_sound v fits), (help_keeps, tt)),
+    ),
   ),
 )
 
@@ -209,25 +215,37 @@ path_given id rows all given =
     let sound : IsSound row.0 = find_all IsSound _ rows row.0 all row.1 in
     (sound.text, ap (option_and_then (λ (r : Row). slice_get r.values 0)) row.1 ∙ ap (λ (vs : List Text). slice_get vs 0) sound.one)
 
-word_given : (rows : List Row) → AllByRecursion IsSound rows → is_given (codes "WORD") rows ≡ true → (n : ℕ) × HasWord rows n
-word_given rows all given =
-    let row = given_row (codes "WORD") rows given in
-    let sound : IsSound row.0 = find_all IsSound _ rows row.0 all row.1 in
-    let word = sound.word (find_passes _ rows row.0 row.1) in
-    let number = accepts-Accepts false (parser.Unsigned 0 0xffff_ffff_ffff_ffff) sound.text word.1 in
-    let read : one_of (codes "WORD") rows ≡ Some sound.text =
-    ap (option_and_then row_text) row.1 ∙ ap (λ (vs : List Text). option_map (read_as row.0.reading) (slice_get vs 0)) sound.one ∙ ap Some word.0 in
-    (digits_value 10 (without_leading_plus sound.text), (sound.text, read, (number.0, number.1, refl)))
+number_found : (id : Text) (low high : ℕ) (rows : List Row) → AllByRecursion IsSound rows → ((r : Row) (s : IsSound r) → IsNumbered id low high r s.text)
+    → (r : Row) → find (λ r. bytes_eq r.id id) rows ≡ Some r → (n : ℕ) × HasNumber id low high rows n
+number_found id low high rows all numbered r is =
+    let sound : IsSound r = find_all IsSound _ rows r all is in
+    let fits = numbered r sound (find_passes _ rows r is) in
+    let number = accepts-Accepts false (parser.Unsigned low high) sound.text fits.1 in
+    let read : one_of id rows ≡ Some sound.text =
+    ap (option_and_then row_text) is ∙ ap (λ (vs : List Text). option_map (read_as r.reading) (slice_get vs 0)) sound.one ∙ ap Some fits.0 in
+    (digits_value 10 (without_leading_plus sound.text), (sound.text, read, record { digits = number.0; value = refl; least = number.2; most = number.3 }))
 
-state_given : (rows : List Row) → AllByRecursion IsSound rows → is_given (codes "state") rows ≡ true → (n : ℕ) × HasState rows n
-state_given rows all given =
-    let row = given_row (codes "state") rows given in
-    let sound : IsSound row.0 = find_all IsSound _ rows row.0 all row.1 in
-    let state = sound.state (find_passes _ rows row.0 row.1) in
-    let number = accepts-Accepts false (parser.Unsigned 0 1024) sound.text state.1 in
-    let read : one_of (codes "state") rows ≡ Some sound.text =
-    ap (option_and_then row_text) row.1 ∙ ap (λ (vs : List Text). option_map (read_as row.0.reading) (slice_get vs 0)) sound.one ∙ ap Some state.0 in
-    (digits_value 10 (without_leading_plus sound.text), (sound.text, read, (number.0, number.3, refl)))
+number_given : (id : Text) (low high : ℕ) (rows : List Row) → AllByRecursion IsSound rows → ((r : Row) (s : IsSound r) → IsNumbered id low high r s.text)
+    → is_given id rows ≡ true → (n : ℕ) × HasNumber id low high rows n
+number_given id low high rows all numbered given =
+    let row = given_row id rows given in
+    number_found id low high rows all numbered row.0 row.1
+
+form_named : (rows : List Row) (n : ℕ) → HasNumber (codes "form") 1 2 rows n → (form : ImageForm) × HasForm rows form
+form_named rows zero h = absurd (omega (arith, h.2.least))
+form_named rows (suc zero) h = (Sbi1, inl h)
+form_named rows (suc (suc zero)) h = (Sbi2, inl h)
+form_named rows (suc (suc (suc n))) h = absurd (omega (arith, h.2.most))
+
+-- an image that is to be written has a form
+form_given : (rows : List Row) → AllByRecursion IsSound rows → (form : ImageForm) × HasForm rows form
+form_given rows all = go (find (λ r. bytes_eq r.id (codes "form")) rows) refl
+  where
+    go : (o : Option Row) → find (λ r. bytes_eq r.id (codes "form")) rows ≡ o → (form : ImageForm) × HasForm rows form
+    go None is = (Sbi1, inr (ap (option_and_then (λ (r : Row). slice_get r.values 0)) is, refl))
+    go (Some r) is =
+        let number = number_found (codes "form") 1 2 rows all (λ r s. s.form) r is in
+        form_named rows number.0 number.1
 
 one_required : (g : Bool) → cond (not g || false) (MissingRequiredArgument ∷ []) [] ≡ [] → g ≡ true
 one_required true e = refl
@@ -252,23 +270,21 @@ check_given words none =
     let rows = rows_after check_leaf.rules [] words in
     path_given (codes "IMAGE") rows fine.0 (one_required (is_given (codes "IMAGE") rows) fine.3)
 
-first_given : (words : List Text) → level_fault first_leaf [] nothing_held words false [] ≡ []
-    → ((path : Text) × HasImage (rows_after first_leaf.rules [] words) path) × ((n : ℕ) × HasWord (rows_after first_leaf.rules [] words) n)
-first_given words none =
-    let fine = level_fine IsSound first_leaf (λ p a is. find_all (Keeps IsSound false) p first_leaf.rules a first_keeps is) [] words false [] (refl, (refl, (refl, tt))) none in
-    let rows = rows_after first_leaf.rules [] words in
-    let both = two_required (is_given (codes "IMAGE") rows) (is_given (codes "WORD") rows) fine.3 in
-    (path_given (codes "IMAGE") rows fine.0 both.0, word_given rows fine.0 both.1)
+run_given : (words : List Text) → level_fault run_leaf [] nothing_held words false [] ≡ [] → (path : Text) × HasScenario (rows_after run_leaf.rules [] words) path
+run_given words none =
+    let fine = level_fine IsSound run_leaf (λ p a is. find_all (Keeps IsSound false) p run_leaf.rules a run_keeps is) [] words false [] (refl, (refl, tt)) none in
+    let rows = rows_after run_leaf.rules [] words in
+    path_given (codes "SCENARIO") rows fine.0 (one_required (is_given (codes "SCENARIO") rows) fine.3)
 
 asm_given : (words : List Text) → level_fault asm_leaf [] nothing_held words false [] ≡ []
     → ((path : Text) × HasPath (codes "SRC") (rows_after asm_leaf.rules [] words) path)
     × ((path : Text) × HasPath (codes "OUT") (rows_after asm_leaf.rules [] words) path)
-    × ((n : ℕ) × HasState (rows_after asm_leaf.rules [] words) n)
+    × ((n : ℕ) × HasState (rows_after asm_leaf.rules [] words) n) × ((form : ImageForm) × HasForm (rows_after asm_leaf.rules [] words) form)
 asm_given words none =
-    let fine = level_fine IsSound asm_leaf (λ p a is. find_all (Keeps IsSound false) p asm_leaf.rules a asm_keeps is) [] words false [] (refl, (refl, (refl, (refl, tt)))) none in
+    let fine = level_fine IsSound asm_leaf (λ p a is. find_all (Keeps IsSound false) p asm_leaf.rules a asm_keeps is) [] words false [] (refl, (refl, (refl, (refl, (refl, tt))))) none in
     let rows = rows_after asm_leaf.rules [] words in
     let all = three_required (is_given (codes "SRC") rows) (is_given (codes "OUT") rows) (is_given (codes "state") rows) fine.3 in
-    (path_given (codes "SRC") rows fine.0 all.0, path_given (codes "OUT") rows fine.0 all.1, state_given rows fine.0 all.2)
+    (path_given (codes "SRC") rows fine.0 all.0, path_given (codes "OUT") rows fine.0 all.1, number_given (codes "state") 0 1024 rows fine.0 (λ r s. s.state) all.2, form_given rows fine.0)
 
 dis_given : (words : List Text) → level_fault dis_leaf [] nothing_held words false [] ≡ [] → (path : Text) × HasImage (rows_after dis_leaf.rules [] words) path
 dis_given words none =
@@ -278,23 +294,23 @@ dis_given words none =
 
 -- the command that the words name
 abbrev named : Bool → Bool → Bool → Bool → Bool → Option Shape
-named check first asm dis help =
-    cond check (Some check_leaf) (cond first (Some first_leaf) (cond asm (Some asm_leaf) (cond dis (Some dis_leaf)
-    (cond help (Some (get_or program.subs 4 program.top)) None))))
+named run check asm dis help =
+    cond run (Some run_leaf) (cond check (Some check_leaf) (cond asm (Some asm_leaf)
+    (cond dis (Some dis_leaf) (cond help (Some (get_or program.subs 4 program.top)) None))))
 
-order_by : (check first asm dis help : Bool) (words : List Text) → (help ≡ true → ⊥)
-    → option_map_or (λ s. level_fault s [] nothing_held words false []) (named check first asm dis help) [] ≡ []
-    → is_some (option_map (λ s. rows_at s words) (named check first asm dis help)) ≡ true
-    → (o : Order) × AsksBy (option_map (λ s. rows_at s words) (named check first asm dis help)) o
-order_by true first asm dis help words no_help none has =
+order_by : (run check asm dis help : Bool) (words : List Text) → (help ≡ true → ⊥)
+    → option_map_or (λ s. level_fault s [] nothing_held words false []) (named run check asm dis help) [] ≡ []
+    → is_some (option_map (λ s. rows_at s words) (named run check asm dis help)) ≡ true
+    → (o : Order) × AsksBy (option_map (λ s. rows_at s words) (named run check asm dis help)) o
+order_by true check asm dis help words no_help none has =
+    let given = run_given words none in
+    (order.Run given.0, (refl, given.1))
+order_by false true asm dis help words no_help none has =
     let given = check_given words none in
     (order.Check given.0, (refl, given.1))
-order_by false true asm dis help words no_help none has =
-    let given = first_given words none in
-    (order.First given.0.0 given.1.0, (refl, given.0.1, given.1.1))
 order_by false false true dis help words no_help none has =
     let given = asm_given words none in
-    (order.Asm given.0.0 given.1.0 given.2.0, (refl, given.0.1, given.1.1, given.2.1))
+    (order.Asm given.0.0 given.1.0 given.2.0 given.3.0, (refl, given.0.1, given.1.1, given.2.1, given.3.1))
 order_by false false false true help words no_help none has =
     let given = dis_given words none in
     (order.Dis given.0, (refl, given.1))
@@ -329,6 +345,7 @@ asks_something words none =
         → (x : Order) × AsksBy (entered program o) x
     from None fine none has = absurd (true≢false (sym has))
     from (Some p) fine none has =
-        order_by (bytes_eq (codes "check") p.0 || false) (bytes_eq (codes "first") p.0 || false) (bytes_eq (codes "asm") p.0 || false)
-        (bytes_eq (codes "dis") p.0 || false) (bytes_eq (codes "help") p.0 || false) p.1
+        order_by (bytes_eq (codes "run") p.0 || false)
+        (bytes_eq (codes "check") p.0 || false) (bytes_eq (codes "asm") p.0 || false) (bytes_eq (codes "dis") p.0 || false)
+        (bytes_eq (codes "help") p.0 || false) p.1
         (not_named_help p.0 (fine refl)) none has

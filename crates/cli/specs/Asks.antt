@@ -1,65 +1,77 @@
 -- What a command line asks for: the words decide it, by the rules of `clap` for `sblog_app`.
-use Rattle.std.specs.Prelude.{◌≡◌, ◌≢◌, ◌<◌, ◌≤◌, ◌^◌, ℕ, List, [], Option, Some, None, codes}
+use Rattle.std.specs.Prelude.{◌≡◌, ◌≢◌, ◌≤◌, ◌⊎◌, ℕ, List, [], Option, Some, None, codes}
 use Rattle.std.specs.Str.Parse.{IsNumeral, digits_value, without_leading_plus}
-use Rattle.clap.specs.Words.{Row, Text, fault_of, first_of, one_of, subcommand_of}
+use Rattle.std.specs.String.{string_bytes}
+use Rattle.clap.specs.Words.{IsAmong, Row, Text, fault_of, first_of, one_of, subcommand_of}
+use Rattle.clap.specs.declared.error.kind.ErrorKind.{ErrorKind}
+use Rattle.clap.specs.declared.error.kind.ErrorKind.TheVariants.{OutOfMemory}
+use Rattle.regtypes.specs.declared.image_form.ImageForm.{ImageForm}
+use Rattle.regtypes.specs.declared.image_form.ImageForm.TheVariants.{Sbi1, Sbi2}
 use Rattle.cli.specs.Program.{sblog_app}
 use Rattle.cli.specs.declared.refusal.Refusal.{Refusal}
 use Rattle.cli.specs.declared.refusal.Refusal.TheVariants as refusal
 use Rattle.cli.specs.declared.request.Request.{Request}
 use Rattle.cli.specs.declared.request.Request.TheVariants as request
 
--- the text is n in decimal, below 2^64; a plus may stand first
-abbrev pub IsWord : Text → ℕ → Type 0
-IsWord text n = IsNumeral 10 (without_leading_plus text)
-    × (digits_value 10 (without_leading_plus text) < 2 ^ 64)
-    × (n ≡ digits_value 10 (without_leading_plus text))
+-- the text is n in decimal, in this range; a plus may stand first
+pub record IsNumber (low high : ℕ) (text : Text) (n : ℕ) : Type 0 where
+  pub digits : IsNumeral 10 (without_leading_plus text)
+  pub value : n ≡ digits_value 10 (without_leading_plus text)
+  pub least : low ≤ n
+  pub most : n ≤ high
 
--- the argument WORD was given as the number n
-abbrev pub HasWord : List Row → ℕ → Type 0
-HasWord rows n = (text : Text) × (one_of (codes "WORD") rows ≡ Some text) × IsWord text n
-
--- the text is n in decimal, at most 1,024; a plus may stand first
-abbrev pub IsStateLength : Text → ℕ → Type 0
-IsStateLength text n = IsNumeral 10 (without_leading_plus text)
-    × (digits_value 10 (without_leading_plus text) ≤ 1024)
-    × (n ≡ digits_value 10 (without_leading_plus text))
+-- the argument of this name was given as the number n, which is in this range
+abbrev pub HasNumber : Text → ℕ → ℕ → List Row → ℕ → Type 0
+HasNumber id low high rows n = (text : Text) × (one_of id rows ≡ Some text) × IsNumber low high text n
 
 -- the option --state was given as the number n
 abbrev pub HasState : List Row → ℕ → Type 0
-HasState rows n = (text : Text) × (one_of (codes "state") rows ≡ Some text) × IsStateLength text n
+HasState rows n = HasNumber (codes "state") 0 1024 rows n
+
+-- the number by which --form names a form
+abbrev pub form_number : ImageForm → ℕ
+form_number Sbi1 = 1
+form_number Sbi2 = 2
+
+-- the option --form was given as the number of this form; form 1 where it was not given
+abbrev pub HasForm : List Row → ImageForm → Type 0
+HasForm rows form = HasNumber (codes "form") 1 2 rows (form_number form) ⊎ ((first_of (codes "form") rows ≡ None) × (form ≡ Sbi1))
 
 -- the argument of this name was given as this path
 abbrev pub HasPath : Text → List Row → Text → Type 0
 HasPath id rows path = first_of id rows ≡ Some path
 
--- the argument IMAGE was given as this path
+-- the arguments IMAGE and SCENARIO were given as these paths
 abbrev pub HasImage : List Row → Text → Type 0
 HasImage rows path = HasPath (codes "IMAGE") rows path
 
+abbrev pub HasScenario : List Row → Text → Type 0
+HasScenario rows path = HasPath (codes "SCENARIO") rows path
+
 -- what a command line can ask for, apart from where its texts lie
 pub data Order : Type 0 where
+  Run : Text → Order
   Check : Text → Order
-  First : Text → ℕ → Order
-  Asm : Text → Text → ℕ → Order
+  Asm : Text → Text → ℕ → ImageForm → Order
   Dis : Text → Order
 
 abbrev pub order_of : Request → Order
+order_of (request.Run scenario) = Run scenario.now
 order_of (request.Check image) = Check image.now
-order_of (request.First image word) = First image.now word
-order_of (request.Asm source image state) = Asm source.now image.now state
+order_of (request.Asm source image state form) = Asm source.now image.now state form
 order_of (request.Dis image) = Dis image.now
 
 -- a length of a state is at most 1,024
 abbrev pub IsInRange : Order → Type 0
-IsInRange (Asm source image state) = state ≤ 1024
+IsInRange (Asm source image state form) = state ≤ 1024
 IsInRange order = Unit {0}
 
 -- the command of this name asks for it, with what its arguments were given
 abbrev pub AsksIn : Text → List Row → Order → Type 0
+AsksIn name rows (Run scenario) = (name ≡ codes "run") × HasScenario rows scenario
 AsksIn name rows (Check image) = (name ≡ codes "check") × HasImage rows image
-AsksIn name rows (First image word) = (name ≡ codes "first") × HasImage rows image × HasWord rows word
-AsksIn name rows (Asm source image state) = (name ≡ codes "asm")
-    × HasPath (codes "SRC") rows source × HasPath (codes "OUT") rows image × HasState rows state
+AsksIn name rows (Asm source image state form) = (name ≡ codes "asm")
+    × HasPath (codes "SRC") rows source × HasPath (codes "OUT") rows image × HasState rows state × HasForm rows form
 AsksIn name rows (Dis image) = (name ≡ codes "dis") × HasImage rows image
 
 -- the same of the command that was used, if one was
@@ -71,10 +83,6 @@ AsksBy (Some used) o = AsksIn used.0 used.1 o
 abbrev pub AsksFor : List Text → Order → Type 0
 AsksFor words o = (fault_of sblog_app words ≡ []) × AsksBy (subcommand_of sblog_app words) o
 
--- `clap` finds a fault in the words, or a call for help
-abbrev pub AsksNothing : List Text → Type 0
-AsksNothing words = fault_of sblog_app words ≢ []
-
 -- a value of which P holds, or None where P holds of none
 abbrev pub Gives : {T : Type 0} → (T → Type 0) → Option T → Type 0
 Gives {T} P None = (x : T) → P x → ⊥
@@ -85,7 +93,12 @@ abbrev pub GivesOrder : (Order → Type 0) → Option Request → Type 0
 GivesOrder P None = (o : Order) → P o → ⊥
 GivesOrder P (Some r) = P (order_of r)
 
--- the refusal is one for usage
-abbrev pub IsUsage : Refusal → Type 0
-IsUsage (refusal.Usage text) = Unit {0}
-IsUsage refusal.Memory = ⊥
+-- the refusal is one for usage: of a kind of fault that `clap` finds in the words, and with something to show
+abbrev pub IsRefusal : List Text → Refusal → Type 0
+IsRefusal words (refusal.Usage usage) = IsAmong usage.kind (fault_of sblog_app words) × (string_bytes usage.text ≢ [])
+IsRefusal words refusal.Memory = Unit {0}
+
+-- the same kind, and something to show; want of memory is no usage
+abbrev pub Explains : ErrorKind → Refusal → Type 0
+Explains kind (refusal.Usage usage) = (usage.kind ≡ kind) × (kind ≢ OutOfMemory) × (string_bytes usage.text ≢ [])
+Explains kind refusal.Memory = Unit {0}

@@ -1,9 +1,9 @@
 //! The command line as `clap` is told of it.
 
-ghost use Rattle.std.specs.Prelude.{◌≡◌, IfOk, false};
+ghost use Rattle.std.specs.Prelude.{◌≡◌, IfOk, codes, false, true};
 ghost use Rattle.clap.specs.Words.{app_of, rule_of};
 ghost use Rattle.clap.specs.declared.builder.Command.TheViews.{out-Command as fields_of};
-ghost use Rattle.cli.specs.Program.{asm_app, check_app, dis_app, first_app, required_rule, sblog_app, state_rule, word_rule};
+ghost use Rattle.cli.specs.Program.{asm_app, check_app, dis_app, number_rule, required_rule, run_app, sblog_app};
 
 use clap::builder::ValueParser;
 use clap::{Arg, ArgAction, Command};
@@ -17,23 +17,34 @@ fn required<'a>(alloc: Global, id: &'a str) -> Arg<'a>
     Arg::new(alloc, id).required(true).action(ArgAction::Set)
 }
 
-/// A required argument whose value is a number below 2^64.
-fn word<'a>(alloc: Global, id: &'a str) -> Arg<'a>
-    ensures rule { rule_of result ≡ word_rule id.entry.now }
+/// An option whose value is a number from `low` to `high`.
+fn number<'a>(alloc: Global, id: &'a str, name: &'a str, low: u64, high: u64) -> Arg<'a>
+    ensures rule { rule_of result ≡ number_rule id.entry.now true low high }
     ensures local { result.global ≡ false }
 {
-    required(alloc, id).value_parser(ValueParser::Unsigned(0, u64::MAX))
+    required(alloc, id)
+        .long(id)
+        .value_name(name)
+        .value_parser(ValueParser::Unsigned(low, high))
 }
 
-/// The required option `--state`, the length of a state: 0 to 1,024.
-fn state<'a>(alloc: Global) -> Arg<'a>
-    ensures rule { rule_of result ≡ state_rule }
+/// The option `--form` of an image: 1 or 2.
+fn form<'a>(alloc: Global) -> Arg<'a>
+    ensures rule { rule_of result ≡ number_rule (codes "form") false 1 2 }
     ensures local { result.global ≡ false }
 {
-    required(alloc, "state")
-        .long("state")
-        .value_name("N")
-        .value_parser(ValueParser::Unsigned(0, 1024))
+    number(alloc, "form", "F", 1, 2)
+        .required(false)
+        .help("Form of the image, 1 or 2 [default: 1]")
+}
+
+fn run<'a>(alloc: Global) -> Result<Command<'a>, AllocError>
+    ensures shape { IfOk result (λ c. app_of c ≡ run_app) }
+    ensures local { IfOk result (λ c. (fields_of c).has_globals ≡ false) }
+{
+    Command::new(alloc, "run")
+        .about("Carries out a scenario, and prints its trace and report")
+        .arg(required(alloc, "SCENARIO"))
 }
 
 fn check<'a>(alloc: Global) -> Result<Command<'a>, AllocError>
@@ -45,16 +56,6 @@ fn check<'a>(alloc: Global) -> Result<Command<'a>, AllocError>
         .arg(required(alloc, "IMAGE"))
 }
 
-fn first<'a>(alloc: Global) -> Result<Command<'a>, AllocError>
-    ensures shape { IfOk result (λ c. app_of c ≡ first_app) }
-    ensures local { IfOk result (λ c. (fields_of c).has_globals ≡ false) }
-{
-    let image = Command::new(alloc, "first")
-        .about("Delivers one message, a number below 2^64, and prints the state")
-        .arg(required(alloc, "IMAGE"))?;
-    image.arg(word(alloc, "WORD"))
-}
-
 fn asm<'a>(alloc: Global) -> Result<Command<'a>, AllocError>
     ensures shape { IfOk result (λ c. app_of c ≡ asm_app) }
     ensures local { IfOk result (λ c. (fields_of c).has_globals ≡ false) }
@@ -63,7 +64,8 @@ fn asm<'a>(alloc: Global) -> Result<Command<'a>, AllocError>
         .about("Writes the image of an assembler text, with N bytes of state")
         .arg(required(alloc, "SRC"))?;
     let image = source.arg(required(alloc, "OUT"))?;
-    image.arg(state(alloc))
+    let state = image.arg(number(alloc, "state", "N", 0, 1024))?;
+    state.arg(form(alloc))
 }
 
 fn dis<'a>(alloc: Global) -> Result<Command<'a>, AllocError>
@@ -84,8 +86,8 @@ pub(crate) fn sblog<'a>(alloc: Global) -> Result<Command<'a>, AllocError>
         .no_binary_name(true)
         .subcommand_required(true);
     let named = top.bin_name("sblog")?;
-    let with_check = named.subcommand(check(alloc)?)?;
-    let with_first = with_check.subcommand(first(alloc)?)?;
-    let with_asm = with_first.subcommand(asm(alloc)?)?;
+    let with_run = named.subcommand(run(alloc)?)?;
+    let with_check = with_run.subcommand(check(alloc)?)?;
+    let with_asm = with_check.subcommand(asm(alloc)?)?;
     with_asm.subcommand(dis(alloc)?)
 }

@@ -16,7 +16,7 @@ mod command;
 mod refusal;
 mod request;
 
-pub use refusal::Refusal;
+pub use refusal::{Refusal, Usage};
 pub use request::{Request, parse_words};
 
 #[cfg(test)]

@@ -1,17 +1,39 @@
 //! Why a command line asks for nothing.
 
-ghost use Rattle.std.specs.Prelude.{◌≡◌};
+ghost use Rattle.std.specs.Prelude.{◌≡◌, ◌≢◌, IfOk, [], string_bytes};
 ghost use Rattle.cli.specs.declared.refusal.Refusal.TheVariants.{Memory};
 
-use std::alloc::AllocError;
+use clap::error::ErrorKind;
+use std::alloc::{AllocError, Global};
 use thiserror::Error;
+
+/// A command line that asks for nothing, or for help.
+#[derive(Debug, Drop, Error)]
+#[error("{text}")]
+pub struct Usage {
+    pub kind: ErrorKind,
+    /// What to show: one or more ended lines.
+    pub text: String,
+}
+
+impl Usage {
+    /// That of words which are not UTF-8.
+    pub fn not_utf8(alloc: Global) -> Result<Usage, AllocError>
+        ensures { IfOk result (λ u. string_bytes u.text ≢ []) }
+    {
+        let text = String::from_str(alloc, "error: an argument is not UTF-8\n")?;
+        Ok(Usage {
+            kind: ErrorKind::ValueValidation,
+            text,
+        })
+    }
+}
 
 /// Why there is no request.
 #[derive(Debug, Drop, Error)]
 pub enum Refusal {
-    /// The words ask for nothing, or for help: the text to show, of one or more ended lines.
     #[error("{0}")]
-    Usage(String),
+    Usage(Usage),
     /// Memory ran out.
     #[error("memory")]
     Memory,

@@ -1,34 +1,34 @@
 //! What a command line asks for.
 
-ghost use Rattle.std.specs.Prelude.{◌≡◌, ◌≢◌, IfErr, IfOk, codes, map, option_map};
+ghost use Rattle.std.specs.Prelude.{◌≡◌, ◌≢◌, IfErr, IfOk, [], codes, map, option_map, string_bytes};
 ghost use Rattle.clap.specs.Words.{first_of, found_of, kind_of, rows_of, subcommand_rows_of};
-ghost use Rattle.cli.specs.Asks.{AsksBy, AsksFor, AsksIn, AsksNothing, Gives, GivesOrder, HasState, HasWord, IsInRange, IsUsage, order_of};
-ghost use Rattle.clap.specs.declared.error.ErrorKind.TheVariants.{OutOfMemory};
+ghost use Rattle.cli.specs.Asks.{AsksBy, AsksFor, AsksIn, Explains, Gives, GivesOrder, HasForm, HasNumber, IsInRange, IsRefusal, order_of};
 
 use crate::command::sblog;
-use crate::refusal::Refusal;
+use crate::refusal::{Refusal, Usage};
 use clap::error::ErrorKind;
 use clap::{ArgMatches, Error};
-use std::alloc::Global;
+use regtypes::ImageForm;
+use std::alloc::{AllocError, Global};
 use std::convert::AsStr;
 
 /// What a command line asks for, a variant a command. Paths are as they were given.
 #[derive(Clone, Copy, Debug, PartialEq, Eq)]
 pub enum Request<'a> {
+    /// `run SCENARIO`.
+    Run {
+        scenario: &'a str,
+    },
     /// `check IMAGE`.
     Check {
         image: &'a str,
     },
-    /// `first IMAGE WORD`.
-    First {
-        image: &'a str,
-        word: u64,
-    },
-    /// `asm SRC OUT --state N`, with N at most 1,024.
+    /// `asm SRC OUT --state N --form F`, with N at most 1,024; form 1 where no form is given.
     Asm {
         source: &'a str,
         image: &'a str,
         state: u16,
+        form: ImageForm,
     },
     /// `dis IMAGE`.
     Dis {
@@ -43,19 +43,41 @@ fn path_in<'a>(matches: &ArgMatches<'a>, id: &str) -> Option<&'a str>
     matches.get_str(id)
 }
 
-fn word_in(matches: &ArgMatches<'_>) -> Option<u64>
-    ensures { Gives (HasWord (rows_of (found_of matches.now))) result }
+/// The number that an argument was given. Its range refuses every other number already; the test here makes
+/// that a fact of the number.
+fn number_in(matches: &ArgMatches<'_>, id: &str, low: u64, high: u64) -> Option<u64>
+    ensures { Gives (HasNumber id.now low high (rows_of (found_of matches.now))) result }
 {
-    matches.get_one::<u64>("WORD")
+    let number = matches.get_one::<u64>(id)?;
+    if low <= number && number <= high {
+        Some(number)
+    } else {
+        None
+    }
 }
 
-/// The value of `--state`. The range of the option refuses a longer state already; the test here makes
-/// that a fact of the number.
-fn state_in(matches: &ArgMatches<'_>) -> Option<u16>
-    ensures { Gives (HasState (rows_of (found_of matches.now))) result }
+/// The form of the image that is to be written.
+fn form_in(matches: &ArgMatches<'_>) -> Option<ImageForm>
+    ensures { Gives (HasForm (rows_of (found_of matches.now))) result }
 {
-    let state = matches.get_one::<u16>("state")?;
-    if state <= 1024 { Some(state) } else { None }
+    match path_in(matches, "form") {
+        None => Some(ImageForm::Sbi1),
+        Some(_) => {
+            let number = number_in(matches, "form", 1, 2)?;
+            if number == 1 {
+                Some(ImageForm::Sbi1)
+            } else {
+                Some(ImageForm::Sbi2)
+            }
+        }
+    }
+}
+
+fn run_in<'a>(matches: &ArgMatches<'a>) -> Option<Request<'a>>
+    ensures { GivesOrder (AsksIn (codes "run") (rows_of (found_of matches.now))) result }
+{
+    let scenario = path_in(matches, "SCENARIO")?;
+    Some(Request::Run { scenario })
 }
 
 fn check_in<'a>(matches: &ArgMatches<'a>) -> Option<Request<'a>>
@@ -65,24 +87,18 @@ fn check_in<'a>(matches: &ArgMatches<'a>) -> Option<Request<'a>>
     Some(Request::Check { image })
 }
 
-fn first_in<'a>(matches: &ArgMatches<'a>) -> Option<Request<'a>>
-    ensures { GivesOrder (AsksIn (codes "first") (rows_of (found_of matches.now))) result }
-{
-    let image = path_in(matches, "IMAGE")?;
-    let word = word_in(matches)?;
-    Some(Request::First { image, word })
-}
-
 fn asm_in<'a>(matches: &ArgMatches<'a>) -> Option<Request<'a>>
     ensures { GivesOrder (AsksIn (codes "asm") (rows_of (found_of matches.now))) result }
 {
     let source = path_in(matches, "SRC")?;
     let image = path_in(matches, "OUT")?;
-    let state = state_in(matches)?;
+    let state = number_in(matches, "state", 0, 1024)? as u16;
+    let form = form_in(matches)?;
     Some(Request::Asm {
         source,
         image,
         state,
+        form,
     })
 }
 
@@ -98,8 +114,8 @@ fn request_in<'a>(name: &str, matches: &ArgMatches<'a>) -> Option<Request<'a>>
     ensures { GivesOrder (AsksIn name.now (rows_of (found_of matches.now))) result }
 {
     match name {
+        "run" => run_in(matches),
         "check" => check_in(matches),
-        "first" => first_in(matches),
         "asm" => asm_in(matches),
         "dis" => dis_in(matches),
         _ => None,
@@ -114,15 +130,27 @@ fn request_of<'a>(matches: &ArgMatches<'a>) -> Option<Request<'a>>
     request_in(name, inner)
 }
 
-/// The refusal of a command line that `clap` refused: its text, but for want of memory.
-fn refusal_of(alloc: Global, error: &Error) -> Refusal
-    ensures { IsUsage result → kind_of error.now ≢ OutOfMemory }
+/// The text of an error of `clap`, or a line in its place if it has none.
+fn text_of(alloc: Global, error: &Error) -> Result<String, AllocError>
+    ensures { IfOk result (λ text. string_bytes text ≢ []) }
 {
-    if error.kind() == ErrorKind::OutOfMemory {
+    let text = error.to_string(alloc)?;
+    if text.is_empty() {
+        return String::from_str(alloc, "error: the command line is not taken\n");
+    }
+    Ok(text)
+}
+
+/// The refusal of a command line that `clap` refused.
+fn refusal_of(alloc: Global, error: &Error) -> Refusal
+    ensures { Explains (kind_of error.now) result }
+{
+    let kind = error.kind();
+    if kind == ErrorKind::OutOfMemory {
         return Refusal::Memory;
     }
-    match error.to_string(alloc) {
-        Ok(text) => Refusal::Usage(text),
+    match text_of(alloc, error) {
+        Ok(text) => Refusal::Usage(Usage { kind, text }),
         Err(_) => Refusal::Memory,
     }
 }
@@ -133,7 +161,7 @@ fn refusal_of(alloc: Global, error: &Error) -> Refusal
 pub fn parse_words<'a, S: AsStr>(alloc: Global, words: &'a [S]) -> Result<Request<'a>, Refusal>
     ensures request { IfOk result (λ r. AsksFor (map S.text words.entry.now) (order_of r)) }
     ensures range { IfOk result (λ r. IsInRange (order_of r)) }
-    ensures usage { IfErr result (λ e. IsUsage e → AsksNothing (map S.text words.entry.now)) }
+    ensures usage { IfErr result (IsRefusal (map S.text words.entry.now)) }
 {
     let command = sblog(alloc)?;
     match command.try_get_matches_from(words) {

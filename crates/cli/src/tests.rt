@@ -1,27 +1,21 @@
-use crate::{Refusal, Request, parse_words};
+use crate::{Refusal, Request, Usage, parse_words};
+use regtypes::ImageForm;
 use std::test::Fail;
 
 #[test]
 fn requests(rt: HostRuntime) -> Result<(), Fail> {
     let alloc = rt.alloc();
-    let image = "adder.sbi";
+    let (image, scenario) = ("adder.sbi", "a.txt");
     let cases = [
         ("check adder.sbi", Request::Check { image }),
-        ("first adder.sbi 5", Request::First { image, word: 5 }),
-        (
-            "first adder.sbi 18446744073709551615",
-            Request::First {
-                image,
-                word: u64::MAX,
-            },
-        ),
-        ("first adder.sbi 007", Request::First { image, word: 7 }),
+        ("run a.txt", Request::Run { scenario }),
         (
             "asm adder.s adder.sbi --state 8",
             Request::Asm {
                 source: "adder.s",
                 image,
                 state: 8,
+                form: ImageForm::Sbi1,
             },
         ),
         (
@@ -30,6 +24,16 @@ fn requests(rt: HostRuntime) -> Result<(), Fail> {
                 source: "adder.s",
                 image,
                 state: 1024,
+                form: ImageForm::Sbi1,
+            },
+        ),
+        (
+            "asm adder.s adder.sbi --form 2 --state 0",
+            Request::Asm {
+                source: "adder.s",
+                image,
+                state: 0,
+                form: ImageForm::Sbi2,
             },
         ),
         ("dis adder.sbi", Request::Dis { image }),
@@ -54,26 +58,26 @@ fn usage_texts(rt: HostRuntime) -> Result<(), Fail> {
         ("check a b", "unexpected argument 'b' found"),
         ("check a b c d e f", "unexpected argument 'b' found"),
         ("asm a b --state 8 c d e", "unexpected argument 'c' found"),
-        ("first a", "<WORD>"),
-        (
-            "first a 18446744073709551616",
-            "invalid value '18446744073709551616'",
-        ),
-        ("first a five", "invalid value 'five'"),
-        ("first a -1", "unexpected argument '-1' found"),
+        ("first a 5", "unrecognized subcommand 'first'"),
+        ("run", "<SCENARIO>"),
+        ("run a b", "unexpected argument 'b' found"),
         ("asm a b", "--state <N>"),
         ("asm a --state 0", "<OUT>"),
         ("asm a b --state 1025", "invalid value '1025'"),
         ("asm a b --state eight", "invalid value 'eight'"),
+        ("asm a b --state 8 --form 0", "invalid value '0'"),
+        ("asm a b --state 8 --form 3", "invalid value '3'"),
+        ("asm a b --state 8 --form", "--form <F>"),
+        ("asm a b --state 8 --form 1 --form 1", "--form <F>"),
         ("dis", "<IMAGE>"),
         ("--help", "Usage: sblog <COMMAND>"),
-        ("help first", "Usage: sblog first <IMAGE> <WORD>"),
+        ("help run", "Usage: sblog run <SCENARIO>"),
         ("check --help", "Usage: sblog check <IMAGE>"),
     ];
     for (line, part) in cases {
         let words: Vec<&str> = line.split_whitespace().collect(alloc)?;
         match parse_words(alloc, words.as_slice()) {
-            Err(Refusal::Usage(text)) => {
+            Err(Refusal::Usage(Usage { text, .. })) => {
                 assert!(rt; text.as_str().contains(part), "at {line}: {text}");
                 assert!(rt; text.as_str().ends_with('\n'), "at {line}: {text}");
             }
@@ -89,11 +93,20 @@ const PAGES: &str = "Runs verified message handlers
 Usage: sblog <COMMAND>
 
 Commands:
+  run    Carries out a scenario, and prints its trace and report
   check  Verifies an image and prints how many instructions it has
-  first  Delivers one message, a number below 2^64, and prints the state
   asm    Writes the image of an assembler text, with N bytes of state
   dis    Prints the assembler text of an image
   help   Print this message or the help of the given subcommand(s)
+
+Options:
+  -h, --help  Print help
+Carries out a scenario, and prints its trace and report
+
+Usage: sblog run <SCENARIO>
+
+Arguments:
+  <SCENARIO>  
 
 Options:
   -h, --help  Print help
@@ -106,19 +119,9 @@ Arguments:
 
 Options:
   -h, --help  Print help
-Delivers one message, a number below 2^64, and prints the state
-
-Usage: sblog first <IMAGE> <WORD>
-
-Arguments:
-  <IMAGE>  
-  <WORD>   
-
-Options:
-  -h, --help  Print help
 Writes the image of an assembler text, with N bytes of state
 
-Usage: sblog asm --state <N> <SRC> <OUT>
+Usage: sblog asm [OPTIONS] --state <N> <SRC> <OUT>
 
 Arguments:
   <SRC>  
@@ -126,6 +129,7 @@ Arguments:
 
 Options:
       --state <N>  
+      --form <F>   Form of the image, 1 or 2 [default: 1]
   -h, --help       Print help
 Prints the assembler text of an image
 
@@ -144,14 +148,14 @@ fn help_pages(rt: HostRuntime) -> Result<(), Fail> {
     let mut pages: String = String::new(alloc);
     for line in [
         "--help",
+        "run --help",
         "check --help",
-        "first --help",
         "asm --help",
         "dis --help",
     ] {
         let words: Vec<&str> = line.split_whitespace().collect(alloc)?;
         match parse_words(alloc, words.as_slice()) {
-            Err(Refusal::Usage(text)) => pages.push_str(text.as_str())?,
+            Err(Refusal::Usage(Usage { text, .. })) => pages.push_str(text.as_str())?,
             _ => assert!(rt; false, "taken: {line}"),
         }
     }

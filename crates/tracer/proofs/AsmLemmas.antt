@@ -1,5 +1,5 @@
 -- Why a source comes to no file.
-use Rattle.std.proofs.Common.{◌≡◌, ◌<◌, ◌≤◌, ◌∙◌, ◌⊎◌, ℕ, List, [], ◌∷◌, true, false, if◌then◌else◌, Bool, refl, sym, ap, subst, arith, inl, inr, map}
+use Rattle.std.proofs.Common.{◌≡◌, ◌<◌, ◌∙◌, ◌⊎◌, ℕ, List, [], ◌∷◌, true, false, if◌then◌else◌, Bool, refl, sym, ap, subst, arith, inl, inr, map}
 use Rattle.assemble.specs.Refusal.{AreLines}
 use Rattle.assemble.specs.Refusal as assembling
 use Rattle.assemble.specs.Text.{line_of, lines_of, spoken}

@@ -1,4 +1,4 @@
 mod AsmLemmas
 mod CauseLemmas
-mod DeliveryLemmas
-mod FirstLemmas
+mod HeadLemmas
+mod StageLemmas

@@ -4,18 +4,18 @@ use Rattle.std.specs.Str.{IsUtf8}
 use Rattle.assemble.specs.Refusal as assembling
 use Rattle.assemble.specs.Text.{lines_of, spoken}
 use Rattle.decode.specs.declared.insn.Insn.{Insn}
-use Rattle.regtypes.specs.declared.image_form.ImageForm.TheVariants.{Sbi1}
+use Rattle.regtypes.specs.declared.image_form.ImageForm.{ImageForm}
 use Rattle.verifier.specs.ImageFile.{IsFile}
 use Rattle.verifier.specs.declared.fault.HeaderFault.TheVariants.{SlotCount}
 use Rattle.tracer.specs.declared.fault.Fault.{Fault}
-use Rattle.tracer.specs.declared.fault.Fault.TheVariants.{Usage, Header, Decode, Verify, Assemble, Memory, InputOutput}
+use Rattle.tracer.specs.declared.fault.Fault.TheVariants.{Usage, Header, Decode, Verify, Assemble, Scenario, Memory, InputOutput}
 
--- the source is the text of code of which these bytes are the file of form 1, with a state of this length
-pub record IsAssembled (source : List ℕ) (state : ℕ) (bytes : List ℕ) : Type 0 where
+-- the source is the text of code of which these bytes are the file of this form, with a state of this length
+pub record IsAssembled (source : List ℕ) (state : ℕ) (form : ImageForm) (bytes : List ℕ) : Type 0 where
   pub text : IsUtf8 source
   pub code : List Insn
   pub lines : assembling.AreLines (lines_of source) code
-  pub file : IsFile Sbi1 code state bytes
+  pub file : IsFile form code state bytes
 
 -- why a source comes to no file: a line that is refused, no instruction, or no text; want of memory says nothing of it
 abbrev pub IsUnassembled : List ℕ → Fault → Type 0
@@ -23,6 +23,7 @@ IsUnassembled source (Assemble rule line) = assembling.IsFault source rule line
 IsUnassembled source (Header fault) = (fault ≡ SlotCount) × (spoken (lines_of source) ≡ [])
 IsUnassembled source InputOutput = ¬ IsUtf8 source
 IsUnassembled source Memory = Unit {0}
-IsUnassembled source (Usage text) = ⊥
+IsUnassembled source (Scenario line) = ⊥
+IsUnassembled source (Usage usage) = ⊥
 IsUnassembled source (Decode rule slot) = ⊥
 IsUnassembled source (Verify rule slot) = ⊥

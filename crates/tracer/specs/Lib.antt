@@ -2,6 +2,9 @@ pub mod Asm
 pub mod Check
 pub mod Dis
 pub mod Fault
-pub mod First
+pub mod Files
+pub mod Inside
 pub mod Program
 pub mod Report
+pub mod Run
+pub mod Stage

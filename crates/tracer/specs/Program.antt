@@ -1,75 +1,100 @@
--- How the program ends: the words and the file that they name decide it.
-use Rattle.std.specs.Prelude.{◌≡◌, ℕ, List, Option, Some}
+-- How the program ends: the words, the files that they name, and whether a file or a stream failed decide it.
+use Rattle.std.specs.Prelude.{◌≡◌, ◌≢◌, ◌⊎◌, ℕ, Bool, true, List, Option, Some}
 use Rattle.std.specs.Io.KnownBytes.{Appends}
-use Rattle.cli.specs.Asks.{AsksFor, AsksNothing, Order, Check, First, Asm, Dis}
-use Rattle.verifier.specs.ImageFile.{IsRefusal}
-use Rattle.verifier.specs.declared.fault.ImageError.{ImageError}
+use Rattle.cli.specs.Asks.{AsksFor, IsRefusal, Order, Run, Check, Asm, Dis}
+use Rattle.cli.specs.declared.refusal.Refusal.TheVariants as refusal
+use Rattle.scenario.specs.declared.order.Allowed.TheVariants.{All}
 use Rattle.tracer.specs.Asm.{IsAssembled, IsUnassembled}
+use Rattle.tracer.specs.Check.{IsImageFault}
 use Rattle.tracer.specs.Dis.{IsUnlisted}
-use Rattle.tracer.specs.Fault.{fault_of_image, fault_text, status_of}
-use Rattle.tracer.specs.Report.{IsReport, path_of, report_text}
+use Rattle.tracer.specs.Fault.{fault_text, status_of}
+use Rattle.tracer.specs.Files.{Content}
+use Rattle.tracer.specs.Report.{IsReport, path_of}
+use Rattle.tracer.specs.Run.{IsCutText}
+use Rattle.tracer.specs.Stage.{IsUnstaged}
 use Rattle.tracer.specs.declared.fault.Fault.{Fault}
 use Rattle.tracer.specs.declared.fault.Fault.TheVariants.{Usage, Memory, InputOutput}
-use Rattle.tracer.specs.declared.report.Report.{Report}
 
--- the bytes of the files at their paths, where they are known
-abbrev pub Content : Type 0
-Content = List ℕ → Option (List ℕ)
+-- ---- an order that is carried out
 
--- the fault is the reason why bytes are no file of typable code; want of memory says nothing of them
-abbrev pub IsImageFault : List ℕ → Fault → Type 0
-IsImageFault bytes f = (e : ImageError) × IsRefusal bytes e × (f ≡ fault_of_image e)
+-- the image file of the source is there, and every other file is as it was
+pub record IsWritten (source image : List ℕ) (assembles : List ℕ → List ℕ → Type 0) (content content' : Content) : Type 0 where
+  pub file : (bytes before : List ℕ) → content source ≡ Some bytes → content image ≡ Some before
+      → (file : List ℕ) × assembles bytes file × (content' image ≡ Some file)
+  pub others : (other : List ℕ) → other ≢ image → content' other ≡ content other
 
--- the fault is the reason why the order's file, with these bytes, is refused
-abbrev pub IsRefused : Order → List ℕ → Fault → Type 0
-IsRefused (Check image) bytes f = IsImageFault bytes f
-IsRefused (First image word) bytes f = IsImageFault bytes f
-IsRefused (Asm source image state) bytes f = IsUnassembled bytes f
-IsRefused (Dis image) bytes f = IsUnlisted bytes f
-
--- the files after an order that was carried out: `asm` leaves the image file of its source, the others leave all as it was
+-- the files after an order: `asm` writes the image file of its source, the others leave all as it was
 abbrev pub Leaves : Order → Content → Content → Type 0
-Leaves (Asm source image state) content content' =
-    (bytes before : List ℕ) → content source ≡ Some bytes → content image ≡ Some before
-    → (file : List ℕ) × IsAssembled bytes state file × (content' image ≡ Some file)
+Leaves (Asm source image state form) content content' = IsWritten source image (λ bytes file. IsAssembled bytes state form file) content content'
 Leaves order content content' = content' ≡ content
 
--- the order comes to the report, by its file
-abbrev pub IsAnswer : Content → Order → Report → Type 0
-IsAnswer content order report =
-    (bytes : List ℕ) → content (path_of order) ≡ Some bytes → IsReport order bytes report
+-- the order prints this text, by its file
+abbrev pub IsAnswer : Content → Order → List ℕ → Type 0
+IsAnswer content order text = (bytes : List ℕ) → content (path_of order) ≡ Some bytes → IsReport content order bytes text
 
--- the order comes to the fault; memory and input or output say nothing of its file
-abbrev pub IsFault : Content → Order → Fault → Type 0
-IsFault content order (Usage text) = ⊥
-IsFault content order Memory = Unit {0}
-IsFault content order InputOutput = Unit {0}
-IsFault content order f = (bytes : List ℕ) → content (path_of order) ≡ Some bytes → IsRefused order bytes f
-
--- the words come to the fault: they ask for nothing, or for a request that comes to it
-abbrev pub IsCause : List (List ℕ) → Content → Fault → Type 0
-IsCause words content (Usage text) = AsksNothing words
-IsCause words content Memory = Unit {0}
-IsCause words content InputOutput = Unit {0}
-IsCause words content f = (order : Order) × AsksFor words order × IsFault content order f
-
--- the words ask for an order that comes to the report, and to these files
-pub record IsAnswered (words : List (List ℕ)) (content content' : Content) (report : Report) : Type 0 where
+-- the words ask for an order that prints this text and leaves these files
+pub record IsAnswered (words : List (List ℕ)) (content content' : Content) (text : List ℕ) : Type 0 where
   pub order : Order
   pub asked : AsksFor words order
-  pub answer : IsAnswer content order report
+  pub answer : IsAnswer content order text
   pub left : Leaves order content content'
 
--- the words come to a report and to these files, and the report was printed
-pub record IsPrinted (words : List (List ℕ)) (content content' : Content) (out out' : Option (List ℕ)) : Type 0 where
-  pub report : Report
-  pub answered : IsAnswered words content content' report
-  pub printed : Appends out out' (report_text report)
+-- the same, and the text was printed
+pub record IsDone (words : List (List ℕ)) (content content' : Content) (out out' : Option (List ℕ)) : Type 0 where
+  pub text : List ℕ
+  pub answered : IsAnswered words content content' text
+  pub printed : Appends out out' text
 
--- the words come to a fault of this status, and the fault was told
-pub record IsTold (words : List (List ℕ)) (content : Content) (err err' : Option (List ℕ)) (status : ℕ)
+-- ---- one that comes to a fault
+
+-- the fault is the reason why the order's file, with these bytes, is refused; or an image that a scenario names
+abbrev pub IsRefused : Content → Order → List ℕ → Fault → Type 0
+IsRefused content (Run scenario) bytes f = IsUnstaged content All bytes f
+IsRefused content (Check image) bytes f = IsImageFault bytes f
+IsRefused content (Asm source image state form) bytes f = IsUnassembled bytes f
+IsRefused content (Dis image) bytes f = IsUnlisted bytes f
+
+-- what is read from the file at the path comes to the fault: it is refused so, or, for input or output, a file or a stream has
+-- failed; want of memory says nothing
+abbrev pub FaultOf : Content → Bool → List ℕ → (List ℕ → Fault → Type 0) → Fault → Type 0
+FaultOf content failed path refused (Usage usage) = ⊥
+FaultOf content failed path refused Memory = Unit {0}
+FaultOf content failed path refused InputOutput =
+    (failed ≡ true) ⊎ ((bytes : List ℕ) → content path ≡ Some bytes → refused bytes InputOutput)
+FaultOf content failed path refused f = (bytes : List ℕ) → content path ≡ Some bytes → refused bytes f
+
+-- the order comes to the fault
+abbrev pub IsFault : Content → Bool → Order → Fault → Type 0
+IsFault content failed order f = FaultOf content failed (path_of order) (IsRefused content order) f
+
+-- the words come to the fault: they are refused, or ask for an order that comes to it
+abbrev pub IsCause : List (List ℕ) → Content → Bool → Fault → Type 0
+IsCause words content failed (Usage usage) = IsRefusal words (refusal.Usage usage)
+IsCause words content failed Memory = Unit {0}
+IsCause words content failed f = (order : Order) × AsksFor words order × IsFault content failed order f
+
+-- a run that memory ended has this text: the lines of the orders that were refused until then
+abbrev pub IsShort : Content → Order → List ℕ → Type 0
+IsShort content (Run scenario) text = (bytes : List ℕ) → content scenario ≡ Some bytes → IsCutText content bytes text
+IsShort content order text = ⊥
+
+-- the words ask for such a run, and its text was printed
+pub record IsCutShort (words : List (List ℕ)) (content : Content) (out out' : Option (List ℕ)) : Type 0 where
+  pub order : Order
+  pub asked : AsksFor words order
+  pub text : List ℕ
+  pub short : IsShort content order text
+  pub printed : Appends out out' text
+
+-- the fault was told with its status; or the stream for faults has failed, and left a status of its own
+abbrev pub Tells : Fault → Bool → Option (List ℕ) → Option (List ℕ) → ℕ → Type 0
+Tells f failed err err' status =
+    ((status ≡ status_of f) × Appends err err' (fault_text f)) ⊎ ((failed ≡ true) × ((status ≡ 5) ⊎ (status ≡ 6)))
+
+-- the words come to a fault, which was told; `failed` says whether a file or the stream for reports has failed, `deaf` whether
+-- that for faults has
+pub record IsTold (words : List (List ℕ)) (content : Content) (failed deaf : Bool) (err err' : Option (List ℕ)) (status : ℕ)
     : Type 0 where
   pub fault : Fault
-  pub cause : IsCause words content fault
-  pub status_is : status ≡ status_of fault
-  pub told : Appends err err' (fault_text fault)
+  pub cause : IsCause words content failed fault
+  pub told : Tells fault deaf err err' status

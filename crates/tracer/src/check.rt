@@ -1,13 +1,18 @@
 //! The command `check`.
 
-ghost use Rattle.std.specs.Prelude.{◌≡◌, IfErr, IfOk, Some};
-ghost use Rattle.tracer.specs.Check.{IsAccepted, accepted_text};
-ghost use Rattle.tracer.specs.Program.{IsImageFault};
+ghost use Rattle.std.specs.Prelude.{◌≡◌, ℕ, List, IfErr, IfOk, Some};
+ghost use Rattle.tracer.specs.Check.{IsAccepted, IsImageFault, IsLoaded, accepted_text};
+ghost use Rattle.tracer.specs.Inside.{LoadFault};
+ghost use Rattle.tracer.specs.Program.{FaultOf};
 
 use crate::fault::Fault;
+use crate::files::Files;
 use std::alloc::Global;
 use std::fmt;
-use verifier::load;
+use verifier::{Image, load};
+
+/// The bytes that decide whether a file is an image: as many as the largest one has, and one more.
+pub const IMAGE_LIMIT: usize = 8201;
 
 /// The answer of `check`. It prints as its line, with the line's end.
 #[derive(Clone, Copy, Debug, PartialEq, Eq)]
@@ -25,12 +30,25 @@ impl fmt::Display for Accepted {
     }
 }
 
-/// Verifies the image of a file with these bytes.
-pub fn check(alloc: Global, bytes: &[u8]) -> Result<Accepted, Fault>
-    ensures accepted { IfOk result (λ a. IsAccepted bytes.now a.count) }
-    ensures refused { IfErr result (IsImageFault bytes.now) }
+/// The image of a file.
+pub fn load_image<F: Files>(alloc: Global, path: &str, files: &mut F) -> Result<Image, Fault>
+    ensures loaded { IfOk result (IsLoaded (F.content files.old) path.now) }
+    ensures same { F.content files.new ≡ F.content files.old }
+    ensures fault { IfErr result (LoadFault (F.content files.old) (F.failed files.new) path.now) }
 {
-    let image = load(alloc, bytes)?;
+    let bytes = files.read(alloc, path, Some(IMAGE_LIMIT))?;
+    let image = load(alloc, bytes.as_slice())?;
+    Ok(image)
+}
+
+/// Verifies the image of a file.
+pub fn check<F: Files>(alloc: Global, path: &str, files: &mut F) -> Result<Accepted, Fault>
+    ensures accepted { IfOk result (λ a. (bytes : List ℕ) → F.content files.old path.now ≡ Some bytes
+        → IsAccepted bytes a.count) }
+    ensures same { F.content files.new ≡ F.content files.old }
+    ensures fault { IfErr result (FaultOf (F.content files.old) (F.failed files.new) path.now IsImageFault) }
+{
+    let image = load_image(alloc, path, files)?;
     let count = image.count();
     Ok(Accepted { count })
 }

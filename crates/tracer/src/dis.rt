@@ -1,19 +1,25 @@
 //! The command `dis`.
 
-ghost use Rattle.std.specs.Prelude.{IfErr, IfOk, string_bytes};
+ghost use Rattle.std.specs.Prelude.{◌≡◌, ℕ, List, IfErr, IfOk, Some, string_bytes};
 ghost use Rattle.tracer.specs.Dis.{IsListing, IsUnlisted};
+ghost use Rattle.tracer.specs.Program.{FaultOf};
 
+use crate::check::IMAGE_LIMIT;
 use crate::fault::Fault;
+use crate::files::Files;
 use assemble::disassemble;
 use std::alloc::Global;
 use verifier::parts;
 
-/// The assembler text of the image of a file with these bytes. Its code is not verified.
-pub fn dis(alloc: Global, bytes: &[u8]) -> Result<String, Fault>
-    ensures listing { IfOk result (λ t. IsListing bytes.now (string_bytes t)) }
-    ensures refused { IfErr result (IsUnlisted bytes.now) }
+/// The assembler text of the image of a file. Its code is not verified.
+pub fn dis<F: Files>(alloc: Global, path: &str, files: &mut F) -> Result<String, Fault>
+    ensures listing { IfOk result (λ t. (bytes : List ℕ) → F.content files.old path.now ≡ Some bytes
+        → IsListing bytes (string_bytes t)) }
+    ensures same { F.content files.new ≡ F.content files.old }
+    ensures fault { IfErr result (FaultOf (F.content files.old) (F.failed files.new) path.now IsUnlisted) }
 {
-    let (code, _state, _form) = parts(alloc, bytes)?;
+    let bytes = files.read(alloc, path, Some(IMAGE_LIMIT))?;
+    let (code, _state, _form) = parts(alloc, bytes.as_slice())?;
     let text = disassemble(alloc, code.as_slice())?;
     Ok(text)
 }

@@ -1,23 +1,25 @@
 //! Why a command line was not carried out.
 
 ghost use Rattle.std.specs.Prelude.{◌≡◌, Some};
-ghost use Rattle.tracer.specs.Fault.{IsStreamFault, Tells, fault_of_file, fault_of_image, fault_of_refusal, fault_of_text, fault_text, status_of};
+ghost use Rattle.tracer.specs.Fault.{fault_of_failure, fault_of_image, fault_of_refusal, fault_of_scenario, fault_of_text, fault_text, status_of};
+ghost use Rattle.tracer.specs.Program.{Tells};
 ghost use Rattle.tracer.specs.declared.fault.Fault.TheVariants.{Memory};
 
-use crate::files::FileError;
+use crate::files::Failure;
+use crate::stream::Stream;
 use assemble::AsmError;
-use cli::Refusal;
+use cli::{Refusal, Usage};
+use scenario::ScenarioError;
 use std::alloc::{AllocError, AllocFailed};
-use std::io::Write;
-use std::{fmt, io};
+use std::fmt;
 use verifier::{HeaderFault, ImageError};
 
 /// Why a command line was not carried out. It prints as its line on standard error, or as the text
 /// on usage, with the line's end.
 #[derive(Debug, Drop)]
 pub enum Fault {
-    /// The words ask for nothing, or for help: the text to show.
-    Usage(String),
+    /// The words ask for nothing, or for help.
+    Usage(Usage),
     /// An image's header, or the length of its file.
     Header(HeaderFault),
     /// An image's code breaks a rule of its encoding at this slot.
@@ -26,6 +28,8 @@ pub enum Fault {
     Verify { rule: regtypes::Rule, slot: usize },
     /// This line of an assembler text, counted from 1, breaks a rule.
     Assemble { rule: assemble::Rule, line: usize },
+    /// This line of a scenario, counted from 1, is the first faulty one; line 0, where there is no process.
+    Scenario { line: usize },
     Memory,
     /// A file or a stream could not be read or written.
     InputOutput,
@@ -40,16 +44,17 @@ impl Fault {
             Fault::Usage(_) => 2,
             Fault::Header(_) | Fault::Decode { .. } | Fault::Verify { .. } => 3,
             Fault::Assemble { .. } => 3,
+            Fault::Scenario { .. } => 4,
             Fault::Memory => 5,
             Fault::InputOutput => 6,
         }
     }
 
     /// Writes the fault to `err` and answers the exit status: of the fault, or of the failed write.
-    pub fn tell<E: Write>(&self, err: &mut E) -> u8
-        ensures { Tells self.now (E.contents err.old) (E.contents err.new) result }
+    pub fn tell<E: Stream>(&self, err: &mut E) -> u8
+        ensures { Tells self.now (E.failed err.new) (E.contents err.old) (E.contents err.new) result }
     {
-        match write!(err, "{self}") {
+        match err.print(self) {
             Ok(()) => self.status(),
             Err(e) => Fault::from(e).status(),
         }
@@ -61,7 +66,7 @@ impl fmt::Display for Fault {
 
     fn fmt<W: fmt::Write>(&self, f: &mut fmt::Formatter<W>) -> fmt::Result {
         match self {
-            Fault::Usage(text) => write!(f, "{text}"),
+            Fault::Usage(usage) => f.write_str(usage.text.as_str()),
             Fault::Header(fault) => {
                 let number = fault.number();
                 writeln!(f, "load refused {number}")
@@ -78,6 +83,7 @@ impl fmt::Display for Fault {
                 let number = rule.number();
                 writeln!(f, "asm refused {number} at line {line}")
             }
+            Fault::Scenario { line } => writeln!(f, "scenario refused at line {line}"),
             Fault::Memory => writeln!(f, "memory"),
             Fault::InputOutput => writeln!(f, "input or output"),
         }
@@ -105,19 +111,19 @@ impl From<Refusal> for Fault {
 
     fn from(e: Refusal) -> Fault {
         match e {
-            Refusal::Usage(text) => Fault::Usage(text),
+            Refusal::Usage(usage) => Fault::Usage(usage),
             Refusal::Memory => Fault::Memory,
         }
     }
 }
 
-impl From<FileError> for Fault {
-    ghost from_gives = { λ e f. f ≡ fault_of_file e };
+impl From<Failure> for Fault {
+    ghost from_gives = { λ e f. f ≡ fault_of_failure e };
 
-    fn from(e: FileError) -> Fault {
+    fn from(e: Failure) -> Fault {
         match e {
-            FileError::Memory => Fault::Memory,
-            FileError::InputOutput => Fault::InputOutput,
+            Failure::Memory => Fault::Memory,
+            Failure::InputOutput => Fault::InputOutput,
         }
     }
 }
@@ -146,15 +152,13 @@ impl From<AsmError> for Fault {
     }
 }
 
-impl From<io::Error> for Fault {
-    ghost from_gives = { IsStreamFault };
+impl From<ScenarioError> for Fault {
+    ghost from_gives = { λ e f. f ≡ fault_of_scenario e };
 
-    /// Want of memory in a writer is want of memory.
-    fn from(e: io::Error) -> Fault {
-        if e.kind() == io::ErrorKind::OutOfMemory {
-            Fault::Memory
-        } else {
-            Fault::InputOutput
+    fn from(e: ScenarioError) -> Fault {
+        match e {
+            ScenarioError::Memory => Fault::Memory,
+            ScenarioError::Line(line) => Fault::Scenario { line },
         }
     }
 }

@@ -1,29 +1,41 @@
 //! Whole files by their paths.
 
-ghost use Rattle.std.specs.Prelude.{◌≡◌, ℕ, List, Option, None, Some, IfOk, OnOk};
+ghost use Rattle.std.specs.Prelude.{◌≡◌, ◌≢◌, ℕ, Bool, true, List, Option, None, Some, IfErr, IfOk, OnErr, OnOk};
+ghost use Rattle.tracer.specs.Files.{up_to};
+ghost use Rattle.tracer.specs.declared.files.Failure.TheVariants.{InputOutput};
 
 use std::alloc::Global;
 
-/// Why a file was not read or written.
+/// Why a file was not read or written, or a stream not written.
 #[derive(Clone, Copy, Debug, PartialEq, Eq)]
-pub enum FileError {
+pub enum Failure {
     Memory,
     InputOutput,
 }
 
-/// Files that can be read and written whole.
+/// Files that can be read, and replaced whole.
 pub trait Files {
     // The bytes of the file at a path, where they are known.
     ghost content: { Self → List ℕ → Option (List ℕ) } = { λ _ _. None };
 
-    /// The bytes of a file.
-    fn read(&mut self, alloc: Global, path: &str) -> Result<Vec<u8>, FileError>
-        ensures bytes { IfOk result (λ v. (bytes : List ℕ) → content self.old path.now ≡ Some bytes
-            → v.items ≡ bytes) }
-        ensures same { content self.new ≡ content self.old };
+    // Whether a read or a write has failed by input or output, where that is known.
+    ghost failed: { Self → Bool } = { λ _. true };
 
-    /// Makes a file of these bytes, or puts them in place of those of the file that is there.
-    fn write(&mut self, path: &str, bytes: &[u8]) -> Result<(), FileError>
+    /// The bytes of a file; with a limit, the first so many where it has more.
+    fn read(&mut self, alloc: Global, path: &str, limit: Option<usize>) -> Result<Vec<u8>, Failure>
+        ensures bytes { IfOk result (λ v. (bytes : List ℕ) → content self.old path.now ≡ Some bytes
+            → v.items ≡ up_to limit bytes) }
+        ensures same { content self.new ≡ content self.old }
+        ensures sound { OnOk result (failed self.new ≡ failed self.old) }
+        ensures fault { IfErr result (λ e. e ≡ InputOutput → failed self.new ≡ true) };
+
+    /// Makes a file of these bytes, or puts them in place of those of the file that is there, which
+    /// stays as it is where that fails.
+    fn write(&mut self, path: &str, bytes: &[u8]) -> Result<(), Failure>
         ensures bytes { OnOk result ((old : List ℕ) → content self.old path.now ≡ Some old
-            → content self.new path.now ≡ Some bytes.now) };
+            → content self.new path.now ≡ Some bytes.now) }
+        ensures others { OnOk result ((other : List ℕ) → other ≢ path.now
+            → content self.new other ≡ content self.old other) }
+        ensures same { OnErr result (content self.new ≡ content self.old) }
+        ensures fault { IfErr result (λ e. e ≡ InputOutput → failed self.new ≡ true) };
 }

@@ -1,13 +1,15 @@
-//! The program `sblog` as a function of its words, its files and two writers.
+//! The program `sblog` as a function of its words, its files and two streams.
 //!
-//! `sblog` carries out one command line and answers the exit status. Its promise: with status 0 the
-//! report on standard output is the answer to what the words ask for, by the file that they name, and
-//! nothing is on standard error; with status 2 or 3 standard error has the fault that the words, or
-//! the bytes of the file, come to, standard output has nothing, and no file has changed. Only `asm`
-//! writes a file, the image of its source. What a command answers is a definition over bytes
-//! (`specs/Check.antt`, `specs/First.antt`, `specs/Asm.antt`, `specs/Dis.antt`); the lines are those
-//! of `specs/Fault.antt` and `specs/Report.antt`. Want of memory and of input or output have statuses
-//! of their own. The files are behind the trait `Files`, so a test can hold them in memory.
+//! `sblog` carries out one command line and answers the exit status. Its promise: with status 0 the text on
+//! standard output is what the words ask for, by the files that they name, and nothing is on standard error; with
+//! every other status standard error has the fault that the words, or the bytes of the files, come to, standard
+//! output has nothing, and no file has changed. Of a run that memory ended, the lines of the orders that were refused
+//! until then are printed. Only `asm` writes a file, the image of its source, and no other one. A status
+//! for input or output comes only where a file or a stream has failed, or a text file is no text. Where a stream has
+//! failed, it may have a part of its text. What a command answers is a definition over bytes (`specs/Run.antt`,
+//! `specs/Check.antt`, `specs/Asm.antt`, `specs/Dis.antt`); the lines are those of `specs/Fault.antt` and
+//! `specs/Report.antt`. Files are behind the trait `Files`, streams behind `Stream`, so a test can hold them in memory,
+//! and let them fail.
 //!
 //! ```text
 //! let status = sblog(alloc, ["check", "adder.sbi"].as_slice(), &mut files, &mut out, &mut err);
@@ -20,16 +22,17 @@ mod check;
 mod dis;
 mod fault;
 mod files;
-mod first;
+mod playing;
 mod program;
-mod report;
+mod staging;
+mod stream;
 
 pub use check::Accepted;
+pub use cli::Usage;
 pub use fault::Fault;
-pub use files::{FileError, Files};
-pub use first::Final;
+pub use files::{Failure, Files};
 pub use program::sblog;
-pub use report::Report;
+pub use stream::{Stream, Written};
 
 #[cfg(test)]
 mod tests;

@@ -1,112 +1,152 @@
-//! The program as a function of its words, its files and two writers.
+//! The program as a function of its words, its files and two streams.
 
-ghost use Rattle.std.specs.Prelude.{◌≡◌, ◌≤◌, ◌⊎◌, IfErr, IfOk, map};
+ghost use Rattle.std.specs.Prelude.{◌≡◌, ◌≢◌, ◌≤◌, ◌⊎◌, ◌||◌, true, [], IfErr, IsOk, OnErr, OnOk, map, string_bytes};
+ghost use Rattle.std.specs.Io.KnownBytes.{Appends};
 ghost use Rattle.cli.specs.Asks.{Asm, IsInRange, order_of};
-ghost use Rattle.tracer.specs.Program.{IsAnswer, IsAnswered, IsCause, IsFault, IsPrinted, IsTold, Leaves};
-ghost use Rattle.tracer.specs.Fault.{status_of};
+ghost use Rattle.tracer.specs.Inside.{EndsShort};
+ghost use Rattle.tracer.specs.Program.{IsAnswer, IsAnswered, IsCause, IsCutShort, IsDone, IsFault, IsShort, IsTold, Leaves};
+ghost use Rattle.tracer.specs.declared.fault.Fault.TheVariants.{InputOutput, Memory};
 
 use crate::asm::asm;
 use crate::check::check;
 use crate::dis::dis;
 use crate::fault::Fault;
 use crate::files::Files;
-use crate::first::first;
-use crate::report::Report;
+use crate::playing::run_scenario;
+use crate::stream::Stream;
 use cli::{Request, parse_words};
+use regtypes::ImageForm;
 use std::alloc::Global;
 use std::convert::AsStr;
-use std::io::Write;
 
-/// Writes the image file of the source file, with a state of this length.
+/// Writes the image file of this form of the source file, with a state of this length.
 fn write_image<F: Files>(
     alloc: Global,
     source: &str,
     image: &str,
     state: u16,
+    form: ImageForm,
     files: &mut F,
-) -> Result<Report, Fault>
+) -> Result<(), Fault>
     requires { state ≤ 1024 }
-    ensures report { IfOk result (IsAnswer (F.content files.old) (Asm source.now image.now state)) }
-    ensures left { IfOk result (λ _. Leaves (Asm source.now image.now state)
+    ensures report { OnOk result (IsAnswer (F.content files.old) (Asm source.now image.now state form) []) }
+    ensures left { OnOk result (Leaves (Asm source.now image.now state form)
         (F.content files.old) (F.content files.new)) }
-    ensures fault { IfErr result (IsFault (F.content files.old) (Asm source.now image.now state)) }
-    ensures kept { IfErr result (λ f. status_of f ≤ 3
-        → F.content files.new ≡ F.content files.old) }
+    ensures fault { IfErr result (IsFault (F.content files.old) (F.failed files.new) (Asm source.now image.now state form)) }
+    ensures kept { OnErr result (F.content files.new ≡ F.content files.old) }
 {
-    let text = files.read(alloc, source)?;
-    let bytes = asm(alloc, text.as_slice(), state)?;
+    let text = files.read(alloc, source, None)?;
+    let bytes = asm(alloc, text.as_slice(), state, form)?;
     files.write(image, bytes.as_slice())?;
-    Ok(Report::Assembled)
+    Ok(())
 }
 
-fn answer<F: Files>(alloc: Global, request: Request<'_>, files: &mut F) -> Result<Report, Fault>
-    requires { IsInRange (order_of request) }
-    ensures report { IfOk result (IsAnswer (F.content files.old) (order_of request.entry)) }
-    ensures left { IfOk result (λ _. Leaves (order_of request.entry)
+/// Carries out what is asked for, and puts what is to be printed into an empty text.
+fn answer<F: Files>(
+    alloc: Global,
+    request: Request<'_>,
+    files: &mut F,
+    text: &mut String,
+) -> Result<(), Fault>
+    requires range { IsInRange (order_of request) }
+    requires empty { string_bytes text.old ≡ [] }
+    ensures report { OnOk result (IsAnswer (F.content files.old) (order_of request.entry) (string_bytes text.new)) }
+    ensures left { OnOk result (Leaves (order_of request.entry)
         (F.content files.old) (F.content files.new)) }
-    ensures fault { IfErr result (IsFault (F.content files.old) (order_of request.entry)) }
-    ensures kept { IfErr result (λ f. status_of f ≤ 3
-        → F.content files.new ≡ F.content files.old) }
+    ensures fault { IfErr result (IsFault (F.content files.old) (F.failed files.new) (order_of request.entry)) }
+    ensures kept { OnErr result (F.content files.new ≡ F.content files.old) }
+    ensures short { IfErr result (λ f. (string_bytes text.new ≡ [])
+        ⊎ ((f ≡ Memory) × IsShort (F.content files.old) (order_of request.entry) (string_bytes text.new))) }
+    ensures either { (F.content files.new ≡ F.content files.old) ⊎ (string_bytes text.new ≡ []) }
 {
     match request {
+        Request::Run { scenario } => run_scenario(alloc, scenario, files, text),
         Request::Check { image } => {
-            let bytes = files.read(alloc, image)?;
-            let accepted = check(alloc, bytes.as_slice())?;
-            Ok(Report::Accepted(accepted))
-        }
-        Request::First { image, word } => {
-            let bytes = files.read(alloc, image)?;
-            let last = first(alloc, bytes.as_slice(), word)?;
-            Ok(Report::Final(last))
+            let accepted = check(alloc, image, files)?;
+            *text = accepted.to_string(alloc)?;
+            Ok(())
         }
         Request::Asm {
             source,
             image,
             state,
-        } => write_image(alloc, source, image, state, files),
+            form,
+        } => write_image(alloc, source, image, state, form, files),
         Request::Dis { image } => {
-            let bytes = files.read(alloc, image)?;
-            let text = dis(alloc, bytes.as_slice())?;
-            Ok(Report::Listing(text))
+            *text = dis(alloc, image, files)?;
+            Ok(())
         }
     }
 }
 
-/// What the words come to: a report, or a fault.
-fn carry_out<S: AsStr, F: Files>(alloc: Global, words: &[S], files: &mut F) -> Result<Report, Fault>
-    ensures report { IfOk result (IsAnswered (map S.text words.now)
-        (F.content files.old) (F.content files.new)) }
-    ensures fault { IfErr result (IsCause (map S.text words.now) (F.content files.old)) }
-    ensures kept { IfErr result (λ f. status_of f ≤ 3
-        → F.content files.new ≡ F.content files.old) }
+/// Carries out what the words ask for, and puts what is to be printed into an empty text.
+fn carry_out<S: AsStr, F: Files>(
+    alloc: Global,
+    words: &[S],
+    files: &mut F,
+    text: &mut String,
+) -> Result<(), Fault>
+    requires { string_bytes text.old ≡ [] }
+    ensures report { OnOk result (IsAnswered (map S.text words.now)
+        (F.content files.old) (F.content files.new) (string_bytes text.new)) }
+    ensures fault { IfErr result (IsCause (map S.text words.now) (F.content files.old) (F.failed files.new)) }
+    ensures kept { OnErr result (F.content files.new ≡ F.content files.old) }
+    ensures short { IfErr result (λ f. (string_bytes text.new ≡ [])
+        ⊎ ((f ≡ Memory) × EndsShort (map S.text words.now) (F.content files.old) (string_bytes text.new))) }
+    ensures either { (F.content files.new ≡ F.content files.old) ⊎ (string_bytes text.new ≡ []) }
 {
     let request = parse_words(alloc, words)?;
-    answer(alloc, request, files)
+    answer(alloc, request, files, text)
+}
+
+/// Prints a text, if it is not empty.
+fn show<O: Stream>(text: &str, out: &mut O) -> Result<(), Fault>
+    ensures printed { OnOk result (Appends (O.contents out.old) (O.contents out.new) text.now) }
+    ensures failed { OnErr result (O.failed out.new ≡ true) }
+    ensures fault { IfErr result (λ f. (f ≡ Memory) ⊎ (f ≡ InputOutput)) }
+    ensures none { text.now ≡ [] → IsOk result × (out.new ≡ out.old) }
+{
+    if text.is_empty() {
+        return Ok(());
+    }
+    out.print(text)?;
+    Ok(())
 }
 
 /// Carries out one command line, given without the program's own name, and answers the exit status:
-/// 0; 2 for usage; 3 for an image or a text that is refused; 5 for want of memory; 6 for input or output.
+/// 0; 2 for usage; 3 for an image or a text that is refused; 4 for a scenario that is; 5 for want of
+/// memory; 6 for input or output.
 ///
 /// A report goes to `out`, a fault to `err`, as whole lines.
-pub fn sblog<S: AsStr, F: Files, O: Write, E: Write>(
+pub fn sblog<S: AsStr, F: Files, O: Stream, E: Stream>(
     alloc: Global,
     words: &[S],
     files: &mut F,
     out: &mut O,
     err: &mut E,
 ) -> u8
-    ensures printed { result ≡ 0 → IsPrinted (map S.text words.now) (F.content files.old)
-        (F.content files.new) (O.contents out.old) (O.contents out.new) × (err.new ≡ err.old) }
-    ensures told { (result ≡ 2) ⊎ (result ≡ 3) → IsTold (map S.text words.now)
-        (F.content files.old) (E.contents err.old) (E.contents err.new) result
-        × (out.new ≡ out.old) × (F.content files.new ≡ F.content files.old) }
-    ensures status { (result ≡ 0) ⊎ ((result ≡ 2) ⊎ ((result ≡ 3) ⊎ ((result ≡ 5) ⊎ (result ≡ 6)))) }
+    // With status 0 the words ask for an order that was carried out, and its text was printed.
+    ensures done { result ≡ 0 → IsDone (map S.text words.now) (F.content files.old) (F.content files.new)
+        (O.contents out.old) (O.contents out.new) × (err.new ≡ err.old) }
+    // With every other status they come to a fault of this status, which was told; unless `err` has failed.
+    ensures told { result ≢ 0 → IsTold (map S.text words.now) (F.content files.old)
+        (F.failed files.new || O.failed out.new) (E.failed err.new) (E.contents err.old) (E.contents err.new) result }
+    // Then no file has changed, and nothing was printed but of a run that memory ended; unless `out` has failed.
+    ensures kept { result ≢ 0 → F.content files.new ≡ F.content files.old }
+    ensures silent { result ≢ 0 → (out.new ≡ out.old) ⊎ ((O.failed out.new ≡ true)
+        ⊎ (((result ≡ 5) ⊎ (E.failed err.new ≡ true))
+        × IsCutShort (map S.text words.now) (F.content files.old) (O.contents out.old) (O.contents out.new))) }
+    ensures status { (result ≡ 0) ⊎ ((2 ≤ result) × (result ≤ 6)) }
 {
-    match carry_out(alloc, words, files) {
-        Ok(report) => match write!(out, "{report}") {
+    let mut text = String::new(alloc);
+    match carry_out(alloc, words, files, &mut text) {
+        Ok(()) => match show(text.as_str(), out) {
             Ok(()) => 0,
-            Err(e) => Fault::from(e).tell(err),
+            Err(fault) => fault.tell(err),
         },
-        Err(fault) => fault.tell(err),
+        Err(fault) => match show(text.as_str(), out) {
+            Ok(()) => fault.tell(err),
+            Err(failure) => failure.tell(err),
+        },
     }
 }

@@ -1,26 +1,42 @@
+mod scenarios;
+mod streams;
 mod text;
 
-use crate::{FileError, Files, sblog};
+use crate::{Failure, Files, Written, sblog};
 use std::alloc::Global;
 use std::str;
 use std::test::Fail;
+
+/// As many of the bytes as may be read.
+fn some_of(alloc: Global, bytes: &[u8], limit: Option<usize>) -> Result<Vec<u8>, Failure> {
+    let read = match limit {
+        Some(limit) if limit < bytes.len() => &bytes[..limit],
+        _ => bytes,
+    };
+    read.to_vec(alloc).map_err(|_| Failure::Memory)
+}
 
 /// One file in memory, at the path `a`; every other path fails.
 #[derive(Drop)]
 struct OneFile<'a> {
     bytes: &'a [u8],
-    fault: FileError,
+    fault: Failure,
 }
 
 impl Files for OneFile<'_> {
-    fn read(&mut self, alloc: Global, path: &str) -> Result<Vec<u8>, FileError> {
+    fn read(
+        &mut self,
+        alloc: Global,
+        path: &str,
+        limit: Option<usize>,
+    ) -> Result<Vec<u8>, Failure> {
         if path != "a" {
             return Err(self.fault);
         }
-        self.bytes.to_vec(alloc).map_err(|_| FileError::Memory)
+        some_of(alloc, self.bytes, limit)
     }
 
-    fn write(&mut self, _path: &str, _bytes: &[u8]) -> Result<(), FileError> {
+    fn write(&mut self, _path: &str, _bytes: &[u8]) -> Result<(), Failure> {
         Err(self.fault)
     }
 }
@@ -38,8 +54,6 @@ fn statuses_and_lines(rt: HostRuntime) -> Result<(), Fail> {
     let none = b"".as_slice();
     let magic = b"SBI3\x08\x00\x01\x00\x95\x00\x00\x00\x00\x00\x00\x00".as_slice();
     let bad_field = b"SBI1\x08\x00\x01\x00\x0f\x34\x00\x00\x01\x00\x00\x00".as_slice();
-    let exit_of_zero =
-        b"SBI1\x00\x00\x02\x00\xb7\x00\x00\x00\x00\x00\x00\x00\x95\x00\x00\x00\x00\x00\x00\x00".as_slice();
     let exit_alone = b"SBI1\x08\x00\x01\x00\x95\x00\x00\x00\x00\x00\x00\x00".as_slice();
     let cases = [
         ("check a", adder, 0, "accepted 6 instructions\n"),
@@ -49,24 +63,15 @@ fn statuses_and_lines(rt: HostRuntime) -> Result<(), Fail> {
         ("check a", bad_field, 3, "decode refused 3 at slot 0\n"),
         ("check a", exit_alone, 3, "verify refused V10 at slot 0\n"),
         ("check b", adder, 6, "input or output\n"),
-        ("first a 5", adder, 0, "state 0500000000000000 steps 6\n"),
-        (
-            "first a 72623859790382856",
-            adder,
-            0,
-            "state 0807060504030201 steps 6\n",
-        ),
-        ("first a 5", cut, 3, "load refused 5\n"),
-        ("first b 5", adder, 6, "input or output\n"),
-        ("first a 5", exit_of_zero, 0, "state - steps 2\n"),
     ];
     for (line, bytes, want, text) in cases {
         let words: Vec<&str> = line.split_whitespace().collect(alloc)?;
-        let fault = FileError::InputOutput;
+        let fault = Failure::InputOutput;
         let mut files = OneFile { bytes, fault };
         let mut out: Vec<u8> = Vec::new(alloc);
         let mut err: Vec<u8> = Vec::new(alloc);
-        let status = sblog(alloc, words.as_slice(), &mut files, &mut out, &mut err);
+        let (mut shown, mut told) = (Written(&mut out), Written(&mut err));
+        let status = sblog(alloc, words.as_slice(), &mut files, &mut shown, &mut told);
         assert_eq!(rt; status, want, "at {text}");
         let (shown, silent) = if want == 0 {
             (&out, &err)
@@ -86,9 +91,8 @@ fn usage_texts(rt: HostRuntime) -> Result<(), Fail> {
         ("", "Usage: sblog <COMMAND>"),
         ("fly", "unrecognized subcommand 'fly'"),
         ("check", "<IMAGE>"),
-        ("first a", "<WORD>"),
-        ("first a five", "invalid value 'five' for '<WORD>'"),
-        ("first a 18446744073709551616", "for '<WORD>'"),
+        ("first a 5", "unrecognized subcommand 'first'"),
+        ("run", "<SCENARIO>"),
         ("asm a b", "--state <N>"),
         ("asm a --state 8", "<OUT>"),
         ("asm a b --state 1025", "invalid value '1025'"),
@@ -96,16 +100,17 @@ fn usage_texts(rt: HostRuntime) -> Result<(), Fail> {
         ("asm a b --state 8 --state 8", "--state"),
         ("dis", "<IMAGE>"),
         ("--help", "Usage: sblog <COMMAND>"),
-        ("help first", "Usage: sblog first <IMAGE> <WORD>"),
+        ("help run", "Usage: sblog run <SCENARIO>"),
     ];
     for (line, part) in cases {
         let words: Vec<&str> = line.split_whitespace().collect(alloc)?;
         let bytes = ADDER.as_slice();
-        let fault = FileError::InputOutput;
+        let fault = Failure::InputOutput;
         let mut files = OneFile { bytes, fault };
         let mut out: Vec<u8> = Vec::new(alloc);
         let mut err: Vec<u8> = Vec::new(alloc);
-        let status = sblog(alloc, words.as_slice(), &mut files, &mut out, &mut err);
+        let (mut shown, mut told) = (Written(&mut out), Written(&mut err));
+        let status = sblog(alloc, words.as_slice(), &mut files, &mut shown, &mut told);
         assert_eq!(rt; status, 2, "at {line}");
         assert!(rt; out.is_empty(), "at {line}");
         let shown = str::from_utf8(err.as_slice()).unwrap_or("");

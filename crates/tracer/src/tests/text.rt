@@ -1,7 +1,7 @@
 //! The commands `asm` and `dis` over files in memory.
 
-use super::ADDER;
-use crate::{FileError, Files, sblog};
+use super::{ADDER, some_of};
+use crate::{Failure, Files, Written, sblog};
 use std::alloc::Global;
 use std::process::Abort;
 use std::test::Fail;
@@ -14,23 +14,27 @@ struct TwoFiles<'a> {
 }
 
 impl Files for TwoFiles<'_> {
-    fn read(&mut self, alloc: Global, path: &str) -> Result<Vec<u8>, FileError> {
-        let copy = match path {
-            "s" => self.text.to_vec(alloc),
-            "i" => self.image.as_slice().to_vec(alloc),
-            _ => return Err(FileError::InputOutput),
-        };
-        copy.map_err(|_| FileError::Memory)
+    fn read(
+        &mut self,
+        alloc: Global,
+        path: &str,
+        limit: Option<usize>,
+    ) -> Result<Vec<u8>, Failure> {
+        match path {
+            "s" => some_of(alloc, self.text, limit),
+            "i" => some_of(alloc, self.image.as_slice(), limit),
+            _ => Err(Failure::InputOutput),
+        }
     }
 
-    fn write(&mut self, path: &str, bytes: &[u8]) -> Result<(), FileError> {
+    fn write(&mut self, path: &str, bytes: &[u8]) -> Result<(), Failure> {
         if path != "i" {
-            return Err(FileError::InputOutput);
+            return Err(Failure::InputOutput);
         }
         self.image.clear();
         self.image
             .extend_from_slice(bytes)
-            .map_err(|_| FileError::Memory)
+            .map_err(|_| Failure::Memory)
     }
 }
 
@@ -50,7 +54,8 @@ fn ends<R: Abort + AllocGlobal>(
     let words: Vec<&str> = line.split_whitespace().collect(alloc)?;
     let mut out: Vec<u8> = Vec::new(alloc);
     let mut err: Vec<u8> = Vec::new(alloc);
-    let answered = sblog(alloc, words.as_slice(), files, &mut out, &mut err);
+    let (mut shown_on, mut told_on) = (Written(&mut out), Written(&mut err));
+    let answered = sblog(alloc, words.as_slice(), files, &mut shown_on, &mut told_on);
     assert_eq!(rt; answered, status, "at {line}, {shown}");
     let (told, silent) = if status == 0 {
         (&out, &err)
@@ -70,7 +75,17 @@ fn adder_both_ways(rt: HostRuntime) -> Result<(), Fail> {
     let mut files = TwoFiles { text, image };
     let adder = ADDER.as_slice();
     ends(&rt, "asm s i --state 8", &mut files, 0, "", adder)?;
-    ends(&rt, "dis i", &mut files, 0, ADDER_TEXT, adder)
+    ends(&rt, "dis i", &mut files, 0, ADDER_TEXT, adder)?;
+    let mut second = adder.to_vec(rt.alloc())?;
+    second[3] = b'2';
+    ends(
+        &rt,
+        "asm s i --state 8 --form 2",
+        &mut files,
+        0,
+        "",
+        &second,
+    )
 }
 
 #[test]

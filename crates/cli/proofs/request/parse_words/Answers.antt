@@ -23,5 +23,5 @@ unreachable-requires g c =
 
 pub returns-in-Err-clause-usage : goal.returns-in-Err-clause-usage
 returns-in-Err-clause-usage g c =
-    λ usage. refused (app_of c.in_ok-command.command) (map g.S.AsStr.text c.args.words.now) c.in-Err.error c.in_ok-command.ensures
-    c.in-Err.ensures.kinds (c.refusal_of.ensures usage)
+    refused (app_of c.in_ok-command.command) (map g.S.AsStr.text c.args.words.now) c.in-Err.error c.refusal_of.result c.in_ok-command.ensures
+    c.in-Err.ensures.kinds c.refusal_of.ensures

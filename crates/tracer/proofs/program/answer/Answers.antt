@@ -1,13 +1,23 @@
 use Rattle.std.proofs.Common.{ap, subst, sym}
-use Rattle.std.proofs.lemmas.Result.{IfOk-weaker}
-use Rattle.cli.specs.Asks.{Asm, order_of}
-use Rattle.tracer.specs.Program.{Leaves}
+use Rattle.std.proofs.lemmas.Result.{IfErr-weaker, on_ok_weaker}
+use Rattle.cli.specs.Asks.{order_of}
+use Rattle.tracer.specs.Program.{IsFault, Leaves}
 use Rattle.tracer.proofs.program.answer.Goals as goal
 
 pub returns-in-Asm-clause-left : goal.returns-in-Asm-clause-left
 returns-in-Asm-clause-left g c =
-    IfOk-weaker c.write_image.result
-    (λ r. Leaves (Asm c.in-Asm.source.now c.in-Asm.image.now c.in-Asm.state) (g.F.Files.content c.args.files.now) (g.F.Files.content c.write_image.new.files))
-    (λ r. Leaves (order_of c.args.request) (g.F.Files.content c.args.files.now) (g.F.Files.content c.write_image.new.files))
-    (λ r left. subst (λ o. Leaves o (g.F.Files.content c.args.files.now) (g.F.Files.content c.write_image.new.files)) (sym (ap order_of c.in-Asm.is)) left)
+    on_ok_weaker c.write_image.result
+    (λ left. subst (λ o. Leaves o (g.F.Files.content c.args.files.now) (g.F.Files.content c.write_image.new.files)) (sym (ap order_of c.in-Asm.is)) left)
     c.write_image.ensures.left
+
+pub returns-in-Asm-clause-fault : goal.returns-in-Asm-clause-fault
+returns-in-Asm-clause-fault g c =
+    IfErr-weaker c.write_image.result _ _
+    (λ f fault. subst (λ o. IsFault (g.F.Files.content c.args.files.now) (g.F.Files.failed c.write_image.new.files) o f) (sym (ap order_of c.in-Asm.is)) fault)
+    c.write_image.ensures.fault
+
+pub returns-in-Run-clause-fault : goal.returns-in-Run-clause-fault
+returns-in-Run-clause-fault g c =
+    IfErr-weaker c.run_scenario.result _ _
+    (λ f fault. subst (λ o. IsFault (g.F.Files.content c.args.files.now) (g.F.Files.failed c.run_scenario.new.files) o f) (sym (ap order_of c.in-Run.is)) fault)
+    c.run_scenario.ensures.fault

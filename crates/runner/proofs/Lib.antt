@@ -1,0 +1,6 @@
+mod Beginnings
+mod Carried
+mod Played
+mod ResultsLemmas
+mod FeedsLemmas
+mod LiveLemmas

@@ -1,0 +1,135 @@
+-- Orders that were carried out one after the other.
+use Rattle.std.proofs.Common.{◌≡◌, ◌∙◌, ℕ, List, [], ◌∷◌, ◌++◌, append_assoc, length, take, Option, Some, None, refl, sym, ap, subst, arith}
+use Rattle.std.proofs.lemmas.List.{append-nil, take_all}
+use Rattle.verifier.specs.Typed.{Typed}
+use Rattle.world.specs.declared.call.Call.{Call}
+use Rattle.world.specs.Fold.{handlers_of}
+use Rattle.world.specs.Legal.{Legal}
+use Rattle.world.specs.declared.refusal.Refusal.{Refusal}
+use Rattle.world.specs.declared.refusal.Refusal.TheVariants as refusals
+use Rattle.world.specs.Refusals.{cause_of, number_of}
+use Rattle.replay.specs.Task.{TheTask}
+use Rattle.sessions.specs.Driving.{job_of}
+use Rattle.scenario.specs.declared.order.Order.{Order}
+use Rattle.scenario.specs.declared.order.Order.TheVariants as order
+use Rattle.scenario.specs.declared.scenario.Step.{Step}
+use Rattle.runner.specs.Orders.{CarriesOut, BringsBack, HoldsJob, MakesCall, Position, beginning, held_for, with_entry, without_job, world_at}
+use Rattle.runner.specs.Results.{results_text}
+use Rattle.runner.specs.Inside.{ArePlayed, IsPlayed}
+use Rattle.runner.specs.Run.{IsCut, IsRun, RunsThrough, refused_text}
+
+-- an order keeps the images
+
+held-images : (at : Position) (p : Option ℕ) (new : Position) → HoldsJob at p new → new.images ≡ at.images
+held-images at None new holds = ap (λ (x : Position). x.images) holds
+held-images at (Some p) new holds = ap (λ (x : Position). x.images) holds.3
+
+called-images : (at : Position) (c : Call) (new : Position) (r : Option ℕ) → MakesCall at c new r → new.images ≡ at.images
+called-images at c new None makes = held-images (with_entry at c makes.0) (job_of (world_at at) c makes.0) new makes.2
+called-images at c new (Some n) makes = ap (λ (x : Position). x.images) makes.0
+
+brought-images : (at : Position) (held : Option TheTask) (new : Position) (r : Option ℕ) → BringsBack at held new r → new.images ≡ at.images
+brought-images at None new r finishes = ap (λ (x : Position). x.images) finishes.0
+brought-images at (Some task) new None finishes = ap (λ (x : Position). x.images) finishes.1.2
+brought-images at (Some task) new (Some n) finishes = ap (λ (x : Position). x.images) finishes.0
+
+carried-images : (at : Position) (o : Order) (new : Position) (r : Option ℕ) → CarriesOut at o new r → new.images ≡ at.images
+carried-images at (order.Input to word) new r does = called-images _ _ new r does
+carried-images at (order.Bytes to payload) new r does = called-images _ _ new r does
+carried-images at (order.Transmit from to ssn) new r does = called-images _ _ new r does
+carried-images at (order.Copy key) new r does = called-images _ _ new r does
+carried-images at (order.Lose key) new r does = called-images _ _ new r does
+carried-images at (order.Arrive key) new r does = called-images _ _ new r does
+carried-images at (order.Finish p) new r does = brought-images (without_job at p) (held_for at p) new r does
+carried-images at (order.Checkpoint p) new r does = called-images _ _ new r does
+carried-images at (order.Trim to) new r does = called-images _ _ new r does
+carried-images at (order.Crash p) new r does = called-images _ _ new r does
+carried-images at (order.Recover p) new r does = called-images _ _ new r does
+carried-images at (order.RecoverAlone p) new r does = called-images _ _ new r does
+carried-images at (order.ReplayBegin p) new r does = called-images _ _ new r does
+carried-images at (order.Resync p peer) new r does = called-images _ _ new r does
+carried-images at (order.Drive budget) new r does = ap (λ (x : Position). x.images) does.0.new_is
+
+pub runs-images : (at : Position) (steps : List Step) (lines : List ℕ) (new : Position) → RunsThrough at steps lines new → new.images ≡ at.images
+runs-images at [] lines new leads = ap (λ (x : Position). x.images) leads.1
+runs-images at (step ∷ steps) lines new leads =
+    runs-images leads.0 steps leads.2 new leads.4 ∙ carried-images at step.order leads.0 leads.1 leads.3
+
+-- one order more
+
+runs-more : (at mid next : Position) (steps : List Step) (step : Step) (lines : List ℕ) (r : Option ℕ) → RunsThrough at steps lines mid → CarriesOut mid step.order next r
+    → RunsThrough at (steps ++ step ∷ []) (lines ++ refused_text step.line r) next
+runs-more at mid next [] step lines r leads does =
+    let here : CarriesOut at step.order next r = subst (λ p. CarriesOut p step.order next r) leads.1 does in
+    (next, r, [], here, (refl, refl), ap (λ ls. ls ++ refused_text step.line r) leads.0 ∙ sym (append-nil (refused_text step.line r)))
+runs-more at mid next (first ∷ steps) step lines r leads does = (
+  leads.0,
+  leads.1,
+  leads.2 ++ refused_text step.line r,
+  leads.3,
+  runs-more leads.0 mid next steps step leads.2 r leads.4 does,
+  ap (λ ls. ls ++ refused_text step.line r) leads.5 ∙ append_assoc (refused_text first.line leads.1) leads.2 (refused_text step.line r),
+)
+
+pub played-none : (at : Position) (old : List ℕ) → ArePlayed [] at at old old
+played-none at old = ([], (refl, refl), sym (append-nil old))
+
+pub played-more : (at mid next : Position) (steps : List Step) (step : Step) (old so new : List ℕ) → ArePlayed steps at mid old so → IsPlayed step mid next so new
+    → ArePlayed (steps ++ step ∷ []) at next old new
+played-more at mid next steps step old so new are is = (
+  are.0 ++ refused_text step.line is.0,
+  runs-more at mid next steps step are.0 is.0 are.1 is.1,
+  is.2 ∙ ap (λ ls. ls ++ refused_text step.line is.0) are.2 ∙ append_assoc old are.0 (refused_text step.line is.0),
+)
+
+-- all of them, from the beginning on, and what a session came to
+pub played-run : (names : List (List ℕ)) (images : List Typed) (first end : Position) (steps : List Step) (old mid new : List ℕ) → first ≡ beginning images
+    → ArePlayed steps first end old mid → Legal (length end.images) (handlers_of end.images) end.entries → new ≡ mid ++ results_text names end.images end.entries
+    → IsRun names images steps old new
+played-run names images first end steps old mid new begins played legal text =
+    let same : end.images ≡ images = runs-images first steps played.0 end played.1 ∙ ap (λ (p : Position). p.images) begins in
+    record {
+      lines = played.0;
+      end = end;
+      leads = subst (λ (p : Position). RunsThrough p steps played.0 end) begins played.1;
+      legal = subst (λ (is : List Typed). Legal (length is) (handlers_of is) end.entries) same legal;
+      text = text ∙ ap (λ (m : List ℕ). m ++ results_text names end.images end.entries) played.2
+          ∙ append_assoc old played.0 (results_text names end.images end.entries)
+          ∙ ap (λ (is : List Typed). old ++ (played.0 ++ results_text names is end.entries)) same;
+    }
+
+-- and the first of them alone
+pub played-cut : (images : List Typed) (first end : Position) (steps : List Step) (count : ℕ) (old new : List ℕ) → first ≡ beginning images
+    → ArePlayed (take count steps) first end old new → IsCut images steps old new
+played-cut images first end steps count old new begins played =
+    record {
+      count = count;
+      lines = played.0;
+      end = end;
+      leads = subst (λ (p : Position). RunsThrough p (take count steps) played.0 end) begins played.1;
+      text = played.2;
+    }
+
+pub played-all : (images : List Typed) (first end : Position) (steps : List Step) (old new : List ℕ) → first ≡ beginning images
+    → ArePlayed steps first end old new → IsCut images steps old new
+played-all images first end steps old new begins played =
+    let whole : take (length steps) steps ≡ steps = take_all (length steps) steps (omega arith) in
+    played-cut images first end steps (length steps) old new begins (subst (λ (xs : List Step). ArePlayed xs first end old new) (sym whole) played)
+
+-- a refusal with another cause than want of memory has its number
+pub cause-number : (r : Refusal) → (r ≡ refusals.Memory → ⊥) → cause_of r ≡ Some (number_of r)
+cause-number refusals.NoSuchProcess other = refl
+cause-number refusals.NotUp other = refl
+cause-number refusals.Busy other = refl
+cause-number refusals.NoPacket other = refl
+cause-number refusals.SameProcess other = refl
+cause-number refusals.NotReleased other = refl
+cause-number refusals.NotLogged other = refl
+cause-number refusals.PeerNotUp other = refl
+cause-number refusals.StaleJob other = refl
+cause-number refusals.NotDown other = refl
+cause-number refusals.WrongPhase other = refl
+cause-number refusals.JournalFull other = refl
+cause-number refusals.WireFull other = refl
+cause-number refusals.FeedTaken other = refl
+cause-number refusals.Memory other = absurd (other refl)

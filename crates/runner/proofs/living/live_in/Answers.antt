@@ -1,0 +1,29 @@
+use Rattle.std.proofs.Common.{rules, ◌∙◌, length, map, sym, ap, subst, string_bytes}
+use Rattle.std.specs.Arc.{arc_value}
+use Rattle.std.proofs.lemmas.List.{length-map}
+use Rattle.sessions.specs.Journal.{TheSession}
+use Rattle.sessions.specs.Seats.{IsWhole}
+use Rattle.scenario.specs.Process.{names_of}
+use Rattle.workers.specs.Running.{CanRun}
+use Rattle.runner.proofs.LiveLemmas.{live_by, whole_new}
+use Rattle.runner.proofs.living.live_in.Goals as goal
+
+pub served-requires-clause-can : goal.served-requires-clause-can
+served-requires-clause-can g c =
+    let can : CanRun c.args.workers c.in_ok-session.session = record {
+      some = c.requires.workers.0;
+      few = c.requires.workers.1;
+      whole = subst (λ (s : TheSession). IsWhole s.seats) (sym c.in_ok-session.ensures) (whole_new 17);
+    } in
+    search rules
+
+pub push_closed-requires : goal.push_closed-requires
+push_closed-requires g c =
+    let images = c.in_ok-closed.ensures.images ∙ ap (λ (s : TheSession). s.images) c.in_ok-session.ensures in
+    c.requires.named ∙ sym (length-map c.args.images.items arc_value) ∙ sym (ap length images)
+
+pub returns-clause-written : goal.returns-clause-written
+returns-clause-written g c =
+    let images = c.in_ok-closed.ensures.images ∙ ap (λ (s : TheSession). s.images) c.in_ok-session.ensures in
+    live_by (names_of c.args.scenario.now.processes) (map arc_value c.args.images.items) c.in_ok-closed.closed.session.images c.in_ok-closed.closed.session.entries
+    (string_bytes c.args.out.now) (string_bytes c.push_closed.new.out) images c.in_ok-closed.ensures.legal c.in_ok-push_closed.ensures.written

@@ -1,0 +1,6 @@
+pub mod Results
+pub mod Word
+pub mod Orders
+pub mod Run
+pub mod Live
+pub mod Inside

@@ -1,0 +1,140 @@
+//! Runs by workers.
+
+ghost use Rattle.std.specs.Prelude.{◌≡◌, ◌↔◌, ◌≤◌, ◌++◌, All, IfOk, IsTrue, OnErr, OnOk, [], length, map, string_bytes};
+ghost use Rattle.std.specs.Arc.{arc_value};
+ghost use Rattle.machine.specs.Opening.{AreFew};
+ghost use Rattle.scenario.specs.Process.{names_of};
+ghost use Rattle.sessions.specs.Journal.{IsLegal};
+ghost use Rattle.sessions.specs.Seats.{new_seats};
+ghost use Rattle.workers.specs.Running.{CanRun};
+ghost use Rattle.runner.specs.Live.{HasMemory, IsLive};
+ghost use Rattle.runner.specs.Results.{results_text};
+
+use crate::feeds::feeds_of;
+use crate::opening::want_of_memory;
+use crate::results::push_results;
+use indexmap::IndexMap;
+use scenario::{Process, Scenario};
+use sessions::{End, Session, Share};
+use std::alloc::{AllocError, Global};
+use std::marker::Brand;
+use std::sync::ledger::{Blank, Ledger};
+use std::sync::{Arc, Wait};
+use std::thread::Threads;
+use verifier::Image;
+use workers::{Closed, Open, RunError, run};
+use world::{Feed, Refusal};
+
+/// Whether memory ran out for none of these workers.
+fn have_memory<L: Ledger>(shares: &[Share<L>]) -> bool
+    ensures { IsTrue result ↔ All HasMemory shares.now }
+{
+    shares.iter().all(|share| !matches!(share.end, End::Refused(Refusal::Memory)))
+}
+
+/// Writes what a session came to that workers ran. Where memory ran out for one of them, nothing is
+/// written.
+fn push_closed<L: Ledger>(
+    alloc: Global,
+    out: &mut String,
+    processes: &IndexMap<String, Process>,
+    closed: &Closed<L>,
+) -> Result<(), AllocError>
+    requires { length processes.now.entries ≡ length closed.now.session.images }
+    ensures written { OnOk result (string_bytes out.new ≡ string_bytes out.old ++ results_text (names_of processes.now) closed.now.session.images closed.now.session.entries) }
+    ensures served { OnOk result (All HasMemory closed.now.shares.items) }
+    ensures unchanged { OnErr result (string_bytes out.new ≡ string_bytes out.old) }
+{
+    if !have_memory(closed.shares.as_slice()) {
+        return Err(AllocError);
+    }
+    push_results(alloc, out, processes, &closed.session)
+}
+
+// A session of this ledger, before the first call.
+fn opened<L: Ledger>(
+    alloc: Global,
+    blank: Blank,
+    images: Vec<Arc<Image>>,
+) -> Result<Session<L>, AllocError>
+    requires name { blank.name ≡ L.name }
+    requires parts { (blank.parts ≡ L.parts) × (blank.parts ≡ 17) }
+    requires few { AreFew (map arc_value images.items) }
+    ensures { IfOk result (λ s. s ≡ record { images = map arc_value images.items; entries = []; seats = new_seats 17 }) }
+{
+    let session: Session<L> = Session::open(alloc, blank, images).map_err(want_of_memory)?;
+    Ok(session)
+}
+
+// Runs workers on a session, which they can.
+fn served<L: Ledger + Send + Sync, R: Threads + Wait + Sync>(
+    rt: &R,
+    alloc: Global,
+    session: Session<L>,
+    feeds: &[Feed],
+    workers: u8,
+    budget: u32,
+) -> Result<Closed<L>, AllocError>
+    requires parts { L.parts ≡ 17 }
+    requires can { CanRun workers session }
+    ensures images { IfOk result (λ c. c.session.images ≡ session.images) }
+    ensures legal { IfOk result (λ c. IsLegal c.session) }
+{
+    let (error, _session) = match run(rt, alloc, workers, session, feeds, budget, &Open) {
+        Ok(closed) => return Ok(closed),
+        Err(refused) => refused,
+    };
+    match error {
+        RunError::Memory => Err(AllocError),
+        RunError::Workers => unreachable!(),
+    }
+}
+
+// Runs workers on a session of this ledger.
+fn live_in<L: Ledger + Send + Sync, R: Threads + Wait + Sync>(
+    rt: &R,
+    alloc: Global,
+    blank: Blank,
+    scenario: &Scenario,
+    images: Vec<Arc<Image>>,
+    workers: u8,
+    budget: u32,
+    out: &mut String,
+) -> Result<(), AllocError>
+    requires name { blank.name ≡ L.name }
+    requires parts { (blank.parts ≡ L.parts) × (blank.parts ≡ 17) }
+    requires few { AreFew (map arc_value images.items) }
+    requires named { length scenario.now.processes.entries ≡ length images.items }
+    requires workers { (1 ≤ workers) × (workers ≤ 16) }
+    ensures written { OnOk result (IsLive (names_of scenario.now.processes) (map arc_value images.items) (string_bytes out.old) (string_bytes out.new)) }
+    ensures unchanged { OnErr result (string_bytes out.new ≡ string_bytes out.old) }
+{
+    let feeds = feeds_of(alloc, scenario.steps.as_slice())?;
+    let session: Session<L> = opened(alloc, blank, images)?;
+    let closed = served(rt, alloc, session, feeds.as_slice(), workers, budget)?;
+    push_closed(alloc, out, &scenario.processes, &closed)?;
+    Ok(())
+}
+
+/// Runs so many workers, 1 to 16, on a session of these images, 1 to 15, as many as the scenario has
+/// processes. They are fed with the messages of its lines, numbered from 1; each makes at most so many
+/// calls as the budget, or one more. It writes the trace and the report (docs/FORMATS.md) of the
+/// session that they leave. Where memory runs out, also for one of them, nothing is written.
+pub fn live<R: Threads + Wait + Sync>(
+    rt: &R,
+    alloc: Global,
+    scenario: &Scenario,
+    images: Vec<Arc<Image>>,
+    workers: u8,
+    budget: u32,
+    out: &mut String,
+) -> Result<(), AllocError>
+    requires few { AreFew (map arc_value images.items) }
+    requires named { length scenario.now.processes.entries ≡ length images.items }
+    requires workers { (1 ≤ workers) × (workers ≤ 16) }
+    ensures written { OnOk result (IsLive (names_of scenario.now.processes) (map arc_value images.items) (string_bytes out.old) (string_bytes out.new)) }
+    ensures unchanged { OnErr result (string_bytes out.new ≡ string_bytes out.old) }
+{
+    let blank = Blank::new(17);
+    live_in::<Brand, R>(rt, alloc, blank, scenario, images, workers, budget, out)
+}

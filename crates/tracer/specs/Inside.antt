@@ -1,0 +1,44 @@
+-- What the functions of this crate say to one another.
+use Rattle.std.specs.Prelude.{◌≡◌, ◌⊎◌, ℕ, Bool, true, List, Some, String}
+use Rattle.std.specs.declared.alloc.Global.{Global}
+use Rattle.cli.specs.Asks.{AsksFor, Order}
+use Rattle.verifier.specs.ImageFile as image_file
+use Rattle.verifier.specs.Typed.{Typed}
+use Rattle.verifier.specs.declared.fault.ImageError.{ImageError}
+use Rattle.scenario.specs.Scenario.{IsScenario}
+use Rattle.scenario.specs.declared.order.Allowed.{Allowed}
+use Rattle.scenario.specs.declared.process.Process.{Process}
+use Rattle.scenario.specs.declared.scenario.Scenario.{Scenario}
+use Rattle.tracer.specs.Fault.{fault_of_image}
+use Rattle.tracer.specs.Files.{Content}
+use Rattle.tracer.specs.Program.{IsShort}
+use Rattle.tracer.specs.Stage.{AreLoaded, AreRefused}
+use Rattle.tracer.specs.declared.fault.Fault.{Fault}
+use Rattle.tracer.specs.declared.fault.Fault.TheVariants.{Memory, InputOutput}
+
+-- memory ran out, or a file has failed
+abbrev pub IsPlainFault : Bool → Fault → Type 0
+IsPlainFault failed f = (f ≡ Memory) ⊎ ((f ≡ InputOutput) × (failed ≡ true))
+
+-- the same, or the file at the path is refused as an image
+abbrev pub LoadFault : Content → Bool → List ℕ → Fault → Type 0
+LoadFault content failed path f =
+    IsPlainFault failed f ⊎ ((e : ImageError) × (f ≡ fault_of_image e) × ((bytes : List ℕ) → content path ≡ Some bytes → image_file.IsRefusal bytes e))
+
+-- the same, or that of a process is
+abbrev pub ImagesFault : Content → Bool → List (String Global × Process) → Fault → Type 0
+ImagesFault content failed processes f =
+    IsPlainFault failed f ⊎ ((e : ImageError) × (f ≡ fault_of_image e) × AreRefused content processes f)
+
+-- the scenario is that of the file at the path
+abbrev pub IsReadAs : Content → Allowed → List ℕ → Scenario → Type 0
+IsReadAs content allowed path s =
+    (bytes : List ℕ) × ((known : List ℕ) → content path ≡ Some known → bytes ≡ known) × IsScenario allowed bytes s
+
+-- the same, with the images of its processes
+abbrev pub IsStagedAs : Content → Allowed → List ℕ → Scenario → List Typed → Type 0
+IsStagedAs content allowed path s images = IsReadAs content allowed path s × AreLoaded content s.processes.entries images
+
+-- the words ask for a run that memory ended, which has this text
+abbrev pub EndsShort : List (List ℕ) → Content → List ℕ → Type 0
+EndsShort words content text = (order : Order) × AsksFor words order × IsShort content order text

@@ -1,0 +1,81 @@
+//! Scenarios with the images of their processes.
+
+ghost use Rattle.std.specs.Prelude.{◌≡◌, IfErr, IfOk, map};
+ghost use Rattle.std.specs.Arc.{arc_value};
+ghost use Rattle.tracer.specs.Inside.{ImagesFault, IsReadAs, IsStagedAs};
+ghost use Rattle.tracer.specs.Program.{FaultOf};
+ghost use Rattle.tracer.specs.Stage.{AreLoaded, IsUnstaged};
+
+use crate::check::load_image;
+use crate::fault::Fault;
+use crate::files::Files;
+use indexmap::IndexMap;
+use scenario::{Allowed, Process, Scenario, parse};
+use std::alloc::Global;
+use std::sync::Arc;
+use verifier::Image;
+
+/// A scenario, and the images of its processes, in their order.
+#[derive(Drop)]
+pub struct Staged {
+    pub scenario: Scenario,
+    pub images: Vec<Arc<Image>>,
+}
+
+/// Reads a scenario. A file that is not UTF-8 can't be read as a text: `Fault::InputOutput`.
+fn read<F: Files>(
+    alloc: Global,
+    path: &str,
+    allowed: Allowed,
+    files: &mut F,
+) -> Result<Scenario, Fault>
+    ensures read { IfOk result (IsReadAs (F.content files.old) allowed path.now) }
+    ensures same { F.content files.new ≡ F.content files.old }
+    ensures fault { IfErr result (FaultOf (F.content files.old) (F.failed files.new) path.now
+        (IsUnstaged (F.content files.old) allowed)) }
+{
+    let bytes = files.read(alloc, path, None)?;
+    let Ok(text) = str::from_utf8(bytes.as_slice()) else {
+        return Err(Fault::InputOutput);
+    };
+    let scenario = parse(alloc, text, allowed)?;
+    Ok(scenario)
+}
+
+/// Loads the images of processes, in their order.
+fn load_images<F: Files>(
+    alloc: Global,
+    processes: &IndexMap<String, Process>,
+    files: &mut F,
+) -> Result<Vec<Arc<Image>>, Fault>
+    ensures loaded { IfOk result (λ v. AreLoaded (F.content files.old) processes.now.entries (map arc_value v.items)) }
+    ensures same { F.content files.new ≡ F.content files.old }
+    ensures fault { IfErr result (ImagesFault (F.content files.old) (F.failed files.new) processes.now.entries) }
+{
+    let mut images = Vec::new(alloc);
+    for index in 0..processes.len() {
+        let Some((_name, process)) = processes.get_index(index) else {
+            unreachable!();
+        };
+        let image = load_image(alloc, process.path.as_str(), files)?;
+        images.push(Arc::new(alloc, image)?)?;
+    }
+    Ok(images)
+}
+
+/// Reads a scenario, and then loads the images of its processes.
+pub fn stage<F: Files>(
+    alloc: Global,
+    path: &str,
+    allowed: Allowed,
+    files: &mut F,
+) -> Result<Staged, Fault>
+    ensures staged { IfOk result (λ s. IsStagedAs (F.content files.old) allowed path.now s.scenario (map arc_value s.images.items)) }
+    ensures same { F.content files.new ≡ F.content files.old }
+    ensures fault { IfErr result (FaultOf (F.content files.old) (F.failed files.new) path.now
+        (IsUnstaged (F.content files.old) allowed)) }
+{
+    let scenario = read(alloc, path, allowed, files)?;
+    let images = load_images(alloc, &scenario.processes, files)?;
+    Ok(Staged { scenario, images })
+}

@@ -1,0 +1,46 @@
+//! The streams that the program writes.
+
+ghost use Rattle.std.specs.Prelude.{◌≡◌, ℕ, Bool, true, List, Option, None, IfSome, OnErr, OnOk};
+ghost use Rattle.std.specs.Io.KnownBytes.{Appends};
+
+use crate::files::Failure;
+use std::fmt::Display;
+use std::io;
+use std::io::Write;
+
+/// A stream that takes whole texts.
+pub trait Stream {
+    // The bytes that were written, where they are known.
+    ghost contents: { Self → Option (List ℕ) } = { λ _. None };
+
+    // Whether a write has failed, where that is known.
+    ghost failed: { Self → Bool } = { λ _. true };
+
+    /// Writes a text. Where that fails, a part of it may have been written.
+    fn print<D: Display + Drop>(&mut self, text: D) -> Result<(), Failure>
+        ensures whole { OnOk result (IfSome (D.output text) (Appends (contents self.old) (contents self.new))) }
+        ensures sound { OnOk result (failed self.new ≡ failed self.old) }
+        ensures fault { OnErr result (failed self.new ≡ true) };
+}
+
+/// A writer as a stream.
+#[derive(Drop)]
+pub struct Written<'a, W: Write>(pub &'a mut W);
+
+impl<W: Write> Stream for Written<'_, W> {
+    fn print<D: Display + Drop>(&mut self, text: D) -> Result<(), Failure> {
+        let written = write!(self.0, "{text}");
+        written.map_err(Failure::from)
+    }
+}
+
+impl From<io::Error> for Failure {
+    /// Want of memory in a writer is want of memory.
+    fn from(e: io::Error) -> Failure {
+        if e.kind() == io::ErrorKind::OutOfMemory {
+            Failure::Memory
+        } else {
+            Failure::InputOutput
+        }
+    }
+}
