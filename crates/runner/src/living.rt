@@ -117,9 +117,9 @@ fn live_in<L: Ledger + Send + Sync, R: Threads + Wait + Sync>(
 }
 
 /// Runs so many workers, 1 to 16, on a session of these images, 1 to 15, as many as the scenario has
-/// processes. They are fed with the messages of its lines, numbered from 1; each makes at most so many
-/// calls as the budget, or one more. It writes the trace and the report (docs/FORMATS.md) of the
-/// session that they leave. Where memory runs out, also for one of them, nothing is written.
+/// processes. They are fed with the messages of its lines, numbered from 1; each ends where it made as
+/// many calls as the budget, and up to two more. It writes the trace and the report (docs/FORMATS.md)
+/// of the session that they leave. Where memory runs out, also for one of them, nothing is written.
 pub fn live<R: Threads + Wait + Sync>(
     rt: &R,
     alloc: Global,
