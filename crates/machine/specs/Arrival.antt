@@ -21,6 +21,7 @@ use Rattle.machine.specs.declared.arrival.Arrival.TheVariants.{Started, Duplicat
 use Rattle.machine.specs.declared.arrival.Finished.{Finished}
 use Rattle.machine.specs.declared.arrival.Finished.TheVariants.{Committed, Replayed}
 
+-- an arrival as the journal's answer: of the job that it started, the serial number alone
 abbrev pub answer_of : Arrival → Answer
 answer_of (Started task) = answers.Started task.serial
 answer_of (Duplicate key) = answers.Duplicate key
@@ -32,14 +33,17 @@ answer_of Acknowledged = answers.Acknowledged
 answer_of Unreachable = answers.Unreachable
 answer_of Stale = answers.Stale
 
+-- a result that was taken in, as the journal's answer: of a live job, or of a replayed one
 abbrev pub finished_of : Finished → Answer
 finished_of (Committed rsn key) = answers.Committed rsn key
 finished_of (Replayed rsn) = answers.Replayed rsn
 
+-- the image that was found has this code; None, for a number without a process, has none
 abbrev pub HasCode : Option Typed → List Insn → Type 0
 HasCode None code = ⊥
 HasCode (Some image) code = image.code ≡ code
 
+-- the image that was found has this form, `SBI1` or `SBI2`; None, for a number without a process, has none
 abbrev pub HasForm : Option Typed → ImageForm → Type 0
 HasForm None form = ⊥
 HasForm (Some image) form = image.form ≡ form

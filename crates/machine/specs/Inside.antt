@@ -14,6 +14,7 @@ use Rattle.machine.specs.Stage.{is_live, is_lost, IsInPlan}
 use Rattle.machine.specs.Simulation.{TheMachine}
 use Rattle.machine.specs.declared.machine.Machine.TheInside.{Inside}
 
+-- a machine as clauses see it: no capacities, and images by value, whether or not processes share them
 abbrev pub view_of : Inside → TheMachine
 view_of m = record { images = map arc_value m.images.items; processes = m.processes.items; outside = m.outside; slots = m.wire; started = m.started; calls = m.calls }
 
@@ -24,6 +25,7 @@ IsCarried n (Delivery d m) = (d ≤ n) × (m.sender ≤ n) × (m.sender ≢ d) �
 IsCarried n (Number r s i k incarnation) = (0 < r) × (r ≤ n) × (s ≤ n) × (s ≢ r) × (0 < k)
 IsCarried n (Acknowledgement s r k incarnation) = (0 < r) × (r ≤ n) × (0 < k)
 
+-- each packet on the wire, whatever its key, is one that n processes may have there
 abbrev pub AreCarried : List (Option Packet) → ℕ → Type 0
 AreCarried slots n = (key : ℕ) (k : Packet) → slice_index_or slots key None ≡ Some k → IsCarried n k
 

@@ -15,6 +15,7 @@ pub record AreIdle (n : ℕ) (images : List Typed) (processes : List TheProcess)
   pub short : All (λ (i : Typed). i.len ≤ 1024) images
   pub idle : (p : ℕ) (d : TheProcess) (e : Typed) → p < length images → slice_index_or processes p d ≡ idle_process (suc p) n (slice_index_or images p e).len
 
+-- there are 1 to 15 images, one for each process of a session
 abbrev pub AreFew : List Typed → Type 0
 AreFew images = (0 < length images) × (length images ≤ 15)
 

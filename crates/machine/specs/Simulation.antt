@@ -47,6 +47,7 @@ process_at m p = slice_index_or m.processes (p - 1) (idle_process 0 0 0)
 abbrev pub log_at : TheMachine → ℕ → TheLog
 log_at m p = if p == 0 then m.outside.log else (process_at m p).outbox.log
 
+-- the gate of the process of this number, from 1; the outside has none, since its inputs never wait
 abbrev pub gate_at : TheMachine → ℕ → TheGate
 gate_at m p = (process_at m p).outbox.gate
 

@@ -21,40 +21,50 @@ bytes_in size.Half = 2
 bytes_in size.Word = 4
 bytes_in size.Double = 8
 
+-- the same of a load that extends the sign, of which there is none of 8 bytes
 abbrev pub signed_bytes_in : SignedSize → ℕ
 signed_bytes_in signed.Byte = 1
 signed_bytes_in signed.Half = 2
 signed_bytes_in signed.Word = 4
 
+-- the register that an operand reads; None for an immediate
 abbrev pub register_of : Operand → Option Reg
 register_of (operand.Imm n) = None
 register_of (operand.Reg r) = Some r
 
 -- ---- rows: `number` and `operand` are read as numbers, `copied` whatever it holds, `moved` by so many bytes if it is a place
 
+-- no register is read or written, and no bytes are reached
 abbrev pub nothing : Attributes
 nothing = record { number = None; operand = None; copied = None; moved = None; access = None; written = None }
 
+-- dst gets what src holds, a place too
 abbrev pub copies : Reg → Reg → Attributes
 copies src dst = record nothing { copied = Some src; written = Some dst }
 
+-- dst is moved by z bytes if it holds a place, and stays a number if it holds one
 abbrev pub moves : ℤ → Reg → Attributes
 moves z dst = record nothing { moved = Some (dst, z); written = Some dst }
 
+-- dst gets a number; the registers that it is made of, where there are some, are read as numbers
 abbrev pub computes : Option Reg → Option Reg → Reg → Attributes
 computes number o dst = record nothing { number = number; operand = o; written = Some dst }
 
+-- a and the operand's register, if it has one, are read as numbers, and no register is written
 abbrev pub compares : Reg → Option Reg → Attributes
 compares a o = record nothing { number = Some a; operand = o }
 
+-- dst gets n bytes as a number; they begin `offset` bytes from the place in base
 abbrev pub loads : ℕ → Reg → Reg → ℤ → Attributes
 loads n dst base offset =
     record nothing { written = Some dst; access = Some (record { base = base; offset = offset; bytes = n; stores = false }) }
 
+-- n bytes are written `offset` bytes from the place in base; o is the register that is stored, None for an immediate
 abbrev pub stores : ℕ → Reg → ℤ → Option Reg → Attributes
 stores n base offset o =
     record nothing { operand = o; access = Some (record { base = base; offset = offset; bytes = n; stores = true }) }
 
+-- arithmetic writes dst; by its form it copies a register, moves dst, or computes a number
 abbrev pub alu_attributes : Form → Reg → Operand → Attributes
 alu_attributes (Copies src) dst o = copies src dst
 alu_attributes (Moves z) dst o = moves z dst

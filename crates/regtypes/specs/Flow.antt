@@ -23,5 +23,6 @@ exits_by s (Leaps d) next taken = (pos (s + 1) +ℤ d, taken) ∷ []
 exits_by s (Forks d) next taken = (pos (s + 1) +ℤ d, taken) ∷ (pos (s + 1), next) ∷ []
 exits_by s (Falls n) next taken = (pos (s + n), next) ∷ []
 
+-- the same of an instruction at slot s under a frame; that they are slots of the code is for V1 and V2 to say
 abbrev pub exits : ℕ → Insn → Frame → List (ℤ × Frame)
 exits s i f = exits_by s (flow_of i) (next i f) (taken i f)

@@ -21,6 +21,7 @@ sum_form W64 (operand.Imm n) = Moves n
 sum_form W64 (operand.Reg src) = Computes
 sum_form W32 o = Computes
 
+-- a 64-bit difference with a number that the code names may move a place back
 abbrev pub difference_form : Width → Operand → Form
 difference_form W64 (operand.Imm n) = Moves (neg_ℤ n)
 difference_form W64 (operand.Reg src) = Computes

@@ -7,10 +7,12 @@ use Rattle.regtypes.specs.declared.frame.Kind.{Kind}
 use Rattle.regtypes.specs.declared.frame.Kind.TheVariants.{Unset, Num, Len, Place}
 use Rattle.regtypes.specs.declared.frame.Frame.{Frame}
 
+-- 1 for `SBI1`, whose handlers see 64 bytes of a message, and 2 for `SBI2`, whose handlers see all of it
 abbrev pub form_number : ImageForm → ℕ
 form_number Sbi1 = 1
 form_number Sbi2 = 2
 
+-- what is known of the register of this number: nothing, where there is no such register
 abbrev pub kind_at : List Kind → ℕ → Kind
 kind_at f r = slice_index_or f r Unset
 
@@ -37,6 +39,7 @@ LeqKind a Num = is_num a ≡ true
 LeqKind a Len = a ≡ Len
 LeqKind a (Place r k) = a ≡ Place r k
 
+-- what the second list says of each register, the first says too
 abbrev pub LeqKinds : List Kind → List Kind → Type 0
 LeqKinds f g = (r : ℕ) → LeqKind (kind_at f r) (kind_at g r)
 

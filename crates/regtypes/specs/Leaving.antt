@@ -20,6 +20,7 @@ use Rattle.regtypes.specs.Rules.{is_len, first_broken, tests_of}
 
 -- ---- registers
 
+-- what a register is known to hold once z is added: a place that many bytes further on, or else a number
 abbrev pub moved : ℤ → Kind → Kind
 moved z (Place r y) = Place r (y +ℤ z)
 moved z k = Num
@@ -30,6 +31,7 @@ given_by f (Some src) m = kind_at f src.number
 given_by f None (Some m) = moved m.1 (kind_at f m.0.number)
 given_by f None None = Num
 
+-- what is known of the registers once one of them, if any, holds this
 abbrev pub written_with : Kind → Option Reg → List Kind → List Kind
 written_with k None f = f
 written_with k (Some r) f = slice_set f r.number k
@@ -38,6 +40,7 @@ written_with k (Some r) f = slice_set f r.number k
 abbrev pub given : List Kind → Attributes → Kind
 given f a = given_by f a.copied a.moved
 
+-- what is known of the registers behind an instruction with these attributes: only the one that it writes changes
 abbrev pub after_by : Attributes → List Kind → List Kind
 after_by a f = written_with (given f a) a.written f
 
@@ -45,6 +48,7 @@ after_by a f = written_with (given f a) a.written f
 abbrev pub after_helper : List Kind → List Kind
 after_helper f = Num ∷ Unset ∷ Unset ∷ Unset ∷ Unset ∷ Unset ∷ drop 6 f
 
+-- what is known of the registers behind an instruction, on each of its ways; a call of a helper keeps r6 to r10
 abbrev pub after : Insn → List Kind → List Kind
 after (Call helper) f = after_helper f
 after i f = after_by (attributes_of i) f

@@ -19,18 +19,22 @@ use Rattle.regtypes.specs.Attributes.{attributes_of}
 
 -- ---- kinds
 
+-- nothing is known: it was never set, a helper has unset it, or the paths that meet here leave different things in it
 abbrev pub is_unset : Kind → Bool
 is_unset Unset = true
 is_unset k = false
 
+-- it is known to hold the message's length, as r3 of form 2 and its copies do
 abbrev pub is_len : Kind → Bool
 is_len Len = true
 is_len k = false
 
+-- a place in any of the three regions, even one outside its bytes
 abbrev pub is_place : Kind → Bool
 is_place (Place r z) = true
 is_place k = false
 
+-- a place in the message, which no handler may write
 abbrev pub is_in_message : Kind → Bool
 is_in_message (Place Message z) = true
 is_in_message k = false
@@ -93,11 +97,13 @@ arguments_of form z = None
 abbrev pub is_sized : ℕ → ℕ → Kind → Kind → Bool
 is_sized low len place count = is_num count && (is_payload low len 256 place || (is_message place && is_len count))
 
+-- whether the registers hold what an argument wants; len is how many bytes the state has
 abbrev pub takes : ℕ → Frame → Argument → Bool
 takes len f (Number r) = is_num (kind_at f.kinds r)
 takes len f (Payload r) = is_payload f.low len 64 (kind_at f.kinds r)
 takes len f (Sized r n) = is_sized f.low len (kind_at f.kinds r) (kind_at f.kinds n)
 
+-- whether they hold what each of a helper's arguments wants; nothing is wanted by helpers 3 and 4
 abbrev pub takes_all : ℕ → Frame → List Argument → Bool
 takes_all len f [] = true
 takes_all len f (x ∷ xs) = takes len f x && takes_all len f xs
@@ -109,15 +115,17 @@ abbrev pub has : (Kind → Bool) → List Kind → Option Reg → Bool
 has p f None = false
 has p f (Some r) = p (kind_at f r.number)
 
+-- the register that holds the place of an access; None where no bytes are reached
 abbrev pub base_of : Option Access → Option Reg
 base_of None = None
 base_of (Some a) = Some a.base
 
+-- the register that an immediate moves; None where none is moved
 abbrev pub moved_of : Option (Reg × ℤ) → Option Reg
 moved_of None = None
 moved_of (Some m) = Some m.0
 
--- V3
+-- V3: a register is read that is unset
 abbrev pub reads_unset : List Kind → Attributes → Bool
 reads_unset f a =
     has is_unset f a.number || (has is_unset f a.operand || (has is_unset f a.copied || (has is_unset f (base_of a.access) || has is_unset f (moved_of a.moved))))
@@ -126,52 +134,56 @@ reads_unset f a =
 abbrev pub is_frame_pointer : Reg → Bool
 is_frame_pointer r = r.number == 10
 
--- V4
+-- V4: r10 is written
 abbrev pub writes_frame_pointer : Option Reg → Bool
 writes_frame_pointer None = false
 writes_frame_pointer (Some r) = is_frame_pointer r
 
--- V5
+-- V5, of the base of an access
 abbrev pub has_number_as_base : List Kind → Option Access → Bool
 has_number_as_base f None = false
 has_number_as_base f (Some a) = is_num (kind_at f a.base.number)
 
+-- V5: a place is read where a number is wanted, or a number is the base of a load or store
 abbrev pub mixes : List Kind → Attributes → Bool
 mixes f a = has is_place f a.number || (has is_place f a.operand || has_number_as_base f a.access)
 
--- V6
+-- V6, of an access: not all its bytes lie in its region
 abbrev pub reaches_out : ℕ → Frame → Option Access → Bool
 reaches_out len f None = false
 reaches_out len f (Some a) = not (reaches f.low len a.bytes a.offset (kind_at f.kinds a.base.number))
 
+-- V6, of a place that an immediate moves: it leaves -32,768 to 32,767, counted in bytes from its region's first
 abbrev pub moves_out : List Kind → Option (Reg × ℤ) → Bool
 moves_out f None = false
 moves_out f (Some m) = not (moves m.1 (kind_at f m.0.number))
 
--- V7
+-- V7: a store goes through a place of the message
 abbrev pub stores_in_message : List Kind → Option Access → Bool
 stores_in_message f None = false
 stores_in_message f (Some a) = a.stores && is_in_message (kind_at f a.base.number)
 
--- V8
+-- V8: the helper's number is none that this form has
 abbrev pub is_unknown : ImageForm → Insn → Bool
 is_unknown form (Call helper) = is_none (arguments_of form helper)
 is_unknown form i = false
 
--- V9
+-- V9, of the arguments that a helper wants; None stands for an unknown helper, which V8 refuses
 abbrev pub refuses : ℕ → Frame → Option (List Argument) → Bool
 refuses len f None = false
 refuses len f (Some xs) = not (takes_all len f xs)
 
+-- V9: a call of a known helper gives it something else than it wants
 abbrev pub misgives : ImageForm → ℕ → Insn → Frame → Bool
 misgives form len (Call helper) f = refuses len f (arguments_of form helper)
 misgives form len i f = false
 
--- V10
+-- V10: r0 is not a number at EXIT
 abbrev pub ends_without : Insn → List Kind → Bool
 ends_without Exit f = not (is_num (kind_at f 0))
 ends_without i f = false
 
+-- the number N of a rule in `verify refused VN` (docs/FORMATS.md, "Rules of the verifier")
 abbrev pub rule_number : Rule → ℕ
 rule_number V1 = 1
 rule_number V2 = 2
@@ -188,6 +200,7 @@ rule_number V10 = 10
 abbrev pub Tests : Type 0
 Tests = List (Bool × Rule)
 
+-- the rule of the first test that holds; None where none holds, and no rule is broken
 abbrev pub first_broken : Tests → Option Rule
 first_broken [] = None
 first_broken (t ∷ ts) = if t.0 then Some t.1 else first_broken ts
@@ -205,5 +218,6 @@ tests_by a form len i f =
     ∷ (ends_without i f.kinds, V10)
     ∷ []
 
+-- the tests of V3 to V10 for an instruction under a frame, the least rule first; len is how many bytes the state has
 abbrev pub tests_of : ImageForm → ℕ → Insn → Frame → Tests
 tests_of form len i f = tests_by (attributes_of i) form len i f

@@ -26,9 +26,11 @@ flow_tests slots s (Forks d) =
     (not (is_target slots s (pos (s + 1) +ℤ d)), V1) ∷ (not (nat_lt (s + 1) (length slots)), V2) ∷ []
 flow_tests slots s (Falls n) = (not (nat_lt (s + n) (length slots)), V2) ∷ []
 
+-- the tests of V1 and V2 for an instruction at slot s, which need no frame
 abbrev pub jump_tests : List (Option Insn) → ℕ → Insn → Tests
 jump_tests slots s i = flow_tests slots s (flow_of i)
 
+-- the first rule if there is one, else the second; None where neither is broken
 abbrev pub or_else : Option Rule → Option Rule → Option Rule
 or_else None o = o
 or_else (Some r) o = Some r
@@ -42,6 +44,7 @@ broken form slots len s i f =
 abbrev pub Table : Type 0
 Table = List (Option Frame)
 
+-- the frame of a slot; None where the table has none for it, as for a slot that no path reaches
 abbrev pub frame_at : Table → ℕ → Option Frame
 frame_at table s = unwrap_or (slice_get table s) None
 

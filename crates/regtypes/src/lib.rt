@@ -29,7 +29,7 @@ mod leaving;
 mod local;
 mod rule;
 
-pub use attributes::{bytes_in, signed_bytes_in};
+pub use attributes::{Access, Attributes, attributes_from, bytes_in, signed_bytes_in};
 pub use flow::{Flow, flow_from};
 pub use frame::{Frame, Kind, Region, join, leq};
 pub use image_form::ImageForm;

@@ -25,6 +25,7 @@ pub record MayCall (image : Typed) (state : List ℕ) (who : Who) : Type 0 where
   pub sender : who.from ≤ who.count
   pub other : who.from ≢ who.me
 
+-- what the run of the task's image on its state and message leaves; None where it faults or doesn't exit
 abbrev pub handled : TheTask → Option Handled
 handled t = handled_by t.image.form t.image.slots t.who t.state (seen t.image.form t.message.payload)
 
@@ -33,6 +34,7 @@ abbrev pub given : Option Handled → Handled
 given (Some h) = h
 given None = record { state = []; effects = record { sends = []; outputs = [] }; r0 = 0; steps = 0 }
 
+-- the handler's answer to a task; where there is none, as the run faults or doesn't exit, an empty one
 abbrev pub answer_of : TheTask → Handled
 answer_of t = given (handled t)
 

@@ -11,6 +11,7 @@ use Rattle.scenario.specs.Order.{IsName}
 abbrev pub names_in : List (String Global × Process) → List (List ℕ)
 names_in entries = map (λ e. string_bytes e.0) entries
 
+-- the same of the map that a scenario keeps, whose first entry is process 1
 abbrev pub names_of : {S : Type 0} → IndexMap (String Global) Process S → List (List ℕ)
 names_of processes = names_in processes.entries
 

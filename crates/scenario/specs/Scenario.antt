@@ -27,10 +27,11 @@ abbrev pub rows : ℕ → List (List ℕ) → List (ℕ × List ℕ)
 rows n [] = []
 rows n (line ∷ rest) = if is_silent line then rows (n + 1) rest else (n, line) ∷ rows (n + 1) rest
 
--- the line of a process, and that of a step, with their numbers
+-- the line of a process, behind the number that it has in the text, from 1
 abbrev pub process_row : String Global × Process → ℕ × List ℕ
 process_row e = (e.1.line, declaration_text (string_bytes e.0) (string_bytes e.1.path))
 
+-- the line of a step, behind the number that it has in the text; names are those of the processes 1, 2, ..
 abbrev pub step_row : List (List ℕ) → Step → ℕ × List ℕ
 step_row names x = (x.line, order_text names x.order)
 

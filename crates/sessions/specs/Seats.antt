@@ -24,6 +24,7 @@ pub record AreSeats (seats : List (Option TheSeat)) : Type 0 where
 abbrev pub IsWhole : List (Option TheSeat) → Type 0
 IsWhole seats = All IsSome seats
 
+-- this seat alone, or no seat where it is out
 abbrev pub listed : Option TheSeat → List TheSeat
 listed None = []
 listed (Some s) = s ∷ []

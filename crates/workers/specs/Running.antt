@@ -24,6 +24,7 @@ abbrev pub IsCause : RunError → Type 0 → Type 0
 IsCause Workers P = ¬ P
 IsCause Memory P = P
 
+-- the number of the cause that a caller is told: that of `Workers` where both hold
 abbrev pub number_of : RunError → ℕ
 number_of Workers = 1
 number_of Memory = 2

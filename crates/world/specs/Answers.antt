@@ -30,6 +30,7 @@ abbrev pub received_of : World → ℕ → Message → ℕ
 received_of w zero m = count_of m.sender w.shown
 received_of w (suc d) m = count_of m.sender (w.history (suc d))
 
+-- what a message that arrives is to its receiver d, which is 0 for the outside
 abbrev pub judge : World → ℕ → Message → Verdict
 judge w d m = verdict_of (received_of w d m) m.ssn
 
@@ -72,10 +73,12 @@ ReceivesUp w key (Delivery d m) a = ReceivesAs w key d m (judge w d m) a
 ReceivesUp w key (Number r s i k incarnation) a = NumbersAs w key ((incarnation == w.incarnation r) && is_entry w s r i) a
 ReceivesUp w key (Acknowledgement s r k incarnation) a = AcknowledgesAs ((incarnation == w.incarnation r) && nat_le k (length_of w r)) a
 
+-- the answer that a packet gets, by whether its target is up; where it isn't, that is `Unreachable`
 abbrev pub ReceivesIf : Bool → World → ℕ → Packet → Answer → Type 0
 ReceivesIf true w key k a = ReceivesUp w key k a
 ReceivesIf false w key k a = a ≡ Unreachable
 
+-- the answer to the arrival of the packet that has this key; there is none where no packet has it
 abbrev pub Receives : World → ℕ → Option Packet → Answer → Type 0
 Receives w key None a = ⊥
 Receives w key (Some k) a = ReceivesIf (is_up (w.phase (target_of k))) w key k a
@@ -93,6 +96,7 @@ Keeps w p (Kept k) =
     (w.saved p ≤ k) × (length gathered ≡ k) × (chosen w p gathered ≡ None)
 Keeps w p a = ⊥
 
+-- an answer that the call may get where it isn't refused: each vacant key for a new packet makes another one
 abbrev pub MayAnswer : World → Call → Answer → Type 0
 MayAnswer w (Input d feed x) a = a ≡ Logged (length (w.inputs d) + 1)
 MayAnswer w (Transmit p d i) a = WithKey w.wire Placed a

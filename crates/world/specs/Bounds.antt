@@ -16,20 +16,25 @@ abbrev pub count_below : (ℕ → Bool) → ℕ → ℕ
 count_below test zero = 0
 count_below test (suc k) = (if test k then 1 else 0) + count_below test k
 
+-- whether one of 0, 1, .. below k passes the test
 abbrev pub any_below : (ℕ → Bool) → ℕ → Bool
 any_below test zero = false
 any_below test (suc k) = test k || any_below test k
 
+-- whether there is nothing, as under a key of the wire that is vacant
 abbrev pub is_none : {X : Type 0} → Option X → Bool
 is_none None = true
 is_none (Some x) = false
 
+-- how many processes work on a message, one that arrived or a replayed one
 abbrev pub open_jobs : World → ℕ
 open_jobs w = count_below (λ p. is_working (w.phase p)) (suc w.count)
 
+-- how many processes work on a message that arrived: each may still put a packet on the wire
 abbrev pub live_jobs : World → ℕ
 live_jobs w = count_below (λ p. is_busy (w.phase p)) (suc w.count)
 
+-- how many packets of any kind are on the wire, each copy counted
 abbrev pub packets : World → ℕ
 packets w = count_below (λ key. not (is_none (w.wire key))) WIRE
 

@@ -15,9 +15,11 @@ use Rattle.world.specs.Plan.{message_of, gather}
 
 -- The wire
 
+-- the outside hands in a payload for d, which is logged behind its earlier ones, and the feed number is taken
 abbrev pub input : World → ℕ → ℕ → Payload → World
 input w d feed x = record w { inputs = put w.inputs d (w.inputs d ++ x ∷ []); feeds = put w.feeds feed true }
 
+-- the packet that brings a message to d; None where there is no message
 abbrev pub delivery : ℕ → Option Message → Option Packet
 delivery d None = None
 delivery d (Some m) = Some (Delivery d m)
@@ -26,9 +28,11 @@ delivery d (Some m) = Some (Delivery d m)
 abbrev pub transmit : World → ℕ → ℕ → ℕ → ℕ → World
 transmit w p d i key = record w { wire = put w.wire key (delivery d (message_of p i (nth (sent w p d) i))) }
 
+-- the packet with this key is on the wire a second time, with a key of its own
 abbrev pub copy : World → ℕ → ℕ → World
 copy w key new = record w { wire = put w.wire new (w.wire key) }
 
+-- the packet with this key leaves the wire, and that is all: it is lost, or changes nothing where it arrives
 abbrev pub lose : World → ℕ → World
 lose w key = record w { wire = put w.wire key None }
 
@@ -101,6 +105,7 @@ abbrev pub released_with : World → ℕ → List ℕ → ℕ → ℕ
 released_with w p [] = sent_in_all w p
 released_with w p (r ∷ rs) = w.released p
 
+-- p still restores its numbers from these peers; with none of them it is up, and all that it sent is released
 abbrev pub ready : World → ℕ → List ℕ → World
 ready w p peers = record w { phase = put w.phase p (phase_with peers); released = put w.released p (released_with w p peers) }
 
@@ -115,6 +120,7 @@ replay w p j alone =
     then record w { phase = put w.phase p (Replaying (suc j) false alone) }
     else ready w p (peers w p alone)
 
+-- the result of an open job comes back: its message is received then, or replayed, if it was received before a crash
 abbrev pub finish : World → ℕ → Phase → Answer → World
 finish w p (Busy m) (Committed n new) = commit w p m new
 finish w p (Replaying j working alone) (Replayed n) = replay w p j alone
@@ -136,6 +142,7 @@ checkpoint w p =
 abbrev pub trimmed : World → ℕ → ℕ → ℕ
 trimmed w d s = if is_up (w.phase s) then max (w.trims s d) (min (covered w s d) (length (sent w s d))) else w.trims s d
 
+-- each sender that is up drops from its log what d has for good
 abbrev pub trim : World → ℕ → World
 trim w d = record w { trims = λ s. put (w.trims s) d (trimmed w d s) }
 
@@ -179,10 +186,12 @@ recover w p k alone =
     then record (keep w p k) { phase = put w.phase p (Replaying 0 false alone) }
     else ready (keep w p k) p (peers w p alone)
 
+-- a process that replays, with a job open on the next message; any other phase stays
 abbrev pub with_open_job : Phase → Phase
 with_open_job (Replaying j working alone) = Replaying j true alone
 with_open_job phase = phase
 
+-- a job of p opens on the next message that it replays
 abbrev pub replay_begin : World → ℕ → World
 replay_begin w p = record w { phase = put w.phase p (with_open_job (w.phase p)); started = w.started + 1 }
 
@@ -190,6 +199,7 @@ replay_begin w p = record w { phase = put w.phase p (with_open_job (w.phase p));
 abbrev pub told : World → ℕ → ℕ → ℕ → Option ℕ
 told w p r i = if is_entry w p r i then rsn_of (w.history r) p i else w.numbers p r i
 
+-- r tells p under which numbers it received the messages of p, and is left out of the peers still to do
 abbrev pub resync : World → ℕ → ℕ → World
 resync w p r = ready (record w { numbers = put w.numbers p (put (w.numbers p) r (told w p r)) }) p (without (todo_of (w.phase p)) r)
 

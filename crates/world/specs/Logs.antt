@@ -13,9 +13,11 @@ length_in h saved Down = saved
 length_in h saved (Replaying j working alone) = saved + j
 length_in h saved (Resync todo) = length h
 
+-- how many messages of its history a process has in its state: while it is down, those that its checkpoint covers
 abbrev pub length_of : World → ℕ → ℕ
 length_of w p = length_in (w.history p) (w.saved p) (w.phase p)
 
+-- the state that a process has, in bytes: while it is down, the one of its checkpoint
 abbrev pub state_of : World → ℕ → List ℕ
 state_of w p = w.handlers.state p (take (length_of w p) (w.history p))
 

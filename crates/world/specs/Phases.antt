@@ -29,6 +29,7 @@ is_up Down = false
 is_up (Replaying j working alone) = false
 is_up (Resync todo) = false
 
+-- whether it has crashed, and its recovery has not begun
 abbrev pub is_down : Phase → Bool
 is_down Up = false
 is_down (Busy m) = false
@@ -52,6 +53,7 @@ is_working Down = false
 is_working (Replaying j working alone) = working
 is_working (Resync todo) = false
 
+-- whether some of its plan is still to be replayed, with a job open or not
 abbrev pub is_replaying : Phase → Bool
 is_replaying Up = false
 is_replaying (Busy m) = false

@@ -5,10 +5,12 @@ use Rattle.world.specs.History.{Payload, nth, count_of}
 use Rattle.world.specs.World.{World}
 use Rattle.world.specs.Logs.{sent, is_entry}
 
+-- whether the number that a log has for a message is known, and is m
 abbrev pub is_number : ℕ → Option ℕ → Bool
 is_number m None = false
 is_number m (Some k) = k == m
 
+-- the message of s with this SSN and payload; None where s has sent no such message
 abbrev pub message_of : ℕ → ℕ → Option Payload → Option Message
 message_of s i None = None
 message_of s i (Some x) = Some (record { sender = s; ssn = i; payload = x })
@@ -17,6 +19,7 @@ message_of s i (Some x) = Some (record { sender = s; ssn = i; payload = x })
 abbrev pub logged_as : World → ℕ → ℕ → ℕ → ℕ → Option Message
 logged_as w p m s i = if is_entry w s p i && is_number m (w.numbers s p i) then message_of s i (nth (sent w s p) i) else None
 
+-- the first if there is one, else the second
 abbrev pub or_else : {X : Type 0} → Option X → Option X → Option X
 or_else None b = b
 or_else (Some x) b = Some x
@@ -39,6 +42,7 @@ if_next h (Some m) = if m.ssn == suc (count_of m.sender h) then Some m else None
 abbrev pub chosen : World → ℕ → List Message → Option Message
 chosen w p h = if_next h (found w p (suc (length h)))
 
+-- the history with this message behind it, if there is one
 abbrev pub pushed : List Message → Option Message → List Message
 pushed h None = h
 pushed h (Some m) = h ++ m ∷ []

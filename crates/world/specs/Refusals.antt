@@ -12,6 +12,7 @@ use Rattle.world.specs.Logs.{released_to, is_entry}
 use Rattle.world.specs.Bounds.{is_none, any_below, open_jobs, journal_full, wire_full}
 use Rattle.world.specs.Answers.{Verdict, Next, Known, Ahead, judge}
 
+-- the number by which a refusal is told, 1 to 15 (docs/FORMATS.md, "Refusals of a session")
 abbrev pub number_of : Refusal → ℕ
 number_of NoSuchProcess = 1
 number_of NotUp = 2
@@ -39,6 +40,7 @@ abbrev pub is_to_busy : World → Option Packet → Bool
 is_to_busy w (Some (Delivery d m)) = is_busy (w.phase d)
 is_to_busy w packet = false
 
+-- whether none of its sender is missing before it, and the receiver doesn't have it
 abbrev pub is_next : Verdict → Bool
 is_next Next = true
 is_next Known = false
@@ -49,6 +51,7 @@ abbrev pub starts : World → Option Packet → Bool
 starts w (Some (Delivery d m)) = nat_lt 0 d && is_up (w.phase d) && is_next (judge w d m)
 starts w packet = false
 
+-- what a job adds to a count: 1 if there is one, else 0
 abbrev pub one_if : Bool → ℕ
 one_if true = 1
 one_if false = 0

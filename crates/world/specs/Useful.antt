@@ -17,6 +17,7 @@ is_free (Input d feed x) = true
 is_free (Finish p) = true
 is_free call = false
 
+-- whether a message was received under a number (RSN), and this is k
 abbrev pub is_at : Option ℕ → ℕ → Bool
 is_at None k = false
 is_at (Some m) k = m == k
@@ -33,6 +34,7 @@ abbrev pub works_on : Phase → ℕ → ℕ → Bool
 works_on (Busy m) p i = (m.sender == p) && (m.ssn == i)
 works_on phase p i = false
 
+-- whether a message was received under a number that isn't acknowledged; None is one that wasn't received
 abbrev pub is_unacknowledged : (ℕ → Bool) → Option ℕ → Bool
 is_unacknowledged acknowledged None = false
 is_unacknowledged acknowledged (Some k) = not (acknowledged k)
@@ -46,6 +48,8 @@ wants w p (suc d) i =
     && ((not (works_on (w.phase (suc d)) p i) && (i == suc (count_of p (w.history (suc d)))))
     || is_unacknowledged (w.acknowledged (suc d)) (rsn_of (w.history (suc d)) p i))
 
+-- whether a call is of use now: a packet arrives with no open job in its way, a message is replayed, a peer restores
+-- numbers, or a released message that its receiver wants goes on the wire, where no packet of that message is on it yet
 abbrev pub is_useful : World → Call → Bool
 is_useful w (Arrive key) = not (is_none (w.wire key)) && not (is_to_busy w (w.wire key))
 is_useful w (ReplayBegin p) = is_replaying (w.phase p) && not (is_working (w.phase p))

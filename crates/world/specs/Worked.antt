@@ -16,6 +16,7 @@ use Rattle.world.specs.Refusals.{refusal_of}
 use Rattle.world.specs.Useful.{is_useful}
 use Rattle.world.specs.Legal.{Legal, world_of, all_single}
 
+-- a call by worker 0, which needn't be useful or free
 abbrev pub by_nobody : Call → Answer → Entry
 by_nobody call answer = record { worker = 0; call = call; answer = answer }
 
@@ -32,6 +33,7 @@ one_message x =
     ∷ by_nobody (Finish 1) (Committed 1 0)
     ∷ []
 
+-- the message that a process gets of the outside's first input to it
 abbrev pub first_input : List ℕ → Message
 first_input x = record { sender = 0; ssn = 1; payload = x }
 

@@ -225,6 +225,19 @@ fn long_payloads(rt: HostRuntime) -> Result<(), Fail> {
     Ok(())
 }
 
+// More than 64 KiB of comments, and then a process.
+#[test]
+fn long_text(rt: HostRuntime) -> Result<(), Fail> {
+    let mut text = String::new(rt.alloc());
+    for _ in 0..5000 {
+        text.push_str("# sixteen bytes\n")?;
+    }
+    text.push_str("process a p\ninput a 5\n")?;
+    let scenario = parse(rt.alloc(), text.as_str(), Allowed::All)?;
+    assert_eq!(rt; scenario.steps.len(), 1);
+    Ok(())
+}
+
 #[test]
 fn inputs_alone(rt: HostRuntime) -> Result<(), Fail> {
     let alloc = rt.alloc();
