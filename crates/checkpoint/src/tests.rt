@@ -269,3 +269,37 @@ fn as_many_receipts_as_there_can_be(rt: HostRuntime) -> Result<(), Fail> {
     assert_eq!(rt; encode(alloc, &again)?.as_slice(), bytes.as_slice());
     Ok(())
 }
+
+/// How many of the one-bit changes of the bytes are read, and how many are refused by 1, 2 and 3.
+fn outcomes(alloc: Global, bytes: &[u8]) -> Result<[u32; 4], Fail> {
+    let mut counts = [0u32; 4];
+    let mut changed = Vec::from_slice(alloc, bytes)?;
+    for (place, byte) in bytes.iter().enumerate() {
+        for bit in [1, 2, 4, 8, 16, 32, 64, 128] {
+            if let Some(here) = changed.get_mut(place) {
+                *here = *byte ^ bit;
+            }
+            match counts.get_mut(usize::from(refusal(alloc, &changed))) {
+                Some(count) => *count = count.saturating_add(1),
+                None => return Err("memory ran out")?,
+            }
+        }
+        if let Some(here) = changed.get_mut(place) {
+            *here = *byte;
+        }
+    }
+    Ok(counts)
+}
+
+// The counts are those of a slow reader that shares no code with this one.
+#[test]
+fn a_bit_is_changed(rt: HostRuntime) -> Result<(), Fail> {
+    let alloc = rt.alloc();
+    assert_eq!(rt; outcomes(alloc, &OPENING)?, [83, 32, 42, 67]);
+    assert_eq!(rt; outcomes(alloc, &relay_bytes(alloc)?)?, [550, 32, 63, 115]);
+    assert_eq!(rt;
+        outcomes(alloc, &first_relay_bytes(alloc)?)?,
+        [550, 32, 56, 106]
+    );
+    Ok(())
+}

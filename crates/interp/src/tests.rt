@@ -1,5 +1,7 @@
 ghost use Rattle.std.specs.Prelude.{◌≤◌, length};
 
+mod damaged;
+
 use crate::{CallEnd, call, call_flat, fill, refill};
 use helpers::{Effects, Payload, Who};
 use regtypes::ImageForm;

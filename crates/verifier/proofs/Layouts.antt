@@ -57,3 +57,12 @@ laid_more code slots slots' n i d lt ei es e =
 
 pub first_begins_at : (code : List Insn) (slots : List (Option Insn)) → slots ≡ slots_of code → 0 < length slots → (j : Insn) × (insn_at slots 0 ≡ Some j)
 first_begins_at code slots e n = subst (λ s. (j : Insn) × (insn_at s 0 ≡ Some j)) (sym e) (first_begins code (let k = ap length e in omega arith))
+
+laid_if : (b : Bool) (i : Insn) (rest : List (Option Insn)) → 0 < length (slots_if b i ++ rest)
+laid_if true i rest = omega arith
+laid_if false i rest = omega arith
+
+-- code is laid out in some slot
+pub laid_some : (code : List Insn) → 0 < length code → 0 < length (slots_of code)
+laid_some [] h = absurd (omega arith)
+laid_some (i ∷ is) h = laid_if (is_wide i) i (slots_of is)

@@ -1,10 +1,9 @@
 -- What it says that an instruction breaks no rule.
-use Rattle.std.proofs.Common.{◌≡◌, ℕ, ◌+◌, ◌<◌, ◌≤◌, Bool, true, false, List, Option, Some, None, ℤ, pos, negsuc, refl, sym, ap, subst, ◌∙◌, arith}
-use Rattle.std.specs.Prelude.{not, ◌&&◌, ◌||◌, nat_lt, is_some, is_none}
+use Rattle.std.proofs.Common.{◌≡◌, ℕ, ◌<◌, true, false, List, Option, Some, None, ℤ, pos, negsuc, refl, sym, ap, subst, ◌∙◌, arith}
+use Rattle.std.specs.Prelude.{not, ◌&&◌, ◌||◌, nat_lt, is_some}
 use Rattle.std.proofs.lemmas.Bool.{or_parts, and_parts, false≢true}
 use Rattle.std.proofs.lemmas.Bool.Decides.{nat_tests}
 use Rattle.decode.specs.declared.insn.Insn.{Insn}
-use Rattle.decode.specs.declared.insn.Reg.{Reg}
 use Rattle.decode.specs.Slots.{insn_at}
 use Rattle.regtypes.specs.declared.image_form.ImageForm.{ImageForm}
 use Rattle.regtypes.specs.declared.frame.Region.TheVariants.{Message, State, Stack}
@@ -12,10 +11,9 @@ use Rattle.regtypes.specs.declared.frame.Kind.{Kind}
 use Rattle.regtypes.specs.declared.frame.Kind.TheVariants.{Unset, Num, Len, Place}
 use Rattle.regtypes.specs.declared.frame.Frame.{Frame}
 use Rattle.regtypes.specs.declared.attributes.Access.{Access}
-use Rattle.regtypes.specs.declared.attributes.Attributes.{Attributes}
 use Rattle.regtypes.specs.Frame.{kind_at, is_num}
 use Rattle.regtypes.specs.Attributes.{attributes_of}
-use Rattle.regtypes.specs.Rules.{is_unset, is_place, is_in_message, has, base_of, reaches, writes_frame_pointer, has_number_as_base, mixes, reaches_out, moves_out, stores_in_message, is_unknown, misgives, ends_without, first_broken, tests_of}
+use Rattle.regtypes.specs.Rules.{is_unset, is_place, is_in_message, has, base_of, reaches, writes_frame_pointer, has_number_as_base, reaches_out, moves_out, stores_in_message, is_unknown, misgives, ends_without, first_broken, tests_of}
 use Rattle.regtypes.specs.Typing.{Table, frame_at, IsTyping, jump_tests, is_target}
 use Rattle.regtypes.proofs.Monotone.{none_holds, both_none, not_false, AllSet, all_set}
 use Rattle.verifier.specs.Places.{IsInside, IsWritable, index_of}

@@ -25,6 +25,7 @@ abbrev pub magic : ImageForm → List ℕ
 magic Sbi1 = 0x53 ∷ 0x42 ∷ 0x49 ∷ 0x31 ∷ []
 magic Sbi2 = 0x53 ∷ 0x42 ∷ 0x49 ∷ 0x32 ∷ []
 
+-- a header as it stands in a file: eight bytes, where its magic has four
 abbrev pub header_bytes : FileHeader → List ℕ
 header_bytes h = h.magic ++ (to_le_bytes w16 h.state_len ++ to_le_bytes w16 h.slots)
 
@@ -59,15 +60,18 @@ BreaksFirst [] fault h rest = ⊥
 BreaksFirst (q ∷ qs) fault h rest =
     ((fault ≡ q) × Breaks q h rest) ⊎ ((¬ Breaks q h rest) × BreaksFirst qs fault h rest)
 
+-- the order in which faults are judged, that of their numbers; a file too short to have a header has none of these
 abbrev pub order : List HeaderFault
 order = Magic ∷ StateLength ∷ SlotCount ∷ FileLength ∷ []
 
+-- the bytes have a header, and this is the first fault of it and what follows
 pub record StartsBroken (fault : HeaderFault) (bytes : List ℕ) : Type 0 where
   pub header : FileHeader
   pub rest : List ℕ
   pub has : HasHeader header rest bytes
   pub broken : BreaksFirst order fault header rest
 
+-- the fault that bytes are refused with before their code is read; of fewer than 8 bytes that is `TooShort`
 abbrev pub IsHeaderFault : List ℕ → HeaderFault → Type 0
 IsHeaderFault bytes fault = ((fault ≡ TooShort) × (length bytes < 8)) ⊎ StartsBroken fault bytes
 

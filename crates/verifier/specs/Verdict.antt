@@ -1,5 +1,5 @@
 -- What `verify` answers.
-use Rattle.std.specs.Prelude.{◌≡◌, ℕ, List, Option}
+use Rattle.std.specs.Prelude.{◌≡◌, ℕ, List, Option, Some, None}
 use Rattle.decode.specs.declared.insn.Insn.{Insn}
 use Rattle.decode.specs.Slots.{slots_of}
 use Rattle.regtypes.specs.declared.image_form.ImageForm.{ImageForm}
@@ -8,7 +8,7 @@ use Rattle.regtypes.specs.Typing.{Table, IsTyping}
 use Rattle.verifier.specs.declared.fault.VerifyError.{VerifyError}
 use Rattle.verifier.specs.declared.fault.VerifyError.TheVariants.{Memory, Fault}
 use Rattle.verifier.specs.Typed.{Typed}
-use Rattle.verifier.specs.Least.{IsRefused, IsLeastTyping}
+use Rattle.verifier.specs.Least.{IsRefused, IsLeast, IsLeastTyping}
 
 -- the code and its least typing
 pub record IsImageOf (form : ImageForm) (code : List Insn) (len : ℕ) (image : Typed) : Type 0 where
@@ -21,6 +21,12 @@ pub record IsImageOf (form : ImageForm) (code : List Insn) (len : ℕ) (image : 
 -- the rule and the slot, of code that has no typing
 abbrev pub IsFault : ImageForm → List Insn → ℕ → Rule → ℕ → Type 0
 IsFault form code len rule slot = IsRefused form (slots_of code) len rule slot × ((t : Table) → IsTyping form (slots_of code) len t → ⊥)
+
+-- the table is the least typing of the code; where a slot breaks a rule, it is that of the slots below
+abbrev pub IsJudged : ImageForm → List Insn → ℕ → Table → Option (Rule × ℕ) → Type 0
+IsJudged form code len table None = IsLeastTyping form (slots_of code) len table
+IsJudged form code len table (Some (rule, slot)) =
+    IsLeast form (slots_of code) len slot table × IsFault form code len rule slot
 
 -- want of memory says nothing of the code
 abbrev pub IsWhy : ImageForm → List Insn → ℕ → VerifyError → Type 0

@@ -1,6 +1,6 @@
 //! One slot of the pass: its rules, and what leaves it.
 
-ghost use Rattle.std.specs.Prelude.{◌≡◌, ◌≤◌, ◌<◌, ◌+◌, MatchResult, length, true, is_some, pos, ◌+ℤ◌, Some, None};
+ghost use Rattle.std.specs.Prelude.{◌≡◌, ◌≤◌, ◌<◌, ◌+◌, MatchResult, OnErr, length, true, is_some, pos, ◌+ℤ◌, Some, None};
 ghost use Rattle.decode.specs.Slots.{insn_at};
 ghost use Rattle.regtypes.specs.Rules.{first_broken};
 ghost use Rattle.regtypes.specs.Typing.{is_target, flow_tests};
@@ -93,7 +93,8 @@ pub fn judge(
     requires same { length table.old ≡ length slots.now }
     requires follows { Follows slots.now }
     requires least { IsLeast form slots.now state_len slot table.old }
-    ensures { MatchResult result (λ _. IsLeast form slots.now state_len (slot + 1) table.new) (λ rule. Breaks form slots.now state_len rule slot) }
+    ensures judged { MatchResult result (λ _. IsLeast form slots.now state_len (slot + 1) table.new) (λ rule. Breaks form slots.now state_len rule slot) }
+    ensures kept { OnErr result (table.new ≡ table.old) }
 {
     let frame = match table[slot] {
         Some(frame) => frame,

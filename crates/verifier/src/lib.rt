@@ -7,8 +7,9 @@
 //! is broken and into which all that leaves an instruction fits. The image keeps the least such
 //! table, and its type keeps the fact, and for each instruction that a path leads to the dense operation that
 //! stands for it. A refusal names the first slot whose frame breaks a rule,
-//! and the least rule that it breaks; no other slot or rule could have been named. [`parts`] and
-//! [`file`] read and write image files without a look at the rules.
+//! and the least rule that it breaks; no other slot or rule could have been named. [`frames_of`] tells
+//! what is known of the registers slot by slot, also of code that is refused. [`parts`] and [`file`]
+//! read and write image files without a look at the rules.
 //!
 //! ```
 //! let image = load(alloc, &bytes)?;
@@ -19,6 +20,7 @@
 
 mod compiling;
 mod fault;
+mod framing;
 mod header;
 mod image;
 mod judging;
@@ -30,6 +32,7 @@ mod translating;
 mod verifying;
 
 pub use fault::{HeaderFault, ImageError, VerifyError};
+pub use framing::{Frames, frames_of};
 pub use image::Image;
 pub use laws::{file_refusals_are_one, refusals_are_one};
 pub use loading::{load, parts};

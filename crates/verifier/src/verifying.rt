@@ -1,35 +1,19 @@
-//! One pass over the slots gives the least typing, or the first fault.
+//! Instructions to images.
 
-ghost use Rattle.std.specs.Prelude.{◌≡◌, ◌≤◌, ◌<◌, IfOk, MatchResult, length};
+ghost use Rattle.std.specs.Prelude.{◌≡◌, ◌≤◌, MatchResult, length};
 ghost use Rattle.std.specs.List.{AllByRecursion};
 ghost use Rattle.decode.specs.Encoding.{Fits, encoding};
 ghost use Rattle.decode.specs.Slots.{slots_of};
 ghost use Rattle.regtypes.specs.declared.image_form.ImageForm.TheVariants.{Sbi1};
-ghost use Rattle.verifier.specs.Pass.{IsOpening};
 ghost use Rattle.verifier.specs.Verdict.{IsImageOf, IsWhy};
 
 use crate::compiling::compile;
 use crate::fault::VerifyError;
+use crate::framing::{Frames, frames_of};
 use crate::image::Image;
-use crate::judging::judge;
-use crate::layout::lay_out;
 use decode::{Insn, encode};
-use regtypes::{Frame, ImageForm, Rule};
-use std::alloc::{AllocError, Global};
-
-/// A table with no frame but that of the entry.
-fn opening(alloc: Global, form: ImageForm, slots: usize) -> Result<Vec<Option<Frame>>, AllocError>
-    requires { 0 < slots }
-    ensures size { IfOk result (λ table. length table.items ≡ slots) }
-    ensures only { IfOk result (λ table. IsOpening form table.items) }
-{
-    let mut table = Vec::with_capacity(alloc, slots)?;
-    table.push(Some(Frame::entry(form)))?;
-    'rest: for _ in 1..slots {
-        table.push(None)?;
-    }
-    Ok(table)
-}
+use regtypes::{ImageForm, Rule};
+use std::alloc::Global;
 
 /// The image of these instructions with a state of this length, if they are typable in form 1, in
 /// which a message has 64 bytes.
@@ -74,24 +58,22 @@ pub fn verify_encoded(
     requires bytes { bytes.items ≡ encoding code.items }
     ensures { MatchResult result (λ image. IsImageOf form code.items state_len image) (λ why. IsWhy form code.items state_len why) }
 {
-    let slots = match lay_out(alloc, &code) {
-        Ok(slots) => slots,
-        Err(_) => return Err(VerifyError::Memory),
-    };
-    if slots.is_empty() {
+    if code.is_empty() {
         return Err(VerifyError::Fault {
             rule: Rule::V2,
             slot: 0,
         });
     }
-    let mut table = match opening(alloc, form, slots.len()) {
-        Ok(table) => table,
+    let Frames {
+        slots,
+        table,
+        refusal,
+    } = match frames_of(alloc, &code, state_len, form) {
+        Ok(found) => found,
         Err(_) => return Err(VerifyError::Memory),
     };
-    for slot in 0..slots.len() {
-        if let Err(rule) = judge(form, &slots, state_len, slot, &mut table) {
-            return Err(VerifyError::Fault { rule, slot });
-        }
+    if let Some((rule, slot)) = refusal {
+        return Err(VerifyError::Fault { rule, slot });
     }
     match compile(alloc, &slots, &table, state_len) {
         Ok(operations) => Ok(Image {

@@ -1,6 +1,6 @@
 use Rattle.std.proofs.Common.{◌≡◌, length}
 use Rattle.verifier.specs.Pass.{IsOpening}
-use Rattle.verifier.proofs.verifying.opening.Given as goal
+use Rattle.verifier.proofs.framing.opening.Given as goal
 
 abbrev pub invariant-rest : goal.invariant-rest
 invariant-rest l = (length l.table.items ≡ l.counter) × IsOpening l.fn.form l.table.items

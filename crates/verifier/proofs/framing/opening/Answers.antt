@@ -1,6 +1,6 @@
 use Rattle.std.proofs.Common.{◌≡◌, length, ap, ◌∙◌, arith, Some, None, [], ◌∷◌, ◌++◌}
 use Rattle.verifier.proofs.LeastTypings.{opening_one, opening_more}
-use Rattle.verifier.proofs.verifying.opening.Goals as goal
+use Rattle.verifier.proofs.framing.opening.Goals as goal
 
 pub rest-init : goal.rest-init
 rest-init c =
