@@ -1,8 +1,8 @@
 //! The page: where things stand, and the whole text.
 
-ghost use Rattle.std.specs.Prelude.{◌≡◌, IfOk, min, string_bytes};
+ghost use Rattle.std.specs.Prelude.{◌≡◌, ◌++◌, IfOk, OnOk, length, min, string_bytes};
 ghost use Rattle.indexmap.specs.IndexMap.{index_map_len};
-ghost use Rattle.diagram.specs.Page.{IsSvg, column_place, line_place, page_height, page_width};
+ghost use Rattle.diagram.specs.Page.{IsPicture, column_place, head_text, line_place, page_height, page_width};
 
 use crate::ink::{Point, push_count, push_line, push_text};
 use crate::legend::{LEGEND, LEGEND_HEIGHT, LEGEND_WIDTH, STYLE};
@@ -56,15 +56,16 @@ pub fn draw(
     processes: &IndexMap<String, Process>,
     entries: &[Entry],
 ) -> Result<String, AllocError>
-    ensures { IfOk result (λ text. IsSvg (string_bytes text)) }
+    ensures { IfOk result (λ text. IsPicture (index_map_len processes.now) (length entries.now) (string_bytes text)) }
 {
     let inside = drawing(alloc, processes, entries)?;
     let width = page_width(entries.len());
     let height = page_height(processes);
-    let mut element = String::new(alloc);
-    push_size(&mut element, width, height)?;
-    element.push_str(inside.as_str())?;
-    enclosed(alloc, element.as_str())
+    let mut out = String::new(alloc);
+    push_head(&mut out, width, height)?;
+    out.push_str(inside.as_str())?;
+    out.push_str("</svg>\n")?;
+    Ok(out)
 }
 
 /// What is drawn of the entries.
@@ -165,20 +166,12 @@ fn joined(alloc: Global, picture: &Picture, foot: usize) -> Result<String, Alloc
     Ok(out)
 }
 
-/// Writes the attributes of an element `svg` of this size, and the end of its tag.
-fn push_size(out: &mut String, width: usize, height: usize) -> Result<(), AllocError> {
+/// Writes the beginning of an element `svg` of this size.
+fn push_head(out: &mut String, width: usize, height: usize) -> Result<(), AllocError>
+    ensures { OnOk result (string_bytes out.new ≡ string_bytes out.old ++ head_text width height) }
+{
     writeln!(
         out,
-        "xmlns='http://www.w3.org/2000/svg' width='{width}' height='{height}' viewBox='0 0 {width} {height}'>"
+        "<svg xmlns='http://www.w3.org/2000/svg' width='{width}' height='{height}' viewBox='0 0 {width} {height}'>"
     )
-}
-
-/// The text of an element `svg` with this behind the name.
-fn enclosed(alloc: Global, inside: &str) -> Result<String, AllocError>
-    ensures { IfOk result (λ text. IsSvg (string_bytes text)) }
-{
-    let mut out = String::from_str(alloc, "<svg ")?;
-    out.push_str(inside)?;
-    out.push_str("</svg>\n")?;
-    Ok(out)
 }

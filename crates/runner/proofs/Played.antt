@@ -16,7 +16,7 @@ use Rattle.scenario.specs.declared.scenario.Step.{Step}
 use Rattle.runner.specs.Orders.{CarriesOut, BringsBack, HoldsJob, MakesCall, Position, beginning, held_for, with_entry, without_job, world_at}
 use Rattle.runner.specs.Results.{results_text}
 use Rattle.runner.specs.Inside.{ArePlayed, IsPlayed}
-use Rattle.runner.specs.Run.{IsCut, IsRun, RunsThrough, refused_text}
+use Rattle.runner.specs.Run.{AreCarriedOut, IsCut, IsRun, RunsThrough, refused_text}
 
 -- an order keeps the images
 
@@ -82,39 +82,45 @@ played-more at mid next steps step old so new are is = (
   is.2 ∙ ap (λ ls. ls ++ refused_text step.line is.0) are.2 ∙ append_assoc old are.0 (refused_text step.line is.0),
 )
 
--- all of them, from the beginning on, and what a session came to
-pub played-run : (names : List (List ℕ)) (images : List Typed) (first end : Position) (steps : List Step) (old mid new : List ℕ) → first ≡ beginning images
-    → ArePlayed steps first end old mid → Legal (length end.images) (handlers_of end.images) end.entries → new ≡ mid ++ results_text names end.images end.entries
+-- all of them, from the beginning on
+pub played-out : (images : List Typed) (end : Position) (steps : List Step) (old mid : List ℕ)
+    → (played : ArePlayed steps (beginning images) end old mid) → Legal (length end.images) (handlers_of end.images) end.entries
+    → AreCarriedOut images steps played.0 end.entries
+played-out images end steps old mid played legal =
+    let same : end.images ≡ images = runs-images (beginning images) steps played.0 end played.1 in
+    record {
+      end = end;
+      leads = played.1;
+      accepted = refl;
+      legal = subst (λ (is : List Typed). Legal (length is) (handlers_of is) end.entries) same legal;
+    }
+
+-- and what a session came to
+pub played-run : (names : List (List ℕ)) (images : List Typed) (end : Position) (steps : List Step) (old mid new : List ℕ)
+    → ArePlayed steps (beginning images) end old mid → Legal (length end.images) (handlers_of end.images) end.entries → new ≡ mid ++ results_text names end.images end.entries
     → IsRun names images steps old new
-played-run names images first end steps old mid new begins played legal text =
-    let same : end.images ≡ images = runs-images first steps played.0 end played.1 ∙ ap (λ (p : Position). p.images) begins in
+played-run names images end steps old mid new played legal text =
+    let same : end.images ≡ images = runs-images (beginning images) steps played.0 end played.1 in
     record {
       lines = played.0;
-      end = end;
-      leads = subst (λ (p : Position). RunsThrough p steps played.0 end) begins played.1;
-      legal = subst (λ (is : List Typed). Legal (length is) (handlers_of is) end.entries) same legal;
+      entries = end.entries;
+      carried = played-out images end steps old mid played legal;
       text = text ∙ ap (λ (m : List ℕ). m ++ results_text names end.images end.entries) played.2
           ∙ append_assoc old played.0 (results_text names end.images end.entries)
           ∙ ap (λ (is : List Typed). old ++ (played.0 ++ results_text names is end.entries)) same;
     }
 
 -- and the first of them alone
-pub played-cut : (images : List Typed) (first end : Position) (steps : List Step) (count : ℕ) (old new : List ℕ) → first ≡ beginning images
-    → ArePlayed (take count steps) first end old new → IsCut images steps old new
-played-cut images first end steps count old new begins played =
-    record {
-      count = count;
-      lines = played.0;
-      end = end;
-      leads = subst (λ (p : Position). RunsThrough p (take count steps) played.0 end) begins played.1;
-      text = played.2;
-    }
+pub played-cut : (images : List Typed) (end : Position) (steps : List Step) (count : ℕ) (old new : List ℕ)
+    → ArePlayed (take count steps) (beginning images) end old new → IsCut images steps old new
+played-cut images end steps count old new played =
+    record { count = count; lines = played.0; end = end; leads = played.1; text = played.2 }
 
-pub played-all : (images : List Typed) (first end : Position) (steps : List Step) (old new : List ℕ) → first ≡ beginning images
-    → ArePlayed steps first end old new → IsCut images steps old new
-played-all images first end steps old new begins played =
+pub played-all : (images : List Typed) (end : Position) (steps : List Step) (old new : List ℕ)
+    → ArePlayed steps (beginning images) end old new → IsCut images steps old new
+played-all images end steps old new played =
     let whole : take (length steps) steps ≡ steps = take_all (length steps) steps (omega arith) in
-    played-cut images first end steps (length steps) old new begins (subst (λ (xs : List Step). ArePlayed xs first end old new) (sym whole) played)
+    played-cut images end steps (length steps) old new (subst (λ (xs : List Step). ArePlayed xs (beginning images) end old new) (sym whole) played)
 
 -- a refusal with another cause than want of memory has its number
 pub cause-number : (r : Refusal) → (r ≡ refusals.Memory → ⊥) → cause_of r ≡ Some (number_of r)

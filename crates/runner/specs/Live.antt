@@ -1,45 +1,13 @@
--- What workers leave of a scenario, and what they are fed with.
-use Rattle.std.specs.Prelude.{◌≡◌, ◌≢◌, ℕ, ◌+◌, List, [], ◌∷◌, ◌++◌, length, Option, Some, None}
+-- What workers leave of a scenario.
+use Rattle.std.specs.Prelude.{◌≡◌, ℕ, List, ◌++◌, length}
 use Rattle.verifier.specs.Typed.{Typed}
 use Rattle.world.specs.declared.entry.Entry.{Entry}
-use Rattle.world.specs.declared.message.Feed.{Feed}
 use Rattle.world.specs.Fold.{handlers_of}
 use Rattle.world.specs.Legal.{Legal}
-use Rattle.world.specs.declared.refusal.Refusal.TheVariants.{Memory}
-use Rattle.sessions.specs.declared.share.Share.{Share}
-use Rattle.sessions.specs.declared.share.End.TheVariants.{Refused}
-use Rattle.scenario.specs.declared.order.Order.{Order}
-use Rattle.scenario.specs.declared.order.Order.TheVariants.{Input, Bytes}
-use Rattle.scenario.specs.declared.scenario.Step.{Step}
 use Rattle.runner.specs.Results.{results_text}
-use Rattle.runner.specs.Word.{message_word}
 
 -- the text has the trace and the report of a legal journal of these images more
 pub record IsLive (names : List (List ℕ)) (images : List Typed) (before after : List ℕ) : Type 0 where
   pub entries : List Entry
   pub legal : Legal (length images) (handlers_of images) entries
   pub text : after ≡ before ++ results_text names images entries
-
--- memory didn't run out for a worker
-abbrev pub HasMemory : {L : Type 0} → Share L → Type 0
-HasMemory share = share.end ≢ Refused Memory
-
--- the message that an order hands in, with this number
-abbrev pub feed_of : ℕ → Order → Option Feed
-feed_of number (Input to word) = Some (record { number = number; dst = to; payload = message_word word })
-feed_of number (Bytes to payload) = Some (record { number = number; dst = to; payload = payload })
-feed_of number order = None
-
--- the message of a line behind those of the lines before it
-abbrev pub with_feed : List Feed → Option Feed → List Feed
-with_feed feeds None = feeds
-with_feed feeds (Some feed) = feeds ++ feed ∷ []
-
--- the messages of these steps behind those of the steps before them, each with the next number
-abbrev pub feeds_after : List Feed → List Step → List Feed
-feeds_after feeds [] = feeds
-feeds_after feeds (x ∷ xs) = feeds_after (with_feed feeds (feed_of (length feeds + 1) x.order)) xs
-
--- the messages of all steps, numbered from 1
-abbrev pub feeds_of : List Step → List Feed
-feeds_of steps = feeds_after [] steps

@@ -1,6 +1,7 @@
 -- What a run of a scenario writes (docs/FORMATS.md, "Carrying out").
 use Rattle.std.specs.Prelude.{◌≡◌, ℕ, List, [], ◌∷◌, ◌++◌, codes, decimal, length, take, Option, Some, None}
 use Rattle.verifier.specs.Typed.{Typed}
+use Rattle.world.specs.declared.entry.Entry.{Entry}
 use Rattle.world.specs.Fold.{handlers_of}
 use Rattle.world.specs.Legal.{Legal}
 use Rattle.scenario.specs.declared.scenario.Step.{Step}
@@ -19,13 +20,23 @@ RunsThrough old (step ∷ steps) lines new =
     (next : Position) × (refused : Option ℕ) × (rest : List ℕ)
     × CarriesOut old step.order next refused × RunsThrough next steps rest new × (lines ≡ refused_text step.line refused ++ rest)
 
--- all orders are carried out from the beginning on, and behind the old text stand the refused lines, the trace and the report
-pub record IsRun (names : List (List ℕ)) (images : List Typed) (steps : List Step) (old new : List ℕ) : Type 0 where
-  pub lines : List ℕ
+-- all orders are carried out from the beginning on: the refused ones have these lines, and these calls were accepted
+pub record AreCarriedOut (images : List Typed) (steps : List Step) (lines : List ℕ) (entries : List Entry) : Type 0 where
   pub end : Position
   pub leads : RunsThrough (beginning images) steps lines end
-  pub legal : Legal (length images) (handlers_of images) end.entries
-  pub text : new ≡ old ++ (lines ++ results_text names images end.entries)
+  pub accepted : entries ≡ end.entries
+  pub legal : Legal (length images) (handlers_of images) entries
+
+-- the orders lead to this journal
+abbrev pub IsJournal : List Typed → List Step → List Entry → Type 0
+IsJournal images steps entries = (lines : List ℕ) × AreCarriedOut images steps lines entries
+
+-- all orders are carried out, and behind the old text stand the refused lines, the trace and the report
+pub record IsRun (names : List (List ℕ)) (images : List Typed) (steps : List Step) (old new : List ℕ) : Type 0 where
+  pub lines : List ℕ
+  pub entries : List Entry
+  pub carried : AreCarriedOut images steps lines entries
+  pub text : new ≡ old ++ (lines ++ results_text names images entries)
 
 -- so many of the first orders are carried out, and behind the old text stand the refused lines alone
 pub record IsCut (images : List Typed) (steps : List Step) (old new : List ℕ) : Type 0 where

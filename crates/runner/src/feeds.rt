@@ -1,7 +1,7 @@
 //! Messages of the outside, as lines hand them in.
 
 ghost use Rattle.std.specs.Prelude.{◌≡◌, ◌+◌, IfOk, OnOk, length};
-ghost use Rattle.runner.specs.Live.{feed_of, feeds_of, with_feed};
+ghost use Rattle.runner.specs.Inside.{feed_of, feeds_of, with_feed};
 
 use crate::word::payload_of;
 use scenario::{Order, Step};

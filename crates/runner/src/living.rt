@@ -7,7 +7,8 @@ ghost use Rattle.scenario.specs.Process.{names_of};
 ghost use Rattle.sessions.specs.Journal.{IsLegal};
 ghost use Rattle.sessions.specs.Seats.{new_seats};
 ghost use Rattle.workers.specs.Running.{CanRun};
-ghost use Rattle.runner.specs.Live.{HasMemory, IsLive};
+ghost use Rattle.runner.specs.Inside.{HasMemory};
+ghost use Rattle.runner.specs.Live.{IsLive};
 ghost use Rattle.runner.specs.Results.{results_text};
 
 use crate::feeds::feeds_of;

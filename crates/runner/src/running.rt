@@ -1,12 +1,12 @@
 //! Runs of a scenario.
 
-ghost use Rattle.std.specs.Prelude.{◌≡◌, ◌≢◌, ◌++◌, ℕ, IfErr, OnErr, OnOk, Some, length, map, string_bytes, take};
+ghost use Rattle.std.specs.Prelude.{◌≡◌, ◌≢◌, ◌++◌, ℕ, IfErr, IfOk, OnErr, OnOk, Some, length, map, string_bytes, take};
 ghost use Rattle.std.specs.Arc.{arc_value};
 ghost use Rattle.machine.specs.Opening.{AreFew};
 ghost use Rattle.scenario.specs.Process.{names_of};
-ghost use Rattle.runner.specs.Orders.{Position};
+ghost use Rattle.runner.specs.Orders.{Position, beginning};
 ghost use Rattle.runner.specs.Inside.{ArePlayed, IsPlayed, position_of};
-ghost use Rattle.runner.specs.Run.{IsCut, IsRun, refused_text};
+ghost use Rattle.runner.specs.Run.{IsCut, IsJournal, IsRun, refused_text};
 
 use crate::player::Player;
 use crate::results::push_results;
@@ -16,7 +16,7 @@ use std::marker::Brand;
 use std::sync::Arc;
 use std::sync::ledger::{Blank, Ledger};
 use verifier::Image;
-use world::Refusal;
+use world::{Entry, Refusal};
 
 /// Writes that the order of a line was refused, with the refusal's number. Where memory runs out,
 /// nothing is written.
@@ -56,7 +56,26 @@ impl<L: Ledger> Player<L> {
     }
 }
 
-// Carries out the orders in a session of this ledger.
+// Carries out the orders in a session of this ledger, and answers where they led.
+fn played<L: Ledger>(
+    alloc: Global,
+    blank: Blank,
+    steps: &[Step],
+    images: Vec<Arc<Image>>,
+    out: &mut String,
+) -> Result<Player<L>, AllocError>
+    requires name { blank.name ≡ L.name }
+    requires parts { (blank.parts ≡ L.parts) × (blank.parts ≡ 17) }
+    requires few { AreFew (map arc_value images.items) }
+    ensures done { IfOk result (λ player. ArePlayed steps.now (beginning (map arc_value images.items)) (position_of player) (string_bytes out.old) (string_bytes out.new)) }
+    ensures short { OnErr result (IsCut (map arc_value images.items) steps.now (string_bytes out.old) (string_bytes out.new)) }
+{
+    let mut player: Player<L> = Player::open(alloc, blank, images)?;
+    player.play(alloc, steps, out)?;
+    Ok(player)
+}
+
+// Carries out the orders in a session of this ledger, and writes what it came to.
 fn run_in<L: Ledger>(
     alloc: Global,
     blank: Blank,
@@ -71,8 +90,7 @@ fn run_in<L: Ledger>(
     ensures done { OnOk result (IsRun (names_of scenario.now.processes) (map arc_value images.items) scenario.now.steps.items (string_bytes out.old) (string_bytes out.new)) }
     ensures short { OnErr result (IsCut (map arc_value images.items) scenario.now.steps.items (string_bytes out.old) (string_bytes out.new)) }
 {
-    let mut player: Player<L> = Player::open(alloc, blank, images)?;
-    player.play(alloc, scenario.steps.as_slice(), out)?;
+    let player: Player<L> = played(alloc, blank, scenario.steps.as_slice(), images, out)?;
     // The journal is told to be legal.
     let _journal = player.session.journal();
     push_results(alloc, out, &scenario.processes, &player.session)
@@ -94,4 +112,35 @@ pub fn run(
     ensures short { OnErr result (IsCut (map arc_value images.items) scenario.now.steps.items (string_bytes out.old) (string_bytes out.new)) }
 {
     run_in::<Brand>(alloc, Blank::new(17), scenario, images, out)
+}
+
+// The calls that are accepted where the orders are carried out in a session of this ledger.
+fn journal_in<L: Ledger>(
+    alloc: Global,
+    blank: Blank,
+    steps: &[Step],
+    images: Vec<Arc<Image>>,
+) -> Result<Vec<Entry>, AllocError>
+    requires name { blank.name ≡ L.name }
+    requires parts { (blank.parts ≡ L.parts) × (blank.parts ≡ 17) }
+    requires few { AreFew (map arc_value images.items) }
+    ensures { IfOk result (λ v. IsJournal (map arc_value images.items) steps.now v.items) }
+{
+    let mut lines = String::new(alloc);
+    let player: Player<L> = played(alloc, blank, steps, images, &mut lines)?;
+    let entries = player.session.journal().to_vec(alloc)?;
+    Ok(entries)
+}
+
+/// The calls that are accepted, with their answers, where the orders of a scenario are carried out as
+/// [`run`] does it, in a session of these images, 1 to 15. Only memory can run out.
+pub fn journal_of(
+    alloc: Global,
+    scenario: &Scenario,
+    images: Vec<Arc<Image>>,
+) -> Result<Vec<Entry>, AllocError>
+    requires { AreFew (map arc_value images.items) }
+    ensures { IfOk result (λ v. IsJournal (map arc_value images.items) scenario.now.steps.items v.items) }
+{
+    journal_in::<Brand>(alloc, Blank::new(17), scenario.steps.as_slice(), images)
 }

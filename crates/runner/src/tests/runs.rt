@@ -3,8 +3,8 @@
 ghost use Rattle.std.specs.Prelude.{◌≡◌, IfOk, length};
 
 use super::{ADDER, image};
-use crate::run;
-use scenario::{Allowed, parse};
+use crate::{journal_of, run};
+use scenario::{Allowed, parse, trace_text};
 use std::alloc::Global;
 use std::sync::Arc;
 use std::test::Fail;
@@ -170,13 +170,16 @@ fn adders(alloc: Global, count: usize) -> Result<Vec<Arc<Image>>, Fail>
     Ok(images)
 }
 
-/// Whether the run of a scenario of adders writes this.
+/// Whether the run of a scenario of adders writes this, and its journal has this trace.
 fn writes(alloc: Global, case: &[&str; 2]) -> Result<bool, Fail> {
     let scenario = parse(alloc, case[0], Allowed::All)?;
-    let images = adders(alloc, scenario.processes.len())?;
+    let count = scenario.processes.len();
     let mut out = String::new(alloc);
-    run(alloc, &scenario, images, &mut out)?;
-    Ok(out.as_str() == case[1])
+    run(alloc, &scenario, adders(alloc, count)?, &mut out)?;
+    let entries = journal_of(alloc, &scenario, adders(alloc, count)?)?;
+    let trace = trace_text(alloc, entries.as_slice())?;
+    let report = case[1].split(trace.as_str()).nth(1).unwrap_or("");
+    Ok(out.as_str() == case[1] && report.starts_with("process a "))
 }
 
 #[test]

@@ -1,5 +1,5 @@
 use Rattle.std.proofs.Common.{◌≡◌, drop}
-use Rattle.runner.specs.Live.{feeds_after, feeds_of}
+use Rattle.runner.specs.Inside.{feeds_after, feeds_of}
 use Rattle.runner.proofs.feeds.feeds_of.Given as goal
 
 abbrev pub invariant-loop-step : goal.invariant-loop-step
