@@ -20,7 +20,8 @@ enum sblog_code {
     SBLOG_MESSAGE = 6, /* no whole messages of 64 bytes */
     SBLOG_WHO = 7,     /* numbers of processes out of range */
     SBLOG_ROOM = 8,    /* the buffer for the answer is too short */
-    SBLOG_FORM = 9     /* the file is an SBI2, which these functions only check */
+    SBLOG_FORM = 9,    /* the image is an SBI2, which these functions only check */
+    SBLOG_HANDLE = 10  /* the handle is null */
 };
 
 enum { SBLOG_MESSAGE_SIZE = 64, SBLOG_FAULT_SIZE = 16, SBLOG_REPORT_LIMIT = 1064 };
@@ -36,6 +37,23 @@ uint32_t sblog_call(const uint8_t *file, size_t file_len, uint8_t *state, size_t
 uint32_t sblog_call_many(const uint8_t *file, size_t file_len, uint8_t *state, size_t state_len,
                          const uint8_t *messages, size_t messages_len, uint8_t me, uint8_t from,
                          uint8_t count, uint8_t *reports, size_t reports_len);
+
+/* An image that was checked once. A handle is null, or came out of sblog_open and wasn't closed since. It
+   is given to one call at a time. */
+typedef struct sblog_handle sblog_handle;
+
+/* Checks a file, and makes the handle stand for its image; null where the file is refused. */
+uint32_t sblog_open(const uint8_t *file, size_t file_len, sblog_handle **handle);
+
+/* How many bytes the state has; 0 for a null handle. */
+size_t sblog_state_len(sblog_handle *handle);
+
+uint32_t sblog_run(sblog_handle *handle, uint8_t *state, size_t state_len, const uint8_t *messages,
+                   size_t messages_len, uint8_t me, uint8_t from, uint8_t count, uint8_t *reports,
+                   size_t reports_len);
+
+/* Gives the memory of the image back; of a null handle there is none. */
+void sblog_close(sblog_handle *handle);
 
 /* A number of a report or of a fault: eight bytes, the lowest first. */
 static inline uint64_t sblog_number(const uint8_t *at) {

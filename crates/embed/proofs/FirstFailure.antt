@@ -39,7 +39,7 @@ from_file file state who whole room why (inr (t, inl f)) =
 from_file file state who whole room why (inr (t, inr p)) =
     passes file state who whole room OfFile _ why t (passes file state who whole room OfForm _ why p.0 (stops file state who whole room OfState _ why p.1))
 
-no_image : (file state : List ℕ) (who : Who) (whole room : Type 0) (why : Refusal) → IsSeat who → whole → room → IsUnopened file state why → FailsFirst file state who whole room order why
+pub no_image : (file state : List ℕ) (who : Who) (whole room : Type 0) (why : Refusal) → IsSeat who → whole → room → IsUnopened file state why → FailsFirst file state who whole room order why
 no_image file state who whole room why s w r f =
     passes file state who whole room OfSeat _ why s (passes file state who whole room OfMessages _ why w (passes file state who whole room OfRoom _ why r (from_file file state who whole room why f)))
 

@@ -2,3 +2,8 @@ pub mod Overwritten
 pub mod Reports
 pub mod Calls
 pub mod FirstFailure
+pub mod Lent
+pub mod Loosened
+pub mod OpenedValue
+pub mod Laid
+pub mod AsByFile

@@ -13,7 +13,7 @@ use Rattle.verifier.specs.FaultNumbers.{header_fault_number}
 use Rattle.verifier.specs.ImageFile.{IsRefusal}
 use Rattle.operations.specs.Bytes.{overwritten}
 use Rattle.embed.specs.declared.refusal.Refusal.{Refusal}
-use Rattle.embed.specs.declared.refusal.Refusal.TheVariants.{Image, State, Message, Who as NotSeat, Room, Form}
+use Rattle.embed.specs.declared.refusal.Refusal.TheVariants.{Image, State, Message, Who as NotSeat, Room, Form, Handle}
 use Rattle.embed.specs.Layout.{fault_bytes}
 use Rattle.embed.specs.Calls.{IsTypableFile, IsSeat, IsReported, AreReported}
 
@@ -26,7 +26,7 @@ error_number (error.Header fault) = 2
 error_number (error.Decode rule slot) = 3
 error_number (error.Verify rule slot) = 4
 
--- the code of a refusal, 1 to 9
+-- the code of a refusal, 1 to 10
 abbrev pub refusal_number : Refusal → ℕ
 refusal_number (Image e) = error_number e
 refusal_number State = 5
@@ -34,6 +34,7 @@ refusal_number Message = 6
 refusal_number NotSeat = 7
 refusal_number Room = 8
 refusal_number Form = 9
+refusal_number Handle = 10
 
 -- the broken rule, 0 where there is none
 abbrev pub refused_rule : ImageError → ℕ
@@ -73,6 +74,7 @@ IsUnchecked file out written Message = ⊥
 IsUnchecked file out written NotSeat = ⊥
 IsUnchecked file out written Room = (length out < 16) × (written ≡ out)
 IsUnchecked file out written Form = ⊥
+IsUnchecked file out written Handle = ⊥
 
 -- calls by whole messages, with room for their reports, are done on a state as long as the file says, by its code, which
 -- is of form 1

@@ -1,3 +1,4 @@
 pub mod Layout
 pub mod Calls
 pub mod Exports
+pub mod Handles

@@ -9,6 +9,8 @@ ghost use Rattle.interp.specs.Flat.{part, Holds, entry_in, IsSpent};
 ghost use Rattle.embed.specs.Calls.{IsTypableFile, IsSeat, IsReported, AreReported};
 ghost use Rattle.embed.specs.Exports.{IsChecked, IsUnchecked, IsTypable, IsFileRefusal, IsCallable, IsFormRefusal, IsStateRefusal, IsCalled, IsCallRefusal, AreCalled, AreCallsRefused};
 
+use crate::bytes::put;
+use crate::handler::Handler;
 use crate::refusal::{Refusal, refused_rule, refused_slot};
 use crate::report::{FAULT_SIZE, REPORT_LIMIT, put_fault, put_report};
 use helpers::{Effects, Who};
@@ -18,7 +20,7 @@ use std::alloc::Global;
 use verifier::{Image, load};
 
 /// How many bytes a message has.
-const MESSAGE: usize = 64;
+pub const MESSAGE: usize = 64;
 
 /// Checks a file. The rule and the slot of a refusal are written into `out`.
 pub fn check(alloc: Global, file: &[u8], out: &mut [u8]) -> Result<(), Refusal>
@@ -38,7 +40,7 @@ pub fn check(alloc: Global, file: &[u8], out: &mut [u8]) -> Result<(), Refusal>
 
 /// Whether a process can be called so: its number is 1 to the count, which is at most 15, and the
 /// sender is another process or the outside.
-fn is_seat(who: Who) -> bool
+pub fn is_seat(who: Who) -> bool
     ensures { IsTrue result ↔ IsSeat who }
 {
     1 <= who.me
@@ -103,26 +105,46 @@ fn message_at(messages: &[u8], at: usize) -> &[u8]
     &messages[at..at + MESSAGE]
 }
 
+/// Lays the state into an array in which no call is under way.
+fn lay(image: &Image, mem: &mut [u8; 1792], state: &[u8])
+    requires state { length state.now ≡ image.now.len }
+    requires spent { IsSpent 64 image.now.len image.now.low mem.old }
+    ensures state { part 64 image.now.len region.State mem.new ≡ state.now }
+    ensures spent { IsSpent 64 image.now.len image.now.low mem.new }
+{
+    let _low = image.low();
+    let _len = image.state_len();
+    put(mem, 256, state);
+}
+
 /// Calls the handler by one message after another, and writes the reports from the front on. The
-/// state stays in one array for all calls.
-fn call_each(image: &Image, state: &mut [u8], messages: &[u8], who: Who, out: &mut [u8])
+/// state stays in one array for all calls, which goes from one run of calls to the next.
+pub fn call_each(
+    image: &Image,
+    mem: &mut [u8; 1792],
+    effects: &mut Effects,
+    state: &mut [u8],
+    messages: &[u8],
+    who: Who,
+    out: &mut [u8],
+)
     requires form { image.now.form ≡ Sbi1 }
+    requires spent { IsSpent 64 image.now.len image.now.low mem.old }
     requires state { length state.old ≡ image.now.len }
     requires whole { length messages.now % 64 ≡ 0 }
     requires room { 1064 * (length messages.now / 64) ≤ length out.old }
-    ensures { AreReported image.now.form image.now.slots who state.old messages.now state.new out.old out.new }
+    ensures reported { AreReported image.now.form image.now.slots who state.old messages.now state.new out.old out.new }
+    ensures spent { IsSpent 64 image.now.len image.now.low mem.new }
 {
     let _len = image.state_len();
-    let mut mem = [0; 1792];
-    fill(image, &mut mem, &[0; 64], state);
-    let mut effects = Effects::new();
+    lay(image, mem, state);
     let mut end = 0;
     'calls: for i in 0..messages.len() / MESSAGE {
         let message = message_at(messages, MESSAGE * i);
-        refill(image, &mut mem, MESSAGE, message);
-        end = call_once(image, &mut mem, who, &mut effects, out, end);
+        refill(image, mem, MESSAGE, message);
+        end = call_once(image, mem, who, effects, out, end);
     }
-    take(&mem, state);
+    take(mem, state);
 }
 
 /// Loads a file and calls its handler by one message. The report is written into `out`.
@@ -182,6 +204,7 @@ pub fn call_many(
         return Err(Refusal::Room);
     }
     let image = open(alloc, file, state)?;
-    call_each(&image, state, messages, who, out);
+    let mut handler = Handler::new(image);
+    handler.call_each(state, messages, who, out);
     Ok(())
 }

@@ -1,27 +1,40 @@
 //! Images for programs in C and Rust: a static library that checks an image file and calls its
 //! handler.
 //!
-//! [`exports`] has the functions that cross: numbers and slices of bytes go in, a code comes out,
-//! and what a call emits is written into a buffer of the caller's. Nothing is asked of a caller
-//! that isn't tested: each unfit argument has a code of its own. docs/EMBEDDING.md describes the
-//! functions and the bytes.
+//! [`exports`] and [`handles`] have the functions that cross: numbers and slices of bytes go in, a
+//! code comes out, and what a call emits is written into a buffer of the caller's. Each unfit
+//! argument has a code of its own, but for a handle that was closed, which no function can tell.
+//! docs/EMBEDDING.md describes the functions and the bytes.
 //!
 //! The promise: code 0 says that the file is that of an image, that its handler was called, and
 //! that state and buffer hold what the call left by the definition of a handler call; any other
 //! code says which fault there is, and that state and buffer are unchanged. `sblog_check` alone
-//! writes the rule and the slot of a refusal.
+//! writes the rule and the slot of a refusal. A handle stands for the image of the file that was
+//! opened, and owns its memory until it is closed.
 //!
 //! ```c
 //! uint8_t state[8] = {0}, message[64] = {5}, report[SBLOG_REPORT_LIMIT];
 //! uint32_t code = sblog_call(adder, 56, state, 8, message, 64, 1, 0, 1, report, sizeof report);
 //! /* code is 0, and the state is 5 */
+//! sblog_handle *handle = NULL;
+//! code = sblog_open(adder, 56, &handle);
+//! code = sblog_run(handle, state, 8, message, 64, 1, 0, 1, report, sizeof report);
+//! /* code is 0, and the state is 10 */
+//! sblog_close(handle);
 //! ```
 #![tactic(auto)]
 
 mod bytes;
 mod calling;
 mod exports;
+mod handler;
+mod handles;
+mod loose;
+mod opening;
 mod refusal;
 mod report;
+mod running;
 #[cfg(test)]
 mod tests;
+
+pub use running::runs_are_calls;

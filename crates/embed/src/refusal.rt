@@ -20,10 +20,12 @@ pub enum Refusal {
     Room,
     /// 9: the file is of form 2, whose messages and payloads have lengths.
     Form,
+    /// 10: the handle is null.
+    Handle,
 }
 
 impl Refusal {
-    /// Its number, 1 to 9.
+    /// Its number, 1 to 10.
     pub fn number(&self) -> u32
         ensures { result ≡ refusal_number self.now }
     {
@@ -37,6 +39,7 @@ impl Refusal {
             Refusal::Who => 7,
             Refusal::Room => 8,
             Refusal::Form => 9,
+            Refusal::Handle => 10,
         }
     }
 }

@@ -1,11 +1,14 @@
 //! Images worked out by hand, and what their calls leave.
 
 use crate::calling::{call, call_many, check};
+use crate::handler::Handler;
 use crate::refusal::Refusal;
 use crate::report::REPORT_LIMIT;
+use crate::running::run;
 use helpers::Who;
 use std::alloc::Global;
 use std::test::Fail;
+use verifier::load;
 
 // r3 = message[0..8]; r4 = state[0..8]; r4 += r3; state[0..8] = r4; r0 = 0; exit
 const ADDER: [u8; 56] = [
@@ -226,5 +229,66 @@ fn longest_state(rt: HostRuntime) -> Result<(), Fail> {
     assert_eq!(rt; code, 0);
     assert_eq!(rt; out[8], 2);
     assert_eq!(rt; state[1023], 9);
+    Ok(())
+}
+
+/// The code of a run by so many bytes of zeros as messages, on so long a state, with so much room.
+fn run_code(
+    alloc: Global,
+    handler: &mut Handler,
+    lens: (usize, usize, usize),
+    who: Who,
+) -> Result<u32, Fail> {
+    let (state, messages, room) = lens;
+    let mut state = Vec::from_elem(alloc, 3u8, state)?;
+    let messages = Vec::from_elem(alloc, 0u8, messages)?;
+    let mut room = Vec::from_elem(alloc, 7u8, room)?;
+    Ok(run(
+        handler, &mut state, &messages, who.me, who.from, who.count, &mut room,
+    ))
+}
+
+// Of the faults of a run the first is told, in the order process, messages, room, form, state.
+#[test]
+fn faults_of_runs(rt: HostRuntime) -> Result<(), Fail> {
+    let alloc = rt.alloc();
+    let mut adder = Handler::new(load(alloc, &ADDER)?);
+    let mut second = Handler::new(load(alloc, &FORM_2)?);
+    let nobody = Who { from: 1, ..CALLED };
+    for (lens, who, code, of_second) in [
+        ((9, 63, 1063), nobody, 7, 7),
+        ((9, 63, 1063), CALLED, 6, 6),
+        ((9, 64, 1063), CALLED, 8, 8),
+        ((9, 192, 3191), CALLED, 8, 8),
+        ((9, 64, 1064), CALLED, 5, 9),
+        ((8, 64, 1064), CALLED, 0, 9),
+        ((8, 0, 0), CALLED, 0, 9),
+    ] {
+        assert_eq!(rt; run_code(alloc, &mut adder, lens, who)?, code);
+        assert_eq!(rt; run_code(alloc, &mut second, lens, who)?, of_second);
+    }
+    Ok(())
+}
+
+#[test]
+fn two_runs(rt: HostRuntime) -> Result<(), Fail> {
+    let mut handler = Handler::new(load(rt.alloc(), &ADDER)?);
+    assert_eq!(rt; handler.state_len(), 8);
+    let mut state = [0u8; 8];
+    let mut messages = [0u8; 128];
+    messages[0] = 5;
+    messages[64] = 6;
+    let mut out = [7u8; 2128];
+    assert_eq!(rt;
+        run(&mut handler, &mut state, &messages, 1, 0, 2, &mut out),
+        0
+    );
+    assert_eq!(rt;
+        run(&mut handler, &mut state, &messages[64..], 1, 0, 2, &mut out),
+        0
+    );
+    assert_eq!(rt; state, [17, 0, 0, 0, 0, 0, 0, 0]);
+    assert_eq!(rt; out[40], 6);
+    assert_eq!(rt; out[64], 7);
     Ok(())
 }

@@ -6,9 +6,33 @@ mod plain;
 
 use image::{Insn, Size, file_of};
 use std::hint::black_box;
+use std::ptr::null_mut;
 use std::time::Instant;
 
+/// What a handle points to.
+#[repr(C)]
+struct Opaque {
+    _byte: u8,
+}
+
 unsafe extern "C" {
+    fn sblog_open(file: *const u8, file_len: usize, handle: *mut *mut Opaque) -> u32;
+
+    fn sblog_run(
+        handle: *mut Opaque,
+        state: *mut u8,
+        state_len: usize,
+        messages: *const u8,
+        messages_len: usize,
+        me: u8,
+        from: u8,
+        count: u8,
+        reports: *mut u8,
+        reports_len: usize,
+    ) -> u32;
+
+    fn sblog_close(handle: *mut Opaque);
+
     fn sblog_check(file: *const u8, file_len: usize, fault: *mut u8, fault_len: usize) -> u32;
 
     fn sblog_call_many(
@@ -40,6 +64,32 @@ fn call_many(file: &[u8], state: &mut [u8], messages: &[u8], reports: &mut [u8])
         sblog_call_many(
             file.as_ptr(),
             file.len(),
+            state.as_mut_ptr(),
+            state.len(),
+            messages.as_ptr(),
+            messages.len(),
+            1,
+            0,
+            2,
+            reports.as_mut_ptr(),
+            reports.len(),
+        )
+    }
+}
+
+fn opened(file: &[u8]) -> *mut Opaque {
+    let mut handle = null_mut();
+    assert_eq!(
+        unsafe { sblog_open(file.as_ptr(), file.len(), &mut handle) },
+        0
+    );
+    handle
+}
+
+fn run(handle: *mut Opaque, state: &mut [u8], messages: &[u8], reports: &mut [u8]) -> u32 {
+    unsafe {
+        sblog_run(
+            handle,
             state.as_mut_ptr(),
             state.len(),
             messages.as_ptr(),
@@ -131,6 +181,59 @@ fn measure(name: &str, code: &[Insn]) {
     );
 }
 
+/// Calls the handler a thousand times a round, by its file and by a handle: all messages at once, and
+/// one by one. The ways take turns, round by round. Prints nanoseconds a call, the shortest of the
+/// rounds, and how they compare with `sblog_call_many`.
+fn measure_handle(name: &str, code: &[Insn]) {
+    let file = file_of(STATE as u16, code);
+    let messages = messages();
+    let mut reports = vec![0u8; MESSAGES * 1064];
+    let handle = opened(&file);
+
+    // all three leave the same
+    let mut states = [vec![0u8; STATE], vec![0u8; STATE], vec![0u8; STATE]];
+    let [by_file, at_once, one_by_one] = &mut states;
+    assert_eq!(call_many(&file, by_file, &messages, &mut reports), 0);
+    assert_eq!(run(handle, at_once, &messages, &mut reports), 0);
+    for message in messages.chunks_exact(64) {
+        assert_eq!(run(handle, one_by_one, message, &mut reports), 0);
+    }
+    assert!(
+        by_file == at_once && by_file == one_by_one,
+        "{name}: the states differ"
+    );
+
+    let mut least = [f64::MAX; 3];
+    for _ in 0..ROUNDS {
+        let (many, _) = timed(1, || {
+            black_box(call_many(
+                &file,
+                black_box(by_file),
+                &messages,
+                &mut reports,
+            ));
+        });
+        let (all, _) = timed(1, || {
+            black_box(run(handle, black_box(at_once), &messages, &mut reports));
+        });
+        let (each, _) = timed(1, || {
+            for message in messages.chunks_exact(64) {
+                black_box(run(handle, black_box(one_by_one), message, &mut reports));
+            }
+        });
+        for (shortest, nanos) in least.iter_mut().zip([many, all, each]) {
+            *shortest = shortest.min(nanos / MESSAGES as f64);
+        }
+    }
+    unsafe { sblog_close(handle) };
+    let [many, all, each] = least;
+    println!(
+        "{name:9} ns a call: {many:8.1} by sblog_call_many; by sblog_run {all:8.1} ({:.2} times) with all messages at once, {each:8.1} ({:.2} times) one by one",
+        all / many,
+        each / many
+    );
+}
+
 /// Checks an image of so many slots, and prints nanoseconds a slot.
 fn measure_check(slots: usize) {
     let file = file_of(STATE as u16, &image::arithmetic(slots));
@@ -148,15 +251,23 @@ fn measure_check(slots: usize) {
 }
 
 fn main() {
-    measure("two", &image::two());
-    measure("nothing", &image::nothing());
-    measure("arith", &image::arithmetic(400));
-    measure("divide", &image::division(400));
-    measure("memory", &image::memory(400, Size::Double));
-    measure("bytes", &image::memory(400, Size::Byte));
-    measure("branch", &image::branches(400));
-    measure("number", &image::calls(400, 3));
-    measure("output", &image::outputs(8));
+    let images = [
+        ("two", image::two()),
+        ("nothing", image::nothing()),
+        ("arith", image::arithmetic(400)),
+        ("divide", image::division(400)),
+        ("memory", image::memory(400, Size::Double)),
+        ("bytes", image::memory(400, Size::Byte)),
+        ("branch", image::branches(400)),
+        ("number", image::calls(400, 3)),
+        ("output", image::outputs(8)),
+    ];
+    for (name, code) in &images {
+        measure(name, code);
+    }
+    for (name, code) in &images {
+        measure_handle(name, code);
+    }
     for slots in [128, 256, 512, 1024] {
         measure_check(slots);
     }

@@ -1,4 +1,4 @@
-use Rattle.std.proofs.Common.{◌≡◌, rules, refl, sym, subst, ap, ◌∙◌, ◌+◌}
+use Rattle.std.proofs.Common.{◌≡◌, rules, sym, subst, ap, ◌∙◌, ◌+◌}
 use Rattle.std.specs.Prelude.{slice_range}
 use Rattle.std.proofs.lemmas.List.{take_all}
 use Rattle.regtypes.specs.declared.image_form.ImageForm.TheVariants.{Sbi1}

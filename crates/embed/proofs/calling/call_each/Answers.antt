@@ -14,10 +14,9 @@ calls-init c =
     let state = c.args.state.now in
     let messages = c.args.messages.now in
     let out = c.args.out.now in
-    let f = filled_with p.form 64 p.len state _ c.fill.new.mem c.fill.ensures.holds in
     record {
-      reported = subst (λ s. Reported p.form p.slots c.args.who state messages out 0 s out 0) (sym f.state_is) (none_reported p.form p.slots c.args.who state messages out);
-      spent = c.fill.ensures.spent;
+      reported = subst (λ s. Reported p.form p.slots c.args.who state messages out 0 s out 0) (sym c.lay.ensures.state) (none_reported p.form p.slots c.args.who state messages out);
+      spent = c.lay.ensures.spent;
     }
 
 pub call_once-end-requires-clause-holds : goal.call_once-end-requires-clause-holds
@@ -48,4 +47,7 @@ returns c =
     let l = c.calls in
     let left = c.take.ensures ∙ ap (λ n. slice_range l.mem 256 (256 + n)) c.requires.state in
     let all = all_reported p.form p.slots c.args.who c.args.state.now c.args.messages.now c.args.out.now l.i (part 64 p.len State l.mem) l.out l.end l.invariant.reported c.requires.whole c.calls-test.false in
-    subst (λ s. AreReported p.form p.slots c.args.who c.args.state.now c.args.messages.now s c.args.out.now l.out) (sym left) all
+    record {
+      reported = subst (λ s. AreReported p.form p.slots c.args.who c.args.state.now c.args.messages.now s c.args.out.now l.out) (sym left) all;
+      spent = l.invariant.spent;
+    }

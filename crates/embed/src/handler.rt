@@ -1,0 +1,80 @@
+//! Handlers that are kept from call to call.
+
+use crate::calling::call_each;
+use helpers::{Effects, Who};
+use regtypes::ImageForm;
+use std::marker::Model;
+use verifier::Image;
+
+/// An image, the array in which its calls run one after another, and a place for what a call
+/// emits. Since both are kept, a call clears only what the one before left.
+#[derive(Drop)]
+pub struct Handler {
+    pub(crate) image: Image,
+    pub(crate) mem: [u8; 1792],
+    pub(crate) effects: Effects,
+}
+
+impl Model for Handler {
+    ghost use Rattle.verifier.specs.Typed.{Typed};
+    ghost use Rattle.interp.specs.Flat.{IsSpent};
+
+    ghost Value = { Typed };
+
+    ghost view = { λ h. h.image };
+
+    ghost invariant = { λ h. IsSpent 64 h.image.len h.image.low h.mem };
+}
+
+impl Handler {
+    ghost use Rattle.std.specs.Prelude.{◌≡◌, ◌≤◌, ◌*◌, ◌/◌, ◌%◌, length};
+    ghost use Rattle.regtypes.specs.declared.image_form.ImageForm.TheVariants.{Sbi1};
+    ghost use Rattle.embed.specs.Calls.{AreReported};
+
+    /// A handler that wasn't called yet.
+    pub fn new(image: Image) -> Handler
+        ensures { result ≡ image }
+    {
+        let _low = image.low();
+        let _len = image.state_len();
+        Handler {
+            image,
+            mem: [0; 1792],
+            effects: Effects::new(),
+        }
+    }
+
+    /// The form of its image.
+    pub fn form(&self) -> ImageForm
+        ensures { result ≡ self.now.form }
+    {
+        self.image.form()
+    }
+
+    /// How many bytes its state has.
+    pub fn state_len(&self) -> usize
+        ensures { result ≡ self.now.len }
+    {
+        self.image.state_len() as usize
+    }
+
+    /// Calls it by one message of 64 bytes after another, and writes the reports from the front on.
+    pub fn call_each(&mut self, state: &mut [u8], messages: &[u8], who: Who, out: &mut [u8])
+        requires form { self.old.form ≡ Sbi1 }
+        requires state { length state.old ≡ self.old.len }
+        requires whole { length messages.now % 64 ≡ 0 }
+        requires room { 1064 * (length messages.now / 64) ≤ length out.old }
+        ensures reported { AreReported Sbi1 self.old.slots who state.old messages.now state.new out.old out.new }
+        ensures same { self.new ≡ self.old }
+    {
+        call_each(
+            &self.image,
+            &mut self.mem,
+            &mut self.effects,
+            state,
+            messages,
+            who,
+            out,
+        );
+    }
+}

@@ -1,0 +1,85 @@
+//! What C calls to open an image once and to call its handler often. What C holds meanwhile is a
+//! pointer, which it gives to one call at a time and closes once.
+
+ghost use Rattle.std.specs.Prelude.{◌≡◌, Option};
+ghost use Rattle.std.specs.Borrow.{sem};
+ghost use Rattle.helpers.specs.declared.effects.Who.{Who as Caller};
+ghost use Rattle.verifier.specs.Typed.{Typed};
+ghost use Rattle.embed.specs.Handles.{owns_image, state_len_of, Opens, Runs};
+
+use crate::handler::Handler;
+use crate::loose::Loose;
+use crate::opening::{Opened, close, open};
+use crate::running::run;
+use std::alloc::Global;
+
+/// The number of the refusal of a null handle.
+const NULL: u32 = 10;
+
+/// What a handle points to, of which C knows nothing.
+#[repr(C)]
+pub struct Handle {
+    byte: u8,
+}
+
+/// Opens an image file. The handle stands for its image, and is null where the file is refused.
+#[unsafe(no_mangle)]
+pub extern "C" fn sblog_open(alloc: Global, file: &[u8], handle: &mut *mut Handle) -> u32
+    ensures* { ∃ₛ (λ held. sem 𝓛 (owns_image handle.new held) ∗ ⌜ Opens result file.now held ⌝) }
+{
+    let Opened { at, code } = open(alloc, file);
+    *handle = at.cast::<Handle>();
+    code
+}
+
+/// How many bytes the state has: 0 for a null handle.
+#[unsafe(no_mangle)]
+pub unsafe extern "C" fn sblog_state_len(handle: *mut Handle) -> usize
+    ghost held: { Option Typed }
+    requires* { sem 𝓛 (owns_image handle held) }
+    ensures* { sem 𝓛 (owns_image handle held) ∗ ⌜ result ≡ state_len_of held ⌝ }
+{
+    if handle.is_null() {
+        return 0;
+    }
+    let handler = handle.cast::<Handler>();
+    (&*handler).state_len()
+}
+
+/// Calls the handler by one message of 64 bytes after another. The state is changed in place, and
+/// the reports are written into `out`, one behind the other. It has at least 1,064 bytes a message.
+#[unsafe(no_mangle)]
+pub unsafe extern "C" fn sblog_run(
+    handle: *mut Handle,
+    state: &mut [u8],
+    messages: &[u8],
+    me: u8,
+    from: u8,
+    count: u8,
+    out: &mut [u8],
+) -> u32
+    ghost held: { Option Typed }
+    requires* { sem 𝓛 (owns_image handle held) }
+    ensures* { let who : Caller = record { me = me; from = from; count = count } in sem 𝓛 (owns_image handle held) ∗ ⌜ Runs result held who state.old messages.now state.new out.old out.new ⌝ }
+{
+    if handle.is_null() {
+        return NULL;
+    }
+    let handler = handle.cast::<Handler>();
+    run(&mut *handler, state, messages, me, from, count, out)
+}
+
+/// Gives the memory of an image back. Of a null handle there is none.
+#[unsafe(no_mangle)]
+pub unsafe extern "C" fn sblog_close(alloc: Global, handle: *mut Handle)
+    ghost held: { Option Typed }
+    requires* { sem 𝓛 (owns_image handle held) }
+{
+    if handle.is_null() {
+        return;
+    }
+    close(Loose {
+        at: handle.cast::<Handler>(),
+        alloc,
+    });
+}

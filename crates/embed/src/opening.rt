@@ -1,0 +1,77 @@
+//! Files that are opened once.
+
+ghost use Rattle.std.specs.Prelude.{◌≡◌, Option, Some, None, IfOk, IfErr};
+ghost use Rattle.verifier.specs.Typed.{Typed};
+ghost use Rattle.embed.specs.Exports.{IsFileRefusal};
+ghost use Rattle.embed.specs.Handles.{owns_image, IsOpened, Opens};
+
+use crate::handler::Handler;
+use crate::loose::Loose;
+use crate::refusal::Refusal;
+use std::alloc::Global;
+use std::marker::Model;
+use std::ptr::null_mut;
+use verifier::{ImageError, load};
+
+/// What came of opening a file: a code, and the pointer to an image, which is null where there is
+/// none.
+pub struct Opened {
+    pub(crate) at: *mut Handler,
+    pub(crate) code: u32,
+    pub ghost held: { Option Typed },
+}
+
+impl Model for Opened {
+    ghost also_owns = { λ o. owns_image o.at o.held };
+}
+
+impl Opened {
+    /// The image that was in a box.
+    fn of(image: Loose<Handler, Global>) -> Opened
+        ensures code { result.code ≡ 0 }
+        ensures held { result.held ≡ Some image.value }
+    {
+        let Loose { at, alloc: _ } = image;
+        Opened { at, code: 0 }
+    }
+
+    /// No image.
+    fn refused(code: u32) -> Opened
+        ensures code { result.code ≡ code }
+        ensures held { result.held ≡ None }
+    {
+        Opened {
+            at: null_mut(),
+            code,
+        }
+    }
+}
+
+/// The image of a file, in memory of its own.
+fn boxed(alloc: Global, file: &[u8]) -> Result<Box<Handler>, Refusal>
+    ensures image { IfOk result (λ image. IsOpened file.now image.value) }
+    ensures refused { IfErr result (IsFileRefusal file.now) }
+{
+    match load(alloc, file) {
+        Ok(image) => match Box::new(alloc, Handler::new(image)) {
+            Ok(handler) => Ok(handler),
+            Err(_) => Err(Refusal::Image(ImageError::Memory)),
+        },
+        Err(error) => Err(Refusal::Image(error)),
+    }
+}
+
+/// Opens a file.
+pub fn open(alloc: Global, file: &[u8]) -> Opened
+    ensures { Opens result.code file.now result.held }
+{
+    match boxed(alloc, file) {
+        Ok(image) => Opened::of(Loose::of(image)),
+        Err(refusal) => Opened::refused(refusal.number()),
+    }
+}
+
+/// Gives the memory of an image back.
+pub(crate) fn close(image: Loose<Handler, Global>) {
+    drop(image.into_box());
+}
