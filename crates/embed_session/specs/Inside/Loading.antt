@@ -1,0 +1,17 @@
+-- What loading owes
+use Rattle.std.specs.Prelude.{◌≡◌, ℕ, List, ◌++◌}
+use Rattle.verifier.specs.Typed.{Typed}
+use Rattle.world.specs.declared.refusal.Refusal.TheVariants.{Memory}
+use Rattle.embed_session.specs.declared.fault.Fault.{Fault}
+use Rattle.embed_session.specs.declared.fault.Fault.TheVariants.{Session, File}
+use Rattle.embed_session.specs.Opening.{AreFiles}
+
+-- why files aren't read: this is so, or memory ran out
+abbrev pub IsUnread : Type 0 → Fault → Type 0
+IsUnread misfit File = misfit
+IsUnread misfit (Session Memory) = Unit {0}
+IsUnread misfit other = ⊥
+
+-- the images of the files, behind those that were there
+abbrev pub AreMore : List ℕ → List ℕ → List Typed → List Typed → Type 0
+AreMore files lengths old new = (images : List Typed) × (new ≡ old ++ images) × AreFiles files lengths images

@@ -1,0 +1,4 @@
+mod Inside
+pub mod Session
+pub mod Opening
+pub mod Reading

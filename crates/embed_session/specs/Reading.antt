@@ -1,0 +1,96 @@
+-- What is read of an open session
+use Rattle.std.specs.Prelude.{◌≡◌, ℕ, ◌<◌, ◌≤◌, Bool, true, false, List, [], length, Option, Some, None, if◌then◌else◌}
+use Rattle.std.specs.List.{slice_get}
+use Rattle.operations.specs.Bytes.{overwritten}
+use Rattle.world.specs.declared.message.Message.{Message}
+use Rattle.world.specs.declared.phase.PhaseName.{PhaseName}
+use Rattle.world.specs.declared.phase.PhaseName.TheVariants.{Up, Busy, Down, Replaying, Resync}
+use Rattle.world.specs.declared.refusal.Refusal.TheVariants.{NoSuchProcess, Memory}
+use Rattle.world.specs.Phases.{is_down, name_of}
+use Rattle.world.specs.Logs.{state_of, length_of}
+use Rattle.machine.specs.Saving.{IsSavedOf}
+use Rattle.scenario.specs.Trace.{trace_text}
+use Rattle.sessions.specs.Journal.{TheSession, is_exact, world_at}
+use Rattle.embed_session.specs.declared.fault.Fault.{Fault}
+use Rattle.embed_session.specs.declared.fault.Fault.TheVariants.{Session, Handle, Room, Absent}
+
+-- the number of a phase
+abbrev pub phase_number : PhaseName → ℕ
+phase_number Up = 0
+phase_number Busy = 1
+phase_number Down = 2
+phase_number Replaying = 3
+phase_number Resync = 4
+
+-- there is a process of this number
+abbrev pub IsInside : TheSession → ℕ → Type 0
+IsInside s p = (1 ≤ p) × (p ≤ length s.images)
+
+-- the handle is open, and this holds of its session
+abbrev pub OfOpen : Option TheSession → (TheSession → Type 0) → Type 0
+OfOpen handle holds = (s : TheSession) × (handle ≡ Some s) × holds s
+
+-- why nothing is told of a process: the handle is closed, or there is no such process
+abbrev pub IsUntold : Option TheSession → ℕ → Fault → Type 0
+IsUntold handle p Handle = handle ≡ None
+IsUntold handle p (Session NoSuchProcess) = OfOpen handle (λ s. ¬ IsInside s p)
+IsUntold handle p other = ⊥
+
+-- the buffer begins with these bytes, and their number is told
+abbrev pub IsCopied : List ℕ → List ℕ → List ℕ → ℕ → Type 0
+IsCopied bytes old new size = (length bytes ≤ length old) × (new ≡ overwritten old 0 bytes) × (size ≡ length bytes)
+
+-- the buffer is too short for them and unchanged, and their number is told
+abbrev pub IsUncopied : List ℕ → List ℕ → List ℕ → ℕ → Type 0
+IsUncopied bytes old new size = (length old < length bytes) × (new ≡ old) × (size ≡ length bytes)
+
+-- the buffer begins with the bytes of which this holds, of a process of an open session
+abbrev pub IsReadOf : Option TheSession → ℕ → (TheSession → List ℕ → Type 0) → List ℕ → List ℕ → ℕ → Type 0
+IsReadOf handle p Is old new size = OfOpen handle (λ s. IsInside s p × ((bytes : List ℕ) × Is s bytes × IsCopied bytes old new size))
+
+-- why it doesn't: it is too short for them, or nothing is told
+abbrev pub IsUnreadOf : Option TheSession → ℕ → (TheSession → List ℕ → Type 0) → List ℕ → List ℕ → ℕ → ℕ → Fault → Type 0
+IsUnreadOf handle p Is old new was size Room = OfOpen handle (λ s. IsInside s p × ((bytes : List ℕ) × Is s bytes × IsUncopied bytes old new size))
+IsUnreadOf handle p Is old new was size why = IsUntold handle p why × (new ≡ old) × (size ≡ was)
+
+-- the state of a process, which is empty while the process is down
+abbrev pub IsState : ℕ → TheSession → List ℕ → Type 0
+IsState p s bytes =
+    (is_down ((world_at s).phase p) ≡ false → bytes ≡ state_of (world_at s) p)
+    × (is_down ((world_at s).phase p) ≡ true → bytes ≡ [])
+
+-- the bytes of its latest checkpoint
+abbrev pub IsSaved : ℕ → TheSession → List ℕ → Type 0
+IsSaved p s bytes = IsSavedOf (world_at s) p bytes
+
+-- how many messages its state has, and the number of its phase
+abbrev pub IsStanding : Option TheSession → ℕ → ℕ → ℕ → Type 0
+IsStanding handle p length phase =
+    OfOpen handle (λ s. IsInside s p × (length ≡ length_of (world_at s) p) × (phase ≡ phase_number (name_of ((world_at s).phase p))))
+
+-- an output that was shown, by its place from 0: its sender, its number and its bytes
+abbrev pub IsShown : Option TheSession → ℕ → ℕ → ℕ → List ℕ → List ℕ → ℕ → Type 0
+IsShown handle k sender ssn old new size =
+    OfOpen handle (λ s. (m : Message) × (slice_get (world_at s).shown k ≡ Some m) × (sender ≡ m.sender) × (ssn ≡ m.ssn) × IsCopied m.payload old new size)
+
+-- why none is: there is none of this place, the buffer is too short for it, or the handle is closed
+abbrev pub IsUnshown : Option TheSession → ℕ → List ℕ → List ℕ → ℕ → ℕ → Fault → Type 0
+IsUnshown handle k old new was size Absent = OfOpen handle (λ s. slice_get (world_at s).shown k ≡ None) × (new ≡ old) × (size ≡ was)
+IsUnshown handle k old new was size Room = OfOpen handle (λ s. (m : Message) × (slice_get (world_at s).shown k ≡ Some m) × IsUncopied m.payload old new size)
+IsUnshown handle k old new was size Handle = (handle ≡ None) × (new ≡ old) × (size ≡ was)
+IsUnshown handle k old new was size other = ⊥
+
+-- 1 where failures came one at a time, else 0
+abbrev pub exact_number : TheSession → ℕ
+exact_number s = if is_exact s then 1 else 0
+
+-- the trace of the journal
+abbrev pub IsTraced : Option TheSession → List ℕ → List ℕ → ℕ → Type 0
+IsTraced handle old new size = OfOpen handle (λ s. IsCopied (trace_text s.entries) old new size)
+
+-- why it isn't written: memory ran out, the buffer is too short for it, or the handle is closed
+abbrev pub IsUntraced : Option TheSession → List ℕ → List ℕ → ℕ → ℕ → Fault → Type 0
+IsUntraced handle old new was size (Session Memory) = OfOpen handle (λ s. Unit {0}) × (new ≡ old) × (size ≡ was)
+IsUntraced handle old new was size Room = OfOpen handle (λ s. IsUncopied (trace_text s.entries) old new size)
+IsUntraced handle old new was size Handle = (handle ≡ None) × (new ≡ old) × (size ≡ was)
+IsUntraced handle old new was size other = ⊥

@@ -1,0 +1,202 @@
+//! What C calls. A code of 0 says that it is done, any other is the number of a fault, and what either
+//! says of handle and buffers stands in the contracts.
+
+ghost use Rattle.std.specs.Prelude.{◌≡◌, None};
+ghost use Rattle.embed_session.specs.declared.fault.Fault.TheVariants.{Handle as Closed};
+ghost use Rattle.embed_session.specs.Session.{Answers, IsCalled, IsClosed, IsDriven, IsHandedBack, IsHandedIn, IsUncalled, IsUndriven, WasClosed};
+ghost use Rattle.embed_session.specs.Opening.{IsOpened, IsUnopened};
+ghost use Rattle.embed_session.specs.Reading.{IsReadOf, IsSaved, IsShown, IsStanding, IsState, IsTraced, IsUnreadOf, IsUnshown, IsUntold, IsUntraced, OfOpen, exact_number};
+
+use crate::fault::code;
+use crate::handle::Handle;
+use crate::{calling, opening, reading};
+use std::alloc::Global;
+use world::Call;
+
+/// Opens a session of processes 1, 2, .. by their image files, which stand one behind the other, each
+/// as long as its length says. The handle has to be closed.
+#[unsafe(no_mangle)]
+pub extern "C" fn sblog_session_open(
+    alloc: Global,
+    files: &[u8],
+    lengths: &[u32],
+    handle: &mut Handle,
+) -> u32
+    ensures { Answers result (IsOpened files.now lengths.now handle.old.session.value handle.new.session.value) (λ why. IsUnopened files.now lengths.now handle.old.session.value why × (handle.new.session.value ≡ handle.old.session.value)) }
+{
+    code(opening::open(alloc, files, lengths, handle))
+}
+
+/// Closes a handle, and gives the memory of its session back.
+#[unsafe(no_mangle)]
+pub extern "C" fn sblog_session_close(alloc: Global, handle: &mut Handle) -> u32
+    ensures { Answers result (IsClosed handle.old.session.value handle.new.session.value) (WasClosed handle.old.session.value handle.new.session.value) }
+{
+    code(calling::close(alloc, handle))
+}
+
+/// Hands a payload of at most 256 bytes in for a process, under a feed number that is taken once, and
+/// writes the message's number.
+#[unsafe(no_mangle)]
+pub extern "C" fn sblog_session_input(
+    alloc: Global,
+    handle: &mut Handle,
+    to: u8,
+    feed: u32,
+    payload: &[u8],
+    ssn: &mut u32,
+) -> u32
+    ensures { Answers result (IsHandedIn to feed payload.now handle.old.session.value handle.new.session.value ssn.new) (λ why. IsHandedBack to feed payload.now handle.old.session.value handle.new.session.value why × (ssn.new ≡ ssn.old)) }
+{
+    code(calling::input(alloc, handle, to, feed, payload, ssn))
+}
+
+/// Makes useful calls, until there is none or `budget` were accepted, and writes how many were.
+#[unsafe(no_mangle)]
+pub extern "C" fn sblog_session_drive(
+    alloc: Global,
+    handle: &mut Handle,
+    budget: u32,
+    accepted: &mut u32,
+) -> u32
+    ensures { Answers result (IsDriven budget handle.old.session.value handle.new.session.value accepted.new) (λ why. IsUndriven budget handle.old.session.value handle.new.session.value why × (accepted.new ≡ accepted.old)) }
+{
+    code(calling::drive(alloc, handle, budget, accepted))
+}
+
+/// Saves a process, and writes how many messages its checkpoint covers.
+#[unsafe(no_mangle)]
+pub extern "C" fn sblog_session_checkpoint(
+    alloc: Global,
+    handle: &mut Handle,
+    process: u8,
+    covered: &mut u32,
+) -> u32
+    ensures { Answers result (IsCalled (Call.Checkpoint process) handle.old.session.value handle.new.session.value covered.new) (λ why. IsUncalled (Call.Checkpoint process) handle.old.session.value handle.new.session.value why × (covered.new ≡ covered.old)) }
+{
+    let call = Call::Checkpoint { process };
+    code(calling::call(alloc, handle, call, covered))
+}
+
+/// Each sender drops its messages to a process that the process's checkpoint covers, or for the outside
+/// (0) those that were shown. Writes how many.
+#[unsafe(no_mangle)]
+pub extern "C" fn sblog_session_trim(
+    alloc: Global,
+    handle: &mut Handle,
+    to: u8,
+    dropped: &mut u32,
+) -> u32
+    ensures { Answers result (IsCalled (Call.Trim to) handle.old.session.value handle.new.session.value dropped.new) (λ why. IsUncalled (Call.Trim to) handle.old.session.value handle.new.session.value why × (dropped.new ≡ dropped.old)) }
+{
+    let call = Call::Trim { to };
+    code(calling::call(alloc, handle, call, dropped))
+}
+
+/// A process loses all but its checkpoint. Writes its new incarnation.
+#[unsafe(no_mangle)]
+pub extern "C" fn sblog_session_crash(
+    alloc: Global,
+    handle: &mut Handle,
+    process: u8,
+    incarnation: &mut u32,
+) -> u32
+    ensures { Answers result (IsCalled (Call.Crash process) handle.old.session.value handle.new.session.value incarnation.new) (λ why. IsUncalled (Call.Crash process) handle.old.session.value handle.new.session.value why × (incarnation.new ≡ incarnation.old)) }
+{
+    let call = Call::Crash { process };
+    code(calling::call(alloc, handle, call, incarnation))
+}
+
+/// A process comes back, and how many messages it keeps is written. They are replayed by a drive.
+#[unsafe(no_mangle)]
+pub extern "C" fn sblog_session_recover(
+    alloc: Global,
+    handle: &mut Handle,
+    process: u8,
+    kept: &mut u32,
+) -> u32
+    ensures { Answers result (IsCalled (Call.Recover process) handle.old.session.value handle.new.session.value kept.new) (λ why. IsUncalled (Call.Recover process) handle.old.session.value handle.new.session.value why × (kept.new ≡ kept.old)) }
+{
+    let call = Call::Recover { process };
+    code(calling::call(alloc, handle, call, kept))
+}
+
+/// Writes how many messages the state of a process has, and the number of its phase.
+#[unsafe(no_mangle)]
+pub extern "C" fn sblog_session_standing(
+    alloc: Global,
+    handle: &mut Handle,
+    process: u8,
+    length: &mut u32,
+    phase: &mut u32,
+) -> u32
+    ensures { Answers result (IsStanding handle.old.session.value process length.new phase.new × (handle.new.session.value ≡ handle.old.session.value)) (λ why. IsUntold handle.old.session.value process why × (handle.new.session.value ≡ handle.old.session.value) × (length.new ≡ length.old) × (phase.new ≡ phase.old)) }
+{
+    code(reading::standing(alloc, handle, process, length, phase))
+}
+
+/// Writes the state of a process, and how many bytes it has.
+#[unsafe(no_mangle)]
+pub extern "C" fn sblog_session_state(
+    alloc: Global,
+    handle: &mut Handle,
+    process: u8,
+    out: &mut [u8],
+    size: &mut usize,
+) -> u32
+    ensures { Answers result (IsReadOf handle.old.session.value process (IsState process) out.old out.new size.new × (handle.new.session.value ≡ handle.old.session.value)) (λ why. IsUnreadOf handle.old.session.value process (IsState process) out.old out.new size.old size.new why × (handle.new.session.value ≡ handle.old.session.value)) }
+{
+    code(reading::state(alloc, handle, process, out, size))
+}
+
+/// Writes the bytes of a process's latest checkpoint, and how many they are.
+#[unsafe(no_mangle)]
+pub extern "C" fn sblog_session_saved(
+    alloc: Global,
+    handle: &mut Handle,
+    process: u8,
+    out: &mut [u8],
+    size: &mut usize,
+) -> u32
+    ensures { Answers result (IsReadOf handle.old.session.value process (IsSaved process) out.old out.new size.new × (handle.new.session.value ≡ handle.old.session.value)) (λ why. IsUnreadOf handle.old.session.value process (IsSaved process) out.old out.new size.old size.new why × (handle.new.session.value ≡ handle.old.session.value)) }
+{
+    code(reading::saved(alloc, handle, process, out, size))
+}
+
+/// Writes an output that was shown, by its place from 0: its sender, its number and its bytes, and how
+/// many these are.
+#[unsafe(no_mangle)]
+pub extern "C" fn sblog_session_shown(
+    alloc: Global,
+    handle: &mut Handle,
+    place: usize,
+    sender: &mut u8,
+    ssn: &mut u32,
+    out: &mut [u8],
+    size: &mut usize,
+) -> u32
+    ensures { Answers result (IsShown handle.old.session.value place sender.new ssn.new out.old out.new size.new × (handle.new.session.value ≡ handle.old.session.value)) (λ why. IsUnshown handle.old.session.value place out.old out.new size.old size.new why × (handle.new.session.value ≡ handle.old.session.value) × (sender.new ≡ sender.old) × (ssn.new ≡ ssn.old)) }
+{
+    code(reading::shown(alloc, handle, place, sender, ssn, out, size))
+}
+
+/// Writes 1 where failures came one at a time, else 0.
+#[unsafe(no_mangle)]
+pub extern "C" fn sblog_session_exact(alloc: Global, handle: &mut Handle, answer: &mut u32) -> u32
+    ensures { Answers result (OfOpen handle.old.session.value (λ s. answer.new ≡ exact_number s) × (handle.new.session.value ≡ handle.old.session.value)) (λ why. (why ≡ Closed) × (handle.old.session.value ≡ None) × (handle.new.session.value ≡ handle.old.session.value) × (answer.new ≡ answer.old)) }
+{
+    code(reading::exact(alloc, handle, answer))
+}
+
+/// Writes the trace of the journal, and how many bytes it has.
+#[unsafe(no_mangle)]
+pub extern "C" fn sblog_session_trace(
+    alloc: Global,
+    handle: &mut Handle,
+    out: &mut [u8],
+    size: &mut usize,
+) -> u32
+    ensures { Answers result (IsTraced handle.old.session.value out.old out.new size.new × (handle.new.session.value ≡ handle.old.session.value)) (λ why. IsUntraced handle.old.session.value out.old out.new size.old size.new why × (handle.new.session.value ≡ handle.old.session.value)) }
+{
+    code(reading::trace(alloc, handle, out, size))
+}

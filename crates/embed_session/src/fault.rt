@@ -1,0 +1,50 @@
+//! Why a function did nothing.
+
+ghost use Rattle.std.specs.Prelude.{◌≡◌, IfErr, IfOk};
+ghost use Rattle.embed_session.specs.Session.{fault_number};
+
+use world::Refusal;
+
+/// Why a function did nothing, by number.
+#[derive(Debug, Drop)]
+pub enum Fault {
+    /// 1 to 15: the session refused the call.
+    Session(Refusal),
+    /// 16: the handle is closed, or where one is to be opened, it is open.
+    Handle,
+    /// 17: a file isn't that of an image, or the files aren't as long as their lengths say.
+    File,
+    /// 18: a payload has more than 256 bytes.
+    Payload,
+    /// 19: the buffer is too short.
+    Room,
+    /// 20: there is none of this number.
+    Absent,
+}
+
+impl Fault {
+    /// Its number, 1 to 20.
+    pub fn number(&self) -> u32
+        ensures { result ≡ fault_number self.now }
+    {
+        match *self {
+            Fault::Session(refusal) => refusal.number() as u32,
+            Fault::Handle => 16,
+            Fault::File => 17,
+            Fault::Payload => 18,
+            Fault::Room => 19,
+            Fault::Absent => 20,
+        }
+    }
+}
+
+/// The code of what was done or wasn't: 0, or the number of the fault.
+pub(crate) fn code(done: Result<(), Fault>) -> u32
+    ensures done { IfOk done (λ _. result ≡ 0) }
+    ensures fault { IfErr done (λ why. result ≡ fault_number why) }
+{
+    match done {
+        Ok(()) => 0,
+        Err(fault) => fault.number(),
+    }
+}

@@ -1,0 +1,64 @@
+//! What a program in C holds of a session.
+
+ghost use Rattle.std.specs.Prelude.{◌≡◌, IfNone, IfSome, Some, None, is_some};
+
+use crate::loose::Loose;
+use crate::parts::Parts;
+use service::Service;
+use std::alloc::Global;
+use std::mem::replace;
+
+/// A session, or none where it is closed. A program makes it of zeros, and leaves its bytes alone.
+#[repr(C)]
+#[derive(Drop)]
+pub struct Handle {
+    pub session: Loose,
+    held: bool,
+    ghost held_is: { held ≡ is_some session.value },
+}
+
+impl Handle {
+    /// A handle without a session, as zeros are.
+    #[inline(always)]
+    pub(crate) fn closed(alloc: Global) -> Handle
+        ensures { result.session.value ≡ None }
+    {
+        Handle {
+            session: Loose::empty(alloc),
+            held: false,
+        }
+    }
+
+    /// Takes the session out, which leaves the handle closed.
+    #[inline(always)]
+    pub(crate) fn take(&mut self, alloc: Global) -> Option<Box<Service>>
+        ensures closed { self.new.session.value ≡ None }
+        ensures none { IfNone result (self.old.session.value ≡ None) }
+        ensures some { IfSome result (λ b. self.old.session.value ≡ Some b.value) }
+    {
+        if !self.held {
+            return None;
+        }
+        let Handle { session, held: _ } = replace(self, Handle::closed(alloc));
+        Some(session.into_parts().into_box())
+    }
+
+    /// Puts a session into a closed handle.
+    #[inline(always)]
+    pub(crate) fn put(&mut self, service: Box<Service>)
+        ensures { self.new.session.value ≡ Some service.value }
+    {
+        *self = Handle {
+            session: Loose::of(Parts::of(service)),
+            held: true,
+        };
+    }
+
+    /// Whether it is open.
+    pub(crate) fn is_open(&mut self) -> bool
+        ensures same { self.new.session.value ≡ self.old.session.value }
+        ensures open { result ≡ is_some self.old.session.value }
+    {
+        self.held
+    }
+}

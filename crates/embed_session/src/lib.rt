@@ -1,0 +1,32 @@
+//! Sessions for programs in C and Rust: a static library over [`service`].
+//!
+//! [`exports`] has the functions that cross. A program holds a session by a handle, two words of its
+//! own that it makes of zeros: closed. `sblog_session_open` opens it, the other functions make calls
+//! and read, and `sblog_session_close` gives all memory back. Code 0 says that a call was made or
+//! something was read; 1 to 15 is the session's refusal by its number, and the numbers above say
+//! what was wrong with the call's arguments. docs/EMBEDDING.md describes the functions and codes.
+//!
+//! The promise: each function that makes a call of the session owes what that call owes, word for
+//! word; each that reads gives what the session's contract says; and any code but 0 leaves the
+//! session as it was, but for a drive that ran out of memory.
+//!
+//! ```c
+//! sblog_session session = {0};
+//! uint32_t ssn, calls;
+//! uint32_t code = sblog_session_open(file, file_len, &length, 1, &session);
+//! code = sblog_session_input(&session, 1, feed, payload, 8, &ssn);
+//! code = sblog_session_drive(&session, 100, &calls);
+//! ```
+#![tactic(auto)]
+
+mod calling;
+mod exports;
+mod fault;
+mod handle;
+mod loose;
+mod opening;
+mod output;
+mod parts;
+mod reading;
+#[cfg(test)]
+mod tests;

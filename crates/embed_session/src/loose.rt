@@ -1,0 +1,60 @@
+//! A service on the heap as a pointer that says nothing of what it points to, since only plain types cross to C.
+
+ghost use Rattle.std.specs.Prelude.{◌≡◌, Option, Some, None};
+ghost use Rattle.sessions.specs.Journal.{TheSession};
+ghost use Rattle.embed_session.specs.Inside.Held.{held};
+
+use crate::parts::Parts;
+use service::Service;
+use std::alloc::Global;
+use std::marker::Model;
+use std::ptr::null_mut;
+
+/// A service, or nothing.
+#[repr(C)]
+#[derive(Drop)]
+pub struct Loose {
+    at: *mut u8,
+    alloc: Global,
+    pub ghost value: { Option TheSession },
+}
+
+impl Model for Loose {
+    ghost also_owns = { λ l. held l.alloc l.at l.value };
+}
+
+impl Loose {
+    /// Nothing, at null.
+    pub(crate) fn empty(alloc: Global) -> Loose
+        ensures { result.value ≡ None }
+    {
+        Loose {
+            at: null_mut(),
+            alloc,
+        }
+    }
+
+    /// The service of a box.
+    pub(crate) fn of(parts: Parts<Service, Global>) -> Loose
+        ensures { result.value ≡ Some parts.value }
+    {
+        let Parts { ptr, alloc } = parts;
+        Loose {
+            at: ptr as *mut u8,
+            alloc,
+        }
+    }
+
+    /// The box again.
+    pub(crate) fn into_parts(self) -> Parts<Service, Global>
+        ghost v: { TheSession }
+        requires { self.value ≡ Some v }
+        ensures { result.value ≡ v }
+    {
+        let Loose { at, alloc } = self;
+        Parts {
+            ptr: at as *mut Service,
+            alloc,
+        }
+    }
+}

@@ -1,0 +1,89 @@
+//! Sessions of image files.
+
+ghost use Rattle.std.specs.Prelude.{◌≡◌, ◌≤◌, MatchResult, OnOk, IfErr, length, map};
+ghost use Rattle.std.specs.Arc.{arc_value};
+ghost use Rattle.embed_session.specs.Inside.Loading.{AreMore, IsUnread};
+ghost use Rattle.embed_session.specs.Opening.{IsImageIn, IsMisfit, IsOpened, IsRefused, IsUnopened};
+
+use crate::fault::Fault;
+use crate::handle::Handle;
+use service::Service;
+use std::alloc::Global;
+use std::sync::Arc;
+use verifier::{Image, ImageError, load};
+use world::Refusal;
+
+/// The most processes.
+const MOST_PROCESSES: usize = 15;
+
+/// The image of a file.
+fn image_of(alloc: Global, file: &[u8]) -> Result<Arc<Image>, Fault>
+    ensures { MatchResult result (λ image. IsImageIn file.now (arc_value image)) (IsUnread (IsRefused file.now)) }
+{
+    let image = match load(alloc, file) {
+        Ok(image) => image,
+        Err(ImageError::Memory) => return Err(Fault::Session(Refusal::Memory)),
+        Err(_) => return Err(Fault::File),
+    };
+    match Arc::new(alloc, image) {
+        Ok(image) => Ok(image),
+        Err(_) => Err(Fault::Session(Refusal::Memory)),
+    }
+}
+
+/// Loads the images of files that stand one behind the other, each as long as its length says.
+fn load_each(
+    alloc: Global,
+    files: &[u8],
+    lengths: &[u32],
+    images: &mut Vec<Arc<Image>>,
+) -> Result<(), Fault>
+    ensures loaded { OnOk result (AreMore files.now lengths.now (map arc_value images.old.items) (map arc_value images.new.items)) }
+    ensures refused { IfErr result (IsUnread (IsMisfit files.now lengths.now)) }
+{
+    let Some((first, rest)) = lengths.split_first() else {
+        if !files.is_empty() {
+            return Err(Fault::File);
+        }
+        return Ok(());
+    };
+    let size = *first as usize;
+    if size > files.len() {
+        return Err(Fault::File);
+    }
+    let (file, others) = files.split_at(size);
+    let image = image_of(alloc, file)?;
+    if images.push(image).is_err() {
+        return Err(Fault::Session(Refusal::Memory));
+    }
+    load_each(alloc, others, rest, images)
+}
+
+/// Opens a session of the images of files that stand one behind the other, each as long as its
+/// length says: process 1 has the first one.
+pub(crate) fn open(
+    alloc: Global,
+    files: &[u8],
+    lengths: &[u32],
+    handle: &mut Handle,
+) -> Result<(), Fault>
+    ensures { MatchResult result (λ _. IsOpened files.now lengths.now handle.old.session.value handle.new.session.value) (λ why. IsUnopened files.now lengths.now handle.old.session.value why × (handle.new.session.value ≡ handle.old.session.value)) }
+{
+    if handle.is_open() {
+        return Err(Fault::Handle);
+    }
+    if lengths.is_empty() || lengths.len() > MOST_PROCESSES {
+        return Err(Fault::Session(Refusal::NoSuchProcess));
+    }
+    let mut images = Vec::new(alloc);
+    load_each(alloc, files, lengths, &mut images)?;
+    // There are 1 to 15 images, so only memory can be wanting.
+    let Ok(service) = Service::open(alloc, images) else {
+        return Err(Fault::Session(Refusal::Memory));
+    };
+    let Ok(boxed) = Box::new(alloc, service) else {
+        return Err(Fault::Session(Refusal::Memory));
+    };
+    handle.put(boxed);
+    Ok(())
+}

@@ -1,0 +1,214 @@
+//! Each exported function on its happy path, and each code. What is expected was worked out by
+//! `examples/scenarios/model.py`, the codes by docs/EMBEDDING.md.
+
+use crate::exports::*;
+use crate::handle::Handle;
+use std::alloc::Global;
+use std::test::Fail;
+
+/// Adds the first word of a message to the first word of its state.
+const ADDER: [u8; 56] = [
+    0x53, 0x42, 0x49, 0x31, 0x08, 0x00, 0x06, 0x00, 0x79, 0x13, 0, 0, 0, 0, 0, 0, 0x79, 0x24, 0, 0,
+    0, 0, 0, 0, 0x0f, 0x34, 0, 0, 0, 0, 0, 0, 0x7b, 0x42, 0, 0, 0, 0, 0, 0, 0xb7, 0, 0, 0, 0, 0, 0,
+    0, 0x95, 0, 0, 0, 0, 0, 0, 0,
+];
+
+/// Sends each message on to process 2; behind it, gives each message out.
+const RELAY_AND_ECHO: [u8; 64] = [
+    0x53, 0x42, 0x49, 0x31, 0x00, 0x00, 0x04, 0x00, 0xbf, 0x12, 0, 0, 0, 0, 0, 0, 0xb7, 0x01, 0, 0,
+    0x02, 0, 0, 0, 0x85, 0, 0, 0, 0x01, 0, 0, 0, 0x95, 0, 0, 0, 0, 0, 0, 0, 0x53, 0x42, 0x49, 0x31,
+    0x00, 0x00, 0x02, 0x00, 0x85, 0, 0, 0, 0x02, 0, 0, 0, 0x95, 0, 0, 0, 0, 0, 0, 0,
+];
+
+/// A call through a handle.
+#[derive(Clone, Copy)]
+enum Act {
+    Open(&'static [u8], &'static [u32]),
+    Close,
+    /// So many bytes of 7 for a process, under a feed number.
+    Input(u8, u32, usize),
+    Drive(u32),
+    Checkpoint(u8),
+    Trim(u8),
+    Crash(u8),
+    Recover(u8),
+    /// How many messages the state has, and the phase a hundred times.
+    Standing(u8),
+    /// A buffer of so many bytes is given for what follows.
+    State(u8, usize),
+    Saved(u8, usize),
+    Shown(usize, usize),
+    Exact,
+    Trace(usize),
+}
+
+/// What a call answers: its code, and the number or the size that it writes, 99 where it writes none.
+fn answer(alloc: Global, handle: &mut Handle, act: Act, out: &mut [u8; 64]) -> (u32, usize) {
+    let mut number = 99;
+    let code = match act {
+        Act::Open(files, lengths) => sblog_session_open(alloc, files, lengths, handle),
+        Act::Close => sblog_session_close(alloc, handle),
+        Act::Drive(budget) => sblog_session_drive(alloc, handle, budget, &mut number),
+        Act::Checkpoint(p) => sblog_session_checkpoint(alloc, handle, p, &mut number),
+        Act::Trim(to) => sblog_session_trim(alloc, handle, to, &mut number),
+        Act::Crash(p) => sblog_session_crash(alloc, handle, p, &mut number),
+        Act::Recover(p) => sblog_session_recover(alloc, handle, p, &mut number),
+        Act::Exact => sblog_session_exact(alloc, handle, &mut number),
+        Act::Input(to, feed, size) => {
+            let bytes = [7; 300];
+            let payload = bytes.get(..size).unwrap_or(&[]);
+            sblog_session_input(alloc, handle, to, feed, payload, &mut number)
+        }
+        Act::Standing(p) => {
+            let mut phase = 0;
+            let code = sblog_session_standing(alloc, handle, p, &mut number, &mut phase);
+            number = number.wrapping_add(phase.wrapping_mul(100));
+            code
+        }
+        reads => return read(alloc, handle, reads, out),
+    };
+    (code, number as usize)
+}
+
+/// The same of a call that writes into a buffer.
+fn read(alloc: Global, handle: &mut Handle, act: Act, out: &mut [u8; 64]) -> (u32, usize) {
+    let mut size = 99;
+    let (mut sender, mut ssn) = (0, 0);
+    let code = match act {
+        Act::State(p, room) => {
+            sblog_session_state(alloc, handle, p, front(out, room), &mut size)
+        }
+        Act::Saved(p, room) => {
+            sblog_session_saved(alloc, handle, p, front(out, room), &mut size)
+        }
+        Act::Shown(place, room) => {
+            let out = front(out, room);
+            sblog_session_shown(alloc, handle, place, &mut sender, &mut ssn, out, &mut size)
+        }
+        Act::Trace(room) => sblog_session_trace(alloc, handle, front(out, room), &mut size),
+        _ => 0,
+    };
+    (code, size)
+}
+
+fn front(out: &mut [u8; 64], room: usize) -> &mut [u8] {
+    let room = room.min(64);
+    &mut out[..room]
+}
+
+/// The place of the first call of a list, from 0, whose answer is another one.
+fn first_wrong(alloc: Global, calls: &[(Act, u32, usize)]) -> Option<usize> {
+    let mut handle = Handle::closed(alloc);
+    let mut out = [0; 64];
+    for (place, (act, code, number)) in calls.iter().enumerate() {
+        if answer(alloc, &mut handle, *act, &mut out) != (*code, *number) {
+            return Some(place);
+        }
+    }
+    None
+}
+
+/// An adder: a message, a crash, a checkpoint. The trace has a line of 32 bytes, of `input`, before
+/// the crash; each code of a reading call is told.
+const ADDING: &[(Act, u32, usize)] = &[
+    (Act::Open(&ADDER, &[56]), 0, 99),
+    (Act::Open(&ADDER, &[56]), 16, 99),
+    (Act::Trace(64), 0, 0),
+    (Act::Input(1, 1, 257), 18, 99),
+    (Act::Input(1, 1, 8), 0, 1),
+    (Act::Input(1, 1, 8), 14, 99),
+    (Act::Input(2, 2, 8), 1, 99),
+    (Act::Trace(31), 19, 32),
+    (Act::Trace(32), 0, 32),
+    (Act::Drive(1), 0, 1),
+    (Act::Drive(100), 0, 4),
+    (Act::Standing(1), 0, 1),
+    (Act::Standing(2), 1, 99),
+    (Act::State(1, 7), 19, 8),
+    (Act::State(1, 8), 0, 8),
+    (Act::State(0, 8), 1, 99),
+    (Act::Crash(1), 0, 2),
+    (Act::Standing(1), 0, 200),
+    (Act::State(1, 0), 0, 0),
+    (Act::Crash(1), 2, 99),
+    (Act::Recover(1), 0, 1),
+    (Act::Drive(100), 0, 2),
+    (Act::State(1, 64), 0, 8),
+    (Act::Checkpoint(1), 0, 1),
+    (Act::Saved(1, 28), 19, 29),
+    (Act::Saved(1, 29), 0, 29),
+    (Act::Trim(1), 0, 1),
+    (Act::Shown(0, 64), 20, 99),
+    (Act::Exact, 0, 1),
+    (Act::Close, 0, 99),
+    (Act::Close, 16, 99),
+    (Act::Open(&ADDER, &[56]), 0, 99),
+    (Act::State(1, 8), 0, 8),
+];
+
+/// A message through two processes and out, and two failures at once.
+const RELAYING: &[(Act, u32, usize)] = &[
+    (Act::Open(&RELAY_AND_ECHO, &[40, 24]), 0, 99),
+    (Act::Input(1, 1, 1), 0, 1),
+    (Act::Drive(100), 0, 12),
+    (Act::Shown(0, 63), 19, 64),
+    (Act::Shown(0, 64), 0, 64),
+    (Act::Shown(1, 64), 20, 99),
+    (Act::Crash(1), 0, 2),
+    (Act::Crash(2), 0, 2),
+    (Act::Recover(1), 8, 99),
+    (Act::Exact, 0, 0),
+];
+
+/// Files that open none, and each call on a closed handle.
+const CLOSED: &[(Act, u32, usize)] = &[
+    (Act::Open(&[], &[]), 1, 99),
+    (Act::Open(&ADDER, &[0; 16]), 1, 99),
+    (Act::Open(&ADDER, &[57]), 17, 99),
+    (Act::Open(&ADDER, &[55]), 17, 99),
+    (Act::Open(&RELAY_AND_ECHO, &[40]), 17, 99),
+    (Act::Open(&RELAY_AND_ECHO, &[40, 24, 0]), 17, 99),
+    (Act::Close, 16, 99),
+    (Act::Input(1, 1, 1), 16, 99),
+    (Act::Input(1, 1, 257), 18, 99),
+    (Act::Drive(1), 16, 99),
+    (Act::Checkpoint(1), 16, 99),
+    (Act::Trim(0), 16, 99),
+    (Act::Crash(1), 16, 99),
+    (Act::Recover(1), 16, 99),
+    (Act::Standing(1), 16, 99),
+    (Act::State(1, 64), 16, 99),
+    (Act::Saved(1, 64), 16, 99),
+    (Act::Shown(0, 64), 16, 99),
+    (Act::Exact, 16, 99),
+    (Act::Trace(64), 16, 99),
+];
+
+#[test]
+fn codes_and_numbers(rt: HostRuntime) -> Result<(), Fail> {
+    let alloc = rt.alloc();
+    assert_eq!(rt; first_wrong(alloc, ADDING), None);
+    assert_eq!(rt; first_wrong(alloc, RELAYING), None);
+    assert_eq!(rt; first_wrong(alloc, CLOSED), None);
+    Ok(())
+}
+
+#[test]
+fn bytes(rt: HostRuntime) -> Result<(), Fail> {
+    let alloc = rt.alloc();
+    let mut handle = Handle::closed(alloc);
+    let mut out = [0; 64];
+    for act in [
+        Act::Open(&RELAY_AND_ECHO, &[40, 24]),
+        Act::Input(1, 1, 1),
+        Act::Trace(64),
+    ] {
+        assert_eq!(rt; answer(alloc, &mut handle, act, &mut out).0, 0);
+    }
+    assert!(rt; out.starts_with(b"000001 w0 input 1 1 -> logged 1\n"));
+    for act in [Act::Drive(100), Act::Shown(0, 64)] {
+        assert_eq!(rt; answer(alloc, &mut handle, act, &mut out).0, 0);
+    }
+    assert_eq!(rt; (out[0], out[1], out[63]), (7, 0, 0));
+    Ok(())
+}

@@ -1,0 +1,2 @@
+mod Studies
+mod Texts

@@ -1,0 +1,10 @@
+use Rattle.std.proofs.Common.{◌≡◌, ℕ, ◌<◌, length, get_or}
+use Rattle.explain.specs.Why.{IsWhy}
+use Rattle.explain.specs.declared.why.Why.TheVariants.{Unknown}
+use Rattle.explain.proofs.why.whys_at.Given as goal
+
+abbrev pub invariant-loop-number : goal.invariant-loop-number
+invariant-loop-number l = record {
+  size : length l.whys ≡ 11;
+  found : (r : ℕ) → r < 11 → IsWhy l.study r (get_or l.whys r Unknown) l.slot;
+}

@@ -1,0 +1,38 @@
+-- A session that one program calls, who has no seat
+use Rattle.std.specs.Prelude.{◌≡◌, ℕ, List, [], length, Result, Ok, Err}
+use Rattle.verifier.specs.Typed.{Typed}
+use Rattle.world.specs.declared.call.Call.{Call}
+use Rattle.world.specs.declared.call.Call.TheVariants.{Arrive, Finish, Recover, ReplayBegin}
+use Rattle.world.specs.declared.answer.Answer.{Answer}
+use Rattle.world.specs.declared.answer.Answer.TheVariants.{Kept}
+use Rattle.world.specs.declared.refusal.Refusal.{Refusal}
+use Rattle.world.specs.declared.refusal.Refusal.TheVariants.{NoSuchProcess, Memory}
+use Rattle.machine.specs.Opening.{AreFew}
+use Rattle.sessions.specs.Seats.{TheSeat}
+use Rattle.sessions.specs.Journal.{TheSession, Adds, ReturnsTo}
+
+-- the seat that the program's calls stand for: nobody's, which was answered for each entry
+abbrev pub own_seat : TheSession → TheSeat
+own_seat s = record { worker = 0; answered = length s.entries }
+
+-- what a call of the program owes: what a session's call by that seat does
+abbrev pub Owes : TheSession → TheSession → Call → Result Answer Refusal → Type 0
+Owes old new call r = Adds old new (own_seat old) (own_seat new) call r
+
+-- the call neither starts nor ends a job
+abbrev pub IsJobless : Call → Type 0
+IsJobless (Arrive key) = ⊥
+IsJobless (Finish p) = ⊥
+IsJobless (ReplayBegin p) = ⊥
+IsJobless other = Unit {0}
+
+-- a process that came back kept what it had to
+abbrev pub Returns : TheSession → TheSession → Call → Answer → Type 0
+Returns old new call answer = (p k : ℕ) → call ≡ Recover p → answer ≡ Kept k → ReturnsTo old new p k
+
+-- a session of these images with an empty journal and no seats; or there are none or too many; or memory ran out
+abbrev pub OpensAlone : List Typed → Result TheSession Refusal → Type 0
+OpensAlone images (Ok s) = AreFew images × (s ≡ record { images = images; entries = []; seats = [] })
+OpensAlone images (Err NoSuchProcess) = ¬ AreFew images
+OpensAlone images (Err Memory) = AreFew images
+OpensAlone images (Err r) = ⊥

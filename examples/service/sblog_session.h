@@ -1,0 +1,70 @@
+/* Sessions of BPF handlers, which survive the loss of a process inside the program that holds them.
+   docs/EMBEDDING.md, "A session", describes each function and its codes. */
+#ifndef SBLOG_SESSION_H
+#define SBLOG_SESSION_H
+
+#include <stdbool.h>
+#include <stddef.h>
+#include <stdint.h>
+
+#ifdef __cplusplus
+extern "C" {
+#endif
+
+/* 1 to 15 are the refusals of a session, by number (docs/FORMATS.md) */
+enum sblog_session_code {
+    SBLOG_SESSION_DONE = 0,
+    SBLOG_SESSION_NO_PROCESS = 1, /* there is no such process; to open one, 1 to 15 files */
+    SBLOG_SESSION_MEMORY = 15,    /* memory ran out */
+    SBLOG_SESSION_HANDLE = 16,    /* the handle is closed; to open one, it is open */
+    SBLOG_SESSION_FILE = 17,      /* a file is none of an image, or the lengths don't fit */
+    SBLOG_SESSION_PAYLOAD = 18,   /* a payload has more than 256 bytes */
+    SBLOG_SESSION_ROOM = 19,      /* the buffer is too short; the size says what it takes */
+    SBLOG_SESSION_ABSENT = 20     /* there is none of this number */
+};
+
+enum sblog_session_phase {
+    SBLOG_SESSION_UP = 0,
+    SBLOG_SESSION_BUSY = 1,
+    SBLOG_SESSION_DOWN = 2,
+    SBLOG_SESSION_REPLAYING = 3,
+    SBLOG_SESSION_RESYNC = 4
+};
+
+/* What a program holds of a session: zeros are a closed handle, sblog_session handle = {0}. A program
+   writes no other bytes into it, and makes no copy of an open one. */
+typedef struct {
+    void *at;
+    bool held;
+} sblog_session;
+
+/* Every slice is a pointer, which is never null, and a length. One that is written overlaps no other. */
+
+uint32_t sblog_session_open(const uint8_t *files, size_t files_len, const uint32_t *lengths,
+                            size_t count, sblog_session *handle);
+uint32_t sblog_session_close(sblog_session *handle);
+
+uint32_t sblog_session_input(sblog_session *handle, uint8_t to, uint32_t feed,
+                             const uint8_t *payload, size_t payload_len, uint32_t *ssn);
+uint32_t sblog_session_drive(sblog_session *handle, uint32_t budget, uint32_t *accepted);
+uint32_t sblog_session_checkpoint(sblog_session *handle, uint8_t process, uint32_t *covered);
+uint32_t sblog_session_trim(sblog_session *handle, uint8_t to, uint32_t *dropped);
+uint32_t sblog_session_crash(sblog_session *handle, uint8_t process, uint32_t *incarnation);
+uint32_t sblog_session_recover(sblog_session *handle, uint8_t process, uint32_t *kept);
+
+uint32_t sblog_session_standing(sblog_session *handle, uint8_t process, uint32_t *length,
+                                uint32_t *phase);
+uint32_t sblog_session_state(sblog_session *handle, uint8_t process, uint8_t *out, size_t out_len,
+                             size_t *size);
+uint32_t sblog_session_saved(sblog_session *handle, uint8_t process, uint8_t *out, size_t out_len,
+                             size_t *size);
+uint32_t sblog_session_shown(sblog_session *handle, size_t place, uint8_t *sender, uint32_t *ssn,
+                             uint8_t *out, size_t out_len, size_t *size);
+uint32_t sblog_session_exact(sblog_session *handle, uint32_t *exact);
+uint32_t sblog_session_trace(sblog_session *handle, uint8_t *out, size_t out_len, size_t *size);
+
+#ifdef __cplusplus
+}
+#endif
+
+#endif
