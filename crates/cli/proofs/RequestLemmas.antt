@@ -9,7 +9,7 @@ use Rattle.clap.proofs.OnLiterals.{clap_on_literals}
 use Rattle.clap.proofs.WalkLemmas.{one_text-rows}
 use Rattle.regtypes.specs.declared.image_form.ImageForm.{ImageForm}
 use Rattle.regtypes.specs.declared.image_form.ImageForm.TheVariants.{Sbi1, Sbi2}
-use Rattle.cli.specs.Asks.{AsksBy, AsksIn, Explains, HasForm, HasNumber, HasState, IsInRange, IsRefusal, Order, form_number}
+use Rattle.cli.specs.Asks.{AsksBy, AsksIn, Explains, HasBudget, HasForm, HasNumber, HasState, HasWorkers, IsInRange, IsRefusal, Order, form_number}
 use Rattle.cli.specs.Asks as order
 use Rattle.cli.specs.declared.refusal.Refusal.{Refusal}
 use Rattle.cli.specs.declared.refusal.Refusal.TheVariants as refusal
@@ -65,8 +65,12 @@ first_form rows n one h = inl (subst (HasNumber (codes "form") 1 2 rows) one h)
 pub asked_in_range : (used : Option (Text × List Row)) (o : Order) → AsksBy used o → IsInRange o
 asked_in_range None o asks = absurd asks
 asked_in_range (Some used) (order.Check image) asks = tt
+asked_in_range (Some used) (order.Explain image) asks = tt
 asked_in_range (Some used) (order.Run scenario) asks = tt
+asked_in_range (Some used) (order.Live scenario workers budget) asks = (asks.2.2.least, asks.2.2.most, asks.3.2.least, asks.3.2.most)
+asked_in_range (Some used) (order.Draw scenario picture) asks = tt
 asked_in_range (Some used) (order.Asm source image state form) asks = asks.3.2.most
+asked_in_range (Some used) (order.Pack code image state form) asks = asks.3.2.most
 asked_in_range (Some used) (order.Dis image) asks = tt
 
 -- commands whose names begin differently
@@ -77,9 +81,36 @@ unlike name other differ same = differ (ap (λ (t : Text). slice_index t 0) same
 pub no_asm : (rows : List Row) → ((n : ℕ) (form : ImageForm) → HasState rows n → HasForm rows form → ⊥)
     → (o : Order) → AsksIn (codes "asm") rows o → ⊥
 no_asm rows none (order.Run scenario) h = unlike (codes "asm") (codes "run") (λ (e : ◌≡◌ {A = ℕ} 97 114). omega arith) h.0
+no_asm rows none (order.Live scenario workers budget) h = unlike (codes "asm") (codes "live") (λ (e : ◌≡◌ {A = ℕ} 97 108). omega arith) h.0
+no_asm rows none (order.Draw scenario picture) h = unlike (codes "asm") (codes "draw") (λ (e : ◌≡◌ {A = ℕ} 97 100). omega arith) h.0
 no_asm rows none (order.Check image) h = unlike (codes "asm") (codes "check") (λ (e : ◌≡◌ {A = ℕ} 97 99). omega arith) h.0
+no_asm rows none (order.Explain image) h = unlike (codes "asm") (codes "explain") (λ (e : ◌≡◌ {A = ℕ} 97 101). omega arith) h.0
 no_asm rows none (order.Asm source image state form) h = none state form h.3 h.4
+no_asm rows none (order.Pack code image state form) h = unlike (codes "asm") (codes "pack") (λ (e : ◌≡◌ {A = ℕ} 97 112). omega arith) h.0
 no_asm rows none (order.Dis image) h = unlike (codes "asm") (codes "dis") (λ (e : ◌≡◌ {A = ℕ} 97 100). omega arith) h.0
+
+pub no_pack : (rows : List Row) → ((n : ℕ) (form : ImageForm) → HasState rows n → HasForm rows form → ⊥)
+    → (o : Order) → AsksIn (codes "pack") rows o → ⊥
+no_pack rows none (order.Run scenario) h = unlike (codes "pack") (codes "run") (λ (e : ◌≡◌ {A = ℕ} 112 114). omega arith) h.0
+no_pack rows none (order.Live scenario workers budget) h = unlike (codes "pack") (codes "live") (λ (e : ◌≡◌ {A = ℕ} 112 108). omega arith) h.0
+no_pack rows none (order.Draw scenario picture) h = unlike (codes "pack") (codes "draw") (λ (e : ◌≡◌ {A = ℕ} 112 100). omega arith) h.0
+no_pack rows none (order.Check image) h = unlike (codes "pack") (codes "check") (λ (e : ◌≡◌ {A = ℕ} 112 99). omega arith) h.0
+no_pack rows none (order.Explain image) h = unlike (codes "pack") (codes "explain") (λ (e : ◌≡◌ {A = ℕ} 112 101). omega arith) h.0
+no_pack rows none (order.Asm source image state form) h = unlike (codes "pack") (codes "asm") (λ (e : ◌≡◌ {A = ℕ} 112 97). omega arith) h.0
+no_pack rows none (order.Pack code image state form) h = none state form h.3 h.4
+no_pack rows none (order.Dis image) h = unlike (codes "pack") (codes "dis") (λ (e : ◌≡◌ {A = ℕ} 112 100). omega arith) h.0
+
+-- and with no number of workers, or no budget, none for workers
+pub no_live : (rows : List Row) → ((workers budget : ℕ) → HasWorkers rows workers → HasBudget rows budget → ⊥)
+    → (o : Order) → AsksIn (codes "live") rows o → ⊥
+no_live rows none (order.Run scenario) h = unlike (codes "live") (codes "run") (λ (e : ◌≡◌ {A = ℕ} 108 114). omega arith) h.0
+no_live rows none (order.Live scenario workers budget) h = none workers budget h.2 h.3
+no_live rows none (order.Draw scenario picture) h = unlike (codes "live") (codes "draw") (λ (e : ◌≡◌ {A = ℕ} 108 100). omega arith) h.0
+no_live rows none (order.Check image) h = unlike (codes "live") (codes "check") (λ (e : ◌≡◌ {A = ℕ} 108 99). omega arith) h.0
+no_live rows none (order.Explain image) h = unlike (codes "live") (codes "explain") (λ (e : ◌≡◌ {A = ℕ} 108 101). omega arith) h.0
+no_live rows none (order.Asm source image state form) h = unlike (codes "live") (codes "asm") (λ (e : ◌≡◌ {A = ℕ} 108 97). omega arith) h.0
+no_live rows none (order.Pack code image state form) h = unlike (codes "live") (codes "pack") (λ (e : ◌≡◌ {A = ℕ} 108 112). omega arith) h.0
+no_live rows none (order.Dis image) h = unlike (codes "live") (codes "dis") (λ (e : ◌≡◌ {A = ℕ} 108 100). omega arith) h.0
 
 is_simple_and_free-sblog_app : is_simple_and_free sblog_app ≡ true
 unfolding clap_on_literals

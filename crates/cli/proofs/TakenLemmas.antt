@@ -19,7 +19,7 @@ use Rattle.clap.specs.declared.builder.ValueParser.TheVariants as parser
 use Rattle.clap.specs.declared.error.ErrorKind.TheVariants.{ArgumentConflict, InvalidValue, MissingRequiredArgument, ValueValidation, WrongNumberOfValues}
 use Rattle.clap.specs.declared.parser.matches.ValueSource.TheVariants.{CommandLine}
 use Rattle.clap.proofs.ValueTestLemmas.{accepts-Accepts}
-use Rattle.cli.specs.Asks.{AsksBy, AsksFor, HasForm, HasImage, HasNumber, HasPath, HasScenario, HasState, Order}
+use Rattle.cli.specs.Asks.{AsksBy, AsksFor, HasBudget, HasForm, HasImage, HasNumber, HasPath, HasScenario, HasState, HasWorkers, Order}
 use Rattle.cli.specs.Asks as order
 use Rattle.regtypes.specs.declared.image_form.ImageForm.{ImageForm}
 use Rattle.regtypes.specs.declared.image_form.ImageForm.TheVariants.{Sbi1, Sbi2}
@@ -38,6 +38,8 @@ pub record IsSound (r : Row) : Type 0 where
   pub one : r.values ≡ text ∷ []
   pub state : IsNumbered (codes "state") 0 1024 r text
   pub form : IsNumbered (codes "form") 1 2 r text
+  pub workers : IsNumbered (codes "workers") 1 16 r text
+  pub budget : IsNumbered (codes "budget") 1 1000000 r text
 
 -- the row of a first use
 abbrev new_row : Rule → Text → Row
@@ -131,14 +133,26 @@ program = built sblog_app
 abbrev run_leaf : Shape
 run_leaf = get_or program.subs 0 program.top
 
+abbrev live_leaf : Shape
+live_leaf = get_or program.subs 1 program.top
+
+abbrev draw_leaf : Shape
+draw_leaf = get_or program.subs 2 program.top
+
 abbrev pub check_leaf : Shape
-check_leaf = get_or program.subs 1 program.top
+check_leaf = get_or program.subs 3 program.top
+
+abbrev explain_leaf : Shape
+explain_leaf = get_or program.subs 4 program.top
 
 abbrev asm_leaf : Shape
-asm_leaf = get_or program.subs 2 program.top
+asm_leaf = get_or program.subs 5 program.top
+
+abbrev pack_leaf : Shape
+pack_leaf = get_or program.subs 6 program.top
 
 abbrev dis_leaf : Shape
-dis_leaf = get_or program.subs 3 program.top
+dis_leaf = get_or program.subs 7 program.top
 
 abbrev rule_in : Shape → ℕ → Rule
 rule_in s i = get_or s.rules i help_rule
@@ -147,9 +161,16 @@ rule_in s i = get_or s.rules i help_rule
 unlike : {A : Type 0} (id name : Text) → bytes_eq id name ≡ false → bytes_eq id name ≡ true → A
 unlike id name other same = absurd (true≢false (sym same ∙ other))
 
-path_sound : (a : Rule) → bytes_eq a.id (codes "state") ≡ false → bytes_eq a.id (codes "form") ≡ false → (v : Text) → IsSound (new_row a v)
-path_sound a state form v =
-    record { text = v; one = refl; state = unlike a.id (codes "state") state; form = unlike a.id (codes "form") form }
+path_sound : (a : Rule) → bytes_eq a.id (codes "state") ≡ false → bytes_eq a.id (codes "form") ≡ false
+    → bytes_eq a.id (codes "workers") ≡ false → bytes_eq a.id (codes "budget") ≡ false → (v : Text) → IsSound (new_row a v)
+path_sound a state form workers budget v = record {
+  text = v;
+  one = refl;
+  state = unlike a.id (codes "state") state;
+  form = unlike a.id (codes "form") form;
+  workers = unlike a.id (codes "workers") workers;
+  budget = unlike a.id (codes "budget") budget;
+}
 
 accepted : (b : Bool) → cond b [] (ValueValidation ∷ []) ≡ [] → b ≡ true
 accepted true e = refl
@@ -161,6 +182,8 @@ state_sound v fits = record {
   one = refl;
   state = λ _. (refl, accepted (accepts false (parser.Unsigned 0 1024) v) fits);
   form = unlike (codes "state") (codes "form") refl;
+  workers = unlike (codes "state") (codes "workers") refl;
+  budget = unlike (codes "state") (codes "budget") refl;
 }
 
 form_sound : (v : Text) → value_kinds false (parser.Unsigned 1 2) v ≡ [] → IsSound (new_row (rule_in asm_leaf 3) v)
@@ -169,6 +192,28 @@ form_sound v fits = record {
   one = refl;
   state = unlike (codes "form") (codes "state") refl;
   form = λ _. (refl, accepted (accepts false (parser.Unsigned 1 2) v) fits);
+  workers = unlike (codes "form") (codes "workers") refl;
+  budget = unlike (codes "form") (codes "budget") refl;
+}
+
+workers_sound : (v : Text) → value_kinds false (parser.Unsigned 1 16) v ≡ [] → IsSound (new_row (rule_in live_leaf 1) v)
+workers_sound v fits = record {
+  text = v;
+  one = refl;
+  state = unlike (codes "workers") (codes "state") refl;
+  form = unlike (codes "workers") (codes "form") refl;
+  workers = λ _. (refl, accepted (accepts false (parser.Unsigned 1 16) v) fits);
+  budget = unlike (codes "workers") (codes "budget") refl;
+}
+
+budget_sound : (v : Text) → value_kinds false (parser.Unsigned 1 1000000) v ≡ [] → IsSound (new_row (rule_in live_leaf 2) v)
+budget_sound v fits = record {
+  text = v;
+  one = refl;
+  state = unlike (codes "budget") (codes "state") refl;
+  form = unlike (codes "budget") (codes "form") refl;
+  workers = unlike (codes "budget") (codes "workers") refl;
+  budget = λ _. (refl, accepted (accepts false (parser.Unsigned 1 1000000) v) fits);
 }
 
 -- a use of `--help` is a fault
@@ -176,16 +221,31 @@ help_keeps : Keeps IsSound false (rule_in check_leaf 1)
 help_keeps values rows none all = absurd (some_kind _ _ (second_none (range_kinds 0 0 (length values)) _ none))
 
 check_keeps : AllByRecursion (Keeps IsSound false) check_leaf.rules
-check_keeps = (set_keeps IsSound (rule_in check_leaf 0) (λ v fits. path_sound (rule_in check_leaf 0) refl refl v), (help_keeps, tt))
+check_keeps = (set_keeps IsSound (rule_in check_leaf 0) (λ v fits. path_sound (rule_in check_leaf 0) refl refl refl refl v), (help_keeps, tt))
 
 run_keeps : AllByRecursion (Keeps IsSound false) run_leaf.rules
-run_keeps = (set_keeps IsSound (rule_in run_leaf 0) (λ v fits. path_sound (rule_in run_leaf 0) refl refl v), (help_keeps, tt))
+run_keeps = (set_keeps IsSound (rule_in run_leaf 0) (λ v fits. path_sound (rule_in run_leaf 0) refl refl refl refl v), (help_keeps, tt))
+
+live_keeps : AllByRecursion (Keeps IsSound false) live_leaf.rules
+live_keeps = (
+  set_keeps IsSound (rule_in live_leaf 0) (λ v fits. path_sound (rule_in live_leaf 0) refl refl refl refl v),
+  (
+    set_keeps IsSound (rule_in live_leaf 1) (λ v fits. workers_sound v fits),
+    (set_keeps IsSound (rule_in live_leaf 2) (λ v fits. budget_sound v fits), (help_keeps, tt)),
+  ),
+)
+
+draw_keeps : AllByRecursion (Keeps IsSound false) draw_leaf.rules
+draw_keeps = (
+  set_keeps IsSound (rule_in draw_leaf 0) (λ v fits. path_sound (rule_in draw_leaf 0) refl refl refl refl v),
+  (set_keeps IsSound (rule_in draw_leaf 1) (λ v fits. path_sound (rule_in draw_leaf 1) refl refl refl refl v), (help_keeps, tt)),
+)
 
 asm_keeps : AllByRecursion (Keeps IsSound false) asm_leaf.rules
 asm_keeps = (
-  set_keeps IsSound (rule_in asm_leaf 0) (λ v fits. path_sound (rule_in asm_leaf 0) refl refl v),
+  set_keeps IsSound (rule_in asm_leaf 0) (λ v fits. path_sound (rule_in asm_leaf 0) refl refl refl refl v),
   (
-    set_keeps IsSound (rule_in asm_leaf 1) (λ v fits. path_sound (rule_in asm_leaf 1) refl refl v),
+    set_keeps IsSound (rule_in asm_leaf 1) (λ v fits. path_sound (rule_in asm_leaf 1) refl refl refl refl v),
     (
       set_keeps IsSound (rule_in asm_leaf 2) (λ v fits. state_sound v fits),
       (set_keeps IsSound (rule_in asm_leaf 3) (λ v fits. form_sound v fits), (help_keeps, tt)),
@@ -193,8 +253,23 @@ asm_keeps = (
   ),
 )
 
+explain_keeps : AllByRecursion (Keeps IsSound false) explain_leaf.rules
+explain_keeps = (set_keeps IsSound (rule_in explain_leaf 0) (λ v fits. path_sound (rule_in explain_leaf 0) refl refl refl refl v), (help_keeps, tt))
+
+pack_keeps : AllByRecursion (Keeps IsSound false) pack_leaf.rules
+pack_keeps = (
+  set_keeps IsSound (rule_in pack_leaf 0) (λ v fits. path_sound (rule_in pack_leaf 0) refl refl refl refl v),
+  (
+    set_keeps IsSound (rule_in pack_leaf 1) (λ v fits. path_sound (rule_in pack_leaf 1) refl refl refl refl v),
+    (
+      set_keeps IsSound (rule_in pack_leaf 2) (λ v fits. state_sound v fits),
+      (set_keeps IsSound (rule_in pack_leaf 3) (λ v fits. form_sound v fits), (help_keeps, tt)),
+    ),
+  ),
+)
+
 dis_keeps : AllByRecursion (Keeps IsSound false) dis_leaf.rules
-dis_keeps = (set_keeps IsSound (rule_in dis_leaf 0) (λ v fits. path_sound (rule_in dis_leaf 0) refl refl v), (help_keeps, tt))
+dis_keeps = (set_keeps IsSound (rule_in dis_leaf 0) (λ v fits. path_sound (rule_in dis_leaf 0) refl refl refl refl v), (help_keeps, tt))
 
 top_keeps : AllByRecursion (Keeps IsSound false) program.top.rules
 top_keeps = (help_keeps, tt)
@@ -276,6 +351,30 @@ run_given words none =
     let rows = rows_after run_leaf.rules [] words in
     path_given (codes "SCENARIO") rows fine.0 (one_required (is_given (codes "SCENARIO") rows) fine.3)
 
+live_given : (words : List Text) → level_fault live_leaf [] nothing_held words false [] ≡ []
+    → ((path : Text) × HasScenario (rows_after live_leaf.rules [] words) path)
+    × ((n : ℕ) × HasWorkers (rows_after live_leaf.rules [] words) n) × ((n : ℕ) × HasBudget (rows_after live_leaf.rules [] words) n)
+live_given words none =
+    let fine = level_fine IsSound live_leaf (λ p a is. find_all (Keeps IsSound false) p live_leaf.rules a live_keeps is) [] words false [] (refl, (refl, (refl, (refl, tt)))) none in
+    let rows = rows_after live_leaf.rules [] words in
+    let all = three_required (is_given (codes "SCENARIO") rows) (is_given (codes "workers") rows) (is_given (codes "budget") rows) fine.3 in
+    (path_given (codes "SCENARIO") rows fine.0 all.0, number_given (codes "workers") 1 16 rows fine.0 (λ r s. s.workers) all.1, number_given (codes "budget") 1 1000000 rows fine.0 (λ r s. s.budget) all.2)
+
+draw_given : (words : List Text) → level_fault draw_leaf [] nothing_held words false [] ≡ []
+    → ((path : Text) × HasScenario (rows_after draw_leaf.rules [] words) path)
+    × ((path : Text) × HasPath (codes "OUT") (rows_after draw_leaf.rules [] words) path)
+draw_given words none =
+    let fine = level_fine IsSound draw_leaf (λ p a is. find_all (Keeps IsSound false) p draw_leaf.rules a draw_keeps is) [] words false [] (refl, (refl, (refl, tt))) none in
+    let rows = rows_after draw_leaf.rules [] words in
+    let all = two_required (is_given (codes "SCENARIO") rows) (is_given (codes "OUT") rows) fine.3 in
+    (path_given (codes "SCENARIO") rows fine.0 all.0, path_given (codes "OUT") rows fine.0 all.1)
+
+explain_given : (words : List Text) → level_fault explain_leaf [] nothing_held words false [] ≡ [] → (path : Text) × HasImage (rows_after explain_leaf.rules [] words) path
+explain_given words none =
+    let fine = level_fine IsSound explain_leaf (λ p a is. find_all (Keeps IsSound false) p explain_leaf.rules a explain_keeps is) [] words false [] (refl, (refl, tt)) none in
+    let rows = rows_after explain_leaf.rules [] words in
+    path_given (codes "IMAGE") rows fine.0 (one_required (is_given (codes "IMAGE") rows) fine.3)
+
 asm_given : (words : List Text) → level_fault asm_leaf [] nothing_held words false [] ≡ []
     → ((path : Text) × HasPath (codes "SRC") (rows_after asm_leaf.rules [] words) path)
     × ((path : Text) × HasPath (codes "OUT") (rows_after asm_leaf.rules [] words) path)
@@ -286,6 +385,16 @@ asm_given words none =
     let all = three_required (is_given (codes "SRC") rows) (is_given (codes "OUT") rows) (is_given (codes "state") rows) fine.3 in
     (path_given (codes "SRC") rows fine.0 all.0, path_given (codes "OUT") rows fine.0 all.1, number_given (codes "state") 0 1024 rows fine.0 (λ r s. s.state) all.2, form_given rows fine.0)
 
+pack_given : (words : List Text) → level_fault pack_leaf [] nothing_held words false [] ≡ []
+    → ((path : Text) × HasPath (codes "CODE") (rows_after pack_leaf.rules [] words) path)
+    × ((path : Text) × HasPath (codes "OUT") (rows_after pack_leaf.rules [] words) path)
+    × ((n : ℕ) × HasState (rows_after pack_leaf.rules [] words) n) × ((form : ImageForm) × HasForm (rows_after pack_leaf.rules [] words) form)
+pack_given words none =
+    let fine = level_fine IsSound pack_leaf (λ p a is. find_all (Keeps IsSound false) p pack_leaf.rules a pack_keeps is) [] words false [] (refl, (refl, (refl, (refl, (refl, tt))))) none in
+    let rows = rows_after pack_leaf.rules [] words in
+    let all = three_required (is_given (codes "CODE") rows) (is_given (codes "OUT") rows) (is_given (codes "state") rows) fine.3 in
+    (path_given (codes "CODE") rows fine.0 all.0, path_given (codes "OUT") rows fine.0 all.1, number_given (codes "state") 0 1024 rows fine.0 (λ r s. s.state) all.2, form_given rows fine.0)
+
 dis_given : (words : List Text) → level_fault dis_leaf [] nothing_held words false [] ≡ [] → (path : Text) × HasImage (rows_after dis_leaf.rules [] words) path
 dis_given words none =
     let fine = level_fine IsSound dis_leaf (λ p a is. find_all (Keeps IsSound false) p dis_leaf.rules a dis_keeps is) [] words false [] (refl, (refl, tt)) none in
@@ -293,29 +402,41 @@ dis_given words none =
     path_given (codes "IMAGE") rows fine.0 (one_required (is_given (codes "IMAGE") rows) fine.3)
 
 -- the command that the words name
-abbrev named : Bool → Bool → Bool → Bool → Bool → Option Shape
-named run check asm dis help =
-    cond run (Some run_leaf) (cond check (Some check_leaf) (cond asm (Some asm_leaf)
-    (cond dis (Some dis_leaf) (cond help (Some (get_or program.subs 4 program.top)) None))))
+abbrev named : Bool → Bool → Bool → Bool → Bool → Bool → Bool → Bool → Bool → Option Shape
+named run live draw check explain asm pack dis help =
+    cond run (Some run_leaf) (cond live (Some live_leaf) (cond draw (Some draw_leaf) (cond check (Some check_leaf) (cond explain (Some explain_leaf)
+    (cond asm (Some asm_leaf) (cond pack (Some pack_leaf) (cond dis (Some dis_leaf) (cond help (Some (get_or program.subs 8 program.top)) None))))))))
 
-order_by : (run check asm dis help : Bool) (words : List Text) → (help ≡ true → ⊥)
-    → option_map_or (λ s. level_fault s [] nothing_held words false []) (named run check asm dis help) [] ≡ []
-    → is_some (option_map (λ s. rows_at s words) (named run check asm dis help)) ≡ true
-    → (o : Order) × AsksBy (option_map (λ s. rows_at s words) (named run check asm dis help)) o
-order_by true check asm dis help words no_help none has =
+order_by : (run live draw check explain asm pack dis help : Bool) (words : List Text) → (help ≡ true → ⊥)
+    → option_map_or (λ s. level_fault s [] nothing_held words false []) (named run live draw check explain asm pack dis help) [] ≡ []
+    → is_some (option_map (λ s. rows_at s words) (named run live draw check explain asm pack dis help)) ≡ true
+    → (o : Order) × AsksBy (option_map (λ s. rows_at s words) (named run live draw check explain asm pack dis help)) o
+order_by true live draw check explain asm pack dis help words no_help none has =
     let given = run_given words none in
     (order.Run given.0, (refl, given.1))
-order_by false true asm dis help words no_help none has =
+order_by false true draw check explain asm pack dis help words no_help none has =
+    let given = live_given words none in
+    (order.Live given.0.0 given.1.0 given.2.0, (refl, given.0.1, given.1.1, given.2.1))
+order_by false false true check explain asm pack dis help words no_help none has =
+    let given = draw_given words none in
+    (order.Draw given.0.0 given.1.0, (refl, given.0.1, given.1.1))
+order_by false false false true explain asm pack dis help words no_help none has =
     let given = check_given words none in
     (order.Check given.0, (refl, given.1))
-order_by false false true dis help words no_help none has =
+order_by false false false false true asm pack dis help words no_help none has =
+    let given = explain_given words none in
+    (order.Explain given.0, (refl, given.1))
+order_by false false false false false true pack dis help words no_help none has =
     let given = asm_given words none in
     (order.Asm given.0.0 given.1.0 given.2.0 given.3.0, (refl, given.0.1, given.1.1, given.2.1, given.3.1))
-order_by false false false true help words no_help none has =
+order_by false false false false false false true dis help words no_help none has =
+    let given = pack_given words none in
+    (order.Pack given.0.0 given.1.0 given.2.0 given.3.0, (refl, given.0.1, given.1.1, given.2.1, given.3.1))
+order_by false false false false false false false true help words no_help none has =
     let given = dis_given words none in
     (order.Dis given.0, (refl, given.1))
-order_by false false false false true words no_help none has = absurd (no_help refl)
-order_by false false false false false words no_help none has = absurd (true≢false (sym has))
+order_by false false false false false false false false true words no_help none has = absurd (no_help refl)
+order_by false false false false false false false false false words no_help none has = absurd (true≢false (sym has))
 
 or_false : (b : Bool) → (b || false) ≡ true → b ≡ true
 or_false true e = refl
@@ -345,7 +466,7 @@ asks_something words none =
         → (x : Order) × AsksBy (entered program o) x
     from None fine none has = absurd (true≢false (sym has))
     from (Some p) fine none has =
-        order_by (bytes_eq (codes "run") p.0 || false)
-        (bytes_eq (codes "check") p.0 || false) (bytes_eq (codes "asm") p.0 || false) (bytes_eq (codes "dis") p.0 || false)
-        (bytes_eq (codes "help") p.0 || false) p.1
+        order_by (bytes_eq (codes "run") p.0 || false) (bytes_eq (codes "live") p.0 || false) (bytes_eq (codes "draw") p.0 || false)
+        (bytes_eq (codes "check") p.0 || false) (bytes_eq (codes "explain") p.0 || false) (bytes_eq (codes "asm") p.0 || false)
+        (bytes_eq (codes "pack") p.0 || false) (bytes_eq (codes "dis") p.0 || false) (bytes_eq (codes "help") p.0 || false) p.1
         (not_named_help p.0 (fine refl)) none has

@@ -28,6 +28,14 @@ HasNumber id low high rows n = (text : Text) × (one_of id rows ≡ Some text) �
 abbrev pub HasState : List Row → ℕ → Type 0
 HasState rows n = HasNumber (codes "state") 0 1024 rows n
 
+-- the option --workers was given as the number n
+abbrev pub HasWorkers : List Row → ℕ → Type 0
+HasWorkers rows n = HasNumber (codes "workers") 1 16 rows n
+
+-- the option --budget was given as the number n
+abbrev pub HasBudget : List Row → ℕ → Type 0
+HasBudget rows n = HasNumber (codes "budget") 1 1000000 rows n
+
 -- the number by which --form names a form
 abbrev pub form_number : ImageForm → ℕ
 form_number Sbi1 = 1
@@ -41,37 +49,55 @@ HasForm rows form = HasNumber (codes "form") 1 2 rows (form_number form) ⊎ ((f
 abbrev pub HasPath : Text → List Row → Text → Type 0
 HasPath id rows path = first_of id rows ≡ Some path
 
--- the arguments IMAGE and SCENARIO were given as these paths
+-- the argument IMAGE was given as this path
 abbrev pub HasImage : List Row → Text → Type 0
 HasImage rows path = HasPath (codes "IMAGE") rows path
 
+-- the argument SCENARIO was given as this path
 abbrev pub HasScenario : List Row → Text → Type 0
 HasScenario rows path = HasPath (codes "SCENARIO") rows path
 
 -- what a command line can ask for, apart from where its texts lie
 pub data Order : Type 0 where
   Run : Text → Order
+  Live : Text → ℕ → ℕ → Order
+  Draw : Text → Text → Order
   Check : Text → Order
+  Explain : Text → Order
   Asm : Text → Text → ℕ → ImageForm → Order
+  Pack : Text → Text → ℕ → ImageForm → Order
   Dis : Text → Order
 
+-- a request with its paths as plain texts, wherever these lie in memory
 abbrev pub order_of : Request → Order
 order_of (request.Run scenario) = Run scenario.now
+order_of (request.Live scenario workers budget) = Live scenario.now workers budget
+order_of (request.Draw scenario picture) = Draw scenario.now picture.now
 order_of (request.Check image) = Check image.now
+order_of (request.Explain image) = Explain image.now
 order_of (request.Asm source image state form) = Asm source.now image.now state form
+order_of (request.Pack code image state form) = Pack code.now image.now state form
 order_of (request.Dis image) = Dis image.now
 
--- a length of a state is at most 1,024
+-- a length of a state is at most 1,024; workers are 1 to 16, and have a budget of 1 to 1,000,000
 abbrev pub IsInRange : Order → Type 0
+IsInRange (Live scenario workers budget) = (1 ≤ workers) × (workers ≤ 16) × (1 ≤ budget) × (budget ≤ 1000000)
 IsInRange (Asm source image state form) = state ≤ 1024
+IsInRange (Pack code image state form) = state ≤ 1024
 IsInRange order = Unit {0}
 
 -- the command of this name asks for it, with what its arguments were given
 abbrev pub AsksIn : Text → List Row → Order → Type 0
 AsksIn name rows (Run scenario) = (name ≡ codes "run") × HasScenario rows scenario
+AsksIn name rows (Live scenario workers budget) = (name ≡ codes "live")
+    × HasScenario rows scenario × HasWorkers rows workers × HasBudget rows budget
+AsksIn name rows (Draw scenario picture) = (name ≡ codes "draw") × HasScenario rows scenario × HasPath (codes "OUT") rows picture
 AsksIn name rows (Check image) = (name ≡ codes "check") × HasImage rows image
+AsksIn name rows (Explain image) = (name ≡ codes "explain") × HasImage rows image
 AsksIn name rows (Asm source image state form) = (name ≡ codes "asm")
     × HasPath (codes "SRC") rows source × HasPath (codes "OUT") rows image × HasState rows state × HasForm rows form
+AsksIn name rows (Pack code image state form) = (name ≡ codes "pack")
+    × HasPath (codes "CODE") rows code × HasPath (codes "OUT") rows image × HasState rows state × HasForm rows form
 AsksIn name rows (Dis image) = (name ≡ codes "dis") × HasImage rows image
 
 -- the same of the command that was used, if one was

@@ -23,14 +23,35 @@ number_rule id required low high = record (new_rule id) {
 abbrev pub run_app : App
 run_app = with_rule (new_app (codes "run")) (required_rule (codes "SCENARIO"))
 
+-- `live SCENARIO --workers N --budget B`
+abbrev pub live_app : App
+live_app = with_rule (with_rule (with_rule (new_app (codes "live")) (required_rule (codes "SCENARIO")))
+    (number_rule (codes "workers") true 1 16)) (number_rule (codes "budget") true 1 1000000)
+
+-- `draw SCENARIO OUT`
+abbrev pub draw_app : App
+draw_app = with_rule (with_rule (new_app (codes "draw")) (required_rule (codes "SCENARIO"))) (required_rule (codes "OUT"))
+
 -- `check IMAGE`
 abbrev pub check_app : App
 check_app = with_rule (new_app (codes "check")) (required_rule (codes "IMAGE"))
 
+-- `explain IMAGE`
+abbrev pub explain_app : App
+explain_app = with_rule (new_app (codes "explain")) (required_rule (codes "IMAGE"))
+
+-- `NAME SOURCE OUT --state N [--form F]`
+abbrev pub writer_app : Text → Text → App
+writer_app name source = with_rule (with_rule (with_rule (with_rule (new_app name) (required_rule source))
+    (required_rule (codes "OUT"))) (number_rule (codes "state") true 0 1024)) (number_rule (codes "form") false 1 2)
+
 -- `asm SRC OUT --state N [--form F]`
 abbrev pub asm_app : App
-asm_app = with_rule (with_rule (with_rule (with_rule (new_app (codes "asm")) (required_rule (codes "SRC")))
-    (required_rule (codes "OUT"))) (number_rule (codes "state") true 0 1024)) (number_rule (codes "form") false 1 2)
+asm_app = writer_app (codes "asm") (codes "SRC")
+
+-- `pack CODE OUT --state N [--form F]`
+abbrev pub pack_app : App
+pack_app = writer_app (codes "pack") (codes "CODE")
 
 -- `dis IMAGE`
 abbrev pub dis_app : App
@@ -43,5 +64,6 @@ top_app = on_top (λ s. record s { no_binary_name = true; subcommand_required = 
 
 -- the whole command line
 abbrev pub sblog_app : App
-sblog_app = with_subcommand (with_subcommand (with_subcommand (with_subcommand top_app run_app.top)
-    check_app.top) asm_app.top) dis_app.top
+sblog_app =
+    with_subcommand (with_subcommand (with_subcommand (with_subcommand (with_subcommand (with_subcommand (with_subcommand (with_subcommand top_app
+    run_app.top) live_app.top) draw_app.top) check_app.top) explain_app.top) asm_app.top) pack_app.top) dis_app.top

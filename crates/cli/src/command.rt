@@ -3,7 +3,7 @@
 ghost use Rattle.std.specs.Prelude.{◌≡◌, IfOk, codes, false, true};
 ghost use Rattle.clap.specs.Words.{app_of, rule_of};
 ghost use Rattle.clap.specs.declared.builder.Command.TheViews.{out-Command as fields_of};
-ghost use Rattle.cli.specs.Program.{asm_app, check_app, dis_app, number_rule, required_rule, run_app, sblog_app};
+ghost use Rattle.cli.specs.Program.{asm_app, check_app, dis_app, draw_app, explain_app, live_app, number_rule, pack_app, required_rule, run_app, sblog_app, top_app, writer_app};
 
 use clap::builder::ValueParser;
 use clap::{Arg, ArgAction, Command};
@@ -47,6 +47,27 @@ fn run<'a>(alloc: Global) -> Result<Command<'a>, AllocError>
         .arg(required(alloc, "SCENARIO"))
 }
 
+fn live<'a>(alloc: Global) -> Result<Command<'a>, AllocError>
+    ensures shape { IfOk result (λ c. app_of c ≡ live_app) }
+    ensures local { IfOk result (λ c. (fields_of c).has_globals ≡ false) }
+{
+    let scenario = Command::new(alloc, "live")
+        .about("Has N workers carry out the inputs of a scenario, each at most about B calls")
+        .arg(required(alloc, "SCENARIO"))?;
+    let workers = scenario.arg(number(alloc, "workers", "N", 1, 16))?;
+    workers.arg(number(alloc, "budget", "B", 1, 1_000_000))
+}
+
+fn draw<'a>(alloc: Global) -> Result<Command<'a>, AllocError>
+    ensures shape { IfOk result (λ c. app_of c ≡ draw_app) }
+    ensures local { IfOk result (λ c. (fields_of c).has_globals ≡ false) }
+{
+    let scenario = Command::new(alloc, "draw")
+        .about("Carries out a scenario, and writes its picture as an SVG file")
+        .arg(required(alloc, "SCENARIO"))?;
+    scenario.arg(required(alloc, "OUT"))
+}
+
 fn check<'a>(alloc: Global) -> Result<Command<'a>, AllocError>
     ensures shape { IfOk result (λ c. app_of c ≡ check_app) }
     ensures local { IfOk result (λ c. (fields_of c).has_globals ≡ false) }
@@ -56,16 +77,46 @@ fn check<'a>(alloc: Global) -> Result<Command<'a>, AllocError>
         .arg(required(alloc, "IMAGE"))
 }
 
+fn explain<'a>(alloc: Global) -> Result<Command<'a>, AllocError>
+    ensures shape { IfOk result (λ c. app_of c ≡ explain_app) }
+    ensures local { IfOk result (λ c. (fields_of c).has_globals ≡ false) }
+{
+    Command::new(alloc, "explain")
+        .about("Lists an image with what is known of its registers, and why it is refused")
+        .arg(required(alloc, "IMAGE"))
+}
+
+/// A command that writes an image of a source.
+fn writer<'a>(
+    alloc: Global,
+    name: &'a str,
+    about: &'a str,
+    source: &'a str,
+) -> Result<Command<'a>, AllocError>
+    ensures shape { IfOk result (λ c. app_of c ≡ writer_app name.entry.now source.entry.now) }
+    ensures local { IfOk result (λ c. (fields_of c).has_globals ≡ false) }
+{
+    let named = Command::new(alloc, name).about(about);
+    let with_source = named.arg(required(alloc, source))?;
+    let image = with_source.arg(required(alloc, "OUT"))?;
+    let state = image.arg(number(alloc, "state", "N", 0, 1024))?;
+    state.arg(form(alloc))
+}
+
 fn asm<'a>(alloc: Global) -> Result<Command<'a>, AllocError>
     ensures shape { IfOk result (λ c. app_of c ≡ asm_app) }
     ensures local { IfOk result (λ c. (fields_of c).has_globals ≡ false) }
 {
-    let source = Command::new(alloc, "asm")
-        .about("Writes the image of an assembler text, with N bytes of state")
-        .arg(required(alloc, "SRC"))?;
-    let image = source.arg(required(alloc, "OUT"))?;
-    let state = image.arg(number(alloc, "state", "N", 0, 1024))?;
-    state.arg(form(alloc))
+    let about = "Writes the image of an assembler text, with N bytes of state";
+    writer(alloc, "asm", about, "SRC")
+}
+
+fn pack<'a>(alloc: Global) -> Result<Command<'a>, AllocError>
+    ensures shape { IfOk result (λ c. app_of c ≡ pack_app) }
+    ensures local { IfOk result (λ c. (fields_of c).has_globals ≡ false) }
+{
+    let about = "Writes the image of the bytes of its code, with N bytes of state";
+    writer(alloc, "pack", about, "CODE")
 }
 
 fn dis<'a>(alloc: Global) -> Result<Command<'a>, AllocError>
@@ -77,17 +128,28 @@ fn dis<'a>(alloc: Global) -> Result<Command<'a>, AllocError>
         .arg(required(alloc, "IMAGE"))
 }
 
-/// The whole command line, read without the program's own name.
+/// The program without its commands, read without its own name.
+fn program<'a>(alloc: Global) -> Result<Command<'a>, AllocError>
+    ensures { IfOk result (λ c. app_of c ≡ top_app) }
+{
+    Command::new(alloc, "sblog")
+        .about("Runs verified message handlers")
+        .no_binary_name(true)
+        .subcommand_required(true)
+        .bin_name("sblog")
+}
+
+/// The whole command line.
 pub(crate) fn sblog<'a>(alloc: Global) -> Result<Command<'a>, AllocError>
     ensures { IfOk result (λ c. app_of c ≡ sblog_app) }
 {
-    let top = Command::new(alloc, "sblog")
-        .about("Runs verified message handlers")
-        .no_binary_name(true)
-        .subcommand_required(true);
-    let named = top.bin_name("sblog")?;
-    let with_run = named.subcommand(run(alloc)?)?;
-    let with_check = with_run.subcommand(check(alloc)?)?;
-    let with_asm = with_check.subcommand(asm(alloc)?)?;
-    with_asm.subcommand(dis(alloc)?)
+    let program = program(alloc)?;
+    let with_run = program.subcommand(run(alloc)?)?;
+    let with_live = with_run.subcommand(live(alloc)?)?;
+    let with_draw = with_live.subcommand(draw(alloc)?)?;
+    let with_check = with_draw.subcommand(check(alloc)?)?;
+    let with_explain = with_check.subcommand(explain(alloc)?)?;
+    let with_asm = with_explain.subcommand(asm(alloc)?)?;
+    let with_pack = with_asm.subcommand(pack(alloc)?)?;
+    with_pack.subcommand(dis(alloc)?)
 }

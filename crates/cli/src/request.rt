@@ -19,13 +19,35 @@ pub enum Request<'a> {
     Run {
         scenario: &'a str,
     },
+    /// `live SCENARIO --workers N --budget B`, with N from 1 to 16 and B from 1 to 1,000,000.
+    Live {
+        scenario: &'a str,
+        workers: u8,
+        budget: u32,
+    },
+    /// `draw SCENARIO OUT`.
+    Draw {
+        scenario: &'a str,
+        picture: &'a str,
+    },
     /// `check IMAGE`.
     Check {
+        image: &'a str,
+    },
+    /// `explain IMAGE`.
+    Explain {
         image: &'a str,
     },
     /// `asm SRC OUT --state N --form F`, with N at most 1,024; form 1 where no form is given.
     Asm {
         source: &'a str,
+        image: &'a str,
+        state: u16,
+        form: ImageForm,
+    },
+    /// `pack CODE OUT --state N --form F`, as `asm`.
+    Pack {
+        code: &'a str,
         image: &'a str,
         state: u16,
         form: ImageForm,
@@ -80,11 +102,39 @@ fn run_in<'a>(matches: &ArgMatches<'a>) -> Option<Request<'a>>
     Some(Request::Run { scenario })
 }
 
+fn live_in<'a>(matches: &ArgMatches<'a>) -> Option<Request<'a>>
+    ensures { GivesOrder (AsksIn (codes "live") (rows_of (found_of matches.now))) result }
+{
+    let scenario = path_in(matches, "SCENARIO")?;
+    let workers = number_in(matches, "workers", 1, 16)? as u8;
+    let budget = number_in(matches, "budget", 1, 1_000_000)? as u32;
+    Some(Request::Live {
+        scenario,
+        workers,
+        budget,
+    })
+}
+
+fn draw_in<'a>(matches: &ArgMatches<'a>) -> Option<Request<'a>>
+    ensures { GivesOrder (AsksIn (codes "draw") (rows_of (found_of matches.now))) result }
+{
+    let scenario = path_in(matches, "SCENARIO")?;
+    let picture = path_in(matches, "OUT")?;
+    Some(Request::Draw { scenario, picture })
+}
+
 fn check_in<'a>(matches: &ArgMatches<'a>) -> Option<Request<'a>>
     ensures { GivesOrder (AsksIn (codes "check") (rows_of (found_of matches.now))) result }
 {
     let image = path_in(matches, "IMAGE")?;
     Some(Request::Check { image })
+}
+
+fn explain_in<'a>(matches: &ArgMatches<'a>) -> Option<Request<'a>>
+    ensures { GivesOrder (AsksIn (codes "explain") (rows_of (found_of matches.now))) result }
+{
+    let image = path_in(matches, "IMAGE")?;
+    Some(Request::Explain { image })
 }
 
 fn asm_in<'a>(matches: &ArgMatches<'a>) -> Option<Request<'a>>
@@ -96,6 +146,21 @@ fn asm_in<'a>(matches: &ArgMatches<'a>) -> Option<Request<'a>>
     let form = form_in(matches)?;
     Some(Request::Asm {
         source,
+        image,
+        state,
+        form,
+    })
+}
+
+fn pack_in<'a>(matches: &ArgMatches<'a>) -> Option<Request<'a>>
+    ensures { GivesOrder (AsksIn (codes "pack") (rows_of (found_of matches.now))) result }
+{
+    let code = path_in(matches, "CODE")?;
+    let image = path_in(matches, "OUT")?;
+    let state = number_in(matches, "state", 0, 1024)? as u16;
+    let form = form_in(matches)?;
+    Some(Request::Pack {
+        code,
         image,
         state,
         form,
@@ -115,8 +180,12 @@ fn request_in<'a>(name: &str, matches: &ArgMatches<'a>) -> Option<Request<'a>>
 {
     match name {
         "run" => run_in(matches),
+        "live" => live_in(matches),
+        "draw" => draw_in(matches),
         "check" => check_in(matches),
+        "explain" => explain_in(matches),
         "asm" => asm_in(matches),
+        "pack" => pack_in(matches),
         "dis" => dis_in(matches),
         _ => None,
     }

@@ -10,6 +10,29 @@ fn requests(rt: HostRuntime) -> Result<(), Fail> {
         ("check adder.sbi", Request::Check { image }),
         ("run a.txt", Request::Run { scenario }),
         (
+            "live a.txt --workers 16 --budget 1",
+            Request::Live {
+                scenario,
+                workers: 16,
+                budget: 1,
+            },
+        ),
+        (
+            "live --budget=1000000 a.txt --workers=1",
+            Request::Live {
+                scenario,
+                workers: 1,
+                budget: 1_000_000,
+            },
+        ),
+        (
+            "draw a.txt a.svg",
+            Request::Draw {
+                scenario,
+                picture: "a.svg",
+            },
+        ),
+        (
             "asm adder.s adder.sbi --state 8",
             Request::Asm {
                 source: "adder.s",
@@ -33,6 +56,16 @@ fn requests(rt: HostRuntime) -> Result<(), Fail> {
                 source: "adder.s",
                 image,
                 state: 0,
+                form: ImageForm::Sbi2,
+            },
+        ),
+        ("explain adder.sbi", Request::Explain { image }),
+        (
+            "pack adder.code adder.sbi --form=2 --state=8",
+            Request::Pack {
+                code: "adder.code",
+                image,
+                state: 8,
                 form: ImageForm::Sbi2,
             },
         ),
@@ -61,6 +94,18 @@ fn usage_texts(rt: HostRuntime) -> Result<(), Fail> {
         ("first a 5", "unrecognized subcommand 'first'"),
         ("run", "<SCENARIO>"),
         ("run a b", "unexpected argument 'b' found"),
+        ("live a --workers 4", "--budget <B>"),
+        ("live a --budget 4", "--workers <N>"),
+        ("live --workers 4 --budget 4", "<SCENARIO>"),
+        ("live a --workers 0 --budget 4", "invalid value '0'"),
+        ("live a --workers 17 --budget 4", "invalid value '17'"),
+        ("live a --workers 4 --budget 0", "invalid value '0'"),
+        (
+            "live a --workers 4 --budget 1000001",
+            "invalid value '1000001'",
+        ),
+        ("draw a", "<OUT>"),
+        ("draw a b c", "unexpected argument 'c' found"),
         ("asm a b", "--state <N>"),
         ("asm a --state 0", "<OUT>"),
         ("asm a b --state 1025", "invalid value '1025'"),
@@ -69,6 +114,12 @@ fn usage_texts(rt: HostRuntime) -> Result<(), Fail> {
         ("asm a b --state 8 --form 3", "invalid value '3'"),
         ("asm a b --state 8 --form", "--form <F>"),
         ("asm a b --state 8 --form 1 --form 1", "--form <F>"),
+        ("explain", "<IMAGE>"),
+        ("explain a b", "unexpected argument 'b' found"),
+        ("pack a b", "--state <N>"),
+        ("pack a --state 0", "<OUT>"),
+        ("pack a b --state 1025", "invalid value '1025'"),
+        ("pack a b --state 8 --form 3", "invalid value '3'"),
         ("dis", "<IMAGE>"),
         ("--help", "Usage: sblog <COMMAND>"),
         ("help run", "Usage: sblog run <SCENARIO>"),
@@ -93,11 +144,15 @@ const PAGES: &str = "Runs verified message handlers
 Usage: sblog <COMMAND>
 
 Commands:
-  run    Carries out a scenario, and prints its trace and report
-  check  Verifies an image and prints how many instructions it has
-  asm    Writes the image of an assembler text, with N bytes of state
-  dis    Prints the assembler text of an image
-  help   Print this message or the help of the given subcommand(s)
+  run      Carries out a scenario, and prints its trace and report
+  live     Has N workers carry out the inputs of a scenario, each at most about B calls
+  draw     Carries out a scenario, and writes its picture as an SVG file
+  check    Verifies an image and prints how many instructions it has
+  explain  Lists an image with what is known of its registers, and why it is refused
+  asm      Writes the image of an assembler text, with N bytes of state
+  pack     Writes the image of the bytes of its code, with N bytes of state
+  dis      Prints the assembler text of an image
+  help     Print this message or the help of the given subcommand(s)
 
 Options:
   -h, --help  Print help
@@ -110,9 +165,39 @@ Arguments:
 
 Options:
   -h, --help  Print help
+Has N workers carry out the inputs of a scenario, each at most about B calls
+
+Usage: sblog live --workers <N> --budget <B> <SCENARIO>
+
+Arguments:
+  <SCENARIO>  
+
+Options:
+      --workers <N>  
+      --budget <B>   
+  -h, --help         Print help
+Carries out a scenario, and writes its picture as an SVG file
+
+Usage: sblog draw <SCENARIO> <OUT>
+
+Arguments:
+  <SCENARIO>  
+  <OUT>       
+
+Options:
+  -h, --help  Print help
 Verifies an image and prints how many instructions it has
 
 Usage: sblog check <IMAGE>
+
+Arguments:
+  <IMAGE>  
+
+Options:
+  -h, --help  Print help
+Lists an image with what is known of its registers, and why it is refused
+
+Usage: sblog explain <IMAGE>
 
 Arguments:
   <IMAGE>  
@@ -126,6 +211,18 @@ Usage: sblog asm [OPTIONS] --state <N> <SRC> <OUT>
 Arguments:
   <SRC>  
   <OUT>  
+
+Options:
+      --state <N>  
+      --form <F>   Form of the image, 1 or 2 [default: 1]
+  -h, --help       Print help
+Writes the image of the bytes of its code, with N bytes of state
+
+Usage: sblog pack [OPTIONS] --state <N> <CODE> <OUT>
+
+Arguments:
+  <CODE>  
+  <OUT>   
 
 Options:
       --state <N>  
@@ -149,8 +246,12 @@ fn help_pages(rt: HostRuntime) -> Result<(), Fail> {
     for line in [
         "--help",
         "run --help",
+        "live --help",
+        "draw --help",
         "check --help",
+        "explain --help",
         "asm --help",
+        "pack --help",
         "dis --help",
     ] {
         let words: Vec<&str> = line.split_whitespace().collect(alloc)?;

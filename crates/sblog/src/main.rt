@@ -36,7 +36,7 @@ fn main(rt: HostRuntime) -> ExitCode {
     let status = match arguments(&rt) {
         Ok(words) => {
             let mut files = SystemFiles(&rt);
-            sblog(alloc, words.as_slice(), &mut files, &mut out, &mut err)
+            sblog(&rt, alloc, words.as_slice(), &mut files, &mut out, &mut err)
         }
         Err(e) => argument_fault(alloc, e).tell(&mut err),
     };

@@ -5,6 +5,7 @@ use Rattle.std.proofs.lemmas.Bool.{leb-true, leb-false}
 use Rattle.decode.specs.declared.insn.Insn.{Insn}
 use Rattle.decode.specs.Encoding.{encoding}
 use Rattle.decode.proofs.SlotLemmas.{length_encoding}
+use Rattle.explain.specs.Listing.{IsExplained}
 use Rattle.regtypes.specs.declared.image_form.ImageForm.{ImageForm}
 use Rattle.verifier.specs.ImageFile.{BreaksFirst, HasHeader, IsFile, IsHeaderFault, IsRefusal, IsUnread, header_bytes, order}
 use Rattle.verifier.specs.declared.fault.HeaderFault.{HeaderFault}
@@ -44,6 +45,19 @@ head_file form is len bytes f = go (heads bytes)
     go : (take 8201 bytes ≡ bytes) ⊎ (8201 < length bytes) → IsFile form is len bytes
     go (inl all) = subst (IsFile form is len) all f
     go (inr long) = absurd (omega (arith, file_length form is len (take 8201 bytes) f, cut bytes long))
+
+pub head_explained : (bytes text : List ℕ) → IsExplained (take 8201 bytes) text → IsExplained bytes text
+head_explained bytes text e = record {
+  study = e.study;
+  found = record {
+    code = e.found.code;
+    file = head_file e.study.form e.found.code e.study.state_len bytes e.found.file;
+    slots = e.found.slots;
+    judged = e.found.judged;
+    counted = e.found.counted;
+  };
+  listed = e.listed;
+}
 
 -- a header's fault stays when more follows
 still_broken : (fault : HeaderFault) (h : FileHeader) (rest more : List ℕ) → 8193 ≤ length rest

@@ -1,4 +1,5 @@
 mod AsmLemmas
 mod CauseLemmas
 mod HeadLemmas
+mod PackLemmas
 mod StageLemmas

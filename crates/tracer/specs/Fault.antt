@@ -7,6 +7,8 @@ use Rattle.assemble.specs.declared.fault.AsmError.TheVariants as text
 use Rattle.cli.specs.declared.refusal.Refusal.{Refusal}
 use Rattle.cli.specs.declared.refusal.Refusal.TheVariants as refusal
 use Rattle.decode.specs.Refusal.{rule_number}
+use Rattle.decode.specs.declared.fault.DecodeError.{DecodeError}
+use Rattle.decode.specs.declared.fault.DecodeError.TheVariants as code
 use Rattle.regtypes.specs.Rules as rules
 use Rattle.scenario.specs.declared.scenario.ScenarioError.{ScenarioError}
 use Rattle.scenario.specs.declared.scenario.ScenarioError.TheVariants as scenario
@@ -45,24 +47,34 @@ fault_text InputOutput = codes "input or output\n"
 
 -- ---- the fault that an error of a part is
 
+-- the fault of a command line: the text on usage, or want of memory
 abbrev pub fault_of_refusal : Refusal → Fault
 fault_of_refusal (refusal.Usage usage) = Usage usage
 fault_of_refusal refusal.Memory = Memory
 
+-- the fault of a file or stream: it can't be read or written, or want of memory
 abbrev pub fault_of_failure : Failure → Fault
 fault_of_failure failure.Memory = Memory
 fault_of_failure failure.InputOutput = InputOutput
 
+-- the fault of an image file: that of its header, of its code's bytes or of its typing, or want of memory
 abbrev pub fault_of_image : ImageError → Fault
 fault_of_image image.Memory = Memory
 fault_of_image (image.Header fault) = Header fault
 fault_of_image (image.Decode rule slot) = Decode rule slot
 fault_of_image (image.Verify rule slot) = Verify rule slot
 
+-- the fault of raw code: the rule that its first faulty instruction breaks and the slot, or want of memory
+abbrev pub fault_of_code : DecodeError → Fault
+fault_of_code code.Memory = Memory
+fault_of_code (code.Fault rule slot) = Decode rule slot
+
+-- the fault of an assembler text: the least rule that its first faulty line breaks, or want of memory
 abbrev pub fault_of_text : AsmError → Fault
 fault_of_text text.Memory = Memory
 fault_of_text (text.Fault rule line) = Assemble rule line
 
+-- the fault of a scenario: its first faulty line, 0 where it only lacks processes, or want of memory
 abbrev pub fault_of_scenario : ScenarioError → Fault
 fault_of_scenario scenario.Memory = Memory
 fault_of_scenario (scenario.Line line) = Scenario line

@@ -1,9 +1,12 @@
 pub mod Asm
 pub mod Check
 pub mod Dis
+pub mod Draw
 pub mod Fault
 pub mod Files
 pub mod Inside
+pub mod Live
+pub mod Pack
 pub mod Program
 pub mod Report
 pub mod Run

@@ -1,14 +1,16 @@
 -- How the program ends: the words, the files that they name, and whether a file or a stream failed decide it.
 use Rattle.std.specs.Prelude.{◌≡◌, ◌≢◌, ◌⊎◌, ℕ, Bool, true, List, Option, Some}
 use Rattle.std.specs.Io.KnownBytes.{Appends}
-use Rattle.cli.specs.Asks.{AsksFor, IsRefusal, Order, Run, Check, Asm, Dis}
+use Rattle.cli.specs.Asks.{AsksFor, IsRefusal, Order, Run, Live, Draw, Check, Explain, Asm, Pack, Dis}
 use Rattle.cli.specs.declared.refusal.Refusal.TheVariants as refusal
-use Rattle.scenario.specs.declared.order.Allowed.TheVariants.{All}
+use Rattle.scenario.specs.declared.order.Allowed.TheVariants.{All, Inputs}
 use Rattle.tracer.specs.Asm.{IsAssembled, IsUnassembled}
 use Rattle.tracer.specs.Check.{IsImageFault}
 use Rattle.tracer.specs.Dis.{IsUnlisted}
+use Rattle.tracer.specs.Draw.{IsDrawn}
 use Rattle.tracer.specs.Fault.{fault_text, status_of}
 use Rattle.tracer.specs.Files.{Content}
+use Rattle.tracer.specs.Pack.{IsPacked, IsUnpacked}
 use Rattle.tracer.specs.Report.{IsReport, path_of}
 use Rattle.tracer.specs.Run.{IsCutText}
 use Rattle.tracer.specs.Stage.{IsUnstaged}
@@ -17,15 +19,18 @@ use Rattle.tracer.specs.declared.fault.Fault.TheVariants.{Usage, Memory, InputOu
 
 -- ---- an order that is carried out
 
--- the image file of the source is there, and every other file is as it was
-pub record IsWritten (source image : List ℕ) (assembles : List ℕ → List ℕ → Type 0) (content content' : Content) : Type 0 where
-  pub file : (bytes before : List ℕ) → content source ≡ Some bytes → content image ≡ Some before
-      → (file : List ℕ) × assembles bytes file × (content' image ≡ Some file)
-  pub others : (other : List ℕ) → other ≢ image → content' other ≡ content other
+-- the file that is made of the source is at its place, and every other file is as it was
+pub record IsWritten (source place : List ℕ) (makes : List ℕ → List ℕ → Type 0) (content content' : Content) : Type 0 where
+  pub file : (bytes before : List ℕ) → content source ≡ Some bytes → content place ≡ Some before
+      → (file : List ℕ) × makes bytes file × (content' place ≡ Some file)
+  pub others : (other : List ℕ) → other ≢ place → content' other ≡ content other
 
--- the files after an order: `asm` writes the image file of its source, the others leave all as it was
+-- the files after an order: `asm` and `pack` write the image file of their source, `draw` the picture of its scenario, the others
+-- leave all as it was
 abbrev pub Leaves : Order → Content → Content → Type 0
 Leaves (Asm source image state form) content content' = IsWritten source image (λ bytes file. IsAssembled bytes state form file) content content'
+Leaves (Pack code image state form) content content' = IsWritten code image (λ bytes file. IsPacked bytes state form file) content content'
+Leaves (Draw scenario picture) content content' = IsWritten scenario picture (λ bytes file. IsDrawn content bytes file) content content'
 Leaves order content content' = content' ≡ content
 
 -- the order prints this text, by its file
@@ -50,8 +55,12 @@ pub record IsDone (words : List (List ℕ)) (content content' : Content) (out ou
 -- the fault is the reason why the order's file, with these bytes, is refused; or an image that a scenario names
 abbrev pub IsRefused : Content → Order → List ℕ → Fault → Type 0
 IsRefused content (Run scenario) bytes f = IsUnstaged content All bytes f
+IsRefused content (Live scenario workers budget) bytes f = IsUnstaged content Inputs bytes f
+IsRefused content (Draw scenario picture) bytes f = IsUnstaged content All bytes f
 IsRefused content (Check image) bytes f = IsImageFault bytes f
 IsRefused content (Asm source image state form) bytes f = IsUnassembled bytes f
+IsRefused content (Explain image) bytes f = IsUnlisted bytes f
+IsRefused content (Pack code image state form) bytes f = IsUnpacked bytes f
 IsRefused content (Dis image) bytes f = IsUnlisted bytes f
 
 -- what is read from the file at the path comes to the fault: it is refused so, or, for input or output, a file or a stream has

@@ -1,22 +1,34 @@
 -- What a command prints, by the file that it reads.
 use Rattle.std.specs.Prelude.{◌≡◌, ℕ, List, []}
-use Rattle.cli.specs.Asks.{Order, Run, Check, Asm, Dis}
+use Rattle.cli.specs.Asks.{Order, Run, Live, Draw, Check, Explain, Asm, Pack, Dis}
+use Rattle.explain.specs.Listing.{IsExplained}
 use Rattle.tracer.specs.Asm.{IsAssembled}
 use Rattle.tracer.specs.Check.{IsAccepted, accepted_text}
 use Rattle.tracer.specs.Dis.{IsListing}
+use Rattle.tracer.specs.Draw.{IsDrawn}
 use Rattle.tracer.specs.Files.{Content}
+use Rattle.tracer.specs.Live.{IsLiveText}
+use Rattle.tracer.specs.Pack.{IsPacked}
 use Rattle.tracer.specs.Run.{IsRunText}
 
 -- the path of the file that an order reads first
 abbrev pub path_of : Order → List ℕ
 path_of (Run scenario) = scenario
+path_of (Live scenario workers budget) = scenario
+path_of (Draw scenario picture) = scenario
 path_of (Check image) = image
 path_of (Asm source image state form) = source
+path_of (Explain image) = image
+path_of (Pack code image state form) = code
 path_of (Dis image) = image
 
 -- the order prints this text where that file has these bytes
 abbrev pub IsReport : Content → Order → List ℕ → List ℕ → Type 0
 IsReport content (Run scenario) bytes text = IsRunText content bytes text
+IsReport content (Live scenario workers budget) bytes text = IsLiveText content bytes text
+IsReport content (Draw scenario picture) bytes text = ((file : List ℕ) × IsDrawn content bytes file) × (text ≡ [])
 IsReport content (Check image) bytes text = (count : ℕ) × IsAccepted bytes count × (text ≡ accepted_text count)
 IsReport content (Asm source image state form) bytes text = ((file : List ℕ) × IsAssembled bytes state form file) × (text ≡ [])
+IsReport content (Explain image) bytes text = IsExplained bytes text
+IsReport content (Pack code image state form) bytes text = ((file : List ℕ) × IsPacked bytes state form file) × (text ≡ [])
 IsReport content (Dis image) bytes text = IsListing bytes text

@@ -1,7 +1,7 @@
 //! Why a command line was not carried out.
 
 ghost use Rattle.std.specs.Prelude.{◌≡◌, Some};
-ghost use Rattle.tracer.specs.Fault.{fault_of_failure, fault_of_image, fault_of_refusal, fault_of_scenario, fault_of_text, fault_text, status_of};
+ghost use Rattle.tracer.specs.Fault.{fault_of_code, fault_of_failure, fault_of_image, fault_of_refusal, fault_of_scenario, fault_of_text, fault_text, status_of};
 ghost use Rattle.tracer.specs.Program.{Tells};
 ghost use Rattle.tracer.specs.declared.fault.Fault.TheVariants.{Memory};
 
@@ -9,6 +9,7 @@ use crate::files::Failure;
 use crate::stream::Stream;
 use assemble::AsmError;
 use cli::{Refusal, Usage};
+use decode::DecodeError;
 use scenario::ScenarioError;
 use std::alloc::{AllocError, AllocFailed};
 use std::fmt;
@@ -137,6 +138,17 @@ impl From<ImageError> for Fault {
             ImageError::Header(fault) => Fault::Header(fault),
             ImageError::Decode { rule, slot } => Fault::Decode { rule, slot },
             ImageError::Verify { rule, slot } => Fault::Verify { rule, slot },
+        }
+    }
+}
+
+impl From<DecodeError> for Fault {
+    ghost from_gives = { λ e f. f ≡ fault_of_code e };
+
+    fn from(e: DecodeError) -> Fault {
+        match e {
+            DecodeError::Memory => Fault::Memory,
+            DecodeError::Fault { rule, slot } => Fault::Decode { rule, slot },
         }
     }
 }

@@ -20,8 +20,12 @@
 mod asm;
 mod check;
 mod dis;
+mod drawing;
+mod explaining;
 mod fault;
 mod files;
+mod living;
+mod pack;
 mod playing;
 mod program;
 mod staging;

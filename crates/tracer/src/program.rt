@@ -2,7 +2,7 @@
 
 ghost use Rattle.std.specs.Prelude.{◌≡◌, ◌≢◌, ◌≤◌, ◌⊎◌, ◌||◌, true, [], IfErr, IsOk, OnErr, OnOk, map, string_bytes};
 ghost use Rattle.std.specs.Io.KnownBytes.{Appends};
-ghost use Rattle.cli.specs.Asks.{Asm, IsInRange, order_of};
+ghost use Rattle.cli.specs.Asks.{Asm, IsInRange, Pack, order_of};
 ghost use Rattle.tracer.specs.Inside.{EndsShort};
 ghost use Rattle.tracer.specs.Program.{IsAnswer, IsAnswered, IsCause, IsCutShort, IsDone, IsFault, IsShort, IsTold, Leaves};
 ghost use Rattle.tracer.specs.declared.fault.Fault.TheVariants.{InputOutput, Memory};
@@ -10,14 +10,20 @@ ghost use Rattle.tracer.specs.declared.fault.Fault.TheVariants.{InputOutput, Mem
 use crate::asm::asm;
 use crate::check::check;
 use crate::dis::dis;
+use crate::drawing::draw_scenario;
+use crate::explaining::explain_image;
 use crate::fault::Fault;
 use crate::files::Files;
+use crate::living::live_scenario;
+use crate::pack::pack;
 use crate::playing::run_scenario;
 use crate::stream::Stream;
 use cli::{Request, parse_words};
 use regtypes::ImageForm;
 use std::alloc::Global;
 use std::convert::AsStr;
+use std::sync::Wait;
+use std::thread::Threads;
 
 /// Writes the image file of this form of the source file, with a state of this length.
 fn write_image<F: Files>(
@@ -41,8 +47,31 @@ fn write_image<F: Files>(
     Ok(())
 }
 
+/// Writes the image file of this form of the code in a file, with a state of this length.
+fn write_packed<F: Files>(
+    alloc: Global,
+    code: &str,
+    image: &str,
+    state: u16,
+    form: ImageForm,
+    files: &mut F,
+) -> Result<(), Fault>
+    requires { state ≤ 1024 }
+    ensures report { OnOk result (IsAnswer (F.content files.old) (Pack code.now image.now state form) []) }
+    ensures left { OnOk result (Leaves (Pack code.now image.now state form)
+        (F.content files.old) (F.content files.new)) }
+    ensures fault { IfErr result (IsFault (F.content files.old) (F.failed files.new) (Pack code.now image.now state form)) }
+    ensures kept { OnErr result (F.content files.new ≡ F.content files.old) }
+{
+    let words = files.read(alloc, code, None)?;
+    let bytes = pack(alloc, words.as_slice(), state, form)?;
+    files.write(image, bytes.as_slice())?;
+    Ok(())
+}
+
 /// Carries out what is asked for, and puts what is to be printed into an empty text.
-fn answer<F: Files>(
+fn answer<R: Threads + Wait + Sync, F: Files>(
+    rt: &R,
     alloc: Global,
     request: Request<'_>,
     files: &mut F,
@@ -61,6 +90,12 @@ fn answer<F: Files>(
 {
     match request {
         Request::Run { scenario } => run_scenario(alloc, scenario, files, text),
+        Request::Live {
+            scenario,
+            workers,
+            budget,
+        } => live_scenario(rt, alloc, scenario, workers, budget, files, text),
+        Request::Draw { scenario, picture } => draw_scenario(alloc, scenario, picture, files),
         Request::Check { image } => {
             let accepted = check(alloc, image, files)?;
             *text = accepted.to_string(alloc)?;
@@ -72,6 +107,16 @@ fn answer<F: Files>(
             state,
             form,
         } => write_image(alloc, source, image, state, form, files),
+        Request::Explain { image } => {
+            *text = explain_image(alloc, image, files)?;
+            Ok(())
+        }
+        Request::Pack {
+            code,
+            image,
+            state,
+            form,
+        } => write_packed(alloc, code, image, state, form, files),
         Request::Dis { image } => {
             *text = dis(alloc, image, files)?;
             Ok(())
@@ -80,7 +125,8 @@ fn answer<F: Files>(
 }
 
 /// Carries out what the words ask for, and puts what is to be printed into an empty text.
-fn carry_out<S: AsStr, F: Files>(
+fn carry_out<R: Threads + Wait + Sync, S: AsStr, F: Files>(
+    rt: &R,
     alloc: Global,
     words: &[S],
     files: &mut F,
@@ -96,7 +142,7 @@ fn carry_out<S: AsStr, F: Files>(
     ensures either { (F.content files.new ≡ F.content files.old) ⊎ (string_bytes text.new ≡ []) }
 {
     let request = parse_words(alloc, words)?;
-    answer(alloc, request, files, text)
+    answer(rt, alloc, request, files, text)
 }
 
 /// Prints a text, if it is not empty.
@@ -118,7 +164,8 @@ fn show<O: Stream>(text: &str, out: &mut O) -> Result<(), Fault>
 /// memory; 6 for input or output.
 ///
 /// A report goes to `out`, a fault to `err`, as whole lines.
-pub fn sblog<S: AsStr, F: Files, O: Stream, E: Stream>(
+pub fn sblog<R: Threads + Wait + Sync, S: AsStr, F: Files, O: Stream, E: Stream>(
+    rt: &R,
     alloc: Global,
     words: &[S],
     files: &mut F,
@@ -139,7 +186,7 @@ pub fn sblog<S: AsStr, F: Files, O: Stream, E: Stream>(
     ensures status { (result ≡ 0) ⊎ ((2 ≤ result) × (result ≤ 6)) }
 {
     let mut text = String::new(alloc);
-    match carry_out(alloc, words, files, &mut text) {
+    match carry_out(rt, alloc, words, files, &mut text) {
         Ok(()) => match show(text.as_str(), out) {
             Ok(()) => 0,
             Err(fault) => fault.tell(err),

@@ -5,7 +5,9 @@ mod text;
 use crate::{Failure, Files, Written, sblog};
 use std::alloc::Global;
 use std::str;
+use std::sync::Wait;
 use std::test::Fail;
+use std::thread::Threads;
 
 /// As many of the bytes as may be read.
 fn some_of(alloc: Global, bytes: &[u8], limit: Option<usize>) -> Result<Vec<u8>, Failure> {
@@ -46,9 +48,32 @@ static ADDER: [u8; 56] = *b"SBI1\x08\x00\x06\x00\
     \x0f\x34\x00\x00\x00\x00\x00\x00\x7b\x42\x00\x00\x00\x00\x00\x00\
     \xb7\x00\x00\x00\x00\x00\x00\x00\x95\x00\x00\x00\x00\x00\x00\x00";
 
+/// What is said of `exit` alone.
+static UNSET_AT_EXIT: &str = "form 1, 8 bytes of state
+0: exit
+    r0 unset: never set on a way that leads here
+    refused by V10: r0 is to be a number at the end
+    to do: put a number in r0 before exit, as by mov r0, 0
+verify refused V10 at slot 0
+";
+
+/// What one command line comes to: its status, and what it shows on each stream.
+fn carried<R: Threads + Wait + Sync + AllocGlobal, F: Files>(
+    rt: &R,
+    line: &str,
+    files: &mut F,
+) -> Result<(u8, Vec<u8>, Vec<u8>), Fail> {
+    let alloc = rt.alloc();
+    let words: Vec<&str> = line.split_whitespace().collect(alloc)?;
+    let mut out: Vec<u8> = Vec::new(alloc);
+    let mut err: Vec<u8> = Vec::new(alloc);
+    let (mut shown, mut told) = (Written(&mut out), Written(&mut err));
+    let status = sblog(rt, alloc, words.as_slice(), files, &mut shown, &mut told);
+    Ok((status, out, err))
+}
+
 #[test]
 fn statuses_and_lines(rt: HostRuntime) -> Result<(), Fail> {
-    let alloc = rt.alloc();
     let adder = ADDER.as_slice();
     let cut = &ADDER[..55];
     let none = b"".as_slice();
@@ -63,15 +88,17 @@ fn statuses_and_lines(rt: HostRuntime) -> Result<(), Fail> {
         ("check a", bad_field, 3, "decode refused 3 at slot 0\n"),
         ("check a", exit_alone, 3, "verify refused V10 at slot 0\n"),
         ("check b", adder, 6, "input or output\n"),
+        ("explain a", exit_alone, 0, UNSET_AT_EXIT),
+        ("explain a", cut, 3, "load refused 5\n"),
+        ("explain a", none, 3, "load refused 1\n"),
+        ("explain a", magic, 3, "load refused 2\n"),
+        ("explain a", bad_field, 3, "decode refused 3 at slot 0\n"),
+        ("explain b", adder, 6, "input or output\n"),
     ];
     for (line, bytes, want, text) in cases {
-        let words: Vec<&str> = line.split_whitespace().collect(alloc)?;
         let fault = Failure::InputOutput;
         let mut files = OneFile { bytes, fault };
-        let mut out: Vec<u8> = Vec::new(alloc);
-        let mut err: Vec<u8> = Vec::new(alloc);
-        let (mut shown, mut told) = (Written(&mut out), Written(&mut err));
-        let status = sblog(alloc, words.as_slice(), &mut files, &mut shown, &mut told);
+        let (status, out, err) = carried(&rt, line, &mut files)?;
         assert_eq!(rt; status, want, "at {text}");
         let (shown, silent) = if want == 0 {
             (&out, &err)
@@ -86,13 +113,15 @@ fn statuses_and_lines(rt: HostRuntime) -> Result<(), Fail> {
 
 #[test]
 fn usage_texts(rt: HostRuntime) -> Result<(), Fail> {
-    let alloc = rt.alloc();
     let cases = [
         ("", "Usage: sblog <COMMAND>"),
         ("fly", "unrecognized subcommand 'fly'"),
         ("check", "<IMAGE>"),
         ("first a 5", "unrecognized subcommand 'first'"),
         ("run", "<SCENARIO>"),
+        ("live a --workers 4", "--budget <B>"),
+        ("live a --workers 17 --budget 9", "invalid value '17'"),
+        ("draw a", "<OUT>"),
         ("asm a b", "--state <N>"),
         ("asm a --state 8", "<OUT>"),
         ("asm a b --state 1025", "invalid value '1025'"),
@@ -103,14 +132,10 @@ fn usage_texts(rt: HostRuntime) -> Result<(), Fail> {
         ("help run", "Usage: sblog run <SCENARIO>"),
     ];
     for (line, part) in cases {
-        let words: Vec<&str> = line.split_whitespace().collect(alloc)?;
         let bytes = ADDER.as_slice();
         let fault = Failure::InputOutput;
         let mut files = OneFile { bytes, fault };
-        let mut out: Vec<u8> = Vec::new(alloc);
-        let mut err: Vec<u8> = Vec::new(alloc);
-        let (mut shown, mut told) = (Written(&mut out), Written(&mut err));
-        let status = sblog(alloc, words.as_slice(), &mut files, &mut shown, &mut told);
+        let (status, out, err) = carried(&rt, line, &mut files)?;
         assert_eq!(rt; status, 2, "at {line}");
         assert!(rt; out.is_empty(), "at {line}");
         let shown = str::from_utf8(err.as_slice()).unwrap_or("");

@@ -1,10 +1,13 @@
-//! The command `run` over files in memory.
+//! The commands `run`, `live` and `draw` over files in memory.
 
-use super::{ADDER, some_of};
-use crate::{Failure, Files, Written, sblog};
+use super::{ADDER, carried, some_of};
+use crate::{Failure, Files};
 use std::alloc::Global;
 use std::process::Abort;
+use std::str;
+use std::sync::Wait;
 use std::test::Fail;
+use std::thread::Threads;
 
 /// A scenario at the path `s`, an image at `adder.sbi`, one that is cut off at `cut.sbi`, and what was
 /// written at `out`; every other path fails.
@@ -40,23 +43,8 @@ impl Files for Folder {
     }
 }
 
-/// What one command line comes to: its status, and what it shows.
-fn carried<R: Abort + AllocGlobal>(
-    rt: &R,
-    line: &str,
-    files: &mut Folder,
-) -> Result<(u8, Vec<u8>, Vec<u8>), Fail> {
-    let alloc = rt.alloc();
-    let words: Vec<&str> = line.split_whitespace().collect(alloc)?;
-    let mut out: Vec<u8> = Vec::new(alloc);
-    let mut err: Vec<u8> = Vec::new(alloc);
-    let (mut shown, mut told) = (Written(&mut out), Written(&mut err));
-    let status = sblog(alloc, words.as_slice(), files, &mut shown, &mut told);
-    Ok((status, out, err))
-}
-
 /// Carries out one line on a scenario, and tests its status and what it shows on each stream.
-fn ends<R: Abort + AllocGlobal>(
+fn ends<R: Threads + Wait + Sync + Abort + AllocGlobal>(
     rt: &R,
     line: &str,
     scenario: &[u8],
@@ -76,10 +64,13 @@ fn ends<R: Abort + AllocGlobal>(
     Ok(())
 }
 
-#[test]
-fn one_message(rt: HostRuntime) -> Result<(), Fail> {
-    let scenario = b"process a adder.sbi\ninput a 5\ndrive 10\n";
-    let shown = "000001 w0 input 1 1 -> logged 1
+/// A line, the scenario, and what is shown of it. One worker takes turns alone: it leaves of a message
+/// what `run` leaves of it, but that each entry is its own.
+const SHOWN: [(&str, &[u8], &str); 4] = [
+    (
+        "run s",
+        b"process a adder.sbi\ninput a 5\ndrive 10\n",
+        "000001 w0 input 1 1 -> logged 1
 000002 w0 transmit 0 1 1 -> packet 0
 000003 w0 arrive 0 -> started 1
 000004 w0 finish 1 -> committed 1 0
@@ -87,15 +78,13 @@ fn one_message(rt: HostRuntime) -> Result<(), Fail> {
 000006 w0 arrive 0 -> acknowledged
 process a up 1 0500000000000000
 exact
-";
-    ends(&rt, "run s", scenario, 0, shown, "")
-}
-
-#[test]
-fn late_result(rt: HostRuntime) -> Result<(), Fail> {
-    let scenario = b"process a adder.sbi\ninput a 5\ntransmit outside a 1\narrive 0\n\
-        crash a\nfinish a\nrecover a\ndrive 100";
-    let shown = "line 6 refused 9
+",
+    ),
+    (
+        "run s",
+        b"process a adder.sbi\ninput a 5\ntransmit outside a 1\narrive 0\n\
+        crash a\nfinish a\nrecover a\ndrive 100",
+        "line 6 refused 9
 000001 w0 input 1 1 -> logged 1
 000002 w0 transmit 0 1 1 -> packet 0
 000003 w0 arrive 0 -> started 1
@@ -108,60 +97,129 @@ fn late_result(rt: HostRuntime) -> Result<(), Fail> {
 000010 w0 arrive 0 -> acknowledged
 process a up 1 0500000000000000
 exact
-";
-    ends(&rt, "run s", scenario, 0, shown, "")
+",
+    ),
+    (
+        "live s --workers 1 --budget 100",
+        b"process a adder.sbi\ninput a 5\n",
+        "000001 w1 input 1 1 -> logged 1
+000002 w1 transmit 0 1 1 -> packet 0
+000003 w1 arrive 0 -> started 1
+000004 w1 finish 1 -> committed 1 0
+000005 w1 arrive 0 -> numbered 0
+000006 w1 arrive 0 -> acknowledged
+process a up 1 0500000000000000
+exact
+",
+    ),
+    (
+        "live s --workers 16 --budget 1000000",
+        b"process a adder.sbi\n",
+        "process a up 0 0000000000000000\nexact\n",
+    ),
+];
+
+#[test]
+fn what_is_shown(rt: HostRuntime) -> Result<(), Fail> {
+    for (line, scenario, shown) in SHOWN {
+        ends(&rt, line, scenario, 0, shown, "")?;
+    }
+    Ok(())
 }
+
+/// A picture is at its place whole, or all is as it was.
+#[test]
+fn pictures(rt: HostRuntime) -> Result<(), Fail> {
+    let sized = "<svg xmlns='http://www.w3.org/2000/svg' width='900' height='320' ";
+    let named = "<text class='name' x='12' y='156'>1 a</text>";
+    let cases = [
+        ("draw s out", 0, "", [sized, named]),
+        ("draw s folder", 6, "input or output\n", ["old", "old"]),
+        ("draw folder out", 6, "input or output\n", ["old", "old"]),
+    ];
+    for (line, want, told, parts) in cases {
+        let mut files = Folder {
+            scenario: b"process a adder.sbi\ninput a 5\ndrive 10\n".to_vec(rt.alloc())?,
+            out: b"old".to_vec(rt.alloc())?,
+        };
+        let scenario = files.scenario.clone()?;
+        let (status, out, err) = carried(&rt, line, &mut files)?;
+        assert_eq!(rt; status, want, "at {line}");
+        assert!(rt;
+            out.is_empty() && err.as_slice() == told.as_bytes(),
+            "at {line}"
+        );
+        assert!(rt;
+            files.scenario.as_slice() == scenario.as_slice(),
+            "at {line}"
+        );
+        let left = str::from_utf8(files.out.as_slice()).unwrap_or("");
+        for part in parts {
+            assert!(rt; left.contains(part), "at {line}: {left}");
+        }
+        assert!(rt;
+            left == "old" || left.ends_with("</svg>\n"),
+            "at {line}: {left}"
+        );
+    }
+    Ok(())
+}
+
+/// A line, the scenario, the status, and what is told.
+const REFUSED: [(&str, &[u8], u8, &str); 12] = [
+    ("run s", b"", 4, "scenario refused at line 0\n"),
+    ("run s", b"# nothing\n\n", 4, "scenario refused at line 0\n"),
+    (
+        "run s",
+        b"process a adder.sbi\ndrive 07\n",
+        4,
+        "scenario refused at line 2\n",
+    ),
+    // The whole text is checked before the first image is read.
+    (
+        "run s",
+        b"process a missing.sbi\nfly a\n",
+        4,
+        "scenario refused at line 2\n",
+    ),
+    ("run s", b"process a missing.sbi\n", 6, "input or output\n"),
+    ("run s", b"process a cut.sbi\n", 3, "load refused 5\n"),
+    (
+        "run s",
+        b"process a cut.sbi\nprocess b missing.sbi\n",
+        3,
+        "load refused 5\n",
+    ),
+    (
+        "run s",
+        b"process a adder.sbi\n# \xff\n",
+        6,
+        "input or output\n",
+    ),
+    ("run folder", b"", 6, "input or output\n"),
+    (
+        "live s --workers 4 --budget 9",
+        b"process a missing.sbi\ninput a 1\ncrash a\n",
+        4,
+        "scenario refused at line 3\n",
+    ),
+    (
+        "live s --workers 4 --budget 9",
+        b"process a cut.sbi\n",
+        3,
+        "load refused 5\n",
+    ),
+    (
+        "draw s out",
+        b"process a adder.sbi\nfinish b\n",
+        4,
+        "scenario refused at line 2\n",
+    ),
+];
 
 #[test]
 fn refused_scenarios(rt: HostRuntime) -> Result<(), Fail> {
-    let cases = [
-        ("run s", b"".as_slice(), 4, "scenario refused at line 0\n"),
-        (
-            "run s",
-            b"# nothing\n\n".as_slice(),
-            4,
-            "scenario refused at line 0\n",
-        ),
-        (
-            "run s",
-            b"process a adder.sbi\ndrive 07\n".as_slice(),
-            4,
-            "scenario refused at line 2\n",
-        ),
-        // The whole text is checked before the first image is read.
-        (
-            "run s",
-            b"process a missing.sbi\nfly a\n".as_slice(),
-            4,
-            "scenario refused at line 2\n",
-        ),
-        (
-            "run s",
-            b"process a missing.sbi\n".as_slice(),
-            6,
-            "input or output\n",
-        ),
-        (
-            "run s",
-            b"process a cut.sbi\n".as_slice(),
-            3,
-            "load refused 5\n",
-        ),
-        (
-            "run s",
-            b"process a cut.sbi\nprocess b missing.sbi\n".as_slice(),
-            3,
-            "load refused 5\n",
-        ),
-        (
-            "run s",
-            b"process a adder.sbi\n# \xff\n".as_slice(),
-            6,
-            "input or output\n",
-        ),
-        ("run folder", b"".as_slice(), 6, "input or output\n"),
-    ];
-    for (line, scenario, status, told) in cases {
+    for (line, scenario, status, told) in REFUSED {
         ends(&rt, line, scenario, status, "", told)?;
     }
     Ok(())

@@ -58,6 +58,7 @@ fn short_and_failing_streams(rt: HostRuntime) -> Result<(), Fail> {
         };
         let (mut reports, mut faults) = (Written(&mut out), Written(&mut err));
         let status = sblog(
+            &rt,
             alloc,
             words.as_slice(),
             &mut files,

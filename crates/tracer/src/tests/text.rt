@@ -1,10 +1,12 @@
-//! The commands `asm` and `dis` over files in memory.
+//! The commands `asm`, `pack` and `dis` over files in memory.
 
-use super::{ADDER, some_of};
-use crate::{Failure, Files, Written, sblog};
+use super::{ADDER, carried, some_of};
+use crate::{Failure, Files};
 use std::alloc::Global;
 use std::process::Abort;
+use std::sync::Wait;
 use std::test::Fail;
+use std::thread::Threads;
 
 /// A text at the path `s` and an image at the path `i`; every other path fails.
 #[derive(Drop)]
@@ -42,7 +44,7 @@ static ADDER_TEXT: &str = "ldxdw r3, [r1+0]\nldxdw r4, [r2+0]\nadd r4, r3\nstxdw
     mov r0, 0\nexit\n";
 
 /// Carries out one line, and tests its status and what it shows and leaves at `i`.
-fn ends<R: Abort + AllocGlobal>(
+fn ends<R: Threads + Wait + Sync + Abort + AllocGlobal>(
     rt: &R,
     line: &str,
     files: &mut TwoFiles<'_>,
@@ -50,12 +52,7 @@ fn ends<R: Abort + AllocGlobal>(
     shown: &str,
     left: &[u8],
 ) -> Result<(), Fail> {
-    let alloc = rt.alloc();
-    let words: Vec<&str> = line.split_whitespace().collect(alloc)?;
-    let mut out: Vec<u8> = Vec::new(alloc);
-    let mut err: Vec<u8> = Vec::new(alloc);
-    let (mut shown_on, mut told_on) = (Written(&mut out), Written(&mut err));
-    let answered = sblog(alloc, words.as_slice(), files, &mut shown_on, &mut told_on);
+    let (answered, out, err) = carried(rt, line, files)?;
     assert_eq!(rt; answered, status, "at {line}, {shown}");
     let (told, silent) = if status == 0 {
         (&out, &err)
@@ -86,6 +83,47 @@ fn adder_both_ways(rt: HostRuntime) -> Result<(), Fail> {
         "",
         &second,
     )
+}
+
+// The bytes of code get a header, and code that has no file leaves the one that is there.
+#[test]
+fn packed_code(rt: HostRuntime) -> Result<(), Fail> {
+    let alloc = rt.alloc();
+    let mut second = ADDER.to_vec(alloc)?;
+    second[3] = b'2';
+    let mut many: Vec<u8> = Vec::new(alloc);
+    for _ in 0..1025 {
+        many.extend_from_slice(b"\x95\x00\x00\x00\x00\x00\x00\x00")?;
+    }
+    let (adder, other) = (ADDER.as_slice(), second.as_slice());
+    let code = &ADDER[8..];
+    let cases = [
+        ("--state 8", code, 0, "", adder),
+        ("--state 8 --form 2", code, 0, "", other),
+        (
+            "--state 8",
+            &ADDER[8..55],
+            3,
+            "decode refused 1 at slot 0\n",
+            b"old",
+        ),
+        ("--state 8", b"", 3, "load refused 4\n", b"old"),
+        ("--state 8", many.as_slice(), 3, "load refused 4\n", b"old"),
+        (
+            "--state 8",
+            &adder[..8],
+            3,
+            "decode refused 2 at slot 0\n",
+            b"old",
+        ),
+    ];
+    for (options, text, status, shown, left) in cases {
+        let image = b"old".to_vec(alloc)?;
+        let mut files = TwoFiles { text, image };
+        let line = format!(in alloc; "pack s i {options}")?;
+        ends(&rt, line.as_str(), &mut files, status, shown, left)?;
+    }
+    Ok(())
 }
 
 #[test]
@@ -137,7 +175,16 @@ fn at_most_1024_slots(rt: HostRuntime) -> Result<(), Fail> {
     ends(&rt, "asm s i --state 1024", &mut files, 0, "", &file)?;
     files.text = longer.as_slice();
     let refused = "asm refused 4 at line 1025\n";
-    ends(&rt, "asm s i --state 0", &mut files, 3, refused, &file)
+    ends(&rt, "asm s i --state 0", &mut files, 3, refused, &file)?;
+    // Nothing follows the largest image, also behind as many bytes as are read of one.
+    let unset = "verify refused V10 at slot 0\n";
+    ends(&rt, "check i", &mut files, 3, unset, &file)?;
+    for rest in [b"\x95".as_slice(), b"\x00\x00\x00\x00\x00\x00\x00"] {
+        file.extend_from_slice(rest)?;
+        files.image.extend_from_slice(rest)?;
+        ends(&rt, "check i", &mut files, 3, "load refused 5\n", &file)?;
+    }
+    Ok(())
 }
 
 #[test]

@@ -21,3 +21,33 @@ returns-in-Run-clause-fault g c =
     IfErr-weaker c.run_scenario.result _ _
     (λ f fault. subst (λ o. IsFault (g.F.Files.content c.args.files.now) (g.F.Files.failed c.run_scenario.new.files) o f) (sym (ap order_of c.in-Run.is)) fault)
     c.run_scenario.ensures.fault
+
+pub returns-in-Live-clause-fault : goal.returns-in-Live-clause-fault
+returns-in-Live-clause-fault g c =
+    IfErr-weaker c.live_scenario.result _ _
+    (λ f fault. subst (λ o. IsFault (g.F.Files.content c.args.files.now) (g.F.Files.failed c.live_scenario.new.files) o f) (sym (ap order_of c.in-Live.is)) fault)
+    c.live_scenario.ensures.fault
+
+pub returns-in-Draw-clause-left : goal.returns-in-Draw-clause-left
+returns-in-Draw-clause-left g c =
+    on_ok_weaker c.draw_scenario.result
+    (λ left. subst (λ o. Leaves o (g.F.Files.content c.args.files.now) (g.F.Files.content c.draw_scenario.new.files)) (sym (ap order_of c.in-Draw.is)) left)
+    c.draw_scenario.ensures.left
+
+pub returns-in-Draw-clause-fault : goal.returns-in-Draw-clause-fault
+returns-in-Draw-clause-fault g c =
+    IfErr-weaker c.draw_scenario.result _ _
+    (λ f fault. subst (λ o. IsFault (g.F.Files.content c.args.files.now) (g.F.Files.failed c.draw_scenario.new.files) o f) (sym (ap order_of c.in-Draw.is)) fault)
+    c.draw_scenario.ensures.fault
+
+pub returns-in-Pack-clause-left : goal.returns-in-Pack-clause-left
+returns-in-Pack-clause-left g c =
+    on_ok_weaker c.write_packed.result
+    (λ left. subst (λ o. Leaves o (g.F.Files.content c.args.files.now) (g.F.Files.content c.write_packed.new.files)) (sym (ap order_of c.in-Pack.is)) left)
+    c.write_packed.ensures.left
+
+pub returns-in-Pack-clause-fault : goal.returns-in-Pack-clause-fault
+returns-in-Pack-clause-fault g c =
+    IfErr-weaker c.write_packed.result _ _
+    (λ f fault. subst (λ o. IsFault (g.F.Files.content c.args.files.now) (g.F.Files.failed c.write_packed.new.files) o f) (sym (ap order_of c.in-Pack.is)) fault)
+    c.write_packed.ensures.fault

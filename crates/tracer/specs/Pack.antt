@@ -1,0 +1,27 @@
+-- The command `pack` (docs/FORMATS.md, "Commands").
+use Rattle.std.specs.Prelude.{◌≡◌, ◌<◌, ◌*◌, ◌⊎◌, ℕ, List, length}
+use Rattle.decode.specs.Encoding.{encoding}
+use Rattle.decode.specs.Refusal as decoding
+use Rattle.decode.specs.declared.insn.Insn.{Insn}
+use Rattle.regtypes.specs.declared.image_form.ImageForm.{ImageForm}
+use Rattle.verifier.specs.ImageFile.{IsFile}
+use Rattle.verifier.specs.declared.fault.HeaderFault.TheVariants.{SlotCount}
+use Rattle.tracer.specs.declared.fault.Fault.{Fault}
+use Rattle.tracer.specs.declared.fault.Fault.TheVariants.{Usage, Header, Decode, Verify, Assemble, Scenario, Memory, InputOutput}
+
+-- the code is that of instructions of which these bytes are the file of this form, with a state of this length
+pub record IsPacked (code : List ℕ) (state : ℕ) (form : ImageForm) (bytes : List ℕ) : Type 0 where
+  pub insns : List Insn
+  pub encoded : code ≡ encoding insns
+  pub file : IsFile form insns state bytes
+
+-- why code comes to no file: it is no encoding, or has no slot or more than 1,024; want of memory says nothing of it
+abbrev pub IsUnpacked : List ℕ → Fault → Type 0
+IsUnpacked code (Decode rule slot) = decoding.IsFault code rule slot
+IsUnpacked code (Header fault) = (fault ≡ SlotCount) × ((length code ≡ 0) ⊎ (8 * 1024 < length code))
+IsUnpacked code Memory = Unit {0}
+IsUnpacked code InputOutput = ⊥
+IsUnpacked code (Assemble rule line) = ⊥
+IsUnpacked code (Scenario line) = ⊥
+IsUnpacked code (Usage usage) = ⊥
+IsUnpacked code (Verify rule slot) = ⊥

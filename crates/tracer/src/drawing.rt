@@ -1,0 +1,47 @@
+//! The command `draw`.
+
+ghost use Rattle.std.specs.Prelude.{◌≡◌, ℕ, List, [], IfErr, IfOk, OnErr, OnOk, Some, string_bytes};
+ghost use Rattle.cli.specs.Asks.{Draw};
+ghost use Rattle.scenario.specs.declared.order.Allowed.TheVariants.{All};
+ghost use Rattle.tracer.specs.Draw.{IsDrawn};
+ghost use Rattle.tracer.specs.Program.{FaultOf, IsAnswer, IsFault, Leaves};
+ghost use Rattle.tracer.specs.Stage.{IsUnstaged};
+
+use crate::fault::Fault;
+use crate::files::Files;
+use crate::staging::{Staged, stage};
+use diagram::draw;
+use runner::journal_of;
+use scenario::Allowed;
+use std::alloc::Global;
+
+/// The picture of the run of a scenario, as the text of an SVG file.
+fn picture_of<F: Files>(alloc: Global, path: &str, files: &mut F) -> Result<String, Fault>
+    ensures drawn { IfOk result (λ t. (bytes : List ℕ) → F.content files.old path.now ≡ Some bytes
+        → IsDrawn (F.content files.old) bytes (string_bytes t)) }
+    ensures same { F.content files.new ≡ F.content files.old }
+    ensures fault { IfErr result (FaultOf (F.content files.old) (F.failed files.new) path.now
+        (IsUnstaged (F.content files.old) All)) }
+{
+    let Staged { scenario, images } = stage(alloc, path, Allowed::All, files)?;
+    let entries = journal_of(alloc, &scenario, images)?;
+    let text = draw(alloc, &scenario.processes, entries.as_slice())?;
+    Ok(text)
+}
+
+/// Carries out the orders of a scenario, and writes the picture of the run into a file.
+pub fn draw_scenario<F: Files>(
+    alloc: Global,
+    path: &str,
+    picture: &str,
+    files: &mut F,
+) -> Result<(), Fault>
+    ensures report { OnOk result (IsAnswer (F.content files.old) (Draw path.now picture.now) []) }
+    ensures left { OnOk result (Leaves (Draw path.now picture.now) (F.content files.old) (F.content files.new)) }
+    ensures fault { IfErr result (IsFault (F.content files.old) (F.failed files.new) (Draw path.now picture.now)) }
+    ensures kept { OnErr result (F.content files.new ≡ F.content files.old) }
+{
+    let text = picture_of(alloc, path, files)?;
+    files.write(picture, text.as_str().as_bytes())?;
+    Ok(())
+}

@@ -1,0 +1,24 @@
+//! The command `explain`.
+
+ghost use Rattle.std.specs.Prelude.{◌≡◌, ℕ, List, IfErr, IfOk, Some, string_bytes};
+ghost use Rattle.explain.specs.Listing.{IsExplained};
+ghost use Rattle.tracer.specs.Dis.{IsUnlisted};
+ghost use Rattle.tracer.specs.Program.{FaultOf};
+
+use crate::check::IMAGE_LIMIT;
+use crate::fault::Fault;
+use crate::files::Files;
+use explain::explain;
+use std::alloc::Global;
+
+/// The listing of the image of a file, whether or not its code is accepted.
+pub fn explain_image<F: Files>(alloc: Global, path: &str, files: &mut F) -> Result<String, Fault>
+    ensures listing { IfOk result (λ t. (bytes : List ℕ) → F.content files.old path.now ≡ Some bytes
+        → IsExplained bytes (string_bytes t)) }
+    ensures same { F.content files.new ≡ F.content files.old }
+    ensures fault { IfErr result (FaultOf (F.content files.old) (F.failed files.new) path.now IsUnlisted) }
+{
+    let bytes = files.read(alloc, path, Some(IMAGE_LIMIT))?;
+    let text = explain(alloc, bytes.as_slice())?;
+    Ok(text)
+}

@@ -1,0 +1,37 @@
+//! The command `live`.
+
+ghost use Rattle.std.specs.Prelude.{◌≡◌, ◌≤◌, [], IfErr, OnErr, OnOk, string_bytes};
+ghost use Rattle.cli.specs.Asks.{Live};
+ghost use Rattle.tracer.specs.Program.{IsAnswer, IsFault};
+
+use crate::fault::Fault;
+use crate::files::Files;
+use crate::staging::{Staged, stage};
+use runner::live;
+use scenario::Allowed;
+use std::alloc::Global;
+use std::sync::Wait;
+use std::thread::Threads;
+
+/// Runs so many workers on the messages of a scenario, each until about so many of its calls were
+/// accepted, and writes the trace and the report of what they leave into an empty text.
+pub fn live_scenario<R: Threads + Wait + Sync, F: Files>(
+    rt: &R,
+    alloc: Global,
+    path: &str,
+    workers: u8,
+    budget: u32,
+    files: &mut F,
+    text: &mut String,
+) -> Result<(), Fault>
+    requires workers { (1 ≤ workers) × (workers ≤ 16) }
+    requires empty { string_bytes text.old ≡ [] }
+    ensures report { OnOk result (IsAnswer (F.content files.old) (Live path.now workers budget) (string_bytes text.new)) }
+    ensures same { F.content files.new ≡ F.content files.old }
+    ensures fault { IfErr result (IsFault (F.content files.old) (F.failed files.new) (Live path.now workers budget)) }
+    ensures none { OnErr result (string_bytes text.new ≡ []) }
+{
+    let Staged { scenario, images } = stage(alloc, path, Allowed::Inputs, files)?;
+    live(rt, alloc, &scenario, images, workers, budget, text)?;
+    Ok(())
+}
