@@ -31,6 +31,57 @@ enum sblog_session_phase {
     SBLOG_SESSION_RESYNC = 4
 };
 
+/* Which call an entry of the journal is; behind each its numbers. */
+enum sblog_session_call {
+    SBLOG_CALL_INPUT = 1,      /* destination, feed number; it alone has a payload */
+    SBLOG_CALL_TRANSMIT = 2,   /* sender, destination, number of the message */
+    SBLOG_CALL_COPY = 3,       /* packet */
+    SBLOG_CALL_LOSE = 4,       /* packet */
+    SBLOG_CALL_ARRIVE = 5,     /* packet */
+    SBLOG_CALL_FINISH = 6,     /* process */
+    SBLOG_CALL_CHECKPOINT = 7, /* process */
+    SBLOG_CALL_TRIM = 8,       /* destination */
+    SBLOG_CALL_CRASH = 9,      /* process */
+    SBLOG_CALL_RECOVER = 10,   /* process */
+    SBLOG_CALL_ALONE = 11,     /* process */
+    SBLOG_CALL_REPLAY = 12,    /* process */
+    SBLOG_CALL_RESYNC = 13     /* process, peer */
+};
+
+/* Which answer it got; behind each its numbers. */
+enum sblog_session_answer {
+    SBLOG_ANSWER_LOGGED = 1,       /* number of the message */
+    SBLOG_ANSWER_PACKET = 2,       /* packet */
+    SBLOG_ANSWER_LOST = 3,
+    SBLOG_ANSWER_STARTED = 4,      /* job */
+    SBLOG_ANSWER_NUMBERED = 5,     /* packet of the acknowledgement */
+    SBLOG_ANSWER_ACKNOWLEDGED = 6,
+    SBLOG_ANSWER_SHOWN = 7,        /* number of the message */
+    SBLOG_ANSWER_DUPLICATE = 8,    /* packet of the number */
+    SBLOG_ANSWER_SHOWN_BEFORE = 9,
+    SBLOG_ANSWER_EARLY = 10,
+    SBLOG_ANSWER_STALE = 11,
+    SBLOG_ANSWER_UNREACHABLE = 12, /* the target is not up */
+    SBLOG_ANSWER_COMMITTED = 13,   /* number at the receiver, packet that tells it */
+    SBLOG_ANSWER_REPLAYED = 14,    /* number at the receiver */
+    SBLOG_ANSWER_SAVED = 15,       /* messages covered */
+    SBLOG_ANSWER_TRIMMED = 16,     /* messages dropped */
+    SBLOG_ANSWER_CRASHED = 17,     /* incarnation */
+    SBLOG_ANSWER_KEPT = 18,        /* messages kept */
+    SBLOG_ANSWER_RESTORED = 19     /* numbers that came back */
+};
+
+/* An entry of the journal: 312 bytes without a gap (docs/FORMATS.md, "Entry"). */
+typedef struct {
+    uint32_t worker;      /* who made the call: 0, nobody */
+    uint32_t call;        /* enum sblog_session_call */
+    uint32_t answer;      /* enum sblog_session_answer */
+    uint32_t payload_len; /* 0 to 256 */
+    uint64_t call_numbers[3];
+    uint64_t answer_numbers[2];
+    uint8_t payload[256]; /* zeros behind payload_len bytes */
+} sblog_entry;
+
 /* What a program holds of a session: zeros are a closed handle, sblog_session handle = {0}. A program
    writes no other bytes into it, and makes no copy of an open one. */
 typedef struct {
@@ -62,6 +113,11 @@ uint32_t sblog_session_shown(sblog_session *handle, size_t place, uint8_t *sende
                              uint8_t *out, size_t out_len, size_t *size);
 uint32_t sblog_session_exact(sblog_session *handle, uint32_t *exact);
 uint32_t sblog_session_trace(sblog_session *handle, uint8_t *out, size_t out_len, size_t *size);
+
+uint32_t sblog_session_journal(sblog_session *handle, size_t *count);
+uint32_t sblog_session_entry(sblog_session *handle, size_t place, sblog_entry *entry);
+uint32_t sblog_session_entries(sblog_session *handle, size_t from, sblog_entry *out,
+                               size_t out_len, size_t *count);
 
 #ifdef __cplusplus
 }

@@ -1,1 +1,3 @@
 mod AsBox
+mod Written
+mod ReadBack

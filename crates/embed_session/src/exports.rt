@@ -1,15 +1,17 @@
 //! What C calls. A code of 0 says that it is done, any other is the number of a fault, and what either
 //! says of handle and buffers stands in the contracts.
 
-ghost use Rattle.std.specs.Prelude.{◌≡◌, None};
+ghost use Rattle.std.specs.Prelude.{◌≡◌, None, drop, length};
 ghost use Rattle.embed_session.specs.declared.fault.Fault.TheVariants.{Handle as Closed};
 ghost use Rattle.embed_session.specs.Session.{Answers, IsCalled, IsClosed, IsDriven, IsHandedBack, IsHandedIn, IsUncalled, IsUndriven, WasClosed};
 ghost use Rattle.embed_session.specs.Opening.{IsOpened, IsUnopened};
+ghost use Rattle.embed_session.specs.Entries.{AreWritten, IsEntryAt, IsNoEntry};
 ghost use Rattle.embed_session.specs.Reading.{IsReadOf, IsSaved, IsShown, IsStanding, IsState, IsTraced, IsUnreadOf, IsUnshown, IsUntold, IsUntraced, OfOpen, exact_number};
 
+use crate::entry::Record;
 use crate::fault::code;
 use crate::handle::Handle;
-use crate::{calling, opening, reading};
+use crate::{calling, journal, opening, reading};
 use std::alloc::Global;
 use world::Call;
 
@@ -199,4 +201,44 @@ pub extern "C" fn sblog_session_trace(
     ensures { Answers result (IsTraced handle.old.session.value out.old out.new size.new × (handle.new.session.value ≡ handle.old.session.value)) (λ why. IsUntraced handle.old.session.value out.old out.new size.old size.new why × (handle.new.session.value ≡ handle.old.session.value)) }
 {
     code(reading::trace(alloc, handle, out, size))
+}
+
+/// Writes how many entries the journal has.
+#[unsafe(no_mangle)]
+pub extern "C" fn sblog_session_journal(
+    alloc: Global,
+    handle: &mut Handle,
+    count: &mut usize,
+) -> u32
+    ensures { Answers result (OfOpen handle.old.session.value (λ s. count.new ≡ length s.entries) × (handle.new.session.value ≡ handle.old.session.value)) (λ why. (why ≡ Closed) × (handle.old.session.value ≡ None) × (handle.new.session.value ≡ handle.old.session.value) × (count.new ≡ count.old)) }
+{
+    code(journal::length(alloc, handle, count))
+}
+
+/// Writes an entry of the journal, by its place from 0.
+#[unsafe(no_mangle)]
+pub extern "C" fn sblog_session_entry(
+    alloc: Global,
+    handle: &mut Handle,
+    place: usize,
+    entry: &mut Record,
+) -> u32
+    ensures { Answers result (IsEntryAt handle.old.session.value place entry.new × (handle.new.session.value ≡ handle.old.session.value)) (λ why. IsNoEntry handle.old.session.value place why × (handle.new.session.value ≡ handle.old.session.value) × (entry.new ≡ entry.old)) }
+{
+    code(journal::entry(alloc, handle, place, entry))
+}
+
+/// Writes the entries of the journal from a place on, as many as there are and as the buffer takes,
+/// and how many these are.
+#[unsafe(no_mangle)]
+pub extern "C" fn sblog_session_entries(
+    alloc: Global,
+    handle: &mut Handle,
+    from: usize,
+    out: &mut [Record],
+    count: &mut usize,
+) -> u32
+    ensures { Answers result (OfOpen handle.old.session.value (λ s. AreWritten (drop from s.entries) out.old out.new count.new) × (handle.new.session.value ≡ handle.old.session.value)) (λ why. (why ≡ Closed) × (handle.old.session.value ≡ None) × (handle.new.session.value ≡ handle.old.session.value) × (out.new ≡ out.old) × (count.new ≡ count.old)) }
+{
+    code(journal::entries(alloc, handle, from, out, count))
 }

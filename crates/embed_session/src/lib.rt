@@ -8,7 +8,8 @@
 //!
 //! The promise: each function that makes a call of the session owes what that call owes, word for
 //! word; each that reads gives what the session's contract says; and any code but 0 leaves the
-//! session as it was, but for a drive that ran out of memory.
+//! session as it was, but for a drive that ran out of memory. A record of an entry says all of it
+//! ([`one_entry`]).
 //!
 //! ```c
 //! sblog_session session = {0};
@@ -20,9 +21,11 @@
 #![tactic(auto)]
 
 mod calling;
+mod entry;
 mod exports;
 mod fault;
 mod handle;
+mod journal;
 mod loose;
 mod opening;
 mod output;
@@ -30,3 +33,5 @@ mod parts;
 mod reading;
 #[cfg(test)]
 mod tests;
+
+pub use entry::one_entry;

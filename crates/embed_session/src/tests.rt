@@ -1,6 +1,7 @@
 //! Each exported function on its happy path, and each code. What is expected was worked out by
 //! `examples/scenarios/model.py`, the codes by docs/EMBEDDING.md.
 
+use crate::entry::Record;
 use crate::exports::*;
 use crate::handle::Handle;
 use std::alloc::Global;
@@ -40,6 +41,11 @@ enum Act {
     Shown(usize, usize),
     Exact,
     Trace(usize),
+    Journal,
+    /// A hundred times the number of the call, and that of the answer.
+    Entry(usize),
+    /// From a place on, into a buffer of at most 4.
+    Entries(usize, usize),
 }
 
 /// What a call answers: its code, and the number or the size that it writes, 99 where it writes none.
@@ -86,10 +92,33 @@ fn read(alloc: Global, handle: &mut Handle, act: Act, out: &mut [u8; 64]) -> (u3
             sblog_session_shown(alloc, handle, place, &mut sender, &mut ssn, out, &mut size)
         }
         Act::Trace(room) => sblog_session_trace(alloc, handle, front(out, room), &mut size),
+        Act::Journal => sblog_session_journal(alloc, handle, &mut size),
+        Act::Entries(from, room) => {
+            let mut records = [BLANK; 4];
+            let records = &mut records[..room.min(4)];
+            sblog_session_entries(alloc, handle, from, records, &mut size)
+        }
+        Act::Entry(place) => {
+            let mut record = BLANK;
+            let code = sblog_session_entry(alloc, handle, place, &mut record);
+            size = record.call as usize * 100 + record.answer as usize;
+            code
+        }
         _ => 0,
     };
     (code, size)
 }
+
+/// What no entry writes.
+const BLANK: Record = Record {
+    worker: 99,
+    call: 0,
+    answer: 99,
+    payload_len: 99,
+    call_numbers: [99; 3],
+    answer_numbers: [99; 2],
+    payload: [99; 256],
+};
 
 fn front(out: &mut [u8; 64], room: usize) -> &mut [u8] {
     let room = room.min(64);
@@ -114,6 +143,7 @@ const ADDING: &[(Act, u32, usize)] = &[
     (Act::Open(&ADDER, &[56]), 0, 99),
     (Act::Open(&ADDER, &[56]), 16, 99),
     (Act::Trace(64), 0, 0),
+    (Act::Journal, 0, 0),
     (Act::Input(1, 1, 257), 18, 99),
     (Act::Input(1, 1, 8), 0, 1),
     (Act::Input(1, 1, 8), 14, 99),
@@ -140,6 +170,24 @@ const ADDING: &[(Act, u32, usize)] = &[
     (Act::Trim(1), 0, 1),
     (Act::Shown(0, 64), 20, 99),
     (Act::Exact, 0, 1),
+    (Act::Journal, 0, 12),
+    (Act::Entry(0), 0, 101),
+    (Act::Entry(1), 0, 202),
+    (Act::Entry(2), 0, 504),
+    (Act::Entry(3), 0, 613),
+    (Act::Entry(4), 0, 505),
+    (Act::Entry(5), 0, 506),
+    (Act::Entry(6), 0, 917),
+    (Act::Entry(7), 0, 1018),
+    (Act::Entry(8), 0, 1204),
+    (Act::Entry(9), 0, 614),
+    (Act::Entry(10), 0, 715),
+    (Act::Entry(11), 0, 816),
+    (Act::Entry(12), 20, 99),
+    (Act::Entries(6, 4), 0, 4),
+    (Act::Entries(10, 4), 0, 2),
+    (Act::Entries(12, 4), 0, 0),
+    (Act::Entries(13, 4), 0, 0),
     (Act::Close, 0, 99),
     (Act::Close, 16, 99),
     (Act::Open(&ADDER, &[56]), 0, 99),
@@ -182,6 +230,9 @@ const CLOSED: &[(Act, u32, usize)] = &[
     (Act::Shown(0, 64), 16, 99),
     (Act::Exact, 16, 99),
     (Act::Trace(64), 16, 99),
+    (Act::Journal, 16, 99),
+    (Act::Entry(0), 16, 99),
+    (Act::Entries(0, 4), 16, 99),
 ];
 
 #[test]
@@ -210,5 +261,41 @@ fn bytes(rt: HostRuntime) -> Result<(), Fail> {
         assert_eq!(rt; answer(alloc, &mut handle, act, &mut out).0, 0);
     }
     assert_eq!(rt; (out[0], out[1], out[63]), (7, 0, 0));
+    Ok(())
+}
+
+/// Whether a record is one of nobody's with these numbers of call and answer.
+fn has_numbers(record: &Record, call: &[u64], answer: &[u64]) -> bool {
+    let Record {
+        call_numbers,
+        answer_numbers,
+        ..
+    } = record;
+    record.worker == 0 && call_numbers.as_slice() == call && answer_numbers.as_slice() == answer
+}
+
+#[test]
+fn records(rt: HostRuntime) -> Result<(), Fail> {
+    let alloc = rt.alloc();
+    let mut handle = Handle::closed(alloc);
+    let mut out = [0; 64];
+    for act in [
+        Act::Open(&ADDER, &[56]),
+        Act::Input(1, 9, 2),
+        Act::Drive(100),
+    ] {
+        assert_eq!(rt; answer(alloc, &mut handle, act, &mut out).0, 0);
+    }
+    let (mut records, mut count) = ([BLANK; 4], 0);
+    let code = sblog_session_entries(alloc, &mut handle, 0, &mut records, &mut count);
+    assert_eq!(rt; (code, count), (0, 4));
+    assert!(rt; has_numbers(&records[0], &[1, 9, 0], &[1, 0]));
+    assert!(rt; has_numbers(&records[1], &[0, 1, 1], &[0, 0]));
+    assert!(rt; has_numbers(&records[3], &[1, 0, 0], &[1, 0]));
+    let input = &records[0];
+    assert_eq!(rt; (input.payload_len, input.payload[1]), (2, 7));
+    assert_eq!(rt; (input.payload[2], input.payload[255]), (0, 0));
+    let transmit = &records[1];
+    assert_eq!(rt; (transmit.payload_len, transmit.payload[0]), (0, 0));
     Ok(())
 }

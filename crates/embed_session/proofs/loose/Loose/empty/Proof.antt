@@ -3,7 +3,7 @@ use mathlib.Core.Path.{refl, sym, subst}
 use mathlib.Core.List.{List, [], ◌∷◌, ◌++◌}
 use Rattle.std.specs.Prelude.{None}
 use seplogic.Ra.Ura.{Ura}
-use mir.Val.{Val, vint, vstruct, vcons, vnil, has_ty, of_list}
+use mir.Val.{Val, vint, vstruct, vcons, vnil, has_ty}
 use base.Logic.{SProp, ent, emp, id⊢}
 use base.Fml.{ftrue, fsep}
 use prog.Memory.{Memory}
@@ -34,7 +34,6 @@ use Rattle.std_alloc.proofs.ResultValues.{and_tt}
 use Rattle.core.proofs.alloc.Calls.{handle_tells}
 use Rattle.std_alloc.proofs.BoxSteps.Form.{P, owning}
 use Rattle.embed_session.proofs.AsBox.{E}
-use Rattle.embed_session.specs.contracts.loose.Loose as Loose
 use Rattle.embed_session.specs.contracts.loose.Loose.empty as F
 use Rattle.embed_session.specs.contracts.loose.Loose.empty.Key.{name as #self}
 use Rattle.embed_session.proofs.loose.Loose.empty.Statement as stated
