@@ -1,9 +1,11 @@
-/* Calls each export of the static library, again where memory was refused, and prints what it answers.
+/* Calls each export of the static library embed, with a handle open, again where memory was refused, and
+   prints what it answers.
 
        exports IMAGE
 
-   Where a call answers SBLOG_MEMORY it has to leave state, fault and reports as they were. The program
-   ends with status 1 where one doesn't, or where memory is refused twice. It takes no memory itself. */
+   A call that answers SBLOG_MEMORY has to leave state, fault and reports as they were, and a call by an
+   open handle has to ask for no memory. The program ends with status 1 where one doesn't, or where memory
+   is refused twice. It takes no memory itself, and closes what it opens. */
 #include <fcntl.h>
 #include <stdio.h>
 #include <string.h>
@@ -11,34 +13,73 @@
 
 #include "sblog.h"
 
-enum { MESSAGES = 3 };
+enum { MESSAGES = 3, HEADER = 8, STATE_LIMIT = 1024, WRONG = 99 };
 
 /* All that a call may change. */
 static struct {
-    uint8_t fault[SBLOG_FAULT_SIZE], state[8], reports[MESSAGES * SBLOG_REPORT_LIMIT];
+    uint8_t fault[SBLOG_FAULT_SIZE], state[STATE_LIMIT], reports[MESSAGES * SBLOG_REPORT_LIMIT];
 } now, before;
 
-static uint8_t file[8 + 8 * 1024];
-static size_t file_len;
+static sblog_handle *handle;
+static uint8_t file[HEADER + 8 * 1024];
+static size_t file_len, state_len;
 static uint8_t messages[MESSAGES * SBLOG_MESSAGE_SIZE];
+
+/* How often memory was asked for, which refuse.c counts, where it is loaded. */
+extern long refuse_requests(void) __attribute__((weak));
+
+static long requests(void) { return refuse_requests ? refuse_requests() : 0; }
 
 static uint32_t check(void) { return sblog_check(file, file_len, now.fault, sizeof now.fault); }
 
 static uint32_t call(void) {
-    return sblog_call(file, file_len, now.state, sizeof now.state, messages, SBLOG_MESSAGE_SIZE, 1, 0, 2, now.reports,
+    return sblog_call(file, file_len, now.state, state_len, messages, SBLOG_MESSAGE_SIZE, 1, 0, 2, now.reports,
                       sizeof now.reports);
 }
 
 static uint32_t call_many(void) {
-    return sblog_call_many(file, file_len, now.state, sizeof now.state, messages, sizeof messages, 1, 0, 2, now.reports,
+    return sblog_call_many(file, file_len, now.state, state_len, messages, sizeof messages, 1, 0, 2, now.reports,
                            sizeof now.reports);
 }
 
-/* A new export is a line here. */
-static const struct {
+/* What stands in the handle before is overwritten, by null where the file is refused. */
+static uint32_t open_file(void) {
+    handle = (sblog_handle *)file;
+    uint32_t code = sblog_open(file, file_len, &handle);
+    return (code == SBLOG_DONE) == (handle != NULL) ? code : WRONG;
+}
+
+static uint32_t length(void) { return sblog_state_len(handle) == state_len ? SBLOG_DONE : WRONG; }
+
+static uint32_t run(void) {
+    return sblog_run(handle, now.state, state_len, messages, sizeof messages, 1, 0, 2, now.reports, sizeof now.reports);
+}
+
+static uint32_t close_handle(void) {
+    sblog_close(handle);
+    handle = NULL;
+    return SBLOG_DONE;
+}
+
+/* A new export is a line here: its name, how it is called, whether it may ask for memory, and its codes for
+   an image of form 1 and for one of form 2. */
+static const struct export {
     const char *name;
     uint32_t (*call)(void);
-} exports[] = {{"sblog_check", check}, {"sblog_call", call}, {"sblog_call_many", call_many}};
+    int asks;
+    uint32_t codes[2];
+} exports[] = {
+    {"sblog_open", open_file, 1, {SBLOG_DONE, SBLOG_DONE}},
+    {"sblog_state_len", length, 0, {SBLOG_DONE, SBLOG_DONE}},
+    {"sblog_run", run, 0, {SBLOG_DONE, SBLOG_FORM}},
+    {"sblog_check", check, 1, {SBLOG_DONE, SBLOG_DONE}},
+    {"sblog_call", call, 1, {SBLOG_DONE, SBLOG_FORM}},
+    {"sblog_call_many", call_many, 1, {SBLOG_DONE, SBLOG_FORM}},
+    {"sblog_run", run, 0, {SBLOG_DONE, SBLOG_FORM}},
+    {"sblog_close", close_handle, 0, {SBLOG_DONE, SBLOG_DONE}},
+    {"sblog_run", run, 0, {SBLOG_HANDLE, SBLOG_HANDLE}},
+    {"sblog_close", close_handle, 0, {SBLOG_DONE, SBLOG_DONE}},
+};
 
 static uint64_t sum(void) {
     const uint8_t *bytes = (const uint8_t *)&now;
@@ -47,23 +88,35 @@ static uint64_t sum(void) {
     return sum;
 }
 
+/* Makes a call, again where memory was refused. What was wrong, or nothing. */
+static const char *made(const struct export *export) {
+    long asked = requests();
+    before = now;
+    uint32_t code = export->call();
+    if (!export->asks && requests() != asked) return "asks for memory";
+    if (code == SBLOG_MEMORY) {
+        if (memcmp(&before, &now, sizeof now)) return "has changed something";
+        code = export->call();
+    }
+    if (code == SBLOG_MEMORY) return "answers want of memory twice";
+    if (code != export->codes[file[3] - '1']) return "answers another code";
+    printf("%s %u %016llx\n", export->name, code, (unsigned long long)sum());
+    return NULL;
+}
+
 int main(int count, char **words) {
     static char line[1 << 12];
     int image = count == 2 ? open(words[1], O_RDONLY) : -1;
     ssize_t size = image < 0 ? -1 : read(image, file, sizeof file);
-    if (size < 0) return 2;
+    if (size < HEADER || (file[3] != '1' && file[3] != '2')) return 2;
     file_len = size;
+    state_len = file[4] | file[5] << 8;
+    if (state_len > STATE_LIMIT) return 2;
     setvbuf(stdout, line, _IOFBF, sizeof line);
     for (int at = 0; at < MESSAGES; at++) messages[at * SBLOG_MESSAGE_SIZE] = 5 + at;
     for (size_t at = 0; at < sizeof exports / sizeof *exports; at++) {
-        before = now;
-        uint32_t code = exports[at].call();
-        if (code == SBLOG_MEMORY) {
-            if (memcmp(&before, &now, sizeof now)) return printf("%s has changed something\n", exports[at].name), 1;
-            code = exports[at].call();
-        }
-        if (code == SBLOG_MEMORY) return printf("%s answers want of memory twice\n", exports[at].name), 1;
-        printf("%s %u %016llx\n", exports[at].name, code, (unsigned long long)sum());
+        const char *wrong = made(exports + at);
+        if (wrong) return printf("%s %s\n", exports[at].name, wrong), 1;
     }
     return 0;
 }

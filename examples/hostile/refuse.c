@@ -5,7 +5,8 @@
    REFUSE has the number of the request that is refused, from 1; with a + behind it all later ones are,
    too. At the program's end the file of COUNTS has a line of four numbers: how many requests there
    were, how many of them were refused, and how many blocks the program itself took and gave back.
-   Requests of the C library count as requests, and their blocks, which it may keep, don't count. */
+   Requests of the C library count as requests, and their blocks, which it may keep, don't count.
+   refuse_requests tells a program how many requests there were so far. */
 #define _GNU_SOURCE
 #include <errno.h>
 #include <fcntl.h>
@@ -25,6 +26,8 @@ extern void __libc_free(void *block);
 static atomic_long requests, refused, taken, given_back;
 static long first = -1, last = -1;
 static uintptr_t begin, end;
+
+long refuse_requests(void) { return atomic_load(&requests); }
 
 /* The first object is the program. */
 static int of_program(struct dl_phdr_info *object, size_t size, void *unused) {
