@@ -37,6 +37,3 @@ pub use migrating::migrate;
 pub use reading::decode;
 pub use saved::{COUNT_LIMIT, RECEIPT_LIMIT, STATE_LIMIT, Saved};
 pub use writing::encode;
-
-#[cfg(test)]
-mod tests;

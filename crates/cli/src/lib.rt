@@ -18,6 +18,3 @@ mod request;
 
 pub use refusal::{Refusal, Usage};
 pub use request::{Request, parse_words};
-
-#[cfg(test)]
-mod tests;

@@ -22,6 +22,3 @@ mod processes;
 mod wire;
 
 pub use page::draw;
-
-#[cfg(test)]
-mod tests;

@@ -29,6 +29,3 @@ mod why;
 
 pub use listing::{explain, listing_of};
 pub use study::{Study, study_of};
-
-#[cfg(test)]
-mod tests;

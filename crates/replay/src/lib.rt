@@ -36,6 +36,3 @@ pub use job::Job;
 pub use plan::Plan;
 pub use resyncing::resync;
 pub use task::{Task, Ticket};
-
-#[cfg(test)]
-mod tests;

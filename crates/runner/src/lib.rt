@@ -24,6 +24,3 @@ pub use living::live;
 pub use results::push_results;
 pub use running::{journal_of, run};
 pub use word::payload_of;
-
-#[cfg(test)]
-mod tests;

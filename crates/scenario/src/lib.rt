@@ -34,6 +34,3 @@ pub use process::{Process, name_at};
 pub use report::{push_exact, push_output, push_process};
 pub use scenario::{Scenario, ScenarioError, Step, parse};
 pub use trace::trace_text;
-
-#[cfg(test)]
-mod tests;

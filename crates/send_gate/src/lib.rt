@@ -17,6 +17,3 @@
 mod gate;
 
 pub use gate::{Gate, Held, LIMIT};
-
-#[cfg(test)]
-mod tests;

@@ -23,6 +23,3 @@ mod reading;
 mod service;
 
 pub use service::Service;
-
-#[cfg(test)]
-mod tests;

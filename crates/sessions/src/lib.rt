@@ -33,6 +33,3 @@ pub use machine::{Arrival, Finished};
 pub use seat::Seat;
 pub use session::Session;
 pub use share::{End, Share};
-
-#[cfg(test)]
-mod tests;

@@ -29,6 +29,3 @@ pub use running::{RunError, run};
 pub use sessions::{End, Share};
 pub use turnstile::{Open, Turnstile};
 pub use working::worker;
-
-#[cfg(test)]
-mod tests;

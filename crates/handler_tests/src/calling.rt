@@ -1,0 +1,485 @@
+ghost use Rattle.std.specs.Prelude.{◌≤◌, length};
+
+mod damaged;
+
+use helpers::{Effects, Payload, Who};
+use interp::{CallEnd, call, call_flat, fill, refill};
+use regtypes::ImageForm;
+use std::alloc::Global;
+use std::test::Fail;
+use verifier::{Image, load};
+
+/// `ldxdw r3, [r1+0]`, `ldxdw r4, [r2+0]`, `add r4, r3`, `stxdw [r2+0], r4`, `mov r0, 0`, `exit`.
+const ADDER: [u8; 48] = [
+    0x79, 0x13, 0, 0, 0, 0, 0, 0, 0x79, 0x24, 0, 0, 0, 0, 0, 0, 0x0f, 0x34, 0, 0, 0, 0, 0, 0, 0x7b,
+    0x42, 0, 0, 0, 0, 0, 0, 0xb7, 0, 0, 0, 0, 0, 0, 0, 0x95, 0, 0, 0, 0, 0, 0, 0,
+];
+
+/// `mov r0, 0`, `ldxdw r3, [r1+0]`, `jeq r3, 0, +1`, `mov r0, 1`, `exit`.
+const IS_SET: [u8; 40] = [
+    0xb7, 0, 0, 0, 0, 0, 0, 0, 0x79, 0x13, 0, 0, 0, 0, 0, 0, 0x15, 0x03, 1, 0, 0, 0, 0, 0, 0xb7, 0,
+    0, 0, 1, 0, 0, 0, 0x95, 0, 0, 0, 0, 0, 0, 0,
+];
+
+const FIRST: Who = Who {
+    me: 1,
+    from: 0,
+    count: 2,
+};
+
+/// The image of this code, of form 1 or 2.
+fn image_of(alloc: Global, form: u8, state_len: u8, code: &[u8]) -> Result<Image, Fail>
+    requires form { form ≤ 9 }
+    requires code { length code.now ≤ 2000 }
+{
+    let mut bytes = Vec::from_slice(alloc, &[0x53, 0x42, 0x49, 0x30 + form])?;
+    bytes.extend_from_slice(&[state_len, 0, (code.len() / 8) as u8, 0])?;
+    bytes.extend_from_slice(code)?;
+    Ok(load(alloc, &bytes)?)
+}
+
+/// Calls the code on a state and a message that begins with a word and goes on with zeros.
+fn run(
+    alloc: Global,
+    code: &[u8],
+    state: &mut [u8],
+    word: u64,
+    who: Who,
+) -> Result<(CallEnd, Effects), Fail>
+    requires code { length code.now ≤ 2000 }
+    requires state { length state.old ≤ 255 }
+{
+    let image = image_of(alloc, 1, state.len() as u8, code)?;
+    if image.form() != ImageForm::Sbi1 {
+        return Err("another form")?;
+    }
+    if usize::from(image.state_len()) != state.len() {
+        return Err("another length of the state")?;
+    }
+    let mut message = [0; 64];
+    message[..8].copy_from_slice(&word.to_le_bytes());
+    let mut out = Effects::new();
+    let end = call(&image, state, &message, who, &mut out);
+    Ok((end, out))
+}
+
+#[test]
+fn adder_on_zeros(rt: HostRuntime) -> Result<(), Fail> {
+    let mut state = [0; 8];
+    let (end, out) = run(rt.alloc(), &ADDER, &mut state, 5, FIRST)?;
+    assert_eq!(rt; state, [5, 0, 0, 0, 0, 0, 0, 0]);
+    assert_eq!(rt; end, CallEnd { r0: 0, steps: 6 });
+    assert_eq!(rt; out.sends().len(), 0);
+    assert_eq!(rt; out.outputs().len(), 0);
+    Ok(())
+}
+
+// The array afterwards: the message at 0, the new state at 256, zeros elsewhere.
+#[test]
+fn adder_in_the_array(rt: HostRuntime) -> Result<(), Fail> {
+    let image = image_of(rt.alloc(), 1, 8, &ADDER)?;
+    if image.form() != ImageForm::Sbi1 {
+        return Err("another form")?;
+    }
+    if image.state_len() != 8 {
+        return Err("another length of the state")?;
+    }
+    let mut message = [0; 64];
+    message[0] = 5;
+    let mut mem = [0; 1792];
+    fill(&image, &mut mem, &message, &[0; 8]);
+    let mut out = Effects::new();
+    let end = call_flat(&image, &mut mem, 64, FIRST, &mut out);
+    assert_eq!(rt; end, CallEnd { r0: 0, steps: 6 });
+    let mut left = [0; 1792];
+    left[0] = 5;
+    left[256] = 5;
+    assert!(rt; mem == left);
+    Ok(())
+}
+
+/// `jlt r3, 8, +4`, `ldxdw r4, [r1+0]`, `ldxdw r5, [r2+0]`, `add r5, r4`, `stxdw [r2+0], r5`, `mov r0, 0`,
+/// `exit`: the message's first word is added where there is one.
+const LONG_ADDER: [u8; 56] = [
+    0xa5, 0x03, 4, 0, 8, 0, 0, 0, 0x79, 0x14, 0, 0, 0, 0, 0, 0, 0x79, 0x25, 0, 0, 0, 0, 0, 0, 0x0f,
+    0x45, 0, 0, 0, 0, 0, 0, 0x7b, 0x52, 0, 0, 0, 0, 0, 0, 0xb7, 0, 0, 0, 0, 0, 0, 0, 0x95, 0, 0, 0,
+    0, 0, 0, 0,
+];
+
+/// Calls code of form 2 on a state of 8 bytes and a message.
+fn run_long(
+    alloc: Global,
+    code: &[u8],
+    state: &mut [u8; 8],
+    message: &[u8],
+) -> Result<(CallEnd, Effects), Fail>
+    requires code { length code.now ≤ 2000 }
+    requires message { length message.now ≤ 256 }
+{
+    let image = image_of(alloc, 2, 8, code)?;
+    if image.form() != ImageForm::Sbi2 {
+        return Err("another form")?;
+    }
+    if image.state_len() != 8 {
+        return Err("another length of the state")?;
+    }
+    let mut out = Effects::new();
+    let end = call(&image, state, message, FIRST, &mut out);
+    Ok((end, out))
+}
+
+// The state word is 5 after a message of 8 bytes; 7 bytes, or none, aren't read.
+#[test]
+fn a_message_that_is_long_enough(rt: HostRuntime) -> Result<(), Fail> {
+    let mut state = [0; 8];
+    let message = [5, 0, 0, 0, 0, 0, 0, 0];
+    let (end, _) = run_long(rt.alloc(), &LONG_ADDER, &mut state, &message[..7])?;
+    assert_eq!(rt; end, CallEnd { r0: 0, steps: 3 });
+    let (end, _) = run_long(rt.alloc(), &LONG_ADDER, &mut state, &[])?;
+    assert_eq!(rt; end, CallEnd { r0: 0, steps: 3 });
+    assert_eq!(rt; state, [0; 8]);
+    let (end, _) = run_long(rt.alloc(), &LONG_ADDER, &mut state, &message)?;
+    assert_eq!(rt; end, CallEnd { r0: 0, steps: 7 });
+    assert_eq!(rt; state, [5, 0, 0, 0, 0, 0, 0, 0]);
+    Ok(())
+}
+
+/// `mov r2, r3`, `call 6`, `mov r0, 0`, `exit`: the message is output.
+#[test]
+fn output_of_the_whole_message(rt: HostRuntime) -> Result<(), Fail> {
+    let code = [
+        0xbf, 0x32, 0, 0, 0, 0, 0, 0, 0x85, 0, 0, 0, 6, 0, 0, 0, 0xb7, 0, 0, 0, 0, 0, 0, 0, 0x95,
+        0, 0, 0, 0, 0, 0, 0,
+    ];
+    let mut state = [0; 8];
+    for message in [&[][..], &[1, 2], &[7; 256]] {
+        let (end, out) = run_long(rt.alloc(), &code, &mut state, message)?;
+        assert_eq!(rt; end, CallEnd { r0: 0, steps: 4 });
+        assert_eq!(rt; out.outputs().len(), 1);
+        assert!(rt; out.outputs()[0] == Payload::from_slice(message));
+    }
+    Ok(())
+}
+
+/// `mov r2, r10`, `add r2, -256`, `ldxb r3, [r2+0]`, `add r3, N`, `mov r1, 2`, `call 5`, `exit`: N zeros are
+/// sent to process 2, and nothing where N is above 256.
+#[test]
+fn sends_of_a_length(rt: HostRuntime) -> Result<(), Fail> {
+    for (low, high, r0, sent) in [(0, 0, 0, 1), (0, 1, 0, 1), (1, 1, 3, 0)] {
+        let code = [
+            0xbf, 0xa2, 0, 0, 0, 0, 0, 0, 0x07, 0x02, 0, 0, 0x00, 0xff, 0xff, 0xff, 0x71, 0x23, 0,
+            0, 0, 0, 0, 0, 0x07, 0x03, 0, 0, low, high, 0, 0, 0xb7, 0x01, 0, 0, 2, 0, 0, 0, 0x85,
+            0, 0, 0, 5, 0, 0, 0, 0x95, 0, 0, 0, 0, 0, 0, 0,
+        ];
+        let mut state = [0; 8];
+        let (end, out) = run_long(rt.alloc(), &code, &mut state, &[])?;
+        assert_eq!(rt; end, CallEnd { r0, steps: 7 });
+        assert_eq!(rt; out.sends().len(), sent);
+        for one in out.sends() {
+            assert_eq!(rt; one.dst, 2);
+            assert_eq!(rt; one.payload.len(), usize::from(high) * 256);
+        }
+    }
+    Ok(())
+}
+
+// A shorter message behind a longer one: nothing of the longer one is left in the array.
+#[test]
+fn one_array_for_two_messages(rt: HostRuntime) -> Result<(), Fail> {
+    let image = image_of(rt.alloc(), 2, 8, &LONG_ADDER)?;
+    if image.form() != ImageForm::Sbi2 {
+        return Err("another form")?;
+    }
+    if image.state_len() != 8 {
+        return Err("another length of the state")?;
+    }
+    let mut mem = [0; 1792];
+    fill(&image, &mut mem, &[1; 256], &[0; 8]);
+    let mut out = Effects::new();
+    let end = call_flat(&image, &mut mem, 256, FIRST, &mut out);
+    assert_eq!(rt; end, CallEnd { r0: 0, steps: 7 });
+    refill(&image, &mut mem, 256, &[1; 2]);
+    out.clear();
+    let end = call_flat(&image, &mut mem, 2, FIRST, &mut out);
+    assert_eq!(rt; end, CallEnd { r0: 0, steps: 3 });
+    let mut left = [0; 1792];
+    left[..2].fill(1);
+    left[256..264].fill(1);
+    assert!(rt; mem == left);
+    Ok(())
+}
+
+#[test]
+fn adder_wraps(rt: HostRuntime) -> Result<(), Fail> {
+    let mut state = [0xff; 8];
+    run(rt.alloc(), &ADDER, &mut state, 2, FIRST)?;
+    assert_eq!(rt; state, [1, 0, 0, 0, 0, 0, 0, 0]);
+    Ok(())
+}
+
+#[test]
+fn both_ways_of_a_branch(rt: HostRuntime) -> Result<(), Fail> {
+    let mut state = [0; 8];
+    let (taken, _) = run(rt.alloc(), &IS_SET, &mut state, 0, FIRST)?;
+    assert_eq!(rt; taken, CallEnd { r0: 0, steps: 4 });
+    let (passed, _) = run(rt.alloc(), &IS_SET, &mut state, 9, FIRST)?;
+    assert_eq!(rt; passed, CallEnd { r0: 1, steps: 5 });
+    Ok(())
+}
+
+/// `mov r6, r1`, nine times `mov r1, 2`, `mov r2, r6`, `call 1`, and `exit`: no room for the ninth.
+#[test]
+fn nine_sends(rt: HostRuntime) -> Result<(), Fail> {
+    let mut code = Vec::from_slice(rt.alloc(), &[0xbf, 0x16, 0, 0, 0, 0, 0, 0])?;
+    for _ in 0..9 {
+        code.extend_from_slice(&[0xb7, 0x01, 0, 0, 2, 0, 0, 0])?;
+        code.extend_from_slice(&[0xbf, 0x62, 0, 0, 0, 0, 0, 0])?;
+        code.extend_from_slice(&[0x85, 0, 0, 0, 1, 0, 0, 0])?;
+    }
+    code.extend_from_slice(&[0x95, 0, 0, 0, 0, 0, 0, 0])?;
+    assert!(rt; code.len() <= 2000);
+    let (end, out) = run(rt.alloc(), &code, &mut [], 7, FIRST)?;
+    assert_eq!(rt; end, CallEnd { r0: 2, steps: 29 });
+    assert_eq!(rt; out.sends().len(), 8);
+    assert_eq!(rt; out.sends()[7].dst, 2);
+    assert_eq!(rt; out.sends()[7].payload.view64()[0], 7);
+    let second = Who {
+        me: 2,
+        from: 0,
+        count: 2,
+    };
+    let (end, out) = run(rt.alloc(), &code, &mut [], 7, second)?;
+    assert_eq!(rt; end, CallEnd { r0: 1, steps: 29 });
+    assert_eq!(rt; out.sends().len(), 0);
+    Ok(())
+}
+
+/// `mov r1, r10`, `add r1, -64`, `call 2`, `exit`: the stack is zeros at entry.
+#[test]
+fn output_of_the_stack(rt: HostRuntime) -> Result<(), Fail> {
+    let code = [
+        0xbf, 0xa1, 0, 0, 0, 0, 0, 0, 0x07, 0x01, 0, 0, 0xc0, 0xff, 0xff, 0xff, 0x85, 0, 0, 0, 2,
+        0, 0, 0, 0x95, 0, 0, 0, 0, 0, 0, 0,
+    ];
+    let (end, out) = run(rt.alloc(), &code, &mut [], 0, FIRST)?;
+    assert_eq!(rt; end, CallEnd { r0: 0, steps: 4 });
+    assert_eq!(rt; out.outputs().len(), 1);
+    assert!(rt; out.outputs()[0] == Payload::from([0; 64]));
+    Ok(())
+}
+
+/// `lddw r1, 0x1122334455667788`, `be16 r1`, `stw [r10-8], -2`, `ldxsw r0, [r10-8]`, `neg32 r0`,
+/// `jal +1`, `exit`, `add r0, r1`, `movsx8 r0, r0`, `exit`: 0x8877 + 2 is 0x8879, whose low byte is
+/// 0x79.
+#[test]
+fn other_classes(rt: HostRuntime) -> Result<(), Fail> {
+    let code = [
+        0x18, 0x01, 0, 0, 0x88, 0x77, 0x66, 0x55, 0, 0, 0, 0, 0x44, 0x33, 0x22, 0x11, 0xdc, 0x01,
+        0, 0, 16, 0, 0, 0, 0x62, 0x0a, 0xf8, 0xff, 0xfe, 0xff, 0xff, 0xff, 0x81, 0xa0, 0xf8, 0xff,
+        0, 0, 0, 0, 0x84, 0, 0, 0, 0, 0, 0, 0, 0x06, 0, 0, 0, 1, 0, 0, 0, 0x95, 0, 0, 0, 0, 0, 0,
+        0, 0x0f, 0x10, 0, 0, 0, 0, 0, 0, 0xbf, 0x00, 8, 0, 0, 0, 0, 0, 0x95, 0, 0, 0, 0, 0, 0, 0,
+    ];
+    let (end, _) = run(rt.alloc(), &code, &mut [], 0, FIRST)?;
+    assert_eq!(rt; end, CallEnd { r0: 0x79, steps: 9 });
+    Ok(())
+}
+
+/// `mov r6, r1`, `mov r7, 0`, nine sends to process 2 and nine outputs, whose codes are summed in r7:
+/// the ninth of each finds no room, so the sum is 4.
+#[test]
+fn both_lists_to_the_brim(rt: HostRuntime) -> Result<(), Fail> {
+    let mut code = Vec::from_slice(
+        rt.alloc(),
+        &[0xbf, 0x16, 0, 0, 0, 0, 0, 0, 0xb7, 0x07, 0, 0, 0, 0, 0, 0],
+    )?;
+    for _ in 0..9 {
+        code.extend_from_slice(&[0xb7, 0x01, 0, 0, 2, 0, 0, 0])?;
+        code.extend_from_slice(&[0xbf, 0x62, 0, 0, 0, 0, 0, 0])?;
+        code.extend_from_slice(&[0x85, 0, 0, 0, 1, 0, 0, 0])?;
+        code.extend_from_slice(&[0x0f, 0x07, 0, 0, 0, 0, 0, 0])?;
+    }
+    for _ in 0..9 {
+        code.extend_from_slice(&[0xbf, 0x61, 0, 0, 0, 0, 0, 0])?;
+        code.extend_from_slice(&[0x85, 0, 0, 0, 2, 0, 0, 0])?;
+        code.extend_from_slice(&[0x0f, 0x07, 0, 0, 0, 0, 0, 0])?;
+    }
+    code.extend_from_slice(&[0xbf, 0x70, 0, 0, 0, 0, 0, 0])?;
+    code.extend_from_slice(&[0x95, 0, 0, 0, 0, 0, 0, 0])?;
+    assert!(rt; code.len() <= 2000);
+    let (end, out) = run(rt.alloc(), &code, &mut [], 7, FIRST)?;
+    assert_eq!(rt; end, CallEnd { r0: 4, steps: 67 });
+    assert_eq!(rt; out.sends().len(), 8);
+    assert_eq!(rt; out.outputs().len(), 8);
+    assert_eq!(rt; out.outputs()[7].view64()[0], 7);
+    Ok(())
+}
+
+/// `call 3`, `mov r6, r0`, `mul r6, 256`, `call 4`, `add r0, r6`, `exit`.
+#[test]
+fn own_number_and_sender(rt: HostRuntime) -> Result<(), Fail> {
+    let code = [
+        0x85, 0, 0, 0, 3, 0, 0, 0, 0xbf, 0x06, 0, 0, 0, 0, 0, 0, 0x27, 0x06, 0, 0, 0, 1, 0, 0,
+        0x85, 0, 0, 0, 4, 0, 0, 0, 0x0f, 0x60, 0, 0, 0, 0, 0, 0, 0x95, 0, 0, 0, 0, 0, 0, 0,
+    ];
+    let who = Who {
+        me: 3,
+        from: 2,
+        count: 4,
+    };
+    let (end, _) = run(rt.alloc(), &code, &mut [], 0, who)?;
+    assert_eq!(rt;
+        end,
+        CallEnd {
+            r0: 0x302,
+            steps: 6
+        }
+    );
+    Ok(())
+}
+
+/// `ldxdw r1, [r1+0]`, `mov r2, r10`, `add r2, -64`, `call 1`, `exit`: the destination is the word.
+#[test]
+fn destinations(rt: HostRuntime) -> Result<(), Fail> {
+    let code = [
+        0x79, 0x11, 0, 0, 0, 0, 0, 0, 0xbf, 0xa2, 0, 0, 0, 0, 0, 0, 0x07, 0x02, 0, 0, 0xc0, 0xff,
+        0xff, 0xff, 0x85, 0, 0, 0, 1, 0, 0, 0, 0x95, 0, 0, 0, 0, 0, 0, 0,
+    ];
+    let rows = [(0, 1), (1, 1), (2, 0), (3, 1), (0x1_0000_0002, 1)];
+    for (dst, r0) in rows {
+        let (end, out) = run(rt.alloc(), &code, &mut [], dst, FIRST)?;
+        assert_eq!(rt; end, CallEnd { r0, steps: 5 });
+        assert_eq!(rt; out.sends().len(), usize::from(r0 == 0));
+    }
+    Ok(())
+}
+
+/// `OP r0, [r1+0]`, `exit`, on a message that begins with 88 87 86 85 84 83 82 81.
+#[test]
+fn loads_of_each_size(rt: HostRuntime) -> Result<(), Fail> {
+    let rows = [
+        (0x71, 0x88),
+        (0x69, 0x8788),
+        (0x61, 0x8586_8788),
+        (0x79, 0x8182_8384_8586_8788),
+        (0x91, 0xffff_ffff_ffff_ff88),
+        (0x89, 0xffff_ffff_ffff_8788),
+        (0x81, 0xffff_ffff_8586_8788),
+    ];
+    for (opcode, r0) in rows {
+        let code = [opcode, 0x10, 0, 0, 0, 0, 0, 0, 0x95, 0, 0, 0, 0, 0, 0, 0];
+        let (end, _) = run(rt.alloc(), &code, &mut [], 0x8182_8384_8586_8788, FIRST)?;
+        assert_eq!(rt; end, CallEnd { r0, steps: 2 });
+    }
+    Ok(())
+}
+
+/// `ldxdw r3, [r1+0]`, `OP [r2+1], r3` or `OP [r2+1], -2`, `mov r0, 0`, `exit`, on a state of nines.
+#[test]
+fn stores_of_each_size(rt: HostRuntime) -> Result<(), Fail> {
+    let rows: [(u8, [u8; 10]); 8] = [
+        (0x73, [9, 0x88, 9, 9, 9, 9, 9, 9, 9, 9]),
+        (0x6b, [9, 0x88, 0x87, 9, 9, 9, 9, 9, 9, 9]),
+        (0x63, [9, 0x88, 0x87, 0x86, 0x85, 9, 9, 9, 9, 9]),
+        (0x7b, [9, 0x88, 0x87, 0x86, 0x85, 0x84, 0x83, 0x82, 0x81, 9]),
+        (0x72, [9, 0xfe, 9, 9, 9, 9, 9, 9, 9, 9]),
+        (0x6a, [9, 0xfe, 0xff, 9, 9, 9, 9, 9, 9, 9]),
+        (0x62, [9, 0xfe, 0xff, 0xff, 0xff, 9, 9, 9, 9, 9]),
+        (0x7a, [9, 0xfe, 0xff, 0xff, 0xff, 0xff, 0xff, 0xff, 0xff, 9]),
+    ];
+    for (opcode, left) in rows {
+        let (registers, imm, high) = if opcode % 2 == 1 {
+            (0x32, 0, 0)
+        } else {
+            (0x02, 0xfe, 0xff)
+        };
+        let code = [
+            0x79, 0x13, 0, 0, 0, 0, 0, 0, opcode, registers, 1, 0, imm, high, high, high, 0xb7, 0,
+            0, 0, 0, 0, 0, 0, 0x95, 0, 0, 0, 0, 0, 0, 0,
+        ];
+        let mut state = [9; 10];
+        let (end, _) = run(rt.alloc(), &code, &mut state, 0x8182_8384_8586_8788, FIRST)?;
+        assert_eq!(rt; end, CallEnd { r0: 0, steps: 4 });
+        assert!(rt; state == left, "at {opcode}");
+    }
+    Ok(())
+}
+
+/// `ldxdw r0, [r1+0]`, then `OP r0, B`, `exit`, and the same with B in a register: `mov r3, B`, `OP r0, r3`.
+#[test]
+fn results_with_either_operand(rt: HostRuntime) -> Result<(), Fail> {
+    let rows: [(u8, u8, u64, i32, u64); 6] = [
+        (0xc4, 0, 0x8000_0000, 33, 0xc000_0000),
+        (0x77, 0, 5, 64, 5),
+        (0x34, 1, 0xffff_fff9, 2, 0xffff_fffd),
+        (0x94, 1, 0xffff_fff9, 2, 0xffff_ffff),
+        (0x37, 0, 0xffff_ffff_ffff_ffff, -1, 1),
+        (0x04, 0, 0xffff_ffff_ffff_ffff, 1, 0),
+    ];
+    for (opcode, offset, a, b, r0) in rows {
+        let b = b.to_le_bytes();
+        let with_number = [
+            0x79, 0x10, 0, 0, 0, 0, 0, 0, opcode, 0, offset, 0, b[0], b[1], b[2], b[3], 0x95, 0, 0,
+            0, 0, 0, 0, 0,
+        ];
+        let (end, _) = run(rt.alloc(), &with_number, &mut [], a, FIRST)?;
+        assert_eq!(rt; end, CallEnd { r0, steps: 3 });
+        let with_register = [
+            0x79,
+            0x10,
+            0,
+            0,
+            0,
+            0,
+            0,
+            0,
+            0xb7,
+            0x03,
+            0,
+            0,
+            b[0],
+            b[1],
+            b[2],
+            b[3],
+            opcode + 8,
+            0x30,
+            offset,
+            0,
+            0,
+            0,
+            0,
+            0,
+            0x95,
+            0,
+            0,
+            0,
+            0,
+            0,
+            0,
+            0,
+        ];
+        let (end, _) = run(rt.alloc(), &with_register, &mut [], a, FIRST)?;
+        assert_eq!(rt; end, CallEnd { r0, steps: 4 });
+    }
+    Ok(())
+}
+
+/// `ldxdw r0, [r1+0]`, one instruction on r0, `exit`: extensions of a byte, and byte orders.
+#[test]
+fn results_of_one_register(rt: HostRuntime) -> Result<(), Fail> {
+    let rows: [([u8; 5], u64, u64); 5] = [
+        ([0xbf, 0x00, 8, 0, 0], 0x80, 0xffff_ffff_ffff_ff80),
+        ([0xbc, 0x00, 8, 0, 0], 0x80, 0xffff_ff80),
+        ([0xdc, 0x00, 0, 0, 16], 0x1122_3344_5566_7788, 0x8877),
+        ([0xd7, 0x00, 0, 0, 32], 0x1122_3344_5566_7788, 0x8877_6655),
+        ([0xd4, 0x00, 0, 0, 32], 0x1122_3344_5566_7788, 0x5566_7788),
+    ];
+    for (op, a, r0) in rows {
+        let code = [
+            0x79, 0x10, 0, 0, 0, 0, 0, 0, op[0], op[1], op[2], op[3], op[4], 0, 0, 0, 0x95, 0, 0,
+            0, 0, 0, 0, 0,
+        ];
+        let (end, _) = run(rt.alloc(), &code, &mut [], a, FIRST)?;
+        assert_eq!(rt; end, CallEnd { r0, steps: 3 });
+    }
+    Ok(())
+}

@@ -1,0 +1,20 @@
+//! Tests of a handler's side: values from outside, of the crates from `decode` to `interp`.
+//!
+//! A crate with tests is proved twice, with them and without; so these stand in a crate of their
+//! own, which has nothing else in it.
+#![tactic(auto)]
+
+#[cfg(test)]
+mod arithmetic;
+#[cfg(test)]
+mod assembling;
+#[cfg(test)]
+mod calling;
+#[cfg(test)]
+mod decoding;
+#[cfg(test)]
+mod emitting;
+#[cfg(test)]
+mod typing;
+#[cfg(test)]
+mod verifying;

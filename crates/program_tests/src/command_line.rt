@@ -1,0 +1,265 @@
+use cli::{Refusal, Request, Usage, parse_words};
+use regtypes::ImageForm;
+use std::test::Fail;
+
+#[test]
+fn requests(rt: HostRuntime) -> Result<(), Fail> {
+    let alloc = rt.alloc();
+    let (image, scenario) = ("adder.sbi", "a.txt");
+    let cases = [
+        ("check adder.sbi", Request::Check { image }),
+        ("run a.txt", Request::Run { scenario }),
+        (
+            "live a.txt --workers 16 --budget 1",
+            Request::Live {
+                scenario,
+                workers: 16,
+                budget: 1,
+            },
+        ),
+        (
+            "live --budget=1000000 a.txt --workers=1",
+            Request::Live {
+                scenario,
+                workers: 1,
+                budget: 1_000_000,
+            },
+        ),
+        (
+            "draw a.txt a.svg",
+            Request::Draw {
+                scenario,
+                picture: "a.svg",
+            },
+        ),
+        (
+            "asm adder.s adder.sbi --state 8",
+            Request::Asm {
+                source: "adder.s",
+                image,
+                state: 8,
+                form: ImageForm::Sbi1,
+            },
+        ),
+        (
+            "asm --state=1024 adder.s adder.sbi",
+            Request::Asm {
+                source: "adder.s",
+                image,
+                state: 1024,
+                form: ImageForm::Sbi1,
+            },
+        ),
+        (
+            "asm adder.s adder.sbi --form 2 --state 0",
+            Request::Asm {
+                source: "adder.s",
+                image,
+                state: 0,
+                form: ImageForm::Sbi2,
+            },
+        ),
+        ("explain adder.sbi", Request::Explain { image }),
+        (
+            "pack adder.code adder.sbi --form=2 --state=8",
+            Request::Pack {
+                code: "adder.code",
+                image,
+                state: 8,
+                form: ImageForm::Sbi2,
+            },
+        ),
+        ("dis adder.sbi", Request::Dis { image }),
+    ];
+    for (line, want) in cases {
+        let words: Vec<&str> = line.split_whitespace().collect(alloc)?;
+        match parse_words(alloc, words.as_slice()) {
+            Ok(request) => assert!(rt; request == want, "at {line}"),
+            Err(_) => assert!(rt; false, "refused {line}"),
+        }
+    }
+    Ok(())
+}
+
+#[test]
+fn usage_texts(rt: HostRuntime) -> Result<(), Fail> {
+    let alloc = rt.alloc();
+    let cases = [
+        ("", "Usage: sblog <COMMAND>"),
+        ("fly", "unrecognized subcommand 'fly'"),
+        ("check", "<IMAGE>"),
+        ("check a b", "unexpected argument 'b' found"),
+        ("check a b c d e f", "unexpected argument 'b' found"),
+        ("asm a b --state 8 c d e", "unexpected argument 'c' found"),
+        ("first a 5", "unrecognized subcommand 'first'"),
+        ("run", "<SCENARIO>"),
+        ("run a b", "unexpected argument 'b' found"),
+        ("live a --workers 4", "--budget <B>"),
+        ("live a --budget 4", "--workers <N>"),
+        ("live --workers 4 --budget 4", "<SCENARIO>"),
+        ("live a --workers 0 --budget 4", "invalid value '0'"),
+        ("live a --workers 17 --budget 4", "invalid value '17'"),
+        ("live a --workers 4 --budget 0", "invalid value '0'"),
+        (
+            "live a --workers 4 --budget 1000001",
+            "invalid value '1000001'",
+        ),
+        ("draw a", "<OUT>"),
+        ("draw a b c", "unexpected argument 'c' found"),
+        ("asm a b", "--state <N>"),
+        ("asm a --state 0", "<OUT>"),
+        ("asm a b --state 1025", "invalid value '1025'"),
+        ("asm a b --state eight", "invalid value 'eight'"),
+        ("asm a b --state 8 --form 0", "invalid value '0'"),
+        ("asm a b --state 8 --form 3", "invalid value '3'"),
+        ("asm a b --state 8 --form", "--form <F>"),
+        ("asm a b --state 8 --form 1 --form 1", "--form <F>"),
+        ("explain", "<IMAGE>"),
+        ("explain a b", "unexpected argument 'b' found"),
+        ("pack a b", "--state <N>"),
+        ("pack a --state 0", "<OUT>"),
+        ("pack a b --state 1025", "invalid value '1025'"),
+        ("pack a b --state 8 --form 3", "invalid value '3'"),
+        ("dis", "<IMAGE>"),
+        ("--help", "Usage: sblog <COMMAND>"),
+        ("help run", "Usage: sblog run <SCENARIO>"),
+        ("check --help", "Usage: sblog check <IMAGE>"),
+    ];
+    for (line, part) in cases {
+        let words: Vec<&str> = line.split_whitespace().collect(alloc)?;
+        match parse_words(alloc, words.as_slice()) {
+            Err(Refusal::Usage(Usage { text, .. })) => {
+                assert!(rt; text.as_str().contains(part), "at {line}: {text}");
+                assert!(rt; text.as_str().ends_with('\n'), "at {line}: {text}");
+            }
+            _ => assert!(rt; false, "taken: {line}"),
+        }
+    }
+    Ok(())
+}
+
+/// Every help page of the program, one behind the other.
+const PAGES: &str = "Runs verified message handlers
+
+Usage: sblog <COMMAND>
+
+Commands:
+  run      Carries out a scenario, and prints its trace and report
+  live     Has N workers carry out the inputs of a scenario, each at most about B calls
+  draw     Carries out a scenario, and writes its picture as an SVG file
+  check    Verifies an image and prints how many instructions it has
+  explain  Lists an image with what is known of its registers, and why it is refused
+  asm      Writes the image of an assembler text, with N bytes of state
+  pack     Writes the image of the bytes of its code, with N bytes of state
+  dis      Prints the assembler text of an image
+  help     Print this message or the help of the given subcommand(s)
+
+Options:
+  -h, --help  Print help
+Carries out a scenario, and prints its trace and report
+
+Usage: sblog run <SCENARIO>
+
+Arguments:
+  <SCENARIO>  
+
+Options:
+  -h, --help  Print help
+Has N workers carry out the inputs of a scenario, each at most about B calls
+
+Usage: sblog live --workers <N> --budget <B> <SCENARIO>
+
+Arguments:
+  <SCENARIO>  
+
+Options:
+      --workers <N>  
+      --budget <B>   
+  -h, --help         Print help
+Carries out a scenario, and writes its picture as an SVG file
+
+Usage: sblog draw <SCENARIO> <OUT>
+
+Arguments:
+  <SCENARIO>  
+  <OUT>       
+
+Options:
+  -h, --help  Print help
+Verifies an image and prints how many instructions it has
+
+Usage: sblog check <IMAGE>
+
+Arguments:
+  <IMAGE>  
+
+Options:
+  -h, --help  Print help
+Lists an image with what is known of its registers, and why it is refused
+
+Usage: sblog explain <IMAGE>
+
+Arguments:
+  <IMAGE>  
+
+Options:
+  -h, --help  Print help
+Writes the image of an assembler text, with N bytes of state
+
+Usage: sblog asm [OPTIONS] --state <N> <SRC> <OUT>
+
+Arguments:
+  <SRC>  
+  <OUT>  
+
+Options:
+      --state <N>  
+      --form <F>   Form of the image, 1 or 2 [default: 1]
+  -h, --help       Print help
+Writes the image of the bytes of its code, with N bytes of state
+
+Usage: sblog pack [OPTIONS] --state <N> <CODE> <OUT>
+
+Arguments:
+  <CODE>  
+  <OUT>   
+
+Options:
+      --state <N>  
+      --form <F>   Form of the image, 1 or 2 [default: 1]
+  -h, --help       Print help
+Prints the assembler text of an image
+
+Usage: sblog dis <IMAGE>
+
+Arguments:
+  <IMAGE>  
+
+Options:
+  -h, --help  Print help
+";
+
+#[test]
+fn help_pages(rt: HostRuntime) -> Result<(), Fail> {
+    let alloc = rt.alloc();
+    let mut pages: String = String::new(alloc);
+    for line in [
+        "--help",
+        "run --help",
+        "live --help",
+        "draw --help",
+        "check --help",
+        "explain --help",
+        "asm --help",
+        "pack --help",
+        "dis --help",
+    ] {
+        let words: Vec<&str> = line.split_whitespace().collect(alloc)?;
+        match parse_words(alloc, words.as_slice()) {
+            Err(Refusal::Usage(Usage { text, .. })) => pages.push_str(text.as_str())?,
+            _ => assert!(rt; false, "taken: {line}"),
+        }
+    }
+    assert_eq!(rt; pages.as_str(), PAGES);
+    Ok(())
+}

@@ -1,0 +1,226 @@
+//! The commands `run`, `live` and `draw` over files in memory.
+
+use super::{ADDER, carried, some_of};
+use std::alloc::Global;
+use std::process::Abort;
+use std::str;
+use std::sync::Wait;
+use std::test::Fail;
+use std::thread::Threads;
+use tracer::{Failure, Files};
+
+/// A scenario at the path `s`, an image at `adder.sbi`, one that is cut off at `cut.sbi`, and what was
+/// written at `out`; every other path fails.
+#[derive(Drop)]
+struct Folder {
+    scenario: Vec<u8>,
+    out: Vec<u8>,
+}
+
+impl Files for Folder {
+    fn read(
+        &mut self,
+        alloc: Global,
+        path: &str,
+        limit: Option<usize>,
+    ) -> Result<Vec<u8>, Failure> {
+        match path {
+            "s" => some_of(alloc, self.scenario.as_slice(), limit),
+            "adder.sbi" => some_of(alloc, ADDER.as_slice(), limit),
+            "cut.sbi" => some_of(alloc, &ADDER[..55], limit),
+            _ => Err(Failure::InputOutput),
+        }
+    }
+
+    fn write(&mut self, path: &str, bytes: &[u8]) -> Result<(), Failure> {
+        if path != "out" {
+            return Err(Failure::InputOutput);
+        }
+        self.out.clear();
+        self.out
+            .extend_from_slice(bytes)
+            .map_err(|_| Failure::Memory)
+    }
+}
+
+/// Carries out one line on a scenario, and tests its status and what it shows on each stream.
+fn ends<R: Threads + Wait + Sync + Abort + AllocGlobal>(
+    rt: &R,
+    line: &str,
+    scenario: &[u8],
+    status: u8,
+    shown: &str,
+    told: &str,
+) -> Result<(), Fail> {
+    let mut files = Folder {
+        scenario: scenario.to_vec(rt.alloc())?,
+        out: Vec::new(rt.alloc()),
+    };
+    let (answered, out, err) = carried(rt, line, &mut files)?;
+    assert_eq!(rt; answered, status, "at {line}, {told}");
+    assert!(rt; out.as_slice() == shown.as_bytes(), "at {line}, {told}");
+    assert!(rt; err.as_slice() == told.as_bytes(), "at {line}, {told}");
+    assert!(rt; files.out.is_empty(), "at {line}");
+    Ok(())
+}
+
+/// A line, the scenario, and what is shown of it. One worker takes turns alone: it leaves of a message
+/// what `run` leaves of it, but that each entry is its own.
+const SHOWN: [(&str, &[u8], &str); 4] = [
+    (
+        "run s",
+        b"process a adder.sbi\ninput a 5\ndrive 10\n",
+        "000001 w0 input 1 1 -> logged 1
+000002 w0 transmit 0 1 1 -> packet 0
+000003 w0 arrive 0 -> started 1
+000004 w0 finish 1 -> committed 1 0
+000005 w0 arrive 0 -> numbered 0
+000006 w0 arrive 0 -> acknowledged
+process a up 1 0500000000000000
+exact
+",
+    ),
+    (
+        "run s",
+        b"process a adder.sbi\ninput a 5\ntransmit outside a 1\narrive 0\n\
+        crash a\nfinish a\nrecover a\ndrive 100",
+        "line 6 refused 9
+000001 w0 input 1 1 -> logged 1
+000002 w0 transmit 0 1 1 -> packet 0
+000003 w0 arrive 0 -> started 1
+000004 w0 crash 1 -> crashed 2
+000005 w0 recover 1 -> kept 0
+000006 w0 transmit 0 1 1 -> packet 0
+000007 w0 arrive 0 -> started 2
+000008 w0 finish 1 -> committed 1 0
+000009 w0 arrive 0 -> numbered 0
+000010 w0 arrive 0 -> acknowledged
+process a up 1 0500000000000000
+exact
+",
+    ),
+    (
+        "live s --workers 1 --budget 100",
+        b"process a adder.sbi\ninput a 5\n",
+        "000001 w1 input 1 1 -> logged 1
+000002 w1 transmit 0 1 1 -> packet 0
+000003 w1 arrive 0 -> started 1
+000004 w1 finish 1 -> committed 1 0
+000005 w1 arrive 0 -> numbered 0
+000006 w1 arrive 0 -> acknowledged
+process a up 1 0500000000000000
+exact
+",
+    ),
+    (
+        "live s --workers 16 --budget 1000000",
+        b"process a adder.sbi\n",
+        "process a up 0 0000000000000000\nexact\n",
+    ),
+];
+
+#[test]
+fn what_is_shown(rt: HostRuntime) -> Result<(), Fail> {
+    for (line, scenario, shown) in SHOWN {
+        ends(&rt, line, scenario, 0, shown, "")?;
+    }
+    Ok(())
+}
+
+/// A picture is at its place whole, or all is as it was.
+#[test]
+fn pictures(rt: HostRuntime) -> Result<(), Fail> {
+    let sized = "<svg xmlns='http://www.w3.org/2000/svg' width='900' height='320' ";
+    let named = "<text class='name' x='12' y='156'>1 a</text>";
+    let cases = [
+        ("draw s out", 0, "", [sized, named]),
+        ("draw s folder", 6, "input or output\n", ["old", "old"]),
+        ("draw folder out", 6, "input or output\n", ["old", "old"]),
+    ];
+    for (line, want, told, parts) in cases {
+        let mut files = Folder {
+            scenario: b"process a adder.sbi\ninput a 5\ndrive 10\n".to_vec(rt.alloc())?,
+            out: b"old".to_vec(rt.alloc())?,
+        };
+        let scenario = files.scenario.clone()?;
+        let (status, out, err) = carried(&rt, line, &mut files)?;
+        assert_eq!(rt; status, want, "at {line}");
+        assert!(rt;
+            out.is_empty() && err.as_slice() == told.as_bytes(),
+            "at {line}"
+        );
+        assert!(rt;
+            files.scenario.as_slice() == scenario.as_slice(),
+            "at {line}"
+        );
+        let left = str::from_utf8(files.out.as_slice()).unwrap_or("");
+        for part in parts {
+            assert!(rt; left.contains(part), "at {line}: {left}");
+        }
+        assert!(rt;
+            left == "old" || left.ends_with("</svg>\n"),
+            "at {line}: {left}"
+        );
+    }
+    Ok(())
+}
+
+/// A line, the scenario, the status, and what is told.
+const REFUSED: [(&str, &[u8], u8, &str); 12] = [
+    ("run s", b"", 4, "scenario refused at line 0\n"),
+    ("run s", b"# nothing\n\n", 4, "scenario refused at line 0\n"),
+    (
+        "run s",
+        b"process a adder.sbi\ndrive 07\n",
+        4,
+        "scenario refused at line 2\n",
+    ),
+    // The whole text is checked before the first image is read.
+    (
+        "run s",
+        b"process a missing.sbi\nfly a\n",
+        4,
+        "scenario refused at line 2\n",
+    ),
+    ("run s", b"process a missing.sbi\n", 6, "input or output\n"),
+    ("run s", b"process a cut.sbi\n", 3, "load refused 5\n"),
+    (
+        "run s",
+        b"process a cut.sbi\nprocess b missing.sbi\n",
+        3,
+        "load refused 5\n",
+    ),
+    (
+        "run s",
+        b"process a adder.sbi\n# \xff\n",
+        6,
+        "input or output\n",
+    ),
+    ("run folder", b"", 6, "input or output\n"),
+    (
+        "live s --workers 4 --budget 9",
+        b"process a missing.sbi\ninput a 1\ncrash a\n",
+        4,
+        "scenario refused at line 3\n",
+    ),
+    (
+        "live s --workers 4 --budget 9",
+        b"process a cut.sbi\n",
+        3,
+        "load refused 5\n",
+    ),
+    (
+        "draw s out",
+        b"process a adder.sbi\nfinish b\n",
+        4,
+        "scenario refused at line 2\n",
+    ),
+];
+
+#[test]
+fn refused_scenarios(rt: HostRuntime) -> Result<(), Fail> {
+    for (line, scenario, status, told) in REFUSED {
+        ends(&rt, line, scenario, status, "", told)?;
+    }
+    Ok(())
+}

@@ -1,0 +1,232 @@
+//! The commands `asm`, `pack` and `dis` over files in memory.
+
+use super::{ADDER, carried, some_of};
+use std::alloc::Global;
+use std::process::Abort;
+use std::sync::Wait;
+use std::test::Fail;
+use std::thread::Threads;
+use tracer::{Failure, Files};
+
+/// A text at the path `s` and an image at the path `i`; every other path fails.
+#[derive(Drop)]
+struct TwoFiles<'a> {
+    text: &'a [u8],
+    image: Vec<u8>,
+}
+
+impl Files for TwoFiles<'_> {
+    fn read(
+        &mut self,
+        alloc: Global,
+        path: &str,
+        limit: Option<usize>,
+    ) -> Result<Vec<u8>, Failure> {
+        match path {
+            "s" => some_of(alloc, self.text, limit),
+            "i" => some_of(alloc, self.image.as_slice(), limit),
+            _ => Err(Failure::InputOutput),
+        }
+    }
+
+    fn write(&mut self, path: &str, bytes: &[u8]) -> Result<(), Failure> {
+        if path != "i" {
+            return Err(Failure::InputOutput);
+        }
+        self.image.clear();
+        self.image
+            .extend_from_slice(bytes)
+            .map_err(|_| Failure::Memory)
+    }
+}
+
+static ADDER_TEXT: &str = "ldxdw r3, [r1+0]\nldxdw r4, [r2+0]\nadd r4, r3\nstxdw [r2+0], r4\n\
+    mov r0, 0\nexit\n";
+
+/// Carries out one line, and tests its status and what it shows and leaves at `i`.
+fn ends<R: Threads + Wait + Sync + Abort + AllocGlobal>(
+    rt: &R,
+    line: &str,
+    files: &mut TwoFiles<'_>,
+    status: u8,
+    shown: &str,
+    left: &[u8],
+) -> Result<(), Fail> {
+    let (answered, out, err) = carried(rt, line, files)?;
+    assert_eq!(rt; answered, status, "at {line}, {shown}");
+    let (told, silent) = if status == 0 {
+        (&out, &err)
+    } else {
+        (&err, &out)
+    };
+    assert!(rt; told.as_slice() == shown.as_bytes(), "at {line}, {shown}");
+    assert!(rt; silent.is_empty(), "at {line}, {shown}");
+    assert!(rt; files.image.as_slice() == left, "at {line}, {shown}");
+    Ok(())
+}
+
+#[test]
+fn adder_both_ways(rt: HostRuntime) -> Result<(), Fail> {
+    let image = b"old".to_vec(rt.alloc())?;
+    let text = ADDER_TEXT.as_bytes();
+    let mut files = TwoFiles { text, image };
+    let adder = ADDER.as_slice();
+    ends(&rt, "asm s i --state 8", &mut files, 0, "", adder)?;
+    ends(&rt, "dis i", &mut files, 0, ADDER_TEXT, adder)?;
+    let mut second = adder.to_vec(rt.alloc())?;
+    second[3] = b'2';
+    ends(
+        &rt,
+        "asm s i --state 8 --form 2",
+        &mut files,
+        0,
+        "",
+        &second,
+    )
+}
+
+// The bytes of code get a header, and code that has no file leaves the one that is there.
+#[test]
+fn packed_code(rt: HostRuntime) -> Result<(), Fail> {
+    let alloc = rt.alloc();
+    let mut second = ADDER.to_vec(alloc)?;
+    second[3] = b'2';
+    let mut many: Vec<u8> = Vec::new(alloc);
+    for _ in 0..1025 {
+        many.extend_from_slice(b"\x95\x00\x00\x00\x00\x00\x00\x00")?;
+    }
+    let (adder, other) = (ADDER.as_slice(), second.as_slice());
+    let code = &ADDER[8..];
+    let cases = [
+        ("--state 8", code, 0, "", adder),
+        ("--state 8 --form 2", code, 0, "", other),
+        (
+            "--state 8",
+            &ADDER[8..55],
+            3,
+            "decode refused 1 at slot 0\n",
+            b"old",
+        ),
+        ("--state 8", b"", 3, "load refused 4\n", b"old"),
+        ("--state 8", many.as_slice(), 3, "load refused 4\n", b"old"),
+        (
+            "--state 8",
+            &adder[..8],
+            3,
+            "decode refused 2 at slot 0\n",
+            b"old",
+        ),
+    ];
+    for (options, text, status, shown, left) in cases {
+        let image = b"old".to_vec(alloc)?;
+        let mut files = TwoFiles { text, image };
+        let line = format!(in alloc; "pack s i {options}")?;
+        ends(&rt, line.as_str(), &mut files, status, shown, left)?;
+    }
+    Ok(())
+}
+
+#[test]
+fn refused_texts_write_nothing(rt: HostRuntime) -> Result<(), Fail> {
+    let image = b"old".to_vec(rt.alloc())?;
+    let text = b"".as_slice();
+    let mut files = TwoFiles { text, image };
+    let cases = [
+        (b"foo\n".as_slice(), 3, "asm refused 1 at line 1\n"),
+        (b"mov r11, 0".as_slice(), 3, "asm refused 2 at line 1\n"),
+        (
+            b"mov r0, 2147483648".as_slice(),
+            3,
+            "asm refused 3 at line 1\n",
+        ),
+        (
+            b"# two\n\nexit\nexit 1\n".as_slice(),
+            3,
+            "asm refused 2 at line 4\n",
+        ),
+        (b"".as_slice(), 3, "load refused 4\n"),
+        (b"# nothing\n\n".as_slice(), 3, "load refused 4\n"),
+        (b"# \xff\nexit\n".as_slice(), 6, "input or output\n"),
+    ];
+    for (text, status, shown) in cases {
+        files.text = text;
+        ends(&rt, "asm s i --state 8", &mut files, status, shown, b"old")?;
+    }
+    Ok(())
+}
+
+#[test]
+fn at_most_1024_slots(rt: HostRuntime) -> Result<(), Fail> {
+    let alloc = rt.alloc();
+    let mut text: Vec<u8> = Vec::new(alloc);
+    let mut file: Vec<u8> = Vec::new(alloc);
+    file.extend_from_slice(b"SBI1\x00\x04\x00\x04")?;
+    for _ in 0..1024 {
+        text.extend_from_slice(b"exit\n")?;
+        file.extend_from_slice(b"\x95\x00\x00\x00\x00\x00\x00\x00")?;
+    }
+    let mut longer = text.clone()?;
+    longer.extend_from_slice(b"exit\n")?;
+    let image = Vec::new(alloc);
+    let mut files = TwoFiles {
+        text: text.as_slice(),
+        image,
+    };
+    ends(&rt, "asm s i --state 1024", &mut files, 0, "", &file)?;
+    files.text = longer.as_slice();
+    let refused = "asm refused 4 at line 1025\n";
+    ends(&rt, "asm s i --state 0", &mut files, 3, refused, &file)?;
+    // Nothing follows the largest image, also behind as many bytes as are read of one.
+    let unset = "verify refused V10 at slot 0\n";
+    ends(&rt, "check i", &mut files, 3, unset, &file)?;
+    for rest in [b"\x95".as_slice(), b"\x00\x00\x00\x00\x00\x00\x00"] {
+        file.extend_from_slice(rest)?;
+        files.image.extend_from_slice(rest)?;
+        ends(&rt, "check i", &mut files, 3, "load refused 5\n", &file)?;
+    }
+    Ok(())
+}
+
+#[test]
+fn paths_and_images(rt: HostRuntime) -> Result<(), Fail> {
+    let image = b"SBI1\x08\x00\x01\x00\x95\x00\x00\x00\x00\x00\x00\x00".to_vec(rt.alloc())?;
+    let text = b"exit".as_slice();
+    let mut files = TwoFiles { text, image };
+    let exit = files.image.clone()?;
+    ends(&rt, "dis i", &mut files, 0, "exit\n", &exit)?;
+    ends(&rt, "dis x", &mut files, 6, "input or output\n", &exit)?;
+    ends(
+        &rt,
+        "asm x i --state 8",
+        &mut files,
+        6,
+        "input or output\n",
+        &exit,
+    )?;
+    ends(
+        &rt,
+        "asm s x --state 8",
+        &mut files,
+        6,
+        "input or output\n",
+        &exit,
+    )?;
+    ends(
+        &rt,
+        "asm i i --state 8",
+        &mut files,
+        6,
+        "input or output\n",
+        &exit,
+    )?;
+    ends(&rt, "dis s", &mut files, 3, "load refused 1\n", &exit)?;
+    files.text = b"SBI1\x08\x00\x01\x00\x0f\x34\x00\x00\x01\x00\x00\x00";
+    ends(
+        &rt,
+        "dis s",
+        &mut files,
+        3,
+        "decode refused 3 at slot 0\n",
+        &exit,
+    )
+}

@@ -1,0 +1,53 @@
+//! Runs by workers.
+
+ghost use Rattle.std.specs.Prelude.{◌≤◌};
+
+use super::{ADDER, image};
+use runner::live;
+use scenario::{Allowed, parse};
+use std::alloc::Global;
+use std::sync::Wait;
+use std::test::Fail;
+use std::thread::Threads;
+
+/// What workers leave of a scenario of one adder.
+fn lived<R: Threads + Wait + Sync>(
+    rt: &R,
+    alloc: Global,
+    text: &str,
+    workers: u8,
+) -> Result<String, Fail>
+    requires { (1 ≤ workers) × (workers ≤ 16) }
+{
+    let scenario = parse(alloc, text, Allowed::Inputs)?;
+    let mut images = Vec::new(alloc);
+    images.push(image(alloc, &ADDER)?)?;
+    if scenario.processes.len() != 1 {
+        return Err("one process")?;
+    }
+    let mut out = String::new(alloc);
+    live(rt, alloc, &scenario, images, workers, 10_000, &mut out)?;
+    Ok(out)
+}
+
+#[test]
+fn a_hundred_messages(rt: HostRuntime) -> Result<(), Fail> {
+    let alloc = rt.alloc();
+    let mut text = String::from_str(alloc, "process a x\n")?;
+    for line in 0..100 {
+        text.push_str("input a 1\n")?;
+    }
+    let out = lived(&rt, alloc, text.as_str(), 4)?;
+    let last = "process a up 100 6400000000000000\nexact\n";
+    assert!(rt; out.as_str().ends_with(last));
+    assert_eq!(rt; out.as_str().lines().count(), 602);
+    Ok(())
+}
+
+#[test]
+fn no_message(rt: HostRuntime) -> Result<(), Fail> {
+    let alloc = rt.alloc();
+    let out = lived(&rt, alloc, "process a x\n", 2)?;
+    assert_eq!(rt; out.as_str(), "process a up 0 0000000000000000\nexact\n");
+    Ok(())
+}

@@ -1,0 +1,255 @@
+//! Texts of scenarios, and their faults.
+
+use helpers::Payload;
+use scenario::{Allowed, Order, ScenarioError, parse};
+use std::alloc::Global;
+use std::test::Fail;
+
+/// Two processes, before the lines that are tried.
+const TWO: &str = "# a run\n\nprocess a adder.sbi\nprocess b2 x/y.sbi\n";
+
+/// Whether a line behind two processes is this order.
+fn is_order(alloc: Global, line: &str, order: Order) -> Result<bool, Fail> {
+    let text = format!(in alloc; "{TWO}{line}\n")?;
+    match parse(alloc, text.as_str(), Allowed::All) {
+        Ok(scenario) => {
+            let steps = scenario.steps.as_slice();
+            Ok(steps.len() == 1 && steps[0].line == 5 && steps[0].order == order)
+        }
+        Err(_) => Ok(false),
+    }
+}
+
+/// Whether the text is refused at this line.
+fn is_refused(alloc: Global, text: &str, line: usize) -> bool {
+    match parse(alloc, text, Allowed::All) {
+        Ok(_) => false,
+        Err(error) => error == ScenarioError::Line(line),
+    }
+}
+
+/// Whether the line is refused behind two processes.
+fn is_faulty(alloc: Global, line: &str) -> Result<bool, Fail> {
+    let text = format!(in alloc; "{TWO}{line}\ndrive 07\n")?;
+    Ok(is_refused(alloc, text.as_str(), 5))
+}
+
+#[test]
+fn each_order(rt: HostRuntime) -> Result<(), Fail> {
+    let alloc = rt.alloc();
+    let word = 18446744073709551615;
+    assert!(rt;
+        is_order(
+            alloc,
+            "input a 18446744073709551615",
+            Order::Input { to: 1, word }
+        )?
+    );
+    assert!(rt; is_order(alloc, "input b2 0", Order::Input { to: 2, word: 0 })?);
+    assert!(rt;
+        is_order(
+            alloc,
+            "bytes a 05ff",
+            Order::Bytes {
+                to: 1,
+                payload: Payload::from_slice(&[5, 255])
+            }
+        )?
+    );
+    assert!(rt;
+        is_order(
+            alloc,
+            "bytes a -",
+            Order::Bytes {
+                to: 1,
+                payload: Payload::new()
+            }
+        )?
+    );
+    assert!(rt;
+        is_order(
+            alloc,
+            "transmit outside a 1",
+            Order::Transmit {
+                from: 0,
+                to: 1,
+                ssn: 1
+            }
+        )?
+    );
+    assert!(rt;
+        is_order(
+            alloc,
+            "transmit b2 outside 4294967295",
+            Order::Transmit {
+                from: 2,
+                to: 0,
+                ssn: 4294967295
+            }
+        )?
+    );
+    assert!(rt; is_order(alloc, "copy 0", Order::Copy { key: 0 })?);
+    assert!(rt; is_order(alloc, "lose 12", Order::Lose { key: 12 })?);
+    assert!(rt;
+        is_order(
+            alloc,
+            "arrive 4294967295",
+            Order::Arrive { key: 4294967295 }
+        )?
+    );
+    assert!(rt; is_order(alloc, "finish a", Order::Finish { process: 1 })?);
+    assert!(rt; is_order(alloc, "checkpoint b2", Order::Checkpoint { process: 2 })?);
+    assert!(rt; is_order(alloc, "trim a", Order::Trim { to: 1 })?);
+    assert!(rt; is_order(alloc, "trim outside", Order::Trim { to: 0 })?);
+    assert!(rt; is_order(alloc, "crash a", Order::Crash { process: 1 })?);
+    assert!(rt; is_order(alloc, "recover a", Order::Recover { process: 1 })?);
+    assert!(rt; is_order(alloc, "alone a", Order::RecoverAlone { process: 1 })?);
+    assert!(rt; is_order(alloc, "replay a", Order::ReplayBegin { process: 1 })?);
+    assert!(rt;
+        is_order(
+            alloc,
+            "resync b2 a",
+            Order::Resync {
+                process: 2,
+                peer: 1
+            }
+        )?
+    );
+    assert!(rt; is_order(alloc, "drive 10", Order::Drive { budget: 10 })?);
+    Ok(())
+}
+
+/// Lines that are none, for a word, a space, a name or a number.
+const FAULTY: [&str; 33] = [
+    "fly a",
+    "drive",
+    "drive ",
+    " drive 1",
+    "drive  1",
+    "drive 1 ",
+    "drive 1 2",
+    "drive\t1",
+    "drive 07",
+    "drive +7",
+    "drive -1",
+    "drive 4294967296",
+    "copy 4294967296",
+    "Drive 1",
+    "input a",
+    "input a 00",
+    "input a 18446744073709551616",
+    "input outside 1",
+    "input c 1",
+    "input 1 1",
+    "bytes a 0",
+    "bytes a 0A",
+    "bytes a 0g",
+    "bytes a",
+    "bytes a ",
+    "crash outside",
+    "crash a\r",
+    "crash a b2",
+    "resync a",
+    "resync a outside",
+    "transmit a b2",
+    "transmit a c 1",
+    "process c c.sbi d",
+];
+
+#[test]
+fn each_fault(rt: HostRuntime) -> Result<(), Fail> {
+    for line in FAULTY.as_slice() {
+        assert!(rt; is_faulty(rt.alloc(), line)?);
+    }
+    Ok(())
+}
+
+#[test]
+fn processes(rt: HostRuntime) -> Result<(), Fail> {
+    let alloc = rt.alloc();
+    let scenario = parse(
+        alloc,
+        "process abcdefghij123456 a.sbi\n# more\nprocess b x/y",
+        Allowed::All,
+    )?;
+    assert_eq!(rt; scenario.processes.len(), 2);
+    assert_eq!(rt; scenario.steps.len(), 0);
+    match scenario.processes.get_index(1) {
+        Some((name, process)) => {
+            assert!(rt; name.as_str() == "b" && process.path.as_str() == "x/y");
+            assert_eq!(rt; process.line, 3);
+        }
+        None => assert!(rt; false),
+    }
+    assert!(rt; is_refused(alloc, "", 0));
+    assert!(rt; is_refused(alloc, "# nothing\n", 0));
+    assert!(rt; is_refused(alloc, "drive 1\n", 0));
+    assert!(rt; is_refused(alloc, "process a adder.sbi\ndrive 07", 2));
+    assert!(rt; is_refused(alloc, "process abcdefghij1234567 a.sbi\n", 1));
+    assert!(rt; is_refused(alloc, "process A a.sbi\n", 1));
+    assert!(rt; is_refused(alloc, "process 1a a.sbi\n", 1));
+    assert!(rt; is_refused(alloc, "process a\n", 1));
+    assert!(rt; is_refused(alloc, "process a \n", 1));
+    assert!(rt; is_refused(alloc, "process outside a.sbi\n", 1));
+    assert!(rt; is_refused(alloc, "process a a.sbi\nprocess a b.sbi\n", 2));
+    assert!(rt; is_refused(alloc, "process a a.sbi\ndrive 1\nprocess b b.sbi\n", 3));
+    Ok(())
+}
+
+/// A name and a number each have a letter of their own.
+const FIFTEEN: &str =
+    "process a p\nprocess b p\nprocess c p\nprocess d p\nprocess e p\nprocess f p\nprocess g p\nprocess h p\nprocess i p\nprocess j p\nprocess k p\nprocess l p\nprocess m p\nprocess n p\nprocess o p\n";
+
+#[test]
+fn fifteen_processes(rt: HostRuntime) -> Result<(), Fail> {
+    let alloc = rt.alloc();
+    let scenario = parse(alloc, FIFTEEN, Allowed::All)?;
+    assert_eq!(rt; scenario.processes.len(), 15);
+    let more = format!(in alloc; "{FIFTEEN}process p p\n")?;
+    assert!(rt; is_refused(alloc, more.as_str(), 16));
+    Ok(())
+}
+
+#[test]
+fn long_payloads(rt: HostRuntime) -> Result<(), Fail> {
+    let alloc = rt.alloc();
+    let mut digits = String::new(alloc);
+    for _ in 0..256 {
+        digits.push_str("a0")?;
+    }
+    let text = format!(in alloc; "process a p\nbytes a {digits}\n")?;
+    let scenario = parse(alloc, text.as_str(), Allowed::All)?;
+    assert_eq!(rt; scenario.steps.len(), 1);
+    let more = format!(in alloc; "process a p\nbytes a {digits}a0\n")?;
+    assert!(rt; is_refused(alloc, more.as_str(), 2));
+    Ok(())
+}
+
+// More than 64 KiB of comments, and then a process.
+#[test]
+fn long_text(rt: HostRuntime) -> Result<(), Fail> {
+    let mut text = String::new(rt.alloc());
+    for _ in 0..5000 {
+        text.push_str("# sixteen bytes\n")?;
+    }
+    text.push_str("process a p\ninput a 5\n")?;
+    let scenario = parse(rt.alloc(), text.as_str(), Allowed::All)?;
+    assert_eq!(rt; scenario.steps.len(), 1);
+    Ok(())
+}
+
+#[test]
+fn inputs_alone(rt: HostRuntime) -> Result<(), Fail> {
+    let alloc = rt.alloc();
+    let text = "process a adder.sbi\ninput a 5\nbytes a 05\n";
+    assert_eq!(rt; parse(alloc, text, Allowed::Inputs)?.steps.len(), 2);
+    let crash = "process a adder.sbi\ninput a 5\ncrash a\ndrive x\n";
+    let bare = "drive 1\n";
+    for (text, line) in [(crash, 3), (bare, 1)] {
+        match parse(alloc, text, Allowed::Inputs) {
+            Ok(_) => assert!(rt; false, "taken: {text}"),
+            Err(error) => assert_eq!(rt; error, ScenarioError::Line(line)),
+        }
+    }
+    Ok(())
+}

@@ -1,0 +1,230 @@
+//! Services whose calls, answers and ends were worked out by `examples/scenarios/model.py`: the
+//! scenarios `crash` and `relay` call by call, and refusals by the table of docs/FORMATS.md.
+
+ghost use Rattle.service.specs.Service.{IsJobless};
+
+use helpers::Payload;
+use service::Service;
+use std::alloc::Global;
+use std::sync::Arc;
+use std::test::Fail;
+use verifier::{Image, load};
+use world::{Answer, Call, PhaseName};
+
+/// Adds the first word of a message to the first word of its state.
+const ADDER: [u8; 56] = [
+    0x53, 0x42, 0x49, 0x31, 0x08, 0x00, 0x06, 0x00, 0x79, 0x13, 0, 0, 0, 0, 0, 0, 0x79, 0x24, 0, 0,
+    0, 0, 0, 0, 0x0f, 0x34, 0, 0, 0, 0, 0, 0, 0x7b, 0x42, 0, 0, 0, 0, 0, 0, 0xb7, 0, 0, 0, 0, 0, 0,
+    0, 0x95, 0, 0, 0, 0, 0, 0, 0,
+];
+
+/// Sends each message on to process 2.
+const RELAY: [u8; 40] = [
+    0x53, 0x42, 0x49, 0x31, 0x00, 0x00, 0x04, 0x00, 0xbf, 0x12, 0, 0, 0, 0, 0, 0, 0xb7, 0x01, 0, 0,
+    0x02, 0, 0, 0, 0x85, 0, 0, 0, 0x01, 0, 0, 0, 0x95, 0, 0, 0, 0, 0, 0, 0,
+];
+
+/// Gives each message out.
+const ECHO: [u8; 24] = [
+    0x53, 0x42, 0x49, 0x31, 0x00, 0x00, 0x02, 0x00, 0x85, 0, 0, 0, 0x02, 0, 0, 0, 0x95, 0, 0, 0, 0,
+    0, 0, 0,
+];
+
+/// A call of a script.
+#[derive(Clone, Copy)]
+enum Act {
+    /// A word for a process, under a feed number.
+    Input(u8, u32, u8),
+    Transmit(u8, u8, u32),
+    Copy(usize),
+    Lose(usize),
+    Checkpoint(u8),
+    Trim(u8),
+    Crash(u8),
+    Recover(u8),
+    RecoverAlone(u8),
+    Resync(u8, u8),
+}
+
+/// A step of a script, which holds or goes wrong.
+#[derive(Clone, Copy)]
+enum Step {
+    /// The call is accepted, with this answer.
+    Does(Act, Answer),
+    /// The call is refused, with this number.
+    Refuses(Act, u8),
+    /// A drive with this budget makes so many calls.
+    Drives(u32, u32),
+    /// A process has this phase, so many messages, and these bytes as its state.
+    IsAt(u8, PhaseName, u32, &'static [u8]),
+    /// Without the first of these numbers, so many outputs were shown.
+    Shows(usize, usize),
+    /// The checkpoint of a process has so many bytes.
+    Saves(u8, usize),
+    /// The journal has so many entries, of failures that came one at a time or not.
+    Ends(usize, bool),
+}
+
+fn word(value: u8) -> Payload {
+    let mut bytes = [0; 64];
+    bytes[0] = value;
+    Payload::from(bytes)
+}
+
+fn call_of(act: Act) -> Call
+    ensures { IsJobless result }
+{
+    match act {
+        Act::Input(to, feed, value) => Call::Input {
+            to,
+            feed,
+            payload: word(value),
+        },
+        Act::Transmit(from, to, ssn) => Call::Transmit { from, to, ssn },
+        Act::Copy(key) => Call::Copy { key },
+        Act::Lose(key) => Call::Lose { key },
+        Act::Checkpoint(process) => Call::Checkpoint { process },
+        Act::Trim(to) => Call::Trim { to },
+        Act::Crash(process) => Call::Crash { process },
+        Act::Recover(process) => Call::Recover { process },
+        Act::RecoverAlone(process) => Call::RecoverAlone { process },
+        Act::Resync(process, peer) => Call::Resync { process, peer },
+    }
+}
+
+fn is_at(service: &Service, p: u8, phase: PhaseName, length: u32, state: &[u8]) -> bool {
+    1 <= p
+        && p <= service.count()
+        && service.phase(p) == phase
+        && service.length(p) == length
+        && service.state(p) == state
+}
+
+fn saves(service: &Service, p: u8, size: usize) -> bool {
+    1 <= p && p <= service.count() && service.saved(p).len() == size
+}
+
+fn holds(service: &mut Service, step: Step) -> bool {
+    match step {
+        Step::Does(act, expected) => {
+            matches!(service.call(call_of(act)), Ok(answer) if answer == expected)
+        }
+        Step::Refuses(act, number) => {
+            matches!(service.call(call_of(act)), Err(refusal) if refusal.number() == number)
+        }
+        Step::Drives(budget, count) => matches!(service.drive(budget), Ok(n) if n == count),
+        Step::IsAt(p, phase, length, state) => is_at(service, p, phase, length, state),
+        Step::Shows(since, count) => service.shown_since(since).len() == count,
+        Step::Saves(p, size) => saves(service, p, size),
+        Step::Ends(entries, exact) => {
+            service.journal().len() == entries && service.exact() == exact
+        }
+    }
+}
+
+/// Three messages to an adder, and a crash that takes its state away. A checkpoint of it has 12 bytes
+/// before the state of 8, a byte for each sender, and 8 for what it sent to the outside.
+const CRASH: &[Step] = &[
+    Step::Saves(1, 28),
+    Step::Does(Act::Input(1, 1, 1), Answer::Logged(1)),
+    Step::Does(Act::Input(1, 2, 2), Answer::Logged(2)),
+    Step::Does(Act::Input(1, 3, 3), Answer::Logged(3)),
+    Step::Drives(1, 1),
+    Step::Drives(100, 14),
+    Step::IsAt(1, PhaseName::Up, 3, &[6, 0, 0, 0, 0, 0, 0, 0]),
+    Step::Does(Act::Crash(1), Answer::Crashed(2)),
+    Step::IsAt(1, PhaseName::Down, 0, &[]),
+    Step::Does(Act::Recover(1), Answer::Kept(3)),
+    Step::IsAt(1, PhaseName::Replaying, 0, &[0; 8]),
+    Step::Drives(100, 6),
+    Step::IsAt(1, PhaseName::Up, 3, &[6, 0, 0, 0, 0, 0, 0, 0]),
+    Step::Ends(26, true),
+    Step::Does(Act::Checkpoint(1), Answer::Saved(3)),
+    Step::Saves(1, 31),
+    Step::Does(Act::Trim(1), Answer::Trimmed(3)),
+];
+
+/// A message goes through two processes and out; each of them crashes once.
+const RELAYED: &[Step] = &[
+    Step::Does(Act::Input(1, 1, 7), Answer::Logged(1)),
+    Step::Drives(100, 12),
+    Step::Shows(0, 1),
+    Step::Does(Act::Crash(1), Answer::Crashed(2)),
+    Step::Does(Act::Recover(1), Answer::Kept(1)),
+    Step::Drives(100, 3),
+    Step::Does(Act::Crash(2), Answer::Crashed(2)),
+    Step::Does(Act::Recover(2), Answer::Kept(1)),
+    Step::Drives(100, 3),
+    Step::IsAt(2, PhaseName::Up, 1, &[]),
+    Step::Shows(0, 1),
+    Step::Shows(1, 0),
+    Step::Shows(9, 0),
+    Step::Ends(23, true),
+];
+
+/// Refusals by number, and two failures at once.
+const REFUSED: &[Step] = &[
+    Step::Refuses(Act::Input(0, 1, 1), 1),
+    Step::Refuses(Act::Input(3, 1, 1), 1),
+    Step::Does(Act::Input(1, 1, 1), Answer::Logged(1)),
+    Step::Refuses(Act::Input(1, 1, 1), 14),
+    Step::Refuses(Act::Transmit(0, 0, 1), 5),
+    Step::Refuses(Act::Transmit(0, 1, 2), 6),
+    Step::Refuses(Act::Transmit(0, 1, 0), 7),
+    Step::Refuses(Act::Copy(0), 4),
+    Step::Refuses(Act::Lose(0), 4),
+    Step::Refuses(Act::Recover(1), 10),
+    Step::Refuses(Act::Resync(1, 2), 11),
+    Step::Refuses(Act::Checkpoint(3), 1),
+    Step::Refuses(Act::Trim(3), 1),
+    Step::Ends(1, true),
+    Step::Does(Act::Crash(1), Answer::Crashed(2)),
+    Step::Refuses(Act::Crash(1), 2),
+    Step::Refuses(Act::Checkpoint(1), 2),
+    Step::Does(Act::Crash(2), Answer::Crashed(2)),
+    Step::Refuses(Act::Recover(1), 8),
+    Step::Ends(3, false),
+    Step::Does(Act::RecoverAlone(1), Answer::Kept(0)),
+    Step::Ends(4, false),
+];
+
+fn open(alloc: Global, files: &[&[u8]]) -> Result<Service, Fail> {
+    let mut images = Vec::new(alloc);
+    for file in files {
+        images.push(Arc::new(alloc, load(alloc, file)?)?)?;
+    }
+    Ok(Service::open(alloc, images)?)
+}
+
+/// The place of the first step that goes wrong, from 0.
+fn first_wrong(alloc: Global, files: &[&[u8]], script: &[Step]) -> Result<Option<usize>, Fail> {
+    let mut service = open(alloc, files)?;
+    for (place, step) in script.iter().enumerate() {
+        if !holds(&mut service, *step) {
+            return Ok(Some(place));
+        }
+    }
+    Ok(None)
+}
+
+#[test]
+fn scripts_hold(rt: HostRuntime) -> Result<(), Fail> {
+    let alloc = rt.alloc();
+    assert_eq!(rt; first_wrong(alloc, &[&ADDER], CRASH)?, None);
+    assert_eq!(rt; first_wrong(alloc, &[&RELAY, &ECHO], RELAYED)?, None);
+    assert_eq!(rt; first_wrong(alloc, &[&RELAY, &ECHO], REFUSED)?, None);
+    Ok(())
+}
+
+#[test]
+fn there_are_1_to_15_processes(rt: HostRuntime) -> Result<(), Fail> {
+    let alloc = rt.alloc();
+    for (count, opens) in [(0, false), (1, true), (15, true), (16, false)] {
+        let mut images = Vec::new(alloc);
+        for _ in 0..count {
+            images.push(Arc::new(alloc, load(alloc, &ADDER)?)?)?;
+        }
+        assert_eq!(rt; Service::open(alloc, images).is_ok(), opens);
+    }
+    Ok(())
+}

@@ -1,0 +1,281 @@
+//! Scripts: what is done on a stage, and what is to be seen there.
+
+use super::{Stage, word};
+use replay::{Done, Job};
+use sessions::Arrival;
+use std::sync::ledger::Ledger;
+use world::{Answer, Feed, PhaseName, Refusal};
+
+/// What is done on a stage.
+#[derive(Clone, Copy)]
+pub(crate) enum Act {
+    /// A word for a process, with a new feed number.
+    Input(u8, u8),
+    /// One with the feed number of the first entry's, 0.
+    Again(u8, u8),
+    Transmit(u8, u8, u32),
+    Copy(usize),
+    Lose(usize),
+    Arrive(usize),
+    /// The result of the job that was started last is brought back.
+    Finish,
+    /// The result that was held when that job was started is brought back.
+    FinishLate,
+    Checkpoint(u8),
+    Trim(u8),
+    Crash(u8),
+    Recover(u8),
+    RecoverAlone(u8),
+    /// The next job of a process that replays is started.
+    Replay(u8),
+    Resync(u8, u8),
+}
+
+/// A step of a script, which holds or goes wrong.
+#[derive(Clone, Copy)]
+pub(crate) enum Step {
+    /// The act is accepted, with this answer.
+    Does(Act, Answer),
+    /// The act is accepted, with any answer.
+    Makes(Act),
+    /// The act is refused, with this number.
+    Refuses(Act, u8),
+    /// These two are accepted in turn, so often.
+    Repeats(Act, Act, u32),
+    /// The result that is held, if there is one, is stale if it is of this process, else accepted.
+    Brings(u8),
+    /// A drive with this budget makes so many calls.
+    Drives(u32, u32),
+    /// A drive makes fewer than 1,000 calls, and then none is left.
+    Settles,
+    /// No call can be picked, and no job is open.
+    IsQuiet,
+    /// A process has this phase, so many messages, and this byte at the head of its state.
+    IsAt(u8, PhaseName, u32, u8),
+    /// A process has this phase, so many messages, and an empty state.
+    IsBare(u8, PhaseName, u32),
+    /// The outputs that were shown are these: each one's sender, SSN and word.
+    Shows(&'static [(u8, u32, u8)]),
+    /// The state of a process has this length, and this byte at this place.
+    Keeps(u8, usize, usize, u8),
+    /// The checkpoint of a process has these bytes, and so many zeros behind them.
+    Saves(u8, &'static [u8], usize),
+    /// The entry at this place, from 0, has this answer.
+    Answered(usize, Answer),
+    /// The journal has so many entries.
+    Has(usize),
+    /// Failures came one at a time, or not.
+    IsExact(bool),
+}
+
+impl<L: Ledger> Stage<L> {
+    /// The place of the first step that goes wrong, from 0.
+    pub(crate) fn first_wrong(&mut self, script: &[Step]) -> Option<usize> {
+        for (place, step) in script.iter().enumerate() {
+            if !self.holds(*step) {
+                return Some(place);
+            }
+        }
+        None
+    }
+
+    fn holds(&mut self, step: Step) -> bool {
+        match step {
+            Step::Does(act, answer) => matches!(self.act(act), Ok(given) if given == answer),
+            Step::Makes(act) => self.act(act).is_ok(),
+            Step::Refuses(act, number) => {
+                matches!(self.act(act), Err(refusal) if refusal.number() == number)
+            }
+            Step::Repeats(first, second, times) => self.repeats(first, second, times),
+            Step::Brings(p) => self.brings(p),
+            Step::Drives(budget, accepted) => self.drives(budget) == Some(accepted),
+            Step::Settles => self.drives(1_000).is_some_and(|made| made < 1_000) && self.is_quiet(),
+            seen => self.is_seen(seen),
+        }
+    }
+
+    /// Whether what a step says is to be seen.
+    fn is_seen(&self, step: Step) -> bool {
+        match step {
+            Step::IsQuiet => self.is_quiet(),
+            Step::IsAt(p, phase, length, first) => self.is_at(p, phase, length, first),
+            Step::IsBare(p, phase, length) => self.is_bare(p, phase, length),
+            Step::Shows(outputs) => self.shows(outputs),
+            Step::Keeps(p, length, place, value) => self.keeps(p, length, place, value),
+            Step::Saves(p, head, zeros) => self.saves(p, head, zeros),
+            Step::Answered(place, answer) => {
+                matches!(self.session.journal().get(place), Some(entry) if entry.answer == answer)
+            }
+            Step::Has(entries) => self.entries() == entries,
+            Step::IsExact(exact) => self.session.exact() == exact,
+            _ => false,
+        }
+    }
+}
+
+impl<L: Ledger> Stage<L> {
+    fn repeats(&mut self, first: Act, second: Act, times: u32) -> bool {
+        for _ in 0..times {
+            if self.act(first).is_err() || self.act(second).is_err() {
+                return false;
+            }
+        }
+        true
+    }
+
+    fn drives(&mut self, budget: u32) -> Option<u32> {
+        self.session.drive(&mut self.seat, budget).ok()
+    }
+
+    fn brings(&mut self, p: u8) -> bool {
+        let Some(done) = self.last.take() else {
+            return true;
+        };
+        let is_stale = done.task().process() == p;
+        match self.session.finish(&mut self.seat, done) {
+            Ok(_) => !is_stale,
+            Err((refusal, _)) => is_stale && refusal == Refusal::StaleJob,
+        }
+    }
+
+    fn is_quiet(&self) -> bool {
+        self.session.pick().is_none() && self.session.open_jobs() == 0
+    }
+
+    fn is_bare(&self, p: u8, phase: PhaseName, length: u32) -> bool {
+        if p == 0 || p > self.session.count() {
+            return false;
+        }
+        self.session.phase(p) == phase
+            && self.session.length(p) == length
+            && self.session.state(p).is_empty()
+    }
+
+    fn keeps(&self, p: u8, length: usize, place: usize, value: u8) -> bool {
+        if p == 0 || p > self.session.count() {
+            return false;
+        }
+        let state = self.session.state(p);
+        state.len() == length && state.get(place) == Some(&value)
+    }
+
+    fn saves(&self, p: u8, head: &[u8], zeros: usize) -> bool {
+        if p == 0 || p > self.session.count() {
+            return false;
+        }
+        match self.session.saved(p).strip_prefix(head) {
+            Some(rest) => rest.len() == zeros && rest.iter().all(|byte| *byte == 0),
+            None => false,
+        }
+    }
+
+    fn shows(&self, outputs: &[(u8, u32, u8)]) -> bool {
+        let shown = self.session.shown();
+        if shown.len() != outputs.len() {
+            return false;
+        }
+        for (message, output) in shown.iter().zip(outputs) {
+            let (sender, ssn, value) = *output;
+            if message.sender != sender || message.ssn != ssn || message.payload != word(value) {
+                return false;
+            }
+        }
+        true
+    }
+
+    /// The answer to this act.
+    pub(crate) fn act(&mut self, act: Act) -> Result<Answer, Refusal> {
+        let seat = &mut self.seat;
+        match act {
+            Act::Input(dst, value) => {
+                let number = u32::try_from(self.entries()).unwrap_or(u32::MAX);
+                self.feeds(number, dst, value)
+            }
+            Act::Again(dst, value) => self.feeds(0, dst, value),
+            Act::Transmit(from, to, ssn) => {
+                Ok(Answer::Placed(self.session.transmit(seat, from, to, ssn)?))
+            }
+            Act::Copy(key) => Ok(Answer::Placed(self.session.copy(seat, key)?)),
+            Act::Lose(key) => {
+                self.session.lose(seat, key)?;
+                Ok(Answer::Lost)
+            }
+            Act::Arrive(key) => self.arrives(key),
+            Act::Finish => self.finishes(),
+            Act::FinishLate => self.finishes_late(),
+            other => self.fails(other),
+        }
+    }
+
+    /// The answer to a call about a crash.
+    fn fails(&mut self, act: Act) -> Result<Answer, Refusal> {
+        let seat = &mut self.seat;
+        match act {
+            Act::Checkpoint(p) => Ok(Answer::Saved(self.session.checkpoint(seat, p)?)),
+            Act::Trim(d) => Ok(Answer::Trimmed(self.session.trim(seat, d)?)),
+            Act::Crash(p) => Ok(Answer::Crashed(self.session.crash(seat, p)?)),
+            Act::Recover(p) => Ok(Answer::Kept(self.session.recover(seat, p)?)),
+            Act::RecoverAlone(p) => Ok(Answer::Kept(self.session.recover_alone(seat, p)?)),
+            Act::Resync(p, r) => Ok(Answer::Restored(self.session.resync(seat, p, r)?)),
+            Act::Replay(p) => {
+                let job = self.session.replay_begin(seat, p)?;
+                Ok(self.starts(job))
+            }
+            _ => Err(Refusal::Memory),
+        }
+    }
+
+    fn feeds(&mut self, number: u32, dst: u8, value: u8) -> Result<Answer, Refusal> {
+        let feed = Feed {
+            number,
+            dst,
+            payload: word(value),
+        };
+        let ssn = self.session.input(&mut self.seat, &feed)?;
+        Ok(Answer::Logged(ssn))
+    }
+
+    fn arrives(&mut self, key: usize) -> Result<Answer, Refusal> {
+        let arrival = self.session.arrive(&mut self.seat, key)?;
+        let answer = arrival.answer();
+        if let Arrival::Started(job) = arrival {
+            self.starts(job);
+        }
+        Ok(answer)
+    }
+
+    /// Runs the job and holds its result.
+    fn starts(&mut self, job: Job) -> Answer {
+        let answer = Answer::Started(job.task().serial());
+        if self.last.is_some() {
+            self.late = self.last.take();
+        }
+        self.last = Some(job.run());
+        answer
+    }
+
+    fn finishes(&mut self) -> Result<Answer, Refusal> {
+        let done = self.last.take();
+        let (answer, back) = self.brings_back(done);
+        self.last = back;
+        answer
+    }
+
+    fn finishes_late(&mut self) -> Result<Answer, Refusal> {
+        let done = self.late.take();
+        let (answer, back) = self.brings_back(done);
+        self.late = back;
+        answer
+    }
+
+    /// The answer to a result, and the result where it comes back. Nothing at hand is `NoPacket`.
+    fn brings_back(&mut self, done: Option<Done>) -> (Result<Answer, Refusal>, Option<Done>) {
+        let Some(done) = done else {
+            return (Err(Refusal::NoPacket), None);
+        };
+        match self.session.finish(&mut self.seat, done) {
+            Ok(finished) => (Ok(finished.answer()), None),
+            Err((refusal, done)) => (Err(refusal), Some(done)),
+        }
+    }
+}

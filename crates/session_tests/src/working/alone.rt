@@ -1,0 +1,138 @@
+//! A worker that is alone with what others did.
+
+ghost use Rattle.std.specs.Prelude.{◌≡◌};
+
+use super::course::{adders, place_of, word};
+use super::turnstiles::Crasher;
+use crossbeam_channel::{Receiver, Sender};
+use replay::Job;
+use sessions::{Arrival, Session};
+use std::alloc::Global;
+use std::marker::Brand;
+use std::sync::ledger::{Blank, Ledger};
+use std::sync::{Mutex, Wait};
+use std::test::Fail;
+use workers::{End, Item, worker};
+use world::{Feed, PhaseName};
+
+/// What the worker meets.
+#[derive(Clone, Copy)]
+pub(crate) enum Trouble {
+    /// The channel is closed behind a feed of the word 5, with no last item.
+    Closed,
+    /// The process crashes while its job is out, and comes back.
+    Crash,
+    /// A job of somebody else stays open.
+    Held,
+}
+
+/// How the worker ended, how many of its calls were accepted, and the journal's length and the
+/// process's phase and place then; and length and place after all was driven on.
+#[derive(Clone, Copy, PartialEq, Eq, Debug)]
+pub(crate) struct Alone {
+    pub(crate) end: End,
+    pub(crate) answered: u32,
+    pub(crate) entries: usize,
+    pub(crate) phase: PhaseName,
+    pub(crate) place: (u32, u8),
+    pub(crate) driven: usize,
+    pub(crate) last: (u32, u8),
+}
+
+// A channel with each of the feeds, and then so many last items.
+fn channel_of(
+    rt: &impl Wait,
+    alloc: Global,
+    feeds: &[Feed],
+    last: u8,
+) -> Result<(Sender<Item>, Receiver<Item>), Fail> {
+    let (to, items) = crossbeam_channel::unbounded(alloc)?;
+    for feed in feeds {
+        if to.send(rt, Item::Feed(*feed)).is_err() {
+            return Err("nobody takes the feed")?;
+        }
+    }
+    for _ in 0..last {
+        if to.send(rt, Item::Last).is_err() {
+            return Err("nobody takes the last item")?;
+        }
+    }
+    Ok((to, items))
+}
+
+// A job that nobody runs yet: the word 5, handed in, sent and taken in.
+fn held<L: Ledger>(session: &mut Session<L>) -> Result<Option<Job>, Fail> {
+    let Some(mut seat) = session.sit(0) else {
+        return Err("nobody has no seat")?;
+    };
+    let ssn = session.input(&mut seat, &word(0, 1, 5))?;
+    let key = session.transmit(&mut seat, 0, 1, ssn)?;
+    let arrival = session.arrive(&mut seat, key)?;
+    session.rise(seat);
+    match arrival {
+        Arrival::Started(job) => Ok(Some(job)),
+        _ => Ok(None),
+    }
+}
+
+// Finishes the job, if there is one, and drives on.
+fn go_on<L: Ledger>(session: &mut Session<L>, job: Option<Job>) -> Result<(), Fail> {
+    let Some(mut seat) = session.sit(0) else {
+        return Err("nobody has no seat")?;
+    };
+    if let Some(job) = job {
+        if session.finish(&mut seat, job.run()).is_err() {
+            return Err("the result was refused")?;
+        }
+    }
+    session.drive(&mut seat, 100)?;
+    Ok(())
+}
+
+fn meet_in<L: Ledger + Send + Sync, R: Wait + Sync>(
+    rt: &R,
+    alloc: Global,
+    blank: Blank,
+    trouble: Trouble,
+) -> Result<Alone, Fail>
+    requires name { blank.name ≡ L.name }
+    requires parts { (blank.parts ≡ L.parts) × (blank.parts ≡ 17) }
+{
+    let mut session: Session<L> = Session::open(alloc, blank, adders(alloc, 1)?)?;
+    let feeds = [word(1, 1, 5)];
+    let (job, (to, items)) = match trouble {
+        Trouble::Closed => (None, channel_of(rt, alloc, &feeds, 0)?),
+        Trouble::Crash => (None, channel_of(rt, alloc, &feeds, 1)?),
+        Trouble::Held => (held(&mut session)?, channel_of(rt, alloc, &[], 1)?),
+    };
+    drop(to);
+    let Some(seat) = session.sit(1) else {
+        return Err("worker 1 has no seat")?;
+    };
+    let lock = Mutex::new(session);
+    let crasher = Crasher {
+        rt,
+        session: &lock,
+        is_on: matches!(trouble, Trouble::Crash),
+    };
+    let share = worker(rt, seat, &lock, items, &crasher, 100);
+    let mut session = lock.into_inner();
+    let mut alone = Alone {
+        end: share.end,
+        answered: share.seat.answered(),
+        entries: session.journal().len(),
+        phase: session.phase(session.count()),
+        place: place_of(&session, 1),
+        driven: 0,
+        last: (0, 0),
+    };
+    go_on(&mut session, job)?;
+    alone.driven = session.journal().len();
+    alone.last = place_of(&session, 1);
+    Ok(alone)
+}
+
+/// The worker meets this.
+pub(crate) fn meet<R: Wait + Sync>(rt: &R, alloc: Global, trouble: Trouble) -> Result<Alone, Fail> {
+    meet_in::<Brand, R>(rt, alloc, Blank::new(17), trouble)
+}
