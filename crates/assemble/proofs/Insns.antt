@@ -10,7 +10,7 @@ use Rattle.assemble.specs.declared.fault.Fault.TheVariants.{Shape, Range}
 use Rattle.assemble.specs.declared.mnemonic.Mnemonic.{Mnemonic}
 use Rattle.assemble.specs.declared.mnemonic.Mnemonic.TheVariants.{Alu, MovSx, Neg, End, Jump, JumpLong, JumpIf, Call, Exit, Load, LoadSx, StoreReg, StoreImm, Wide}
 use Rattle.assemble.specs.Inside.Reads.{Reads}
-use Rattle.assemble.specs.Text.{operands_of, tail}
+use Rattle.assemble.specs.Inside.Words.{operands_of, tail}
 use Rattle.assemble.specs.Inside.Mnemonic.{mnemonic_of, IsInsn}
 
 -- the values that an instruction has beside its mnemonic

@@ -1,9 +1,15 @@
 -- A line is of one instruction only.
-use Rattle.std.proofs.Common.{◌≡◌, ◌≢◌, ◌≤◌, ℕ, ℤ, pos, List, [], ◌∷◌, ◌++◌, Option, Some, None, refl, sym, ap, subst, ◌∙◌, arith, rules, Bor, append_assoc}
-use Rattle.std.specs.Prelude.{if◌then◌else◌, ◌==◌, Contains}
+use Rattle.std.proofs.Common.{◌≡◌, ◌≢◌, ◌≤◌, ◌+◌, ℕ, suc, ℤ, pos, Bool, true, false, cond, take, List, [], ◌∷◌, ◌++◌, Option, Some, None, refl, sym, ap, subst, ◌∙◌, arith, rules, Bor, append_assoc}
+use Rattle.std.specs.Prelude.{if◌then◌else◌, ◌==◌, Contains, not}
+use Rattle.std.specs.List.{before_first, position_or_len}
 use Rattle.std.proofs.lemmas.Bool.Decides.{nat_tests}
 use Rattle.std.proofs.lemmas.List.{append_cancel_left}
-use Rattle.decode.specs.Encoding.{Fits}
+use Rattle.decode.specs.Encoding.{Fits, swap_imm}
+use Rattle.decode.specs.declared.insn.Extension.{Extension}
+use Rattle.decode.specs.declared.insn.Extension.TheVariants.{W32From8}
+use Rattle.decode.specs.declared.insn.SwapBits.{SwapBits}
+use Rattle.decode.specs.declared.insn.SwapBits.TheVariants.{Bits16}
+use Rattle.decode.proofs.Firsts.{stops, passes}
 use Rattle.decode.specs.declared.insn.Reg.{Reg}
 use Rattle.decode.proofs.Forms.{same_reg}
 use Rattle.decode.specs.declared.insn.Operand.{Operand}
@@ -14,9 +20,10 @@ use Rattle.assemble.specs.declared.fault.Rule.TheVariants as rule
 use Rattle.assemble.specs.declared.mnemonic.Mnemonic.{Mnemonic}
 use Rattle.assemble.specs.declared.mnemonic.Mnemonic.TheVariants.{Alu, MovSx, Neg, End, Jump, JumpLong, JumpIf, Call, Exit, Load, LoadSx, StoreReg, StoreImm, Wide}
 use Rattle.assemble.specs.Number.{numeral, number, with_sign}
-use Rattle.assemble.specs.Text.{operands_of, tail, word_of, line_of, register, source, address}
+use Rattle.assemble.specs.Inside.Words.{bits, extension_name, operands_of, tail, word_of}
+use Rattle.assemble.specs.Text.{extension_word, line_of, order_word, register, source, address}
 use Rattle.assemble.specs.Inside.Mnemonic.{mnemonic_of, word, IsInsn, behind}
-use Rattle.assemble.specs.Refusal.{leading_word, LineBreaksFirst}
+use Rattle.assemble.specs.Refusal.{LineBreaks, LineBreaksFirst}
 use Rattle.assemble.proofs.Numerals.{numeral_once, number_once, signed_once}
 use Rattle.assemble.proofs.Splits.{lacks, one_cut, absent}
 use Rattle.assemble.proofs.Pairs.{register_lacks, source_lacks, address_lacks, number_first, same_last, sign_cut, register_no_sign, signed_begins}
@@ -25,9 +32,28 @@ use Rattle.assemble.proofs.Insns.{IsOf, of_as}
 
 -- ---- the word of a line
 
+extension_is : (x : Extension) → extension_name x ≡ extension_word x
+unfolding numeral
+extension_is W32From8 = refl
+extension_is x = refl
+
+bits_are : (b : SwapBits) → bits b ≡ numeral (swap_imm b)
+unfolding numeral
+bits_are Bits16 = refl
+bits_are b = refl
+
 pub word_is : (i : Insn) → word (mnemonic_of i) ≡ word_of i
+word_is (insn.MovSx x dst src) = extension_is x
+word_is (insn.End order b dst) = ap (λ (t : List ℕ). order_word order ++ t) (bits_are b)
 word_is insn.Exit = refl
 word_is i = refl
+
+pub line_is : (i : Insn) → line_of i ≡ word_of i ++ tail (operands_of i)
+line_is insn.Exit = refl
+line_is i = refl
+
+pub line_by : (i : Insn) → line_of i ≡ word (mnemonic_of i) ++ tail (operands_of i)
+line_by i = line_is i ∙ ap (λ (t : List ℕ). t ++ tail (operands_of i)) (sym (word_is i))
 
 -- nothing, or a space and more
 abbrev pub IsBehind : List ℕ → Type 0
@@ -48,6 +74,19 @@ skip c xs h = search (rules, nat_tests)
 stop : (c : ℕ) (xs : List ℕ) → c ≡ 32 → (if c == 32 then [] else xs) ≡ []
 stop c xs h = search (rules, nat_tests)
 
+-- the text up to the first space or the end
+abbrev leading_word : List ℕ → List ℕ
+leading_word [] = []
+leading_word (c ∷ cs) = if c == 32 then [] else c ∷ leading_word cs
+
+leading_step : (b : Bool) (c : ℕ) (n : ℕ) (cs : List ℕ) → take (cond (not b) (1 + n) 0) (c ∷ cs) ≡ (if b then [] else c ∷ take n cs)
+leading_step true c n cs = refl
+leading_step false c n cs = let one : 1 + n ≡ suc n = omega arith in ap (λ (m : ℕ). take m (c ∷ cs)) one
+
+pub leading_is : (t : List ℕ) → before_first (λ c. c == 32) t ≡ leading_word t
+leading_is [] = refl
+leading_is (c ∷ cs) = leading_step (c == 32) c (position_or_len (λ d. d == 32) cs) cs ∙ ap (λ (x : List ℕ). if c == 32 then [] else c ∷ x) (leading_is cs)
+
 pub first_of : (w rest : List ℕ) → lacks 32 w → IsBehind rest → leading_word (w ++ rest) ≡ w
 first_of [] [] lw b = refl
 first_of [] (c ∷ cs) lw b = stop c (c ∷ leading_word cs) b
@@ -65,14 +104,14 @@ word_lacks : (i : Insn) → lacks 32 (word_of i)
 word_lacks i = subst (λ (t : List ℕ). lacks 32 t) (word_is i) (word_lacks_so (word (mnemonic_of i)) (each_word (mnemonic_of i)))
 
 pub leading_word_is : (i : Insn) → leading_word (line_of i) ≡ word_of i
-leading_word_is i = first_of (word_of i) (tail (operands_of i)) (word_lacks i) (tail_behind i)
+leading_word_is i = ap leading_word (line_is i) ∙ first_of (word_of i) (tail (operands_of i)) (word_lacks i) (tail_behind i)
 
 -- a word and what is behind it, and the line of an instruction
 pub both_parts : (w rest : List ℕ) (i : Insn) → lacks 32 w → IsBehind rest → w ++ rest ≡ line_of i → (w ≡ word_of i) × (rest ≡ tail (operands_of i))
 both_parts w rest i lw b e =
     let first : w ≡ word_of i = sym (first_of w rest lw b) ∙ ap leading_word e ∙ leading_word_is i in
-    let more : word_of i ++ rest ≡ word_of i ++ tail (operands_of i) = ap (λ (x : List ℕ). x ++ rest) (sym first) ∙ e in
-    (first, append_cancel_left (word_of i) rest (tail (operands_of i)) more)
+    let more : word_of i ++ rest ≡ line_of i = ap (λ (x : List ℕ). x ++ rest) (sym first) ∙ e in
+    (first, append_cancel_left (word_of i) rest (tail (operands_of i)) (more ∙ line_is i))
 
 -- ---- operands are written in one way
 
@@ -140,7 +179,7 @@ once_of Wide i j a b e = same_made (λ (v : Reg × ℕ). insn.Wide v.0 v.1) (λ 
 
 pub line_once : (i j : Insn) → line_of i ≡ line_of j → i ≡ j
 line_once i j e =
-    let parts = both_parts (word_of i) (tail (operands_of i)) j (word_lacks i) (tail_behind i) e in
+    let parts = both_parts (word_of i) (tail (operands_of i)) j (word_lacks i) (tail_behind i) (sym (line_is i) ∙ e) in
     let same = one_mnemonic (mnemonic_of j) (mnemonic_of i) (word_is j ∙ sym parts.0 ∙ sym (word_is i)) in
     once_of (mnemonic_of i) i j (of_as (mnemonic_of i) i refl) (of_as (mnemonic_of i) j same) parts.1
 
@@ -169,13 +208,31 @@ sample_is : (m : Mnemonic) → mnemonic_of (sample m) ≡ m
 sample_is Exit = refl
 sample_is m = refl
 
+-- a rule breaks first where the one before it doesn't break
+module _ (n : ℕ) (line : List ℕ) where
+  pub word_shape : LineBreaks n rule.Word line → LineBreaks n rule.Shape line
+  word_shape h i e = h i (sym (leading_word_is i) ∙ sym (leading_is (line_of i)) ∙ ap (before_first (λ c. c == 32)) (sym e))
+
+  shape_range : LineBreaks n rule.Shape line → LineBreaks n rule.Range line
+  shape_range h i fits e = h i e
+
+  pub first_shape : (¬ LineBreaks n rule.Word line) → LineBreaks n rule.Shape line → LineBreaksFirst n rule.Shape line
+  first_shape fine broken = passes rule.Word _ _ _ fine (stops _ _ _ broken)
+
+  pub first_range : (¬ LineBreaks n rule.Shape line) → LineBreaks n rule.Range line → LineBreaksFirst n rule.Range line
+  first_range fine broken = passes rule.Word _ _ _ (λ w. fine (word_shape w)) (passes rule.Shape _ _ _ fine (stops _ _ _ broken))
+
+  pub first_limit : (¬ LineBreaks n rule.Range line) → LineBreaks n rule.Limit line → LineBreaksFirst n rule.Limit line
+  first_limit fine broken =
+      passes rule.Word _ _ _ (λ w. fine (shape_range (word_shape w))) (passes rule.Shape _ _ _ (λ s. fine (shape_range s)) (passes rule.Range _ _ _ fine (stops _ _ _ broken)))
+
 -- the line is a word and what is behind it
 module _ (line w : List ℕ) (o : Option (Bor (List ℕ))) (whole : line ≡ w ++ behind o) (first : ¬ Contains w 32) where
-  starts : leading_word line ≡ w
-  starts = ap leading_word whole ∙ first_of w (behind o) (absent 32 w first) (rest_behind o)
+  starts : before_first (λ c. c == 32) line ≡ w
+  starts = leading_is line ∙ ap leading_word whole ∙ first_of w (behind o) (absent 32 w first) (rest_behind o)
 
-  pub no_word : ((m : Mnemonic) → w ≢ word m) → (i : Insn) → word_of i ≢ leading_word line
-  no_word none i e = none (mnemonic_of i) (sym starts ∙ sym e ∙ sym (word_is i))
+  pub no_word : ((m : Mnemonic) → w ≢ word m) → (n : ℕ) → LineBreaksFirst n rule.Word line
+  no_word none n = stops _ _ _ (λ i e. none (mnemonic_of i) (sym starts ∙ sym e ∙ sym (word_is i)))
 
   module _ (m : Mnemonic) (is : w ≡ word m) where
     insn_is : (i : Insn) → line ≡ line_of i → IsInsn m (behind o) i
@@ -183,13 +240,13 @@ module _ (line w : List ℕ) (o : Option (Bor (List ℕ))) (whole : line ≡ w +
         let parts = both_parts w (behind o) i (absent 32 w first) (rest_behind o) (sym whole ∙ e) in
         (one_mnemonic (mnemonic_of i) m (word_is i ∙ sym parts.0 ∙ is), parts.1)
 
-    line_is : (i : Insn) → IsInsn m (behind o) i → line ≡ line_of i
-    line_is i h = whole ∙ (λ k. (is ∙ ap word (sym h.0) ∙ word_is i) k ++ h.1 k)
+    pub has_line : (i : Insn) → IsInsn m (behind o) i → line ≡ line_of i
+    has_line i h = whole ∙ (λ k. (is ∙ ap word (sym h.0) ∙ word_is i) k ++ h.1 k) ∙ sym (line_is i)
 
     pub no_shape : ((i : Insn) → ¬ IsInsn m (behind o) i) → (n : ℕ) → LineBreaksFirst n rule.Shape line
-    no_shape none n =
-        (λ unknown. unknown (sample m) (sym (word_is (sample m)) ∙ ap word (sample_is m) ∙ sym is ∙ sym starts), λ i e. none i (insn_is i e))
+    no_shape none n = first_shape n line
+        (λ unknown. unknown (sample m) (sym (word_is (sample m)) ∙ ap word (sample_is m) ∙ sym is ∙ sym starts)) (λ i e. none i (insn_is i e))
 
     pub no_range : (i : Insn) × IsInsn m (behind o) i × (¬ Fits i) → (n : ℕ) → LineBreaksFirst n rule.Range line
-    no_range h n =
-        (λ shape. shape h.0 (line_is h.0 h.1), λ j fits e. h.2 (subst (λ (k : Insn). Fits k) (line_once j h.0 (sym e ∙ line_is h.0 h.1)) fits))
+    no_range h n = first_range n line
+        (λ shape. shape h.0 (has_line h.0 h.1)) (λ j fits e. h.2 (subst (λ (k : Insn). Fits k) (line_once j h.0 (sym e ∙ has_line h.0 h.1)) fits))

@@ -2,15 +2,20 @@
 use Rattle.std.proofs.Common.{◌≡◌, ◌≢◌, ◌<◌, ◌≤◌, ℕ, zero, suc, ◌+◌, ◌*◌, ◌/◌, ◌%◌, ◌^◌, ℤ, pos, negsuc, List, [], ◌∷◌, ◌++◌, length, get_or, refl, sym, ap, subst, ◌∙◌, arith, append_assoc, inl, inr, rules}
 use Rattle.std.proofs.lemmas.Bool.{cases_lt}
 use Rattle.std.proofs.lemmas.Bool.Decides.{nat_tests}
-use Rattle.std.specs.Prelude.{neg_ℤ}
-use Rattle.std.proofs.lemmas.List.{length-append}
+use Rattle.std.specs.Prelude.{neg_ℤ, false, nat_lt, if◌then◌else◌}
+use Rattle.std.proofs.lemmas.List.{append-nil, length-append}
 use Rattle.std.proofs.lemmas.Fmt.{AppendsLastDigit, decimal_from_appends, length-decimal-le_succ}
 use Rattle.std.proofs.lemmas.Int.Digits.{digits_value_push}
-use Rattle.std.specs.Fmt.{decimal}
+use Rattle.std.specs.Fmt.{decimal, digit_glyph, digits_onto}
 use Rattle.std.specs.Char.{digit_value}
 use Rattle.std.specs.Str.Parse.{AllDigits, IsNumeral, digits_value, digits_value_after, signed_digits_value}
-use Rattle.assemble.specs.Number.{numeral, numeral_within, number, with_sign}
+use Rattle.assemble.specs.Number.{numeral, number, with_sign}
 use Rattle.assemble.specs.Inside.Spelled.{IsPositive, IsUnsigned, IsNumber, IsSigned}
+
+-- the digits of n, for a number of at most k digits
+abbrev numeral_within : ℕ → ℕ → List ℕ
+numeral_within zero n = []
+numeral_within (suc k) n = if nat_lt n 10 then (48 + n) ∷ [] else numeral_within k (n / 10) ++ ((48 + n % 10) ∷ [])
 
 appends : AppendsLastDigit numeral_within
 appends = search rules
@@ -29,17 +34,47 @@ stable (suc k) (suc j) n a b = elim (cases_lt n 10) [
   | inr le ↦ within_more k n le ∙ ap (λ (x : List ℕ). x ++ ((48 + n % 10) ∷ [])) (stable k j (n / 10) (omega arith) (omega arith)) ∙ sym (within_more j n le)
 ]
 
-pub numeral-decimal : (n : ℕ) → n < 2 ^ 64 → numeral n ≡ decimal n
+glyph : (d : ℕ) → d < 10 → digit_glyph false d ≡ 48 + d
+glyph d lt = search (rules, nat_tests)
+
+-- the digits are written from the last on
+onto_last : (k n : ℕ) (acc : List ℕ) → n < 10 → digits_onto (suc k) 10 false n acc ≡ (48 + n) ∷ acc
+onto_last k n acc lt =
+    let none : n / 10 ≡ 0 = omega arith in
+    let same : n % 10 ≡ n = omega arith in
+    digits_end k n acc none ∙ ap (λ (d : ℕ). digit_glyph false d ∷ acc) same ∙ ap (λ (d : ℕ). d ∷ acc) (glyph n lt)
+  where
+    digits_end : (k n : ℕ) (acc : List ℕ) → n / 10 ≡ 0 → digits_onto (suc k) 10 false n acc ≡ digit_glyph false (n % 10) ∷ acc
+    digits_end k n acc e = search (rules, nat_tests)
+
+onto_more : (k n : ℕ) (acc : List ℕ) → 10 ≤ n → digits_onto (suc k) 10 false n acc ≡ digits_onto k 10 false (n / 10) ((48 + n % 10) ∷ acc)
+onto_more k n acc le =
+    let some : n / 10 ≢ 0 = λ e. absurd (omega arith) in
+    digits_on k n acc some ∙ ap (λ (d : ℕ). digits_onto k 10 false (n / 10) (d ∷ acc)) (glyph (n % 10) (omega arith))
+  where
+    digits_on : (k n : ℕ) (acc : List ℕ) → n / 10 ≢ 0 → digits_onto (suc k) 10 false n acc ≡ digits_onto k 10 false (n / 10) (digit_glyph false (n % 10) ∷ acc)
+    digits_on k n acc e = search (rules, nat_tests)
+
+onto_is : (k n : ℕ) (acc : List ℕ) → n < k → digits_onto k 10 false n acc ≡ numeral_within k n ++ acc
+onto_is zero n acc lt = absurd (omega arith)
+onto_is (suc k) n acc lt = elim (cases_lt n 10) [
+  | inl small ↦ onto_last k n acc small ∙ ap (λ (x : List ℕ). x ++ acc) (sym (within_one k n small))
+  | inr le ↦ onto_more k n acc le ∙ onto_is k (n / 10) ((48 + n % 10) ∷ acc) (omega arith) ∙ sym (append_assoc (numeral_within k (n / 10)) ((48 + n % 10) ∷ []) acc)
+      ∙ ap (λ (x : List ℕ). x ++ acc) (sym (within_more k n le))
+]
+
+numeral_is : (n : ℕ) → numeral n ≡ numeral_within (suc n) n
 unfolding numeral
-numeral-decimal n lt = decimal_from_appends numeral_within appends (suc n) n lt (omega (arith, length-decimal-le_succ n lt))
+numeral_is n = onto_is (suc n) n [] (omega arith) ∙ append-nil (numeral_within (suc n) n)
+
+pub numeral-decimal : (n : ℕ) → n < 2 ^ 64 → numeral n ≡ decimal n
+numeral-decimal n lt = numeral_is n ∙ decimal_from_appends numeral_within appends (suc n) n lt (omega (arith, length-decimal-le_succ n lt))
 
 pub one_digit : (n : ℕ) → n < 10 → numeral n ≡ (48 + n) ∷ []
-unfolding numeral
-one_digit n lt = within_one n n lt
+one_digit n lt = numeral_is n ∙ within_one n n lt
 
 last_digit : (n : ℕ) → 10 ≤ n → numeral n ≡ numeral (n / 10) ++ ((48 + n % 10) ∷ [])
-unfolding numeral
-last_digit n le = within_more n n le ∙ ap (λ (x : List ℕ). x ++ ((48 + n % 10) ∷ [])) (stable n (suc (n / 10)) (n / 10) (omega arith) (omega arith))
+last_digit n le = numeral_is n ∙ within_more n n le ∙ ap (λ (x : List ℕ). x ++ ((48 + n % 10) ∷ [])) (stable n (suc (n / 10)) (n / 10) (omega arith) (omega arith) ∙ sym (numeral_is (n / 10)))
 
 push : (n d : ℕ) → 0 < n → d < 10 → numeral (n * 10 + d) ≡ numeral n ++ ((48 + d) ∷ [])
 push n d some small =

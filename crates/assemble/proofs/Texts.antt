@@ -17,9 +17,10 @@ use Rattle.std.proofs.lemmas.List.{append-nil, length-append}
 use Rattle.std.specs.Borrow.{Bor}
 use Rattle.std.specs.Result.{IfOk, IfErr}
 use Rattle.assemble.specs.Inside.Loop.{HaveRead, lines_left}
-use Rattle.assemble.specs.Refusal.{leading_word, LineBreaks, LineBreaksFirst, AreLines, IsFault, IsRefusal, Gives}
+use Rattle.assemble.specs.Refusal.{LineBreaks, LineBreaksFirst, AreLines, IsFault, IsRefusal}
 use Rattle.assemble.proofs.Splits.{lacks}
-use Rattle.assemble.proofs.Lines.{line_once, leading_word_is}
+use Rattle.decode.proofs.Firsts.{first_holds, first_once}
+use Rattle.assemble.proofs.Lines.{line_once, word_shape}
 
 -- ---- cutting
 
@@ -128,10 +129,13 @@ goes_on (j ∷ js) (i ∷ is) line more e =
 
 -- a line that is written for an instruction, with room for it, breaks no rule
 fine_line : (n : ℕ) (i : Insn) (line : List ℕ) (r : Rule) → Fits i → line ≡ line_of i → n + size_of i ≤ 1024 → LineBreaksFirst n r line → ⊥
-fine_line n i line rule.Word fits e room broken = broken i (sym (leading_word_is i) ∙ ap leading_word (sym e))
-fine_line n i line rule.Shape fits e room broken = broken.1 i e
-fine_line n i line rule.Range fits e room broken = broken.1 i fits e
-fine_line n i line rule.Limit fits e room broken = absurd (omega (arith, broken.1 i fits e))
+fine_line n i line r fits e room broken = breaks r (first_holds (λ q. LineBreaks n q line) _ r broken)
+  where
+    breaks : (r : Rule) → LineBreaks n r line → ⊥
+    breaks rule.Word h = word_shape n line h i e
+    breaks rule.Shape h = h i e
+    breaks rule.Range h = h i fits e
+    breaks rule.Limit h = absurd (omega (arith, h i fits e))
 
 never : (lines before : List (List ℕ)) (line : List ℕ) (after : List (List ℕ)) (js is : List Insn) (r : Rule) → lines ≡ before ++ line ∷ after → AreLines before js → is_silent line ≡ false → LineBreaksFirst (slots js) r line → AreLines lines is → ⊥
 never lines before line after js is r whole fine speaks broken h =
@@ -145,31 +149,6 @@ never lines before line after js is r whole fine speaks broken h =
 
 pub no_fault : (text : List ℕ) (is : List Insn) (r : Rule) (n : ℕ) → AreLines (lines_of text) is → IsFault text r n → ⊥
 no_fault text is r n h f = never (lines_of text) f.before f.line f.after f.insns is r f.whole f.fine f.speaks f.broken h
-
-module _ (n : ℕ) (line : List ℕ) where
-  word_shape : LineBreaks n rule.Word line → LineBreaks n rule.Shape line
-  word_shape h i e = h i (sym (leading_word_is i) ∙ ap leading_word (sym e))
-
-  shape_range : LineBreaks n rule.Shape line → LineBreaks n rule.Range line
-  shape_range h i fits e = h i e
-
-  one_rule : (q r : Rule) → LineBreaksFirst n q line → LineBreaksFirst n r line → q ≡ r
-  one_rule rule.Word rule.Word a b = refl
-  one_rule rule.Word rule.Shape a b = absurd (b.0 a)
-  one_rule rule.Word rule.Range a b = absurd (b.0 (word_shape a))
-  one_rule rule.Word rule.Limit a b = absurd (b.0 (shape_range (word_shape a)))
-  one_rule rule.Shape rule.Word a b = absurd (a.0 b)
-  one_rule rule.Shape rule.Shape a b = refl
-  one_rule rule.Shape rule.Range a b = absurd (b.0 a.1)
-  one_rule rule.Shape rule.Limit a b = absurd (b.0 (shape_range a.1))
-  one_rule rule.Range rule.Word a b = absurd (a.0 (word_shape b))
-  one_rule rule.Range rule.Shape a b = absurd (a.0 b.1)
-  one_rule rule.Range rule.Range a b = refl
-  one_rule rule.Range rule.Limit a b = absurd (b.0 a.1)
-  one_rule rule.Limit rule.Word a b = absurd (a.0 (shape_range (word_shape b)))
-  one_rule rule.Limit rule.Shape a b = absurd (a.0 (shape_range b.1))
-  one_rule rule.Limit rule.Range a b = absurd (a.0 b.1)
-  one_rule rule.Limit rule.Limit a b = refl
 
 -- two places in one list of lines are one, or the first stands before the second, or the second before the first
 record Same (a b : List (List ℕ)) (x y : List ℕ) : Type 0 where
@@ -195,13 +174,13 @@ one_fault text q r m n a b = elim (places a.before b.before a.after b.after a.li
       let insns = one_list a.insns b.insns (sym a.fine.written ∙ ap spoken same.fronts ∙ b.fine.written) in
       let P : List Insn → List ℕ → Type 0 = λ is l. LineBreaksFirst (slots is) q l in
       let moved : P b.insns b.line = subst (λ (l : List ℕ). P b.insns l) same.items (subst (λ (is : List Insn). P is a.line) insns a.broken) in
-      (one_rule (slots b.insns) b.line q r moved b.broken, a.number_is ∙ ap (λ (x : List (List ℕ)). length x + 1) same.fronts ∙ sym b.number_is)
+      (first_once (λ s. LineBreaks (slots b.insns) s b.line) _ q r moved b.broken, a.number_is ∙ ap (λ (x : List (List ℕ)). length x + 1) same.fronts ∙ sym b.number_is)
   | inr (inl m) ↦ absurd (never b.before a.before a.line m.0 a.insns b.insns q m.1 a.fine a.speaks a.broken b.fine)
   | inr (inr m) ↦ absurd (never a.before b.before b.line m.0 b.insns a.insns r m.1 b.fine b.speaks b.broken a.fine)
 ]
 
 -- a refusal is of no list
-pub only_these : (text : List ℕ) (result : Result (Vec Insn) AsmError) → IfOk result (λ v. AreLines (lines_of text) v.items) → IfErr result (IsRefusal text) → (is : List Insn) → AreLines (lines_of text) is → Gives result is
-only_these text (Ok v) h k is fine = one_list v.items is (sym h.written ∙ fine.written)
-only_these text (Err Memory) h k is fine = tt
-only_these text (Err (Fault r n)) h k is fine = no_fault text is r n fine k
+pub only_these : (text : List ℕ) (result : Result (Vec Insn) AsmError) → IfOk result (λ v. AreLines (lines_of text) v.items) → IfErr result (IsRefusal text) → (is : List Insn) → AreLines (lines_of text) is → IfOk result (λ v. v.items ≡ is) × IfErr result (λ e. e ≡ Memory)
+only_these text (Ok v) h k is fine = (one_list v.items is (sym h.written ∙ fine.written), tt)
+only_these text (Err Memory) h k is fine = (tt, refl)
+only_these text (Err (Fault r n)) h k is fine = absurd (no_fault text is r n fine k)

@@ -1,7 +1,11 @@
 -- What is written for a list is read back.
-use Rattle.std.proofs.Common.{◌≡◌, ℕ, ℤ, false, List, [], ◌∷◌, ◌++◌, refl, ap, subst, ◌∙◌, arith, rules, append_assoc}
+use Rattle.std.proofs.Common.{◌≡◌, ◌<◌, ◌+◌, ℕ, ℤ, false, List, [], ◌∷◌, ◌++◌, length, take, get_or, refl, sym, ap, subst, ◌∙◌, arith, rules, append_assoc}
 use Rattle.std.specs.Prelude.{codes}
+use Rattle.std.specs.List.{AllByRecursion}
+use Rattle.std.proofs.lemmas.List.{flat_map_more, take_more}
 use Rattle.std.proofs.lemmas.List.Concat.{flat_map-cons}
+use Rattle.decode.specs.Encoding.{Fits}
+use Rattle.decode.proofs.Faults.{all_append}
 use Rattle.std.proofs.lemmas.Bool.Decides.{nat_tests}
 use Rattle.decode.specs.declared.insn.Reg.{Reg}
 use Rattle.decode.specs.declared.insn.Operand.{Operand}
@@ -9,12 +13,13 @@ use Rattle.decode.specs.declared.insn.Operand.TheVariants as operand
 use Rattle.decode.specs.declared.insn.Insn.{Insn}
 use Rattle.decode.specs.declared.insn.Insn.TheVariants as insn
 use Rattle.assemble.specs.Number.{numeral, number, with_sign}
-use Rattle.assemble.specs.Text.{operands_of, tail, commas, word_of, line_of, lines_of, text_of, spoken, is_silent, register, source, address, IsText}
-use Rattle.assemble.specs.Inside.Mnemonic.{mnemonic_of}
+use Rattle.assemble.specs.Inside.Words.{operands_of, tail, commas, word_of}
+use Rattle.assemble.specs.Text.{line_of, lines_of, text_of, spoken, is_silent, register, source, address, IsText}
+use Rattle.assemble.specs.Inside.Mnemonic.{mnemonic_of, word}
 use Rattle.assemble.proofs.Numerals.{IsPlain, numeral_plain, number_plain, signed_plain}
 use Rattle.assemble.proofs.Splits.{lacks}
 use Rattle.assemble.proofs.Words.{AreAbove, IsWord, each_word}
-use Rattle.assemble.proofs.Lines.{word_is}
+use Rattle.assemble.proofs.Lines.{word_is, line_is, line_by}
 use Rattle.assemble.proofs.Texts.{lines_cut, spoken_line}
 
 above_append : (k : ℕ) (a b : List ℕ) → AreAbove k a → AreAbove k b → AreAbove k (a ++ b)
@@ -82,17 +87,31 @@ is_word : (i : Insn) → IsWord (word_of i)
 is_word i = subst (λ (t : List ℕ). IsWord t) (word_is i) (each_word (mnemonic_of i))
 
 line_lacks : (i : Insn) → lacks 10 (line_of i)
-line_lacks i = above_lacks (line_of i) (above_append 10 (word_of i) (tail (operands_of i)) (word_above (word_of i) (is_word i)) (tail_above (operands_of i) (operands_above i)))
+line_lacks i = subst (λ (t : List ℕ). lacks 10 t) (sym (line_is i)) (above_lacks (word_of i ++ tail (operands_of i)) (above_append 10 (word_of i) (tail (operands_of i)) (word_above (word_of i) (is_word i)) (tail_above (operands_of i) (operands_above i))))
 
 speaks_so : (w rest : List ℕ) → IsWord w → is_silent (w ++ rest) ≡ false
 speaks_so [] rest h = absurd h
 speaks_so (c ∷ cs) rest h = let above = h.0 in search (rules, nat_tests)
 
 line_speaks : (i : Insn) → is_silent (line_of i) ≡ false
-line_speaks i = speaks_so (word_of i) (tail (operands_of i)) (is_word i)
+line_speaks i = ap is_silent (line_is i) ∙ speaks_so (word_of i) (tail (operands_of i)) (is_word i)
 
 text_cons : (i : Insn) (is : List Insn) → text_of (i ∷ is) ≡ line_of i ++ 10 ∷ text_of is
 text_cons i is = flat_map-cons (λ (j : Insn). line_of j ++ codes "\n") i is ∙ append_assoc (line_of i) (10 ∷ []) (text_of is)
+
+-- one line more is written
+pub text_more : (is : List Insn) (n : ℕ) (i d : Insn) (old new : List ℕ) → n < length is → i ≡ get_or is n d → old ≡ text_of (take n is) → new ≡ ((old ++ word (mnemonic_of i)) ++ tail (operands_of i)) ++ 10 ∷ [] → new ≡ text_of (take (n + 1) is)
+text_more is n i d old new lt ei written e =
+    let line : List ℕ = word (mnemonic_of i) ++ tail (operands_of i) in
+    let one : (line ++ 10 ∷ []) ≡ line_of i ++ 10 ∷ [] = ap (λ (t : List ℕ). t ++ 10 ∷ []) (sym (line_by i)) in
+    let more : take (n + 1) is ≡ take n is ++ i ∷ [] = take_more is n d lt ∙ ap (λ (j : Insn). take n is ++ j ∷ []) (sym ei) in
+    e ∙ ap (λ (t : List ℕ). t ++ 10 ∷ []) (append_assoc old (word (mnemonic_of i)) (tail (operands_of i))) ∙ append_assoc old line (10 ∷ [])
+    ∙ (λ k. written k ++ one k) ∙ flat_map_more (λ (j : Insn). line_of j ++ 10 ∷ []) [] (take n is) i ∙ ap text_of (sym more)
+
+pub fits_more : (is : List Insn) (n : ℕ) (i d : Insn) → n < length is → i ≡ get_or is n d → AllByRecursion Fits (take n is) → Fits i → AllByRecursion Fits (take (n + 1) is)
+fits_more is n i d lt ei all fits =
+    let more : take (n + 1) is ≡ take n is ++ i ∷ [] = take_more is n d lt ∙ ap (λ (j : Insn). take n is ++ j ∷ []) (sym ei) in
+    subst (λ (js : List Insn). AllByRecursion Fits js) (sym more) (all_append (take n is) (i ∷ []) all (fits, tt))
 
 pub read_back : (is : List Insn) → IsText (text_of is) is
 read_back [] = refl

@@ -1,4 +1,5 @@
 -- What the crate's own functions say to one another. No public contract reaches it.
+pub mod Words
 pub mod Spelled
 pub mod Split
 pub mod Reads

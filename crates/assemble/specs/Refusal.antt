@@ -1,15 +1,15 @@
 -- Which texts are refused, and the rule and the line that are named (docs/FORMATS.md, "Assembler text").
-use Rattle.std.specs.Prelude.{◌≡◌, ◌≢◌, ◌<◌, ◌≤◌, ◌+◌, ◌==◌, ℕ, ◌++◌, length, List, [], ◌∷◌, map, false, Result, Ok, Err, if◌then◌else◌}
-use Rattle.std.specs.Global.{Vec}
-use Rattle.std.specs.List.{AllByRecursion}
+use Rattle.std.specs.Prelude.{◌≡◌, ◌≢◌, ◌<◌, ◌≤◌, ◌+◌, ◌==◌, ℕ, ◌++◌, length, List, [], ◌∷◌, map, false}
+use Rattle.std.specs.List.{AllByRecursion, before_first}
 use Rattle.decode.specs.Encoding.{Fits}
+use Rattle.decode.specs.First.{IsFirst}
 use Rattle.decode.specs.Slots.{slots, size_of}
 use Rattle.decode.specs.declared.insn.Insn.{Insn}
 use Rattle.assemble.specs.declared.fault.Rule.{Rule}
 use Rattle.assemble.specs.declared.fault.Rule.TheVariants as rule
 use Rattle.assemble.specs.declared.fault.AsmError.{AsmError}
 use Rattle.assemble.specs.declared.fault.AsmError.TheVariants.{Memory, Fault}
-use Rattle.assemble.specs.Text.{word_of, line_of, lines_of, spoken, is_silent}
+use Rattle.assemble.specs.Text.{parts_of, line_of, lines_of, spoken, is_silent}
 
 -- the rules by number
 abbrev pub rule_number : Rule → ℕ
@@ -18,25 +18,18 @@ rule_number rule.Shape = 2
 rule_number rule.Range = 3
 rule_number rule.Limit = 4
 
--- the word of a line: its text up to the first space or the end
-abbrev pub leading_word : List ℕ → List ℕ
-leading_word [] = []
-leading_word (c ∷ cs) = if c == 32 then [] else c ∷ leading_word cs
-
--- what each rule refuses, in a line after n slots: no instruction has this word; none, whatever its numbers, has this line;
--- none whose numbers are in range; or none that leaves at most as many slots as an image has (docs/FORMATS.md, "Limits")
+-- what each rule refuses, in a line after n slots: no instruction has its word, which ends at the first space; none,
+-- whatever its numbers, has this line; none whose numbers are in range; none that leaves at most as many slots as an
+-- image has (docs/FORMATS.md, "Limits")
 abbrev pub LineBreaks : ℕ → Rule → List ℕ → Type 0
-LineBreaks n rule.Word line = (i : Insn) → word_of i ≢ leading_word line
+LineBreaks n rule.Word line = (i : Insn) → (parts_of i).0 ≢ before_first (λ c. c == 32) line
 LineBreaks n rule.Shape line = (i : Insn) → line ≢ line_of i
 LineBreaks n rule.Range line = (i : Insn) → Fits i → line ≢ line_of i
 LineBreaks n rule.Limit line = (i : Insn) → Fits i → line ≡ line_of i → 1024 < n + size_of i
 
--- each of these rules refuses what the one before it does, and this is the first that refuses the line
+-- the first rule that refuses the line; each refuses what the one before it does
 abbrev pub LineBreaksFirst : ℕ → Rule → List ℕ → Type 0
-LineBreaksFirst n rule.Word line = LineBreaks n rule.Word line
-LineBreaksFirst n rule.Shape line = (¬ LineBreaks n rule.Word line) × LineBreaks n rule.Shape line
-LineBreaksFirst n rule.Range line = (¬ LineBreaks n rule.Shape line) × LineBreaks n rule.Range line
-LineBreaksFirst n rule.Limit line = (¬ LineBreaks n rule.Range line) × LineBreaks n rule.Limit line
+LineBreaksFirst n r line = IsFirst (λ q. LineBreaks n q line) (rule.Word ∷ rule.Shape ∷ rule.Range ∷ rule.Limit ∷ []) r
 
 -- the list whose lines these are, of at most as many slots as an image has
 pub record AreLines (lines : List (List ℕ)) (is : List Insn) : Type 0 where
@@ -60,9 +53,3 @@ pub record IsFault (text : List ℕ) (r : Rule) (number : ℕ) : Type 0 where
 abbrev pub IsRefusal : List ℕ → AsmError → Type 0
 IsRefusal text Memory = Unit {0}
 IsRefusal text (Fault r number) = IsFault text r number
-
--- this answer, unless memory ran out
-abbrev pub Gives : Result (Vec Insn) AsmError → List Insn → Type 0
-Gives (Ok v) is = v.items ≡ is
-Gives (Err Memory) is = Unit {0}
-Gives (Err (Fault r number)) is = ⊥

@@ -1,27 +1,23 @@
 -- The line of each instruction: its word and its operands (docs/FORMATS.md, "Assembler text").
 use Rattle.std.specs.Prelude.{◌≡◌, ◌==◌, ℕ, ℤ, ◌++◌, ◌∷◌, List, [], codes, Bool, true, not, map, filter}
-use Rattle.std.specs.List.{flat_map, slice_split}
+use Rattle.std.specs.List.{flat_map, join_with_byte, slice_split}
 use Rattle.decode.specs.declared.insn.AluOp.{AluOp}
 use Rattle.decode.specs.declared.insn.AluOp.TheVariants as alu
 use Rattle.decode.specs.declared.insn.Width.{Width}
 use Rattle.decode.specs.declared.insn.Width.TheVariants.{W32, W64}
 use Rattle.decode.specs.declared.insn.Extension.{Extension}
-use Rattle.decode.specs.declared.insn.Extension.TheVariants.{W32From8, W32From16, W64From8, W64From16, W64From32}
 use Rattle.decode.specs.declared.insn.ByteOrder.{ByteOrder}
 use Rattle.decode.specs.declared.insn.ByteOrder.TheVariants.{Little, Big, Swap}
-use Rattle.decode.specs.declared.insn.SwapBits.{SwapBits}
-use Rattle.decode.specs.declared.insn.SwapBits.TheVariants.{Bits16, Bits32, Bits64}
 use Rattle.decode.specs.declared.insn.Condition.{Condition}
 use Rattle.decode.specs.declared.insn.Condition.TheVariants as condition
 use Rattle.decode.specs.declared.insn.Size.{Size}
 use Rattle.decode.specs.declared.insn.Size.TheVariants as size
-use Rattle.decode.specs.declared.insn.SignedSize.{SignedSize}
-use Rattle.decode.specs.declared.insn.SignedSize.TheVariants as signed
 use Rattle.decode.specs.declared.insn.Operand.{Operand}
 use Rattle.decode.specs.declared.insn.Operand.TheVariants as operand
 use Rattle.decode.specs.declared.insn.Reg.{Reg}
 use Rattle.decode.specs.declared.insn.Insn.{Insn}
 use Rattle.decode.specs.declared.insn.Insn.TheVariants.{Alu, MovSx, Neg, End, Jump, JumpLong, JumpIf, Call, Exit, Load, LoadSx, StoreReg, StoreImm, Wide}
+use Rattle.decode.specs.Encoding.{extension_width, extension_offset, swap_imm, loaded}
 use Rattle.assemble.specs.Number.{numeral, number, with_sign}
 
 -- ---- words
@@ -50,23 +46,13 @@ suffix W64 = []
 
 -- the word of a move that extends a sign
 abbrev pub extension_word : Extension → List ℕ
-extension_word W32From8 = codes "mov32sx8"
-extension_word W32From16 = codes "mov32sx16"
-extension_word W64From8 = codes "movsx8"
-extension_word W64From16 = codes "movsx16"
-extension_word W64From32 = codes "movsx32"
+extension_word x = codes "mov" ++ suffix (extension_width x) ++ codes "sx" ++ numeral (extension_offset x)
 
 -- the word of a byte swap
 abbrev pub order_word : ByteOrder → List ℕ
 order_word Little = codes "le"
 order_word Big = codes "be"
 order_word Swap = codes "swap"
-
--- and the number of bits behind it
-abbrev pub bits : SwapBits → List ℕ
-bits Bits16 = codes "16"
-bits Bits32 = codes "32"
-bits Bits64 = codes "64"
 
 -- the word of a conditional jump
 abbrev pub condition_word : Condition → List ℕ
@@ -89,12 +75,6 @@ size_letters size.Half = codes "h"
 size_letters size.Word = codes "w"
 size_letters size.Double = codes "dw"
 
--- the same of a load that extends a sign
-abbrev pub signed_letters : SignedSize → List ℕ
-signed_letters signed.Byte = codes "b"
-signed_letters signed.Half = codes "h"
-signed_letters signed.Word = codes "w"
-
 -- ---- operands
 
 -- r0 to r10
@@ -112,55 +92,28 @@ address r offset = codes "[" ++ (register r ++ (with_sign offset ++ codes "]"))
 
 -- ---- the table
 
--- the word of an instruction
-abbrev pub word_of : Insn → List ℕ
-word_of (Alu op width dst src) = alu_word op ++ suffix width
-word_of (MovSx extension dst src) = extension_word extension
-word_of (Neg width dst) = codes "neg" ++ suffix width
-word_of (End order b dst) = order_word order ++ bits b
-word_of (Jump offset) = codes "ja"
-word_of (JumpLong distance) = codes "jal"
-word_of (JumpIf c width dst src offset) = condition_word c ++ suffix width
-word_of (Call helper) = codes "call"
-word_of Exit = codes "exit"
-word_of (Load s dst src offset) = codes "ldx" ++ size_letters s
-word_of (LoadSx s dst src offset) = codes "ldxs" ++ signed_letters s
-word_of (StoreReg s dst src offset) = codes "stx" ++ size_letters s
-word_of (StoreImm s dst offset imm) = codes "st" ++ size_letters s
-word_of (Wide dst value) = codes "lddw"
-
--- its operands, in order
-abbrev pub operands_of : Insn → List (List ℕ)
-operands_of (Alu op width dst src) = register dst ∷ source src ∷ []
-operands_of (MovSx extension dst src) = register dst ∷ register src ∷ []
-operands_of (Neg width dst) = register dst ∷ []
-operands_of (End order b dst) = register dst ∷ []
-operands_of (Jump offset) = with_sign offset ∷ []
-operands_of (JumpLong distance) = with_sign distance ∷ []
-operands_of (JumpIf c width dst src offset) = register dst ∷ source src ∷ with_sign offset ∷ []
-operands_of (Call helper) = number helper ∷ []
-operands_of Exit = []
-operands_of (Load s dst src offset) = register dst ∷ address src offset ∷ []
-operands_of (LoadSx s dst src offset) = register dst ∷ address src offset ∷ []
-operands_of (StoreReg s dst src offset) = address dst offset ∷ register src ∷ []
-operands_of (StoreImm s dst offset imm) = address dst offset ∷ number imm ∷ []
-operands_of (Wide dst value) = register dst ∷ numeral value ∷ []
+-- the word of an instruction, and its operands in order
+abbrev pub parts_of : Insn → List ℕ × List (List ℕ)
+parts_of (Alu op w dst src) = (alu_word op ++ suffix w, register dst ∷ source src ∷ [])
+parts_of (MovSx x dst src) = (extension_word x, register dst ∷ register src ∷ [])
+parts_of (Neg w dst) = (codes "neg" ++ suffix w, register dst ∷ [])
+parts_of (End order bits dst) = (order_word order ++ numeral (swap_imm bits), register dst ∷ [])
+parts_of (Jump o) = (codes "ja", with_sign o ∷ [])
+parts_of (JumpLong n) = (codes "jal", with_sign n ∷ [])
+parts_of (JumpIf c w dst src o) = (condition_word c ++ suffix w, register dst ∷ source src ∷ with_sign o ∷ [])
+parts_of (Call helper) = (codes "call", number helper ∷ [])
+parts_of Exit = (codes "exit", [])
+parts_of (Load size dst src o) = (codes "ldx" ++ size_letters size, register dst ∷ address src o ∷ [])
+parts_of (LoadSx size dst src o) = (codes "ldxs" ++ size_letters (loaded size), register dst ∷ address src o ∷ [])
+parts_of (StoreReg size dst src o) = (codes "stx" ++ size_letters size, address dst o ∷ register src ∷ [])
+parts_of (StoreImm size dst o n) = (codes "st" ++ size_letters size, address dst o ∷ number n ∷ [])
+parts_of (Wide dst value) = (codes "lddw", register dst ∷ numeral value ∷ [])
 
 -- ---- lines
 
--- a comma and a space between them
-abbrev pub commas : List ℕ → List (List ℕ) → List ℕ
-commas x [] = x
-commas x (y ∷ ys) = x ++ (codes ", " ++ commas y ys)
-
--- one space and the operands, if there are any
-abbrev pub tail : List (List ℕ) → List ℕ
-tail [] = []
-tail (x ∷ xs) = codes " " ++ commas x xs
-
--- the one line of an instruction, without its line feed
+-- the one line of an instruction, without its line feed: its word, and its operands behind a space each, with commas between
 abbrev pub line_of : Insn → List ℕ
-line_of i = word_of i ++ tail (operands_of i)
+line_of i = (parts_of i).0 ++ join_with_byte 44 (map (λ o. codes " " ++ o) (parts_of i).1)
 
 -- ---- texts
 

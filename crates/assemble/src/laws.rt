@@ -1,12 +1,13 @@
 //! What the text says apart from code, and that what is written is read back.
 
-ghost use Rattle.std.specs.Prelude.{◌≡◌, ◌≤◌, ℕ, List};
+ghost use Rattle.std.specs.Prelude.{◌≡◌, ◌≤◌, ℕ, List, IfOk, IfErr};
 ghost use Rattle.std.specs.List.{AllByRecursion};
 ghost use Rattle.decode.specs.Encoding.{Fits};
 ghost use Rattle.decode.specs.Slots.{slots};
 ghost use Rattle.decode.specs.declared.insn.Insn.{Insn};
-ghost use Rattle.assemble.specs.Refusal.{AreLines, Gives, IsFault};
+ghost use Rattle.assemble.specs.Refusal.{AreLines, IsFault};
 ghost use Rattle.assemble.specs.Text.{IsText, lines_of, text_of};
+ghost use Rattle.assemble.specs.declared.fault.AsmError.TheVariants.{Memory};
 ghost use Rattle.assemble.specs.declared.fault.Rule.{Rule};
 
 use crate::fault::AsmError;
@@ -35,7 +36,7 @@ pub fn read_back()
 /// What is written of at most 1,024 slots is read back, unless memory runs out.
 pub fn there_and_back(alloc: Global, insns: &[Insn]) -> Result<Vec<Insn>, AsmError>
     requires { slots insns.now ≤ 1024 }
-    ensures { Gives result insns.now }
+    ensures { IfOk result (λ v. v.items ≡ insns.now) × IfErr result (λ e. e ≡ Memory) }
 {
     let text = disassemble(alloc, insns)?;
     read_back();

@@ -27,6 +27,3 @@ pub use fault::{AsmError, Rule};
 pub use laws::{one_fault, one_list, read_back, there_and_back};
 pub use reading::assemble;
 pub use writing::disassemble;
-
-#[cfg(test)]
-mod tests;

@@ -3,7 +3,9 @@
 ghost use Rattle.std.specs.Prelude.{◌≡◌, ◌≢◌, ◌↔◌, ◌++◌, IsTrue, MatchOption, codes};
 ghost use Rattle.std.specs.List.{AllByRecursion};
 ghost use Rattle.assemble.specs.Inside.Mnemonic.{word};
-ghost use Rattle.assemble.specs.Text.{alu_word, bits, condition_word, extension_word, order_word, signed_letters, size_letters, suffix};
+ghost use Rattle.assemble.specs.Inside.Words.{bits, extension_name};
+ghost use Rattle.assemble.specs.Text.{alu_word, condition_word, order_word, size_letters, suffix};
+ghost use Rattle.decode.specs.Encoding.{loaded};
 ghost use Rattle.assemble.specs.declared.mnemonic.Mnemonic.{Mnemonic};
 
 use decode::{AluOp, ByteOrder, Condition, Extension, SignedSize, Size, SwapBits, Width};
@@ -206,7 +208,7 @@ fn suffix_of(of: Width) -> &'static str
 
 /// The word of a move that extends a sign.
 fn extension_name(of: Extension) -> &'static str
-    ensures { result.now ≡ extension_word of }
+    ensures { result.now ≡ extension_name of }
 {
     match of {
         Extension::W32From8 => "mov32sx8",
@@ -272,7 +274,7 @@ fn size_name(of: Size) -> &'static str
 
 /// The same of a load that extends a sign.
 fn signed_size_name(of: SignedSize) -> &'static str
-    ensures { result.now ≡ signed_letters of }
+    ensures { result.now ≡ size_letters (loaded of) }
 {
     match of {
         SignedSize::Byte => "b",

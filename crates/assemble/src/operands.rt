@@ -8,7 +8,8 @@ ghost use Rattle.decode.specs.declared.insn.Operand.{Operand};
 ghost use Rattle.decode.specs.declared.insn.Reg.{Reg};
 ghost use Rattle.assemble.specs.Number.{number, numeral, with_sign};
 ghost use Rattle.assemble.specs.Inside.Reads.{Reads};
-ghost use Rattle.assemble.specs.Text.{address, commas, register, source};
+ghost use Rattle.assemble.specs.Inside.Words.{commas};
+ghost use Rattle.assemble.specs.Text.{address, register, source};
 
 use crate::fault::{Fault, both};
 use crate::number::{number_of, offset_of, value_of};

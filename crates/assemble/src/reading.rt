@@ -2,8 +2,9 @@
 
 ghost use Rattle.std.specs.Prelude.{List, length, ◌≤◌, IfOk, IfErr, ◌≡◌, ◌∷◌};
 ghost use Rattle.assemble.specs.Inside.Loop.{ReadsAfter, left, lines_left};
-ghost use Rattle.assemble.specs.Refusal.{AreLines, Gives, IsRefusal};
+ghost use Rattle.assemble.specs.Refusal.{AreLines, IsRefusal};
 ghost use Rattle.assemble.specs.Text.{is_silent, lines_of};
+ghost use Rattle.assemble.specs.declared.fault.AsmError.TheVariants.{Memory};
 ghost use Rattle.decode.specs.declared.insn.Insn.{Insn};
 
 use crate::fault::{AsmError, Rule};
@@ -22,7 +23,7 @@ pub fn assemble(alloc: Global, text: &str) -> Result<Vec<Insn>, AsmError>
     // What is read is written so.
     ensures found { IfOk result (λ v. AreLines (lines_of text.now) v.items) }
     // What is written so is read, unless memory runs out.
-    ensures only { (is : List Insn) → AreLines (lines_of text.now) is → Gives result is }
+    ensures only { (is : List Insn) → AreLines (lines_of text.now) is → IfOk result (λ v. v.items ≡ is) × IfErr result (λ e. e ≡ Memory) }
     // Which rule and which line an error names.
     ensures refused { IfErr result (IsRefusal text.now) }
 {

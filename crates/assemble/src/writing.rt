@@ -3,9 +3,10 @@
 ghost use Rattle.std.specs.Prelude.{◌≡◌, ◌++◌, OnOk, IfOk, codes, string_bytes};
 ghost use Rattle.std.specs.List.{AllByRecursion};
 ghost use Rattle.decode.specs.Encoding.{Fits, OperandFits};
-ghost use Rattle.assemble.specs.Inside.Mnemonic.{mnemonic_of};
+ghost use Rattle.assemble.specs.Inside.Mnemonic.{mnemonic_of, word};
 ghost use Rattle.assemble.specs.Number.{number, numeral, with_sign};
-ghost use Rattle.assemble.specs.Text.{address, line_of, operands_of, register, source, word_of, tail, text_of};
+ghost use Rattle.assemble.specs.Inside.Words.{operands_of, tail};
+ghost use Rattle.assemble.specs.Text.{address, line_of, register, source, text_of};
 
 use crate::mnemonic::Mnemonic;
 use decode::{Insn, Operand, Reg};
@@ -54,9 +55,8 @@ fn mnemonic_of(insn: &Insn) -> Mnemonic
 }
 
 /// Writes the word.
-#[tactic(auto, using(crate::proofs::Lines::word_is))]
 fn push_word(out: &mut String, insn: &Insn) -> Result<(), AllocError>
-    ensures { OnOk result (string_bytes out.new ≡ string_bytes out.old ++ word_of insn.now) }
+    ensures { OnOk result (string_bytes out.new ≡ string_bytes out.old ++ word (mnemonic_of insn.now)) }
 {
     let (stem, ending) = mnemonic_of(insn).parts();
     out.push_str(stem)?;

@@ -10,7 +10,8 @@ use Rattle.checkpoint.specs.declared.form.Form.TheVariants.{First, Second}
 use Rattle.checkpoint.specs.declared.fault.SavedFault.{SavedFault}
 use Rattle.checkpoint.specs.declared.fault.SavedFault.TheVariants.{Length}
 use Rattle.checkpoint.specs.declared.fields.Head.{Head}
-use Rattle.checkpoint.specs.Saved.{TheKept, TheSaved, nothing_kept, PayloadFits, KeptFits, HeadFits, Fits}
+use Rattle.checkpoint.specs.Saved.{TheKept, TheSaved, nothing_kept, PayloadFits, KeptFits, Fits}
+use Rattle.checkpoint.specs.Inside.Saved.{HeadFits}
 use Rattle.checkpoint.specs.Format.{magic, payload_bytes, kept_bytes, number_bytes}
 use Rattle.checkpoint.specs.Laws.{IsTooShort}
 use Rattle.checkpoint.specs.Reading.{◌>>=◌, bytes_at, byte_at, number_at, form_at, senders_at, payload_at, times, kept_at, head_at, body_at, reading}

@@ -12,7 +12,8 @@ use Rattle.checkpoint.specs.declared.fault.SavedFault.{SavedFault}
 use Rattle.checkpoint.specs.declared.fault.SavedFault.TheVariants.{Length}
 use Rattle.checkpoint.specs.declared.fault.SavedError.{SavedError}
 use Rattle.checkpoint.specs.declared.fields.Head.{Head}
-use Rattle.checkpoint.specs.Saved.{TheKept, TheSaved, nothing_kept, KeptFits, HeadFits, Fits}
+use Rattle.checkpoint.specs.Saved.{TheKept, TheSaved, nothing_kept, KeptFits, Fits}
+use Rattle.checkpoint.specs.Inside.Saved.{HeadFits}
 use Rattle.checkpoint.specs.Format.{magic, kept_bytes, number_bytes, bytes_of, IsCheckpoint}
 use Rattle.checkpoint.specs.Laws.{IsOneCheckpoint, IsTooLong}
 use Rattle.checkpoint.specs.Reading.{◌>>=◌, Gives, bytes_at, byte_at, number_at, form_at, senders_at, times, kept_at, head_at, body_at, reading}

@@ -3,3 +3,4 @@ pub mod Format
 pub mod FaultNumbers
 pub mod Reading
 pub mod Laws
+pub mod Inside

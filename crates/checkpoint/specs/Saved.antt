@@ -5,7 +5,6 @@ use Rattle.rsn.specs.Receipts.{Received}
 use Rattle.sender_log.specs.Queue.{TheQueue}
 use Rattle.sender_log.specs.Log.{TheLog}
 use Rattle.checkpoint.specs.declared.form.Form.{Form}
-use Rattle.checkpoint.specs.declared.fields.Head.{Head}
 use Rattle.checkpoint.specs.declared.form.Form.TheVariants.{First, Second}
 
 -- ---- values
@@ -56,15 +55,6 @@ pub record Fits (form : Form) (s : TheSaved) : Type 0 where
   pub queues : length s.queues ≡ s.count + 1
   pub nothing : slice_index_or s.queues s.me nothing_kept ≡ nothing_kept
   pub kept : AllByRecursion (KeptFits form) s.queues
-
--- the ranges of the first fields of a file
-pub record HeadFits (head : Head) : Type 0 where
-  pub state : head.state ≤ 1024
-  pub some : 1 ≤ head.count
-  pub few : head.count ≤ 15
-  pub least : 1 ≤ head.me
-  pub own : head.me ≤ head.count
-  pub received : head.received ≤ 65536
 
 -- ---- from receipts and a log, and back
 

@@ -3,7 +3,8 @@
 ghost use Rattle.std.specs.Prelude.{◌≡◌, ◌≤◌, true, length, IfOk};
 ghost use Rattle.std.specs.Int.{w16, w32};
 ghost use Rattle.std.specs.List.{list_all};
-ghost use Rattle.checkpoint.specs.Saved.{is_sender, HeadFits};
+ghost use Rattle.checkpoint.specs.Saved.{is_sender};
+ghost use Rattle.checkpoint.specs.Inside.Saved.{HeadFits};
 ghost use Rattle.checkpoint.specs.Reading.{Gives, bytes_at, byte_at, number_at, form_at, senders_at, payload_at, head_at};
 
 use crate::fault::{SavedError, SavedFault};

@@ -4,7 +4,8 @@ ghost use Rattle.std.specs.Prelude.{◌≡◌, ◌≢◌, ◌+◌, ◌≤◌, tr
 ghost use Rattle.std.specs.List.{AllByRecursion};
 ghost use Rattle.checkpoint.specs.declared.form.Form.{Form};
 ghost use Rattle.checkpoint.specs.declared.form.Form.TheVariants.{Second};
-ghost use Rattle.checkpoint.specs.Saved.{TheSaved, PayloadFits, KeptFits, HeadFits};
+ghost use Rattle.checkpoint.specs.Saved.{TheSaved, PayloadFits, KeptFits};
+ghost use Rattle.checkpoint.specs.Inside.Saved.{HeadFits};
 ghost use Rattle.checkpoint.specs.Format.{IsCheckpoint, bytes_of};
 ghost use Rattle.checkpoint.specs.Reading.{Gives, payload_at, kept_at, times, body_at, reading};
 

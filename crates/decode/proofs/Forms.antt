@@ -27,9 +27,9 @@ use Rattle.decode.specs.declared.insn.Condition.{Condition}
 use Rattle.decode.specs.declared.insn.Condition.TheVariants as condition
 use Rattle.decode.specs.declared.insn.Size.TheVariants as size
 use Rattle.decode.specs.declared.insn.SignedSize.TheVariants as signed
-use Rattle.decode.specs.Encoding.{alu_code, alu_class, alu_offset, condition_code, jump_class, extension_offset, swap_imm, first_word, second_word, Fits}
+use Rattle.decode.specs.Encoding.{alu_code, alu_class, alu_offset, jump_code, jump_class, extension_width, extension_offset, swap_imm, first_word, second_word, Fits}
 use Rattle.decode.specs.Refusal.{Begins}
-use Rattle.decode.specs.Form.{form_at, insn_from, signed_at, extension_at, bits_at}
+use Rattle.decode.specs.Inside.Form.{form_at, insn_from, signed_at, extension_at, bits_at}
 
 -- ---- what holds of each number below k, by trying them all
 
@@ -84,15 +84,10 @@ unsigned_of alu.Sdiv = alu.Div
 unsigned_of alu.Smod = alu.Mod
 unsigned_of op = op
 
-abbrev width_of : Extension → Width
-width_of W32From8 = W32
-width_of W32From16 = W32
-width_of _ = W64
-
 abbrev pub form_of : Insn → Form
 form_of (insn.Alu op width dst (operand.Imm n)) = Alu (unsigned_of op) width Imm
 form_of (insn.Alu op width dst (operand.Reg src)) = Alu (unsigned_of op) width Register
-form_of (insn.MovSx extension dst src) = Alu alu.Mov (width_of extension) Register
+form_of (insn.MovSx extension dst src) = Alu alu.Mov (extension_width extension) Register
 form_of (insn.Neg width dst) = Neg width
 form_of (insn.End order bits dst) = End order
 form_of (insn.Jump offset) = Jump
@@ -124,19 +119,19 @@ alu_64_register : (op : AluOp) → form_at (alu_code op * 16 + 0x08 + alu_class 
 alu_64_register alu.Add = refl
 alu_64_register op = refl
 
-jump_32_imm : (c : Condition) → form_at (condition_code c * 16 + jump_class W32) ≡ Some (JumpIf c W32 Imm)
+jump_32_imm : (c : Condition) → form_at (jump_code c * 16 + jump_class W32) ≡ Some (JumpIf c W32 Imm)
 jump_32_imm condition.Equal = refl
 jump_32_imm c = refl
 
-jump_64_imm : (c : Condition) → form_at (condition_code c * 16 + jump_class W64) ≡ Some (JumpIf c W64 Imm)
+jump_64_imm : (c : Condition) → form_at (jump_code c * 16 + jump_class W64) ≡ Some (JumpIf c W64 Imm)
 jump_64_imm condition.Equal = refl
 jump_64_imm c = refl
 
-jump_32_register : (c : Condition) → form_at (condition_code c * 16 + 0x08 + jump_class W32) ≡ Some (JumpIf c W32 Register)
+jump_32_register : (c : Condition) → form_at (jump_code c * 16 + 0x08 + jump_class W32) ≡ Some (JumpIf c W32 Register)
 jump_32_register condition.Equal = refl
 jump_32_register c = refl
 
-jump_64_register : (c : Condition) → form_at (condition_code c * 16 + 0x08 + jump_class W64) ≡ Some (JumpIf c W64 Register)
+jump_64_register : (c : Condition) → form_at (jump_code c * 16 + 0x08 + jump_class W64) ≡ Some (JumpIf c W64 Register)
 jump_64_register condition.Equal = refl
 jump_64_register c = refl
 
@@ -182,7 +177,7 @@ no_extension alu.Mov W32 = refl
 no_extension alu.Mov W64 = refl
 no_extension op width = refl
 
-extension_back : (x : Extension) → extension_at alu.Mov (width_of x) (extension_offset x) ≡ Some x
+extension_back : (x : Extension) → extension_at alu.Mov (extension_width x) (extension_offset x) ≡ Some x
 extension_back W32From8 = refl
 extension_back x = refl
 

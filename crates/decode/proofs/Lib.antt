@@ -1,4 +1,5 @@
 pub mod Forms
+pub mod Firsts
 pub mod Faults
 pub mod Once
 pub mod OneFault

@@ -1,8 +1,9 @@
 -- The bytes of instructions belong to one list of them only, and no refused bytes are of any.
 use Rattle.std.proofs.Common.{◌≡◌, ◌≢◌, ℕ, ◌+◌, ◌*◌, ◌%◌, ◌^◌, ◌<◌, ◌≤◌, Bool, true, false, List, [], ◌∷◌, ◌++◌, length, Option, Some, None, Result, Ok, Err, refl, sym, ap, subst, ◌∙◌, append_assoc, inl, inr, arith}
-use Rattle.std.specs.Prelude.{MatchOption, MatchResult, is_some}
+use Rattle.std.specs.Prelude.{MatchOption, MatchResult, IfOk, IfErr, is_some, slice_get}
+use Rattle.std.specs.Option.{option_map_or}
 use Rattle.std.specs.Global.{Vec}
-use Rattle.std.specs.List.{AllByRecursion}
+use Rattle.std.specs.List.{AllByRecursion, flat_map}
 use Rattle.std.specs.Int.{w16, w32, to_le_bytes, from_le_bytes}
 use Rattle.std.proofs.lemmas.Nat.{from_le_bytes-to_le_bytes_2, from_le_bytes-to_le_bytes_4}
 use Rattle.std.proofs.lemmas.List.{length-append}
@@ -24,12 +25,14 @@ use Rattle.decode.specs.declared.insn.Insn.TheVariants.{Alu, MovSx, Neg, End, Ju
 use Rattle.decode.specs.declared.insn.Reg.{Reg}
 use Rattle.decode.specs.declared.word.Word.{Word}
 use Rattle.decode.specs.declared.fault.Rule.{Rule}
+use Rattle.decode.specs.declared.fault.Rule.TheVariants.{Profile, Cut, Width}
 use Rattle.decode.specs.declared.fault.DecodeError.{DecodeError}
 use Rattle.decode.specs.declared.fault.DecodeError.TheVariants.{Memory, Fault}
 use Rattle.decode.specs.Layout.{IsWord, word_bytes}
-use Rattle.decode.specs.Encoding.{Fits, alu_offset, extension_offset, swap_imm, encoding, first_word, second_word, second_bytes, insn_bytes}
-use Rattle.decode.specs.Form.{form_at}
-use Rattle.decode.specs.Refusal.{Begins, BreaksFirst, order, IsOutsideProfile, HasNoWidth, IsCut, IsNext, StartsBroken, IsRefusal, Gives}
+use Rattle.decode.specs.Encoding.{Fits, alu_offset, extension_offset, swap_imm, encoding, first_word, second_word, insn_bytes}
+use Rattle.decode.specs.Inside.Form.{form_at}
+use Rattle.decode.specs.First.{IsFirst}
+use Rattle.decode.specs.Refusal.{Begins, Breaks, order, IsRefusal}
 use Rattle.decode.proofs.Forms.{form_of, is_formed, formed_at, reads_back}
 
 -- ---- one slot
@@ -128,6 +131,9 @@ same_form i j e =
     let b = is_formed j in
     cc
 
+abbrev second_bytes : Option Word → List ℕ
+second_bytes o = option_map_or word_bytes o []
+
 second_once : (o p : Option Word) (a b : List ℕ) → is_some o ≡ is_some p → IsSecond o → IsSecond p → second_bytes o ++ a ≡ second_bytes p ++ b → (o ≡ p) × (a ≡ b)
 second_once None None a b same so sp e = (refl, e)
 second_once None (Some v) a b same so sp e = absurd cc
@@ -188,15 +194,15 @@ whole_slots (i ∷ is) = joined (insn_bytes i) (encoding is) (encoding (i ∷ is
 
 -- ---- what is refused is no encoding
 
-pub begins_at : (i : Insn) (tail : List ℕ) (w : Word) (rest : List ℕ) (next : Option Word) → Fits i → IsWord w → IsNext next rest → insn_bytes i ++ tail ≡ word_bytes w ++ rest → Begins i w next
-begins_at i tail w rest next fits size is_next e =
-    let first = word_once (first_word i) w (second_bytes (second_word i) ++ tail) rest (is_word i fits) size (sym (append_assoc (word_bytes (first_word i)) (second_bytes (second_word i)) tail) ∙ e) in
-    (first.0, follows (second_word i) next rest tail (is_second i fits) is_next first.1)
+pub begins_at : (i : Insn) (tail : List ℕ) (w : Word) (ws : List Word) → Fits i → AllByRecursion IsWord (w ∷ ws) → insn_bytes i ++ tail ≡ flat_map word_bytes (w ∷ ws) → Begins i w (slice_get ws 0)
+begins_at i tail w ws fits sizes e =
+    let first = word_once (first_word i) w (second_bytes (second_word i) ++ tail) (flat_map word_bytes ws) (is_word i fits) sizes.0 (sym (append_assoc (word_bytes (first_word i)) (second_bytes (second_word i)) tail) ∙ e) in
+    (first.0, follows (second_word i) ws tail (is_second i fits) sizes.1 first.1)
   where
-    follows : (o next : Option Word) (rest tail : List ℕ) → IsSecond o → IsNext next rest → second_bytes o ++ tail ≡ rest → MatchOption o (Unit {0}) (λ s. next ≡ Some s)
-    follows None next rest tail so is_next e = tt
-    follows (Some s) None rest tail so is_next e = let e' : word_bytes s ++ tail ≡ [] = e ∙ is_next in absurd cc
-    follows (Some s) (Some t) rest tail so is_next e = ap (λ (x : Word). Some x) (sym (word_once s t tail is_next.1 so is_next.0 (e ∙ is_next.2)).0)
+    follows : (o : Option Word) (ws : List Word) (tail : List ℕ) → IsSecond o → AllByRecursion IsWord ws → second_bytes o ++ tail ≡ flat_map word_bytes ws → MatchOption o (Unit {0}) (λ s. slice_get ws 0 ≡ Some s)
+    follows None ws tail so sizes e = tt
+    follows (Some s) [] tail so sizes e = absurd cc
+    follows (Some s) (t ∷ ts) tail so sizes e = ap (λ (x : Word). Some x) (sym (word_once s t tail (flat_map word_bytes ts) so sizes.0 e).0)
 
 is_wide : (i : Insn) → (first_word i).opcode ≡ 0x18 → form.Wide ≡ form_of i
 is_wide i e = let f = formed_at i 0x18 e in cc
@@ -220,10 +226,9 @@ inside_call (JumpIf c width dst (operand.Imm n) offset) e = absurd cc
 inside_call (JumpIf c width dst (operand.Reg src) offset) e = absurd cc
 inside_call i e = absurd cc
 
-is_inside : (i : Insn) → IsOutsideProfile (first_word i) → ⊥
-is_inside i (inl (call, inl one)) = let none = inside_call i (is_call i call) in absurd (omega arith)
-is_inside i (inl (call, inr two)) = let none = inside_call i (is_call i call) in absurd (omega arith)
-is_inside i (inr wide) = inside_wide i (is_wide i wide.0) wide.1
+is_inside : (i : Insn) (next : Option Word) → Breaks Profile (first_word i) next → ⊥
+is_inside i next (above, inl call) = let none = inside_call i (is_call i call.0) in absurd (omega arith)
+is_inside i next (above, inr wide) = inside_wide i (is_wide i wide.0) above
 
 has_width : (i : Insn) (order : ByteOrder) → form.End order ≡ form_of i → (bits : SwapBits) × ((first_word i).imm ≡ swap_imm bits)
 has_width (End other bits dst) order e = (bits, refl)
@@ -233,15 +238,10 @@ has_width (JumpIf c width dst (operand.Imm n) offset) order e = absurd cc
 has_width (JumpIf c width dst (operand.Reg src) offset) order e = absurd cc
 has_width i order e = absurd cc
 
-one_of_three : (bits : SwapBits) (n : ℕ) → n ≡ swap_imm bits → n ≢ 16 → n ≢ 32 → n ≢ 64 → ⊥
-one_of_three Bits16 n e a b c = a e
-one_of_three Bits32 n e a b c = b e
-one_of_three Bits64 n e a b c = c e
-
-is_sized : (i : Insn) → HasNoWidth (first_word i) → ⊥
-is_sized i (inl e, a, b, c) = let f = formed_at i 0xd4 e in let w = has_width i Little cc in one_of_three w.0 _ w.1 a b c
-is_sized i (inr (inl e), a, b, c) = let f = formed_at i 0xdc e in let w = has_width i Big cc in one_of_three w.0 _ w.1 a b c
-is_sized i (inr (inr e), a, b, c) = let f = formed_at i 0xd7 e in let w = has_width i Swap cc in one_of_three w.0 _ w.1 a b c
+is_sized : (i : Insn) (next : Option Word) → Breaks Width (first_word i) next → ⊥
+is_sized i next ((Little, e), none) = let f = formed_at i 0xd4 e in let w = has_width i Little cc in none w.0 w.1
+is_sized i next ((Big, e), none) = let f = formed_at i 0xdc e in let w = has_width i Big cc in none w.0 w.1
+is_sized i next ((Swap, e), none) = let f = formed_at i 0xd7 e in let w = has_width i Swap cc in none w.0 w.1
 
 whole_wide : (i : Insn) (next : Option Word) → form.Wide ≡ form_of i → MatchOption (second_word i) (Unit {0}) (λ s. next ≡ Some s) → next ≡ None → ⊥
 whole_wide (Wide dst value) next e follows none = absurd cc
@@ -251,34 +251,43 @@ whole_wide (JumpIf c width dst (operand.Imm n) offset) next e follows none = abs
 whole_wide (JumpIf c width dst (operand.Reg src) offset) next e follows none = absurd cc
 whole_wide i next e follows none = absurd cc
 
-is_whole : (i : Insn) (next : Option Word) → MatchOption (second_word i) (Unit {0}) (λ s. next ≡ Some s) → IsCut (first_word i) next → ⊥
+is_whole : (i : Insn) (next : Option Word) → MatchOption (second_word i) (Unit {0}) (λ s. next ≡ Some s) → Breaks Cut (first_word i) next → ⊥
 is_whole i next follows cut = whole_wide i next (is_wide i cut.0) follows cut.1
 
-pub is_fine : (i : Insn) (next : Option Word) (r : Rule) → Fits i → MatchOption (second_word i) (Unit {0}) (λ s. next ≡ Some s) → BreaksFirst order r (first_word i) next → ⊥
-unfolding BreaksFirst
+pub is_fine : (i : Insn) (next : Option Word) (r : Rule) → Fits i → MatchOption (second_word i) (Unit {0}) (λ s. next ≡ Some s) → IsFirst (λ q. Breaks q (first_word i) next) order r → ⊥
+unfolding IsFirst
 is_fine i next r fits follows (inl opcode) = opcode.1 i refl
 is_fine i next r fits follows (inr (_, inl (_, inl above))) = let ok = registers_of i in absurd (omega arith)
 is_fine i next r fits follows (inr (_, inl (_, inr above))) = let ok = registers_of i in absurd (omega arith)
-is_fine i next r fits follows (inr (_, inr (_, inl profile))) = is_inside i profile.1
+is_fine i next r fits follows (inr (_, inr (_, inl profile))) = is_inside i next profile.1
 is_fine i next r fits follows (inr (_, inr (_, inr (_, inl cut)))) = is_whole i next follows cut.1
-is_fine i next r fits follows (inr (_, inr (_, inr (_, inr (_, inl width))))) = is_sized i width.1
+is_fine i next r fits follows (inr (_, inr (_, inr (_, inr (_, inl width))))) = is_sized i next width.1
 is_fine i next r fits follows (inr (_, inr (_, inr (_, inr (_, inr (_, inl field)))))) = field.1 i fits (refl, follows)
 is_fine i next r fits follows (inr (_, inr (_, inr (_, inr (_, inr (_, inr (_, none))))))) = none
 
-pub never : (before is : List Insn) (r : Rule) (rest : List ℕ) → Each before → Each is → encoding before ++ rest ≡ encoding is → StartsBroken r rest → ⊥
-never [] [] r rest fb fi e broken = let e' : word_bytes broken.word ++ broken.rest ≡ [] = sym broken.fields ∙ e in absurd cc
-never [] (i ∷ is) r rest fb fi e broken =
-    let begins = begins_at i (encoding is) broken.word broken.rest broken.next fi.0 broken.sizes broken.is_next (sym (starts i is) ∙ sym e ∙ broken.fields) in
-    is_fine i broken.next r fi.0 begins.1 (subst (λ (w : Word). BreaksFirst order r w broken.next) (sym begins.0) broken.broken)
-never (b ∷ bs) [] r rest fb fi e broken = let e' : (insn_bytes b ++ encoding bs) ++ rest ≡ [] = ap (λ (x : List ℕ). x ++ rest) (sym (starts b bs)) ∙ e in absurd cc
-never (b ∷ bs) (i ∷ is) r rest fb fi e broken =
+-- the first of these slots breaks this rule first
+abbrev pub HeadBroken : Rule → List Word → Type 0
+HeadBroken r [] = ⊥
+HeadBroken r (w ∷ ws) = IsFirst (λ q. Breaks q w (slice_get ws 0)) order r
+
+pub not_broken : (i : Insn) (tail : List ℕ) (r : Rule) (w : Word) (ws : List Word) → Fits i → AllByRecursion IsWord (w ∷ ws) → insn_bytes i ++ tail ≡ flat_map word_bytes (w ∷ ws) → HeadBroken r (w ∷ ws) → ⊥
+not_broken i tail r w ws fits sizes e broken =
+    let begins = begins_at i tail w ws fits sizes e in
+    is_fine i (slice_get ws 0) r fits begins.1 (subst (λ (v : Word). IsFirst (λ q. Breaks q v (slice_get ws 0)) order r) (sym begins.0) broken)
+
+pub never : (before is : List Insn) (r : Rule) (w : Word) (ws : List Word) → Each before → Each is → AllByRecursion IsWord (w ∷ ws) → encoding before ++ flat_map word_bytes (w ∷ ws) ≡ encoding is → HeadBroken r (w ∷ ws) → ⊥
+never [] [] r w ws fb fi sizes e broken = absurd cc
+never [] (i ∷ is) r w ws fb fi sizes e broken = not_broken i (encoding is) r w ws fi.0 sizes (sym (starts i is) ∙ sym e) broken
+never (b ∷ bs) [] r w ws fb fi sizes e broken = let e' : (insn_bytes b ++ encoding bs) ++ flat_map word_bytes (w ∷ ws) ≡ [] = ap (λ (x : List ℕ). x ++ flat_map word_bytes (w ∷ ws)) (sym (starts b bs)) ∙ e in absurd cc
+never (b ∷ bs) (i ∷ is) r w ws fb fi sizes e broken =
+    let rest = flat_map word_bytes (w ∷ ws) in
     let regrouped : insn_bytes b ++ (encoding bs ++ rest) ≡ insn_bytes i ++ encoding is = sym (append_assoc (insn_bytes b) (encoding bs) rest) ∙ ap (λ (x : List ℕ). x ++ rest) (sym (starts b bs)) ∙ e ∙ starts i is in
-    never bs is r rest fb.1 fi.1 (insn_once b i (encoding bs ++ rest) (encoding is) fb.0 fi.0 regrouped).1 broken
+    never bs is r w ws fb.1 fi.1 sizes (insn_once b i (encoding bs ++ rest) (encoding is) fb.0 fi.0 regrouped).1 broken
 
 pub only_these : (bytes : List ℕ) (r : Result (Vec Insn) DecodeError) (is : List Insn) → Each is → bytes ≡ encoding is
-    → MatchResult r (λ v. Each v.items × (bytes ≡ encoding v.items)) (λ _. Unit {0}) → MatchResult r (λ _. Unit {0}) (IsRefusal bytes) → Gives r is
-only_these bytes (Ok v) is fits e found refused = encoding_once v.items is found.0 fits (sym found.1 ∙ e)
-only_these bytes (Err Memory) is fits e found refused = tt
-only_these bytes (Err (Fault rule slot)) is fits e found (inl uneven) = uneven.2 (ap (λ (x : List ℕ). length x % 8) e ∙ whole_slots is)
+    → MatchResult r (λ v. Each v.items × (bytes ≡ encoding v.items)) (λ _. Unit {0}) → MatchResult r (λ _. Unit {0}) (IsRefusal bytes) → IfOk r (λ v. v.items ≡ is) × IfErr r (λ e. e ≡ Memory)
+only_these bytes (Ok v) is fits e found refused = (encoding_once v.items is found.0 fits (sym found.1 ∙ e), tt)
+only_these bytes (Err Memory) is fits e found refused = (tt, refl)
+only_these bytes (Err (Fault rule slot)) is fits e found (inl uneven) = absurd (uneven.2 (ap (λ (x : List ℕ). length x % 8) e ∙ whole_slots is))
 only_these bytes (Err (Fault rule slot)) is fits e found (inr broken) =
-    let at = broken.1 in never at.before is rule at.rest at.fits fits (sym at.whole ∙ e) at.starts
+    let at = broken.1 in absurd (never at.before is rule at.word at.rest at.fits fits at.sizes (sym at.whole ∙ e) at.broken)

@@ -1,6 +1,6 @@
-pub mod Reg
 pub mod Layout
 pub mod Encoding
-pub mod Form
+pub mod First
 pub mod Refusal
 pub mod Slots
+pub mod Inside

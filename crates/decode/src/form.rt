@@ -2,7 +2,7 @@
 
 ghost use Rattle.std.specs.Prelude.{◌≡◌};
 ghost use Rattle.decode.specs.Encoding.{Fits};
-ghost use Rattle.decode.specs.Form.{alu_at, condition_at, source_at, form_at, signed_at, extension_at, bits_at, operand_at, insn_from};
+ghost use Rattle.decode.specs.Inside.Form.{alu_at, condition_at, source_at, form_at, signed_at, extension_at, bits_at, operand_at, insn_from};
 
 use crate::insn::{
     AluOp, ByteOrder, Condition, Extension, Insn, Operand, Reg, SignedSize, Size, SwapBits, Width,

@@ -1,6 +1,6 @@
 //! Registers and instructions (RFC 9669 sections 3 to 5).
 
-ghost use Rattle.std.specs.Prelude.{◌≤◌};
+ghost use Rattle.std.specs.Prelude.{◌≡◌, ◌<◌, ◌≤◌, MatchOption};
 
 /// A register, r0 to r10 (RFC 9669 section 3.1). A register with another number can't be made.
 #[derive(Clone, Copy, Debug, PartialEq, Eq)]
@@ -11,11 +11,9 @@ pub struct Reg {
 }
 
 impl Reg {
-    ghost use Rattle.decode.specs.Reg.{IsNumbered};
-
     /// The register of this number, `None` above 10.
     pub fn new(number: u8) -> Option<Reg>
-        ensures { IsNumbered result number }
+        ensures { MatchOption result (10 < number) (λ r. r.number ≡ number) }
     {
         if number <= 10 {
             Some(Reg { number })

@@ -31,6 +31,3 @@ pub use insn::{
 pub use laws::{one_fault, one_list};
 pub use reading::decode;
 pub use writing::{encode, slots};
-
-#[cfg(test)]
-mod tests;

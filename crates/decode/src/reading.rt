@@ -1,11 +1,14 @@
 //! Bytes to instructions.
 
-ghost use Rattle.std.specs.Prelude.{◌≡◌, ◌≤◌, ◌+◌, ◌*◌, ◌%◌, ◌++◌, ◌↔◌, List, length, IsTrue, IfOk, IfErr};
+ghost use Rattle.std.specs.Prelude.{◌≡◌, ◌≢◌, ◌≤◌, ◌⊎◌, ◌+◌, ◌*◌, ◌%◌, ◌++◌, ◌↔◌, List, None, length, IsTrue, IfOk, IfErr};
 ghost use Rattle.std.specs.List.{AllByRecursion};
 ghost use Rattle.decode.specs.Encoding.{Fits, encoding, insn_bytes};
+ghost use Rattle.decode.specs.First.{IsFirst};
 ghost use Rattle.decode.specs.Slots.{size_of, slots};
-ghost use Rattle.decode.specs.Refusal.{Begins, BreaksFirst, Gives, HasNoWidth, IsBrokenAt, IsCut, IsOutsideProfile, IsRefusal, StartsBroken, order};
-ghost use Rattle.decode.specs.Reg.{AreRegisters};
+ghost use Rattle.decode.specs.Refusal.{Begins, Breaks, IsBrokenAt, IsRefusal, order};
+ghost use Rattle.decode.specs.Inside.Reg.{AreRegisters};
+ghost use Rattle.decode.specs.declared.fault.DecodeError.TheVariants.{Memory};
+ghost use Rattle.decode.specs.declared.fault.Rule.TheVariants as rule;
 ghost use Rattle.decode.specs.declared.insn.Insn.{Insn};
 
 use crate::fault::{DecodeError, Rule};
@@ -22,7 +25,7 @@ pub fn decode(alloc: Global, bytes: &[u8]) -> Result<Vec<Insn>, DecodeError>
     // Eight bytes a slot.
     ensures slots { IfOk result (λ v. 8 * slots v.items ≡ length bytes.now) }
     // What is encoded so is read, unless memory runs out.
-    ensures only { (is : List Insn) → AllByRecursion Fits is → bytes.now ≡ encoding is → Gives result is }
+    ensures only { (is : List Insn) → AllByRecursion Fits is → bytes.now ≡ encoding is → IfOk result (λ v. v.items ≡ is) × IfErr result (λ e. e ≡ Memory) }
     // Which rule and which slot an error names.
     ensures refused { IfErr result (IsRefusal bytes.now) }
 {
@@ -64,7 +67,7 @@ fn read_first(bytes: &[u8]) -> Result<(Insn, &[u8]), Rule>
     ensures found { IfOk result (λ x. bytes.now ≡ insn_bytes x.0 ++ x.1.now) }
     ensures fits { IfOk result (λ x. Fits x.0) }
     ensures rest { IfOk result (λ x. length x.1.now + 8 * size_of x.0 ≡ length bytes.now) }
-    ensures refused { IfErr result (λ r. StartsBroken r bytes.now) }
+    ensures refused { IfErr result (λ r. IsBrokenAt bytes.now r 0) }
 {
     let (word, after) = word_at(bytes);
     if after.is_empty() {
@@ -80,7 +83,7 @@ fn read_first(bytes: &[u8]) -> Result<(Insn, &[u8]), Rule>
 fn read_insn(word: &Word, next: Option<Word>) -> Result<Insn, Rule>
     ensures found { IfOk result (λ i. Begins i word.now next) }
     ensures fits { IfOk result Fits }
-    ensures fault { IfErr result (λ r. BreaksFirst order r word.now next) }
+    ensures fault { IfErr result (IsFirst (λ q. Breaks q word.now next) order) }
 {
     let Some(form) = form_of(word.opcode) else {
         return Err(Rule::Opcode);
@@ -114,7 +117,7 @@ fn registers_of(word: &Word) -> Option<(Reg, Reg)>
 /// Whether the slot is a call by another source than 0, or a wide value that is no number (RFC 9669 sections 4.3.1,
 /// 4.3.2 and 5.4): forms of the standard that this crate leaves out.
 fn is_outside_profile(word: &Word) -> bool
-    ensures { IsTrue result ↔ IsOutsideProfile word.now }
+    ensures { IsTrue result ↔ Breaks rule.Profile word.now None }
 {
     match word.opcode {
         0x85 => word.src == 1 || word.src == 2,
@@ -125,14 +128,14 @@ fn is_outside_profile(word: &Word) -> bool
 
 /// Whether the slot is the first of a wide instruction, and no other follows.
 fn is_cut(word: &Word, next: Option<Word>) -> bool
-    ensures { IsTrue result ↔ IsCut word.now next }
+    ensures { IsTrue result ↔ Breaks rule.Cut word.now next }
 {
     word.opcode == 0x18 && next.is_none()
 }
 
 /// Whether the slot swaps bytes of no width that there is.
 fn has_no_width(word: &Word) -> bool
-    ensures { IsTrue result ↔ HasNoWidth word.now }
+    ensures { IsTrue result ↔ ((word.now.opcode ≡ 0xd4) ⊎ ((word.now.opcode ≡ 0xdc) ⊎ (word.now.opcode ≡ 0xd7))) × (word.now.imm ≢ 16) × (word.now.imm ≢ 32) × (word.now.imm ≢ 64) }
 {
     matches!(word.opcode, 0xd4 | 0xdc | 0xd7) && !matches!(word.imm, 16 | 32 | 64)
 }

@@ -1,8 +1,8 @@
 //! The fields of each instruction (RFC 9669 sections 4 and 5).
 
-ghost use Rattle.std.specs.Prelude.{◌≡◌};
-ghost use Rattle.decode.specs.Encoding.{Fits, alu_code, alu_offset, alu_class, jump_class, neg_opcode, extension_opcode, extension_offset, order_opcode, swap_imm, condition_code, size_code, signed_size_code, first_word, second_word};
-ghost use Rattle.decode.specs.Slots.{is_wide, size_of};
+ghost use Rattle.std.specs.Prelude.{◌≡◌, ◌==◌};
+ghost use Rattle.decode.specs.Encoding.{Fits, alu_code, alu_offset, alu_class, jump_class, extension_width, extension_offset, order_opcode, swap_imm, jump_code, size_code, loaded, first_word, second_word};
+ghost use Rattle.decode.specs.Slots.{size_of};
 
 use crate::insn::{
     AluOp, ByteOrder, Condition, Extension, Insn, Operand, SignedSize, Size, SwapBits, Width,
@@ -59,24 +59,15 @@ impl Width {
             Width::W64 => 0x05,
         }
     }
-
-    fn neg_opcode(self) -> u8
-        ensures { result ≡ neg_opcode self }
-    {
-        match self {
-            Width::W32 => 0x84,
-            Width::W64 => 0x87,
-        }
-    }
 }
 
 impl Extension {
-    fn opcode(self) -> u8
-        ensures { result ≡ extension_opcode self }
+    fn width(self) -> Width
+        ensures { result ≡ extension_width self }
     {
         match self {
-            Extension::W32From8 | Extension::W32From16 => 0xbc,
-            Extension::W64From8 | Extension::W64From16 | Extension::W64From32 => 0xbf,
+            Extension::W32From8 | Extension::W32From16 => Width::W32,
+            Extension::W64From8 | Extension::W64From16 | Extension::W64From32 => Width::W64,
         }
     }
 
@@ -118,7 +109,7 @@ impl SwapBits {
 impl Condition {
     /// The high four bits of the opcode (RFC 9669 section 4.3).
     fn code(self) -> u8
-        ensures { result ≡ condition_code self }
+        ensures { result ≡ jump_code self }
     {
         match self {
             Condition::Equal => 0x1,
@@ -151,14 +142,14 @@ impl Size {
 }
 
 impl SignedSize {
-    /// The size bits of the opcode (RFC 9669 section 5).
-    fn code(self) -> u8
-        ensures { result ≡ signed_size_code self }
+    /// The size that is read (RFC 9669 section 5.2).
+    fn loaded(self) -> Size
+        ensures { result ≡ loaded self }
     {
         match self {
-            SignedSize::Word => 0x00,
-            SignedSize::Half => 0x08,
-            SignedSize::Byte => 0x10,
+            SignedSize::Word => Size::Word,
+            SignedSize::Half => Size::Half,
+            SignedSize::Byte => Size::Byte,
         }
     }
 }
@@ -199,14 +190,14 @@ impl Insn {
                 dst,
                 src,
             } => Word {
-                opcode: extension.opcode(),
+                opcode: 0xb8 + extension.width().alu_class(),
                 dst: dst.number,
                 src: src.number,
                 offset: extension.offset(),
                 ..Word::ZERO
             },
             Insn::Neg { width, dst } => Word {
-                opcode: width.neg_opcode(),
+                opcode: 0x80 + width.alu_class(),
                 dst: dst.number,
                 ..Word::ZERO
             },
@@ -279,7 +270,7 @@ impl Insn {
                 src,
                 offset,
             } => Word {
-                opcode: 0x81 + size.code(),
+                opcode: 0x81 + size.loaded().code(),
                 dst: dst.number,
                 src: src.number,
                 offset: offset.cast_unsigned(),
@@ -333,7 +324,7 @@ impl Insn {
 
     /// Whether it takes two slots, as loading 64 bits does (RFC 9669 section 3).
     pub fn is_wide(&self) -> bool
-        ensures { result ≡ is_wide self.now }
+        ensures { result ≡ (size_of self.now == 2) }
     {
         match *self {
             Insn::Wide { dst: _, value: _ } => true,

@@ -1,5 +1,4 @@
 -- What a message says.
-use Rattle.std.proofs.Common.{arith, length-take-le}
 use Rattle.std.specs.Prelude.{◌≡◌, ℕ, ◌-◌, ◌≤◌, List, ◌++◌, length, take, replicate}
 
 -- what a handler of 64 bytes a message sees: the first 64 bytes, filled up with zeros
@@ -12,10 +11,6 @@ filled payload = payload ++ replicate (256 - length payload) 0
 
 -- the first of the places are used, and the others are zeros
 pub record IsFilled (len : ℕ) (places : List ℕ) : Type 0 where
-  pub fits : len ≤ 256
   pub size : length places ≡ 256
+  pub fits : len ≤ length places
   pub filled_is : filled (take len places) ≡ places
-
--- as many are used as are said to be
-pub taken_len : (len : ℕ) (places : List ℕ) → IsFilled len places → length (take len places) ≡ len
-taken_len len places h = length-take-le len places (omega (arith, h.fits, h.size))

@@ -48,7 +48,7 @@ impl Model for Effects {
 }
 
 impl Effects {
-    ghost use Rattle.helpers.specs.Helpers.{send_code, after_send, output_code, after_output, sized_payload};
+    ghost use Rattle.helpers.specs.Helpers.{sized_payload};
 
     /// No effects.
     pub fn new() -> Effects
@@ -96,8 +96,8 @@ impl Effects {
     /// the destination, as a 64-bit number, isn't another process, else 2: no room is left.
     pub fn send(&mut self, who: Who, dst: u64, payload: &[u8]) -> u64
         requires { length payload.now ≤ 256 }
-        ensures code { result ≡ send_code who dst (Some payload.now) self.old }
-        ensures after { self.new ≡ after_send who dst (Some payload.now) self.old }
+        ensures code { result ≡ (rows.send who dst (Some payload.now) self.old).0 }
+        ensures after { self.new ≡ (rows.send who dst (Some payload.now) self.old).1 }
     {
         if is_no_peer(who, dst) {
             return 1;
@@ -116,8 +116,8 @@ impl Effects {
     /// room is left.
     pub fn output(&mut self, payload: &[u8]) -> u64
         requires { length payload.now ≤ 256 }
-        ensures code { result ≡ output_code (Some payload.now) self.old }
-        ensures after { self.new ≡ after_output (Some payload.now) self.old }
+        ensures code { result ≡ (rows.output (Some payload.now) self.old).0 }
+        ensures after { self.new ≡ (rows.output (Some payload.now) self.old).1 }
     {
         if self.output_count == LIMIT {
             return 2;
@@ -131,8 +131,8 @@ impl Effects {
     /// the destination is good, room is left and more than 256 are asked for: nothing is appended.
     pub fn send_sized(&mut self, who: Who, dst: u64, bytes: &[u8], len: u64) -> u64
         requires { length bytes.now ≡ 256 }
-        ensures code { result ≡ send_code who dst (sized_payload bytes.now len) self.old }
-        ensures after { self.new ≡ after_send who dst (sized_payload bytes.now len) self.old }
+        ensures code { result ≡ (rows.send who dst (sized_payload bytes.now len) self.old).0 }
+        ensures after { self.new ≡ (rows.send who dst (sized_payload bytes.now len) self.old).1 }
     {
         if len <= PAYLOAD_LIMIT as u64 {
             return self.send(who, dst, &bytes[..len as usize]);
@@ -150,8 +150,8 @@ impl Effects {
     /// 2's, but 3 where room is left and more than 256 are asked for: nothing is appended.
     pub fn output_sized(&mut self, bytes: &[u8], len: u64) -> u64
         requires { length bytes.now ≡ 256 }
-        ensures code { result ≡ output_code (sized_payload bytes.now len) self.old }
-        ensures after { self.new ≡ after_output (sized_payload bytes.now len) self.old }
+        ensures code { result ≡ (rows.output (sized_payload bytes.now len) self.old).0 }
+        ensures after { self.new ≡ (rows.output (sized_payload bytes.now len) self.old).1 }
     {
         if len > PAYLOAD_LIMIT as u64 {
             let is_full = self.output_count == LIMIT;

@@ -20,6 +20,3 @@ mod payload;
 
 pub use effects::{Effects, LIMIT, Sent, Who};
 pub use payload::{PAYLOAD_LIMIT, Payload};
-
-#[cfg(test)]
-mod tests;

@@ -23,7 +23,8 @@ pub struct Payload {
 
 impl Model for Payload {
     ghost use Rattle.std.specs.Prelude.{ℕ, List, take, length};
-    ghost use Rattle.helpers.specs.Payload.{IsFilled, filled, taken_len};
+    ghost use Rattle.helpers.specs.Payload.{IsFilled, filled};
+    ghost use Rattle.std.proofs.Common.{length-take-le};
 
     ghost Value = { List ℕ };
 
@@ -33,7 +34,7 @@ impl Model for Payload {
 
     ghost inverse = { λ bytes. record { bytes = filled bytes; len = length bytes } };
 
-    ghost inverse_ok = { λ p h i. record { bytes = h.filled_is i; len = taken_len p.len p.bytes h i } };
+    ghost inverse_ok = { λ p h i. record { bytes = h.filled_is i; len = length-take-le p.len p.bytes h.fits i } };
 }
 
 impl Payload {

@@ -1,11 +1,15 @@
 -- The bytes of a number whose bytes are reversed.
-use Rattle.std.proofs.Common.{◌≡◌, ℕ, zero, suc, ◌+◌, ◌-◌, ◌*◌, ◌/◌, ◌%◌, ◌^◌, ◌<◌, inl, inr, sym, ap, ◌∙◌, arith}
+use Rattle.std.proofs.Common.{◌≡◌, ℕ, zero, suc, ◌+◌, ◌-◌, ◌*◌, ◌/◌, ◌%◌, ◌^◌, ◌<◌, inl, inr, refl, sym, ap, ◌∙◌, arith}
 use Rattle.std.proofs.Math.Nat.{div-div-eq-div-mul, div-one, mul-add-div_right, one-le-pow}
 use Rattle.std.proofs.lemmas.Nat.{div-mul-add, pow-add}
 use Rattle.std.proofs.lemmas.Bool.{cases_lt}
+use Rattle.std.specs.Int.{byte_at}
 use Rattle.operations.specs.ByteSwap.{reversed}
-use Rattle.operations.specs.Relations.{byte_of}
 use Rattle.operations.proofs.Bounds.{reversed_below}
+
+-- byte i of a number, by one rule for all
+abbrev byte_of : ℕ → ℕ → ℕ
+byte_of a i = a / 256 ^ i % 256
 
 power-pos : (n : ℕ) → 0 < 256 ^ n
 power-pos n = omega (arith, one-le-pow n 256 (omega arith))
@@ -31,7 +35,7 @@ byte_of-above a i = ap (λ x. x % 256) (div-div-eq-div-mul a 256 (256 ^ i)) ∙ 
 byte_of-lowest : (a : ℕ) → byte_of a 0 ≡ a % 256
 byte_of-lowest a = ap (λ x. x % 256) (div-one a)
 
-pub byte_of-reversed : (n a i : ℕ) → i < n → byte_of (reversed n a) i ≡ byte_of a (n - 1 - i)
+byte_of-reversed : (n a i : ℕ) → i < n → byte_of (reversed n a) i ≡ byte_of a (n - 1 - i)
 byte_of-reversed zero a i h = absurd (omega arith)
 byte_of-reversed (suc n) a i h = elim (cases_lt i n) [ inl l ↦ lower l (byte_of-reversed n (a / 256) i l) | inr g ↦ highest (omega arith) ]
   where
@@ -44,3 +48,10 @@ byte_of-reversed (suc n) a i h = elim (cases_lt i n) [ inl l ↦ lower l (byte_o
     highest e =
         let last : 0 ≡ suc n - 1 - i = omega arith in
         ap (byte_of (reversed (suc n) a)) e ∙ ap (λ x. x % 256) (div-mul-add (a % 256) (256 ^ n) (reversed n (a / 256)) (reversed_below n (a / 256))) ∙ omega arith ∙ sym (byte_of-lowest a) ∙ ap (byte_of a) last
+
+byte_at-is : (i a : ℕ) → byte_at i a ≡ byte_of a i
+byte_at-is zero a = sym (byte_of-lowest a)
+byte_at-is (suc i) a = refl
+
+pub byte_at-reversed : (n a i : ℕ) → i < n → byte_at i (reversed n a) ≡ byte_at (n - 1 - i) a
+byte_at-reversed n a i h = byte_at-is i (reversed n a) ∙ byte_of-reversed n a i h ∙ sym (byte_at-is (n - 1 - i) a)

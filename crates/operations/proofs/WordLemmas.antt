@@ -1,14 +1,14 @@
 -- Signed readings of words, and words of signed numbers.
 use Rattle.std.proofs.Common.{sym, zero, ◌+◌, ◌*◌, inl, inr, ◌≡◌, ℕ, suc, ◌-◌, ◌*◌, ◌%◌, ◌^◌, ◌<◌, ◌≤◌, Bool, true, false, ℤ, pos, negsuc, refl, ap, ◌∙◌, mod-eq_of_lt, arith}
 use Rattle.std.specs.Prelude.{nat_lt, if◌then◌else◌}
+use Rattle.std.specs.Int.{bit_at}
 use Rattle.std.specs.Int.Signed.{mag}
 use Rattle.std.proofs.Math.Nat.{mod-lt, pow-suc}
 use Rattle.std.proofs.Math.Pow.{pow_mono}
 use Rattle.std.proofs.lemmas.Nat.{mod_low, pow-add, pow_pos, shr_high, shr-shr}
 use Rattle.std.proofs.lemmas.Nat.Bits.{bit_at-zero, bit_at_above, bit_at_ones}
 use Rattle.std.proofs.lemmas.Bool.{cases_lt}
-use Rattle.operations.specs.Bits.{bit_of}
-use Rattle.operations.proofs.BitLemmas.{bit_of-low}
+use Rattle.operations.proofs.BitLemmas.{bit_at-low}
 use Rattle.std.proofs.lemmas.Bool.Decides.{nat_tests}
 use Rattle.operations.specs.Words.{signed_of, word_of_signed, extended_from}
 
@@ -54,13 +54,13 @@ signed_of-extended_from k n a some wider =
 
 -- ---- sign extension by bits
 
-bit_of-low_part : (k a i high : ℕ) → i < k → bit_of (high * 2 ^ k + a % 2 ^ k) i ≡ bit_of a i
-bit_of-low_part k a i high h = sym (bit_of-low k (high * 2 ^ k + a % 2 ^ k) i h) ∙ ap (λ x. bit_of x i) (mod_low high k (a % 2 ^ k) (mod-lt a (pow_pos k))) ∙ bit_of-low k a i h
+bit_at-low_part : (k a i high : ℕ) → i < k → bit_at (high * 2 ^ k + a % 2 ^ k) i ≡ bit_at a i
+bit_at-low_part k a i high h = sym (bit_at-low k (high * 2 ^ k + a % 2 ^ k) i h) ∙ ap (λ x. bit_at x i) (mod_low high k (a % 2 ^ k) (mod-lt a (pow_pos k))) ∙ bit_at-low k a i h
 
-bit_of-high_part : (k x i high : ℕ) → x < 2 ^ k → k ≤ i → bit_of (high * 2 ^ k + x) i ≡ bit_of high (i - k)
-bit_of-high_part k x i high h l =
+bit_at-high_part : (k x i high : ℕ) → x < 2 ^ k → k ≤ i → bit_at (high * 2 ^ k + x) i ≡ bit_at high (i - k)
+bit_at-high_part k x i high h l =
     let parts : i ≡ k + (i - k) = omega arith in
-    ap (bit_of (high * 2 ^ k + x)) parts ∙ ap (λ y. y % 2) (sym (shr-shr (high * 2 ^ k + x) k (i - k))) ∙ ap (λ y. bit_of y (i - k)) (shr_high high k x h)
+    ap (bit_at (high * 2 ^ k + x)) parts ∙ ap (λ y. y % 2) (sym (shr-shr (high * 2 ^ k + x) k (i - k))) ∙ ap (λ y. bit_at y (i - k)) (shr_high high k x h)
 
 -- the word of a negative reading has ones above its low bits
 extended-high : (k n x : ℕ) → k ≤ n → x < 2 ^ k → 2 ^ n - 1 - (2 ^ k - suc x) ≡ (2 ^ (n - k) - 1) * 2 ^ k + x
@@ -87,30 +87,30 @@ word-negative k n x some wider h l =
     let within : (2 ^ k - suc x) % 2 ^ n ≡ 2 ^ k - suc x = mod-eq_of_lt (omega (arith, wide)) in
     ap (word_of_signed n) (signed_of-high k x h) ∙ ap (λ y. 2 ^ n - 1 - y) within ∙ extended-high k n x wider l
 
-pub bit_of-extended_from-low : (k n a i : ℕ) → 0 < k → k ≤ n → i < k → bit_of (extended_from k n a) i ≡ bit_of a i
-bit_of-extended_from-low k n a i some wider h =
+pub bit_at-extended_from-low : (k n a i : ℕ) → 0 < k → k ≤ n → i < k → bit_at (extended_from k n a) i ≡ bit_at a i
+bit_at-extended_from-low k n a i some wider h =
     let below : a % 2 ^ k < 2 ^ k = mod-lt a (pow_pos k) in
     elim (cases_lt (a % 2 ^ k) (2 ^ (k - 1))) [
-      | inl l ↦ ap (λ x. bit_of x i) (word-positive k n (a % 2 ^ k) wider l below) ∙ bit_of-low_part k a i 0 h
-      | inr g ↦ ap (λ x. bit_of x i) (word-negative k n (a % 2 ^ k) some wider g below) ∙ bit_of-low_part k a i (2 ^ (n - k) - 1) h
+      | inl l ↦ ap (λ x. bit_at x i) (word-positive k n (a % 2 ^ k) wider l below) ∙ bit_at-low_part k a i 0 h
+      | inr g ↦ ap (λ x. bit_at x i) (word-negative k n (a % 2 ^ k) some wider g below) ∙ bit_at-low_part k a i (2 ^ (n - k) - 1) h
     ]
 
 -- the highest of k bits
-top_bit-zero : (k x : ℕ) → x < 2 ^ (k - 1) → bit_of x (k - 1) ≡ 0
+top_bit-zero : (k x : ℕ) → x < 2 ^ (k - 1) → bit_at x (k - 1) ≡ 0
 top_bit-zero k x h = bit_at_above x (k - 1) (k - 1) h (omega arith)
 
-top_bit-one : (k x : ℕ) → 0 < k → 2 ^ (k - 1) ≤ x → x < 2 ^ k → bit_of x (k - 1) ≡ 1
+top_bit-one : (k x : ℕ) → 0 < k → 2 ^ (k - 1) ≤ x → x < 2 ^ k → bit_at x (k - 1) ≡ 1
 top_bit-one k x some h l =
     let parts : 1 * 2 ^ (k - 1) + (x - 2 ^ (k - 1)) ≡ x = omega arith in
-    ap (λ y. bit_of y (k - 1)) (sym parts) ∙ ap (λ y. y % 2) (shr_high 1 (k - 1) (x - 2 ^ (k - 1)) (omega (arith, half-twice k some)))
+    ap (λ y. bit_at y (k - 1)) (sym parts) ∙ ap (λ y. y % 2) (shr_high 1 (k - 1) (x - 2 ^ (k - 1)) (omega (arith, half-twice k some)))
 
-pub bit_of-extended_from-high : (k n a i : ℕ) → 0 < k → k ≤ i → i < n → bit_of (extended_from k n a) i ≡ bit_of a (k - 1)
-bit_of-extended_from-high k n a i some above h =
+pub bit_at-extended_from-high : (k n a i : ℕ) → 0 < k → k ≤ i → i < n → bit_at (extended_from k n a) i ≡ bit_at a (k - 1)
+bit_at-extended_from-high k n a i some above h =
     let below : a % 2 ^ k < 2 ^ k = mod-lt a (pow_pos k) in
-    let same : bit_of (a % 2 ^ k) (k - 1) ≡ bit_of a (k - 1) = bit_of-low k a (k - 1) (omega arith) in
+    let same : bit_at (a % 2 ^ k) (k - 1) ≡ bit_at a (k - 1) = bit_at-low k a (k - 1) (omega arith) in
     elim (cases_lt (a % 2 ^ k) (2 ^ (k - 1))) [
-      | inl l ↦ ap (λ x. bit_of x i) (word-positive k n (a % 2 ^ k) (omega arith) l below) ∙ bit_of-high_part k (a % 2 ^ k) i 0 below above
+      | inl l ↦ ap (λ x. bit_at x i) (word-positive k n (a % 2 ^ k) (omega arith) l below) ∙ bit_at-high_part k (a % 2 ^ k) i 0 below above
           ∙ bit_at-zero (i - k) ∙ sym (top_bit-zero k (a % 2 ^ k) l) ∙ same
-      | inr g ↦ ap (λ x. bit_of x i) (word-negative k n (a % 2 ^ k) some (omega arith) g below) ∙ bit_of-high_part k (a % 2 ^ k) i (2 ^ (n - k) - 1) below above
+      | inr g ↦ ap (λ x. bit_at x i) (word-negative k n (a % 2 ^ k) some (omega arith) g below) ∙ bit_at-high_part k (a % 2 ^ k) i (2 ^ (n - k) - 1) below above
           ∙ bit_at_ones (n - k) (i - k) (omega arith) ∙ sym (top_bit-one k (a % 2 ^ k) some g below) ∙ same
     ]

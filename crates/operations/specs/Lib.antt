@@ -4,5 +4,4 @@ pub mod Arithmetic
 pub mod ByteSwap
 pub mod Conditions
 pub mod Operations
-pub mod Relations
 pub mod Bytes

@@ -8,12 +8,13 @@ abbrev pub bits_of : Width → ℕ
 bits_of W32 = 32
 bits_of W64 = 64
 
--- the part of a register that an operation of this width uses: the low 32 bits, or all 64 (RFC 9669 sections 4.1 and 4.3)
+-- the part of a register that an operation of this width uses: its low 32 bits, or all (RFC 9669 sections 4.1 and 4.3)
 abbrev pub low_of : Width → ℕ → ℕ
 low_of W32 a = a % 2 ^ 32
 low_of W64 a = a
 
--- a word of n bits read as signed, in two's complement: from the half of 2 ^ n on it stands for a - 2 ^ n (RFC 9669 section 2.1)
+-- a word of n bits read as signed, in two's complement: from the half of 2 ^ n on it stands for a - 2 ^ n (RFC 9669
+-- section 2.1)
 abbrev pub signed_of : ℕ → ℕ → ℤ
 signed_of n a = if nat_lt a (2 ^ (n - 1)) then pos a else negsuc (2 ^ n - suc a)
 

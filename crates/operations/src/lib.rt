@@ -29,6 +29,3 @@ pub use laws::{
     results_are_words, results_by_bits, sign_extension_copies_the_sign, signed_division_truncates,
     signed_readings, swaps_reverse_bytes,
 };
-
-#[cfg(test)]
-mod tests;

@@ -1,12 +1,13 @@
 -- A frame that says more breaks no more rules, and leaves more.
-use Rattle.std.proofs.Common.{◌≡◌, ◌≢◌, ℕ, zero, suc, ◌+◌, ◌<◌, ◌≤◌, Bool, true, false, cond, List, [], ◌∷◌, length, drop, length-drop, Option, Some, None, ℤ, pos, negsuc, ◌+ℤ◌, refl, sym, ap, ◌∙◌, subst, ⊎_elim, ◌⊎◌, inl, inr, arith}
+use Rattle.std.proofs.Common.{◌≡◌, ◌≢◌, ℕ, zero, suc, ◌+◌, ◌<◌, ◌≤◌, Bool, true, false, cond, List, [], ◌∷◌, ◌++◌, length, drop, length-drop, Option, Some, None, ℤ, pos, negsuc, refl, sym, ap, ◌∙◌, subst, ⊎_elim, ◌⊎◌, inl, inr, arith}
 use Rattle.std.specs.Prelude.{slice_set, not, ◌||◌, ◌&&◌}
+use Rattle.std.specs.Option.{option_or, option_and_then}
+use Rattle.std.specs.List.{list_any}
 use Rattle.std.proofs.lemmas.Bool.{or_parts, cases_eq, cases_lt, false≢true}
 use Rattle.std.proofs.lemmas.Bool.Decides.{nat_tests}
 use Rattle.std.proofs.lemmas.List.{get_or-set_same, get_or-set_other, get_or_past, length-set, get_or-drop, ext_get_or}
 use Rattle.decode.specs.declared.insn.Reg.{Reg}
 use Rattle.decode.specs.declared.insn.Width.TheVariants.{W32, W64}
-use Rattle.decode.specs.declared.insn.Condition.{Condition}
 use Rattle.decode.specs.declared.insn.Operand.TheVariants as operand
 use Rattle.decode.specs.declared.insn.Insn.{Insn}
 use Rattle.decode.specs.declared.insn.Insn.TheVariants.{Alu, MovSx, Neg, End, Jump, JumpLong, JumpIf, Call, Exit, Load, LoadSx, StoreReg, StoreImm, Wide}
@@ -19,11 +20,11 @@ use Rattle.regtypes.specs.declared.frame.Frame.{Frame}
 use Rattle.regtypes.specs.declared.attributes.Access.{Access}
 use Rattle.regtypes.specs.declared.attributes.Attributes.{Attributes}
 use Rattle.regtypes.specs.declared.rule.Rule.{Rule}
-use Rattle.regtypes.specs.Frame.{kind_at, is_num, LeqKind, LeqKinds, Leq}
+use Rattle.regtypes.specs.Frame.{kind_at, is_num, LeqKind, Leq}
 use Rattle.regtypes.specs.Attributes.{attributes_of}
-use Rattle.regtypes.specs.Rules.{is_unset, is_len, is_place, is_in_message, is_message, region_len, lie_inside, reaches, moves, is_payload, is_sized, Argument, Number, Payload, Sized, arguments_of, takes, takes_all, has, base_of, moved_of, reads_unset, has_number_as_base, mixes, reaches_out, moves_out, stores_in_message, refuses, misgives, ends_without, Tests, first_broken, tests_by, tests_of}
-use Rattle.regtypes.specs.Leaving.{moved, given_by, given, written_with, after_by, after_helper, after, least_met, least_unmet, shown, raised, IsMonotone}
-use Rattle.regtypes.specs.Typing.{or_else}
+use Rattle.regtypes.specs.Rules.{is_unset, is_len, is_place, is_in_message, is_message, region_len, lie_inside, has_bytes, moved, is_near, is_sized, Argument, Number, Payload, Sized, arguments_of, takes, has, base_of, moved_of, reaches_out, moves_out, called, ends_without, Tests, first_broken, tests_by, tests_of}
+use Rattle.regtypes.specs.Leaving.{given, after_by, after, least_shown, shown, raised, IsMonotone}
+use Rattle.regtypes.proofs.Parts.{LeqKinds, reads_unset, mixes, stores_in_message, takes_all, refuses, misgives, given_by, written_with, after_helper}
 use Rattle.regtypes.proofs.Order.{LeqKind-refl}
 
 -- ---- tests of which none holds
@@ -47,9 +48,21 @@ pub passes : (ts : Tests) → NoneHolds ts → Passes ts
 passes [] h = refl
 passes (t ∷ ts) h = ap (λ b. cond b (Some t.1) (first_broken ts)) h.0 ∙ passes ts h.1
 
-pub both_none : (a b : Option Rule) → or_else a b ≡ None → (a ≡ None) × (b ≡ None)
+pub both_none : (a b : Option Rule) → option_or a b ≡ None → (a ≡ None) × (b ≡ None)
 both_none None b h = (refl, h)
 both_none (Some r) b h = cc
+
+-- of two lists of tests the first rule of both is the first list's, or else the second's
+pub first_of_both : (ts us : Tests) → first_broken (ts ++ us) ≡ option_or (first_broken ts) (first_broken us)
+first_of_both [] us = refl
+first_of_both (t ∷ ts) us = by_test t.0 (first_of_both ts us)
+  where
+    by_test : (b : Bool) → first_broken (ts ++ us) ≡ option_or (first_broken ts) (first_broken us) → cond b (Some t.1) (first_broken (ts ++ us)) ≡ option_or (cond b (Some t.1) (first_broken ts)) (first_broken us)
+    by_test true e = refl
+    by_test false e = e
+
+pub both_pass : (ts us : Tests) → Passes (ts ++ us) → Passes ts × Passes us
+both_pass ts us h = both_none (first_broken ts) (first_broken us) (sym (first_of_both ts us) ∙ h)
 
 pub not_false : (b : Bool) → not b ≡ false → b ≡ true
 not_false true h = refl
@@ -108,29 +121,26 @@ inside_grows : (m m' n : ℕ) (z : ℤ) → m ≤ m' → lie_inside m n z ≡ tr
 inside_grows m m' n (pos a) le h = grind (arith, nat_tests)
 inside_grows m m' n (negsuc a) le h = h
 
-reaches_grows : (low low' len n : ℕ) (o : ℤ) → low ≤ low' → (k : Kind) → reaches low len n o k ≡ true → reaches low' len n o k ≡ true
-reaches_grows low low' len n o le Unset h = refl
-reaches_grows low low' len n o le Num h = refl
-reaches_grows low low' len n o le Len h = refl
-reaches_grows low low' len n o le (Place r k) h = inside_grows (region_len low len r) (region_len low' len r) n (k +ℤ o) (region_grows low low' len r le) h
-
-payload_grows : (low low' len n : ℕ) → low ≤ low' → (k : Kind) → is_payload low len n k ≡ true → is_payload low' len n k ≡ true
-payload_grows low low' len n le Unset h = h
-payload_grows low low' len n le Num h = h
-payload_grows low low' len n le Len h = h
-payload_grows low low' len n le (Place r k) h = inside_grows (region_len low len r) (region_len low' len r) n k (region_grows low low' len r le) h
+bytes_grow : (low low' len n : ℕ) → low ≤ low' → (k : Kind) → has_bytes low len n k ≡ true → has_bytes low' len n k ≡ true
+bytes_grow low low' len n le Unset h = h
+bytes_grow low low' len n le Num h = h
+bytes_grow low low' len n le Len h = h
+bytes_grow low low' len n le (Place r k) h = inside_grows (region_len low len r) (region_len low' len r) n k (region_grows low low' len r le) h
 
 pub num_holds : (x y : Kind) → LeqKind x y → is_num y ≡ true → is_num x ≡ true
 num_holds = holds is_num is_num refl (λ k h. h) (λ h. refl)
 
-payload_holds : (low low' len n : ℕ) → low ≤ low' → (x y : Kind) → LeqKind x y → is_payload low len n y ≡ true → is_payload low' len n x ≡ true
-payload_holds low low' len n le = holds (is_payload low len n) (is_payload low' len n) refl (payload_grows low low' len n le) (λ h. h)
+bytes_held : (low low' len n : ℕ) → low ≤ low' → (x y : Kind) → LeqKind x y → has_bytes low len n y ≡ true → has_bytes low' len n x ≡ true
+bytes_held low low' len n le = holds (has_bytes low len n) (has_bytes low' len n) refl (bytes_grow low low' len n le) (λ h. h)
 
 sized_holds : (low low' len : ℕ) → low ≤ low' → (p q c d : Kind) → LeqKind p q → LeqKind c d → is_sized low len q d ≡ true → is_sized low' len p c ≡ true
 sized_holds low low' len le p q c d a b h =
-    let n = both_parts (is_num d) (is_payload low len 256 q || (is_message q && is_len d)) h in
+    let n = both_parts (is_num d) (has_bytes low len 256 q || (is_message q && is_len d)) h in
     let whole = λ (w : (is_message q && is_len d) ≡ true). let k = both_parts (is_message q) (is_len d) w in both (is_message p) (is_len c) (holds is_message is_message refl (λ k h. h) (λ h. h) p q a k.0) (holds is_len is_len refl (λ k h. h) (λ h. refl) c d b k.1) in
-    both (is_num c) (is_payload low' len 256 p || (is_message p && is_len c)) (num_holds c d b n.0) (one_part (is_payload low len 256 q) (is_message q && is_len d) (is_payload low' len 256 p) (is_message p && is_len c) (payload_holds low low' len 256 le p q a) whole n.1)
+    both (is_num c) (has_bytes low' len 256 p || (is_message p && is_len c)) (num_holds c d b n.0) (one_part (has_bytes low len 256 q) (is_message q && is_len d) (has_bytes low' len 256 p) (is_message p && is_len c) (bytes_held low low' len 256 le p q a) whole n.1)
+
+moved_kept : (z : ℤ) (x y : Kind) → LeqKind x y → is_unset y ≡ false → LeqKind (moved z x) (moved z y)
+moved_kept z = narrows (λ x y. is_unset y ≡ false → LeqKind (moved z x) (moved z y)) (λ x u. absurd (false≢true (sym u))) (λ k u. LeqKind-refl (moved z k)) (λ u. refl)
 
 -- ---- rules
 
@@ -151,38 +161,35 @@ pub record AllSet (f : List Kind) (a : Attributes) : Type 0 where
 
 pub all_set : (f : List Kind) (a : Attributes) → reads_unset f a ≡ false → AllSet f a
 all_set f a h =
-    let one = or_parts (has is_unset f a.number) (has is_unset f a.operand || (has is_unset f a.copied || (has is_unset f (base_of a.access) || has is_unset f (moved_of a.moved)))) h in
-    let two = or_parts (has is_unset f a.operand) (has is_unset f a.copied || (has is_unset f (base_of a.access) || has is_unset f (moved_of a.moved))) one.1 in
-    let three = or_parts (has is_unset f a.copied) (has is_unset f (base_of a.access) || has is_unset f (moved_of a.moved)) two.1 in
-    let four = or_parts (has is_unset f (base_of a.access)) (has is_unset f (moved_of a.moved)) three.1 in
-    record { number = one.0; operand = two.0; copied = three.0; base = four.0; moved = four.1 }
+    let one = or_parts (has is_unset f a.number) (list_any (has is_unset f) (a.operand ∷ a.copied ∷ base_of a.access ∷ moved_of a.moved ∷ [])) h in
+    let two = or_parts (has is_unset f a.operand) (list_any (has is_unset f) (a.copied ∷ base_of a.access ∷ moved_of a.moved ∷ [])) one.1 in
+    let three = or_parts (has is_unset f a.copied) (list_any (has is_unset f) (base_of a.access ∷ moved_of a.moved ∷ [])) two.1 in
+    let four = or_parts (has is_unset f (base_of a.access)) (list_any (has is_unset f) (moved_of a.moved ∷ [])) three.1 in
+    record { number = one.0; operand = two.0; copied = three.0; base = four.0; moved = (or_parts (has is_unset f (moved_of a.moved)) false four.1).0 }
 
 reads_kept : (f g : List Kind) (a : Attributes) → LeqKinds f g → AllSet g a → reads_unset f a ≡ false
 reads_kept f g a le s =
-    neither (has is_unset f a.number) _ (set_kept f g le a.number s.number) (neither (has is_unset f a.operand) _ (set_kept f g le a.operand s.operand) (neither (has is_unset f a.copied) _ (set_kept f g le a.copied s.copied) (neither (has is_unset f (base_of a.access)) _ (set_kept f g le (base_of a.access) s.base) (set_kept f g le (moved_of a.moved) s.moved))))
-
-base_kept : (f g : List Kind) → LeqKinds f g → (a : Option Access) → has is_unset g (base_of a) ≡ false → has_number_as_base g a ≡ false → has_number_as_base f a ≡ false
-base_kept f g le None u h = refl
-base_kept f g le (Some a) u h = fails is_num (λ h. h) (kind_at f a.base.number) (kind_at g a.base.number) (le a.base.number) u h
+    neither (has is_unset f a.number) _ (set_kept f g le a.number s.number) (neither (has is_unset f a.operand) _ (set_kept f g le a.operand s.operand) (neither (has is_unset f a.copied) _ (set_kept f g le a.copied s.copied) (neither (has is_unset f (base_of a.access)) _ (set_kept f g le (base_of a.access) s.base) (neither (has is_unset f (moved_of a.moved)) false (set_kept f g le (moved_of a.moved) s.moved) refl))))
 
 mixes_kept : (f g : List Kind) (a : Attributes) → LeqKinds f g → AllSet g a → mixes g a ≡ false → mixes f a ≡ false
 mixes_kept f g a le s h =
-    let one = or_parts (has is_place g a.number) (has is_place g a.operand || has_number_as_base g a.access) h in
-    let two = or_parts (has is_place g a.operand) (has_number_as_base g a.access) one.1 in
+    let one = or_parts (has is_place g a.number) (has is_place g a.operand || has is_num g (base_of a.access)) h in
+    let two = or_parts (has is_place g a.operand) (has is_num g (base_of a.access)) one.1 in
     let place = fails is_place (λ h. refl) in
-    neither (has is_place f a.number) _ (has_kept is_place place f g le a.number s.number one.0) (neither (has is_place f a.operand) _ (has_kept is_place place f g le a.operand s.operand two.0) (base_kept f g le a.access s.base two.1))
+    neither (has is_place f a.number) _ (has_kept is_place place f g le a.number s.number one.0) (neither (has is_place f a.operand) _ (has_kept is_place place f g le a.operand s.operand two.0) (has_kept is_num (fails is_num (λ h. h)) f g le (base_of a.access) s.base two.1))
 
 reaches_kept : (len : ℕ) (f g : Frame) → Leq f g → (a : Option Access) → has is_unset g.kinds (base_of a) ≡ false → reaches_out len g a ≡ false → reaches_out len f a ≡ false
 reaches_kept len f g le None u h = refl
 reaches_kept len f g le (Some a) u h =
-    let P = λ (x y : Kind). is_unset y ≡ false → reaches g.low len a.bytes a.offset y ≡ true → reaches f.low len a.bytes a.offset x ≡ true in
-    let m = narrows P (λ x u. absurd (false≢true (sym u))) (λ k u. reaches_grows g.low f.low len a.bytes a.offset le.low k) (λ u h. refl) (kind_at f.kinds a.base.number) (kind_at g.kinds a.base.number) (le.kinds a.base.number) u in
-    kept (reaches g.low len a.bytes a.offset (kind_at g.kinds a.base.number)) (reaches f.low len a.bytes a.offset (kind_at f.kinds a.base.number)) m h
+    let x = kind_at f.kinds a.base.number in
+    let y = kind_at g.kinds a.base.number in
+    let more = bytes_held g.low f.low len a.bytes le.low (moved a.offset x) (moved a.offset y) (moved_kept a.offset x y (le.kinds a.base.number) u) in
+    kept (has_bytes g.low len a.bytes (moved a.offset y)) (has_bytes f.low len a.bytes (moved a.offset x)) more h
 
 moves_kept : (f g : List Kind) → LeqKinds f g → (m : Option (Reg × ℤ)) → has is_unset g (moved_of m) ≡ false → moves_out g m ≡ false → moves_out f m ≡ false
 moves_kept f g le None u h = refl
 moves_kept f g le (Some m) u h =
-    fails (λ k. not (moves m.1 k)) (λ h. refl) (kind_at f m.0.number) (kind_at g m.0.number) (le m.0.number) u h
+    fails (λ k. not (is_near (moved m.1 k))) (λ h. refl) (kind_at f m.0.number) (kind_at g m.0.number) (le m.0.number) u h
 
 stores_kept : (f g : List Kind) → LeqKinds f g → (a : Option Access) → has is_unset g (base_of a) ≡ false → stores_in_message g a ≡ false → stores_in_message f a ≡ false
 stores_kept f g le None u h = refl
@@ -191,7 +198,7 @@ stores_kept f g le (Some a) u h =
 
 takes_kept : (len : ℕ) (f g : Frame) → Leq f g → (x : Argument) → takes len g x ≡ true → takes len f x ≡ true
 takes_kept len f g le (Number r) h = num_holds (kind_at f.kinds r) (kind_at g.kinds r) (le.kinds r) h
-takes_kept len f g le (Payload r) h = payload_holds g.low f.low len 64 le.low (kind_at f.kinds r) (kind_at g.kinds r) (le.kinds r) h
+takes_kept len f g le (Payload r) h = bytes_held g.low f.low len 64 le.low (kind_at f.kinds r) (kind_at g.kinds r) (le.kinds r) h
 takes_kept len f g le (Sized r n) h = sized_holds g.low f.low len le.low (kind_at f.kinds r) (kind_at g.kinds r) (kind_at f.kinds n) (kind_at g.kinds n) (le.kinds r) (le.kinds n) h
 
 takes_all_kept : (len : ℕ) (f g : Frame) → Leq f g → (xs : List Argument) → takes_all len g xs ≡ true → takes_all len f xs ≡ true
@@ -205,20 +212,7 @@ refuses_kept len f g le None h = refl
 refuses_kept len f g le (Some xs) h = kept (takes_all len g xs) (takes_all len f xs) (takes_all_kept len f g le xs) h
 
 misgives_kept : (form : ImageForm) (len : ℕ) (i : Insn) (f g : Frame) → Leq f g → misgives form len i g ≡ false → misgives form len i f ≡ false
-misgives_kept form len (Call helper) f g le h = refuses_kept len f g le (arguments_of form helper) h
-misgives_kept form len (Alu op width dst o) f g le h = refl
-misgives_kept form len (MovSx extension dst src) f g le h = refl
-misgives_kept form len (Neg width dst) f g le h = refl
-misgives_kept form len (End order bits dst) f g le h = refl
-misgives_kept form len (Jump offset) f g le h = refl
-misgives_kept form len (JumpLong distance) f g le h = refl
-misgives_kept form len (JumpIf condition width dst o offset) f g le h = refl
-misgives_kept form len Exit f g le h = refl
-misgives_kept form len (Load size dst src offset) f g le h = refl
-misgives_kept form len (LoadSx size dst src offset) f g le h = refl
-misgives_kept form len (StoreReg size dst src offset) f g le h = refl
-misgives_kept form len (StoreImm size dst offset imm) f g le h = refl
-misgives_kept form len (Wide dst value) f g le h = refl
+misgives_kept form len i f g le h = refuses_kept len f g le (option_and_then (arguments_of form) (called i)) h
 
 ends_kept : (i : Insn) (f g : List Kind) → LeqKinds f g → ends_without i g ≡ false → ends_without i f ≡ false
 ends_kept Exit f g le h = kept (is_num (kind_at g 0)) (is_num (kind_at f 0)) (num_holds (kind_at f 0) (kind_at g 0) (le 0)) h
@@ -285,9 +279,6 @@ LeqKinds-helper f g le (suc (suc (suc (suc (suc (suc q)))))) =
     let eg : kind_at g (6 + q) ≡ kind_at (drop 6 g) q = sym (get_or-drop 6 g q Unset) in
     subst (LeqKind (kind_at (drop 6 f) q)) eg (subst (λ z. LeqKind z (kind_at g (6 + q))) ef (le (6 + q)))
 
-moved_kept : (z : ℤ) (x y : Kind) → LeqKind x y → is_unset y ≡ false → LeqKind (moved z x) (moved z y)
-moved_kept z = narrows (λ x y. is_unset y ≡ false → LeqKind (moved z x) (moved z y)) (λ x u. absurd (false≢true (sym u))) (λ k u. LeqKind-refl (moved z k)) (λ u. refl)
-
 given_kept : (f g : List Kind) (a : Attributes) → LeqKinds f g → AllSet g a → LeqKind (given f a) (given g a)
 given_kept f g a le s = by_both a.copied a.moved s.moved
   where
@@ -346,32 +337,32 @@ shown_if x Num o le = inl refl
 shown_if x Len o le = inr (ap (λ k. cond (is_len k) o None) le)
 shown_if x (Place r k) o le = inl refl
 
-shown_kept : (least : Condition → ℤ → Option ℤ) (i : Insn) (f g : List Kind) → LeqKinds f g → (shown least i g ≡ None) ⊎ (shown least i f ≡ shown least i g)
-shown_kept least (JumpIf condition W64 dst (operand.Imm c) offset) f g le = shown_if (kind_at f dst.number) (kind_at g dst.number) (least condition c) (le dst.number)
-shown_kept least (JumpIf condition W64 dst (operand.Reg r) offset) f g le = inl refl
-shown_kept least (JumpIf condition W32 dst o offset) f g le = inl refl
-shown_kept least (Call helper) f g le = inl refl
-shown_kept least (Alu op width dst o) f g le = inl refl
-shown_kept least (MovSx extension dst src) f g le = inl refl
-shown_kept least (Neg width dst) f g le = inl refl
-shown_kept least (End order bits dst) f g le = inl refl
-shown_kept least (Jump offset) f g le = inl refl
-shown_kept least (JumpLong distance) f g le = inl refl
-shown_kept least Exit f g le = inl refl
-shown_kept least (Load size dst src offset) f g le = inl refl
-shown_kept least (LoadSx size dst src offset) f g le = inl refl
-shown_kept least (StoreReg size dst src offset) f g le = inl refl
-shown_kept least (StoreImm size dst offset imm) f g le = inl refl
-shown_kept least (Wide dst value) f g le = inl refl
+shown_kept : (met : Bool) (i : Insn) (f g : List Kind) → LeqKinds f g → (shown met i g ≡ None) ⊎ (shown met i f ≡ shown met i g)
+shown_kept met (JumpIf condition W64 dst (operand.Imm c) offset) f g le = shown_if (kind_at f dst.number) (kind_at g dst.number) (least_shown met condition c) (le dst.number)
+shown_kept met (JumpIf condition W64 dst (operand.Reg r) offset) f g le = inl refl
+shown_kept met (JumpIf condition W32 dst o offset) f g le = inl refl
+shown_kept met (Call helper) f g le = inl refl
+shown_kept met (Alu op width dst o) f g le = inl refl
+shown_kept met (MovSx extension dst src) f g le = inl refl
+shown_kept met (Neg width dst) f g le = inl refl
+shown_kept met (End order bits dst) f g le = inl refl
+shown_kept met (Jump offset) f g le = inl refl
+shown_kept met (JumpLong distance) f g le = inl refl
+shown_kept met Exit f g le = inl refl
+shown_kept met (Load size dst src offset) f g le = inl refl
+shown_kept met (LoadSx size dst src offset) f g le = inl refl
+shown_kept met (StoreReg size dst src offset) f g le = inl refl
+shown_kept met (StoreImm size dst offset imm) f g le = inl refl
+shown_kept met (Wide dst value) f g le = inl refl
 
-low_kept : (least : Condition → ℤ → Option ℤ) (i : Insn) (f g : Frame) → Leq f g → raised g.low (shown least i g.kinds) ≤ raised f.low (shown least i f.kinds)
-low_kept least i f g le = ⊎_elim none same (shown_kept least i f.kinds g.kinds le.kinds)
+low_kept : (met : Bool) (i : Insn) (f g : Frame) → Leq f g → raised g.low (shown met i g.kinds) ≤ raised f.low (shown met i f.kinds)
+low_kept met i f g le = ⊎_elim none same (shown_kept met i f.kinds g.kinds le.kinds)
   where
-    none : shown least i g.kinds ≡ None → raised g.low (shown least i g.kinds) ≤ raised f.low (shown least i f.kinds)
-    none e = let a = ap (raised g.low) e in let b = raised_grows f.low (shown least i f.kinds) in let c = le.low in omega (arith, a, b, c)
+    none : shown met i g.kinds ≡ None → raised g.low (shown met i g.kinds) ≤ raised f.low (shown met i f.kinds)
+    none e = let a = ap (raised g.low) e in let b = raised_grows f.low (shown met i f.kinds) in let c = le.low in omega (arith, a, b, c)
 
-    same : shown least i f.kinds ≡ shown least i g.kinds → raised g.low (shown least i g.kinds) ≤ raised f.low (shown least i f.kinds)
-    same e = subst (λ o. raised g.low (shown least i g.kinds) ≤ raised f.low o) (sym e) (raised_more g.low f.low (shown least i g.kinds) le.low)
+    same : shown met i f.kinds ≡ shown met i g.kinds → raised g.low (shown met i g.kinds) ≤ raised f.low (shown met i f.kinds)
+    same e = subst (λ o. raised g.low (shown met i g.kinds) ≤ raised f.low o) (sym e) (raised_more g.low f.low (shown met i g.kinds) le.low)
 
 -- ---- instructions
 
@@ -379,7 +370,7 @@ pub monotone : IsMonotone
 monotone form len i f g n le h =
     let k = none_holds (tests_of form len i g) h in
     let a = after_kept i f.kinds g.kinds n le.kinds (all_set g.kinds (attributes_of i) k.0) in
-    (passes (tests_of form len i f) (rules_kept (attributes_of i) form len i f g le k), record { kinds = a; low = low_kept least_unmet i f g le }, record { kinds = a; low = low_kept least_met i f g le })
+    (passes (tests_of form len i f) (rules_kept (attributes_of i) form len i f g le k), record { kinds = a; low = low_kept false i f g le }, record { kinds = a; low = low_kept true i f g le })
 
 -- ---- eleven kinds stay eleven
 

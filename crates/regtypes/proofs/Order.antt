@@ -5,7 +5,9 @@ use Rattle.std.proofs.lemmas.Bool.{cases_eq, cases_lt}
 use Rattle.std.proofs.lemmas.List.{get_or-set_same, get_or-set_other, get_or_past}
 use Rattle.regtypes.specs.declared.frame.Kind.{Kind}
 use Rattle.regtypes.specs.declared.frame.Kind.TheVariants.{Unset, Num, Len, Place}
-use Rattle.regtypes.specs.Frame.{kind_at, is_num, LeqKind, LeqKinds, IsJoin}
+use Rattle.regtypes.specs.Frame.{kind_at, is_num, LeqKind}
+use Rattle.regtypes.specs.Inside.Frame.{IsJoin}
+use Rattle.regtypes.proofs.Parts.{LeqKinds}
 
 pub LeqKind-refl : (k : Kind) → LeqKind k k
 LeqKind-refl Unset = tt

@@ -1,31 +1,15 @@
 -- What an instruction reads, writes and reaches (RFC 9669 sections 4 and 5).
 use Rattle.std.specs.Prelude.{ℕ, true, false, Option, Some, None, ℤ}
 use Rattle.decode.specs.declared.insn.Reg.{Reg}
-use Rattle.decode.specs.declared.insn.Size.{Size}
-use Rattle.decode.specs.declared.insn.Size.TheVariants as size
-use Rattle.decode.specs.declared.insn.SignedSize.{SignedSize}
-use Rattle.decode.specs.declared.insn.SignedSize.TheVariants as signed
 use Rattle.decode.specs.declared.insn.Operand.{Operand}
 use Rattle.decode.specs.declared.insn.Operand.TheVariants as operand
 use Rattle.decode.specs.declared.insn.Insn.{Insn}
 use Rattle.decode.specs.declared.insn.Insn.TheVariants.{Alu, MovSx, Neg, End, Jump, JumpLong, JumpIf, Call, Exit, Load, LoadSx, StoreReg, StoreImm, Wide}
+use Rattle.decode.specs.Encoding.{bytes_in, loaded}
 use Rattle.regtypes.specs.declared.form.Form.{Form}
 use Rattle.regtypes.specs.declared.form.Form.TheVariants.{Copies, Moves, Sets, Computes}
 use Rattle.regtypes.specs.declared.attributes.Attributes.{Attributes}
 use Rattle.regtypes.specs.Form.{form_of}
-
--- how many bytes are read or written (RFC 9669 sections 5.1 and 5.2)
-abbrev pub bytes_in : Size → ℕ
-bytes_in size.Byte = 1
-bytes_in size.Half = 2
-bytes_in size.Word = 4
-bytes_in size.Double = 8
-
--- the same of a load that extends the sign, of which there is none of 8 bytes
-abbrev pub signed_bytes_in : SignedSize → ℕ
-signed_bytes_in signed.Byte = 1
-signed_bytes_in signed.Half = 2
-signed_bytes_in signed.Word = 4
 
 -- the register that an operand reads; None for an immediate
 abbrev pub register_of : Operand → Option Reg
@@ -38,26 +22,14 @@ register_of (operand.Reg r) = Some r
 abbrev pub nothing : Attributes
 nothing = record { number = None; operand = None; copied = None; moved = None; access = None; written = None }
 
--- dst gets what src holds, a place too
-abbrev pub copies : Reg → Reg → Attributes
-copies src dst = record nothing { copied = Some src; written = Some dst }
-
--- dst is moved by z bytes if it holds a place, and stays a number if it holds one
-abbrev pub moves : ℤ → Reg → Attributes
-moves z dst = record nothing { moved = Some (dst, z); written = Some dst }
-
 -- dst gets a number; the registers that it is made of, where there are some, are read as numbers
 abbrev pub computes : Option Reg → Option Reg → Reg → Attributes
 computes number o dst = record nothing { number = number; operand = o; written = Some dst }
 
--- a and the operand's register, if it has one, are read as numbers, and no register is written
-abbrev pub compares : Reg → Option Reg → Attributes
-compares a o = record nothing { number = Some a; operand = o }
-
--- dst gets n bytes as a number; they begin `offset` bytes from the place in base
+-- dst gets n bytes as a number; they begin `at` bytes from the place in base
 abbrev pub loads : ℕ → Reg → Reg → ℤ → Attributes
-loads n dst base offset =
-    record nothing { written = Some dst; access = Some (record { base = base; offset = offset; bytes = n; stores = false }) }
+loads n dst base at =
+    record nothing { written = Some dst; access = Some (record { base = base; offset = at; bytes = n; stores = false }) }
 
 -- n bytes are written `offset` bytes from the place in base; o is the register that is stored, None for an immediate
 abbrev pub stores : ℕ → Reg → ℤ → Option Reg → Attributes
@@ -66,8 +38,8 @@ stores n base offset o =
 
 -- arithmetic writes dst; by its form it copies a register, moves dst, or computes a number
 abbrev pub alu_attributes : Form → Reg → Operand → Attributes
-alu_attributes (Copies src) dst o = copies src dst
-alu_attributes (Moves z) dst o = moves z dst
+alu_attributes (Copies src) dst o = record nothing { copied = Some src; written = Some dst }
+alu_attributes (Moves z) dst o = record nothing { moved = Some (dst, z); written = Some dst }
 alu_attributes Sets dst o = computes None (register_of o) dst
 alu_attributes Computes dst o = computes (Some dst) (register_of o) dst
 
@@ -79,11 +51,11 @@ attributes_of (Neg width dst) = computes None (Some dst) dst
 attributes_of (End order bits dst) = computes None (Some dst) dst
 attributes_of (Jump offset) = nothing
 attributes_of (JumpLong distance) = nothing
-attributes_of (JumpIf condition width dst o offset) = compares dst (register_of o)
+attributes_of (JumpIf condition width dst o offset) = record nothing { number = Some dst; operand = register_of o }
 attributes_of (Call helper) = nothing
 attributes_of Exit = nothing
 attributes_of (Load size dst src offset) = loads (bytes_in size) dst src offset
-attributes_of (LoadSx size dst src offset) = loads (signed_bytes_in size) dst src offset
+attributes_of (LoadSx size dst src offset) = loads (bytes_in (loaded size)) dst src offset
 attributes_of (StoreReg size dst src offset) = stores (bytes_in size) dst offset (Some src)
 attributes_of (StoreImm size dst offset imm) = stores (bytes_in size) dst offset None
 attributes_of (Wide dst value) = computes None None dst

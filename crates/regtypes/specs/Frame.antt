@@ -1,5 +1,5 @@
 -- What is known of the eleven registers and of the message's length, and its order.
-use Rattle.std.specs.Prelude.{◌≡◌, ◌≤◌, ℕ, Bool, true, false, List, [], ◌∷◌, pos, slice_index_or}
+use Rattle.std.specs.Prelude.{◌≡◌, ◌≤◌, ℕ, Bool, true, false, List, [], ◌∷◌, ◌++◌, replicate, pos, slice_index_or}
 use Rattle.regtypes.specs.declared.image_form.ImageForm.{ImageForm}
 use Rattle.regtypes.specs.declared.image_form.ImageForm.TheVariants.{Sbi1, Sbi2}
 use Rattle.regtypes.specs.declared.frame.Region.TheVariants.{Message, State, Stack}
@@ -25,7 +25,7 @@ is_num k = false
 -- r1 is the message, r2 the state, r10 the end of the stack; of r3 this is known, and nothing else is set
 abbrev pub entry_kinds : Kind → List Kind
 entry_kinds third =
-    Unset ∷ Place Message (pos 0) ∷ Place State (pos 0) ∷ third ∷ Unset ∷ Unset ∷ Unset ∷ Unset ∷ Unset ∷ Unset ∷ Place Stack (pos 512) ∷ []
+    Unset ∷ Place Message (pos 0) ∷ Place State (pos 0) ∷ third ∷ replicate 6 Unset ++ Place Stack (pos 512) ∷ []
 
 -- in form 1 the message has 64 bytes; in form 2 it may have none, and r3 is how many it has
 abbrev pub entry_frame : ImageForm → Frame
@@ -39,17 +39,7 @@ LeqKind a Num = is_num a ≡ true
 LeqKind a Len = a ≡ Len
 LeqKind a (Place r k) = a ≡ Place r k
 
--- what the second list says of each register, the first says too
-abbrev pub LeqKinds : List Kind → List Kind → Type 0
-LeqKinds f g = (r : ℕ) → LeqKind (kind_at f r) (kind_at g r)
-
 -- what the second frame says, the first says too: of each register, and how long the message is at least
 pub record Leq (f g : Frame) : Type 0 where
-  pub kinds : LeqKinds f.kinds g.kinds
+  pub kinds : (r : ℕ) → LeqKind (kind_at f.kinds r) (kind_at g.kinds r)
   pub low : g.low ≤ f.low
-
--- what two kinds both say
-pub record IsJoin (a b k : Kind) : Type 0 where
-  pub first : LeqKind a k
-  pub second : LeqKind b k
-  pub least : (x : Kind) → LeqKind a x → LeqKind b x → LeqKind k x

@@ -5,3 +5,4 @@ pub mod Attributes
 pub mod Rules
 pub mod Leaving
 pub mod Typing
+pub mod Inside

@@ -1,5 +1,5 @@
 -- When code is typable.
-use Rattle.std.specs.Prelude.{◌≡◌, ℕ, ◌+◌, ◌≤◌, List, [], ◌∷◌, Option, Some, None, ℤ, pos, negsuc, ◌+ℤ◌, Bool, false, nat_lt, ◌&&◌, not, slice_get, length, unwrap_or, is_some}
+use Rattle.std.specs.Prelude.{◌≡◌, ℕ, ◌+◌, ◌<◌, ◌≤◌, List, [], ◌∷◌, ◌++◌, Option, Some, None, ℤ, pos, negsuc, ◌+ℤ◌, Bool, false, nat_lt, ◌&&◌, not, slice_get, length, unwrap_or, is_some}
 use Rattle.std.specs.List.{AllByRecursion}
 use Rattle.decode.specs.declared.insn.Insn.{Insn}
 use Rattle.decode.specs.Slots.{insn_at}
@@ -26,19 +26,9 @@ flow_tests slots s (Forks d) =
     (not (is_target slots s (pos (s + 1) +ℤ d)), V1) ∷ (not (nat_lt (s + 1) (length slots)), V2) ∷ []
 flow_tests slots s (Falls n) = (not (nat_lt (s + n) (length slots)), V2) ∷ []
 
--- the tests of V1 and V2 for an instruction at slot s, which need no frame
-abbrev pub jump_tests : List (Option Insn) → ℕ → Insn → Tests
-jump_tests slots s i = flow_tests slots s (flow_of i)
-
--- the first rule if there is one, else the second; None where neither is broken
-abbrev pub or_else : Option Rule → Option Rule → Option Rule
-or_else None o = o
-or_else (Some r) o = Some r
-
--- the least rule that an instruction breaks at a slot under a frame
+-- the least rule that an instruction breaks at a slot under a frame; V1 and V2 need no frame
 abbrev pub broken : ImageForm → List (Option Insn) → ℕ → ℕ → Insn → Frame → Option Rule
-broken form slots len s i f =
-    or_else (first_broken (jump_tests slots s i)) (first_broken (tests_of form len i f))
+broken form slots len s i f = first_broken (flow_tests slots s (flow_of i) ++ tests_of form len i f)
 
 -- a frame for each slot, or none
 abbrev pub Table : Type 0
@@ -52,15 +42,17 @@ frame_at table s = unwrap_or (slice_get table s) None
 abbrev pub Enters : Table → ℤ × Frame → Type 0
 Enters table e = (t : ℕ) × (g : Frame) × (e.0 ≡ pos t) × (frame_at table t ≡ Some g) × Leq e.1 g
 
--- the table is a typing: what enters a slot fits its frame, and no rule is broken under a frame
-pub record IsTyping (form : ImageForm) (slots : List (Option Insn)) (len : ℕ) (table : Table) : Type 0 where
+-- what enters a slot fits its frame, and below slot n no rule is broken under a frame
+pub record TypesBelow (form : ImageForm) (slots : List (Option Insn)) (len n : ℕ) (table : Table) : Type 0 where
   pub start : Enters table (pos 0, entry_frame form)
   pub whole : (s : ℕ) (g : Frame) → frame_at table s ≡ Some g → length g.kinds ≡ 11
   pub short : (s : ℕ) (g : Frame) → frame_at table s ≡ Some g → g.low ≤ 256
   pub begins : (s : ℕ) (g : Frame) → frame_at table s ≡ Some g → (i : Insn) × (insn_at slots s ≡ Some i)
-  pub keeps : (s : ℕ) (g : Frame) (i : Insn) → frame_at table s ≡ Some g → insn_at slots s ≡ Some i → broken form slots len s i g ≡ None
-  pub leads : (s : ℕ) (g : Frame) (i : Insn) → frame_at table s ≡ Some g → insn_at slots s ≡ Some i → AllByRecursion (Enters table) (exits s i g)
+  pub keeps : (s : ℕ) (g : Frame) (i : Insn) → s < n → frame_at table s ≡ Some g → insn_at slots s ≡ Some i
+      → broken form slots len s i g ≡ None
+  pub leads : (s : ℕ) (g : Frame) (i : Insn) → s < n → frame_at table s ≡ Some g → insn_at slots s ≡ Some i
+      → AllByRecursion (Enters table) (exits s i g)
 
--- the slot has a frame
-abbrev pub IsReached : Table → ℕ → Type 0
-IsReached table s = (g : Frame) × (frame_at table s ≡ Some g)
+-- the table is a typing of the code
+abbrev pub IsTyping : ImageForm → List (Option Insn) → ℕ → Table → Type 0
+IsTyping form slots len table = TypesBelow form slots len (length slots) table

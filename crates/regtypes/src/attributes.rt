@@ -1,7 +1,8 @@
 //! What an instruction reads, writes and reaches.
 
 ghost use Rattle.std.specs.Prelude.{◌≡◌, ◌≤◌};
-ghost use Rattle.regtypes.specs.Attributes.{bytes_in, signed_bytes_in, register_of, computes, loads, stores, alu_attributes, attributes_of};
+ghost use Rattle.decode.specs.Encoding.{bytes_in, loaded};
+ghost use Rattle.regtypes.specs.Attributes.{register_of, computes, loads, stores, alu_attributes, attributes_of};
 
 use crate::form::{Form, form_from};
 use decode::{Insn, Operand, Reg, SignedSize, Size};
@@ -47,7 +48,7 @@ pub fn bytes_in(size: Size) -> u8
 
 /// How many bytes a load of this size reaches.
 pub fn signed_bytes_in(size: SignedSize) -> u8
-    ensures value { result ≡ signed_bytes_in size }
+    ensures value { result ≡ bytes_in (loaded size) }
     ensures bound { result ≤ 8 }
 {
     match size {

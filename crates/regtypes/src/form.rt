@@ -1,7 +1,7 @@
 //! What arithmetic does to what is known of its destination.
 
 ghost use Rattle.std.specs.Prelude.{◌≡◌};
-ghost use Rattle.regtypes.specs.Form.{move_form, sum_form, difference_form, form_of};
+ghost use Rattle.regtypes.specs.Form.{form_of};
 
 use decode::{AluOp, Operand, Reg, Width};
 
@@ -18,41 +18,15 @@ pub enum Form {
     Computes,
 }
 
-fn move_form(width: Width, operand: Operand) -> Form
-    ensures { result ≡ move_form width operand }
-{
-    match (width, operand) {
-        (Width::W64, Operand::Reg(src)) => Form::Copies(src),
-        _ => Form::Sets,
-    }
-}
-
-fn sum_form(width: Width, operand: Operand) -> Form
-    ensures { result ≡ sum_form width operand }
-{
-    match (width, operand) {
-        (Width::W64, Operand::Imm(n)) => Form::Moves(i64::from(n)),
-        _ => Form::Computes,
-    }
-}
-
-fn difference_form(width: Width, operand: Operand) -> Form
-    ensures { result ≡ difference_form width operand }
-{
-    match (width, operand) {
-        (Width::W64, Operand::Imm(n)) => Form::Moves(-i64::from(n)),
-        _ => Form::Computes,
-    }
-}
-
 /// The form of an operation.
 pub fn form_from(op: AluOp, width: Width, operand: Operand) -> Form
     ensures { result ≡ form_of op width operand }
 {
-    match op {
-        AluOp::Mov => move_form(width, operand),
-        AluOp::Add => sum_form(width, operand),
-        AluOp::Sub => difference_form(width, operand),
+    match (op, width, operand) {
+        (AluOp::Mov, Width::W64, Operand::Reg(src)) => Form::Copies(src),
+        (AluOp::Mov, _, _) => Form::Sets,
+        (AluOp::Add, Width::W64, Operand::Imm(n)) => Form::Moves(i64::from(n)),
+        (AluOp::Sub, Width::W64, Operand::Imm(n)) => Form::Moves(-i64::from(n)),
         _ => Form::Computes,
     }
 }

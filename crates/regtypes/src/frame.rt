@@ -2,7 +2,8 @@
 
 ghost use Rattle.std.specs.Prelude.{◌≡◌, ◌↔◌, IsTrue};
 ghost use Rattle.regtypes.specs.declared.frame.Frame.{Frame};
-ghost use Rattle.regtypes.specs.Frame.{is_num, LeqKind, Leq, IsJoin};
+ghost use Rattle.regtypes.specs.Frame.{is_num, LeqKind, Leq};
+ghost use Rattle.regtypes.specs.Inside.Frame.{IsJoin};
 
 use crate::image_form::ImageForm;
 use decode::Reg;

@@ -1,8 +1,7 @@
 //! What the rules ask of a kind.
 
 ghost use Rattle.std.specs.Prelude.{◌≡◌, ◌≤◌, IsTrue};
-ghost use Rattle.regtypes.specs.Rules.{is_unset, is_len, is_place, is_in_message, is_message, is_sized, reaches, moves, is_payload, region_len};
-ghost use Rattle.regtypes.specs.Leaving.{moved};
+ghost use Rattle.regtypes.specs.Rules.{is_unset, is_len, is_place, is_in_message, is_message, is_sized, has_bytes, moved, is_near, region_len};
 
 use crate::frame::{Kind, Region, is_num};
 
@@ -49,20 +48,20 @@ fn region_len(region: Region, low: u16, state_len: u16) -> usize
 
 /// Whether some bytes at a place and an offset lie in its region.
 pub fn reaches(kind: Kind, offset: i16, bytes: u8, low: u16, state_len: u16) -> bool
-    ensures { result ≡ reaches low state_len bytes offset kind }
+    ensures { result ≡ has_bytes low state_len bytes (moved offset kind) }
 {
     match kind {
         Kind::Place(region, at) => {
             let from = i32::from(at) + i32::from(offset);
             from >= 0 && from as usize + bytes as usize <= region_len(region, low, state_len)
         }
-        _ => true,
+        _ => false,
     }
 }
 
 /// Whether this many bytes at a place lie in its region.
-pub fn is_payload(kind: Kind, bytes: u16, low: u16, state_len: u16) -> bool
-    ensures { result ≡ is_payload low state_len bytes kind }
+pub fn has_bytes(kind: Kind, bytes: u16, low: u16, state_len: u16) -> bool
+    ensures { result ≡ has_bytes low state_len bytes kind }
 {
     match kind {
         Kind::Place(region, at) => {
@@ -77,13 +76,12 @@ pub fn is_payload(kind: Kind, bytes: u16, low: u16, state_len: u16) -> bool
 pub fn is_sized(place: Kind, count: Kind, low: u16, state_len: u16) -> bool
     ensures { result ≡ is_sized low state_len place count }
 {
-    is_num(count)
-        && (is_payload(place, 256, low, state_len) || (is_message(place) && is_len(count)))
+    is_num(count) && (has_bytes(place, 256, low, state_len) || (is_message(place) && is_len(count)))
 }
 
 /// Whether a place that is moved stays one that a frame can name.
 pub fn moves(kind: Kind, by: i64) -> bool
-    ensures { result ≡ moves by kind }
+    ensures { result ≡ is_near (moved by kind) }
 {
     match kind {
         Kind::Place(_, at) => {
@@ -96,7 +94,7 @@ pub fn moves(kind: Kind, by: i64) -> bool
 
 /// The kind after a number is added.
 pub fn moved(kind: Kind, by: i64) -> Kind
-    requires { IsTrue (moves by kind) }
+    requires { IsTrue (is_near (moved by kind)) }
     ensures { result ≡ moved by kind }
 {
     match kind {

@@ -1,10 +1,11 @@
 //! What is known behind an instruction, on each of its two ways.
 
-ghost use Rattle.std.specs.Prelude.{◌≡◌, ℤ, true, false, Some, None, MatchResult, IfOk};
+ghost use Rattle.std.specs.Prelude.{◌≡◌, ℤ, ◌∷◌, drop, true, false, Some, None, MatchResult, IfOk};
+ghost use Rattle.regtypes.specs.declared.frame.Kind.TheVariants as kind;
 ghost use Rattle.regtypes.specs.Frame.{kind_at};
 ghost use Rattle.regtypes.specs.Attributes.{attributes_of};
-ghost use Rattle.regtypes.specs.Rules.{moves_out, moves, first_broken, tests_by};
-ghost use Rattle.regtypes.specs.Leaving.{after, given, after_helper, least_met, least_unmet, raised, next, taken, Leaves};
+ghost use Rattle.regtypes.specs.Rules.{moves_out, first_broken, tests_by};
+ghost use Rattle.regtypes.specs.Leaving.{after, given, least_shown, raised, next, taken, Leaves};
 
 use crate::attributes::{Attributes, attributes_from};
 use crate::frame::{Frame, Kind};
@@ -40,7 +41,7 @@ fn given(frame: &Frame, what: &Attributes) -> Kind
 
 /// What a helper leaves.
 fn after_helper(frame: &Frame) -> Frame
-    ensures { result ≡ record frame.now { kinds = after_helper frame.now.kinds } }
+    ensures { result ≡ record frame.now { kinds = kind.Num ∷ kind.Unset ∷ kind.Unset ∷ kind.Unset ∷ kind.Unset ∷ kind.Unset ∷ drop 6 frame.now.kinds } }
 {
     let mut kinds = frame.kinds;
     kinds[0] = Kind::Num;
@@ -71,7 +72,7 @@ fn after(insn: &Insn, what: &Attributes, frame: &Frame) -> Frame
 }
 
 fn least_met(condition: Condition, c: i32) -> Option<i64>
-    ensures { result ≡ least_met condition c }
+    ensures { result ≡ least_shown true condition c }
 {
     match condition {
         Condition::Equal => Some(i64::from(c)),
@@ -82,7 +83,7 @@ fn least_met(condition: Condition, c: i32) -> Option<i64>
 }
 
 fn least_unmet(condition: Condition, c: i32) -> Option<i64>
-    ensures { result ≡ least_unmet condition c }
+    ensures { result ≡ least_shown false condition c }
 {
     match condition {
         Condition::NotEqual => Some(i64::from(c)),
@@ -110,8 +111,8 @@ fn raised(low: u16, least: Option<i64>) -> u16
 
 /// What a comparison of the message's length with a number leaves.
 fn compared(condition: Condition, c: i32, frame: &Frame) -> Leaving
-    ensures next { result.next ≡ record frame.now { low = raised frame.now.low (least_unmet condition c) } }
-    ensures taken { result.taken ≡ record frame.now { low = raised frame.now.low (least_met condition c) } }
+    ensures next { result.next ≡ record frame.now { low = raised frame.now.low (least_shown false condition c) } }
+    ensures taken { result.taken ≡ record frame.now { low = raised frame.now.low (least_shown true condition c) } }
 {
     Leaving {
         next: Frame {

@@ -36,6 +36,3 @@ pub use image_form::ImageForm;
 pub use laws::rules_are_monotone;
 pub use leaving::{Leaving, transfer};
 pub use rule::Rule;
-
-#[cfg(test)]
-mod tests;

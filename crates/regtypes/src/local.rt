@@ -1,12 +1,16 @@
 //! The rules of one instruction under a frame.
 
-ghost use Rattle.std.specs.Prelude.{◌≡◌, false};
-ghost use Rattle.regtypes.specs.Rules.{reads_unset, writes_frame_pointer, mixes, reaches_out, moves_out, stores_in_message, is_unknown, misgives, ends_without, has, base_of, moved_of, is_unset, is_place, has_number_as_base};
+ghost use Rattle.std.specs.Prelude.{◌≡◌, false, ◌||◌, ◌&&◌, not, is_none, [], ◌∷◌};
+ghost use Rattle.std.specs.Option.{option_map_or, option_and_then};
+ghost use Rattle.std.specs.List.{list_any, list_all};
+ghost use Rattle.regtypes.specs.declared.attributes.Access.{Access};
+ghost use Rattle.regtypes.specs.Frame.{is_num, kind_at};
+ghost use Rattle.regtypes.specs.Rules.{has, base_of, moved_of, is_unset, is_place, is_in_message, is_frame_pointer, reaches_out, moves_out, called, arguments_of, takes, ends_without};
 
 use crate::attributes::{Access, Attributes};
 use crate::frame::{Frame, is_num};
 use crate::image_form::ImageForm;
-use crate::kinds::{is_in_message, is_payload, is_place, is_sized, is_unset, moves, reaches};
+use crate::kinds::{has_bytes, is_in_message, is_place, is_sized, is_unset, moves, reaches};
 use decode::{Insn, Reg};
 
 fn holds_nothing(frame: &Frame, reg: Option<Reg>) -> bool
@@ -47,7 +51,7 @@ fn shifted(moved: Option<(Reg, i64)>) -> Option<Reg>
 
 /// V3: whether a register that is not set is read.
 pub fn reads_unset(frame: &Frame, what: &Attributes) -> bool
-    ensures { result ≡ reads_unset frame.now.kinds what.now }
+    ensures { result ≡ list_any (has is_unset frame.now.kinds) (what.now.number ∷ what.now.operand ∷ what.now.copied ∷ base_of what.now.access ∷ moved_of what.now.moved ∷ []) }
 {
     holds_nothing(frame, what.number)
         || (holds_nothing(frame, what.operand)
@@ -58,7 +62,7 @@ pub fn reads_unset(frame: &Frame, what: &Attributes) -> bool
 
 /// V4: whether r10 is written.
 pub fn writes_frame_pointer(written: Option<Reg>) -> bool
-    ensures { result ≡ writes_frame_pointer written }
+    ensures { result ≡ option_map_or is_frame_pointer written false }
 {
     match written {
         None => false,
@@ -67,7 +71,7 @@ pub fn writes_frame_pointer(written: Option<Reg>) -> bool
 }
 
 fn has_number_as_base(frame: &Frame, access: Option<Access>) -> bool
-    ensures { result ≡ has_number_as_base frame.now.kinds access }
+    ensures { result ≡ has is_num frame.now.kinds (base_of access) }
 {
     match access {
         None => false,
@@ -77,7 +81,7 @@ fn has_number_as_base(frame: &Frame, access: Option<Access>) -> bool
 
 /// V5: whether a place is read where a number is wanted, or a number is a base.
 pub fn mixes(frame: &Frame, what: &Attributes) -> bool
-    ensures { result ≡ mixes frame.now.kinds what.now }
+    ensures { result ≡ (has is_place frame.now.kinds what.now.number || (has is_place frame.now.kinds what.now.operand || has is_num frame.now.kinds (base_of what.now.access))) }
 {
     holds_place(frame, what.number)
         || (holds_place(frame, what.operand) || has_number_as_base(frame, what.access))
@@ -111,7 +115,7 @@ pub fn moves_out(frame: &Frame, moved: Option<(Reg, i64)>) -> bool
 
 /// V7: whether the message is written.
 pub fn stores_in_message(frame: &Frame, access: Option<Access>) -> bool
-    ensures { result ≡ stores_in_message frame.now.kinds access }
+    ensures { result ≡ option_map_or (λ (x : Access). x.stores && is_in_message (kind_at frame.now.kinds x.base.number)) access false }
 {
     match access {
         None => false,
@@ -121,7 +125,7 @@ pub fn stores_in_message(frame: &Frame, access: Option<Access>) -> bool
 
 /// V8: whether no helper has this number.
 pub fn is_unknown(form: ImageForm, insn: &Insn) -> bool
-    ensures { result ≡ is_unknown form insn.now }
+    ensures { result ≡ option_map_or (λ h. is_none (arguments_of form h)) (called insn.now) false }
 {
     match *insn {
         Insn::Call { helper } => match (form, helper) {
@@ -135,14 +139,14 @@ pub fn is_unknown(form: ImageForm, insn: &Insn) -> bool
 
 /// V9: whether a helper's argument isn't what it takes.
 pub fn misgives(form: ImageForm, insn: &Insn, frame: &Frame, state_len: u16) -> bool
-    ensures { result ≡ misgives form state_len insn.now frame.now }
+    ensures { result ≡ option_map_or (λ xs. not (list_all (takes state_len frame.now) xs)) (option_and_then (arguments_of form) (called insn.now)) false }
 {
     let kinds = &frame.kinds;
     let low = frame.low;
     match *insn {
         Insn::Call { helper } => match (form, helper) {
-            (_, 1) => !(is_num(kinds[1]) && is_payload(kinds[2], 64, low, state_len)),
-            (_, 2) => !is_payload(kinds[1], 64, low, state_len),
+            (_, 1) => !(is_num(kinds[1]) && has_bytes(kinds[2], 64, low, state_len)),
+            (_, 2) => !has_bytes(kinds[1], 64, low, state_len),
             (ImageForm::Sbi2, 5) => {
                 !(is_num(kinds[1]) && is_sized(kinds[2], kinds[3], low, state_len))
             }

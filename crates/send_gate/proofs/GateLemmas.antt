@@ -7,7 +7,8 @@ use Rattle.std.proofs.lemmas.List.{get_or-set_same, get_or-set_other}
 use Rattle.std.proofs.lemmas.List.Elements.{All-head, All-tail, All-push, All-nil, All-take}
 use Rattle.std.proofs.lemmas.List.Sums.{sum_by-cons}
 use Rattle.send_gate.specs.declared.gate.Held.{Held}
-use Rattle.send_gate.specs.Gate.{TheGate, count_to, InOrder, WithinLimit, Releases, ReleasesNext}
+use Rattle.send_gate.specs.Gate.{TheGate, count_to, InOrder, WithinLimit, Releases}
+use Rattle.send_gate.specs.Inside.Gate.{ReleasesNext}
 
 pub InOrder-push : (hs : List Held) (h : Held) → InOrder hs → All (λ (g : Held). g.rsn ≤ h.rsn) hs → h.dst < 16 → InOrder (hs ++ h ∷ [])
 InOrder-push [] h order below small = (small, All-nil _, tt)

@@ -39,7 +39,8 @@ impl Model for Gate {
 }
 
 impl Gate {
-    ghost use Rattle.send_gate.specs.Gate.{TheGate, count_to, Releases, ReleasesNext};
+    ghost use Rattle.send_gate.specs.Gate.{TheGate, count_to, Releases};
+    ghost use Rattle.send_gate.specs.Inside.Gate.{ReleasesNext};
 
     /// Nothing held and nothing released.
     pub fn new(alloc: Global) -> Gate

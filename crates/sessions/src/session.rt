@@ -226,9 +226,9 @@ impl<L: Ledger> Session<L> {
     }
 
     /// Puts a logged and released message on the wire, and answers the packet's key. 0 is the
-    /// outside. It refuses, in this order, a number above those of the processes, a receiver that
-    /// is the sender, a message that isn't released, one that isn't logged, a full journal, a full
-    /// wire, and want of memory.
+    /// outside. It refuses, in this order, a number above those of the processes, a sender that
+    /// isn't up, a receiver that is the sender, a message that isn't released, one that isn't
+    /// logged, a full journal, a full wire, and want of memory.
     pub fn transmit(
         &mut self,
         by: &mut Seat<L>,

@@ -10,12 +10,17 @@ use Rattle.world.specs.World.{World, put}
 use Rattle.world.specs.Logs.{payloads, sent, length_in}
 use Rattle.theorems.specs.Growth.{Begins}
 use Rattle.theorems.specs.Invariants.Secured.{Safe, Covers}
-use Rattle.theorems.specs.Invariants.Exact.{Told, JobSafe, IsRecorded, PacketTrue, is_restored, is_alone, Exact}
+use Rattle.theorems.specs.Invariants.Exact.{JobSafe, IsRecorded, PacketTrue, is_restored, is_alone, Exact}
 use Rattle.theorems.specs.Invariants.Sound.{JobNext, Replays, IsPast, PacketShape, is_recovering, Sound}
 use Rattle.theorems.proofs.Changes.{choose}
 use Rattle.theorems.proofs.ListLemmas.{begins-self, begins-length}
 use Rattle.theorems.proofs.LogLemmas.{payloads-prefix}
 use Rattle.theorems.proofs.SecuredLemmas.{Carries, safe, job-safe, Grown, carries-grown, covers}
+
+-- p's log has the numbers of all its messages that q received after its checkpoint
+abbrev pub Told : World → ℕ → ℕ → Type 0
+Told w p q = (m : ℕ) (x : Message) → w.saved q < m → nth (w.history q) m ≡ Some x → x.sender ≡ p
+    → w.numbers p q x.ssn ≡ Some m
 
 pub put-wire : (P : Option Packet → Type 0) (wire : ℕ → Option Packet) (key : ℕ) (x : Option Packet) → ((j : ℕ) → P (wire j)) → P x → (j : ℕ) → P (put wire key x j)
 put-wire P wire key x all now = choose key (λ j b. P (if b then x else wire j)) now (λ j _. all j)

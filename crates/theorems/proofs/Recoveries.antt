@@ -12,7 +12,7 @@ use Rattle.world.specs.Plan.{chosen, gather}
 use Rattle.world.specs.Calls.{phase_with, released_with, ready, peers, keep, recover, up_to}
 use Rattle.theorems.specs.Kept.{IsEntry, Held}
 use Rattle.theorems.specs.Invariants.Secured.{Secured, Safe, Covers}
-use Rattle.theorems.specs.Invariants.Exact.{Told, JobSafe, IsRecorded, Names, PacketTrue, is_restored, is_alone, Exact}
+use Rattle.theorems.specs.Invariants.Exact.{JobSafe, IsRecorded, Names, PacketTrue, is_restored, is_alone, Exact}
 use Rattle.theorems.specs.Invariants.Sound.{JobNext, IsNext, Replays, IsPast, is_recovering, Sound}
 use Rattle.theorems.proofs.Changes.{choose, elsewhere, at-itself}
 use Rattle.theorems.proofs.Tests.{at_most, is_at_most}
@@ -20,7 +20,7 @@ use Rattle.theorems.proofs.ListLemmas.{take-take, take-length, get-take, nth-tak
 use Rattle.theorems.proofs.HistoryLemmas.{Ordered}
 use Rattle.theorems.proofs.PhaseLemmas.{up-down, with-down, with-alone, with-next, with-safe, with-replays, with-restored}
 use Rattle.theorems.proofs.SecuredLemmas.{Carries, safe, job-safe, covers, covers-all}
-use Rattle.theorems.proofs.Frames.{shape-by, true-by, sound-released, exact-released}
+use Rattle.theorems.proofs.Frames.{Told, shape-by, true-by, sound-released, exact-released}
 use Rattle.theorems.proofs.Replays.{told-others}
 use Rattle.theorems.proofs.PlanLemmas.{chosen-none, plan-is, gather-ordered, gather-begins}
 

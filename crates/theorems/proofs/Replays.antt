@@ -7,13 +7,13 @@ use Rattle.world.specs.World.{World, put}
 use Rattle.world.specs.Logs.{sent_in_all}
 use Rattle.world.specs.Calls.{phase_with, released_with, ready, peers, replay, replay_begin}
 use Rattle.theorems.specs.Invariants.Secured.{Covers}
-use Rattle.theorems.specs.Invariants.Exact.{Told, is_restored, Exact}
+use Rattle.theorems.specs.Invariants.Exact.{is_restored, Exact}
 use Rattle.theorems.specs.Invariants.Sound.{is_recovering, Sound}
 use Rattle.theorems.proofs.Changes.{at-itself}
 use Rattle.theorems.proofs.ListLemmas.{at-number}
 use Rattle.theorems.proofs.PhaseLemmas.{with-down, with-alone, with-next, with-safe, with-replays, with-length, with-restored, recovering-down, recovering-idle, recovering-length}
 use Rattle.theorems.proofs.SecuredLemmas.{covers-all}
-use Rattle.theorems.proofs.Frames.{sound-wire, exact-wire, Moves, sound-phase, exact-phase, sound-released, exact-released}
+use Rattle.theorems.proofs.Frames.{Told, sound-wire, exact-wire, Moves, sound-phase, exact-phase, sound-released, exact-released}
 
 pub moves-ready : (w : World) (p : ℕ) (rs : List ℕ) → 0 < p → p ≤ w.count → is_recovering (w.phase p) ≡ true → Sound w → Moves w p (phase_with rs)
 moves-ready w p rs a b e s =

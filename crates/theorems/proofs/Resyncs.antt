@@ -9,14 +9,14 @@ use Rattle.world.specs.World.{World, put}
 use Rattle.world.specs.Logs.{is_entry}
 use Rattle.world.specs.Calls.{told, resync}
 use Rattle.theorems.specs.Kept.{IsEntry}
-use Rattle.theorems.specs.Invariants.Exact.{Told, IsRecorded, Names, is_restored, Exact}
+use Rattle.theorems.specs.Invariants.Exact.{IsRecorded, Names, is_restored, Exact}
 use Rattle.theorems.specs.Invariants.Sound.{Sound}
 use Rattle.theorems.proofs.Changes.{choose, at-itself}
 use Rattle.theorems.proofs.ListLemmas.{at-number, begins-self}
 use Rattle.theorems.proofs.HistoryLemmas.{placed, names-found}
 use Rattle.theorems.proofs.LogLemmas.{entry-test, entry-of}
 use Rattle.theorems.proofs.SecuredLemmas.{Carries, safe, job-safe, carries-grown, covers}
-use Rattle.theorems.proofs.Frames.{true-by, sound-beside}
+use Rattle.theorems.proofs.Frames.{Told, true-by, sound-beside}
 use Rattle.theorems.proofs.Replays.{sound-ready, exact-ready}
 
 abbrev pub renumbered : World → ℕ → ℕ → World

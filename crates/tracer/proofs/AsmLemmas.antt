@@ -1,12 +1,13 @@
 -- Why a source comes to no file.
-use Rattle.std.proofs.Common.{◌≡◌, ◌<◌, ◌∙◌, ◌⊎◌, ℕ, List, [], ◌∷◌, true, false, if◌then◌else◌, Bool, refl, sym, ap, subst, arith, inl, inr, map}
+use Rattle.std.proofs.Common.{◌≡◌, ◌<◌, ◌∙◌, ◌⊎◌, ℕ, List, [], ◌∷◌, refl, sym, ap, subst, arith, inl, inr, map}
 use Rattle.assemble.specs.Refusal.{AreLines}
 use Rattle.assemble.specs.Refusal as assembling
 use Rattle.assemble.specs.Text.{line_of, lines_of, spoken}
 use Rattle.assemble.specs.declared.fault.AsmError.{AsmError}
 use Rattle.assemble.specs.declared.fault.AsmError.TheVariants as text
-use Rattle.decode.specs.Slots.{is_wide, size_of, slots}
+use Rattle.decode.specs.Slots.{size_of, slots}
 use Rattle.decode.specs.declared.insn.Insn.{Insn}
+use Rattle.decode.specs.declared.insn.Insn.TheVariants as insn
 use Rattle.decode.proofs.SlotLemmas.{slots-cons}
 use Rattle.verifier.specs.ImageFile.{IsUnwritten}
 use Rattle.verifier.specs.declared.fault.ImageError.{ImageError}
@@ -22,11 +23,8 @@ text_refused source text.Memory f why is = subst (IsUnassembled source) (sym is)
 text_refused source (text.Fault rule line) f why is = subst (IsUnassembled source) (sym is) why
 
 some_slots : (i : Insn) → 0 < size_of i
-some_slots i = go (is_wide i)
-  where
-    go : (wide : Bool) → 0 < (if wide then 2 else 1)
-    go true = omega arith
-    go false = omega arith
+some_slots (insn.Wide dst value) = omega arith
+some_slots i = omega arith
 
 -- no slots are no instructions
 no_slots : (code : List Insn) → slots code ≡ 0 → code ≡ []

@@ -1,32 +1,23 @@
 -- The first 8,201 bytes of a file decide whether it is an image, and why not: an image has fewer.
-use Rattle.std.proofs.Common.{◌≡◌, ◌≤◌, ◌<◌, ◌∙◌, ◌⊎◌, ◌+◌, ℕ, Bool, true, false, List, ◌++◌, length, take, drop, nat_le, refl, sym, ap, subst, inl, inr, arith, append_assoc, length-append, take_all, length-take-le, take-append-drop}
-use Rattle.std.specs.Int.{w16, to_le_bytes}
+use Rattle.std.proofs.Common.{◌≡◌, ◌≤◌, ◌<◌, ◌∙◌, ◌⊎◌, ◌+◌, ℕ, Bool, true, false, List, [], ◌∷◌, ◌++◌, length, take, drop, nat_le, refl, sym, ap, subst, inl, inr, arith, length-append, take_all, length-take-le, take-append-drop}
 use Rattle.std.proofs.lemmas.Bool.{leb-true, leb-false}
 use Rattle.decode.specs.declared.insn.Insn.{Insn}
 use Rattle.decode.specs.Encoding.{encoding}
+use Rattle.decode.specs.First.{IsFirst}
 use Rattle.decode.proofs.SlotLemmas.{length_encoding}
 use Rattle.explain.specs.Listing.{IsExplained}
 use Rattle.regtypes.specs.declared.image_form.ImageForm.{ImageForm}
-use Rattle.verifier.specs.ImageFile.{BreaksFirst, HasHeader, IsFile, IsHeaderFault, IsRefusal, IsUnread, header_bytes, order}
+use Rattle.verifier.specs.ImageFile.{HasFault, IsFile, IsHeaderFault, IsRefusal, IsUnread, field_at}
 use Rattle.verifier.specs.declared.fault.HeaderFault.{HeaderFault}
+use Rattle.verifier.specs.declared.fault.HeaderFault.TheVariants.{Magic, StateLength, SlotCount, FileLength}
 use Rattle.verifier.specs.declared.fault.ImageError.{ImageError}
 use Rattle.verifier.specs.declared.fault.ImageError.TheVariants.{Memory, Header, Decode, Verify}
-use Rattle.verifier.specs.declared.header.FileHeader.{FileHeader}
-use Rattle.verifier.proofs.Files.{file_has, file_header}
-
-header_length : (h : FileHeader) (rest bytes : List ℕ) → HasHeader h rest bytes → length bytes ≡ 8 + length rest
-header_length h rest bytes has =
-    let fields = ap length has.fields in
-    let whole = length-append (header_bytes h) rest in
-    let front = length-append h.magic (to_le_bytes w16 h.state_len ++ to_le_bytes w16 h.slots) in
-    omega (arith, has.magic_len)
+use Rattle.verifier.proofs.Files.{file_has, file_header, fields_of}
 
 file_length : (form : ImageForm) (is : List Insn) (len : ℕ) (bytes : List ℕ) → IsFile form is len bytes → length bytes ≤ 8200
 file_length form is len bytes f =
-    let size = header_length (file_header form is len) (encoding is) bytes (file_has form is len bytes f) in
-    let code = length_encoding is in
-    let few = f.short in
-    omega arith
+    let k = fields_of (file_header form is len) (encoding is) bytes (file_has form is len bytes f) in
+    omega (arith, k.size, length_encoding is, f.short)
 
 -- all of a file is read, or more than an image has is left
 heads : (bytes : List ℕ) → (take 8201 bytes ≡ bytes) ⊎ (8201 < length bytes)
@@ -59,37 +50,60 @@ head_explained bytes text e = record {
   listed = e.listed;
 }
 
+-- eight bytes keep their fields when more follows
+same_fields : (xs more : List ℕ) → 8 ≤ length xs
+    → (take 4 (xs ++ more) ≡ take 4 xs) × (field_at 4 (xs ++ more) ≡ field_at 4 xs) × (field_at 6 (xs ++ more) ≡ field_at 6 xs)
+same_fields [] more l = absurd (omega arith)
+same_fields (a ∷ []) more l = absurd (omega arith)
+same_fields (a ∷ b ∷ []) more l = absurd (omega arith)
+same_fields (a ∷ b ∷ c ∷ []) more l = absurd (omega arith)
+same_fields (a ∷ b ∷ c ∷ d ∷ []) more l = absurd (omega arith)
+same_fields (a ∷ b ∷ c ∷ d ∷ e ∷ []) more l = absurd (omega arith)
+same_fields (a ∷ b ∷ c ∷ d ∷ e ∷ f ∷ []) more l = absurd (omega arith)
+same_fields (a ∷ b ∷ c ∷ d ∷ e ∷ f ∷ g ∷ []) more l = absurd (omega arith)
+same_fields (a ∷ b ∷ c ∷ d ∷ e ∷ f ∷ g ∷ h ∷ xs) more l = (refl, refl, refl)
+
 -- a header's fault stays when more follows
-still_broken : (fault : HeaderFault) (h : FileHeader) (rest more : List ℕ) → 8193 ≤ length rest
-    → BreaksFirst order fault h rest → BreaksFirst order fault h (rest ++ more)
-unfolding BreaksFirst
-still_broken fault h rest more long (inl magic) = inl magic
-still_broken fault h rest more long (inr (a, inl state)) = inr (a, inl state)
-still_broken fault h rest more long (inr (a, inr (b, inl count))) = inr (a, inr (b, inl count))
-still_broken fault h rest more long (inr (a, inr (b, inr (c, inl size)))) =
-    let whole = length-append rest more in
-    inr (a, inr (b, inr (c, inl (size.0, λ same. c (inr (omega (arith, same, whole, long)))))))
-still_broken fault h rest more long (inr (a, inr (b, inr (c, inr d)))) = absurd d.1
+still_broken : (fault : HeaderFault) (xs more : List ℕ) → length xs ≡ 8201 → IsHeaderFault xs fault → IsHeaderFault (xs ++ more) fault
+unfolding IsFirst
+still_broken fault xs more long (inl short) = absurd (omega (arith, short.1, long))
+still_broken fault xs more long (inr (a, later)) = inr ((λ s. omega (arith, s, long, length-append xs more)), go later)
+  where
+    same : (take 4 (xs ++ more) ≡ take 4 xs) × (field_at 4 (xs ++ more) ≡ field_at 4 xs) × (field_at 6 (xs ++ more) ≡ field_at 6 xs)
+    same = same_fields xs more (omega (arith, long))
+
+    no_magic : HasFault xs Magic → HasFault (xs ++ more) Magic
+    no_magic f = λ form e. f form (sym same.0 ∙ e)
+
+    magic_left : HasFault (xs ++ more) Magic → HasFault xs Magic
+    magic_left f = λ form e. f form (same.0 ∙ e)
+
+    count_more : HasFault xs SlotCount → HasFault (xs ++ more) SlotCount
+    count_more (inl n) = inl (same.2 ∙ n)
+    count_more (inr n) = inr (omega (arith, n, same.2))
+
+    count_left : HasFault (xs ++ more) SlotCount → HasFault xs SlotCount
+    count_left (inl n) = inl (sym same.2 ∙ n)
+    count_left (inr n) = inr (omega (arith, n, same.2))
+
+    go : IsFirst (HasFault xs) (Magic ∷ StateLength ∷ SlotCount ∷ FileLength ∷ []) fault → IsFirst (HasFault (xs ++ more)) (Magic ∷ StateLength ∷ SlotCount ∷ FileLength ∷ []) fault
+    go (inl magic) = inl (magic.0, no_magic magic.1)
+    go (inr (b, inl state)) = inr ((λ m. b (magic_left m)), inl (state.0, omega (arith, state.1, same.1)))
+    go (inr (b, inr (c, inl count))) = inr ((λ m. b (magic_left m)), inr ((λ s. c (omega (arith, s, same.1))), inl (count.0, count_more count.1)))
+    go (inr (b, inr (c, inr (d, inl size)))) =
+        let length_more : HasFault (xs ++ more) FileLength = λ e. d (inr (omega (arith, e, long, length-append xs more, same.2))) in
+        inr ((λ m. b (magic_left m)), inr ((λ s. c (omega (arith, s, same.1))), inr ((λ n. d (count_left n)), inl (size.0, length_more))))
+    go (inr (b, inr (c, inr (d, inr e)))) = absurd e.1
 
 head_header : (bytes : List ℕ) (fault : HeaderFault) → 8201 < length bytes → IsHeaderFault (take 8201 bytes) fault → IsHeaderFault bytes fault
-head_header bytes fault long (inl short) = absurd (omega (arith, short.1, cut bytes long))
-head_header bytes fault long (inr b) =
-    let size = header_length b.header b.rest (take 8201 bytes) b.has in
-    let whole : bytes ≡ header_bytes b.header ++ (b.rest ++ drop 8201 bytes) =
-    sym (take-append-drop 8201 bytes) ∙ ap (λ front. front ++ drop 8201 bytes) b.has.fields ∙ append_assoc (header_bytes b.header) b.rest (drop 8201 bytes) in
-    inr (record {
-      header = b.header;
-      rest = b.rest ++ drop 8201 bytes;
-      has = record { magic_len = b.has.magic_len; state_len = b.has.state_len; slots_len = b.has.slots_len; fields = whole };
-      broken = still_broken fault b.header b.rest (drop 8201 bytes) (omega (arith, size, cut bytes long)) b.broken;
-    })
+head_header bytes fault long broken =
+    subst (λ (b : List ℕ). IsHeaderFault b fault) (take-append-drop 8201 bytes) (still_broken fault (take 8201 bytes) (drop 8201 bytes) (cut bytes long) broken)
 
 head_unread_of : (bytes : List ℕ) (e : ImageError) → 8201 < length bytes → IsUnread (take 8201 bytes) e → IsUnread bytes e
 head_unread_of bytes Memory long why = tt
 head_unread_of bytes (Header fault) long why = head_header bytes fault long why
 head_unread_of bytes (Decode rule slot) long why =
-    let size = header_length why.header why.rest (take 8201 bytes) why.has in
-    absurd (omega (arith, size, cut bytes long, why.sound.size, why.sound.short))
+    absurd (why.0 FileLength (λ e. why.0 SlotCount (inr (omega (arith, e, cut bytes long)))))
 head_unread_of bytes (Verify rule slot) long why = absurd why
 
 pub head_unread : (bytes : List ℕ) (e : ImageError) → IsUnread (take 8201 bytes) e → IsUnread bytes e

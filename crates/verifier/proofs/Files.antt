@@ -1,5 +1,5 @@
 -- A file has one header, one code and one fault at most.
-use Rattle.std.proofs.Common.{◌≡◌, ℕ, ◌≤◌, List, [], ◌∷◌, ◌++◌, length, get_or, refl, sym, ap, subst, ◌∙◌, append_assoc, inl, inr, arith}
+use Rattle.std.proofs.Common.{◌≡◌, ◌≢◌, ◌⊎◌, ℕ, ◌+◌, ◌*◌, ◌<◌, ◌≤◌, List, [], ◌∷◌, ◌++◌, length, take, drop, get_or, refl, sym, ap, subst, ◌∙◌, append_assoc, inl, inr, arith}
 use Rattle.std.specs.Int.{w16, to_le_bytes, from_le_bytes}
 use Rattle.std.proofs.lemmas.Nat.{from_le_bytes-to_le_bytes_2}
 use Rattle.std.proofs.lemmas.List.{length-append}
@@ -8,7 +8,9 @@ use Rattle.decode.specs.declared.fault.Rule.{Rule}
 use Rattle.decode.specs.Slots.{slots, slots_of}
 use Rattle.std.specs.List.{AllByRecursion}
 use Rattle.decode.specs.Encoding.{Fits, encoding}
+use Rattle.decode.specs.First.{IsFirst}
 use Rattle.decode.specs.Refusal as decoding
+use Rattle.decode.proofs.Firsts as firsts
 use Rattle.decode.proofs.SlotLemmas.{length_encoding, length-slots_of}
 use Rattle.decode.proofs.Once.{encoding_once}
 use Rattle.decode.proofs.OneFault.{one_fault, no_fault}
@@ -23,43 +25,8 @@ use Rattle.verifier.specs.declared.fault.ImageError.TheVariants.{Memory, Header,
 use Rattle.verifier.specs.Typed.{Typed}
 use Rattle.verifier.specs.Verdict.{IsImageOf, IsFault}
 use Rattle.verifier.proofs.LeastTypings.{one_refusal}
-use Rattle.verifier.specs.ImageFile.{IsOneFileRefusal, magic, header_bytes, HasHeader, IsFile, Breaks, BreaksFirst, order, IsHeaderFault, IsSound, IsCodeFault}
-
--- ---- the first fault
-
-pub stops : (q : HeaderFault) (qs : List HeaderFault) (h : FileHeader) (rest : List ℕ) → Breaks q h rest → BreaksFirst (q ∷ qs) q h rest
-unfolding BreaksFirst
-stops q qs h rest broken = inl (refl, broken)
-
-pub passes : (q : HeaderFault) (qs : List HeaderFault) (fault : HeaderFault) (h : FileHeader) (rest : List ℕ) → (¬ Breaks q h rest) → BreaksFirst qs fault h rest → BreaksFirst (q ∷ qs) fault h rest
-unfolding BreaksFirst
-passes q qs fault h rest fine later = inr (fine, later)
-
-pub starts_broken : (fault : HeaderFault) (h : FileHeader) (rest bytes : List ℕ) → HasHeader h rest bytes → BreaksFirst order fault h rest → IsHeaderFault bytes fault
-starts_broken fault h rest bytes has broken = inr (record { header = h; rest = rest; has = has; broken = broken })
-
-one_of : (qs : List HeaderFault) (a b : HeaderFault) (h : FileHeader) (rest : List ℕ) → BreaksFirst qs a h rest → BreaksFirst qs b h rest → a ≡ b
-unfolding BreaksFirst
-one_of [] a b h rest x y = absurd x
-one_of (q ∷ qs) a b h rest (inl x) (inl y) = x.0 ∙ sym y.0
-one_of (q ∷ qs) a b h rest (inl x) (inr y) = absurd (y.0 x.1)
-one_of (q ∷ qs) a b h rest (inr x) (inl y) = absurd (x.0 y.1)
-one_of (q ∷ qs) a b h rest (inr x) (inr y) = one_of qs a b h rest x.1 y.1
-
--- a header without a fault has none of them
-sound_breaks : (form : ImageForm) (q : HeaderFault) (h : FileHeader) (rest : List ℕ) → IsSound form h rest → Breaks q h rest → ⊥
-sound_breaks form TooShort h rest s b = b
-sound_breaks form Magic h rest s b = b form s.magic_is
-sound_breaks form StateLength h rest s b = let k = s.state in omega arith
-sound_breaks form SlotCount h rest s (inl b) = let k = s.some in omega arith
-sound_breaks form SlotCount h rest s (inr b) = let k = s.short in omega arith
-sound_breaks form FileLength h rest s b = b s.size
-
-sound_first : (form : ImageForm) (qs : List HeaderFault) (fault : HeaderFault) (h : FileHeader) (rest : List ℕ) → IsSound form h rest → BreaksFirst qs fault h rest → ⊥
-unfolding BreaksFirst
-sound_first form [] fault h rest s b = b
-sound_first form (q ∷ qs) fault h rest s (inl b) = sound_breaks form q h rest s b.1
-sound_first form (q ∷ qs) fault h rest s (inr b) = sound_first form qs fault h rest s b.1
+use Rattle.verifier.specs.ImageFile.{IsOneFileRefusal, magic, IsFile, field_at, HasFault, IsHeaderFault, IsCodeFault}
+use Rattle.verifier.specs.Inside.Header.{header_bytes, HasHeader, IsSound}
 
 -- ---- the header
 
@@ -88,12 +55,96 @@ header_once g h a b bytes x y =
     let count : g.slots ≡ h.slots = sym (from_le_bytes-to_le_bytes_2 g.slots x.slots_len) ∙ ap (from_le_bytes w16) high ∙ from_le_bytes-to_le_bytes_2 h.slots y.slots_len in
     (λ i. record { magic = k.0 i; state_len = state i; slots = count i }, rest)
 
-header_size : (h : FileHeader) (rest bytes : List ℕ) → HasHeader h rest bytes → 8 ≤ length bytes
-header_size h rest bytes x =
-    let e = ap length x.fields in
-    let whole = length-append (header_bytes h) rest in
-    let front = length-append h.magic (to_le_bytes w16 h.state_len ++ to_le_bytes w16 h.slots) in
-    omega (arith, x.magic_len)
+-- ---- the fields of a header, by where they stand
+
+header_fields : (m : List ℕ) (len n : ℕ) (rest : List ℕ) → length m ≡ 4
+    → (take 4 ((m ++ (to_le_bytes w16 len ++ to_le_bytes w16 n)) ++ rest) ≡ m)
+    × (take 2 (drop 4 ((m ++ (to_le_bytes w16 len ++ to_le_bytes w16 n)) ++ rest)) ≡ to_le_bytes w16 len)
+    × (take 2 (drop 6 ((m ++ (to_le_bytes w16 len ++ to_le_bytes w16 n)) ++ rest)) ≡ to_le_bytes w16 n)
+    × (drop 8 ((m ++ (to_le_bytes w16 len ++ to_le_bytes w16 n)) ++ rest) ≡ rest)
+    × (length ((m ++ (to_le_bytes w16 len ++ to_le_bytes w16 n)) ++ rest) ≡ 8 + length rest)
+header_fields [] len n rest e = absurd (omega (arith, e))
+header_fields (a ∷ []) len n rest e = absurd (omega (arith, e))
+header_fields (a ∷ b ∷ []) len n rest e = absurd (omega (arith, e))
+header_fields (a ∷ b ∷ c ∷ []) len n rest e = absurd (omega (arith, e))
+header_fields (a ∷ b ∷ c ∷ d ∷ []) len n rest e = (refl, refl, refl, refl, omega arith)
+header_fields (a ∷ b ∷ c ∷ d ∷ x ∷ xs) len n rest e = absurd (omega (arith, e))
+
+pub record Fields (h : FileHeader) (rest bytes : List ℕ) : Type 0 where
+  pub magic : take 4 bytes ≡ h.magic
+  pub state : field_at 4 bytes ≡ h.state_len
+  pub count : field_at 6 bytes ≡ h.slots
+  pub code : drop 8 bytes ≡ rest
+  pub size : length bytes ≡ 8 + length rest
+
+pub fields_of : (h : FileHeader) (rest bytes : List ℕ) → HasHeader h rest bytes → Fields h rest bytes
+fields_of h rest bytes x =
+    let k = header_fields h.magic h.state_len h.slots rest x.magic_len in
+    record {
+      magic = ap (take 4) x.fields ∙ k.0;
+      state = ap (field_at 4) x.fields ∙ ap (from_le_bytes w16) k.1 ∙ from_le_bytes-to_le_bytes_2 h.state_len x.state_len;
+      count = ap (field_at 6) x.fields ∙ ap (from_le_bytes w16) k.2 ∙ from_le_bytes-to_le_bytes_2 h.slots x.slots_len;
+      code = ap (drop 8) x.fields ∙ k.3;
+      size = ap length x.fields ∙ k.4;
+    }
+
+-- ---- the first fault
+
+-- what each fault finds in a header and what follows it
+abbrev pub Breaks : HeaderFault → FileHeader → List ℕ → Type 0
+Breaks TooShort h rest = ⊥
+Breaks Magic h rest = (form : ImageForm) → h.magic ≢ magic form
+Breaks StateLength h rest = 1024 < h.state_len
+Breaks SlotCount h rest = (h.slots ≡ 0) ⊎ (1024 < h.slots)
+Breaks FileLength h rest = length rest ≢ 8 * h.slots
+
+of_fields : (q : HeaderFault) (h : FileHeader) (rest bytes : List ℕ) → Fields h rest bytes → Breaks q h rest → HasFault bytes q
+of_fields TooShort h rest bytes k b = absurd b
+of_fields Magic h rest bytes k b = λ form e. b form (sym k.magic ∙ e)
+of_fields StateLength h rest bytes k b = omega (arith, k.state, b)
+of_fields SlotCount h rest bytes k (inl b) = inl (k.count ∙ b)
+of_fields SlotCount h rest bytes k (inr b) = inr (omega (arith, k.count, b))
+of_fields FileLength h rest bytes k b = λ e. b (omega (arith, e, k.size, k.count))
+
+to_fields : (q : HeaderFault) (h : FileHeader) (rest bytes : List ℕ) → Fields h rest bytes → HasFault bytes q → Breaks q h rest
+to_fields TooShort h rest bytes k b = omega (arith, k.size, b)
+to_fields Magic h rest bytes k b = λ form e. b form (k.magic ∙ e)
+to_fields StateLength h rest bytes k b = omega (arith, k.state, b)
+to_fields SlotCount h rest bytes k (inl b) = inl (sym k.count ∙ b)
+to_fields SlotCount h rest bytes k (inr b) = inr (omega (arith, k.count, b))
+to_fields FileLength h rest bytes k b = λ e. b (omega (arith, e, k.size, k.count))
+
+pub too_short : (bytes : List ℕ) → length bytes < 8 → IsHeaderFault bytes TooShort
+too_short bytes short = firsts.stops (HasFault bytes) TooShort _ short
+
+pub stops : (q : HeaderFault) (qs : List HeaderFault) (h : FileHeader) (rest bytes : List ℕ) → HasHeader h rest bytes → Breaks q h rest → IsFirst (HasFault bytes) (q ∷ qs) q
+stops q qs h rest bytes has broken = firsts.stops (HasFault bytes) q qs (of_fields q h rest bytes (fields_of h rest bytes has) broken)
+
+pub passes : (q : HeaderFault) (qs : List HeaderFault) (fault : HeaderFault) (h : FileHeader) (rest bytes : List ℕ) → HasHeader h rest bytes → (¬ Breaks q h rest) → IsFirst (HasFault bytes) qs fault → IsFirst (HasFault bytes) (q ∷ qs) fault
+passes q qs fault h rest bytes has fine later =
+    firsts.passes q (HasFault bytes) qs fault (λ f. fine (to_fields q h rest bytes (fields_of h rest bytes has) f)) later
+
+pub starts_broken : (fault : HeaderFault) (h : FileHeader) (rest bytes : List ℕ) → HasHeader h rest bytes → IsFirst (HasFault bytes) (Magic ∷ StateLength ∷ SlotCount ∷ FileLength ∷ []) fault → IsHeaderFault bytes fault
+starts_broken fault h rest bytes has broken = passes TooShort _ fault h rest bytes has (λ b. b) broken
+
+-- a header without a fault has none of them
+sound_breaks : (form : ImageForm) (q : HeaderFault) (h : FileHeader) (rest : List ℕ) → IsSound form h rest → Breaks q h rest → ⊥
+sound_breaks form TooShort h rest s b = b
+sound_breaks form Magic h rest s b = b form s.magic_is
+sound_breaks form StateLength h rest s b = let k = s.state in omega arith
+sound_breaks form SlotCount h rest s (inl b) = let k = s.some in omega arith
+sound_breaks form SlotCount h rest s (inr b) = let k = s.short in omega arith
+sound_breaks form FileLength h rest s b = b s.size
+
+pub sound_has : (form : ImageForm) (h : FileHeader) (rest bytes : List ℕ) → HasHeader h rest bytes → IsSound form h rest → (q : HeaderFault) → ¬ HasFault bytes q
+sound_has form h rest bytes has s q b = sound_breaks form q h rest s (to_fields q h rest bytes (fields_of h rest bytes has) b)
+
+faultless : (bytes : List ℕ) (fault : HeaderFault) → ((q : HeaderFault) → ¬ HasFault bytes q) → IsHeaderFault bytes fault → ⊥
+faultless bytes fault none first = none fault (firsts.first_holds (HasFault bytes) _ fault first)
+
+pub code_fault : (form : ImageForm) (h : FileHeader) (rest bytes : List ℕ) (rule : Rule) (slot : ℕ) → HasHeader h rest bytes → IsSound form h rest → decoding.IsFault rest rule slot → IsCodeFault bytes rule slot
+code_fault form h rest bytes rule slot has s fault =
+    (sound_has form h rest bytes has s, subst (λ (r : List ℕ). decoding.IsFault r rule slot) (sym (fields_of h rest bytes has).code) fault)
 
 -- ---- the file
 
@@ -138,20 +189,13 @@ file_of form is h rest bytes has s fits e = record {
     same = λ i. record { magic = s.magic_is i; state_len = h.state_len; slots = count i }
 
 pub no_header_fault : (form : ImageForm) (is : List Insn) (len : ℕ) (bytes : List ℕ) (fault : HeaderFault) → IsFile form is len bytes → IsHeaderFault bytes fault → ⊥
-no_header_fault form is len bytes fault f (inl b) =
-    let k = header_size (file_header form is len) (encoding is) bytes (file_has form is len bytes f) in
-    let short = b.1 in
-    omega arith
-no_header_fault form is len bytes fault f (inr b) =
-    let k = header_once b.header (file_header form is len) b.rest (encoding is) bytes b.has (file_has form is len bytes f) in
-    let one = subst (λ (h : FileHeader). BreaksFirst order fault h b.rest) k.0 b.broken in
-    let two = subst (λ (r : List ℕ). BreaksFirst order fault (file_header form is len) r) k.1 one in
-    sound_first form order fault (file_header form is len) (encoding is) (file_sound form is len bytes f) two
+no_header_fault form is len bytes fault f b =
+    faultless bytes fault (sound_has form (file_header form is len) (encoding is) bytes (file_has form is len bytes f) (file_sound form is len bytes f)) b
 
 pub no_code_fault : (form : ImageForm) (is : List Insn) (len : ℕ) (bytes : List ℕ) (rule : Rule) (slot : ℕ) → IsFile form is len bytes → IsCodeFault bytes rule slot → ⊥
 no_code_fault form is len bytes rule slot f b =
-    let k = header_once b.header (file_header form is len) b.rest (encoding is) bytes b.has (file_has form is len bytes f) in
-    no_fault is rule slot f.fits (subst (λ (r : List ℕ). decoding.IsFault r rule slot) k.1 b.fault)
+    let k = fields_of (file_header form is len) (encoding is) bytes (file_has form is len bytes f) in
+    no_fault is rule slot f.fits (subst (λ (r : List ℕ). decoding.IsFault r rule slot) k.code b.1)
 
 magic_once : (form form' : ImageForm) → magic form ≡ magic form' → form ≡ form'
 magic_once Sbi1 Sbi1 e = refl
@@ -189,36 +233,13 @@ not_typable form form' is js m n bytes rule slot f g h t typing =
 -- ---- a refusal is the only one
 
 one_header_fault : (bytes : List ℕ) (a b : HeaderFault) → IsHeaderFault bytes a → IsHeaderFault bytes b → a ≡ b
-one_header_fault bytes a b (inl x) (inl y) = x.0 ∙ sym y.0
-one_header_fault bytes a b (inl x) (inr y) =
-    let k = header_size y.header y.rest bytes y.has in
-    let short = x.1 in
-    absurd (omega arith)
-one_header_fault bytes a b (inr x) (inl y) =
-    let k = header_size x.header x.rest bytes x.has in
-    let short = y.1 in
-    absurd (omega arith)
-one_header_fault bytes a b (inr x) (inr y) =
-    let k = header_once x.header y.header x.rest y.rest bytes x.has y.has in
-    let one = subst (λ (h : FileHeader). BreaksFirst order a h x.rest) k.0 x.broken in
-    let two = subst (λ (r : List ℕ). BreaksFirst order a y.header r) k.1 one in
-    one_of order a b y.header y.rest two y.broken
+one_header_fault bytes a b x y = firsts.first_once (HasFault bytes) _ a b x y
 
 header_or_code : (bytes : List ℕ) (fault : HeaderFault) (rule : Rule) (slot : ℕ) → IsHeaderFault bytes fault → IsCodeFault bytes rule slot → ⊥
-header_or_code bytes fault rule slot (inl x) y =
-    let k = header_size y.header y.rest bytes y.has in
-    let short = x.1 in
-    omega arith
-header_or_code bytes fault rule slot (inr x) y =
-    let k = header_once x.header y.header x.rest y.rest bytes x.has y.has in
-    let one = subst (λ (h : FileHeader). BreaksFirst order fault h x.rest) k.0 x.broken in
-    let two = subst (λ (r : List ℕ). BreaksFirst order fault y.header r) k.1 one in
-    sound_first y.form order fault y.header y.rest y.sound two
+header_or_code bytes fault rule slot x y = faultless bytes fault y.0 x
 
 one_code_fault : (bytes : List ℕ) (q r : Rule) (m n : ℕ) → IsCodeFault bytes q m → IsCodeFault bytes r n → (q ≡ r) × (m ≡ n)
-one_code_fault bytes q r m n x y =
-    let k = header_once x.header y.header x.rest y.rest bytes x.has y.has in
-    one_fault y.rest q r m n (subst (λ (l : List ℕ). decoding.IsFault l q m) k.1 x.fault) y.fault
+one_code_fault bytes q r m n x y = one_fault (drop 8 bytes) q r m n x.1 y.1
 
 one_rule : (form form' : ImageForm) (is js : List Insn) (l k : ℕ) (bytes : List ℕ) (q r : rules.Rule) (m n : ℕ) → IsFile form is l bytes → IsFile form' js k bytes → IsFault form is l q m → IsFault form' js k r n → (q ≡ r) × (m ≡ n)
 one_rule form form' is js l k bytes q r m n f g x y =

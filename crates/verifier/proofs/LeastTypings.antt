@@ -2,27 +2,30 @@
 use Rattle.std.proofs.Common.{◌≡◌, ◌≢◌, ℕ, zero, suc, ◌+◌, ◌<◌, ◌≤◌, ◌+ℤ◌, Bool, true, false, cond, List, [], ◌∷◌, ◌++◌, length, get_or, Option, Some, None, ℤ, pos, refl, sym, ap, ◌∙◌, subst, ⊎_elim, arith}
 use Rattle.std.specs.Prelude.{slice_set, is_some, not, nat_lt}
 use Rattle.std.specs.List.{AllByRecursion}
+use Rattle.std.specs.Option.{option_or}
 use Rattle.std.proofs.lemmas.Bool.{cases_eq, cases_lt, false≢true}
 use Rattle.std.proofs.lemmas.Bool.Decides.{nat_tests}
 use Rattle.std.proofs.lemmas.List.{get_or-set_same, get_or-set_other, length-set}
 use Rattle.decode.specs.declared.insn.Insn.{Insn}
-use Rattle.decode.specs.Slots.{is_wide, size_of, insn_at}
+use Rattle.decode.specs.Slots.{size_of, insn_at}
 use Rattle.regtypes.specs.declared.image_form.ImageForm.{ImageForm}
 use Rattle.regtypes.specs.declared.image_form.ImageForm.TheVariants.{Sbi1, Sbi2}
 use Rattle.regtypes.specs.declared.frame.Frame.{Frame}
 use Rattle.regtypes.specs.declared.rule.Rule.{Rule}
 use Rattle.regtypes.specs.Frame.{entry_frame, Leq}
-use Rattle.regtypes.specs.Rules.{first_broken, tests_of}
-use Rattle.regtypes.specs.Leaving.{least_met, least_unmet, shown, next, taken}
+use Rattle.regtypes.specs.Rules.{Tests, first_broken, tests_of}
+use Rattle.regtypes.specs.Leaving.{shown, next, taken}
 use Rattle.decode.specs.declared.insn.Insn.TheVariants.{Alu, MovSx, Neg, End, Jump, JumpLong, JumpIf, Call, Exit, Load, LoadSx, StoreReg, StoreImm, Wide}
 use Rattle.regtypes.specs.declared.flow.Flow.{Flow}
 use Rattle.regtypes.specs.declared.flow.Flow.TheVariants.{Ends, Leaps, Forks, Falls}
 use Rattle.regtypes.specs.Flow.{flow_of, exits, exits_by}
-use Rattle.regtypes.specs.Typing.{Table, frame_at, Enters, broken, or_else, jump_tests, flow_tests, IsTyping}
-use Rattle.regtypes.proofs.Monotone.{monotone, raised_within, none_holds, both_none, not_false, Leq-refl, Leq-trans, Leq-antisym}
+use Rattle.regtypes.specs.Typing.{Table, frame_at, Enters, broken, flow_tests, TypesBelow, IsTyping}
+use Rattle.regtypes.proofs.Parts.{jump_tests}
+use Rattle.regtypes.proofs.Typings.{within, typing_keeps, typing_leads}
+use Rattle.regtypes.proofs.Monotone.{monotone, raised_within, none_holds, first_of_both, both_pass, not_false, Leq-refl, Leq-trans, Leq-antisym}
 use Rattle.verifier.specs.Verdict.{IsOneRefusal}
-use Rattle.verifier.specs.Least.{TypesBelow, Below, IsLeast, IsLeastTyping, Breaks, IsRefused}
-use Rattle.verifier.specs.Pass.{Follows, Merged, IsOpening}
+use Rattle.verifier.specs.Least.{Below, IsLeast, StopsAt, IsRefused}
+use Rattle.verifier.specs.Inside.Pass.{Follows, Merged, IsOpening}
 
 -- ---- frames and tables
 
@@ -65,21 +68,21 @@ Below-trans a b c x y s g e =
 
 -- ---- what a kept rule says
 
-pub none_both : (a b : Option Rule) → a ≡ None → b ≡ None → or_else a b ≡ None
-none_both a b x y = ap (λ o. or_else o b) x ∙ y
+pub none_both : (ts us : Tests) → first_broken ts ≡ None → first_broken us ≡ None → first_broken (ts ++ us) ≡ None
+none_both ts us x y = first_of_both ts us ∙ ap (λ o. option_or o (first_broken us)) x ∙ y
 
-pub first_some : (a b : Option Rule) (r : Rule) → a ≡ Some r → or_else a b ≡ Some r
-first_some a b r x = ap (λ o. or_else o b) x
+pub first_some : (ts us : Tests) (r : Rule) → first_broken ts ≡ Some r → first_broken (ts ++ us) ≡ Some r
+first_some ts us r x = first_of_both ts us ∙ ap (λ o. option_or o (first_broken us)) x
 
-pub second_some : (a b : Option Rule) (r : Rule) → a ≡ None → b ≡ Some r → or_else a b ≡ Some r
-second_some a b r x y = ap (λ o. or_else o b) x ∙ y
+pub second_some : (ts us : Tests) (r : Rule) → first_broken ts ≡ None → first_broken us ≡ Some r → first_broken (ts ++ us) ≡ Some r
+second_some ts us r x y = first_of_both ts us ∙ ap (λ o. option_or o (first_broken us)) x ∙ y
 
 -- a frame that says more breaks no more rules
 pub kept_below : (form : ImageForm) (slots : List (Option Insn)) (len s : ℕ) (i : Insn) (f g : Frame) → length f.kinds ≡ length g.kinds → Leq f g → broken form slots len s i g ≡ None → (broken form slots len s i f ≡ None) × Leq (next i f) (next i g) × Leq (taken i f) (taken i g)
 kept_below form slots len s i f g n le h =
-    let k = both_none (first_broken (jump_tests slots s i)) (first_broken (tests_of form len i g)) h in
+    let k = both_pass (jump_tests slots s i) (tests_of form len i g) h in
     let m = monotone form len i f g n le k.1 in
-    (none_both (first_broken (jump_tests slots s i)) (first_broken (tests_of form len i f)) k.0 m.0, m.1, m.2)
+    (none_both (jump_tests slots s i) (tests_of form len i f) k.0 m.0, m.1, m.2)
 
 -- ---- a frame is joined into a slot
 
@@ -296,34 +299,16 @@ below_typing form slots len n t h = record {
   whole = h.whole;
   short = h.short;
   begins = h.begins;
-  keeps = λ s g i lt. h.keeps s g i;
-  leads = λ s g i lt. h.leads s g i;
-}
-
-within : (slots : List (Option Insn)) (s : ℕ) (i : Insn) → insn_at slots s ≡ Some i → s < length slots
-within [] s i h = cc
-within (x ∷ xs) zero i h = omega arith
-within (x ∷ xs) (suc s) i h = let k = within xs s i h in omega arith
-
-pub least_typing : (form : ImageForm) (slots : List (Option Insn)) (len : ℕ) (table : Table) → IsLeast form slots len (length slots) table → IsLeastTyping form slots len table
-least_typing form slots len table l = record {
-  types = record {
-    start = l.types.start;
-    whole = l.types.whole;
-    short = l.types.short;
-    begins = l.types.begins;
-    keeps = λ s g i e b. l.types.keeps s g i (within slots s i b) e b;
-    leads = λ s g i e b. l.types.leads s g i (within slots s i b) e b;
-  };
-  least = λ t h. l.least t (below_typing form slots len (length slots) t h);
+  keeps = λ s g i lt. typing_keeps form slots len t s g i h;
+  leads = λ s g i lt. typing_leads form slots len t s g i h;
 }
 
 -- code with a broken rule has no typing
-pub no_typing : (form : ImageForm) (slots : List (Option Insn)) (len : ℕ) (rule : Rule) (s : ℕ) → Breaks form slots len rule s → (t : Table) → IsTyping form slots len t → ⊥
+pub no_typing : (form : ImageForm) (slots : List (Option Insn)) (len : ℕ) (rule : Rule) (s : ℕ) → StopsAt form slots len rule s → (t : Table) → IsTyping form slots len t → ⊥
 no_typing form slots len rule s b t h =
     let k = b.least.least t (below_typing form slots len s t h) s b.frame b.there in
     let w : length b.frame.kinds ≡ length k.0.kinds = b.least.types.whole s b.frame b.there ∙ sym (h.whole s k.0 k.1) in
-    let m = (kept_below form slots len s b.insn b.frame k.0 w k.2 (h.keeps s k.0 b.insn k.1 b.begins)).0 in
+    let m = (kept_below form slots len s b.insn b.frame k.0 w k.2 (typing_keeps form slots len t s k.0 b.insn h k.1 b.begins)).0 in
     let e = b.breaks in
     cc
 
@@ -337,7 +322,7 @@ no_typing_empty form slots len e t h =
 pub refused_empty : (form : ImageForm) (slots : List (Option Insn)) (len : ℕ) (rule : Rule) (s : ℕ) → slots ≡ [] → IsRefused form [] len rule s → IsRefused form slots len rule s
 refused_empty form slots len rule s e h = subst (λ l. IsRefused form l len rule s) (sym e) h
 
-pub refused : (form : ImageForm) (slots : List (Option Insn)) (len : ℕ) (rule : Rule) (s : ℕ) → 0 < length slots → Breaks form slots len rule s → IsRefused form slots len rule s
+pub refused : (form : ImageForm) (slots : List (Option Insn)) (len : ℕ) (rule : Rule) (s : ℕ) → 0 < length slots → StopsAt form slots len rule s → IsRefused form slots len rule s
 refused form [] len rule s lt b = absurd (omega arith)
 refused form (x ∷ xs) len rule s lt b = b
 
@@ -346,7 +331,7 @@ refused form (x ∷ xs) len rule s lt b = b
 -- on neither way more is known than the longest message's length
 pub leaves_short : (i : Insn) (f nx tk : Frame) → f.low ≤ 256 → nx ≡ next i f → tk ≡ taken i f → (nx.low ≤ 256) × (tk.low ≤ 256)
 leaves_short i f nx tk h n t =
-    (subst (λ (x : Frame). x.low ≤ 256) (sym n) (raised_within f.low (shown least_unmet i f.kinds) h), subst (λ (x : Frame). x.low ≤ 256) (sym t) (raised_within f.low (shown least_met i f.kinds) h))
+    (subst (λ (x : Frame). x.low ≤ 256) (sym n) (raised_within f.low (shown false i f.kinds) h), subst (λ (x : Frame). x.low ≤ 256) (sym t) (raised_within f.low (shown true i f.kinds) h))
 
 slot_is : (slots : List (Option Insn)) (s : ℕ) (d : Option Insn) → s < length slots → insn_at slots s ≡ get_or slots s d
 slot_is [] s d lt = absurd (omega arith)
@@ -379,12 +364,9 @@ falls_size (StoreReg size dst src offset) k e = cc
 falls_size (StoreImm size dst offset imm) k e = cc
 falls_size (Wide dst value) k e = cc
 
-size_if : (b : Bool) → 0 < cond b 2 1
-size_if true = omega arith
-size_if false = omega arith
-
 size_positive : (i : Insn) → 0 < size_of i
-size_positive i = size_if (is_wide i)
+size_positive (Wide dst value) = omega arith
+size_positive _ = omega arith
 
 forks_size : (i : Insn) (d : ℤ) → Forks d ≡ flow_of i → 1 ≡ size_of i
 forks_size (Alu op width dst o) d e = cc
@@ -406,7 +388,7 @@ before_end : (n m : ℕ) → not (nat_lt n m) ≡ false → n < m
 before_end n m h = let k = not_false (nat_lt n m) h in grind (arith, nat_tests)
 
 module _ (form : ImageForm) (slots : List (Option Insn)) (len n : ℕ) (old : Table) (f : Frame) (i : Insn) (fl : Flow) (nx tk : Frame) (follows : Follows slots) (l : IsLeast form slots len n old) (there : frame_at old n ≡ Some f) (begin : insn_at slots n ≡ Some i) (flow : fl ≡ flow_of i) where
-  pub breaks_flow : (rule : Rule) → first_broken (flow_tests slots n fl) ≡ Some rule → Breaks form slots len rule n
+  pub breaks_flow : (rule : Rule) → first_broken (flow_tests slots n fl) ≡ Some rule → StopsAt form slots len rule n
   breaks_flow rule h = record {
     table = old;
     least = l;
@@ -414,14 +396,14 @@ module _ (form : ImageForm) (slots : List (Option Insn)) (len n : ℕ) (old : Ta
     there = there;
     insn = i;
     begins = begin;
-    breaks = first_some (first_broken (jump_tests slots n i)) (first_broken (tests_of form len i f)) rule (subst (λ x. first_broken (flow_tests slots n x) ≡ Some rule) flow h);
+    breaks = first_some (jump_tests slots n i) (tests_of form len i f) rule (subst (λ x. first_broken (flow_tests slots n x) ≡ Some rule) flow h);
   }
 
   module _ (kept : first_broken (flow_tests slots n fl) ≡ None) where
     kept' : first_broken (jump_tests slots n i) ≡ None
     kept' = subst (λ x. first_broken (flow_tests slots n x) ≡ None) flow kept
 
-    pub breaks_local : (rule : Rule) → first_broken (tests_of form len i f) ≡ Some rule → Breaks form slots len rule n
+    pub breaks_local : (rule : Rule) → first_broken (tests_of form len i f) ≡ Some rule → StopsAt form slots len rule n
     breaks_local rule h = record {
       table = old;
       least = l;
@@ -429,7 +411,7 @@ module _ (form : ImageForm) (slots : List (Option Insn)) (len n : ℕ) (old : Ta
       there = there;
       insn = i;
       begins = begin;
-      breaks = second_some (first_broken (jump_tests slots n i)) (first_broken (tests_of form len i f)) rule kept' h;
+      breaks = second_some (jump_tests slots n i) (tests_of form len i f) rule kept' h;
     }
 
     module _ (local : first_broken (tests_of form len i f) ≡ None) (next_is : nx ≡ next i f) (taken_is : tk ≡ taken i f) where
@@ -438,7 +420,7 @@ module _ (form : ImageForm) (slots : List (Option Insn)) (len n : ℕ) (old : Ta
           let one = subst (λ x. Leads slots old n (exits_by n fl x tk) new) next_is h in
           let two = subst (λ x. Leads slots old n (exits_by n fl (next i f) x) new) taken_is one in
           let three = subst (λ x. Leads slots old n (exits_by n x (next i f) (taken i f)) new) flow two in
-          least_step form slots len n old new f i l there begin (none_both (first_broken (jump_tests slots n i)) (first_broken (tests_of form len i f)) kept' local) three
+          least_step form slots len n old new f i l there begin (none_both (jump_tests slots n i) (tests_of form len i f) kept' local) three
 
       pub step_ends : fl ≡ Ends → IsLeast form slots len (n + 1) old
       step_ends e = step_by old (subst (λ x. Leads slots old n (exits_by n x nx tk) old) (sym e) (leads_none slots old n))
@@ -486,7 +468,7 @@ opening_more form old table o e = subst (IsOpening form) (sym e) (record { first
 -- ---- a refusal is the only one
 
 -- no slot below breaks a rule
-no_earlier : (form : ImageForm) (slots : List (Option Insn)) (len : ℕ) (rule rule' : Rule) (s s' : ℕ) → Breaks form slots len rule s → Breaks form slots len rule' s' → s < s' → ⊥
+no_earlier : (form : ImageForm) (slots : List (Option Insn)) (len : ℕ) (rule rule' : Rule) (s s' : ℕ) → StopsAt form slots len rule s → StopsAt form slots len rule' s' → s < s' → ⊥
 no_earlier form slots len rule rule' s s' a b lt =
     let t = b.least.types in
     let below : TypesBelow form slots len s b.table = record {
@@ -504,7 +486,7 @@ no_earlier form slots len rule rule' s s' a b lt =
     cc
 
 -- a frame that says more breaks no rule that a frame that says less keeps, and so each breaks the other's
-breaks_same : (form : ImageForm) (slots : List (Option Insn)) (len : ℕ) (rule rule' : Rule) (s : ℕ) → Breaks form slots len rule s → Breaks form slots len rule' s → rule ≡ rule'
+breaks_same : (form : ImageForm) (slots : List (Option Insn)) (len : ℕ) (rule rule' : Rule) (s : ℕ) → StopsAt form slots len rule s → StopsAt form slots len rule' s → rule ≡ rule'
 breaks_same form slots len rule rule' s a b =
     let x = a.least.least b.table b.least.types s a.frame a.there in
     let y = b.least.least a.table a.least.types s b.frame b.there in
@@ -524,7 +506,7 @@ breaks_same form slots len rule rule' s a b =
 pub one_refusal : IsOneRefusal
 one_refusal form [] len rule rule' s s' a b = (a.0 ∙ sym b.0, a.1 ∙ sym b.1)
 one_refusal form (x ∷ xs) len rule rule' s s' a b =
-    let first : s ≡ s' → (rule ≡ rule') × (s ≡ s') = λ q. (breaks_same form (x ∷ xs) len rule rule' s' (subst (λ n. Breaks form (x ∷ xs) len rule n) q a) b, q) in
+    let first : s ≡ s' → (rule ≡ rule') × (s ≡ s') = λ q. (breaks_same form (x ∷ xs) len rule rule' s' (subst (λ n. StopsAt form (x ∷ xs) len rule n) q a) b, q) in
     let second : s ≢ s' → (rule ≡ rule') × (s ≡ s') = λ q. absurd (apart q) in
     ⊎_elim first second (cases_eq s s')
   where

@@ -6,8 +6,9 @@ use Rattle.regtypes.specs.declared.frame.Kind.{Kind}
 use Rattle.regtypes.specs.declared.frame.Region.{Region}
 use Rattle.regtypes.specs.declared.frame.Region.TheVariants.{Message, State, Stack}
 use Rattle.regtypes.specs.declared.frame.Kind.TheVariants.{Place}
-use Rattle.regtypes.specs.Rules.{lie_inside, region_len, is_payload}
-use Rattle.verifier.specs.Places.{index_of, IsInside}
+use Rattle.regtypes.specs.Rules.{lie_inside, region_len, has_bytes}
+use Rattle.verifier.specs.Places.{index_of}
+use Rattle.verifier.specs.Inside.Places.{IsInside}
 
 pub inside-bound : (size n : ℕ) (z : ℤ) → lie_inside size n z ≡ true → index_of z + n ≤ size
 inside-bound size n (pos a) h = grind (arith, nat_tests)
@@ -29,9 +30,9 @@ index_in low len n k r at o l e h =
     let b = inside-bound (region_len low len r) n (at +ℤ o) h' in
     (inside-index (region_len low len r) n (at +ℤ o) h', omega (arith, b, region_bound low len r l))
 
-pub payload_in : (low len n : ℕ) (k : Kind) (r : Region) (at : ℤ) → low ≤ 256 → k ≡ Place r at → is_payload low len n k ≡ true → (at ≡ pos (index_of at)) × (index_of at + n ≤ region_len 256 len r)
+pub payload_in : (low len n : ℕ) (k : Kind) (r : Region) (at : ℤ) → low ≤ 256 → k ≡ Place r at → has_bytes low len n k ≡ true → (at ≡ pos (index_of at)) × (index_of at + n ≤ region_len 256 len r)
 payload_in low len n k r at l e h =
-    let h' : lie_inside (region_len low len r) n at ≡ true = subst (λ x. is_payload low len n x ≡ true) e h in
+    let h' : lie_inside (region_len low len r) n at ≡ true = subst (λ x. has_bytes low len n x ≡ true) e h in
     let b = inside-bound (region_len low len r) n at h' in
     (inside-index (region_len low len r) n at h', omega (arith, b, region_bound low len r l))
 

@@ -13,10 +13,13 @@ use Rattle.regtypes.specs.declared.frame.Frame.{Frame}
 use Rattle.regtypes.specs.declared.attributes.Access.{Access}
 use Rattle.regtypes.specs.Frame.{kind_at, is_num}
 use Rattle.regtypes.specs.Attributes.{attributes_of}
-use Rattle.regtypes.specs.Rules.{is_unset, is_place, is_in_message, has, base_of, reaches, writes_frame_pointer, has_number_as_base, reaches_out, moves_out, stores_in_message, is_unknown, misgives, ends_without, first_broken, tests_of}
-use Rattle.regtypes.specs.Typing.{Table, frame_at, IsTyping, jump_tests, is_target}
-use Rattle.regtypes.proofs.Monotone.{none_holds, both_none, not_false, AllSet, all_set}
-use Rattle.verifier.specs.Places.{IsInside, IsWritable, index_of}
+use Rattle.regtypes.specs.Rules.{is_unset, is_place, is_in_message, has, base_of, has_bytes, moved, reaches_out, moves_out, ends_without, first_broken, tests_of}
+use Rattle.regtypes.proofs.Parts.{jump_tests, writes_frame_pointer, stores_in_message, is_unknown, misgives}
+use Rattle.regtypes.proofs.Typings.{typing_keeps}
+use Rattle.regtypes.specs.Typing.{Table, frame_at, IsTyping, is_target}
+use Rattle.regtypes.proofs.Monotone.{none_holds, both_pass, not_false, AllSet, all_set}
+use Rattle.verifier.specs.Places.{index_of}
+use Rattle.verifier.specs.Inside.Places.{IsInside, IsWritable}
 
 -- the instruction breaks no rule of jumps and no local rule
 pub record Keeps (form : ImageForm) (slots : List (Option Insn)) (len slot : ℕ) (i : Insn) (f : Frame) : Type 0 where
@@ -25,9 +28,7 @@ pub record Keeps (form : ImageForm) (slots : List (Option Insn)) (len slot : ℕ
 
 pub kept : (form : ImageForm) (slots : List (Option Insn)) (len : ℕ) (table : Table) (slot : ℕ) (i : Insn) (g : Frame) → IsTyping form slots len table → frame_at table slot ≡ Some g → insn_at slots slot ≡ Some i → Keeps form slots len slot i g
 kept form slots len table slot i g t at n =
-    let flow = first_broken (jump_tests slots slot i) in
-    let local = first_broken (tests_of form len i g) in
-    let k = both_none flow local (t.keeps slot g i at n) in
+    let k = both_pass (jump_tests slots slot i) (tests_of form len i g) (typing_keeps form slots len table slot g i t at n) in
     record { flow = k.0; local = k.1 }
 
 -- ---- rule by rule
@@ -37,7 +38,7 @@ pub record Rules (form : ImageForm) (len : ℕ) (i : Insn) (f : Frame) : Type 0 
   pub written : writes_frame_pointer (attributes_of i).written ≡ false
   pub number : has is_place f.kinds (attributes_of i).number ≡ false
   pub operand : has is_place f.kinds (attributes_of i).operand ≡ false
-  pub base : has_number_as_base f.kinds (attributes_of i).access ≡ false
+  pub base : has is_num f.kinds (base_of (attributes_of i).access) ≡ false
   pub inside : reaches_out len f (attributes_of i).access ≡ false
   pub near : moves_out f.kinds (attributes_of i).moved ≡ false
   pub unwritten : stores_in_message f.kinds (attributes_of i).access ≡ false
@@ -49,8 +50,8 @@ pub rules_of : (form : ImageForm) (len : ℕ) (i : Insn) (f : Frame) → first_b
 rules_of form len i f h =
     let a = attributes_of i in
     let k = none_holds (tests_of form len i f) h in
-    let five = or_parts (has is_place f.kinds a.number) (has is_place f.kinds a.operand || has_number_as_base f.kinds a.access) k.1.1.0 in
-    let base = or_parts (has is_place f.kinds a.operand) (has_number_as_base f.kinds a.access) five.1 in
+    let five = or_parts (has is_place f.kinds a.number) (has is_place f.kinds a.operand || has is_num f.kinds (base_of a.access)) k.1.1.0 in
+    let base = or_parts (has is_place f.kinds a.operand) (has is_num f.kinds (base_of a.access)) five.1 in
     let six = or_parts (reaches_out len f a.access) (moves_out f.kinds a.moved) k.1.1.1.0 in
     record {
       set = all_set f.kinds a k.0;
@@ -68,11 +69,11 @@ rules_of form len i f h =
 
 -- ---- bases of loads and stores
 
-inside_from : (k : Kind) (low len n : ℕ) (offset : ℤ) → is_unset k ≡ false → is_num k ≡ false → not (reaches low len n offset k) ≡ false → IsInside low len k offset n
+inside_from : (k : Kind) (low len n : ℕ) (offset : ℤ) → is_unset k ≡ false → is_num k ≡ false → not (has_bytes low len n (moved offset k)) ≡ false → IsInside low len k offset n
 inside_from Unset low len n offset a b h = absurd (false≢true (sym a))
 inside_from Num low len n offset a b h = absurd (false≢true (sym b))
 inside_from Len low len n offset a b h = absurd (false≢true (sym b))
-inside_from (Place r at) low len n offset a b h = not_false (reaches low len n offset (Place r at)) h
+inside_from (Place r at) low len n offset a b h = not_false (has_bytes low len n (moved offset (Place r at))) h
 
 writable_from : (k : Kind) → is_unset k ≡ false → is_num k ≡ false → is_in_message k ≡ false → IsWritable k
 writable_from Unset a b c = absurd (false≢true (sym a))
@@ -92,8 +93,8 @@ access_rules form len i f a e h =
     let r = rules_of form len i f h in
     let k = kind_at f.kinds a.base.number in
     let set : is_unset k ≡ false = subst (λ (x : Option Access). has is_unset f.kinds (base_of x) ≡ false) e r.set.base in
-    let base : is_num k ≡ false = subst (λ (x : Option Access). has_number_as_base f.kinds x ≡ false) e r.base in
-    let inside : not (reaches f.low len a.bytes a.offset k) ≡ false = subst (λ (x : Option Access). reaches_out len f x ≡ false) e r.inside in
+    let base : is_num k ≡ false = subst (λ (x : Option Access). has is_num f.kinds (base_of x) ≡ false) e r.base in
+    let inside : not (has_bytes f.low len a.bytes (moved a.offset k)) ≡ false = subst (λ (x : Option Access). reaches_out len f x ≡ false) e r.inside in
     let unwritten : (a.stores && is_in_message k) ≡ false = subst (λ (x : Option Access). stores_in_message f.kinds x ≡ false) e r.unwritten in
     record {
       inside = inside_from k f.low len a.bytes a.offset set base inside;

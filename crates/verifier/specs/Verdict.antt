@@ -20,7 +20,8 @@ pub record IsImageOf (form : ImageForm) (code : List Insn) (len : ℕ) (image : 
 
 -- the rule and the slot, of code that has no typing
 abbrev pub IsFault : ImageForm → List Insn → ℕ → Rule → ℕ → Type 0
-IsFault form code len rule slot = IsRefused form (slots_of code) len rule slot × ((t : Table) → IsTyping form (slots_of code) len t → ⊥)
+IsFault form code len rule slot =
+    IsRefused form (slots_of code) len rule slot × ((t : Table) → IsTyping form (slots_of code) len t → ⊥)
 
 -- the table is the least typing of the code; where a slot breaks a rule, it is that of the slots below
 abbrev pub IsJudged : ImageForm → List Insn → ℕ → Table → Option (Rule × ℕ) → Type 0
@@ -36,4 +37,5 @@ IsWhy form code len Memory = Unit {0}
 -- code is refused for one rule at one slot
 abbrev pub IsOneRefusal : Type 0
 IsOneRefusal =
-    (form : ImageForm) (slots : List (Option Insn)) (len : ℕ) (rule rule' : Rule) (s s' : ℕ) → IsRefused form slots len rule s → IsRefused form slots len rule' s' → (rule ≡ rule') × (s ≡ s')
+    (form : ImageForm) (slots : List (Option Insn)) (len : ℕ) (rule rule' : Rule) (s s' : ℕ)
+    → IsRefused form slots len rule s → IsRefused form slots len rule' s' → (rule ≡ rule') × (s ≡ s')

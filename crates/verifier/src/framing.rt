@@ -2,7 +2,7 @@
 
 ghost use Rattle.std.specs.Prelude.{◌≡◌, ◌≤◌, ◌<◌, IfOk, length};
 ghost use Rattle.decode.specs.Slots.{slots_of};
-ghost use Rattle.verifier.specs.Pass.{IsOpening};
+ghost use Rattle.verifier.specs.Inside.Pass.{IsOpening};
 ghost use Rattle.verifier.specs.Verdict.{IsJudged};
 
 use crate::judging::judge;

@@ -2,7 +2,8 @@
 
 ghost use Rattle.std.specs.Prelude.{◌≡◌, ◌≢◌, MatchOption, ◌≤◌, ◌++◌, length, IfOk, IfErr};
 ghost use Rattle.regtypes.specs.declared.image_form.ImageForm.{ImageForm};
-ghost use Rattle.verifier.specs.ImageFile.{HasHeader, IsSound, IsHeaderFault, header_bytes, magic};
+ghost use Rattle.verifier.specs.ImageFile.{IsHeaderFault, magic};
+ghost use Rattle.verifier.specs.Inside.Header.{HasHeader, IsSound, header_bytes};
 
 use crate::fault::HeaderFault;
 use byteorder::{ByteOrder, LittleEndian};

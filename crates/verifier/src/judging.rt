@@ -4,8 +4,8 @@ ghost use Rattle.std.specs.Prelude.{◌≡◌, ◌≤◌, ◌<◌, ◌+◌, Matc
 ghost use Rattle.decode.specs.Slots.{insn_at};
 ghost use Rattle.regtypes.specs.Rules.{first_broken};
 ghost use Rattle.regtypes.specs.Typing.{is_target, flow_tests};
-ghost use Rattle.verifier.specs.Least.{IsLeast, Breaks};
-ghost use Rattle.verifier.specs.Pass.{Follows, Merged};
+ghost use Rattle.verifier.specs.Least.{IsLeast, StopsAt};
+ghost use Rattle.verifier.specs.Inside.Pass.{Follows, Merged};
 
 use decode::Insn;
 use regtypes::{Flow, Frame, ImageForm, Rule, flow_from, join, transfer};
@@ -93,7 +93,7 @@ pub fn judge(
     requires same { length table.old ≡ length slots.now }
     requires follows { Follows slots.now }
     requires least { IsLeast form slots.now state_len slot table.old }
-    ensures judged { MatchResult result (λ _. IsLeast form slots.now state_len (slot + 1) table.new) (λ rule. Breaks form slots.now state_len rule slot) }
+    ensures judged { MatchResult result (λ _. IsLeast form slots.now state_len (slot + 1) table.new) (λ rule. StopsAt form slots.now state_len rule slot) }
     ensures kept { OnErr result (table.new ≡ table.old) }
 {
     let frame = match table[slot] {

@@ -2,7 +2,7 @@
 
 ghost use Rattle.std.specs.Prelude.{◌≡◌, IfOk};
 ghost use Rattle.decode.specs.Slots.{slots_of};
-ghost use Rattle.verifier.specs.Pass.{Follows};
+ghost use Rattle.verifier.specs.Inside.Pass.{Follows};
 
 use decode::Insn;
 use std::alloc::{AllocError, Global};

@@ -38,6 +38,3 @@ pub use laws::{file_refusals_are_one, refusals_are_one};
 pub use loading::{load, parts};
 pub use storing::file;
 pub use verifying::{verify, verify_form};
-
-#[cfg(test)]
-mod tests;

@@ -5,7 +5,8 @@ ghost use Rattle.decode.specs.declared.insn.Insn.{Insn};
 ghost use Rattle.decode.specs.Slots.{slots_of};
 ghost use Rattle.regtypes.specs.declared.image_form.ImageForm.{ImageForm};
 ghost use Rattle.regtypes.specs.Typing.{Table, IsTyping};
-ghost use Rattle.verifier.specs.ImageFile.{IsFile, IsUnread, IsRefusal, GivesParts, GivesImage};
+ghost use Rattle.verifier.specs.declared.fault.ImageError.TheVariants.{Memory};
+ghost use Rattle.verifier.specs.ImageFile.{IsFile, IsUnread, IsRefusal};
 ghost use Rattle.verifier.specs.Verdict.{IsImageOf};
 
 use crate::fault::{ImageError, VerifyError};
@@ -21,7 +22,7 @@ pub fn parts(alloc: Global, bytes: &[u8]) -> Result<(Vec<Insn>, u16, ImageForm),
     // What is read is written so.
     ensures found { IfOk result (λ p. IsFile p.2 p.0.items p.1 bytes.now) }
     // What is written so is read, unless memory runs out.
-    ensures only { (form : ImageForm) (code : List Insn) (len : ℕ) → IsFile form code len bytes.now → GivesParts result form code len }
+    ensures only { (form : ImageForm) (code : List Insn) (len : ℕ) → IsFile form code len bytes.now → IfOk result (λ p. (p.0.items ≡ code) × (p.1 ≡ len) × (p.2 ≡ form)) × IfErr result (λ e. e ≡ Memory) }
     ensures refused { IfErr result (IsUnread bytes.now) }
 {
     let (header, form, code) = match read_header(bytes) {
@@ -40,7 +41,7 @@ pub fn load(alloc: Global, bytes: &[u8]) -> Result<Image, ImageError>
     ensures found { IfOk result (λ image. IsFile image.form image.code image.len bytes.now) }
     ensures image { IfOk result (λ image. IsImageOf image.form image.code image.len image) }
     // A file of typable code is loaded, unless memory runs out.
-    ensures only { (form : ImageForm) (code : List Insn) (len : ℕ) (t : Table) → IsFile form code len bytes.now → IsTyping form (slots_of code) len t → GivesImage result form code len }
+    ensures only { (form : ImageForm) (code : List Insn) (len : ℕ) (t : Table) → IsFile form code len bytes.now → IsTyping form (slots_of code) len t → IfOk result (IsImageOf form code len) × IfErr result (λ e. e ≡ Memory) }
     ensures refused { IfErr result (IsRefusal bytes.now) }
 {
     let (code, state_len, form) = parts(alloc, bytes)?;

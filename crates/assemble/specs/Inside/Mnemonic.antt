@@ -5,12 +5,14 @@ use Rattle.decode.specs.declared.insn.Insn.{Insn}
 use Rattle.decode.specs.declared.insn.Insn.TheVariants as insn
 use Rattle.assemble.specs.declared.mnemonic.Mnemonic.{Mnemonic}
 use Rattle.assemble.specs.declared.mnemonic.Mnemonic.TheVariants.{Alu, MovSx, Neg, End, Jump, JumpLong, JumpIf, Call, Exit, Load, LoadSx, StoreReg, StoreImm, Wide}
-use Rattle.assemble.specs.Text.{alu_word, bits, condition_word, extension_word, order_word, signed_letters, size_letters, suffix, operands_of, tail}
+use Rattle.decode.specs.Encoding.{loaded}
+use Rattle.assemble.specs.Inside.Words.{bits, extension_name, operands_of, tail}
+use Rattle.assemble.specs.Text.{alu_word, condition_word, order_word, size_letters, suffix}
 
 -- the word of a mnemonic
 abbrev pub word : Mnemonic → List ℕ
 word (Alu op width) = alu_word op ++ suffix width
-word (MovSx extension) = extension_word extension
+word (MovSx extension) = extension_name extension
 word (Neg width) = codes "neg" ++ suffix width
 word (End order b) = order_word order ++ bits b
 word Jump = codes "ja"
@@ -19,7 +21,7 @@ word (JumpIf c width) = condition_word c ++ suffix width
 word Call = codes "call"
 word Exit = codes "exit"
 word (Load s) = codes "ldx" ++ size_letters s
-word (LoadSx s) = codes "ldxs" ++ signed_letters s
+word (LoadSx s) = codes "ldxs" ++ size_letters (loaded s)
 word (StoreReg s) = codes "stx" ++ size_letters s
 word (StoreImm s) = codes "st" ++ size_letters s
 word Wide = codes "lddw"

@@ -41,11 +41,6 @@ abbrev pub IsRecorded : World → ℕ → ℕ → Type 0
 IsRecorded w p m = w.saved p < m → (x : Message) → nth (w.history p) m ≡ Some x → is_restored (w.phase x.sender) p ≡ true
     → w.numbers x.sender p x.ssn ≡ Some m
 
--- p's log has the numbers of all its messages that q received after its checkpoint
-abbrev pub Told : World → ℕ → ℕ → Type 0
-Told w p q = (m : ℕ) (x : Message) → w.saved q < m → nth (w.history q) m ≡ Some x → x.sender ≡ p
-    → w.numbers p q x.ssn ≡ Some m
-
 -- a message is safe; a number of the receiver's present incarnation names a message of its history, and so does an
 -- acknowledgement, whose number is recorded
 abbrev pub PacketTrue : World → Option Packet → Type 0

@@ -8,7 +8,8 @@ use Rattle.decode.specs.declared.insn.Insn.{Insn}
 use Rattle.decode.specs.declared.insn.Insn.TheVariants as insn
 use Rattle.assemble.specs.declared.mnemonic.Mnemonic.TheVariants as mnemonic
 use Rattle.assemble.specs.Number.{numeral, number, with_sign}
-use Rattle.assemble.specs.Text.{register, source, address, commas}
+use Rattle.assemble.specs.Inside.Words.{commas}
+use Rattle.assemble.specs.Text.{register, source, address}
 use Rattle.assemble.proofs.Insns.{refused, of_as}
 use Rattle.assemble.proofs.line.insn_of.Goals as goal
 

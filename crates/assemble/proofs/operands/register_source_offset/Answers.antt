@@ -4,7 +4,8 @@ use Rattle.decode.specs.Encoding.{OperandFits}
 use Rattle.decode.specs.declared.insn.Reg.{Reg}
 use Rattle.decode.specs.declared.insn.Operand.{Operand}
 use Rattle.assemble.specs.Number.{with_sign}
-use Rattle.assemble.specs.Text.{register, source, commas}
+use Rattle.assemble.specs.Inside.Words.{commas}
+use Rattle.assemble.specs.Text.{register, source}
 use Rattle.assemble.proofs.Pairs.{no_pair, reads_pair, register_lacks}
 use Rattle.assemble.proofs.operands.register_source_offset.Goals as goal
 

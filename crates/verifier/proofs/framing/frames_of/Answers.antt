@@ -2,9 +2,9 @@ use Rattle.std.proofs.Common.{◌≡◌, ℕ, ◌<◌, ◌++◌, length, take, d
 use Rattle.std.proofs.Math.Seq.{take-append_seam}
 use Rattle.decode.specs.Slots.{slots_of}
 use Rattle.regtypes.specs.Typing.{Table}
-use Rattle.verifier.specs.Pass.{Follows}
-use Rattle.verifier.specs.Least.{IsLeast, IsLeastTyping, Breaks}
-use Rattle.verifier.proofs.LeastTypings.{least_opening, least_typing, no_typing, refused}
+use Rattle.verifier.specs.Inside.Pass.{Follows}
+use Rattle.verifier.specs.Least.{IsLeast, IsLeastTyping, StopsAt}
+use Rattle.verifier.proofs.LeastTypings.{least_opening, no_typing, refused}
 use Rattle.verifier.proofs.Layouts.{first_begins_at, laid_some}
 use Rattle.verifier.proofs.framing.frames_of.Goals as goal
 
@@ -33,7 +33,7 @@ pub returns-in-Err-clause-judged : goal.returns-in-Err-clause-judged
 returns-in-Err-clause-judged c =
     let slots = slots_of c.args.code.now in
     let e : c.in_ok-slots.slots.items ≡ slots = c.in_ok-slots.ensures.slots in
-    let b = subst (λ s. Breaks c.args.form s c.args.state_len c.in-Err.rule c.loop-slot.slot) (c.deref.ensures.value ∙ e) c.in-Err.ensures.judged in
+    let b = subst (λ s. StopsAt c.args.form s c.args.state_len c.in-Err.rule c.loop-slot.slot) (c.deref.ensures.value ∙ e) c.in-Err.ensures.judged in
     let n : 0 < length slots = laid_some c.args.code.now c.requires.some in
     let same : c.judge.new.table ≡ c.loop-slot.table.items = c.in-Err.ensures.kept ∙ c.deref_mut.ensures.value in
     let whole = kept_whole c.judge.new.table c.loop-slot.table.items c.loop-slot.table.len (sym c.deref_mut.ensures.len ∙ ap length (sym c.in-Err.ensures.kept)) same in
@@ -43,5 +43,5 @@ returns-in-Err-clause-judged c =
 pub returns-clause-judged : goal.returns-clause-judged
 returns-clause-judged c =
     let q : c.loop-slot.slot ≡ length c.in_ok-slots.slots.items = omega arith in
-    let l = least_typing c.args.form c.in_ok-slots.slots.items c.args.state_len c.loop-slot.table.items (subst (λ n. IsLeast c.args.form c.in_ok-slots.slots.items c.args.state_len n c.loop-slot.table.items) q c.loop-slot.invariant.1) in
+    let l = subst (λ n. IsLeast c.args.form c.in_ok-slots.slots.items c.args.state_len n c.loop-slot.table.items) q c.loop-slot.invariant.1 in
     subst (λ s. IsLeastTyping c.args.form s c.args.state_len c.loop-slot.table.items) c.in_ok-slots.ensures.slots l

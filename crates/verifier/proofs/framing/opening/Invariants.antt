@@ -1,5 +1,5 @@
 use Rattle.std.proofs.Common.{◌≡◌, length}
-use Rattle.verifier.specs.Pass.{IsOpening}
+use Rattle.verifier.specs.Inside.Pass.{IsOpening}
 use Rattle.verifier.proofs.framing.opening.Given as goal
 
 abbrev pub invariant-rest : goal.invariant-rest

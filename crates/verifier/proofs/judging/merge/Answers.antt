@@ -3,7 +3,7 @@ use Rattle.std.specs.Prelude.{slice_set}
 use Rattle.regtypes.specs.declared.frame.Frame.{Frame}
 use Rattle.regtypes.specs.Frame.{Leq}
 use Rattle.regtypes.specs.Typing.{frame_at}
-use Rattle.verifier.specs.Pass.{Merged}
+use Rattle.verifier.specs.Inside.Pass.{Merged}
 use Rattle.verifier.proofs.LeastTypings.{merged_set, frame_is}
 use Rattle.regtypes.proofs.Monotone.{Leq-refl}
 use Rattle.verifier.proofs.judging.merge.Goals as goal

@@ -1,6 +1,6 @@
-use Rattle.std.proofs.Common.{◌≡◌, Some, None, ◌++◌, ◌∷◌, [], ap, ◌∙◌, true, false, append_assoc}
-use Rattle.decode.specs.Slots.{slots_if, is_wide}
-use Rattle.verifier.proofs.Layouts.{laid_more, follows_taken}
+use Rattle.std.proofs.Common.{◌≡◌, List, Option, Some, None, ◌++◌, ◌∷◌, [], ap, ◌∙◌, true, false, append_assoc}
+use Rattle.decode.specs.declared.insn.Insn.{Insn}
+use Rattle.verifier.proofs.Layouts.{laid_more, laid_wide, laid_narrow, follows_taken}
 use Rattle.verifier.proofs.layout.lay_out.Goals as goal
 use Rattle.verifier.proofs.layout.lay_out.Goals.{then-is_wide+in_ok-push-2, else-is_wide}
 
@@ -12,13 +12,11 @@ loop-insn-preserved c =
     let i = c.insn-item.result in
     elim c.if-is_wide.branch [
       | then-is_wide+in_ok-push-2 w ↦ (
-          let wide : true ≡ is_wide i = w.if-is_wide.ensures in
           let e : c.if-is_wide.slots.items ≡ (slots ++ Some i ∷ []) ++ None ∷ [] = cc (w.in_ok-push-2.ensures.items, c.in_ok-push.ensures.items) in
-          laid_more code slots c.if-is_wide.slots.items n i _ c.loop-insn-test.true c.insn-item.is c.loop-insn.invariant (e ∙ append_assoc slots (Some i ∷ []) (None ∷ []) ∙ ap (λ b. slots ++ slots_if b i) wide))
+          laid_more code slots c.if-is_wide.slots.items n i _ c.loop-insn-test.true c.insn-item.is c.loop-insn.invariant (e ∙ append_assoc slots (Some i ∷ []) (None ∷ []) ∙ ap (λ (b : List (Option Insn)). slots ++ b) (laid_wide i w.if-is_wide.ensures)))
       | else-is_wide w ↦ (
-          let narrow : false ≡ is_wide i = w.if-is_wide.ensures in
           let e : c.if-is_wide.slots.items ≡ slots ++ Some i ∷ [] = cc (c.in_ok-push.ensures.items) in
-          laid_more code slots c.if-is_wide.slots.items n i _ c.loop-insn-test.true c.insn-item.is c.loop-insn.invariant (e ∙ ap (λ b. slots ++ slots_if b i) narrow))
+          laid_more code slots c.if-is_wide.slots.items n i _ c.loop-insn-test.true c.insn-item.is c.loop-insn.invariant (e ∙ ap (λ (b : List (Option Insn)). slots ++ b) (laid_narrow i w.if-is_wide.ensures)))
     ]
 
 pub returns-clause-follows : goal.returns-clause-follows

@@ -14,9 +14,9 @@ verify_encoded-requires-clause-bytes c =
 
 pub returns-in-Ok-verify_encoded-clause-only : goal.returns-in-Ok-verify_encoded-clause-only
 returns-in-Ok-verify_encoded-clause-only c = λ form is len t f typing.
-    same_image c.in_ok-code.form form c.in_ok-code.code.items is c.in_ok-code.state_len len c.args.bytes.now c.in-Ok-verify_encoded.image c.in_ok-code.ensures.found f c.in-Ok-verify_encoded.ensures
+    (same_image c.in_ok-code.form form c.in_ok-code.code.items is c.in_ok-code.state_len len c.args.bytes.now c.in-Ok-verify_encoded.image c.in_ok-code.ensures.found f c.in-Ok-verify_encoded.ensures, tt)
 
 pub returns-in-Err-Fault-clause-only : goal.returns-in-Err-Fault-clause-only
 returns-in-Err-Fault-clause-only c = λ form is len t f typing.
     let why = subst (λ (e : VerifyError). IsWhy c.in_ok-code.form c.in_ok-code.code.items c.in_ok-code.state_len e) c.in-Err-Fault.field-0-is c.in-Err-Fault.ensures in
-    not_typable c.in_ok-code.form form c.in_ok-code.code.items is c.in_ok-code.state_len len c.args.bytes.now c.in-Err-Fault.rule c.in-Err-Fault.slot c.in_ok-code.ensures.found f why t typing
+    absurd (not_typable c.in_ok-code.form form c.in_ok-code.code.items is c.in_ok-code.state_len len c.args.bytes.now c.in-Err-Fault.rule c.in-Err-Fault.slot c.in_ok-code.ensures.found f why t typing)

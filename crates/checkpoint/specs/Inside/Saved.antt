@@ -1,0 +1,12 @@
+-- The ranges of a file's head.
+use Rattle.std.specs.Prelude.{◌≤◌}
+use Rattle.checkpoint.specs.declared.fields.Head.{Head}
+
+-- the ranges of the first fields of a file
+pub record HeadFits (head : Head) : Type 0 where
+  pub state : head.state ≤ 1024
+  pub some : 1 ≤ head.count
+  pub few : head.count ≤ 15
+  pub least : 1 ≤ head.me
+  pub own : head.me ≤ head.count
+  pub received : head.received ≤ 65536

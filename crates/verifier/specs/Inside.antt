@@ -1,0 +1,5 @@
+-- What the crate's own functions say to one another. No public contract reaches it.
+pub mod Header
+pub mod Pass
+pub mod Places
+pub mod Dense

@@ -1,0 +1,25 @@
+-- Headers field by field, on the way there.
+use Rattle.std.specs.Prelude.{◌≡◌, ◌<◌, ◌≤◌, ℕ, ◌*◌, ◌^◌, ◌++◌, length, List}
+use Rattle.std.specs.Int.{w16, to_le_bytes}
+use Rattle.regtypes.specs.declared.image_form.ImageForm.{ImageForm}
+use Rattle.verifier.specs.declared.header.FileHeader.{FileHeader}
+use Rattle.verifier.specs.ImageFile.{magic}
+
+-- a header as it stands in a file: eight bytes, where its magic has four
+abbrev pub header_bytes : FileHeader → List ℕ
+header_bytes h = h.magic ++ (to_le_bytes w16 h.state_len ++ to_le_bytes w16 h.slots)
+
+-- the first eight bytes, and what follows them
+pub record HasHeader (h : FileHeader) (rest bytes : List ℕ) : Type 0 where
+  pub magic_len : length h.magic ≡ 4
+  pub state_len : h.state_len < 2 ^ 16
+  pub slots_len : h.slots < 2 ^ 16
+  pub fields : bytes ≡ header_bytes h ++ rest
+
+-- a header without a fault
+pub record IsSound (form : ImageForm) (h : FileHeader) (rest : List ℕ) : Type 0 where
+  pub magic_is : h.magic ≡ magic form
+  pub state : h.state_len ≤ 1024
+  pub some : 0 < h.slots
+  pub short : h.slots ≤ 1024
+  pub size : length rest ≡ 8 * h.slots
