@@ -34,7 +34,7 @@ opens-sound n f g =
       shown = λ k x e. absurd (cc);
     }
 
-opens-exact : (n : ℕ) (f : Handlers) → Exact (opening n f)
+pub opens-exact : (n : ℕ) (f : Handlers) → Exact (opening n f)
 opens-exact n f =
     record {
       alone = λ p. refl;

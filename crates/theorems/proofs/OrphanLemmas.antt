@@ -29,7 +29,7 @@ secured-standing w p u k c t = split (is_down (w.phase p)) refl
     split true e = secured-kept w p u k e c (t.down e)
     split false e = let l : u ≤ length (w.history p) = c.within in let f : k ≡ length (w.history p) = t.live e in omega arith
 
-is-sent : (w : World) → Sound w → (d : ℕ) (m : Message) → Safe w d m → IsSent w d m
+pub is-sent : (w : World) → Sound w → (d : ℕ) (m : Message) → Safe w d m → IsSent w d m
 is-sent w s d m a k t = nth-prefix _ _ m.ssn m.payload (payloads-prefix w s.grows m.sender (w.history m.sender) d a.upto k (secured-standing w m.sender a.upto k a.secured t)) a.sends
 
 pub no-orphan : (n : ℕ) (f : Handlers) (es : List Entry) → IsSingle n f es → NoOrphan (world_of n f es)
@@ -73,7 +73,7 @@ in-order s c (m ∷ ms) xs all = split (m.sender == s) refl (in-order s c ms xs)
         let r = more (λ k y f g. let r = all (suc k) y f g in (let a : y.ssn ≡ suc (c + ((if m.sender == s then 1 else 0) + count_of s (take k ms))) = r.0 in let b : y.ssn ≡ suc (c + (1 + count_of s (take k ms))) = rw e at a in omega arith, r.1)) in
         (r.0, ap (λ ys. m.payload ∷ ys) r.1 ∙ sym (drop-next xs c m.payload there))
 
-shown-begins : (w : World) → Sound w → NoOrphan w → (s k : ℕ) → IsStanding w s k → Begins (payloads_of s w.shown) (payloads w s (take k (w.history s)) 0)
+pub shown-begins : (w : World) → Sound w → NoOrphan w → (s k : ℕ) → IsStanding w s k → Begins (payloads_of s w.shown) (payloads w s (take k (w.history s)) 0)
 shown-begins w sound h s k t = rw (drop-none (payloads w s (take k (w.history s)) 0)) at (in-order s 0 w.shown (payloads w s (take k (w.history s)) 0) each)
   where
     each : (j : ℕ) (m : Message) → slice_get w.shown j ≡ Some m → m.sender ≡ s → (m.ssn ≡ suc (0 + count_of s (take j w.shown))) × (nth (payloads w s (take k (w.history s)) 0) m.ssn ≡ Some m.payload)

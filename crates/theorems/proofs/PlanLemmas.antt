@@ -18,7 +18,7 @@ use Rattle.theorems.proofs.ListLemmas.{take-next, take-length, at-number, some-s
 use Rattle.theorems.proofs.HistoryLemmas.{Ordered, ordered-push}
 use Rattle.theorems.proofs.LogLemmas.{payloads-agree, entry-when, entry-test}
 
-first_below-at : {X : Type 0} (f : ℕ → Option X) (k : ℕ) (x : X) → first_below f k ≡ Some x → (j : ℕ) × (j < k) × (f j ≡ Some x)
+pub first_below-at : {X : Type 0} (f : ℕ → Option X) (k : ℕ) (x : X) → first_below f k ≡ Some x → (j : ℕ) × (j < k) × (f j ≡ Some x)
 first_below-at f zero x e = absurd (cc)
 first_below-at {X} f (suc k) x e = split (first_below f k) refl e (first_below-at f k x)
   where
@@ -26,7 +26,7 @@ first_below-at {X} f (suc k) x e = split (first_below f k) refl e (first_below-a
     split None g e more = (k, omega arith, e)
     split (Some y) g e more = let r = more (g ∙ e) in (r.0, let l : r.0 < k = r.1 in omega arith, r.2)
 
-first_below-some : {X : Type 0} (f : ℕ → Option X) (k j : ℕ) (x : X) → j < k → f j ≡ Some x → (y : X) × (first_below f k ≡ Some y)
+pub first_below-some : {X : Type 0} (f : ℕ → Option X) (k j : ℕ) (x : X) → j < k → f j ≡ Some x → (y : X) × (first_below f k ≡ Some y)
 first_below-some f zero j x l e = absurd (omega arith)
 first_below-some {X} f (suc k) j x l e = split (first_below f k) refl (first_below-some f k j x)
   where
@@ -42,7 +42,7 @@ first_below-some {X} f (suc k) j x l e = split (first_below f k) refl (first_bel
         last false t = let same : j ≡ k = grind (arith, nat_tests) in (x, ap f (sym same) ∙ e)
 
 -- what the log entry of this number is
-logged_as-at : (w : World) (p m s i : ℕ) (x : Message) → logged_as w p m s i ≡ Some x → IsEntry w s p i × (w.numbers s p i ≡ Some m) × (x.sender ≡ s) × (x.ssn ≡ i) × (nth (sent w s p) i ≡ Some x.payload)
+pub logged_as-at : (w : World) (p m s i : ℕ) (x : Message) → logged_as w p m s i ≡ Some x → IsEntry w s p i × (w.numbers s p i ≡ Some m) × (x.sender ≡ s) × (x.ssn ≡ i) × (nth (sent w s p) i ≡ Some x.payload)
 logged_as-at w p m s i x e = split (is_entry w s p i) refl (w.numbers s p i) refl e
   where
     text : (o : Option Payload) → nth (sent w s p) i ≡ o → message_of s i o ≡ Some x → (x.sender ≡ s) × (x.ssn ≡ i) × (nth (sent w s p) i ≡ Some x.payload)
@@ -80,13 +80,13 @@ found-lies w p m x e =
     let l = logged_as-at w p m a.0 b.0 x b.2 in
     record { by = a.0; below = (let c : a.0 < suc w.count = a.1 in omega arith); ssn = b.0; number = l.1; entry = l.0; sender = l.2; of = l.3; text = l.4 }
 
-logged_as-is : (w : World) (p m s i : ℕ) (x : Payload) → IsEntry w s p i → w.numbers s p i ≡ Some m → nth (sent w s p) i ≡ Some x → logged_as w p m s i ≡ Some (record { sender = s; ssn = i; payload = x })
+pub logged_as-is : (w : World) (p m s i : ℕ) (x : Payload) → IsEntry w s p i → w.numbers s p i ≡ Some m → nth (sent w s p) i ≡ Some x → logged_as w p m s i ≡ Some (record { sender = s; ssn = i; payload = x })
 logged_as-is w p m s i x l n t =
     let a : is_entry w s p i ≡ true = entry-test w s p i l in
     let b : is_number m (w.numbers s p i) ≡ true = rw n (let c : (m == m) ≡ true = grind (arith, nat_tests) in c) in
     rw (a, b, t) refl
 
-if_next-some : (h : List Message) (o : Option Message) (x : Message) → if_next h o ≡ Some x → o ≡ Some x
+pub if_next-some : (h : List Message) (o : Option Message) (x : Message) → if_next h o ≡ Some x → o ≡ Some x
 if_next-some h None x e = absurd (cc)
 if_next-some h (Some m) x e = split (m.ssn == suc (count_of m.sender h)) e
   where
@@ -94,12 +94,12 @@ if_next-some h (Some m) x e = split (m.ssn == suc (count_of m.sender h)) e
     split true e = e
     split false e = absurd (cc)
 
-if_next-next : (h : List Message) (o : Option Message) (x : Message) → o ≡ Some x → x.ssn ≡ suc (count_of x.sender h) → if_next h o ≡ Some x
+pub if_next-next : (h : List Message) (o : Option Message) (x : Message) → o ≡ Some x → x.ssn ≡ suc (count_of x.sender h) → if_next h o ≡ Some x
 if_next-next h o x e n =
     let P : Option Message → Type 0 = λ z. if_next h z ≡ Some x in
     subst P (sym e) (let t : (x.ssn == suc (count_of x.sender h)) ≡ true = grind (arith, nat_tests) in rw t refl)
 
-pushed-most : (h : List Message) (o : Option Message) → length (pushed h o) ≤ length h + 1
+pub pushed-most : (h : List Message) (o : Option Message) → length (pushed h o) ≤ length h + 1
 pushed-most h None = omega arith
 pushed-most h (Some x) = omega (arith, length-append {A = Message})
 
@@ -116,7 +116,7 @@ up-to-next n m P last less l = split (nat_le m n) refl
 
 module _ (w : World) (p : ℕ) (s : Sound w) (h : Exact w) where
   -- the payload of what p received is that of its sender's log
-  same-text : (m : ℕ) (y : Message) → nth (w.history p) m ≡ Some y → IsEntry w y.sender p y.ssn → nth (sent w y.sender p) y.ssn ≡ Some y.payload
+  pub same-text : (m : ℕ) (y : Message) → nth (w.history p) m ≡ Some y → IsEntry w y.sender p y.ssn → nth (sent w y.sender p) y.ssn ≡ Some y.payload
   same-text m y e l =
       let at : (k : ℕ) × (m ≡ suc k) × (slice_get (w.history p) k ≡ Some y) = at-number (w.history p) m y e in
       let is : Safe w p y = h.received p at.0 y at.2 in

@@ -60,7 +60,7 @@ up_to-is k m (Some n) e = split (nat_le n k) refl e
     split true t e = let same : n ≡ m = cc in (e, let l : n ≤ k = at_most n k t in omega arith)
     split false t e = absurd (cc)
 
-up_to-stays : (k m : ℕ) (o : Option ℕ) → o ≡ Some m → m ≤ k → up_to k o ≡ Some m
+pub up_to-stays : (k m : ℕ) (o : Option ℕ) → o ≡ Some m → m ≤ k → up_to k o ≡ Some m
 up_to-stays k m o e l = let P : Option ℕ → Type 0 = λ z. up_to k z ≡ Some m in subst P (sym e) (rw (is_at_most m k l) refl)
 
 module _ (w : World) (p k : ℕ) (down : w.phase p ≡ Down) (after : w.saved p ≤ k) (within : k ≤ length (w.history p)) (held : (m : ℕ) → w.saved p < m → m ≤ k → Held w p m) (most : ¬ Held w p (suc k)) (s : Sound w) (h : Exact w) where

@@ -45,7 +45,7 @@ exact-ready w p rs a b e less s h =
     split x [] d = covers-all (record w { phase = put w.phase p (phase_with rs) }) p d (sent_in_all w p d) live (s.recovering p e) (omega arith)
     split x (q ∷ qs) d = x.released p d
 
-has-those : (test : ℕ → Bool) (n q : ℕ) → 0 < q → q ≤ n → test q ≡ true → has (those test n) q ≡ true
+pub has-those : (test : ℕ → Bool) (n q : ℕ) → 0 < q → q ≤ n → test q ≡ true → has (those test n) q ≡ true
 has-those test zero q a b e = absurd (omega arith)
 has-those test (suc k) q a b e = split (test (suc k)) refl (q == suc k) refl (has-those test k q a)
   where

@@ -22,7 +22,7 @@ use Rattle.theorems.proofs.Replays.{sound-ready, exact-ready}
 abbrev pub renumbered : World → ℕ → ℕ → World
 renumbered w p r = record w { numbers = put w.numbers p (put (w.numbers p) r (told w p r)) }
 
-without-has : (ps : List ℕ) (r q : ℕ) → q ≢ r → has (without ps r) q ≡ false → has ps q ≡ false
+pub without-has : (ps : List ℕ) (r q : ℕ) → q ≢ r → has (without ps r) q ≡ false → has ps q ≡ false
 without-has [] r q ne e = refl
 without-has (x ∷ ps) r q ne e = split (x == r) refl e (without-has ps r q ne)
   where

@@ -37,7 +37,7 @@ opens-tidy n f p =
     }
 
 -- what a longer history sends is no less
-sent-more : (w : World) → Grows w.handlers → (p : ℕ) (h : List Message) (d j k : ℕ) → j ≤ k → length (payloads w p (take j h) d) ≤ length (payloads w p (take k h) d)
+pub sent-more : (w : World) → Grows w.handlers → (p : ℕ) (h : List Message) (d j k : ℕ) → j ≤ k → length (payloads w p (take j h) d) ≤ length (payloads w p (take k h) d)
 sent-more w g p h d j k l = begins-length _ _ (payloads-prefix w g p h d j k l)
 
 -- p's phase becomes x
