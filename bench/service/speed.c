@@ -1,9 +1,9 @@
-/* examples/driving/driving.rattle through the static library: the same inputs, one at a time, each
+/* bench/driving/driving.rattle through the static library: the same inputs, one at a time, each
    driven until nothing is left to do. Arguments: adder or relay, how many parts there are, and how
    many inputs a part has. It prints a line a part: how many calls were accepted in it, and the
    nanoseconds that they took. */
 #define _POSIX_C_SOURCE 199309L
-#include "../sblog_session.h"
+#include "../../examples/service/sblog_session.h"
 
 #include <stdio.h>
 #include <stdlib.h>
