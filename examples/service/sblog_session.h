@@ -89,6 +89,26 @@ typedef struct {
     bool held;
 } sblog_session;
 
+/* The library reads and writes these structs by place: a compiler that lays them out otherwise is
+   refused here. */
+#ifdef __cplusplus
+#define SBLOG_SESSION_ASSERT(holds, why) static_assert(holds, why)
+#else
+#define SBLOG_SESSION_ASSERT(holds, why) _Static_assert(holds, why)
+#endif
+SBLOG_SESSION_ASSERT(sizeof(sblog_entry) == 312, "size of sblog_entry");
+SBLOG_SESSION_ASSERT(offsetof(sblog_entry, worker) == 0, "place of worker");
+SBLOG_SESSION_ASSERT(offsetof(sblog_entry, call) == 4, "place of call");
+SBLOG_SESSION_ASSERT(offsetof(sblog_entry, answer) == 8, "place of answer");
+SBLOG_SESSION_ASSERT(offsetof(sblog_entry, payload_len) == 12, "place of payload_len");
+SBLOG_SESSION_ASSERT(offsetof(sblog_entry, call_numbers) == 16, "place of call_numbers");
+SBLOG_SESSION_ASSERT(offsetof(sblog_entry, answer_numbers) == 40, "place of answer_numbers");
+SBLOG_SESSION_ASSERT(offsetof(sblog_entry, payload) == 56, "place of payload");
+SBLOG_SESSION_ASSERT(sizeof(sblog_session) == 16, "size of sblog_session");
+SBLOG_SESSION_ASSERT(offsetof(sblog_session, at) == 0, "place of at");
+SBLOG_SESSION_ASSERT(offsetof(sblog_session, held) == 8, "place of held");
+#undef SBLOG_SESSION_ASSERT
+
 /* Every slice is a pointer, which is never null, and a length. One that is written overlaps no other. */
 
 uint32_t sblog_session_open(const uint8_t *files, size_t files_len, const uint32_t *lengths,
