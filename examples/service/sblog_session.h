@@ -122,6 +122,7 @@ uint32_t sblog_session_checkpoint(sblog_session *handle, uint8_t process, uint32
 uint32_t sblog_session_trim(sblog_session *handle, uint8_t to, uint32_t *dropped);
 uint32_t sblog_session_crash(sblog_session *handle, uint8_t process, uint32_t *incarnation);
 uint32_t sblog_session_recover(sblog_session *handle, uint8_t process, uint32_t *kept);
+uint32_t sblog_session_recover_alone(sblog_session *handle, uint8_t process, uint32_t *kept);
 
 uint32_t sblog_session_standing(sblog_session *handle, uint8_t process, uint32_t *length,
                                 uint32_t *phase);

@@ -123,6 +123,22 @@ pub extern "C" fn sblog_session_recover(
     code(calling::call(alloc, handle, call, kept))
 }
 
+/// A process that is down comes back though another isn't up, and how many messages it keeps is
+/// written: of what it sent, its peers that aren't up restore nothing. From then on failures came not
+/// one at a time. The messages are replayed by a drive.
+#[unsafe(no_mangle)]
+pub extern "C" fn sblog_session_recover_alone(
+    alloc: Global,
+    handle: &mut Handle,
+    process: u8,
+    kept: &mut u32,
+) -> u32
+    ensures { Answers result (IsCalled (Call.RecoverAlone process) handle.old.session.value handle.new.session.value kept.new) (λ why. IsUncalled (Call.RecoverAlone process) handle.old.session.value handle.new.session.value why × (kept.new ≡ kept.old)) }
+{
+    let call = Call::RecoverAlone { process };
+    code(calling::call(alloc, handle, call, kept))
+}
+
 /// Writes how many messages the state of a process has, and the number of its phase.
 #[unsafe(no_mangle)]
 pub extern "C" fn sblog_session_standing(

@@ -33,6 +33,7 @@ enum Act {
     Trim(u8),
     Crash(u8),
     Recover(u8),
+    Alone(u8),
     /// How many messages the state has, and the phase a hundred times.
     Standing(u8),
     /// A buffer of so many bytes is given for what follows.
@@ -59,6 +60,7 @@ fn answer(alloc: Global, handle: &mut Handle, act: Act, out: &mut [u8; 64]) -> (
         Act::Trim(to) => sblog_session_trim(alloc, handle, to, &mut number),
         Act::Crash(p) => sblog_session_crash(alloc, handle, p, &mut number),
         Act::Recover(p) => sblog_session_recover(alloc, handle, p, &mut number),
+        Act::Alone(p) => sblog_session_recover_alone(alloc, handle, p, &mut number),
         Act::Exact => sblog_session_exact(alloc, handle, &mut number),
         Act::Input(to, feed, size) => {
             let bytes = [7; 300];
@@ -208,6 +210,32 @@ const RELAYING: &[(Act, u32, usize)] = &[
     (Act::Exact, 0, 0),
 ];
 
+/// Two processes that are down at once come back, by one that does so alone, and a second message
+/// goes through both.
+const STUCK: &[(Act, u32, usize)] = &[
+    (Act::Open(&RELAY_AND_ECHO, &[40, 24]), 0, 99),
+    (Act::Input(1, 1, 1), 0, 1),
+    (Act::Drive(100), 0, 12),
+    (Act::Alone(1), 10, 99),
+    (Act::Crash(1), 0, 2),
+    (Act::Crash(2), 0, 2),
+    (Act::Recover(1), 8, 99),
+    (Act::Recover(2), 8, 99),
+    (Act::Alone(1), 0, 1),
+    (Act::Drive(100), 0, 2),
+    (Act::Recover(2), 0, 0),
+    (Act::Drive(100), 0, 6),
+    (Act::Input(1, 2, 1), 0, 2),
+    (Act::Drive(100), 0, 12),
+    (Act::Standing(1), 0, 2),
+    (Act::Standing(2), 0, 2),
+    (Act::Shown(1, 64), 0, 64),
+    (Act::Shown(2, 64), 20, 99),
+    (Act::Entry(15), 0, 1118),
+    (Act::Journal, 0, 38),
+    (Act::Exact, 0, 0),
+];
+
 /// Files that open none, and each call on a closed handle.
 const CLOSED: &[(Act, u32, usize)] = &[
     (Act::Open(&[], &[]), 1, 99),
@@ -224,6 +252,7 @@ const CLOSED: &[(Act, u32, usize)] = &[
     (Act::Trim(0), 16, 99),
     (Act::Crash(1), 16, 99),
     (Act::Recover(1), 16, 99),
+    (Act::Alone(1), 16, 99),
     (Act::Standing(1), 16, 99),
     (Act::State(1, 64), 16, 99),
     (Act::Saved(1, 64), 16, 99),
@@ -240,6 +269,7 @@ fn codes_and_numbers(rt: HostRuntime) -> Result<(), Fail> {
     let alloc = rt.alloc();
     assert_eq!(rt; first_wrong(alloc, ADDING), None);
     assert_eq!(rt; first_wrong(alloc, RELAYING), None);
+    assert_eq!(rt; first_wrong(alloc, STUCK), None);
     assert_eq!(rt; first_wrong(alloc, CLOSED), None);
     Ok(())
 }
