@@ -1,5 +1,5 @@
 -- The processes of a scenario.
-use Rattle.std.specs.Prelude.{◌≡◌, ◌≢◌, ◌≤◌, ◌<◌, ◌==◌, Bool, false, true, not, ℕ, List, [], ◌∷◌, ◌++◌, codes, map, length, String}
+use Rattle.std.specs.Prelude.{◌≡◌, ◌≢◌, ◌≤◌, ◌<◌, ◌==◌, ◌||◌, Bool, false, true, not, ℕ, List, [], ◌∷◌, ◌++◌, codes, map, length, String}
 use Rattle.std.specs.List.{AllByRecursion, list_all}
 use Rattle.std.specs.Global.{Global}
 use Rattle.std.specs.String.{string_bytes}
@@ -15,10 +15,14 @@ names_in entries = map (λ e. string_bytes e.0) entries
 abbrev pub names_of : {S : Type 0} → IndexMap (String Global) Process S → List (List ℕ)
 names_of processes = names_in processes.entries
 
--- 1 or more bytes without a space
+-- a space, a tab or a carriage return
+abbrev pub is_blank : ℕ → Bool
+is_blank c = (c == 32) || ((c == 9) || (c == 13))
+
+-- 1 or more bytes, none of them blank
 pub record IsPath (text : List ℕ) : Type 0 where
   pub some : 0 < length text
-  pub plain : list_all (λ c. not (c == 32)) text ≡ true
+  pub plain : list_all (λ c. not (is_blank c)) text ≡ true
 
 -- the line of a process: its name, and the path of its image
 abbrev pub declaration_text : List ℕ → List ℕ → List ℕ

@@ -1,9 +1,9 @@
 //! Lines of a scenario.
 
-ghost use Rattle.std.specs.Prelude.{◌≡◌, ◌==◌, ◌↔◌, IsTrue, not};
+ghost use Rattle.std.specs.Prelude.{◌≡◌, ◌↔◌, IsTrue, not};
 ghost use Rattle.std.specs.List.{list_all};
 ghost use Rattle.scenario.specs.Inside.Loop.{ReadsDeclaration, ReadsLine, TellsFree};
-ghost use Rattle.scenario.specs.Process.{AreNamed, IsPath, names_of};
+ghost use Rattle.scenario.specs.Process.{AreNamed, IsPath, is_blank, names_of};
 ghost use Rattle.scenario.specs.Scenario.{is_silent};
 
 use crate::order::{Order, order_of};
@@ -51,19 +51,20 @@ fn is_silent(line: &[u8]) -> bool
     line.is_empty() || line[0] == b'#'
 }
 
-/// Whether the text is a path: not empty, and without a space.
+/// Whether the text is a path: not empty, and with no blank in it.
 fn is_path(text: &str) -> bool
     ensures { IsTrue result ↔ IsPath text.now }
 {
     let bytes = text.as_bytes();
-    !bytes.is_empty() && has_no_space(bytes)
+    !bytes.is_empty() && has_no_blank(bytes)
 }
 
-/// Whether no byte is a space.
-fn has_no_space(text: &[u8]) -> bool
-    ensures { result ≡ list_all (λ c. not (c == 32)) text.now }
+/// Whether no byte is a space, a tab or a carriage return.
+fn has_no_blank(text: &[u8]) -> bool
+    ensures { result ≡ list_all (λ c. not (is_blank c)) text.now }
 {
-    text.iter().all(|byte| *byte != b' ')
+    text.iter()
+        .all(|byte| !matches!(byte, b' ' | b'\t' | b'\r'))
 }
 
 /// Whether the next process may have this name.
