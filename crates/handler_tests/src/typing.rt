@@ -3,7 +3,7 @@ use regtypes::{
     Flow, Frame, ImageForm, Kind, Region, Rule, bytes_in, flow_from, join, leq, signed_bytes_in,
     transfer,
 };
-use std::test::Fail;
+use std::process::Abort;
 
 const R0: Reg = Reg { number: 0 };
 
@@ -15,105 +15,171 @@ const R3: Reg = Reg { number: 3 };
 
 const R10: Reg = Reg { number: 10 };
 
-fn alu(op: AluOp, width: Width, dst: Reg, operand: Operand) -> Insn {
-    Insn::Alu {
-        op,
-        width,
-        dst,
-        operand,
-    }
-}
+/// An operation in 64 or 32 bits, and the number of the rule that it breaks.
+const OPERATIONS: [(AluOp, Width, Reg, Operand, Option<u8>); 7] = [
+    (AluOp::Add, Width::W64, R3, Operand::Imm(1), Some(3)),
+    (AluOp::Add, Width::W64, R10, Operand::Imm(40000), Some(4)),
+    (AluOp::Mov, Width::W32, R3, Operand::Reg(R1), Some(5)),
+    (AluOp::Mul, Width::W64, R1, Operand::Imm(2), Some(5)),
+    (AluOp::Sub, Width::W64, R1, Operand::Imm(32769), Some(6)),
+    (AluOp::Mov, Width::W64, R3, Operand::Reg(R1), None),
+    (AluOp::Sub, Width::W64, R2, Operand::Imm(32768), None),
+];
 
-/// The number of the rule that an instruction breaks as a call with a state of 8 bytes begins.
-fn breaks(insn: Insn) -> Option<u8> {
-    match transfer(ImageForm::Sbi1, &insn, &Frame::entry(ImageForm::Sbi1), 8) {
+/// Where the last two of these leave a place.
+const PLACES: [(AluOp, Reg, Operand, Kind); 2] = [
+    (
+        AluOp::Mov,
+        R3,
+        Operand::Reg(R1),
+        Kind::Place(Region::Message, 0),
+    ),
+    (
+        AluOp::Sub,
+        R2,
+        Operand::Imm(32768),
+        Kind::Place(Region::State, -32768),
+    ),
+];
+
+/// The source and the offset of a load of 8 bytes, and the number of the rule that it breaks.
+const LOADS: [(Reg, i16, Option<u8>); 7] = [
+    (R1, 56, None),
+    (R1, 57, Some(6)),
+    (R2, 1, Some(6)),
+    (R10, -512, None),
+    (R10, -513, Some(6)),
+    (R10, -7, Some(6)),
+    (R0, 0, Some(3)),
+];
+
+/// The size, the destination and the offset of a store of a number, and the number of the rule that it breaks.
+const STORES: [(Size, Reg, i16, Option<u8>); 3] = [
+    (Size::Byte, R2, 7, None),
+    (Size::Half, R2, 7, Some(6)),
+    (Size::Byte, R1, 0, Some(7)),
+];
+
+/// A helper's number, and the number of the rule that a call of it breaks.
+const CALLS: [(i32, Option<u8>); 5] = [
+    (1, Some(9)),
+    (2, None),
+    (4, None),
+    (5, Some(8)),
+    (-1, Some(8)),
+];
+
+/// A condition of the message's length, and the least length that is then known on both ways, next and taken.
+const LENGTHS: [(Condition, Width, i32, u16, u16); 6] = [
+    (Condition::Less, Width::W64, 8, 8, 0),
+    (Condition::Greater, Width::W64, 7, 0, 8),
+    (Condition::Less, Width::W32, 8, 0, 0),
+    (Condition::GreaterEqual, Width::W64, 257, 0, 0),
+    (Condition::Greater, Width::W64, 255, 0, 256),
+    (Condition::Equal, Width::W64, -1, 0, 0),
+];
+
+/// What r2 holds as helper 6 is called, and whether an image of that form may do that.
+const SIZED: [(ImageForm, Kind, bool); 3] = [
+    (ImageForm::Sbi2, Kind::Len, true),
+    (ImageForm::Sbi1, Kind::Len, false),
+    (ImageForm::Sbi2, Kind::Num, false),
+];
+
+/// This instruction breaks the rule of this number, or none, as a call with a state of 8 bytes begins.
+fn breaks(rt: &impl Abort, insn: Insn, rule: Option<u8>) {
+    let broken = match transfer(ImageForm::Sbi1, &insn, &Frame::entry(ImageForm::Sbi1), 8) {
         Ok(_) => None,
         Err(rule) => Some(rule.number()),
-    }
+    };
+    assert_eq!(rt; broken, rule, "at {insn:?}");
 }
 
 #[test]
-fn rules_of_arithmetic(rt: HostRuntime) -> Result<(), Fail> {
-    let unset = alu(AluOp::Add, Width::W64, R3, Operand::Imm(1));
-    assert_eq!(rt; breaks(unset), Some(3));
-    let written = alu(AluOp::Add, Width::W64, R10, Operand::Imm(40000));
-    assert_eq!(rt; breaks(written), Some(4));
-    let half = alu(AluOp::Mov, Width::W32, R3, Operand::Reg(R1));
-    assert_eq!(rt; breaks(half), Some(5));
-    let times = alu(AluOp::Mul, Width::W64, R1, Operand::Imm(2));
-    assert_eq!(rt; breaks(times), Some(5));
-    let far = alu(AluOp::Sub, Width::W64, R1, Operand::Imm(32769));
-    assert_eq!(rt; breaks(far), Some(6));
+fn rules_of_arithmetic(rt: HostRuntime) {
+    for &(op, width, dst, operand, rule) in OPERATIONS.as_slice() {
+        let insn = Insn::Alu {
+            op,
+            width,
+            dst,
+            operand,
+        };
+        breaks(&rt, insn, rule);
+    }
     let extended = Insn::MovSx {
         extension: Extension::W64From8,
         dst: R3,
         src: R2,
     };
-    assert_eq!(rt; breaks(extended), Some(5));
-    assert_eq!(rt; breaks(Insn::Wide { dst: R10, value: 0 }), Some(4));
-    Ok(())
+    breaks(&rt, extended, Some(5));
+    breaks(&rt, Insn::Wide { dst: R10, value: 0 }, Some(4));
 }
 
 #[test]
-fn places(rt: HostRuntime) -> Result<(), Fail> {
-    let entry = Frame::entry(ImageForm::Sbi1);
-    let copy = alu(AluOp::Mov, Width::W64, R3, Operand::Reg(R1));
-    if let Ok(left) = transfer(ImageForm::Sbi1, &copy, &entry, 0) {
-        assert_eq!(rt; left.next.kind(R3), Kind::Place(Region::Message, 0));
+fn places(rt: HostRuntime) {
+    for &(op, dst, operand, kind) in PLACES.as_slice() {
+        let insn = Insn::Alu {
+            op,
+            width: Width::W64,
+            dst,
+            operand,
+        };
+        let left = match transfer(ImageForm::Sbi1, &insn, &Frame::entry(ImageForm::Sbi1), 0) {
+            Ok(left) => Some(left.next.kind(dst)),
+            Err(_) => None,
+        };
+        assert_eq!(rt; left, Some(kind), "at {insn:?}");
     }
-    let back = alu(AluOp::Sub, Width::W64, R2, Operand::Imm(32768));
-    if let Ok(left) = transfer(ImageForm::Sbi1, &back, &entry, 0) {
-        assert_eq!(rt; left.next.kind(R2), Kind::Place(Region::State, -32768));
-    }
-    assert_eq!(rt; breaks(copy), None);
-    assert_eq!(rt; breaks(back), None);
-    Ok(())
 }
 
 #[test]
-fn rules_of_memory(rt: HostRuntime) -> Result<(), Fail> {
-    let load = |src: Reg, offset: i16| Insn::Load {
-        size: Size::Double,
-        dst: R3,
-        src,
-        offset,
-    };
-    assert_eq!(rt; breaks(load(R1, 56)), None);
-    assert_eq!(rt; breaks(load(R1, 57)), Some(6));
-    assert_eq!(rt; breaks(load(R2, 1)), Some(6));
-    assert_eq!(rt; breaks(load(R10, -512)), None);
-    assert_eq!(rt; breaks(load(R10, -513)), Some(6));
-    assert_eq!(rt; breaks(load(R10, -7)), Some(6));
-    assert_eq!(rt; breaks(load(R0, 0)), Some(3));
+fn rules_of_loads(rt: HostRuntime) {
+    for &(src, offset, rule) in LOADS.as_slice() {
+        let insn = Insn::Load {
+            size: Size::Double,
+            dst: R3,
+            src,
+            offset,
+        };
+        breaks(&rt, insn, rule);
+    }
     let extended = Insn::LoadSx {
         size: SignedSize::Word,
         dst: R3,
         src: R2,
         offset: 4,
     };
-    assert_eq!(rt; breaks(extended), None);
-    let store = |size: Size, dst: Reg, offset: i16| Insn::StoreImm {
-        size,
-        dst,
-        offset,
-        imm: 0,
-    };
-    assert_eq!(rt; breaks(store(Size::Byte, R2, 7)), None);
-    assert_eq!(rt; breaks(store(Size::Half, R2, 7)), Some(6));
-    assert_eq!(rt; breaks(store(Size::Byte, R1, 0)), Some(7));
+    breaks(&rt, extended, None);
+}
+
+#[test]
+fn rules_of_stores(rt: HostRuntime) {
+    for &(size, dst, offset, rule) in STORES.as_slice() {
+        let insn = Insn::StoreImm {
+            size,
+            dst,
+            offset,
+            imm: 0,
+        };
+        breaks(&rt, insn, rule);
+    }
     let place = Insn::StoreReg {
         size: Size::Double,
         dst: R2,
         src: R1,
         offset: 0,
     };
-    assert_eq!(rt; breaks(place), Some(5));
+    breaks(&rt, place, Some(5));
     assert_eq!(rt; bytes_in(Size::Word) + signed_bytes_in(SignedSize::Half), 6);
-    Ok(())
+}
+
+/// Control goes on from this instruction in this way.
+fn flows(rt: &impl Abort, insn: Insn, flow: Flow) {
+    assert_eq!(rt; flow_from(&insn), flow, "at {insn:?}");
 }
 
 #[test]
-fn rules_of_jumps_helpers_and_the_end(rt: HostRuntime) -> Result<(), Fail> {
+fn rules_of_jumps_helpers_and_the_end(rt: HostRuntime) {
     let branch = Insn::JumpIf {
         condition: Condition::Equal,
         width: Width::W64,
@@ -121,72 +187,60 @@ fn rules_of_jumps_helpers_and_the_end(rt: HostRuntime) -> Result<(), Fail> {
         operand: Operand::Imm(0),
         offset: 1,
     };
-    assert_eq!(rt; breaks(branch), Some(5));
-    assert_eq!(rt; flow_from(&branch), Flow::Forks(1));
-    assert_eq!(rt; breaks(Insn::Jump { offset: -1 }), None);
-    assert_eq!(rt;
-        flow_from(&Insn::Wide { dst: R0, value: 0 }),
-        Flow::Falls(2)
-    );
-    assert_eq!(rt; breaks(Insn::Call { helper: 1 }), Some(9));
-    assert_eq!(rt; breaks(Insn::Call { helper: 2 }), None);
-    assert_eq!(rt; breaks(Insn::Call { helper: 4 }), None);
-    assert_eq!(rt; breaks(Insn::Call { helper: 5 }), Some(8));
-    assert_eq!(rt; breaks(Insn::Call { helper: -1 }), Some(8));
-    assert_eq!(rt; breaks(Insn::Exit), Some(10));
-    Ok(())
+    breaks(&rt, branch, Some(5));
+    flows(&rt, branch, Flow::Forks(1));
+    breaks(&rt, Insn::Jump { offset: -1 }, None);
+    flows(&rt, Insn::Wide { dst: R0, value: 0 }, Flow::Falls(2));
+    for &(helper, rule) in CALLS.as_slice() {
+        breaks(&rt, Insn::Call { helper }, rule);
+    }
+    breaks(&rt, Insn::Exit, Some(10));
+}
+
+/// Of these frames the second allows more, and is what both allow.
+fn is_below(rt: &impl Abort, low: &Frame, high: &Frame) {
+    let order = (leq(low, high), leq(high, low));
+    assert_eq!(rt; order, (true, false));
+    assert_eq!(rt; join(low, high), *high);
 }
 
 #[test]
-fn order_of_frames(rt: HostRuntime) -> Result<(), Fail> {
+fn order_of_frames(rt: HostRuntime) {
     let entry = Frame::entry(ImageForm::Sbi1);
     let more = entry.with(R3, Kind::Num);
-    assert!(rt; leq(&more, &entry));
-    assert!(rt; !leq(&entry, &more));
-    assert_eq!(rt; join(&more, &entry), entry);
+    is_below(&rt, &more, &entry);
     let other = entry.with(R2, Kind::Place(Region::State, 8));
     assert_eq!(rt; join(&more, &other).kind(R2), Kind::Unset);
     assert_eq!(rt; Rule::V10.number(), 10);
-    Ok(())
-}
-
-/// The least length that is known on both ways, next and taken, of a comparison of the message's
-/// length, as a call begins.
-fn known(condition: Condition, width: Width, number: i32) -> Option<(u16, u16)> {
-    let compare = Insn::JumpIf {
-        condition,
-        width,
-        dst: R3,
-        operand: Operand::Imm(number),
-        offset: 1,
-    };
-    match transfer(ImageForm::Sbi2, &compare, &Frame::entry(ImageForm::Sbi2), 8) {
-        Ok(left) => Some((left.next.low, left.taken.low)),
-        Err(_) => None,
-    }
 }
 
 #[test]
-fn lengths(rt: HostRuntime) -> Result<(), Fail> {
+fn lengths(rt: HostRuntime) {
     let entry = Frame::entry(ImageForm::Sbi2);
-    assert_eq!(rt; entry.low, 0);
-    assert_eq!(rt; ImageForm::Sbi2.number(), 2);
-    assert_eq!(rt; known(Condition::Less, Width::W64, 8), Some((8, 0)));
-    assert_eq!(rt; known(Condition::Greater, Width::W64, 7), Some((0, 8)));
-    assert_eq!(rt; known(Condition::Less, Width::W32, 8), Some((0, 0)));
-    assert_eq!(rt;
-        known(Condition::GreaterEqual, Width::W64, 257),
-        Some((0, 0))
-    );
-    assert_eq!(rt; known(Condition::Greater, Width::W64, 255), Some((0, 256)));
-    assert_eq!(rt; known(Condition::Equal, Width::W64, -1), Some((0, 0)));
-    let sized = Insn::Call { helper: 6 };
-    let whole = entry.with(R2, Kind::Len);
-    assert!(rt; transfer(ImageForm::Sbi2, &sized, &whole, 0).is_ok());
-    assert!(rt; transfer(ImageForm::Sbi1, &sized, &whole, 0).is_err());
-    let number = entry.with(R2, Kind::Num);
-    assert!(rt; transfer(ImageForm::Sbi2, &sized, &number, 0).is_err());
-    assert!(rt; leq(&whole, &number));
-    assert_eq!(rt; join(&whole, &number), number);
-    Ok(())
+    for &(condition, width, number, next, taken) in LENGTHS.as_slice() {
+        let compare = Insn::JumpIf {
+            condition,
+            width,
+            dst: R3,
+            operand: Operand::Imm(number),
+            offset: 1,
+        };
+        let known = match transfer(ImageForm::Sbi2, &compare, &entry, 8) {
+            Ok(left) => Some((left.next.low, left.taken.low)),
+            Err(_) => None,
+        };
+        assert_eq!(rt; known, Some((next, taken)), "at {compare:?}");
+    }
+    assert_eq!(rt; (entry.low, ImageForm::Sbi2.number()), (0, 2));
+}
+
+#[test]
+fn sized_outputs(rt: HostRuntime) {
+    let entry = Frame::entry(ImageForm::Sbi2);
+    for &(form, kind, allowed) in SIZED.as_slice() {
+        let frame = entry.with(R2, kind);
+        let may = transfer(form, &Insn::Call { helper: 6 }, &frame, 0).is_ok();
+        assert_eq!(rt; may, allowed, "{kind:?} in {form:?}");
+    }
+    is_below(&rt, &entry.with(R2, Kind::Len), &entry.with(R2, Kind::Num));
 }
