@@ -79,6 +79,18 @@ const EXTENSIONS: [(Extension, u8, u8); 5] = [
     (Extension::W64From32, 0xbf, 32),
 ];
 
+const JUMPS: [([u8; 8], Insn); 4] = [
+    ([0x05, 0, 0xfe, 0xff, 0, 0, 0, 0], Insn::Jump { offset: -2 }),
+    (
+        [0x06, 0, 0, 0, 1, 2, 3, 4],
+        Insn::JumpLong {
+            distance: 0x0403_0201,
+        },
+    ),
+    ([0x85, 0, 0, 0, 2, 0, 0, 0], Insn::Call { helper: 2 }),
+    ([0x95, 0, 0, 0, 0, 0, 0, 0], Insn::Exit),
+];
+
 /// Slots that are refused alone; several break more than one rule.
 const REFUSED: [([u8; 8], Rule); 22] = [
     ([0x00, 0, 0, 0, 0, 0, 0, 0], Rule::Opcode),
@@ -129,6 +141,11 @@ fn refusal(alloc: Global, bytes: &[u8]) -> Option<(Rule, usize)> {
         Err(DecodeError::Fault { rule, slot }) => Some((rule, slot)),
         _ => None,
     }
+}
+
+/// These bytes are refused since this slot breaks this rule.
+fn is_refused(rt: &impl Abort, alloc: Global, bytes: &[u8], rule: Rule, slot: usize) {
+    assert_eq!(rt; refusal(alloc, bytes), Some((rule, slot)), "at {bytes:?}");
 }
 
 fn each_operation(
@@ -254,20 +271,9 @@ fn conditions(rt: HostRuntime) -> Result<(), Fail> {
 
 #[test]
 fn jumps_and_calls(rt: HostRuntime) -> Result<(), Fail> {
-    let alloc = rt.alloc();
-    let back = Insn::Jump { offset: -2 };
-    is_encoded(&rt, alloc, &[0x05, 0, 0xfe, 0xff, 0, 0, 0, 0], back)?;
-    let far = Insn::JumpLong {
-        distance: 0x0403_0201,
-    };
-    is_encoded(&rt, alloc, &[0x06, 0, 0, 0, 1, 2, 3, 4], far)?;
-    is_encoded(
-        &rt,
-        alloc,
-        &[0x85, 0, 0, 0, 2, 0, 0, 0],
-        Insn::Call { helper: 2 },
-    )?;
-    is_encoded(&rt, alloc, &[0x95, 0, 0, 0, 0, 0, 0, 0], Insn::Exit)?;
+    for (bytes, insn) in &JUMPS {
+        is_encoded(&rt, rt.alloc(), bytes, *insn)?;
+    }
     Ok(())
 }
 
@@ -350,8 +356,7 @@ fn adder_there_and_back(rt: HostRuntime) -> Result<(), Fail> {
 #[test]
 fn wide_takes_two_slots(rt: HostRuntime) -> Result<(), Fail> {
     let insns = decode(rt.alloc(), &WIDE)?;
-    assert_eq!(rt; insns.len(), 1);
-    assert_eq!(rt; slots(&insns), 2);
+    assert_eq!(rt; (insns.len(), slots(&insns)), (1, 2));
     Ok(())
 }
 
@@ -369,36 +374,38 @@ fn opcodes(rt: HostRuntime) -> Result<(), Fail> {
 }
 
 #[test]
-fn refused_slots(rt: HostRuntime) -> Result<(), Fail> {
+fn refused_slots(rt: HostRuntime) {
     for (bytes, rule) in &REFUSED {
-        assert_eq!(rt; refusal(rt.alloc(), bytes), Some((*rule, 0)));
+        is_refused(&rt, rt.alloc(), bytes, *rule, 0);
     }
-    Ok(())
 }
 
 /// A fault of the second slot of a wide instruction is one of its first slot.
 #[test]
-fn refused_second_slots(rt: HostRuntime) -> Result<(), Fail> {
-    for (place, byte) in [(8, 0x01), (9, 0xbb), (10, 0x01), (11, 0x80), (1, 0x71)] {
+fn refused_second_slots(rt: HostRuntime) {
+    for (place, byte, rule) in [
+        (8, 0x01, Rule::Field),
+        (9, 0xbb, Rule::Field),
+        (10, 0x01, Rule::Field),
+        (11, 0x80, Rule::Field),
+        (1, 0x71, Rule::Field),
+        (1, 0x11, Rule::Profile),
+    ] {
         let mut bytes = WIDE;
         bytes[place] = byte;
-        assert_eq!(rt; refusal(rt.alloc(), &bytes), Some((Rule::Field, 0)));
+        is_refused(&rt, rt.alloc(), &bytes, rule, 0);
     }
-    let mut mapped = WIDE;
-    mapped[1] = 0x11;
-    assert_eq!(rt; refusal(rt.alloc(), &mapped), Some((Rule::Profile, 0)));
-    Ok(())
 }
 
 #[test]
-fn refused_first(rt: HostRuntime) -> Result<(), Fail> {
+fn refused_first(rt: HostRuntime) {
     // The length, before the opcode.
-    assert_eq!(rt; refusal(rt.alloc(), &[0xff; 7]), Some((Rule::Length, 0)));
+    is_refused(&rt, rt.alloc(), &[0xff; 7], Rule::Length, 0);
     // The first slot with a fault.
     let mut bytes = ADDER;
     bytes[20] = 1;
     bytes[32] = 0;
-    assert_eq!(rt; refusal(rt.alloc(), &bytes), Some((Rule::Field, 2)));
+    is_refused(&rt, rt.alloc(), &bytes, Rule::Field, 2);
     // A wide instruction counts two.
     let mut bytes = ADDER;
     bytes[8] = 0x18;
@@ -406,7 +413,12 @@ fn refused_first(rt: HostRuntime) -> Result<(), Fail> {
     bytes[16] = 0;
     bytes[17] = 0;
     bytes[24] = 0;
-    assert_eq!(rt; refusal(rt.alloc(), &bytes), Some((Rule::Opcode, 3)));
+    is_refused(&rt, rt.alloc(), &bytes, Rule::Opcode, 3);
+}
+
+/// The error is shown so.
+fn is_shown(rt: &impl Abort, alloc: Global, error: DecodeError, text: &str) -> Result<(), Fail> {
+    assert_eq!(rt; format!(in alloc; "{error}")?.as_str(), text);
     Ok(())
 }
 
@@ -416,17 +428,19 @@ fn errors_shown(rt: HostRuntime) -> Result<(), Fail> {
         rule: Rule::Register,
         slot: 3,
     };
-    let shown = format!(in rt.alloc(); "{fault}")?;
-    assert_eq!(rt; shown.as_str(), "slot 3: register above r10 (rule 4)");
-    let shown = format!(in rt.alloc(); "{}", DecodeError::Memory)?;
-    assert_eq!(rt; shown.as_str(), "out of memory");
+    is_shown(
+        &rt,
+        rt.alloc(),
+        fault,
+        "slot 3: register above r10 (rule 4)",
+    )?;
+    is_shown(&rt, rt.alloc(), DecodeError::Memory, "out of memory")?;
     Ok(())
 }
 
 #[test]
-fn registers(rt: HostRuntime) -> Result<(), Fail> {
-    assert_eq!(rt; Reg::new(0), Some(R0));
-    assert_eq!(rt; Reg::new(10), Some(R10));
-    assert_eq!(rt; Reg::new(11), None);
-    Ok(())
+fn registers(rt: HostRuntime) {
+    for (number, reg) in [(0, Some(R0)), (10, Some(R10)), (11, None)] {
+        assert_eq!(rt; Reg::new(number), reg, "at {number}");
+    }
 }
