@@ -211,6 +211,21 @@ const EXTENSIONS: [(Extension, u64, u64); 10] = [
     (Extension::W32From16, 0xff_7fff, 0x7fff),
 ];
 
+// a size, what is loaded and its result
+const LOADS: [(SignedSize, u64, u64); 4] = [
+    (SignedSize::Byte, 0xff, 0xffff_ffff_ffff_ffff),
+    (SignedSize::Byte, 0x7f, 0x7f),
+    (SignedSize::Half, 0x8000, 0xffff_ffff_ffff_8000),
+    (SignedSize::Word, 0x8000_0000, 0xffff_ffff_8000_0000),
+];
+
+// a number of an instruction and its word
+const IMMEDIATES: [(i32, u64); 3] = [
+    (-1, 0xffff_ffff_ffff_ffff),
+    (-2_147_483_648, 0xffff_ffff_8000_0000),
+    (2_147_483_647, 0x7fff_ffff),
+];
+
 fn agree(rt: &impl Abort, rows: &[(AluOp, u64, u64, u64, u64)]) {
     for (op, a, b, whole, half) in rows {
         let in_64_bits = alu(*op, Width::W64, *a, *b);
@@ -277,21 +292,15 @@ fn extensions(rt: HostRuntime) {
 }
 
 #[test]
-fn loads_and_immediates(rt: HostRuntime) {
-    assert_eq!(rt;
-        sign_extended(SignedSize::Byte, 0xff),
-        0xffff_ffff_ffff_ffff
-    );
-    assert_eq!(rt; sign_extended(SignedSize::Byte, 0x7f), 0x7f);
-    assert_eq!(rt;
-        sign_extended(SignedSize::Half, 0x8000),
-        0xffff_ffff_ffff_8000
-    );
-    assert_eq!(rt;
-        sign_extended(SignedSize::Word, 0x8000_0000),
-        0xffff_ffff_8000_0000
-    );
-    assert_eq!(rt; word_of_imm(-1), 0xffff_ffff_ffff_ffff);
-    assert_eq!(rt; word_of_imm(-2_147_483_648), 0xffff_ffff_8000_0000);
-    assert_eq!(rt; word_of_imm(2_147_483_647), 0x7fff_ffff);
+fn loads(rt: HostRuntime) {
+    for (size, a, want) in &LOADS {
+        assert_eq!(rt; sign_extended(*size, *a), *want, "{size:?} of {a}");
+    }
+}
+
+#[test]
+fn immediates(rt: HostRuntime) {
+    for (imm, want) in &IMMEDIATES {
+        assert_eq!(rt; word_of_imm(*imm), *want, "of {imm}");
+    }
 }
