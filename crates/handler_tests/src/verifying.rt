@@ -1,8 +1,7 @@
-ghost use Rattle.std.specs.Prelude.{◌≤◌, length};
-
 use decode::{Insn, Reg};
 use regtypes::{ImageForm, Kind, Region};
 use std::alloc::Global;
+use std::process::Abort;
 use std::test::Fail;
 use verifier::{Image, ImageError, file, load, parts, verify, verify_form};
 
@@ -31,48 +30,52 @@ fn verdict_of(alloc: Global, bytes: &[u8]) -> Verdict {
     }
 }
 
-/// The verdict of the file of form 1 of these slots, with a state of this length.
-fn verdict_of_slots(alloc: Global, state_len: u8, slots: &[[u8; 8]]) -> Result<Verdict, Fail>
-    requires { length slots.now ≤ 255 }
-{
-    verdict_of_form(alloc, 0x31, state_len, slots)
+// An assertion is proved where it stands, so the tests share those below.
+
+fn is_judged(rt: &impl Abort, alloc: Global, what: &str, bytes: &[u8], verdict: Verdict) {
+    assert_eq!(rt; verdict_of(alloc, bytes), verdict, "{what}");
 }
 
-/// The verdict of the file of these slots whose fourth byte is this.
-fn verdict_of_form(
-    alloc: Global,
-    form: u8,
-    state_len: u8,
-    slots: &[[u8; 8]],
-) -> Result<Verdict, Fail>
-    requires { length slots.now ≤ 255 }
-{
-    let mut bytes = Vec::from_slice(alloc, &[0x53, 0x42, 0x49, form])?;
-    bytes.extend_from_slice(&[state_len, 0, slots.len() as u8, 0])?;
-    for slot in slots {
-        bytes.extend_from_slice(slot)?;
+/// What a file is, its fourth byte, the length of its state, its slots, and the verdict on it.
+type Row = (&'static str, u8, u8, &'static [[u8; 8]], Verdict);
+
+fn each_judged(rt: &impl Abort, alloc: Global, rows: &[Row]) -> Result<(), Fail> {
+    for &(what, form, state_len, slots, verdict) in rows {
+        let mut bytes = Vec::from_slice(alloc, &[0x53, 0x42, 0x49, form])?;
+        bytes.extend_from_slice(&[state_len, 0, u8::try_from(slots.len())?, 0])?;
+        for slot in slots {
+            bytes.extend_from_slice(slot)?;
+        }
+        is_judged(rt, alloc, what, &bytes, verdict);
     }
-    Ok(verdict_of(alloc, &bytes))
+    Ok(())
+}
+
+fn is_number(rt: &impl Abort, what: &str, number: usize, wanted: usize) {
+    assert_eq!(rt; number, wanted, "{what}");
+}
+
+fn is_answer(rt: &impl Abort, what: &str, answer: bool, wanted: bool) {
+    assert_eq!(rt; answer, wanted, "{what}");
+}
+
+fn is_kind(rt: &impl Abort, image: &Image, slot: usize, reg: Reg, wanted: Kind) {
+    let found = image.kinds_at(slot).map(|kinds| kinds.kind(reg));
+    assert_eq!(rt; found, Some(wanted), "of {reg:?} at {slot}");
 }
 
 #[test]
 fn adder(rt: HostRuntime) -> Result<(), Fail> {
     let image = load(rt.alloc(), &ADDER)?;
-    assert_eq!(rt; image.count(), 6);
-    assert_eq!(rt; image.state_len(), 8);
-    assert_eq!(rt; image.code().len(), 6);
+    is_number(&rt, "slots", image.count(), 6);
+    is_number(&rt, "bytes of the state", usize::from(image.state_len()), 8);
+    is_number(&rt, "instructions", image.code().len(), 6);
     let one = Reg { number: 1 };
     let three = Reg { number: 3 };
-    let Some(first) = image.kinds_at(0) else {
-        return Err("slot 0")?;
-    };
-    assert_eq!(rt; first.kind(one), Kind::Place(Region::Message, 0));
-    assert_eq!(rt; first.kind(three), Kind::Unset);
-    let Some(second) = image.kinds_at(1) else {
-        return Err("slot 1")?;
-    };
-    assert_eq!(rt; second.kind(three), Kind::Num);
-    assert!(rt; image.kinds_at(6).is_none());
+    is_kind(&rt, &image, 0, one, Kind::Place(Region::Message, 0));
+    is_kind(&rt, &image, 0, three, Kind::Unset);
+    is_kind(&rt, &image, 1, three, Kind::Num);
+    is_answer(&rt, "past the end", image.kinds_at(6).is_none(), true);
     Ok(())
 }
 
@@ -99,20 +102,19 @@ fn there_and_back(rt: HostRuntime) -> Result<(), Fail> {
 }
 
 #[test]
-fn headers(rt: HostRuntime) -> Result<(), Fail> {
+fn headers(rt: HostRuntime) {
     let alloc = rt.alloc();
-    assert_eq!(rt; verdict_of(alloc, &[]), Verdict::Header(1));
-    assert_eq!(rt; verdict_of(alloc, &ADDER[..7]), Verdict::Header(1));
-    assert_eq!(rt; verdict_of(alloc, &ADDER[1..]), Verdict::Header(2));
+    is_judged(&rt, alloc, "no bytes", &[], Verdict::Header(1));
+    is_judged(&rt, alloc, "7 bytes", &ADDER[..7], Verdict::Header(1));
+    is_judged(&rt, alloc, "no first byte", &ADDER[1..], Verdict::Header(2));
     let long = [0x53, 0x42, 0x49, 0x31, 0x01, 0x04, 0x00, 0x00];
-    assert_eq!(rt; verdict_of(alloc, &long), Verdict::Header(3));
+    is_judged(&rt, alloc, "state of 1025 bytes", &long, Verdict::Header(3));
     let empty = [0x53, 0x42, 0x49, 0x31, 0x00, 0x04, 0x00, 0x00];
-    assert_eq!(rt; verdict_of(alloc, &empty), Verdict::Header(4));
+    is_judged(&rt, alloc, "no slots", &empty, Verdict::Header(4));
     let many = [0x53, 0x42, 0x49, 0x31, 0x00, 0x04, 0x01, 0x04];
-    assert_eq!(rt; verdict_of(alloc, &many), Verdict::Header(4));
-    assert_eq!(rt; verdict_of(alloc, &ADDER[..55]), Verdict::Header(5));
-    assert_eq!(rt; verdict_of(alloc, &ADDER[..48]), Verdict::Header(5));
-    Ok(())
+    is_judged(&rt, alloc, "1025 slots", &many, Verdict::Header(4));
+    is_judged(&rt, alloc, "a byte less", &ADDER[..55], Verdict::Header(5));
+    is_judged(&rt, alloc, "a slot less", &ADDER[..48], Verdict::Header(5));
 }
 
 const EXIT: [u8; 8] = [0x95, 0, 0, 0, 0, 0, 0, 0];
@@ -127,111 +129,175 @@ const SKIP_IF_R3_IS_0: [u8; 8] = [0x15, 0x03, 1, 0, 0, 0, 0, 0];
 
 const OUTPUT: [u8; 8] = [0x85, 0, 0, 0, 2, 0, 0, 0];
 
+const LOAD_AT_0: [[u8; 8]; 2] = [[0x79, 0x20, 0, 0, 0, 0, 0, 0], EXIT];
+
+const STRAIGHT: [Row; 5] = [
+    (
+        "bad field",
+        0x31,
+        8,
+        &[[0x0f, 0x34, 0, 0, 1, 0, 0, 0]],
+        Verdict::Decode(3, 0),
+    ),
+    ("r0 unset", 0x31, 8, &[EXIT], Verdict::Verify(10, 0)),
+    ("state of 7", 0x31, 7, &LOAD_AT_0, Verdict::Verify(6, 0)),
+    ("state of 8", 0x31, 8, &LOAD_AT_0, Verdict::Accepted(2)),
+    (
+        "no end",
+        0x31,
+        8,
+        &[R3_FROM_MESSAGE, R0_IS_0],
+        Verdict::Verify(2, 1),
+    ),
+];
+
 #[test]
 fn straight_code(rt: HostRuntime) -> Result<(), Fail> {
-    let alloc = rt.alloc();
-    let bad = [0x0f, 0x34, 0, 0, 1, 0, 0, 0];
-    assert_eq!(rt; verdict_of_slots(alloc, 8, &[bad])?, Verdict::Decode(3, 0));
-    assert_eq!(rt;
-        verdict_of_slots(alloc, 8, &[EXIT])?,
-        Verdict::Verify(10, 0)
-    );
-    let load = [[0x79, 0x20, 0, 0, 0, 0, 0, 0], EXIT];
-    assert_eq!(rt; verdict_of_slots(alloc, 7, &load)?, Verdict::Verify(6, 0));
-    assert_eq!(rt; verdict_of_slots(alloc, 8, &load)?, Verdict::Accepted(2));
-    let open = [R3_FROM_MESSAGE, R0_IS_0];
-    assert_eq!(rt; verdict_of_slots(alloc, 8, &open)?, Verdict::Verify(2, 1));
-    Ok(())
+    each_judged(&rt, rt.alloc(), &STRAIGHT)
 }
 
 #[test]
 fn cut_code(rt: HostRuntime) -> Result<(), Fail> {
     let mut bytes = Vec::from_slice(rt.alloc(), &ADDER[..48])?;
     bytes[6] = 5;
-    assert_eq!(rt; verdict_of(rt.alloc(), &bytes), Verdict::Verify(2, 4));
+    is_judged(&rt, rt.alloc(), "no exit", &bytes, Verdict::Verify(2, 4));
     Ok(())
 }
+
+const JUMPS: [Row; 5] = [
+    (
+        "back",
+        0x31,
+        8,
+        &[[0x05, 0, 0xff, 0xff, 0, 0, 0, 0], R0_IS_0, EXIT],
+        Verdict::Verify(1, 0),
+    ),
+    (
+        "to the next",
+        0x31,
+        8,
+        &[[0x05, 0, 0, 0, 0, 0, 0, 0], R0_IS_0, EXIT],
+        Verdict::Accepted(3),
+    ),
+    (
+        "past the end",
+        0x31,
+        8,
+        &[[0x06, 0, 0, 0, 2, 0, 0, 0], R0_IS_0, EXIT],
+        Verdict::Verify(1, 0),
+    ),
+    (
+        "inside of two slots",
+        0x31,
+        8,
+        &[
+            [0x05, 0, 1, 0, 0, 0, 0, 0],
+            [0x18, 0, 0, 0, 0, 0, 0, 0],
+            [0; 8],
+            EXIT,
+        ],
+        Verdict::Verify(1, 0),
+    ),
+    // What the jump leaps over is not judged: it reads r9, which is not set.
+    (
+        "over",
+        0x31,
+        8,
+        &[
+            [0x05, 0, 1, 0, 0, 0, 0, 0],
+            [0xbf, 0x90, 0, 0, 0, 0, 0, 0],
+            R0_IS_0,
+            EXIT,
+        ],
+        Verdict::Accepted(4),
+    ),
+];
 
 #[test]
 fn jumps(rt: HostRuntime) -> Result<(), Fail> {
-    let alloc = rt.alloc();
-    let back = [[0x05, 0, 0xff, 0xff, 0, 0, 0, 0], R0_IS_0, EXIT];
-    assert_eq!(rt; verdict_of_slots(alloc, 8, &back)?, Verdict::Verify(1, 0));
-    let next = [[0x05, 0, 0, 0, 0, 0, 0, 0], R0_IS_0, EXIT];
-    assert_eq!(rt; verdict_of_slots(alloc, 8, &next)?, Verdict::Accepted(3));
-    let past = [[0x06, 0, 0, 0, 2, 0, 0, 0], R0_IS_0, EXIT];
-    assert_eq!(rt; verdict_of_slots(alloc, 8, &past)?, Verdict::Verify(1, 0));
-    let inside = [
-        [0x05, 0, 1, 0, 0, 0, 0, 0],
-        [0x18, 0, 0, 0, 0, 0, 0, 0],
-        [0; 8],
-        EXIT,
-    ];
-    assert_eq!(rt; verdict_of_slots(alloc, 8, &inside)?, Verdict::Verify(1, 0));
-    // What the jump leaps over is not judged: it reads r9, which is not set.
-    let over = [
-        [0x05, 0, 1, 0, 0, 0, 0, 0],
-        [0xbf, 0x90, 0, 0, 0, 0, 0, 0],
-        R0_IS_0,
-        EXIT,
-    ];
-    assert_eq!(rt; verdict_of_slots(alloc, 8, &over)?, Verdict::Accepted(4));
-    Ok(())
+    each_judged(&rt, rt.alloc(), &JUMPS)
 }
+
+const JOINS: [Row; 3] = [
+    (
+        "set on one way",
+        0x31,
+        8,
+        &[R3_FROM_MESSAGE, SKIP_IF_R3_IS_0, R0_IS_1, EXIT],
+        Verdict::Verify(10, 3),
+    ),
+    (
+        "set on both ways",
+        0x31,
+        8,
+        &[R0_IS_0, R3_FROM_MESSAGE, SKIP_IF_R3_IS_0, R0_IS_1, EXIT],
+        Verdict::Accepted(5),
+    ),
+    (
+        "two places",
+        0x31,
+        8,
+        &[
+            R3_FROM_MESSAGE,
+            [0xbf, 0x14, 0, 0, 0, 0, 0, 0],
+            SKIP_IF_R3_IS_0,
+            [0xbf, 0x24, 0, 0, 0, 0, 0, 0],
+            [0x79, 0x40, 0, 0, 0, 0, 0, 0],
+            EXIT,
+        ],
+        Verdict::Verify(3, 4),
+    ),
+];
 
 #[test]
 fn joins(rt: HostRuntime) -> Result<(), Fail> {
-    let alloc = rt.alloc();
-    let one_way = [R3_FROM_MESSAGE, SKIP_IF_R3_IS_0, R0_IS_1, EXIT];
-    assert_eq!(rt;
-        verdict_of_slots(alloc, 8, &one_way)?,
-        Verdict::Verify(10, 3)
-    );
-    let both_ways = [R0_IS_0, R3_FROM_MESSAGE, SKIP_IF_R3_IS_0, R0_IS_1, EXIT];
-    assert_eq!(rt;
-        verdict_of_slots(alloc, 8, &both_ways)?,
-        Verdict::Accepted(5)
-    );
-    let two_places = [
-        R3_FROM_MESSAGE,
-        [0xbf, 0x14, 0, 0, 0, 0, 0, 0],
-        SKIP_IF_R3_IS_0,
-        [0xbf, 0x24, 0, 0, 0, 0, 0, 0],
-        [0x79, 0x40, 0, 0, 0, 0, 0, 0],
-        EXIT,
-    ];
-    assert_eq!(rt;
-        verdict_of_slots(alloc, 8, &two_places)?,
-        Verdict::Verify(3, 4)
-    );
-    Ok(())
+    each_judged(&rt, rt.alloc(), &JOINS)
 }
+
+const R1_IS_R10: [u8; 8] = [0xbf, 0xa1, 0, 0, 0, 0, 0, 0];
+
+const DOWN_64: [u8; 8] = [0x07, 0x01, 0, 0, 0xc0, 0xff, 0xff, 0xff];
+
+const DOWN_63: [u8; 8] = [0x07, 0x01, 0, 0, 0xc1, 0xff, 0xff, 0xff];
+
+const SEND_SIZED: [u8; 8] = [0x85, 0, 0, 0, 5, 0, 0, 0];
+
+const R1_IS_0: [u8; 8] = [0xb7, 0x01, 0, 0, 0, 0, 0, 0];
+
+const HELPERS: [Row; 4] = [
+    (
+        "64 bytes of the stack",
+        0x31,
+        0,
+        &[R1_IS_R10, DOWN_64, OUTPUT, EXIT],
+        Verdict::Accepted(4),
+    ),
+    (
+        "63 bytes of the stack",
+        0x31,
+        0,
+        &[R1_IS_R10, DOWN_63, OUTPUT, EXIT],
+        Verdict::Verify(9, 2),
+    ),
+    (
+        "helper of form 2",
+        0x31,
+        0,
+        &[R1_IS_R10, DOWN_64, SEND_SIZED, EXIT],
+        Verdict::Verify(8, 2),
+    ),
+    (
+        "a number for a place",
+        0x31,
+        0,
+        &[R1_IS_0, OUTPUT, EXIT],
+        Verdict::Verify(9, 1),
+    ),
+];
 
 #[test]
 fn helpers(rt: HostRuntime) -> Result<(), Fail> {
-    let alloc = rt.alloc();
-    let copy = [0xbf, 0xa1, 0, 0, 0, 0, 0, 0];
-    let down = [0x07, 0x01, 0, 0, 0xc0, 0xff, 0xff, 0xff];
-    let short = [0x07, 0x01, 0, 0, 0xc1, 0xff, 0xff, 0xff];
-    let fifth = [0x85, 0, 0, 0, 5, 0, 0, 0];
-    let number = [0xb7, 0x01, 0, 0, 0, 0, 0, 0];
-    assert_eq!(rt;
-        verdict_of_slots(alloc, 0, &[copy, down, OUTPUT, EXIT])?,
-        Verdict::Accepted(4)
-    );
-    assert_eq!(rt;
-        verdict_of_slots(alloc, 0, &[copy, short, OUTPUT, EXIT])?,
-        Verdict::Verify(9, 2)
-    );
-    assert_eq!(rt;
-        verdict_of_slots(alloc, 0, &[copy, down, fifth, EXIT])?,
-        Verdict::Verify(8, 2)
-    );
-    assert_eq!(rt;
-        verdict_of_slots(alloc, 0, &[number, OUTPUT, EXIT])?,
-        Verdict::Verify(9, 1)
-    );
-    Ok(())
+    each_judged(&rt, rt.alloc(), &HELPERS)
 }
 
 #[test]
@@ -242,88 +308,116 @@ fn wide_instruction(rt: HostRuntime) -> Result<(), Fail> {
     };
     let code = vec![in rt.alloc(); zero, Insn::Exit]?;
     let image = verify(rt.alloc(), code, 0)?;
-    assert_eq!(rt; image.count(), 2);
-    assert!(rt; image.kinds_at(0).is_some());
-    assert!(rt; image.kinds_at(1).is_none());
-    assert!(rt; image.kinds_at(2).is_some());
+    is_number(&rt, "instructions", image.count(), 2);
+    is_answer(&rt, "first slot", image.kinds_at(0).is_some(), true);
+    is_answer(&rt, "second slot", image.kinds_at(1).is_none(), true);
+    is_answer(&rt, "next slot", image.kinds_at(2).is_some(), true);
     Ok(())
 }
+
+const R4_FROM_MESSAGE: [u8; 8] = [0x79, 0x14, 0, 0, 0, 0, 0, 0];
+
+const R5_FROM_STATE: [u8; 8] = [0x79, 0x25, 0, 0, 0, 0, 0, 0];
+
+const ADD_R4_TO_R5: [u8; 8] = [0x0f, 0x45, 0, 0, 0, 0, 0, 0];
+
+const R5_TO_STATE: [u8; 8] = [0x7b, 0x52, 0, 0, 0, 0, 0, 0];
+
+const OUTPUT_SIZED: [u8; 8] = [0x85, 0, 0, 0, 6, 0, 0, 0];
+
+const EIGHT: [[u8; 8]; 7] = [
+    [0xa5, 0x03, 4, 0, 8, 0, 0, 0],
+    R4_FROM_MESSAGE,
+    R5_FROM_STATE,
+    ADD_R4_TO_R5,
+    R5_TO_STATE,
+    R0_IS_0,
+    EXIT,
+];
+
+const TWO: [[u8; 8]; 4] = [[0xb7, 0x02, 0, 0, 2, 0, 0, 0], OUTPUT_SIZED, R0_IS_0, EXIT];
+
+const LONG: [Row; 7] = [
+    ("8 bytes", 0x32, 8, &EIGHT, Verdict::Accepted(7)),
+    ("8 bytes in form 1", 0x31, 8, &EIGHT, Verdict::Verify(3, 0)),
+    (
+        "7 bytes",
+        0x32,
+        8,
+        &[
+            [0xa5, 0x03, 4, 0, 7, 0, 0, 0],
+            R4_FROM_MESSAGE,
+            R5_FROM_STATE,
+            ADD_R4_TO_R5,
+            R5_TO_STATE,
+            R0_IS_0,
+            EXIT,
+        ],
+        Verdict::Verify(6, 1),
+    ),
+    (
+        "low half",
+        0x32,
+        8,
+        &[
+            [0xa6, 0x03, 4, 0, 8, 0, 0, 0],
+            R4_FROM_MESSAGE,
+            R5_FROM_STATE,
+            ADD_R4_TO_R5,
+            R5_TO_STATE,
+            R0_IS_0,
+            EXIT,
+        ],
+        Verdict::Verify(6, 1),
+    ),
+    (
+        "whole message",
+        0x32,
+        0,
+        &[[0xbf, 0x32, 0, 0, 0, 0, 0, 0], OUTPUT_SIZED, R0_IS_0, EXIT],
+        Verdict::Accepted(4),
+    ),
+    ("2 bytes", 0x32, 0, &TWO, Verdict::Verify(9, 1)),
+    ("2 bytes in form 1", 0x31, 0, &TWO, Verdict::Verify(8, 1)),
+];
 
 #[test]
 fn handlers_that_know_the_length(rt: HostRuntime) -> Result<(), Fail> {
     let alloc = rt.alloc();
     let mut adder = Vec::from_slice(alloc, &ADDER)?;
     adder[3] = 0x32;
-    assert_eq!(rt; verdict_of(alloc, &adder), Verdict::Verify(6, 0));
+    is_judged(&rt, alloc, "form 2", &adder, Verdict::Verify(6, 0));
     adder[3] = 0x33;
-    assert_eq!(rt; verdict_of(alloc, &adder), Verdict::Header(2));
-    let rest = |jump: [u8; 8]| {
-        [
-            jump,
-            [0x79, 0x14, 0, 0, 0, 0, 0, 0],
-            [0x79, 0x25, 0, 0, 0, 0, 0, 0],
-            [0x0f, 0x45, 0, 0, 0, 0, 0, 0],
-            [0x7b, 0x52, 0, 0, 0, 0, 0, 0],
-            R0_IS_0,
-            EXIT,
-        ]
-    };
-    let eight = rest([0xa5, 0x03, 4, 0, 8, 0, 0, 0]);
-    assert_eq!(rt;
-        verdict_of_form(alloc, 0x32, 8, &eight)?,
-        Verdict::Accepted(7)
-    );
-    assert_eq!(rt;
-        verdict_of_form(alloc, 0x31, 8, &eight)?,
-        Verdict::Verify(3, 0)
-    );
-    let seven = rest([0xa5, 0x03, 4, 0, 7, 0, 0, 0]);
-    assert_eq!(rt;
-        verdict_of_form(alloc, 0x32, 8, &seven)?,
-        Verdict::Verify(6, 1)
-    );
-    let half = rest([0xa6, 0x03, 4, 0, 8, 0, 0, 0]);
-    assert_eq!(rt;
-        verdict_of_form(alloc, 0x32, 8, &half)?,
-        Verdict::Verify(6, 1)
-    );
-    let sized = [0x85, 0, 0, 0, 6, 0, 0, 0];
-    let echo = [[0xbf, 0x32, 0, 0, 0, 0, 0, 0], sized, R0_IS_0, EXIT];
-    assert_eq!(rt;
-        verdict_of_form(alloc, 0x32, 0, &echo)?,
-        Verdict::Accepted(4)
-    );
-    let two = [[0xb7, 0x02, 0, 0, 2, 0, 0, 0], sized, R0_IS_0, EXIT];
-    assert_eq!(rt;
-        verdict_of_form(alloc, 0x32, 0, &two)?,
-        Verdict::Verify(9, 1)
-    );
-    assert_eq!(rt;
-        verdict_of_form(alloc, 0x31, 0, &two)?,
-        Verdict::Verify(8, 1)
-    );
+    is_judged(&rt, alloc, "form 3", &adder, Verdict::Header(2));
+    each_judged(&rt, alloc, &LONG)?;
     assert_eq!(rt; caller(alloc, ImageForm::Sbi2)?.form(), ImageForm::Sbi2);
     Ok(())
 }
 
-/// Whether this file and ADDER have the same code, asked of either.
-fn same_as_adder(alloc: Global, bytes: &[u8]) -> Result<(bool, bool), Fail> {
+/// Whether a file and ADDER have the same code, asked of either.
+fn is_same_as_adder(
+    rt: &impl Abort,
+    alloc: Global,
+    what: &str,
+    bytes: &[u8],
+    wanted: bool,
+) -> Result<(), Fail> {
     let adder = load(alloc, &ADDER)?;
     let other = load(alloc, bytes)?;
-    Ok((adder.same_code(&other), other.same_code(&adder)))
+    let found = (adder.same_code(&other), other.same_code(&adder));
+    assert_eq!(rt; found, (wanted, wanted), "{what}");
+    Ok(())
 }
 
 #[test]
 fn same_code(rt: HostRuntime) -> Result<(), Fail> {
     let alloc = rt.alloc();
     let mut other = ADDER;
-    assert_eq!(rt; same_as_adder(alloc, &other)?, (true, true));
-    // The state has a byte more.
+    is_same_as_adder(&rt, alloc, "same file", &other, true)?;
     other[4] = 9;
-    assert_eq!(rt; same_as_adder(alloc, &other)?, (true, true));
-    // The last assignment is of 1.
+    is_same_as_adder(&rt, alloc, "a byte more of state", &other, true)?;
     other[44] = 1;
-    assert_eq!(rt; same_as_adder(alloc, &other)?, (false, false));
+    is_same_as_adder(&rt, alloc, "r0 is 1", &other, false)?;
     Ok(())
 }
 
@@ -339,8 +433,9 @@ fn same_code_of_a_form(rt: HostRuntime) -> Result<(), Fail> {
     let first = caller(alloc, ImageForm::Sbi1)?;
     let second = caller(alloc, ImageForm::Sbi2)?;
     let bytes = file(alloc, ImageForm::Sbi1, first.code(), 0)?;
-    assert!(rt; first.same_code(&load(alloc, &bytes)?));
-    assert!(rt; !first.same_code(&second));
-    assert!(rt; !second.same_code(&load(alloc, &ADDER)?));
+    let (written, adder) = (load(alloc, &bytes)?, load(alloc, &ADDER)?);
+    is_answer(&rt, "same form", first.same_code(&written), true);
+    is_answer(&rt, "another form", first.same_code(&second), false);
+    is_answer(&rt, "another code", second.same_code(&adder), false);
     Ok(())
 }
