@@ -140,6 +140,43 @@ const SIGNED_SIZES: [(SignedSize, &str); 3] = [
     (SignedSize::Word, "ldxsw r3, [r1-32768]\n"),
 ];
 
+const OTHER_WORDS: [(&str, Insn); 8] = [
+    (
+        "neg r3\n",
+        Insn::Neg {
+            width: Width::W64,
+            dst: R3,
+        },
+    ),
+    (
+        "neg32 r3\n",
+        Insn::Neg {
+            width: Width::W32,
+            dst: R3,
+        },
+    ),
+    (
+        "lddw r0, 18446744073709551615\n",
+        Insn::Wide {
+            dst: R0,
+            value: 18446744073709551615,
+        },
+    ),
+    ("ja +0\n", Insn::Jump { offset: 0 }),
+    ("ja -32768\n", Insn::Jump { offset: -32768 }),
+    (
+        "jal -2147483648\n",
+        Insn::JumpLong {
+            distance: -2147483648,
+        },
+    ),
+    ("call 1\n", Insn::Call { helper: 1 }),
+    ("exit\n", Insn::Exit),
+];
+
+/// Texts with lines that say nothing, and how many instructions they have.
+const SILENT: [(&str, usize); 3] = [("", 0), ("\n\n# exit", 0), ("# none\n\n\nexit\n#\nexit", 2)];
+
 /// Lines with one fault; the last of each rule break another, higher one too.
 const REFUSED: [(&str, Rule); 42] = [
     ("foo", Rule::Word),
@@ -195,12 +232,24 @@ fn is_line(rt: &impl Abort, alloc: Global, line: &str, insn: Insn) -> Result<(),
     Ok(())
 }
 
-/// The rule that the text breaks and the line that breaks it, if it is refused.
-fn refusal(alloc: Global, text: &str) -> Option<(Rule, usize)> {
-    match assemble(alloc, text) {
+/// The text is refused since this line breaks this rule.
+fn is_refused(rt: &impl Abort, alloc: Global, text: &str, rule: Rule, line: usize) {
+    let refusal = match assemble(alloc, text) {
         Err(AsmError::Fault { rule, line }) => Some((rule, line)),
         _ => None,
-    }
+    };
+    assert_eq!(rt; refusal, Some((rule, line)), "at {text}");
+}
+
+/// The text has so many instructions.
+fn has_insns(rt: &impl Abort, alloc: Global, text: &str, count: usize) -> Result<(), AsmError> {
+    assert_eq!(rt;
+        assemble(alloc, text)?.len(),
+        count,
+        "in {} bytes",
+        text.len()
+    );
+    Ok(())
 }
 
 fn each_operation(
@@ -334,28 +383,14 @@ fn loads_and_stores(rt: HostRuntime) -> Result<(), Fail> {
         };
         is_line(&rt, rt.alloc(), line, insn)?;
     }
-    let value = 18446744073709551615;
-    is_line(
-        &rt,
-        rt.alloc(),
-        "lddw r0, 18446744073709551615\n",
-        Insn::Wide { dst: R0, value },
-    )?;
     Ok(())
 }
 
 #[test]
 fn other_words(rt: HostRuntime) -> Result<(), Fail> {
-    let alloc = rt.alloc();
-    for (width, line) in [(Width::W64, "neg r3\n"), (Width::W32, "neg32 r3\n")] {
-        is_line(&rt, alloc, line, Insn::Neg { width, dst: R3 })?;
+    for &(line, insn) in OTHER_WORDS.as_slice() {
+        is_line(&rt, rt.alloc(), line, insn)?;
     }
-    is_line(&rt, alloc, "ja +0\n", Insn::Jump { offset: 0 })?;
-    is_line(&rt, alloc, "ja -32768\n", Insn::Jump { offset: -32768 })?;
-    let distance = -2147483648;
-    is_line(&rt, alloc, "jal -2147483648\n", Insn::JumpLong { distance })?;
-    is_line(&rt, alloc, "call 1\n", Insn::Call { helper: 1 })?;
-    is_line(&rt, alloc, "exit\n", Insn::Exit)?;
     Ok(())
 }
 
@@ -387,29 +422,25 @@ fn sender_there_and_back(rt: HostRuntime) -> Result<(), Fail> {
 
 #[test]
 fn silent_lines(rt: HostRuntime) -> Result<(), Fail> {
-    assert_eq!(rt; assemble(rt.alloc(), "")?.len(), 0);
-    assert_eq!(rt; assemble(rt.alloc(), "\n\n# exit")?.len(), 0);
-    assert_eq!(rt; assemble(rt.alloc(), "# none\n\n\nexit\n#\nexit")?.len(), 2);
-    Ok(())
-}
-
-fn each_refused(rt: &impl Abort, alloc: Global, rows: &[(&str, Rule)]) {
-    for &(line, rule) in rows {
-        assert_eq!(rt; refusal(alloc, line), Some((rule, 1)), "at {line}");
+    for &(text, count) in SILENT.as_slice() {
+        has_insns(&rt, rt.alloc(), text, count)?;
     }
+    Ok(())
 }
 
 #[test]
 fn refused(rt: HostRuntime) {
-    each_refused(&rt, rt.alloc(), &REFUSED);
+    for &(line, rule) in REFUSED.as_slice() {
+        is_refused(&rt, rt.alloc(), line, rule, 1);
+    }
 }
 
 #[test]
 fn first_faulty_line(rt: HostRuntime) {
     let text = "exit\n#\n\nmov r0, 2147483648\nfoo\n";
-    assert_eq!(rt; refusal(rt.alloc(), text), Some((Rule::Range, 4)));
+    is_refused(&rt, rt.alloc(), text, Rule::Range, 4);
     // What follows the last line feed is a line.
-    assert_eq!(rt; refusal(rt.alloc(), "exit\nfoo"), Some((Rule::Word, 2)));
+    is_refused(&rt, rt.alloc(), "exit\nfoo", Rule::Word, 2);
 }
 
 /// A comment, and then 1,023 slots.
@@ -426,13 +457,13 @@ fn nearly_full(alloc: Global) -> Result<String, Fail> {
 fn full(rt: HostRuntime) -> Result<(), Fail> {
     let mut text = nearly_full(rt.alloc())?;
     text.push_str("exit\n")?;
-    assert_eq!(rt; assemble(rt.alloc(), &text)?.len(), 1024);
+    has_insns(&rt, rt.alloc(), &text, 1024)?;
     // A number out of range comes first.
     let mut other = nearly_full(rt.alloc())?;
     other.push_str("exit\nmov r0, 2147483648")?;
-    assert_eq!(rt; refusal(rt.alloc(), &other), Some((Rule::Range, 1026)));
+    is_refused(&rt, rt.alloc(), &other, Rule::Range, 1026);
     text.push_str("#\nexit")?;
-    assert_eq!(rt; refusal(rt.alloc(), &text), Some((Rule::Limit, 1027)));
+    is_refused(&rt, rt.alloc(), &text, Rule::Limit, 1027);
     Ok(())
 }
 
@@ -440,7 +471,7 @@ fn full(rt: HostRuntime) -> Result<(), Fail> {
 fn full_but_for_a_wide(rt: HostRuntime) -> Result<(), Fail> {
     let mut text = nearly_full(rt.alloc())?;
     text.push_str("lddw r0, 1")?;
-    assert_eq!(rt; refusal(rt.alloc(), &text), Some((Rule::Limit, 1025)));
+    is_refused(&rt, rt.alloc(), &text, Rule::Limit, 1025);
     Ok(())
 }
 
@@ -463,7 +494,7 @@ fn long_text(rt: HostRuntime) -> Result<(), Fail> {
         text.push_str("# sixteen bytes\n")?;
     }
     text.push_str("exit\n")?;
-    assert_eq!(rt; assemble(rt.alloc(), &text)?.len(), 1);
+    has_insns(&rt, rt.alloc(), &text, 1)?;
     Ok(())
 }
 
