@@ -6,6 +6,7 @@ use helpers::{Effects, Payload, Who};
 use interp::{CallEnd, call, call_flat, fill, refill};
 use regtypes::ImageForm;
 use std::alloc::Global;
+use std::process::Abort;
 use std::test::Fail;
 use verifier::{Image, load};
 
@@ -63,14 +64,33 @@ fn run(
     Ok((end, out))
 }
 
+// An assertion is proved where it stands, so the tests share those below.
+
+fn is_end(rt: &impl Abort, what: &str, end: CallEnd, r0: u64, steps: u32) {
+    assert_eq!(rt; end, CallEnd { r0, steps }, "{what}");
+}
+
+fn is_count(rt: &impl Abort, what: &str, count: usize, wanted: usize) {
+    assert_eq!(rt; count, wanted, "{what}");
+}
+
+fn is_bytes(rt: &impl Abort, what: &str, found: &[u8], wanted: &[u8]) {
+    assert!(rt; found == wanted, "{what}");
+}
+
+/// The output of this number has these bytes.
+fn is_output(rt: &impl Abort, what: &str, out: &Effects, at: usize, wanted: Payload) {
+    assert!(rt; out.outputs().get(at) == Some(&wanted), "{what}");
+}
+
 #[test]
 fn adder_on_zeros(rt: HostRuntime) -> Result<(), Fail> {
     let mut state = [0; 8];
     let (end, out) = run(rt.alloc(), &ADDER, &mut state, 5, FIRST)?;
-    assert_eq!(rt; state, [5, 0, 0, 0, 0, 0, 0, 0]);
-    assert_eq!(rt; end, CallEnd { r0: 0, steps: 6 });
-    assert_eq!(rt; out.sends().len(), 0);
-    assert_eq!(rt; out.outputs().len(), 0);
+    is_bytes(&rt, "state", &state, &[5, 0, 0, 0, 0, 0, 0, 0]);
+    is_end(&rt, "end", end, 0, 6);
+    is_count(&rt, "sends", out.sends().len(), 0);
+    is_count(&rt, "outputs", out.outputs().len(), 0);
     Ok(())
 }
 
@@ -90,11 +110,11 @@ fn adder_in_the_array(rt: HostRuntime) -> Result<(), Fail> {
     fill(&image, &mut mem, &message, &[0; 8]);
     let mut out = Effects::new();
     let end = call_flat(&image, &mut mem, 64, FIRST, &mut out);
-    assert_eq!(rt; end, CallEnd { r0: 0, steps: 6 });
+    is_end(&rt, "end", end, 0, 6);
     let mut left = [0; 1792];
     left[0] = 5;
     left[256] = 5;
-    assert!(rt; mem == left);
+    is_bytes(&rt, "array", &mem, &left);
     Ok(())
 }
 
@@ -134,13 +154,13 @@ fn a_message_that_is_long_enough(rt: HostRuntime) -> Result<(), Fail> {
     let mut state = [0; 8];
     let message = [5, 0, 0, 0, 0, 0, 0, 0];
     let (end, _) = run_long(rt.alloc(), &LONG_ADDER, &mut state, &message[..7])?;
-    assert_eq!(rt; end, CallEnd { r0: 0, steps: 3 });
+    is_end(&rt, "7 bytes", end, 0, 3);
     let (end, _) = run_long(rt.alloc(), &LONG_ADDER, &mut state, &[])?;
-    assert_eq!(rt; end, CallEnd { r0: 0, steps: 3 });
-    assert_eq!(rt; state, [0; 8]);
+    is_end(&rt, "none", end, 0, 3);
+    is_bytes(&rt, "state before", &state, &[0; 8]);
     let (end, _) = run_long(rt.alloc(), &LONG_ADDER, &mut state, &message)?;
-    assert_eq!(rt; end, CallEnd { r0: 0, steps: 7 });
-    assert_eq!(rt; state, [5, 0, 0, 0, 0, 0, 0, 0]);
+    is_end(&rt, "8 bytes", end, 0, 7);
+    is_bytes(&rt, "state", &state, &[5, 0, 0, 0, 0, 0, 0, 0]);
     Ok(())
 }
 
@@ -152,11 +172,11 @@ fn output_of_the_whole_message(rt: HostRuntime) -> Result<(), Fail> {
         0, 0, 0, 0, 0, 0, 0,
     ];
     let mut state = [0; 8];
-    for message in [&[][..], &[1, 2], &[7; 256]] {
+    for (what, message) in [("none", &[][..]), ("2 bytes", &[1, 2]), ("256", &[7; 256])] {
         let (end, out) = run_long(rt.alloc(), &code, &mut state, message)?;
-        assert_eq!(rt; end, CallEnd { r0: 0, steps: 4 });
-        assert_eq!(rt; out.outputs().len(), 1);
-        assert!(rt; out.outputs()[0] == Payload::from_slice(message));
+        is_end(&rt, what, end, 0, 4);
+        is_count(&rt, what, out.outputs().len(), 1);
+        is_output(&rt, what, &out, 0, Payload::from_slice(message));
     }
     Ok(())
 }
@@ -165,7 +185,8 @@ fn output_of_the_whole_message(rt: HostRuntime) -> Result<(), Fail> {
 /// sent to process 2, and nothing where N is above 256.
 #[test]
 fn sends_of_a_length(rt: HostRuntime) -> Result<(), Fail> {
-    for (low, high, r0, sent) in [(0, 0, 0, 1), (0, 1, 0, 1), (1, 1, 3, 0)] {
+    let rows = [("0", 0, 0, 0, 1), ("256", 0, 1, 0, 1), ("257", 1, 1, 3, 0)];
+    for (what, low, high, r0, sent) in rows {
         let code = [
             0xbf, 0xa2, 0, 0, 0, 0, 0, 0, 0x07, 0x02, 0, 0, 0x00, 0xff, 0xff, 0xff, 0x71, 0x23, 0,
             0, 0, 0, 0, 0, 0x07, 0x03, 0, 0, low, high, 0, 0, 0xb7, 0x01, 0, 0, 2, 0, 0, 0, 0x85,
@@ -173,11 +194,11 @@ fn sends_of_a_length(rt: HostRuntime) -> Result<(), Fail> {
         ];
         let mut state = [0; 8];
         let (end, out) = run_long(rt.alloc(), &code, &mut state, &[])?;
-        assert_eq!(rt; end, CallEnd { r0, steps: 7 });
-        assert_eq!(rt; out.sends().len(), sent);
+        is_end(&rt, what, end, r0, 7);
+        is_count(&rt, what, out.sends().len(), sent);
         for one in out.sends() {
-            assert_eq!(rt; one.dst, 2);
-            assert_eq!(rt; one.payload.len(), usize::from(high) * 256);
+            is_count(&rt, "destination", usize::from(one.dst), 2);
+            is_count(&rt, what, one.payload.len(), usize::from(high) * 256);
         }
     }
     Ok(())
@@ -197,15 +218,15 @@ fn one_array_for_two_messages(rt: HostRuntime) -> Result<(), Fail> {
     fill(&image, &mut mem, &[1; 256], &[0; 8]);
     let mut out = Effects::new();
     let end = call_flat(&image, &mut mem, 256, FIRST, &mut out);
-    assert_eq!(rt; end, CallEnd { r0: 0, steps: 7 });
+    is_end(&rt, "256 bytes", end, 0, 7);
     refill(&image, &mut mem, 256, &[1; 2]);
     out.clear();
     let end = call_flat(&image, &mut mem, 2, FIRST, &mut out);
-    assert_eq!(rt; end, CallEnd { r0: 0, steps: 3 });
+    is_end(&rt, "2 bytes", end, 0, 3);
     let mut left = [0; 1792];
     left[..2].fill(1);
     left[256..264].fill(1);
-    assert!(rt; mem == left);
+    is_bytes(&rt, "array", &mem, &left);
     Ok(())
 }
 
@@ -213,7 +234,7 @@ fn one_array_for_two_messages(rt: HostRuntime) -> Result<(), Fail> {
 fn adder_wraps(rt: HostRuntime) -> Result<(), Fail> {
     let mut state = [0xff; 8];
     run(rt.alloc(), &ADDER, &mut state, 2, FIRST)?;
-    assert_eq!(rt; state, [1, 0, 0, 0, 0, 0, 0, 0]);
+    is_bytes(&rt, "state", &state, &[1, 0, 0, 0, 0, 0, 0, 0]);
     Ok(())
 }
 
@@ -221,9 +242,9 @@ fn adder_wraps(rt: HostRuntime) -> Result<(), Fail> {
 fn both_ways_of_a_branch(rt: HostRuntime) -> Result<(), Fail> {
     let mut state = [0; 8];
     let (taken, _) = run(rt.alloc(), &IS_SET, &mut state, 0, FIRST)?;
-    assert_eq!(rt; taken, CallEnd { r0: 0, steps: 4 });
+    is_end(&rt, "taken", taken, 0, 4);
     let (passed, _) = run(rt.alloc(), &IS_SET, &mut state, 9, FIRST)?;
-    assert_eq!(rt; passed, CallEnd { r0: 1, steps: 5 });
+    is_end(&rt, "passed", passed, 1, 5);
     Ok(())
 }
 
@@ -239,18 +260,24 @@ fn nine_sends(rt: HostRuntime) -> Result<(), Fail> {
     code.extend_from_slice(&[0x95, 0, 0, 0, 0, 0, 0, 0])?;
     assert!(rt; code.len() <= 2000);
     let (end, out) = run(rt.alloc(), &code, &mut [], 7, FIRST)?;
-    assert_eq!(rt; end, CallEnd { r0: 2, steps: 29 });
-    assert_eq!(rt; out.sends().len(), 8);
-    assert_eq!(rt; out.sends()[7].dst, 2);
-    assert_eq!(rt; out.sends()[7].payload.view64()[0], 7);
+    is_end(&rt, "first process", end, 2, 29);
+    is_count(&rt, "sends of the first", out.sends().len(), 8);
+    let eighth = out.sends().get(7).ok_or("no eighth send")?;
+    is_count(&rt, "destination", usize::from(eighth.dst), 2);
+    is_count(
+        &rt,
+        "first byte",
+        usize::from(eighth.payload.view64()[0]),
+        7,
+    );
     let second = Who {
         me: 2,
         from: 0,
         count: 2,
     };
     let (end, out) = run(rt.alloc(), &code, &mut [], 7, second)?;
-    assert_eq!(rt; end, CallEnd { r0: 1, steps: 29 });
-    assert_eq!(rt; out.sends().len(), 0);
+    is_end(&rt, "second process", end, 1, 29);
+    is_count(&rt, "sends of the second", out.sends().len(), 0);
     Ok(())
 }
 
@@ -262,9 +289,9 @@ fn output_of_the_stack(rt: HostRuntime) -> Result<(), Fail> {
         0, 0, 0, 0x95, 0, 0, 0, 0, 0, 0, 0,
     ];
     let (end, out) = run(rt.alloc(), &code, &mut [], 0, FIRST)?;
-    assert_eq!(rt; end, CallEnd { r0: 0, steps: 4 });
-    assert_eq!(rt; out.outputs().len(), 1);
-    assert!(rt; out.outputs()[0] == Payload::from([0; 64]));
+    is_end(&rt, "end", end, 0, 4);
+    is_count(&rt, "outputs", out.outputs().len(), 1);
+    is_output(&rt, "zeros", &out, 0, Payload::from([0; 64]));
     Ok(())
 }
 
@@ -280,7 +307,7 @@ fn other_classes(rt: HostRuntime) -> Result<(), Fail> {
         0, 0x0f, 0x10, 0, 0, 0, 0, 0, 0, 0xbf, 0x00, 8, 0, 0, 0, 0, 0, 0x95, 0, 0, 0, 0, 0, 0, 0,
     ];
     let (end, _) = run(rt.alloc(), &code, &mut [], 0, FIRST)?;
-    assert_eq!(rt; end, CallEnd { r0: 0x79, steps: 9 });
+    is_end(&rt, "end", end, 0x79, 9);
     Ok(())
 }
 
@@ -307,10 +334,11 @@ fn both_lists_to_the_brim(rt: HostRuntime) -> Result<(), Fail> {
     code.extend_from_slice(&[0x95, 0, 0, 0, 0, 0, 0, 0])?;
     assert!(rt; code.len() <= 2000);
     let (end, out) = run(rt.alloc(), &code, &mut [], 7, FIRST)?;
-    assert_eq!(rt; end, CallEnd { r0: 4, steps: 67 });
-    assert_eq!(rt; out.sends().len(), 8);
-    assert_eq!(rt; out.outputs().len(), 8);
-    assert_eq!(rt; out.outputs()[7].view64()[0], 7);
+    is_end(&rt, "end", end, 4, 67);
+    is_count(&rt, "sends", out.sends().len(), 8);
+    is_count(&rt, "outputs", out.outputs().len(), 8);
+    let eighth = out.outputs().get(7).ok_or("no eighth output")?;
+    is_count(&rt, "first byte", usize::from(eighth.view64()[0]), 7);
     Ok(())
 }
 
@@ -327,13 +355,7 @@ fn own_number_and_sender(rt: HostRuntime) -> Result<(), Fail> {
         count: 4,
     };
     let (end, _) = run(rt.alloc(), &code, &mut [], 0, who)?;
-    assert_eq!(rt;
-        end,
-        CallEnd {
-            r0: 0x302,
-            steps: 6
-        }
-    );
+    is_end(&rt, "end", end, 0x302, 6);
     Ok(())
 }
 
@@ -344,11 +366,17 @@ fn destinations(rt: HostRuntime) -> Result<(), Fail> {
         0x79, 0x11, 0, 0, 0, 0, 0, 0, 0xbf, 0xa2, 0, 0, 0, 0, 0, 0, 0x07, 0x02, 0, 0, 0xc0, 0xff,
         0xff, 0xff, 0x85, 0, 0, 0, 1, 0, 0, 0, 0x95, 0, 0, 0, 0, 0, 0, 0,
     ];
-    let rows = [(0, 1), (1, 1), (2, 0), (3, 1), (0x1_0000_0002, 1)];
-    for (dst, r0) in rows {
+    let rows = [
+        ("0", 0, 1),
+        ("itself", 1, 1),
+        ("2", 2, 0),
+        ("3", 3, 1),
+        ("2 by its low half", 0x1_0000_0002, 1),
+    ];
+    for (what, dst, r0) in rows {
         let (end, out) = run(rt.alloc(), &code, &mut [], dst, FIRST)?;
-        assert_eq!(rt; end, CallEnd { r0, steps: 5 });
-        assert_eq!(rt; out.sends().len(), usize::from(r0 == 0));
+        is_end(&rt, what, end, r0, 5);
+        is_count(&rt, what, out.sends().len(), usize::from(r0 == 0));
     }
     Ok(())
 }
@@ -357,18 +385,18 @@ fn destinations(rt: HostRuntime) -> Result<(), Fail> {
 #[test]
 fn loads_of_each_size(rt: HostRuntime) -> Result<(), Fail> {
     let rows = [
-        (0x71, 0x88),
-        (0x69, 0x8788),
-        (0x61, 0x8586_8788),
-        (0x79, 0x8182_8384_8586_8788),
-        (0x91, 0xffff_ffff_ffff_ff88),
-        (0x89, 0xffff_ffff_ffff_8788),
-        (0x81, 0xffff_ffff_8586_8788),
+        ("ldxb", 0x71, 0x88),
+        ("ldxh", 0x69, 0x8788),
+        ("ldxw", 0x61, 0x8586_8788),
+        ("ldxdw", 0x79, 0x8182_8384_8586_8788),
+        ("ldxsb", 0x91, 0xffff_ffff_ffff_ff88),
+        ("ldxsh", 0x89, 0xffff_ffff_ffff_8788),
+        ("ldxsw", 0x81, 0xffff_ffff_8586_8788),
     ];
-    for (opcode, r0) in rows {
+    for (what, opcode, r0) in rows {
         let code = [opcode, 0x10, 0, 0, 0, 0, 0, 0, 0x95, 0, 0, 0, 0, 0, 0, 0];
         let (end, _) = run(rt.alloc(), &code, &mut [], 0x8182_8384_8586_8788, FIRST)?;
-        assert_eq!(rt; end, CallEnd { r0, steps: 2 });
+        is_end(&rt, what, end, r0, 2);
     }
     Ok(())
 }
@@ -376,17 +404,25 @@ fn loads_of_each_size(rt: HostRuntime) -> Result<(), Fail> {
 /// `ldxdw r3, [r1+0]`, `OP [r2+1], r3` or `OP [r2+1], -2`, `mov r0, 0`, `exit`, on a state of nines.
 #[test]
 fn stores_of_each_size(rt: HostRuntime) -> Result<(), Fail> {
-    let rows: [(u8, [u8; 10]); 8] = [
-        (0x73, [9, 0x88, 9, 9, 9, 9, 9, 9, 9, 9]),
-        (0x6b, [9, 0x88, 0x87, 9, 9, 9, 9, 9, 9, 9]),
-        (0x63, [9, 0x88, 0x87, 0x86, 0x85, 9, 9, 9, 9, 9]),
-        (0x7b, [9, 0x88, 0x87, 0x86, 0x85, 0x84, 0x83, 0x82, 0x81, 9]),
-        (0x72, [9, 0xfe, 9, 9, 9, 9, 9, 9, 9, 9]),
-        (0x6a, [9, 0xfe, 0xff, 9, 9, 9, 9, 9, 9, 9]),
-        (0x62, [9, 0xfe, 0xff, 0xff, 0xff, 9, 9, 9, 9, 9]),
-        (0x7a, [9, 0xfe, 0xff, 0xff, 0xff, 0xff, 0xff, 0xff, 0xff, 9]),
+    let rows: [(&str, u8, [u8; 10]); 8] = [
+        ("stxb", 0x73, [9, 0x88, 9, 9, 9, 9, 9, 9, 9, 9]),
+        ("stxh", 0x6b, [9, 0x88, 0x87, 9, 9, 9, 9, 9, 9, 9]),
+        ("stxw", 0x63, [9, 0x88, 0x87, 0x86, 0x85, 9, 9, 9, 9, 9]),
+        (
+            "stxdw",
+            0x7b,
+            [9, 0x88, 0x87, 0x86, 0x85, 0x84, 0x83, 0x82, 0x81, 9],
+        ),
+        ("stb", 0x72, [9, 0xfe, 9, 9, 9, 9, 9, 9, 9, 9]),
+        ("sth", 0x6a, [9, 0xfe, 0xff, 9, 9, 9, 9, 9, 9, 9]),
+        ("stw", 0x62, [9, 0xfe, 0xff, 0xff, 0xff, 9, 9, 9, 9, 9]),
+        (
+            "stdw",
+            0x7a,
+            [9, 0xfe, 0xff, 0xff, 0xff, 0xff, 0xff, 0xff, 0xff, 9],
+        ),
     ];
-    for (opcode, left) in rows {
+    for (what, opcode, left) in rows {
         let (registers, imm, high) = if opcode % 2 == 1 {
             (0x32, 0, 0)
         } else {
@@ -398,8 +434,8 @@ fn stores_of_each_size(rt: HostRuntime) -> Result<(), Fail> {
         ];
         let mut state = [9; 10];
         let (end, _) = run(rt.alloc(), &code, &mut state, 0x8182_8384_8586_8788, FIRST)?;
-        assert_eq!(rt; end, CallEnd { r0: 0, steps: 4 });
-        assert!(rt; state == left, "at {opcode}");
+        is_end(&rt, what, end, 0, 4);
+        is_bytes(&rt, what, &state, &left);
     }
     Ok(())
 }
@@ -407,22 +443,22 @@ fn stores_of_each_size(rt: HostRuntime) -> Result<(), Fail> {
 /// `ldxdw r0, [r1+0]`, then `OP r0, B`, `exit`, and the same with B in a register: `mov r3, B`, `OP r0, r3`.
 #[test]
 fn results_with_either_operand(rt: HostRuntime) -> Result<(), Fail> {
-    let rows: [(u8, u8, u64, i32, u64); 6] = [
-        (0xc4, 0, 0x8000_0000, 33, 0xc000_0000),
-        (0x77, 0, 5, 64, 5),
-        (0x34, 1, 0xffff_fff9, 2, 0xffff_fffd),
-        (0x94, 1, 0xffff_fff9, 2, 0xffff_ffff),
-        (0x37, 0, 0xffff_ffff_ffff_ffff, -1, 1),
-        (0x04, 0, 0xffff_ffff_ffff_ffff, 1, 0),
+    let rows: [(&str, u8, u8, u64, i32, u64); 6] = [
+        ("arsh32", 0xc4, 0, 0x8000_0000, 33, 0xc000_0000),
+        ("rsh", 0x77, 0, 5, 64, 5),
+        ("sdiv32", 0x34, 1, 0xffff_fff9, 2, 0xffff_fffd),
+        ("smod32", 0x94, 1, 0xffff_fff9, 2, 0xffff_ffff),
+        ("div", 0x37, 0, 0xffff_ffff_ffff_ffff, -1, 1),
+        ("add32", 0x04, 0, 0xffff_ffff_ffff_ffff, 1, 0),
     ];
-    for (opcode, offset, a, b, r0) in rows {
+    for (what, opcode, offset, a, b, r0) in rows {
         let b = b.to_le_bytes();
         let with_number = [
             0x79, 0x10, 0, 0, 0, 0, 0, 0, opcode, 0, offset, 0, b[0], b[1], b[2], b[3], 0x95, 0, 0,
             0, 0, 0, 0, 0,
         ];
         let (end, _) = run(rt.alloc(), &with_number, &mut [], a, FIRST)?;
-        assert_eq!(rt; end, CallEnd { r0, steps: 3 });
+        is_end(&rt, what, end, r0, 3);
         let with_register = [
             0x79,
             0x10,
@@ -458,7 +494,7 @@ fn results_with_either_operand(rt: HostRuntime) -> Result<(), Fail> {
             0,
         ];
         let (end, _) = run(rt.alloc(), &with_register, &mut [], a, FIRST)?;
-        assert_eq!(rt; end, CallEnd { r0, steps: 4 });
+        is_end(&rt, what, end, r0, 4);
     }
     Ok(())
 }
@@ -466,20 +502,40 @@ fn results_with_either_operand(rt: HostRuntime) -> Result<(), Fail> {
 /// `ldxdw r0, [r1+0]`, one instruction on r0, `exit`: extensions of a byte, and byte orders.
 #[test]
 fn results_of_one_register(rt: HostRuntime) -> Result<(), Fail> {
-    let rows: [([u8; 5], u64, u64); 5] = [
-        ([0xbf, 0x00, 8, 0, 0], 0x80, 0xffff_ffff_ffff_ff80),
-        ([0xbc, 0x00, 8, 0, 0], 0x80, 0xffff_ff80),
-        ([0xdc, 0x00, 0, 0, 16], 0x1122_3344_5566_7788, 0x8877),
-        ([0xd7, 0x00, 0, 0, 32], 0x1122_3344_5566_7788, 0x8877_6655),
-        ([0xd4, 0x00, 0, 0, 32], 0x1122_3344_5566_7788, 0x5566_7788),
+    let rows: [(&str, [u8; 5], u64, u64); 5] = [
+        ("movsx8", [0xbf, 0x00, 8, 0, 0], 0x80, 0xffff_ffff_ffff_ff80),
+        (
+            "movsx8 in 32 bits",
+            [0xbc, 0x00, 8, 0, 0],
+            0x80,
+            0xffff_ff80,
+        ),
+        (
+            "be16",
+            [0xdc, 0x00, 0, 0, 16],
+            0x1122_3344_5566_7788,
+            0x8877,
+        ),
+        (
+            "bswap32",
+            [0xd7, 0x00, 0, 0, 32],
+            0x1122_3344_5566_7788,
+            0x8877_6655,
+        ),
+        (
+            "le32",
+            [0xd4, 0x00, 0, 0, 32],
+            0x1122_3344_5566_7788,
+            0x5566_7788,
+        ),
     ];
-    for (op, a, r0) in rows {
+    for (what, op, a, r0) in rows {
         let code = [
             0x79, 0x10, 0, 0, 0, 0, 0, 0, op[0], op[1], op[2], op[3], op[4], 0, 0, 0, 0x95, 0, 0,
             0, 0, 0, 0, 0,
         ];
         let (end, _) = run(rt.alloc(), &code, &mut [], a, FIRST)?;
-        assert_eq!(rt; end, CallEnd { r0, steps: 3 });
+        is_end(&rt, what, end, r0, 3);
     }
     Ok(())
 }
