@@ -123,9 +123,8 @@ pub extern "C" fn sblog_session_recover(
     code(calling::call(alloc, handle, call, kept))
 }
 
-/// A process that is down comes back though another isn't up, and how many messages it keeps is
-/// written: of what it sent, its peers that aren't up restore nothing. From then on failures came not
-/// one at a time. The messages are replayed by a drive.
+/// A process comes back though others aren't up (docs/PROTOCOL.md), and how many messages it keeps is
+/// written. They are replayed by a drive. Failures came not one at a time from then on.
 #[unsafe(no_mangle)]
 pub extern "C" fn sblog_session_recover_alone(
     alloc: Global,
