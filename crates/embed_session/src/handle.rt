@@ -1,6 +1,7 @@
 //! What a program in C holds of a session.
 
-ghost use Rattle.std.specs.Prelude.{◌≡◌, IfNone, IfSome, Some, None, is_some};
+ghost use Rattle.std.specs.Prelude.{◌≡◌, IfNone, IfSome, Some, None, false, is_some};
+ghost use Rattle.std.specs.Ptr.{null_ptr};
 
 use crate::loose::Loose;
 use crate::parts::Parts;
@@ -18,10 +19,11 @@ pub struct Handle {
 }
 
 impl Handle {
-    /// A handle without a session, as zeros are.
+    /// A handle without a session, as zeros are: null, and a mark of 0.
     #[inline(always)]
     pub(crate) fn closed(alloc: Global) -> Handle
-        ensures { result.session.value ≡ None }
+        ensures closed { result.session.value ≡ None }
+        ensures zeros { (result.session.at ≡ null_ptr) × (result.held ≡ false) }
     {
         Handle {
             session: Loose::empty(alloc),

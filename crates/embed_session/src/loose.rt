@@ -1,6 +1,7 @@
 //! A service on the heap as a pointer that says nothing of what it points to, since only plain types cross to C.
 
 ghost use Rattle.std.specs.Prelude.{◌≡◌, Option, Some, None};
+ghost use Rattle.std.specs.Ptr.{null_ptr};
 ghost use Rattle.sessions.specs.Journal.{TheSession};
 ghost use Rattle.embed_session.specs.Inside.Held.{held};
 
@@ -26,7 +27,7 @@ impl Model for Loose {
 impl Loose {
     /// Nothing, at null.
     pub(crate) fn empty(alloc: Global) -> Loose
-        ensures { result.value ≡ None }
+        ensures { (result.value ≡ None) × (result.at ≡ null_ptr) }
     {
         Loose {
             at: null_mut(),
