@@ -1,0 +1,18 @@
+use Rattle.std.proofs.Common.{◌≡◌, ◌+◌, ◌++◌, refl, sym, ap, ◌∙◌, arith}
+use Rattle.native.specs.Code.{flushed, leaving}
+use Rattle.native.proofs.Emitted.{some_then}
+use Rattle.native.proofs.slot_code.emit_exit.Goals as goal
+
+pub returns : goal.returns
+returns c =
+    let k = c.in-Some.k in
+    λ _. (
+      flushed k ++ leaving,
+      record {
+        k = k;
+        is_are = refl;
+        short = omega (arith, c.if-k-ge2147483648.false);
+        sums = c.in-Some.ensures.1 ∙ ap (λ x. x + 1) c.at.ensures;
+      },
+      some_then c.args.code.now.items c.flush.new.code.items c.write_all.new.code.items (flushed k) leaving c.in_ok-flush.ensures c.in_ok-write_all.ensures,
+    )

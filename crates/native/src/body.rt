@@ -1,0 +1,380 @@
+//! The instructions of tasks that have no jump.
+
+ghost use Rattle.std.specs.Prelude.{◌≡◌};
+ghost use Rattle.operations.specs.Operations.{word_of};
+ghost use Rattle.x86.specs.Machine.{extended};
+ghost use Rattle.native.specs.Code as codes;
+ghost use Rattle.native.specs.Code.{IsShort, TaskIsShort};
+
+use crate::task::Task;
+use decode::{AluOp, ByteOrder, Operand, Reg, Size, SwapBits, Width};
+use operations::word_of_imm;
+use x86::{Alu, Instr, Shift};
+
+/// The instructions of a task that has no jump.
+#[derive(Clone, Copy)]
+pub(crate) enum Body {
+    /// There are none.
+    Refused,
+    One(Instr),
+    Two(Instr, Instr),
+    Three(Instr, Instr, Instr),
+}
+
+/// The processor's register of a register.
+pub(crate) fn gpr(reg: Reg) -> u8
+    ensures { result ≡ codes.gpr reg.number }
+{
+    let table = [0u8, 7, 6, 8, 9, 10, 3, 12, 13, 14, 4];
+    table[reg.number as usize]
+}
+
+/// A position in the array, seen from rbp.
+pub(crate) fn seen(at: u64) -> u64
+    ensures { result ≡ codes.seen at }
+{
+    (at % 0x1_0000_0000 + 0xffff_fe80) % 0x1_0000_0000
+}
+
+/// An immediate, as the instructions hold it.
+pub(crate) fn number(imm: i32) -> u64
+    ensures value { result ≡ word_of imm }
+    ensures short { extended (word_of imm) ≡ word_of imm }
+{
+    word_of_imm(imm)
+}
+
+fn by_word(reg: Reg, body: Body) -> Body
+    ensures { result ≡ codes.by_word reg.number body }
+{
+    if reg.number < 10 { body } else { Body::Refused }
+}
+
+fn alu_code(op: Alu, width: Width, to: u8, operand: Operand) -> Body
+    ensures value { result ≡ codes.alu_code op width to operand }
+    ensures short { IsShort operand }
+{
+    match operand {
+        Operand::Imm(imm) => Body::One(Instr::AluImm {
+            op,
+            width,
+            to,
+            imm: number(imm),
+        }),
+        Operand::Reg(src) => by_word(
+            src,
+            Body::One(Instr::Alu {
+                op,
+                width,
+                to,
+                from: gpr(src),
+            }),
+        ),
+    }
+}
+
+fn mul_code(width: Width, to: u8, operand: Operand) -> Body
+    ensures value { result ≡ codes.mul_code width to operand }
+    ensures short { IsShort operand }
+{
+    match operand {
+        Operand::Imm(imm) => Body::One(Instr::MulImm {
+            width,
+            to,
+            from: to,
+            imm: number(imm),
+        }),
+        Operand::Reg(src) => by_word(
+            src,
+            Body::One(Instr::Mul {
+                width,
+                to,
+                from: gpr(src),
+            }),
+        ),
+    }
+}
+
+fn shift_imm(op: Shift, width: Width, to: u8, imm: i32) -> Body
+    ensures value { result ≡ codes.shift_code op width to (Operand.Imm imm) }
+    ensures short { extended (word_of imm) ≡ word_of imm }
+{
+    let count = match width {
+        Width::W64 => (number(imm) % 64) as u8,
+        Width::W32 => (number(imm) % 32) as u8,
+    };
+    if count == 0 {
+        Body::Two(
+            Instr::Mov {
+                width,
+                to,
+                from: to,
+            },
+            Instr::Shift {
+                op,
+                width,
+                to,
+                count: 0,
+            },
+        )
+    } else {
+        Body::One(Instr::Shift {
+            op,
+            width,
+            to,
+            count,
+        })
+    }
+}
+
+fn shift_code(op: Shift, width: Width, to: u8, operand: Operand) -> Body
+    ensures value { result ≡ codes.shift_code op width to operand }
+    ensures short { IsShort operand }
+{
+    match operand {
+        Operand::Imm(imm) => shift_imm(op, width, to, imm),
+        Operand::Reg(src) => {
+            let count = Instr::Mov {
+                width: Width::W32,
+                to: 1,
+                from: gpr(src),
+            };
+            match width {
+                Width::W64 => by_word(src, Body::Two(count, Instr::ShiftBy { op, width, to })),
+                Width::W32 => by_word(
+                    src,
+                    Body::Three(
+                        count,
+                        Instr::Mov {
+                            width,
+                            to,
+                            from: to,
+                        },
+                        Instr::ShiftBy { op, width, to },
+                    ),
+                ),
+            }
+        }
+    }
+}
+
+fn move_code(width: Width, to: u8, operand: Operand) -> Body
+    ensures value { result ≡ codes.move_code width to operand }
+    ensures short { IsShort operand }
+{
+    match operand {
+        Operand::Imm(imm) => {
+            let imm = number(imm);
+            match width {
+                Width::W64 => {
+                    if imm < 0x8000_0000 {
+                        Body::One(Instr::MovImm { to, imm })
+                    } else {
+                        Body::One(Instr::MovSigned { to, imm })
+                    }
+                }
+                Width::W32 => Body::One(Instr::MovImm { to, imm }),
+            }
+        }
+        Operand::Reg(src) => match width {
+            Width::W64 => {
+                if src.number < 10 {
+                    Body::One(Instr::Mov {
+                        width,
+                        to,
+                        from: gpr(src),
+                    })
+                } else {
+                    Body::One(Instr::MovImm { to, imm: 0 })
+                }
+            }
+            Width::W32 => {
+                if src.number < 10 {
+                    Body::One(Instr::Mov {
+                        width,
+                        to,
+                        from: gpr(src),
+                    })
+                } else {
+                    Body::One(Instr::MovImm { to, imm: 0 })
+                }
+            }
+        },
+    }
+}
+
+fn compute_code(op: AluOp, width: Width, to: u8, operand: Operand) -> Body
+    ensures value { result ≡ codes.compute_code op width to operand }
+    ensures short { IsShort operand }
+{
+    match op {
+        AluOp::Mov => move_code(width, to, operand),
+        AluOp::Add => alu_code(Alu::Add, width, to, operand),
+        AluOp::Sub => alu_code(Alu::Sub, width, to, operand),
+        AluOp::Or => alu_code(Alu::Or, width, to, operand),
+        AluOp::And => alu_code(Alu::And, width, to, operand),
+        AluOp::Xor => alu_code(Alu::Xor, width, to, operand),
+        AluOp::Mul => mul_code(width, to, operand),
+        AluOp::Lsh => shift_code(Shift::Left, width, to, operand),
+        AluOp::Rsh => shift_code(Shift::Right, width, to, operand),
+        AluOp::Arsh => shift_code(Shift::RightSigned, width, to, operand),
+        _ => {
+            let _short = alu_code(Alu::Add, width, to, operand);
+            Body::Refused
+        }
+    }
+}
+
+fn reorder_code(order: ByteOrder, bits: SwapBits, to: u8) -> Body
+    ensures { result ≡ codes.reorder_code order bits to }
+{
+    let low = Instr::MovZx { to, from: to };
+    match bits {
+        SwapBits::Bits16 => match order {
+            ByteOrder::Little => Body::One(low),
+            ByteOrder::Big => Body::Two(Instr::SwapLow { to }, low),
+            ByteOrder::Swap => Body::Two(Instr::SwapLow { to }, low),
+        },
+        SwapBits::Bits32 => match order {
+            ByteOrder::Little => Body::One(Instr::Mov {
+                width: Width::W32,
+                to,
+                from: to,
+            }),
+            ByteOrder::Big => Body::One(Instr::Swap {
+                width: Width::W32,
+                to,
+            }),
+            ByteOrder::Swap => Body::One(Instr::Swap {
+                width: Width::W32,
+                to,
+            }),
+        },
+        SwapBits::Bits64 => match order {
+            ByteOrder::Little => Body::One(Instr::Mov {
+                width: Width::W64,
+                to,
+                from: to,
+            }),
+            ByteOrder::Big => Body::One(Instr::Swap {
+                width: Width::W64,
+                to,
+            }),
+            ByteOrder::Swap => Body::One(Instr::Swap {
+                width: Width::W64,
+                to,
+            }),
+        },
+    }
+}
+
+/// The instructions of a task that has no jump.
+pub(crate) fn body_of(task: Task) -> Body
+    ensures value { result ≡ codes.body_of task }
+    ensures short { TaskIsShort task }
+{
+    match task {
+        Task::Compute {
+            op,
+            width,
+            dst,
+            operand,
+        } => by_word(dst, compute_code(op, width, gpr(dst), operand)),
+        Task::Extend {
+            extension,
+            dst,
+            src,
+        } => {
+            by_word(
+                dst,
+                by_word(
+                    src,
+                    Body::One(Instr::MovSx {
+                        extension,
+                        to: gpr(dst),
+                        from: gpr(src),
+                    }),
+                ),
+            )
+        }
+        Task::Negate { width, dst } => by_word(
+            dst,
+            Body::One(Instr::Neg {
+                width,
+                to: gpr(dst),
+            }),
+        ),
+        Task::Reorder { order, bits, dst } => by_word(dst, reorder_code(order, bits, gpr(dst))),
+        Task::Load { size, dst, at } => {
+            by_word(
+                dst,
+                Body::One(Instr::Load {
+                    size,
+                    to: gpr(dst),
+                    base: 5,
+                    disp: seen(at as u64),
+                }),
+            )
+        }
+        Task::LoadSx { size, dst, at } => {
+            by_word(
+                dst,
+                Body::One(Instr::LoadSx {
+                    size,
+                    to: gpr(dst),
+                    base: 5,
+                    disp: seen(at as u64),
+                }),
+            )
+        }
+        Task::Store { size, src, at } => {
+            by_word(
+                src,
+                Body::One(Instr::Store {
+                    size,
+                    base: 5,
+                    disp: seen(at as u64),
+                    from: gpr(src),
+                }),
+            )
+        }
+        Task::StoreImm { size, at, imm } => {
+            Body::One(Instr::StoreImm {
+                size,
+                base: 5,
+                disp: seen(at as u64),
+                imm: number(imm),
+            })
+        }
+        Task::Wide { dst, value } => by_word(
+            dst,
+            Body::One(Instr::MovWide {
+                to: gpr(dst),
+                imm: value,
+            }),
+        ),
+        Task::Me => Body::One(Instr::Load {
+            size: Size::Double,
+            to: 0,
+            base: 15,
+            disp: 24,
+        }),
+        Task::From => Body::One(Instr::Load {
+            size: Size::Double,
+            to: 0,
+            base: 15,
+            disp: 32,
+        }),
+        Task::Branch { operand, .. } => {
+            let _short = alu_code(Alu::Add, Width::W64, 0, operand);
+            Body::Refused
+        }
+        Task::Leap { .. } => Body::Refused,
+        Task::Send { .. } => Body::Refused,
+        Task::Output { .. } => Body::Refused,
+        Task::SendSized { .. } => Body::Refused,
+        Task::OutputSized { .. } => Body::Refused,
+        Task::Exit => Body::Refused,
+        Task::Dead => Body::Refused,
+    }
+}

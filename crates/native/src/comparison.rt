@@ -1,0 +1,98 @@
+//! What a conditional jump compares, and what it asks of the flags.
+
+ghost use Rattle.std.specs.Prelude.{◌≡◌, IfSome};
+ghost use Rattle.native.specs.Code as codes;
+ghost use Rattle.native.specs.Code.{IsShort};
+
+use crate::body::{gpr, number};
+use decode::{Condition, Operand, Reg, Width};
+use x86::{Alu, Instr};
+
+fn test_code(width: Width, a: u8, operand: Operand) -> Option<Instr>
+    ensures value { result ≡ codes.test_code width a operand }
+    ensures short { IsShort operand }
+{
+    match operand {
+        Operand::Imm(imm) => Some(Instr::TestImm {
+            width,
+            a,
+            imm: number(imm),
+        }),
+        Operand::Reg(src) => {
+            if src.number < 10 {
+                Some(Instr::Test {
+                    width,
+                    a,
+                    b: gpr(src),
+                })
+            } else {
+                None
+            }
+        }
+    }
+}
+
+fn cmp_code(width: Width, to: u8, operand: Operand) -> Option<Instr>
+    ensures value { result ≡ codes.cmp_code width to operand }
+    ensures short { IsShort operand }
+{
+    match operand {
+        Operand::Imm(imm) => Some(Instr::AluImm {
+            op: Alu::Cmp,
+            width,
+            to,
+            imm: number(imm),
+        }),
+        Operand::Reg(src) => {
+            if src.number < 10 {
+                Some(Instr::Alu {
+                    op: Alu::Cmp,
+                    width,
+                    to,
+                    from: gpr(src),
+                })
+            } else {
+                None
+            }
+        }
+    }
+}
+
+/// The instruction that compares for a jump.
+pub(crate) fn compare_code(
+    condition: Condition,
+    width: Width,
+    dst: Reg,
+    operand: Operand,
+) -> Option<Instr>
+    ensures value { result ≡ codes.compare_code condition width dst.number operand }
+    ensures short { IfSome result (λ _. IsShort operand) }
+{
+    if dst.number < 10 {
+        match condition {
+            Condition::Set => test_code(width, gpr(dst), operand),
+            _ => cmp_code(width, gpr(dst), operand),
+        }
+    } else {
+        None
+    }
+}
+
+/// What a conditional jump asks of the flags.
+pub(crate) fn condition_of(condition: Condition) -> x86::Condition
+    ensures { result ≡ codes.condition_of condition }
+{
+    match condition {
+        Condition::Equal => x86::Condition::Equal,
+        Condition::NotEqual => x86::Condition::NotEqual,
+        Condition::Set => x86::Condition::NotEqual,
+        Condition::Greater => x86::Condition::Above,
+        Condition::GreaterEqual => x86::Condition::AboveEqual,
+        Condition::Less => x86::Condition::Below,
+        Condition::LessEqual => x86::Condition::BelowEqual,
+        Condition::SignedGreater => x86::Condition::Greater,
+        Condition::SignedGreaterEqual => x86::Condition::GreaterEqual,
+        Condition::SignedLess => x86::Condition::Less,
+        Condition::SignedLessEqual => x86::Condition::LessEqual,
+    }
+}

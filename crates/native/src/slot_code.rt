@@ -1,0 +1,500 @@
+//! The code of each slot.
+
+ghost use Rattle.std.specs.Prelude.{◌≡◌, ◌<◌, ◌≤◌, ◌+◌, ◌^◌, [], ◌++◌, List, length, slice_index, IsTrue, IfSome, IfOk, OnOk};
+ghost use Rattle.x86.specs.declared.instruction.Instr as machine;
+ghost use Rattle.native.specs.Code.{codes, flushed, leaving, entering, taken, IsBody, IsCall, IsQuotient, IsSigned, IsDone, Counts, Reaches, Plain, Forks, Jumps, Ends, Serves};
+ghost use Rattle.native.specs.Code as specs;
+
+use crate::body::{Body, body_of, gpr};
+use crate::comparison::{compare_code, condition_of};
+use crate::output::{
+    output_end, output_good, output_sized_end, output_sized_good, output_sized_tests, output_tests,
+};
+use crate::quotient::{Ways, divisor_code, quotient_code, signed_code};
+use crate::send::{
+    send_end, send_good, send_sized_end, send_sized_good, send_sized_tests, send_tests,
+};
+use crate::task::Task;
+use decode::{AluOp, Condition, Operand, Reg, Size, Width};
+use std::alloc::{AllocError, Global};
+use x86::Instr;
+
+// The number at an index, 0 behind the end.
+pub(crate) fn at(list: &[u64], index: usize) -> u64
+    ensures { result ≡ slice_index list.now index }
+{
+    if index < list.len() { list[index] } else { 0 }
+}
+
+// How much is added to the steps where the call goes on at another slot.
+fn count(pends: &[u64], slot: usize, to: usize) -> Option<u64>
+    ensures { IfSome result (λ k. Counts pends.now slot to k) }
+{
+    let steps = at(pends, slot).checked_add(1)?;
+    let k = steps.checked_sub(at(pends, to))?;
+    if k < 0x8000_0000 { Some(k) } else { None }
+}
+
+// How far it is from behind a jump to a slot.
+fn distance(places: &[u64], behind: u64, to: usize) -> Option<u64>
+    ensures { IfSome result (λ d. Reaches places.now behind to d) }
+{
+    let d = at(places, to).checked_sub(behind)?;
+    if d < 0x8000_0000 { Some(d) } else { None }
+}
+
+// Adds to the steps.
+fn flush(code: &mut Vec<u8>, k: u64) -> Result<(), AllocError>
+    ensures { OnOk result (code.new.items ≡ code.old.items ++ codes (flushed k)) }
+{
+    if k == 0 {
+        Ok(())
+    } else {
+        Instr::Lea {
+            to: 11,
+            base: 11,
+            disp: k,
+        }
+        .write(code)
+    }
+}
+
+// The instructions of a task without jumps. `false`: there are none.
+fn emit_body(code: &mut Vec<u8>, body: Body) -> Result<bool, AllocError>
+    ensures { IfOk result (λ yes. IsTrue yes → (is : List machine.Instr) × IsBody body is × (code.new.items ≡ code.old.items ++ codes is)) }
+{
+    match body {
+        Body::Refused => Ok(false),
+        Body::One(i) => {
+            write_all(code, &[i])?;
+            Ok(true)
+        }
+        Body::Two(i, j) => {
+            write_all(code, &[i, j])?;
+            Ok(true)
+        }
+        Body::Three(i, j, k) => {
+            write_all(code, &[i, j, k])?;
+            Ok(true)
+        }
+    }
+}
+
+// How many bytes instructions have.
+fn measure(alloc: Global, list: &[Instr]) -> Result<u64, AllocError>
+    ensures { IfOk result (λ n. n ≡ length (codes list.now)) }
+{
+    let mut code = Vec::new(alloc);
+    write_all(&mut code, list)?;
+    Ok(code.len() as u64)
+}
+
+// A call: tests, what they pass by, and the rest.
+fn emit_parts(
+    code: &mut Vec<u8>,
+    tests: &[Instr],
+    good: &[Instr],
+    rest: &[Instr],
+) -> Result<(), AllocError>
+    ensures { OnOk result (code.new.items ≡ code.old.items ++ codes (tests.now ++ (good.now ++ rest.now))) }
+{
+    write_all(code, tests)?;
+    write_all(code, good)?;
+    write_all(code, rest)?;
+    Ok(())
+}
+
+// Helper 1. `false`: it is too long.
+fn emit_send(alloc: Global, code: &mut Vec<u8>, at: u16) -> Result<bool, AllocError>
+    ensures { IfOk result (λ yes. IsTrue yes → (is : List machine.Instr) × IsCall specs.send_tests (specs.send_good at) specs.send_end is × (code.new.items ≡ code.old.items ++ codes is)) }
+{
+    let good = send_good(at as u64);
+    let size = measure(alloc, &good)?;
+    if size >= 1000 {
+        return Ok(false);
+    }
+    let tests = send_tests(size);
+    let rest = send_end();
+    emit_parts(code, &tests, &good, &rest)?;
+    Ok(true)
+}
+
+// Helper 2. `false`: it is too long.
+fn emit_output(alloc: Global, code: &mut Vec<u8>, at: u16) -> Result<bool, AllocError>
+    ensures { IfOk result (λ yes. IsTrue yes → (is : List machine.Instr) × IsCall specs.output_tests (specs.output_good at) specs.output_end is × (code.new.items ≡ code.old.items ++ codes is)) }
+{
+    let good = output_good(at as u64);
+    let size = measure(alloc, &good)?;
+    if size >= 1000 {
+        return Ok(false);
+    }
+    let tests = output_tests(size);
+    let rest = output_end();
+    emit_parts(code, &tests, &good, &rest)?;
+    Ok(true)
+}
+
+// Helper 5. `false`: it is too long.
+fn emit_send_sized(alloc: Global, code: &mut Vec<u8>, at: u16) -> Result<bool, AllocError>
+    ensures { IfOk result (λ yes. IsTrue yes → (is : List machine.Instr) × IsCall specs.send_sized_tests (specs.send_sized_good at) specs.send_sized_end is × (code.new.items ≡ code.old.items ++ codes is)) }
+{
+    let good = send_sized_good(at as u64);
+    let size = measure(alloc, &good)?;
+    if size >= 1000 {
+        return Ok(false);
+    }
+    let tests = send_sized_tests(size);
+    let rest = send_sized_end();
+    emit_parts(code, &tests, &good, &rest)?;
+    Ok(true)
+}
+
+// Helper 6. `false`: it is too long.
+fn emit_output_sized(alloc: Global, code: &mut Vec<u8>, at: u16) -> Result<bool, AllocError>
+    ensures { IfOk result (λ yes. IsTrue yes → (is : List machine.Instr) × IsCall specs.output_sized_tests (specs.output_sized_good at) specs.output_sized_end is × (code.new.items ≡ code.old.items ++ codes is)) }
+{
+    let good = output_sized_good(at as u64);
+    let size = measure(alloc, &good)?;
+    if size >= 1000 {
+        return Ok(false);
+    }
+    let tests = output_sized_tests(size);
+    let rest = output_sized_end();
+    emit_parts(code, &tests, &good, &rest)?;
+    Ok(true)
+}
+
+// A quotient or a remainder. `false`: it can't be written.
+fn emit_quotient(
+    code: &mut Vec<u8>,
+    width: Width,
+    dst: Reg,
+    operand: Operand,
+    from: u8,
+    none: Instr,
+    size: u64,
+) -> Result<bool, AllocError>
+    ensures { IfOk result (λ yes. IsTrue yes → (is : List machine.Instr) × IsQuotient width dst.number operand from none size is × (code.new.items ≡ code.old.items ++ codes is)) }
+{
+    if dst.number >= 10 {
+        return Ok(false);
+    }
+    let Some(first) = divisor_code(width, operand) else {
+        return Ok(false);
+    };
+    let list = quotient_code(first, width, gpr(dst), from, none, size);
+    write_all(code, &list)?;
+    Ok(true)
+}
+
+// A signed one. `false`: it can't be written.
+fn emit_signed(
+    code: &mut Vec<u8>,
+    width: Width,
+    dst: Reg,
+    operand: Operand,
+    from: u8,
+    ways: Ways,
+) -> Result<bool, AllocError>
+    ensures { IfOk result (λ yes. IsTrue yes → (is : List machine.Instr) × IsSigned width dst.number operand from ways.minus ways.minus_size ways.none ways.none_size is × (code.new.items ≡ code.old.items ++ codes is)) }
+{
+    if dst.number >= 10 {
+        return Ok(false);
+    }
+    let Some(first) = divisor_code(width, operand) else {
+        return Ok(false);
+    };
+    let list = signed_code(first, width, gpr(dst), from, ways);
+    write_all(code, &list)?;
+    Ok(true)
+}
+
+// Arithmetic. `false`: it can't be written.
+fn emit_compute(
+    code: &mut Vec<u8>,
+    op: AluOp,
+    width: Width,
+    dst: Reg,
+    operand: Operand,
+) -> Result<bool, AllocError>
+    ensures { IfOk result (λ yes. IsTrue yes → (is : List machine.Instr) × IsDone (Task.Compute op width dst operand) is × (code.new.items ≡ code.old.items ++ codes is)) }
+{
+    let to = gpr(dst);
+    let zero = Instr::MovImm { to, imm: 0 };
+    let same = Instr::Mov {
+        width,
+        to,
+        from: to,
+    };
+    let negated = Instr::Neg { width, to };
+    match op {
+        AluOp::Div => emit_quotient(code, width, dst, operand, 0, zero, 6),
+        AluOp::Mod => emit_quotient(code, width, dst, operand, 2, same, 3),
+        AluOp::Sdiv => {
+            let ways = Ways {
+                minus: negated,
+                minus_size: 3,
+                none: zero,
+                none_size: 6,
+            };
+            emit_signed(code, width, dst, operand, 0, ways)
+        }
+        AluOp::Smod => {
+            let ways = Ways {
+                minus: zero,
+                minus_size: 6,
+                none: same,
+                none_size: 3,
+            };
+            emit_signed(code, width, dst, operand, 2, ways)
+        }
+        _ => {
+            let done = emit_body(
+                code,
+                body_of(Task::Compute {
+                    op,
+                    width,
+                    dst,
+                    operand,
+                }),
+            )?;
+            Ok(done)
+        }
+    }
+}
+
+// What a task that always goes on does. `false`: it can't be written.
+fn emit_done(alloc: Global, code: &mut Vec<u8>, task: Task) -> Result<bool, AllocError>
+    ensures { IfOk result (λ yes. IsTrue yes → (is : List machine.Instr) × IsDone task is × (code.new.items ≡ code.old.items ++ codes is)) }
+{
+    match task {
+        Task::Send { at } => emit_send(alloc, code, at),
+        Task::Output { at } => emit_output(alloc, code, at),
+        Task::SendSized { at } => emit_send_sized(alloc, code, at),
+        Task::OutputSized { at } => emit_output_sized(alloc, code, at),
+        Task::Compute {
+            op,
+            width,
+            dst,
+            operand,
+        } => emit_compute(code, op, width, dst, operand),
+        _ => {
+            let done = emit_body(code, body_of(task))?;
+            Ok(done)
+        }
+    }
+}
+
+// How many slots a task takes.
+fn taken(task: Task) -> usize
+    ensures value { result ≡ taken task }
+    ensures few { result ≤ 2 }
+{
+    match task {
+        Task::Wide { .. } => 2,
+        _ => 1,
+    }
+}
+
+/// A task that always goes on. `false`: it can't be written.
+fn emit_plain(
+    alloc: Global,
+    code: &mut Vec<u8>,
+    pends: &[u64],
+    places: &[u64],
+    slot: usize,
+    task: Task,
+) -> Result<bool, AllocError>
+    requires { slot < 1024 }
+    ensures { IfOk result (λ yes. IsTrue yes → (is : List machine.Instr) × Plain pends.now places.now slot (length code.old.items) task is × (code.new.items ≡ code.old.items ++ codes is)) }
+{
+    let next = slot + taken(task);
+    let Some(k) = count(pends, slot, next) else {
+        return Ok(false);
+    };
+    let behind = at(places, next);
+    let place = at(places, slot + 1);
+    if behind != place {
+        return Ok(false);
+    }
+    let _short = body_of(task);
+    let done = emit_done(alloc, code, task)?;
+    if !done {
+        return Ok(false);
+    }
+    flush(code, k)?;
+    let _fits = code.len();
+    Ok(true)
+}
+
+/// A conditional jump.
+fn emit_branch(
+    code: &mut Vec<u8>,
+    pends: &[u64],
+    places: &[u64],
+    slot: usize,
+    condition: Condition,
+    width: Width,
+    dst: Reg,
+    operand: Operand,
+    to: u16,
+) -> Result<bool, AllocError>
+    requires { slot < 1024 }
+    ensures { IfOk result (λ yes. IsTrue yes → (is : List machine.Instr) × Forks pends.now places.now slot (length code.old.items) condition width dst.number operand to is × (code.new.items ≡ code.old.items ++ codes is)) }
+{
+    let Some(compare) = compare_code(condition, width, dst, operand) else {
+        return Ok(false);
+    };
+    let met = condition_of(condition);
+    let Some(k) = count(pends, slot, slot + 1) else {
+        return Ok(false);
+    };
+    let Some(taken) = count(pends, slot, to as usize) else {
+        return Ok(false);
+    };
+    if taken != k {
+        return Ok(false);
+    }
+    flush(code, k)?;
+    compare.write(code)?;
+    let Some(behind) = (code.len() as u64).checked_add(6) else {
+        return Ok(false);
+    };
+    let Some(distance) = distance(places, behind, to as usize) else {
+        return Ok(false);
+    };
+    Instr::JumpIf {
+        condition: met,
+        distance,
+    }
+    .write(code)?;
+    Ok(true)
+}
+
+/// A jump.
+fn emit_leap(
+    code: &mut Vec<u8>,
+    pends: &[u64],
+    places: &[u64],
+    slot: usize,
+    to: u16,
+) -> Result<bool, AllocError>
+    ensures { IfOk result (λ yes. IsTrue yes → (is : List machine.Instr) × Jumps pends.now places.now slot (length code.old.items) to is × (code.new.items ≡ code.old.items ++ codes is)) }
+{
+    let Some(k) = count(pends, slot, to as usize) else {
+        return Ok(false);
+    };
+    flush(code, k)?;
+    let Some(behind) = (code.len() as u64).checked_add(5) else {
+        return Ok(false);
+    };
+    let Some(distance) = distance(places, behind, to as usize) else {
+        return Ok(false);
+    };
+    Instr::Jump { distance }.write(code)?;
+    Ok(true)
+}
+
+// Writes instructions.
+fn write_all(code: &mut Vec<u8>, list: &[Instr]) -> Result<(), AllocError>
+    ensures { OnOk result (code.new.items ≡ code.old.items ++ codes list.now) }
+{
+    for instr in list {
+        instr.write(code)?;
+    }
+    Ok(())
+}
+
+/// The end.
+fn emit_exit(code: &mut Vec<u8>, pends: &[u64], slot: usize) -> Result<bool, AllocError>
+    ensures { IfOk result (λ yes. IsTrue yes → (is : List machine.Instr) × Ends pends.now slot is × (code.new.items ≡ code.old.items ++ codes is)) }
+{
+    let Some(k) = at(pends, slot).checked_add(1) else {
+        return Ok(false);
+    };
+    if k >= 0x8000_0000 {
+        return Ok(false);
+    }
+    flush(code, k)?;
+    let end = [
+        Instr::Store {
+            size: Size::Double,
+            base: 15,
+            disp: 16,
+            from: 11,
+        },
+        Instr::Pop { reg: 15 },
+        Instr::Pop { reg: 14 },
+        Instr::Pop { reg: 13 },
+        Instr::Pop { reg: 12 },
+        Instr::Pop { reg: 5 },
+        Instr::Pop { reg: 3 },
+        Instr::Return,
+    ];
+    write_all(code, &end)?;
+    Ok(true)
+}
+
+/// The begin.
+pub(crate) fn emit_entry(code: &mut Vec<u8>) -> Result<(), AllocError>
+    ensures { OnOk result (code.new.items ≡ code.old.items ++ codes entering) }
+{
+    let begin = [
+        Instr::Push { reg: 3 },
+        Instr::Push { reg: 5 },
+        Instr::Push { reg: 12 },
+        Instr::Push { reg: 13 },
+        Instr::Push { reg: 14 },
+        Instr::Push { reg: 15 },
+        Instr::Lea {
+            to: 5,
+            base: 7,
+            disp: 384,
+        },
+        Instr::Mov {
+            width: Width::W64,
+            to: 15,
+            from: 6,
+        },
+        Instr::Mov {
+            width: Width::W64,
+            to: 8,
+            from: 2,
+        },
+        Instr::MovImm { to: 7, imm: 0 },
+        Instr::MovImm { to: 6, imm: 0 },
+        Instr::MovImm { to: 11, imm: 0 },
+    ];
+    write_all(code, &begin)
+}
+
+/// The code of a task. `false`: it can't be written.
+pub(crate) fn emit(
+    alloc: Global,
+    code: &mut Vec<u8>,
+    pends: &[u64],
+    places: &[u64],
+    slot: usize,
+    task: Task,
+) -> Result<bool, AllocError>
+    requires { slot < 1024 }
+    ensures { IfOk result (λ yes. IsTrue yes → (is : List machine.Instr) × Serves pends.now places.now slot (length code.old.items) task is × (code.new.items ≡ code.old.items ++ codes is)) }
+{
+    match task {
+        Task::Branch {
+            condition,
+            width,
+            dst,
+            operand,
+            to,
+        } => {
+            emit_branch(
+                code, pends, places, slot, condition, width, dst, operand, to,
+            )
+        }
+        Task::Leap { to } => emit_leap(code, pends, places, slot, to),
+        Task::Exit => emit_exit(code, pends, slot),
+        Task::Dead => Ok(true),
+        _ => emit_plain(alloc, code, pends, places, slot, task),
+    }
+}

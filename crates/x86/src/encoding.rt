@@ -1,0 +1,423 @@
+//! The bytes of instructions.
+
+ghost use Rattle.std.specs.Prelude.{◌≡◌, ◌+◌, ◌*◌, ◌/◌, ◌%◌, [], ◌∷◌, ◌++◌, OnOk, if◌then◌else◌};
+ghost use Rattle.operations.specs.Bytes.{le_bytes};
+ghost use Rattle.x86.specs.Encoding as encoding;
+
+use crate::instruction::{Alu, Condition, Instr, Shift};
+use decode::{Extension, SignedSize, Size, Width};
+use std::alloc::AllocError;
+
+// One more byte.
+fn put(code: &mut Vec<u8>, byte: u8) -> Result<(), AllocError>
+    ensures { OnOk result (code.new.items ≡ code.old.items ++ byte ∷ []) }
+{
+    code.push(byte)?;
+    Ok(())
+}
+
+// The low 16 bits of a number.
+fn put_half(code: &mut Vec<u8>, number: u64) -> Result<(), AllocError>
+    ensures { OnOk result (code.new.items ≡ code.old.items ++ le_bytes 2 number) }
+{
+    put(code, (number % 256) as u8)?;
+    put(code, (number / 256 % 256) as u8)
+}
+
+// The low 32 bits of a number.
+fn put_number(code: &mut Vec<u8>, number: u64) -> Result<(), AllocError>
+    ensures { OnOk result (code.new.items ≡ code.old.items ++ le_bytes 4 number) }
+{
+    put(code, (number % 256) as u8)?;
+    put(code, (number / 256 % 256) as u8)?;
+    put(code, (number / 256 / 256 % 256) as u8)?;
+    put(code, (number / 256 / 256 / 256 % 256) as u8)
+}
+
+// A number of 64 bits.
+fn put_wide(code: &mut Vec<u8>, number: u64) -> Result<(), AllocError>
+    ensures { OnOk result (code.new.items ≡ code.old.items ++ le_bytes 8 number) }
+{
+    put_number(code, number)?;
+    put_number(code, number / 256 / 256 / 256 / 256)
+}
+
+// REX, with W for 64 bits, R, X and B for registers from 8 on.
+fn rex_by(width: Width, reg: u8, index: u8, rm: u8) -> u8
+    ensures { result ≡ encoding.rex_by width reg index rm }
+{
+    let wide = match width {
+        Width::W32 => 0,
+        Width::W64 => 8,
+    };
+    64 + wide + 4 * (reg / 8 % 2) + 2 * (index / 8 % 2) + rm / 8 % 2
+}
+
+fn rex(width: Width, reg: u8, rm: u8) -> u8
+    ensures { result ≡ encoding.rex width reg rm }
+{
+    rex_by(width, reg, 0, rm)
+}
+
+// ModR/M of two registers.
+fn two(reg: u8, rm: u8) -> u8
+    ensures { result ≡ encoding.two reg rm }
+{
+    192 + 8 * (reg % 8) + rm % 8
+}
+
+// Whether 8 bits give a number.
+fn is_small(number: u64) -> bool
+    ensures { result ≡ encoding.is_small number }
+{
+    number % 0x1_0000_0000 < 128 || 0xffff_ff80 <= number % 0x1_0000_0000
+}
+
+// 8 bits or 32.
+fn put_short(code: &mut Vec<u8>, number: u64) -> Result<(), AllocError>
+    ensures { OnOk result (code.new.items ≡ code.old.items ++ encoding.number number) }
+{
+    if is_small(number) {
+        put(code, (number % 256) as u8)
+    } else {
+        put_number(code, number)
+    }
+}
+
+// The number of an operation.
+fn op_number(op: Alu) -> u8
+    ensures { result ≡ encoding.op_number op }
+{
+    match op {
+        Alu::Add => 0,
+        Alu::Or => 1,
+        Alu::And => 4,
+        Alu::Sub => 5,
+        Alu::Xor => 6,
+        Alu::Cmp => 7,
+    }
+}
+
+// The number of a shift.
+fn shift_number(op: Shift) -> u8
+    ensures { result ≡ encoding.shift_number op }
+{
+    match op {
+        Shift::Left => 4,
+        Shift::Right => 5,
+        Shift::RightSigned => 7,
+    }
+}
+
+// The number of a condition.
+fn code_of(condition: Condition) -> u8
+    ensures { result ≡ encoding.code_of condition }
+{
+    match condition {
+        Condition::Below => 2,
+        Condition::AboveEqual => 3,
+        Condition::Equal => 4,
+        Condition::NotEqual => 5,
+        Condition::BelowEqual => 6,
+        Condition::Above => 7,
+        Condition::Less => 12,
+        Condition::GreaterEqual => 13,
+        Condition::LessEqual => 14,
+        Condition::Greater => 15,
+    }
+}
+
+// An instruction with two registers.
+fn put_two(code: &mut Vec<u8>, width: Width, opcode: u8, reg: u8, rm: u8) -> Result<(), AllocError>
+    ensures { OnOk result (code.new.items ≡ code.old.items ++ encoding.with_two width opcode reg rm) }
+{
+    put(code, rex(width, reg, rm))?;
+    put(code, opcode)?;
+    put(code, two(reg, rm))
+}
+
+// An instruction with two registers and an opcode of two bytes.
+fn put_two_0f(
+    code: &mut Vec<u8>,
+    width: Width,
+    opcode: u8,
+    reg: u8,
+    rm: u8,
+) -> Result<(), AllocError>
+    ensures { OnOk result (code.new.items ≡ code.old.items ++ encoding.with_two_0f width opcode reg rm) }
+{
+    put(code, rex(width, reg, rm))?;
+    put(code, 0x0f)?;
+    put(code, opcode)?;
+    put(code, two(reg, rm))
+}
+
+// ModR/M without its mode and r/m.
+fn mode(disp: u64, reg: u8) -> u8
+    ensures { result ≡ (if encoding.is_small disp then 64 else 128) + 8 * (reg % 8) }
+{
+    let mode = if is_small(disp) { 64 } else { 128 };
+    mode + 8 * (reg % 8)
+}
+
+// Where the memory is.
+fn memory(code: &mut Vec<u8>, reg: u8, base: u8, disp: u64) -> Result<(), AllocError>
+    ensures { OnOk result (code.new.items ≡ code.old.items ++ encoding.memory reg base disp) }
+{
+    put(code, mode(disp, reg) + base % 8)?;
+    if base % 8 == 4 {
+        put(code, 36)?;
+        put_short(code, disp)
+    } else {
+        put_short(code, disp)
+    }
+}
+
+// The same with an index.
+fn memory_by(code: &mut Vec<u8>, reg: u8, base: u8, index: u8, disp: u64) -> Result<(), AllocError>
+    ensures { OnOk result (code.new.items ≡ code.old.items ++ encoding.memory_by reg base index disp) }
+{
+    put(code, mode(disp, reg) + 4)?;
+    put(code, 8 * (index % 8) + base % 8)?;
+    put_short(code, disp)
+}
+
+// An instruction with memory.
+fn put_memory(
+    code: &mut Vec<u8>,
+    width: Width,
+    opcode: u8,
+    reg: u8,
+    base: u8,
+    disp: u64,
+) -> Result<(), AllocError>
+    ensures { OnOk result (code.new.items ≡ code.old.items ++ encoding.with_memory width opcode reg base disp) }
+{
+    put(code, rex(width, reg, base))?;
+    put(code, opcode)?;
+    memory(code, reg, base, disp)
+}
+
+// An instruction with memory and an opcode of two bytes.
+fn put_memory_0f(
+    code: &mut Vec<u8>,
+    width: Width,
+    opcode: u8,
+    reg: u8,
+    base: u8,
+    disp: u64,
+) -> Result<(), AllocError>
+    ensures { OnOk result (code.new.items ≡ code.old.items ++ encoding.with_memory_0f width opcode reg base disp) }
+{
+    put(code, rex(width, reg, base))?;
+    put(code, 0x0f)?;
+    put(code, opcode)?;
+    memory(code, reg, base, disp)
+}
+
+fn put_movsx(code: &mut Vec<u8>, extension: Extension, to: u8, from: u8) -> Result<(), AllocError>
+    ensures { OnOk result (code.new.items ≡ code.old.items ++ encoding.movsx extension to from) }
+{
+    match extension {
+        Extension::W32From8 => put_two_0f(code, Width::W32, 0xbe, to, from),
+        Extension::W32From16 => put_two_0f(code, Width::W32, 0xbf, to, from),
+        Extension::W64From8 => put_two_0f(code, Width::W64, 0xbe, to, from),
+        Extension::W64From16 => put_two_0f(code, Width::W64, 0xbf, to, from),
+        Extension::W64From32 => put_two(code, Width::W64, 0x63, to, from),
+    }
+}
+
+fn put_alu_imm(
+    code: &mut Vec<u8>,
+    op: Alu,
+    width: Width,
+    to: u8,
+    imm: u64,
+) -> Result<(), AllocError>
+    ensures { OnOk result (code.new.items ≡ code.old.items ++ encoding.alu_imm op width to imm) }
+{
+    if is_small(imm) {
+        put_two(code, width, 0x83, op_number(op), to)?;
+        put(code, (imm % 256) as u8)
+    } else {
+        put_two(code, width, 0x81, op_number(op), to)?;
+        put_number(code, imm)
+    }
+}
+
+impl Instr {
+    /// Writes its bytes behind those that are there.
+    pub fn write(&self, code: &mut Vec<u8>) -> Result<(), AllocError>
+        ensures { OnOk result (code.new.items ≡ code.old.items ++ encoding.bytes_of self.now) }
+    {
+        match *self {
+            Instr::Mov { width, to, from } => put_two(code, width, 0x89, from, to),
+            Instr::MovImm { to, imm } => {
+                put(code, rex(Width::W32, 0, to))?;
+                put(code, 0xb8 + to % 8)?;
+                put_number(code, imm)
+            }
+            Instr::MovSigned { to, imm } => {
+                put_two(code, Width::W64, 0xc7, 0, to)?;
+                put_number(code, imm)
+            }
+            Instr::MovWide { to, imm } => {
+                put(code, rex(Width::W64, 0, to))?;
+                put(code, 0xb8 + to % 8)?;
+                put_wide(code, imm)
+            }
+            Instr::MovSx {
+                extension,
+                to,
+                from,
+            } => put_movsx(code, extension, to, from),
+            Instr::MovZx { to, from } => put_two_0f(code, Width::W32, 0xb7, to, from),
+            Instr::Alu {
+                op,
+                width,
+                to,
+                from,
+            } => put_two(code, width, 8 * op_number(op) + 1, from, to),
+            Instr::AluImm { op, width, to, imm } => put_alu_imm(code, op, width, to, imm),
+            Instr::Test { width, a, b } => put_two(code, width, 0x85, b, a),
+            Instr::TestImm { width, a, imm } => {
+                put_two(code, width, 0xf7, 0, a)?;
+                put_number(code, imm)
+            }
+            Instr::Mul { width, to, from } => put_two_0f(code, width, 0xaf, to, from),
+            Instr::MulImm {
+                width,
+                to,
+                from,
+                imm,
+            } => {
+                put_two(code, width, 0x69, to, from)?;
+                put_number(code, imm)
+            }
+            Instr::Neg { width, to } => put_two(code, width, 0xf7, 3, to),
+            Instr::Shift {
+                op,
+                width,
+                to,
+                count,
+            } => {
+                put_two(code, width, 0xc1, shift_number(op), to)?;
+                put(code, count)
+            }
+            Instr::ShiftBy { op, width, to } => put_two(code, width, 0xd3, shift_number(op), to),
+            Instr::SwapLow { to } => {
+                put(code, 0x66)?;
+                put_two(code, Width::W32, 0xc1, 0, to)?;
+                put(code, 8)
+            }
+            Instr::Swap { width, to } => {
+                put(code, rex(width, 0, to))?;
+                put(code, 0x0f)?;
+                put(code, 0xc8 + to % 8)
+            }
+            Instr::Div { width, by } => put_two(code, width, 0xf7, 6, by),
+            Instr::SignedDiv { width, by } => put_two(code, width, 0xf7, 7, by),
+            Instr::Spread { width } => {
+                put(code, rex(width, 0, 0))?;
+                put(code, 0x99)
+            }
+            Instr::Load {
+                size,
+                to,
+                base,
+                disp,
+            } => match size {
+                Size::Byte => put_memory_0f(code, Width::W32, 0xb6, to, base, disp),
+                Size::Half => put_memory_0f(code, Width::W32, 0xb7, to, base, disp),
+                Size::Word => put_memory(code, Width::W32, 0x8b, to, base, disp),
+                Size::Double => put_memory(code, Width::W64, 0x8b, to, base, disp),
+            },
+            Instr::LoadSx {
+                size,
+                to,
+                base,
+                disp,
+            } => match size {
+                SignedSize::Byte => put_memory_0f(code, Width::W64, 0xbe, to, base, disp),
+                SignedSize::Half => put_memory_0f(code, Width::W64, 0xbf, to, base, disp),
+                SignedSize::Word => put_memory(code, Width::W64, 0x63, to, base, disp),
+            },
+            Instr::Store {
+                size,
+                base,
+                disp,
+                from,
+            } => match size {
+                Size::Byte => put_memory(code, Width::W32, 0x88, from, base, disp),
+                Size::Half => {
+                    put(code, 0x66)?;
+                    put_memory(code, Width::W32, 0x89, from, base, disp)
+                }
+                Size::Word => put_memory(code, Width::W32, 0x89, from, base, disp),
+                Size::Double => put_memory(code, Width::W64, 0x89, from, base, disp),
+            },
+            Instr::StoreImm {
+                size,
+                base,
+                disp,
+                imm,
+            } => match size {
+                Size::Byte => {
+                    put_memory(code, Width::W32, 0xc6, 0, base, disp)?;
+                    put(code, (imm % 256) as u8)
+                }
+                Size::Half => {
+                    put(code, 0x66)?;
+                    put_memory(code, Width::W32, 0xc7, 0, base, disp)?;
+                    put_half(code, imm)
+                }
+                Size::Word => {
+                    put_memory(code, Width::W32, 0xc7, 0, base, disp)?;
+                    put_number(code, imm)
+                }
+                Size::Double => {
+                    put_memory(code, Width::W64, 0xc7, 0, base, disp)?;
+                    put_number(code, imm)
+                }
+            },
+            Instr::LoadLong { base, disp } => put_memory_0f(code, Width::W32, 0x10, 0, base, disp),
+            Instr::StoreLong { base, disp } => put_memory_0f(code, Width::W32, 0x11, 0, base, disp),
+            Instr::Lea { to, base, disp } => put_memory(code, Width::W64, 0x8d, to, base, disp),
+            Instr::LeaBy {
+                to,
+                base,
+                index,
+                disp,
+            } => {
+                put(code, rex_by(Width::W64, to, index, base))?;
+                put(code, 0x8d)?;
+                memory_by(code, to, base, index, disp)
+            }
+            Instr::Jump { distance } => {
+                put(code, 0xe9)?;
+                put_number(code, distance)
+            }
+            Instr::JumpIf {
+                condition,
+                distance,
+            } => {
+                put(code, 0x0f)?;
+                put(code, 0x80 + code_of(condition))?;
+                put_number(code, distance)
+            }
+            Instr::Push { reg } => {
+                put(code, rex(Width::W32, 0, reg))?;
+                put(code, 0x50 + reg % 8)
+            }
+            Instr::Pop { reg } => {
+                put(code, rex(Width::W32, 0, reg))?;
+                put(code, 0x58 + reg % 8)
+            }
+            Instr::CopyBytes => {
+                put(code, 0xf3)?;
+                put(code, 0xa4)
+            }
+            Instr::Return => put(code, 0xc3),
+        }
+    }
+}
