@@ -166,12 +166,25 @@ fn pictures(rt: HostRuntime) -> Result<(), Fail> {
 }
 
 /// A line, the scenario, the status, and what is told.
-const REFUSED: [(&str, &[u8], u8, &str); 12] = [
+const REFUSED: [(&str, &[u8], u8, &str); 14] = [
     ("run s", b"", 4, "scenario refused at line 0\n"),
     ("run s", b"# nothing\n\n", 4, "scenario refused at line 0\n"),
     (
         "run s",
         b"process a adder.sbi\ndrive 07\n",
+        4,
+        "scenario refused at line 2\n",
+    ),
+    // A carriage return or a tab is of no path.
+    (
+        "run s",
+        b"process a adder.sbi\r\ninput a 5\r\n",
+        4,
+        "scenario refused at line 1\n",
+    ),
+    (
+        "draw s out",
+        b"# a run\nprocess a adder.sbi\t\n",
         4,
         "scenario refused at line 2\n",
     ),

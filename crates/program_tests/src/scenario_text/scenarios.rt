@@ -120,7 +120,7 @@ fn each_order(rt: HostRuntime) -> Result<(), Fail> {
 }
 
 /// Lines that are none, for a word, a space, a name or a number.
-const FAULTY: [&str; 33] = [
+const FAULTY: [&str; 36] = [
     "fly a",
     "drive",
     "drive ",
@@ -154,6 +154,9 @@ const FAULTY: [&str; 33] = [
     "transmit a b2",
     "transmit a c 1",
     "process c c.sbi d",
+    "process c c.sbi\r",
+    "process c c.sbi\t",
+    "process c x\ty/c.sbi",
 ];
 
 #[test]
