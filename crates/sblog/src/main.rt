@@ -1,12 +1,16 @@
 //! The program `sblog`: the library's function over the real files, streams and arguments.
 #![tactic(auto)]
 
+mod place;
+mod streams;
 mod system;
 
+use crate::streams::{Faults, Reports};
 use crate::system::SystemFiles;
 use std::alloc::Global;
+use std::cell::Cell;
 use std::process::ExitCode;
-use std::{env, io};
+use std::{env, io, process};
 use tracer::{Fault, Usage, Written, sblog};
 
 /// The words of the command line, without the program's own name.
@@ -31,11 +35,24 @@ fn argument_fault(alloc: Global, e: io::Error) -> Fault {
 
 fn main(rt: HostRuntime) -> ExitCode {
     let alloc = rt.alloc();
-    let (mut stdout, mut stderr) = (rt.stdout(), rt.stderr());
-    let (mut out, mut err) = (Written(&mut stdout), Written(&mut stderr));
+    let broken = Cell::new(false);
+    let mut reports = Reports {
+        stream: rt.stdout(),
+        broken: &broken,
+    };
+    let mut faults = Faults {
+        stream: rt.stderr(),
+        broken: &broken,
+    };
+    let (mut out, mut err) = (Written(&mut reports), Written(&mut faults));
     let status = match arguments(&rt) {
         Ok(words) => {
-            let mut files = SystemFiles(&rt);
+            let process = process::id(rt.process());
+            let mut files = SystemFiles {
+                rt: &rt,
+                process,
+                broken: &broken,
+            };
             sblog(&rt, alloc, words.as_slice(), &mut files, &mut out, &mut err)
         }
         Err(e) => argument_fault(alloc, e).tell(&mut err),

@@ -1,18 +1,25 @@
 //! The files of the system.
 
+use crate::place::Place;
+use crate::streams::note;
 use std::alloc::Global;
+use std::cell::Cell;
 use std::fs::{OpenFile, OpenOptions, Permissions};
 use std::io::{Read, Write};
+use std::path::Path;
 use std::{fs, io, rt};
 use tracer::{Failure, Files};
 
-/// How many names are tried for a file beside another one.
-const NAMES: u32 = 100;
-
-/// The files of the system. What is written is written beside its place first, and then takes that
-/// place at once.
+/// The files of the system. A plain file is written beside its place first, and then takes that place
+/// at once.
 #[derive(Drop)]
-pub struct SystemFiles<'a, R: rt::Files + AllocGlobal>(pub &'a R);
+pub struct SystemFiles<'a, R: rt::Files + AllocGlobal> {
+    pub rt: &'a R,
+    /// The number of this process, so that no other one writes a file of the same name beside a place.
+    pub process: u32,
+    /// Whether a write has failed since nobody reads what it writes.
+    pub broken: &'a Cell<bool>,
+}
 
 impl<'a, R: rt::Files + AllocGlobal> Files for SystemFiles<'a, R> {
     fn read(
@@ -22,7 +29,7 @@ impl<'a, R: rt::Files + AllocGlobal> Files for SystemFiles<'a, R> {
         limit: Option<usize>,
     ) -> Result<Vec<u8>, Failure> {
         let mut bytes = Vec::new(alloc);
-        let mut file = fs::open(self.0, path)?;
+        let mut file = fs::open(self.rt, path)?;
         match limit {
             Some(limit) => file.take(limit as u64).read_to_end(&mut bytes)?,
             None => file.read_to_end(&mut bytes)?,
@@ -31,31 +38,49 @@ impl<'a, R: rt::Files + AllocGlobal> Files for SystemFiles<'a, R> {
     }
 
     fn write(&mut self, path: &str, bytes: &[u8]) -> Result<(), Failure> {
-        let written = match fs::metadata(self.0, path) {
-            Ok(found) if found.is_file() => {
-                // A link stays one, and the file that it leads to is replaced.
-                let place = fs::canonicalize(self.0, path)?;
-                replace(self.0, place.as_str(), bytes, Some(found.permissions()))
-            }
-            // A stream or a device has no place to take.
-            Ok(_) => fs::write(self.0, path, bytes),
-            Err(e) if e.kind() == io::ErrorKind::NotFound => replace(self.0, path, bytes, None),
-            Err(e) => Err(e),
-        };
+        let written = put(self.rt, self.process, path, bytes);
+        if let Err(e) = &written {
+            note(e, self.broken);
+        }
         written.map_err(Failure::from)
+    }
+}
+
+/// Puts these bytes at the place to which a path leads.
+fn put<R: rt::Files + AllocGlobal>(
+    rt: &R,
+    process: u32,
+    path: &str,
+    bytes: &[u8],
+) -> io::Result<()> {
+    match Place::of(rt, path)? {
+        Place::Plain(place, permissions) => {
+            replace(rt, process, place.as_str(), bytes, permissions)
+        }
+        Place::Open(place) => {
+            let mut file = OpenOptions::new().append(true).open(rt, place.as_str())?;
+            file.write_all(bytes)
+        }
+        Place::Special(place) => {
+            let mut file = OpenOptions::new().write(true).open(rt, place.as_str())?;
+            file.write_all(bytes)
+        }
     }
 }
 
 /// Puts a file of these bytes at a path, whole: where that fails, what was there stays.
 fn replace<R: rt::Files + AllocGlobal>(
     rt: &R,
-    path: &str,
+    process: u32,
+    place: &str,
     bytes: &[u8],
     permissions: Option<Permissions>,
 ) -> io::Result<()> {
     let alloc = rt.alloc();
-    for n in 0..NAMES {
-        let beside = format!(in alloc; "{path}.{n}.part")?;
+    // An earlier process of the same number may have left a file, so its name is passed over.
+    for counter in 0..u32::MAX {
+        let name = format!(in alloc; ".sblog-{process}-{counter}")?;
+        let beside = Path::new(place).with_file_name(alloc, name.as_str())?;
         let mut file = match OpenOptions::new()
             .write(true)
             .create_new(true)
@@ -68,7 +93,7 @@ fn replace<R: rt::Files + AllocGlobal>(
         let placed = fill(&mut file, bytes, permissions).and_then(|()| fs::rename(
             rt,
             beside.as_str(),
-            path,
+            place,
         ));
         if placed.is_err() {
             let _ = fs::remove_file(rt, beside.as_str());
