@@ -1,5 +1,5 @@
 //! Each exported function on its happy path, and each code. What is expected was worked out by
-//! `examples/scenarios/model.py`, the codes by docs/EMBEDDING.md.
+//! `model/sessions.py`, the codes by docs/EMBEDDING.md.
 
 use crate::entry::Record;
 use crate::exports::*;

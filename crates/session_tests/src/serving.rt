@@ -1,4 +1,4 @@
-//! Services whose calls, answers and ends were worked out by `examples/scenarios/model.py`: the
+//! Services whose calls, answers and ends were worked out by `model/sessions.py`: the
 //! scenarios `crash` and `relay` call by call, and refusals by the table of docs/FORMATS.md.
 
 ghost use Rattle.service.specs.Service.{IsJobless};

@@ -4,13 +4,7 @@ It is written from docs/FORMATS.md ("Refusals of code bytes", "Image file", "Rul
 not from the program.
 """
 
-import sys
-from pathlib import Path
-
-sys.dont_write_bytecode = True
-sys.path.insert(0, str(Path(__file__).resolve().parent.parent / "scenarios"))
-
-import handlers  # noqa: E402
+import handlers
 
 ARITHMETIC = {*range(0x0, 0x8), 0x9, 0xA, 0xB, 0xC}
 COMPARISONS = {0x1, 0x2, 0x3, 0x4, 0x5, 0x6, 0x7, 0xA, 0xB, 0xC, 0xD}

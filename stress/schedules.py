@@ -6,12 +6,12 @@ import sys
 from pathlib import Path
 
 sys.dont_write_bytecode = True
-TOP = Path(__file__).resolve().parent.parent.parent
-sys.path.insert(0, str(TOP / "examples/scenarios"))
+TOP = Path(__file__).resolve().parent.parent
+sys.path.insert(0, str(TOP / "model"))
 os.chdir(TOP)
 
 import handlers  # noqa: E402
-import model  # noqa: E402
+import sessions  # noqa: E402
 
 IMAGES = sorted(map(str, [*Path("examples").glob("*.sbi"), *Path("examples/scenarios").glob("*.sbi")]))
 
@@ -20,18 +20,18 @@ def modelled(text):
     """What the model prints of a scenario, and its status."""
     try:
         return carried_out(text)[1], 0
-    except model.Stop as stop:
+    except sessions.Stop as stop:
         return f"{stop}\n", stop.status
 
 
 def carried_out(text):
-    """The world to which a scenario leads, and what is printed, as `model.run` makes it of a file."""
-    scenario = model.Scenario(text)
+    """The world to which a scenario leads, and what is printed, as `sessions.run` makes it of a file."""
+    scenario = sessions.Scenario(text)
     world, held, lines = scenario.open(), {}, []
     for line, call in scenario.calls:
         try:
             obey(world, held, call)
-        except model.Refused as refused:
+        except sessions.Refused as refused:
             lines.append(f"line {line} refused {refused}")
     return world, "\n".join(lines + scenario.printed(world)) + "\n"
 
@@ -72,7 +72,7 @@ class List:
 
     def held(self, count):
         """The processes whose jobs the scenario holds after so many calls, the first one first."""
-        scenario = model.Scenario("\n".join(self.heads + self.calls[:count]))
+        scenario = sessions.Scenario("\n".join(self.heads + self.calls[:count]))
         world, held = scenario.open(), {}
         for _, call in scenario.calls:
             obey(world, held, call)
@@ -126,14 +126,14 @@ def random_session(rng, calls, is_saved=False):
     images = [handlers.load(Path(path).read_bytes()) for path in paths]
     names = [f"p{at}" for at in range(1, len(paths) + 1)]
     lines = [f"process {name} {path}" for name, path in zip(names, paths)]
-    world, held = model.World(images, {}), {}
+    world, held = sessions.World(images, {}), {}
     ends = [call for p in world.processes for call in (("drive", 60), ("checkpoint", p))]
     for at in range(calls + is_saved * len(ends)):
         call = random_call(world, rng) if at < calls else ends[at - calls]
         lines.append(random_line(world, rng, call, ["outside", *names]))
         try:
             obey(world, held, call)
-        except model.Refused:
+        except sessions.Refused:
             pass
     return "\n".join(lines) + "\n", world
 
