@@ -17,6 +17,7 @@
 mod hex;
 mod laws;
 mod line;
+mod mistake;
 mod number;
 mod order;
 mod pair;
@@ -29,6 +30,7 @@ mod verb;
 
 pub use hex::Hex;
 pub use laws::{one_fault, one_scenario};
+pub use mistake::{Above, Mistake, mistake_of};
 pub use order::{Allowed, Order};
 pub use process::{Process, name_at};
 pub use report::{push_exact, push_output, push_process};

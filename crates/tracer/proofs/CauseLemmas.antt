@@ -38,7 +38,7 @@ fault_is_cause words content failed order (Header h) asked fault = (order, asked
 fault_is_cause words content failed order (Decode rule slot) asked fault = (order, asked, fault)
 fault_is_cause words content failed order (Verify rule slot) asked fault = (order, asked, fault)
 fault_is_cause words content failed order (Assemble rule line) asked fault = (order, asked, fault)
-fault_is_cause words content failed order (Scenario line) asked fault = (order, asked, fault)
+fault_is_cause words content failed order (Scenario line said) asked fault = (order, asked, fault)
 fault_is_cause words content failed order Memory asked fault = tt
 fault_is_cause words content failed order InputOutput asked fault = (order, asked, fault)
 

@@ -16,12 +16,13 @@ use Rattle.scenario.specs.declared.scenario.Scenario.{Scenario}
 use Rattle.scenario.specs.declared.scenario.ScenarioError.{ScenarioError}
 use Rattle.scenario.specs.declared.scenario.ScenarioError.TheVariants as error
 use Rattle.tracer.specs.Check.{IsImageFault, IsLoaded}
-use Rattle.tracer.specs.Fault.{fault_of_image, fault_of_scenario}
+use Rattle.tracer.specs.Fault.{fault_of_image, IsFaultOfScenario}
 use Rattle.tracer.specs.Files.{Content}
 use Rattle.tracer.specs.Inside.{ImagesFault, IsPlainFault, IsReadAs, IsStagedAs, LoadFault}
 use Rattle.tracer.specs.Program.{FaultOf}
 use Rattle.tracer.specs.Stage.{AreLoaded, AreRefused, IsStaged, IsUnstaged}
 use Rattle.tracer.specs.declared.fault.Fault.{Fault}
+use Rattle.tracer.specs.declared.fault.Fault.TheVariants as fault
 
 abbrev Entry : Type 0
 Entry = String Global × Process
@@ -142,12 +143,12 @@ staged_fault content failed allowed path s f read (inr why) = subst (FaultOf con
 
 -- a text that is no scenario
 pub scenario_fault : (content : Content) (failed : Bool) (allowed : Allowed) (path bytes : List ℕ) (e : ScenarioError) (f : Fault)
-    → ((known : List ℕ) → content path ≡ Some known → bytes ≡ known) → scenario.IsRefusal allowed bytes e → f ≡ fault_of_scenario e
+    → ((known : List ℕ) → content path ≡ Some known → bytes ≡ known) → scenario.IsRefusal allowed bytes e → IsFaultOfScenario e f
     → FaultOf content failed path (IsUnstaged content allowed) f
-scenario_fault content failed allowed path bytes error.Memory f read why is = subst (FaultOf content failed path (IsUnstaged content allowed)) (sym is) tt
-scenario_fault content failed allowed path bytes (error.Line line) f read why is =
-    subst (FaultOf content failed path (IsUnstaged content allowed)) (sym is)
-    (λ known there. subst (λ (b : List ℕ). scenario.IsRefusal allowed b (error.Line line)) (read known there) why)
+scenario_fault content failed allowed path bytes e fault.Memory read why is = tt
+scenario_fault content failed allowed path bytes (error.Line line) (fault.Scenario n words) read why is = λ known there.
+    subst (λ (l : ℕ). scenario.IsRefusal allowed known (error.Line l)) (sym is)
+    (subst (λ (b : List ℕ). scenario.IsRefusal allowed b (error.Line line)) (read known there) why)
 
 -- what is staged, where the bytes of the scenario's file are known
 pub staged : (content : Content) (allowed : Allowed) (path known : List ℕ) (s : Scenario) (is : List Typed) → IsStagedAs content allowed path s is

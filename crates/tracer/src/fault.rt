@@ -1,7 +1,7 @@
 //! Why a command line was not carried out.
 
 ghost use Rattle.std.specs.Prelude.{◌≡◌, Some};
-ghost use Rattle.tracer.specs.Fault.{fault_of_code, fault_of_failure, fault_of_image, fault_of_refusal, fault_of_scenario, fault_of_text, fault_text, status_of};
+ghost use Rattle.tracer.specs.Fault.{fault_of_code, fault_of_failure, fault_of_image, fault_of_refusal, fault_of_text, fault_text, status_of};
 ghost use Rattle.tracer.specs.Program.{Tells};
 ghost use Rattle.tracer.specs.declared.fault.Fault.TheVariants.{Memory};
 
@@ -10,7 +10,6 @@ use crate::stream::Stream;
 use assemble::AsmError;
 use cli::{Refusal, Usage};
 use decode::DecodeError;
-use scenario::ScenarioError;
 use std::alloc::{AllocError, AllocFailed};
 use std::fmt;
 use verifier::{HeaderFault, ImageError};
@@ -29,8 +28,9 @@ pub enum Fault {
     Verify { rule: regtypes::Rule, slot: usize },
     /// This line of an assembler text, counted from 1, breaks a rule.
     Assemble { rule: assemble::Rule, line: usize },
-    /// This line of a scenario, counted from 1, is the first faulty one; line 0, where there is no process.
-    Scenario { line: usize },
+    /// This line of a scenario, counted from 1, is the first faulty one; line 0, where there is no process. What is
+    /// wrong with it stands below, on a line of its own.
+    Scenario { line: usize, words: String },
     Memory,
     /// A file or a stream could not be read or written.
     InputOutput,
@@ -84,7 +84,7 @@ impl fmt::Display for Fault {
                 let number = rule.number();
                 writeln!(f, "asm refused {number} at line {line}")
             }
-            Fault::Scenario { line } => writeln!(f, "scenario refused at line {line}"),
+            Fault::Scenario { line, words } => write!(f, "scenario refused at line {line}\n{words}"),
             Fault::Memory => writeln!(f, "memory"),
             Fault::InputOutput => writeln!(f, "input or output"),
         }
@@ -160,17 +160,6 @@ impl From<AsmError> for Fault {
         match e {
             AsmError::Memory => Fault::Memory,
             AsmError::Fault { rule, line } => Fault::Assemble { rule, line },
-        }
-    }
-}
-
-impl From<ScenarioError> for Fault {
-    ghost from_gives = { λ e f. f ≡ fault_of_scenario e };
-
-    fn from(e: ScenarioError) -> Fault {
-        match e {
-            ScenarioError::Memory => Fault::Memory,
-            ScenarioError::Line(line) => Fault::Scenario { line },
         }
     }
 }

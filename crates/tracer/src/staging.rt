@@ -2,6 +2,7 @@
 
 ghost use Rattle.std.specs.Prelude.{◌≡◌, IfErr, IfOk, map};
 ghost use Rattle.std.specs.Arc.{arc_value};
+ghost use Rattle.tracer.specs.Fault.{IsFaultOfScenario};
 ghost use Rattle.tracer.specs.Inside.{ImagesFault, IsReadAs, IsStagedAs};
 ghost use Rattle.tracer.specs.Program.{FaultOf};
 ghost use Rattle.tracer.specs.Stage.{AreLoaded, IsUnstaged};
@@ -10,8 +11,8 @@ use crate::check::load_image;
 use crate::fault::Fault;
 use crate::files::Files;
 use indexmap::IndexMap;
-use scenario::{Allowed, Process, Scenario, parse};
-use std::alloc::Global;
+use scenario::{Allowed, Process, Scenario, ScenarioError, mistake_of, parse};
+use std::alloc::{AllocError, Global};
 use std::sync::Arc;
 use verifier::Image;
 
@@ -38,8 +39,36 @@ fn read<F: Files>(
     let Ok(text) = str::from_utf8(bytes.as_slice()) else {
         return Err(Fault::InputOutput);
     };
-    let scenario = parse(alloc, text, allowed)?;
-    Ok(scenario)
+    match parse(alloc, text, allowed) {
+        Ok(scenario) => Ok(scenario),
+        Err(error) => Err(refusal(alloc, text, allowed, error)),
+    }
+}
+
+/// Why a text is no scenario, with what is wrong with the line that is named.
+fn refusal(alloc: Global, text: &str, allowed: Allowed, error: ScenarioError) -> Fault
+    ensures { IsFaultOfScenario error result }
+{
+    match error {
+        ScenarioError::Memory => Fault::Memory,
+        ScenarioError::Line(line) => match said(alloc, text, line, allowed) {
+            Ok(words) => Fault::Scenario { line, words },
+            Err(_) => Fault::Memory,
+        },
+    }
+}
+
+/// What is wrong with a line, as a line of text.
+fn said(
+    alloc: Global,
+    text: &str,
+    line: usize,
+    allowed: Allowed,
+) -> Result<String, AllocError> {
+    match mistake_of(text, line, allowed) {
+        Some(mistake) => format!(in alloc; "line {line}: {mistake}\n"),
+        None => Ok(String::new(alloc)),
+    }
 }
 
 /// Loads the images of processes, in their order.

@@ -1,0 +1,142 @@
+//! What is said of faulty lines.
+
+use scenario::{Allowed, ScenarioError, mistake_of, parse};
+use std::alloc::Global;
+use std::test::Fail;
+
+/// Whether a text is refused, and this is said of the line.
+fn is_told(alloc: Global, text: &str, allowed: Allowed, words: &str) -> Result<bool, Fail> {
+    match parse(alloc, text, allowed) {
+        Err(ScenarioError::Line(line)) => match mistake_of(text, line, allowed) {
+            Some(mistake) => {
+                let told = mistake.to_string(alloc)?;
+                Ok(told.as_str() == words)
+            }
+            None => Ok(false),
+        },
+        _ => Ok(false),
+    }
+}
+
+/// Whether this is said of a line behind two processes.
+fn tells(alloc: Global, line: &str, words: &str) -> Result<bool, Fail> {
+    let text = format!(in alloc; "process a x.sbi\n# two\nprocess c y.sbi\n{line}\ndrive 07\n")?;
+    is_told(alloc, text.as_str(), Allowed::All, words)
+}
+
+/// Whether each line, behind two processes, has these words said of it.
+fn tell(alloc: Global, rows: &[(&str, &str)]) -> Result<bool, Fail> {
+    for (line, words) in rows {
+        if !tells(alloc, line, words)? {
+            return Ok(false);
+        }
+    }
+    Ok(true)
+}
+
+const SPACE: &str = "a space at the beginning or the end, or two in a row";
+
+const BYTES: &str = "bytes are pairs of 0 to 9 and a to f, at most 256 pairs, or - for none";
+
+#[test]
+fn what_stands_between_words(rt: HostRuntime) -> Result<(), Fail> {
+    let rows = [
+        (
+            "drive 5\r",
+            "a carriage return: lines end with a line feed alone",
+        ),
+        ("drive\t5", "a tab: words stand with one space between them"),
+        (" drive 5", SPACE),
+        ("drive 5 ", SPACE),
+        ("drive  5", SPACE),
+        ("drive 5 # all", "a comment stands on a line of its own"),
+    ];
+    assert!(rt; tell(rt.alloc(), &rows)?);
+    Ok(())
+}
+
+#[test]
+fn words_of_orders(rt: HostRuntime) -> Result<(), Fail> {
+    let rows = [
+        ("input b 5", "no process is named b; declared are a, c"),
+        (
+            "input outside 5",
+            "no process is named outside; declared are a, c",
+        ),
+        (
+            "transmit outside d 1",
+            "no process is named d; declared are a, c",
+        ),
+        ("resync a e", "no process is named e; declared are a, c"),
+        ("crash A", "no process is named A; declared are a, c"),
+        ("input a", "more or fewer words than in: input NAME WORD"),
+        ("drive", "more or fewer words than in: drive BUDGET"),
+        ("crash a c", "more or fewer words than in: crash NAME"),
+        (
+            "drive 07",
+            "07 is no number: 0, or digits without a leading zero, below 2^32",
+        ),
+        (
+            "drive 4294967296",
+            "4294967296 is no number: 0, or digits without a leading zero, below 2^32",
+        ),
+        (
+            "drive -1",
+            "-1 is no number: 0, or digits without a leading zero, below 2^32",
+        ),
+        (
+            "input a 18446744073709551616",
+            "18446744073709551616 is no number: 0, or digits without a leading zero, below 2^64",
+        ),
+        ("bytes a 05FF", BYTES),
+        ("bytes a 5", BYTES),
+        ("bytes a 0x05", BYTES),
+        (
+            "deliver 5",
+            "no line begins with deliver: process, input, bytes, transmit, copy, lose, arrive, finish, checkpoint, trim, crash, recover, alone, replay, resync and drive do",
+        ),
+    ];
+    assert!(rt; tell(rt.alloc(), &rows)?);
+    Ok(())
+}
+
+#[test]
+fn lines_of_processes(rt: HostRuntime) -> Result<(), Fail> {
+    let alloc = rt.alloc();
+    let rows = [
+        (
+            "process d",
+            "more or fewer words than in: process NAME PATH",
+        ),
+        (
+            "process d x y",
+            "more or fewer words than in: process NAME PATH",
+        ),
+        (
+            "process 1st x",
+            "1st is no name: 1 to 16 of a to z and 0 to 9, a letter first, and not outside",
+        ),
+        (
+            "process outside x",
+            "outside is no name: 1 to 16 of a to z and 0 to 9, a letter first, and not outside",
+        ),
+        ("process c x", "c is declared above"),
+        (
+            "drive 1\nprocess d x",
+            "processes are declared before the first order",
+        ),
+    ];
+    assert!(rt; tell(alloc, &rows)?);
+    let none = "no line declares a process: process NAME PATH";
+    assert!(rt; is_told(alloc, "# nothing\ndrive 5\n", Allowed::All, none)?);
+    let first = "no process is named a; none is declared above";
+    assert!(rt; is_told(alloc, "crash a\nprocess a x\n", Allowed::All, first)?);
+    Ok(())
+}
+
+#[test]
+fn inputs_alone(rt: HostRuntime) -> Result<(), Fail> {
+    let words = "only input and bytes lines can stand here";
+    assert!(rt; is_told(rt.alloc(), "process a x\ncrash a\n", Allowed::Inputs, words)?);
+    Ok(())
+}
