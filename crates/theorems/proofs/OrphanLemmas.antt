@@ -14,7 +14,7 @@ use Rattle.theorems.specs.Growth.{Begins}
 use Rattle.theorems.specs.Invariants.Secured.{Secured, Safe}
 use Rattle.theorems.specs.Invariants.Sound.{Sound}
 use Rattle.theorems.specs.Invariants.Exact.{Exact}
-use Rattle.theorems.specs.Orphans.{IsStanding, IsSent, NoOrphan, payloads_of, ShownBegin}
+use Rattle.theorems.specs.Orphans.{IsStanding, IsSent, NoOrphan, payloads_of, ReceivedBegin, ShownBegin}
 use Rattle.theorems.specs.Single.{IsSingle}
 use Rattle.theorems.proofs.ListLemmas.{nth-prefix}
 use Rattle.theorems.proofs.LogLemmas.{payloads-prefix}
@@ -73,15 +73,26 @@ in-order s c (m ∷ ms) xs all = split (m.sender == s) refl (in-order s c ms xs)
         let r = more (λ k y f g. let r = all (suc k) y f g in (let a : y.ssn ≡ suc (c + ((if m.sender == s then 1 else 0) + count_of s (take k ms))) = r.0 in let b : y.ssn ≡ suc (c + (1 + count_of s (take k ms))) = rw e at a in omega arith, r.1)) in
         (r.0, ap (λ ys. m.payload ∷ ys) r.1 ∙ sym (drop-next xs c m.payload there))
 
-pub shown-begins : (w : World) → Sound w → NoOrphan w → (s k : ℕ) → IsStanding w s k → Begins (payloads_of s w.shown) (payloads w s (take k (w.history s)) 0)
-shown-begins w sound h s k t = rw (drop-none (payloads w s (take k (w.history s)) 0)) at (in-order s 0 w.shown (payloads w s (take k (w.history s)) 0) each)
+-- of a list in which each message is its sender's next and is sent to d, those of s are, in order, a beginning of what s sends to d
+sent-begins : (w : World) (s d k : ℕ) (ms : List Message) → IsStanding w s k → ((j : ℕ) (m : Message) → slice_get ms j ≡ Some m → m.ssn ≡ suc (count_of m.sender (take j ms))) → ((j : ℕ) (m : Message) → slice_get ms j ≡ Some m → IsSent w d m)
+    → Begins (payloads_of s ms) (payloads w s (take k (w.history s)) d)
+sent-begins w s d k ms t next sends = rw (drop-none (payloads w s (take k (w.history s)) d)) at (in-order s 0 ms (payloads w s (take k (w.history s)) d) each)
   where
-    each : (j : ℕ) (m : Message) → slice_get w.shown j ≡ Some m → m.sender ≡ s → (m.ssn ≡ suc (0 + count_of s (take j w.shown))) × (nth (payloads w s (take k (w.history s)) 0) m.ssn ≡ Some m.payload)
+    each : (j : ℕ) (m : Message) → slice_get ms j ≡ Some m → m.sender ≡ s → (m.ssn ≡ suc (0 + count_of s (take j ms))) × (nth (payloads w s (take k (w.history s)) d) m.ssn ≡ Some m.payload)
     each j m e f =
-        let P : ℕ → Type 0 = λ a. m.ssn ≡ suc (count_of a (take j w.shown)) in
-        let Q : ℕ → Type 0 = λ a. IsStanding w a k → nth (payloads w a (take k (w.history a)) 0) m.ssn ≡ Some m.payload in
-        let n : m.ssn ≡ suc (count_of s (take j w.shown)) = subst P f (sound.shown j m e) in
-        (omega arith, subst Q f (h.shown j m e k) t)
+        let P : ℕ → Type 0 = λ a. m.ssn ≡ suc (count_of a (take j ms)) in
+        let Q : ℕ → Type 0 = λ a. IsStanding w a k → nth (payloads w a (take k (w.history a)) d) m.ssn ≡ Some m.payload in
+        let n : m.ssn ≡ suc (count_of s (take j ms)) = subst P f (next j m e) in
+        (omega arith, subst Q f (sends j m e k) t)
+
+pub shown-begins : (w : World) → Sound w → NoOrphan w → (s k : ℕ) → IsStanding w s k → Begins (payloads_of s w.shown) (payloads w s (take k (w.history s)) 0)
+shown-begins w sound h s k t = sent-begins w s 0 k w.shown t sound.shown h.shown
+
+pub received-begins : (w : World) → Sound w → NoOrphan w → (s d k : ℕ) → IsStanding w s k → Begins (payloads_of s (w.history d)) (payloads w s (take k (w.history s)) d)
+received-begins w sound h s d k t = sent-begins w s d k (w.history d) t (λ j m e. (sound.received d j m e).next) (h.received d)
+
+pub received-once : (n : ℕ) (f : Handlers) (es : List Entry) → IsSingle n f es → ReceivedBegin (world_of n f es)
+received-once n f es i = received-begins (world_of n f es) (sound-single n f es i) (no-orphan n f es i)
 
 pub output-once : (n : ℕ) (f : Handlers) (es : List Entry) → IsSingle n f es → ShownBegin (world_of n f es)
 output-once n f es i = shown-begins (world_of n f es) (sound-single n f es i) (no-orphan n f es i)

@@ -33,6 +33,10 @@ abbrev pub payloads_of : ℕ → List Message → List Payload
 payloads_of s [] = []
 payloads_of s (m ∷ ms) = if m.sender == s then m.payload ∷ payloads_of s ms else payloads_of s ms
 
+-- received once: what a process received of another is, in order, a beginning of what that one's standing history sends to it
+abbrev pub ReceivedBegin : World → Type 0
+ReceivedBegin w = (s d k : ℕ) → IsStanding w s k → Begins (payloads_of s (w.history d)) (payloads w s (take k (w.history s)) d)
+
 -- output once: what was shown of each process is, in order, a beginning of the outputs of its standing history
 abbrev pub ShownBegin : World → Type 0
 ShownBegin w = (s k : ℕ) → IsStanding w s k → Begins (payloads_of s w.shown) (payloads w s (take k (w.history s)) 0)
