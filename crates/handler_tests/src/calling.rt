@@ -381,6 +381,31 @@ fn destinations(rt: HostRuntime) -> Result<(), Fail> {
     Ok(())
 }
 
+/// `mov r3, r2`, `OP r3, N`, `stb [r3+AT], 9`, `mov r0, 0`, `exit`: a place is moved on by ADD, and back by SUB.
+#[test]
+fn moved_places(rt: HostRuntime) -> Result<(), Fail> {
+    let rows: [(&str, u8, i32, u8, usize); 4] = [
+        ("add 5", 0x07, 5, 0, 5),
+        ("add -3", 0x07, -3, 10, 7),
+        ("sub 3", 0x17, 3, 10, 7),
+        ("sub -5", 0x17, -5, 0, 5),
+    ];
+    for (what, opcode, number, at, written) in rows {
+        let n = number.to_le_bytes();
+        let code = [
+            0xbf, 0x23, 0, 0, 0, 0, 0, 0, opcode, 0x03, 0, 0, n[0], n[1], n[2], n[3], 0x72, 0x03,
+            at, 0, 9, 0, 0, 0, 0xb7, 0, 0, 0, 0, 0, 0, 0, 0x95, 0, 0, 0, 0, 0, 0, 0,
+        ];
+        let mut state = [0; 16];
+        let (end, _) = run(rt.alloc(), &code, &mut state, 0, FIRST)?;
+        is_end(&rt, what, end, 0, 5);
+        let mut left = [0; 16];
+        left[written] = 9;
+        is_bytes(&rt, what, &state, &left);
+    }
+    Ok(())
+}
+
 /// `OP r0, [r1+0]`, `exit`, on a message that begins with 88 87 86 85 84 83 82 81.
 #[test]
 fn loads_of_each_size(rt: HostRuntime) -> Result<(), Fail> {

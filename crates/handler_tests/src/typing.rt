@@ -26,20 +26,14 @@ const OPERATIONS: [(AluOp, Width, Reg, Operand, Option<u8>); 7] = [
     (AluOp::Sub, Width::W64, R2, Operand::Imm(32768), None),
 ];
 
-/// Where the last two of these leave a place.
-const PLACES: [(AluOp, Reg, Operand, Kind); 2] = [
-    (
-        AluOp::Mov,
-        R3,
-        Operand::Reg(R1),
-        Kind::Place(Region::Message, 0),
-    ),
-    (
-        AluOp::Sub,
-        R2,
-        Operand::Imm(32768),
-        Kind::Place(Region::State, -32768),
-    ),
+/// Where arithmetic in 64 bits puts a place: the region, and the distance from its first byte.
+const PLACES: [(AluOp, Reg, Operand, Region, i16); 6] = [
+    (AluOp::Mov, R3, Operand::Reg(R1), Region::Message, 0),
+    (AluOp::Add, R2, Operand::Imm(7), Region::State, 7),
+    (AluOp::Add, R2, Operand::Imm(-7), Region::State, -7),
+    (AluOp::Sub, R2, Operand::Imm(7), Region::State, -7),
+    (AluOp::Sub, R2, Operand::Imm(-7), Region::State, 7),
+    (AluOp::Sub, R2, Operand::Imm(32768), Region::State, -32768),
 ];
 
 /// The source and the offset of a load of 8 bytes, and the number of the rule that it breaks.
@@ -70,20 +64,36 @@ const CALLS: [(i32, Option<u8>); 5] = [
 ];
 
 /// A condition of the message's length, and the least length that is then known on both ways, next and taken.
-const LENGTHS: [(Condition, Width, i32, u16, u16); 6] = [
-    (Condition::Less, Width::W64, 8, 8, 0),
+const LENGTHS: [(Condition, Width, i32, u16, u16); 18] = [
+    (Condition::Equal, Width::W64, 8, 0, 8),
+    (Condition::NotEqual, Width::W64, 8, 8, 0),
     (Condition::Greater, Width::W64, 7, 0, 8),
+    (Condition::GreaterEqual, Width::W64, 8, 0, 8),
+    (Condition::Less, Width::W64, 8, 8, 0),
+    (Condition::LessEqual, Width::W64, 7, 8, 0),
+    (Condition::Set, Width::W64, 8, 0, 0),
+    (Condition::SignedGreater, Width::W64, 7, 0, 0),
+    (Condition::SignedGreaterEqual, Width::W64, 8, 0, 0),
+    (Condition::SignedLess, Width::W64, 8, 0, 0),
+    (Condition::SignedLessEqual, Width::W64, 7, 0, 0),
+    (Condition::LessEqual, Width::W64, 255, 256, 0),
+    (Condition::LessEqual, Width::W64, 256, 0, 0),
+    (Condition::LessEqual, Width::W64, -1, 0, 0),
     (Condition::Less, Width::W32, 8, 0, 0),
     (Condition::GreaterEqual, Width::W64, 257, 0, 0),
     (Condition::Greater, Width::W64, 255, 0, 256),
     (Condition::Equal, Width::W64, -1, 0, 0),
 ];
 
-/// What r2 holds as helper 6 is called, and whether an image of that form may do that.
-const SIZED: [(ImageForm, Kind, bool); 3] = [
-    (ImageForm::Sbi2, Kind::Len, true),
-    (ImageForm::Sbi1, Kind::Len, false),
-    (ImageForm::Sbi2, Kind::Num, false),
+/// Where r1 is and what r2 holds as helper 6 is called, and the number of the rule that this breaks.
+const SIZED: [(ImageForm, Region, i16, Kind, Option<u8>); 7] = [
+    (ImageForm::Sbi2, Region::Message, 0, Kind::Len, None),
+    (ImageForm::Sbi2, Region::Message, 1, Kind::Len, Some(9)),
+    (ImageForm::Sbi1, Region::Message, 0, Kind::Len, Some(8)),
+    (ImageForm::Sbi2, Region::Message, 0, Kind::Num, Some(9)),
+    (ImageForm::Sbi2, Region::Stack, 256, Kind::Num, None),
+    (ImageForm::Sbi2, Region::Stack, 257, Kind::Num, Some(9)),
+    (ImageForm::Sbi2, Region::Stack, 257, Kind::Len, Some(9)),
 ];
 
 /// This instruction breaks the rule of this number, or none, as a call with a state of 8 bytes begins.
@@ -117,7 +127,7 @@ fn rules_of_arithmetic(rt: HostRuntime) {
 
 #[test]
 fn places(rt: HostRuntime) {
-    for &(op, dst, operand, kind) in PLACES.as_slice() {
+    for &(op, dst, operand, region, at) in PLACES.as_slice() {
         let insn = Insn::Alu {
             op,
             width: Width::W64,
@@ -128,7 +138,7 @@ fn places(rt: HostRuntime) {
             Ok(left) => Some(left.next.kind(dst)),
             Err(_) => None,
         };
-        assert_eq!(rt; left, Some(kind), "at {insn:?}");
+        assert_eq!(rt; left, Some(Kind::Place(region, at)), "at {insn:?}");
     }
 }
 
@@ -237,10 +247,13 @@ fn lengths(rt: HostRuntime) {
 #[test]
 fn sized_outputs(rt: HostRuntime) {
     let entry = Frame::entry(ImageForm::Sbi2);
-    for &(form, kind, allowed) in SIZED.as_slice() {
-        let frame = entry.with(R2, kind);
-        let may = transfer(form, &Insn::Call { helper: 6 }, &frame, 0).is_ok();
-        assert_eq!(rt; may, allowed, "{kind:?} in {form:?}");
+    for &(form, region, at, kind, rule) in SIZED.as_slice() {
+        let frame = entry.with(R1, Kind::Place(region, at)).with(R2, kind);
+        let broken = match transfer(form, &Insn::Call { helper: 6 }, &frame, 0) {
+            Ok(_) => None,
+            Err(rule) => Some(rule.number()),
+        };
+        assert_eq!(rt; broken, rule, "{kind:?} bytes at {at} in {form:?}");
     }
     is_below(&rt, &entry.with(R2, Kind::Len), &entry.with(R2, Kind::Num));
 }

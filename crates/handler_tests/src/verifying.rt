@@ -3,7 +3,7 @@ use regtypes::{ImageForm, Kind, Region};
 use std::alloc::Global;
 use std::process::Abort;
 use std::test::Fail;
-use verifier::{Image, ImageError, file, load, parts, verify, verify_form};
+use verifier::{HeaderFault, Image, ImageError, file, load, parts, verify, verify_form};
 
 const ADDER: [u8; 56] = [
     0x53, 0x42, 0x49, 0x31, 0x08, 0x00, 0x06, 0x00, 0x79, 0x13, 0, 0, 0, 0, 0, 0, 0x79, 0x24, 0, 0,
@@ -85,6 +85,47 @@ fn adder_or_memory(rt: HostRuntime) -> Result<(), Fail> {
     let verdict = verdict_of(rt.alloc(), &ADDER);
     assert!(rt; verdict == Verdict::Accepted(6) || verdict == Verdict::Memory);
     Ok(())
+}
+
+/// The error is shown so.
+fn is_shown(rt: &impl Abort, alloc: Global, error: ImageError, text: &str) -> Result<(), Fail> {
+    assert_eq!(rt; format!(in alloc; "{error}")?.as_str(), text);
+    Ok(())
+}
+
+const HEADER_FAULTS: [(HeaderFault, &str); 5] = [
+    (HeaderFault::TooShort, "header: shorter than a header"),
+    (HeaderFault::Magic, "header: no image file"),
+    (HeaderFault::StateLength, "header: state too long"),
+    (HeaderFault::SlotCount, "header: no slots, or too many"),
+    (
+        HeaderFault::FileLength,
+        "header: the length is not that of the slots",
+    ),
+];
+
+#[test]
+fn errors_shown(rt: HostRuntime) -> Result<(), Fail> {
+    let alloc = rt.alloc();
+    for &(fault, text) in HEADER_FAULTS.as_slice() {
+        is_shown(&rt, alloc, ImageError::Header(fault), text)?;
+    }
+    let decode = ImageError::Decode {
+        rule: decode::Rule::Register,
+        slot: 3,
+    };
+    is_shown(
+        &rt,
+        alloc,
+        decode,
+        "code at slot 3: register above r10 (rule 4)",
+    )?;
+    let verify = ImageError::Verify {
+        rule: regtypes::Rule::V6,
+        slot: 4,
+    };
+    is_shown(&rt, alloc, verify, "slot 4 breaks V6")?;
+    is_shown(&rt, alloc, ImageError::Memory, "out of memory")
 }
 
 #[test]

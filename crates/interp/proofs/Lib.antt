@@ -2,6 +2,7 @@ pub mod Shows
 pub mod ByteLemmas
 pub mod WordLemmas
 pub mod Values
+pub mod PlaceLemmas
 pub mod ArithmeticLemmas
 pub mod AccessLemmas
 pub mod Simulation
