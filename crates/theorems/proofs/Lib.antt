@@ -22,6 +22,8 @@ pub mod Accepted
 pub mod SoundCalls
 pub mod ExactCalls
 pub mod Journals
+pub mod NumberLemmas
+pub mod ReturnLemmas
 pub mod KeptLemmas
 pub mod OrphanLemmas
 pub mod TidyLemmas

@@ -14,7 +14,7 @@ use Rattle.theorems.specs.Kept.{IsEntry, Held}
 use Rattle.theorems.specs.Invariants.Secured.{Safe}
 use Rattle.theorems.specs.Invariants.Sound.{IsNext, Sound}
 use Rattle.theorems.specs.Invariants.Exact.{Names, Exact}
-use Rattle.theorems.proofs.ListLemmas.{take-next, take-length, at-number, some-same, none-some, begins-self, begins-trans}
+use Rattle.theorems.proofs.ListLemmas.{take-next, take-length, at-number, nth-of, some-same, none-some, begins-self, begins-trans}
 use Rattle.theorems.proofs.HistoryLemmas.{Ordered, ordered-push}
 use Rattle.theorems.proofs.LogLemmas.{payloads-agree, entry-when, entry-test}
 
@@ -107,6 +107,16 @@ gather-most : (w : World) (p : ℕ) (h : List Message) (f : ℕ) → length (gat
 gather-most w p h zero = omega arith
 gather-most w p h (suc f) = let a : length (gather w p h f) ≤ length h + f = gather-most w p h f in let b : length (pushed (gather w p h f) (chosen w p (gather w p h f))) ≤ length (gather w p h f) + 1 = pushed-most (gather w p h f) (chosen w p (gather w p h f)) in omega arith
 
+-- the log entry with a number that some log holds is found, where all that have numbers are the outside or processes
+pub found-held : (w : World) (p : ℕ) → ((s i k : ℕ) → w.numbers s p i ≡ Some k → s ≤ w.count) → (m : ℕ) → Held w p m → (x : Message) × (found w p m ≡ Some x)
+found-held w p from m l =
+    let below : l.by ≤ w.count = from l.by l.ssn m l.number in
+    let above : w.trims l.by p < l.ssn = l.entry.above in
+    let within : l.ssn ≤ length (sent w l.by p) = l.entry.within in
+    let text : (x : Payload) × (nth (sent w l.by p) l.ssn ≡ Some x) = nth-of (sent w l.by p) l.ssn (omega arith) within in
+    let inner = first_below-some (logged_as w p m l.by) (suc (length (sent w l.by p))) l.ssn _ (omega arith) (logged_as-is w p m l.by l.ssn text.0 l.entry l.number text.1) in
+    first_below-some (λ a. first_below (logged_as w p m a) (suc (length (sent w a p)))) (suc w.count) l.by inner.0 (omega arith) inner.1
+
 up-to-next : (n m : ℕ) (P : ℕ → Type 0) → P (suc n) → (m ≤ n → P m) → m ≤ suc n → P m
 up-to-next n m P last less l = split (nat_le m n) refl
   where
@@ -137,17 +147,13 @@ module _ (w : World) (p : ℕ) (s : Sound w) (h : Exact w) where
 
   -- and one is found where a log holds the number
   pub held-found : (m : ℕ) → Held w p m → (x : Message) × (found w p m ≡ Some x)
-  held-found m l = go (h.recorded l.by p l.ssn m l.number)
+  held-found m l = found-held w p from m l
     where
-      go : Names (w.history p) m l.by l.ssn → (x : Message) × (found w p m ≡ Some x)
-      go n =
-          let at : (k : ℕ) × (m ≡ suc k) × (slice_get (w.history p) k ≡ Some n.message) = at-number (w.history p) m n.message n.at in
-          let below : n.message.sender ≤ w.count = (s.received p at.0 n.message at.2).from in
-          let from : l.by ≤ w.count = rw n.sender at below in
-          let within : l.ssn ≤ length (sent w l.by p) = l.entry.within in
-          let text : nth (sent w l.by p) l.ssn ≡ Some n.message.payload = rw (n.sender, n.ssn) at (same-text m n.message n.at (rw (n.sender, n.ssn) l.entry)) in
-          let inner = first_below-some (logged_as w p m l.by) (suc (length (sent w l.by p))) l.ssn _ (omega arith) (logged_as-is w p m l.by l.ssn n.message.payload l.entry l.number text) in
-          first_below-some (λ a. first_below (logged_as w p m a) (suc (length (sent w a p)))) (suc w.count) l.by inner.0 (omega arith) inner.1
+      from : (a i k : ℕ) → w.numbers a p i ≡ Some k → a ≤ w.count
+      from a i k e = go (h.recorded a p i k e)
+        where
+          go : Names (w.history p) k a i → a ≤ w.count
+          go n = let at : (j : ℕ) × (k ≡ suc j) × (slice_get (w.history p) j ≡ Some n.message) = at-number (w.history p) k n.message n.at in rw n.sender at (s.received p at.0 n.message at.2).from
 
   -- the plan takes what p received next
   pub chosen-is : (k : ℕ) (x : Message) → k ≤ length (w.history p) → chosen w p (take k (w.history p)) ≡ Some x → Held w p (suc k) × (slice_get (w.history p) k ≡ Some x)

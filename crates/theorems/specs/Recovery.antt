@@ -1,8 +1,10 @@
 -- What a recovery keeps
-use Rattle.std.specs.Prelude.{◌≡◌, ℕ, ◌-◌, ◌<◌, ◌≤◌, length, true, false, take}
+use Rattle.std.specs.Prelude.{◌≡◌, ℕ, suc, ◌+◌, ◌-◌, ◌<◌, ◌≤◌, List, [], ◌∷◌, length, Bool, true, false, take, ◌==◌, if◌then◌else◌}
 use Rattle.world.specs.declared.entry.Entry.{Entry}
-use Rattle.world.specs.declared.call.Call.TheVariants.{Recover}
-use Rattle.world.specs.declared.answer.Answer.TheVariants.{Kept}
+use Rattle.world.specs.declared.call.Call.{Call}
+use Rattle.world.specs.declared.call.Call.TheVariants.{Finish, Crash, Recover}
+use Rattle.world.specs.declared.answer.Answer.{Answer}
+use Rattle.world.specs.declared.answer.Answer.TheVariants.{Committed, Replayed, Kept}
 use Rattle.world.specs.Phases.{is_down}
 use Rattle.world.specs.World.{World}
 use Rattle.world.specs.Logs.{length_of, state_of}
@@ -32,13 +34,46 @@ StateIsKept v w = (p k : ℕ) → is_down (v.phase p) ≡ true → IsKept v p k 
 abbrev pub recovery : ℕ → ℕ → ℕ → Entry
 recovery worker p k = record { worker = worker; call = Recover p; answer = Kept k }
 
--- p recovers in v, and the answer is k: the run ends at k, the later w still has these messages, and where the length of p is k
--- there, as it is when all is replayed, its state is the one that it had after them
-abbrev pub RecoversExactly : World → World → ℕ → ℕ → Type 0
-RecoversExactly v w p k =
+-- whether an entry finishes a replayed call of p
+abbrev pub is_replayed : ℕ → Call → Answer → Bool
+is_replayed p (Finish q) (Replayed n) = q == p
+is_replayed p call answer = false
+
+-- how many of these entries do
+abbrev pub replayed : ℕ → List Entry → ℕ
+replayed p [] = 0
+replayed p (e ∷ es) = if is_replayed p e.call e.answer then suc (replayed p es) else replayed p es
+
+-- whether in an entry p crashes, or receives one more message
+abbrev pub moves_on : ℕ → Call → Answer → Bool
+moves_on p (Crash q) answer = q == p
+moves_on p (Finish q) (Committed n key) = q == p
+moves_on p call answer = false
+
+-- in none of these entries it does
+abbrev pub IsReturning : ℕ → List Entry → Type 0
+IsReturning p [] = Unit {0}
+IsReturning p (e ∷ es) = (moves_on p e.call e.answer ≡ false) × IsReturning p es
+
+-- p recovered in v with k messages, and w came after more entries, in none of which it crashed or received another: each replayed call
+-- made it one message longer than its checkpoint, with the state that it had then, and no more are replayed than there are. After as
+-- many as there are its length is k, and its state the one that it had
+abbrev pub ReplaysBack : World → World → ℕ → ℕ → List Entry → Type 0
+ReplaysBack v w p k more =
+    IsReturning p more → record {
+      most : v.saved p + replayed p more ≤ k;
+      each : (length_of w p ≡ v.saved p + replayed p more) × (state_of w p ≡ v.handlers.state p (take (v.saved p + replayed p more) (v.history p)));
+      all : replayed p more ≡ k - v.saved p → (length_of w p ≡ k) × (state_of w p ≡ v.handlers.state p (take k (v.history p)));
+    }
+
+-- p recovers in v, the answer is k, and more entries lead to w: the run ends at k, w still has these messages, the replay brings back
+-- length and state, and wherever the length of p is k its state is the one that it had after them
+abbrev pub RecoversExactly : World → World → ℕ → ℕ → List Entry → Type 0
+RecoversExactly v w p k more =
     record {
       kept : IsKept v p k;
       within : k ≤ length (w.history p);
       same : take k (w.history p) ≡ take k (v.history p);
+      replays : ReplaysBack v w p k more;
       state : length_of w p ≡ k → state_of w p ≡ v.handlers.state p (take k (v.history p));
     }

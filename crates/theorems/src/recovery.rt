@@ -3,16 +3,17 @@
 ghost use Rattle.std.specs.Prelude.{ℕ, List, ◌∷◌, ◌++◌};
 ghost use Rattle.world.specs.declared.entry.Entry.{Entry};
 ghost use Rattle.world.specs.Handlers.{Handlers};
-ghost use Rattle.world.specs.Legal.{world_of};
+ghost use Rattle.world.specs.Legal.{Legal, world_of};
+ghost use Rattle.theorems.specs.Growth.{Grows};
 ghost use Rattle.theorems.specs.Kept.{HasKept, KeptIsOne};
 ghost use Rattle.theorems.specs.Recovery.{RecoversExactly, RecoversKept, RunIsKept, StateIsKept, recovery};
 ghost use Rattle.theorems.specs.Single.{IsSingle};
 
-/// A recovery keeps the longest unbroken run of numbers that checkpoint and logs hold. There is
-/// one, and not two.
+/// A recovery keeps the longest unbroken run of numbers that checkpoint and logs hold. Whatever
+/// fails, there is one, and not two.
 pub fn recovers()
     ensures kept { (n : ℕ) (f : Handlers) (es : List Entry) → IsSingle n f es → RecoversKept (world_of n f es) }
-    ensures some { (n : ℕ) (f : Handlers) (es : List Entry) → IsSingle n f es → HasKept (world_of n f es) }
+    ensures some { (n : ℕ) (f : Handlers) (es : List Entry) → Grows f → Legal n f es → HasKept (world_of n f es) }
     ensures one { (n : ℕ) (f : Handlers) (es : List Entry) → KeptIsOne (world_of n f es) }
 {}
 
@@ -27,8 +28,9 @@ pub fn state_is_kept()
 {}
 
 /// A recovered process has exactly the state that it had after the longest unbroken run of messages
-/// that its checkpoint and the senders' logs held with their numbers.
+/// that its checkpoint and the senders' logs held with their numbers. Each replayed call brings it
+/// one message further, and after the last one it is as long as that run again.
 pub fn recovers_exactly()
     ensures { (n : ℕ) (f : Handlers) (es more : List Entry) (worker p k : ℕ) → IsSingle n f (es ++ recovery worker p k ∷ more)
-        → RecoversExactly (world_of n f es) (world_of n f (es ++ recovery worker p k ∷ more)) p k }
+        → RecoversExactly (world_of n f es) (world_of n f (es ++ recovery worker p k ∷ more)) p k more }
 {}
