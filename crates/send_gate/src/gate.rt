@@ -57,7 +57,7 @@ impl Gate {
     pub fn hold(&mut self, dst: u8, rsn: u32) -> Result<(), AllocError>
         requires dst { dst < 16 }
         requires order { All (λ h. h.rsn ≤ rsn) self.old.waiting }
-        requires room { slice_index_or self.old.released dst 0 + count_to dst self.old.waiting < 524288 }
+        requires room { slice_index_or self.old.released dst 0 + count_to dst self.old.waiting < LIMIT }
         ensures ok { OnOk result (self.new ≡ record { waiting = self.old.waiting ++ (record { dst = dst; rsn = rsn }) ∷ []; released = self.old.released }) }
         ensures err { OnErr result (self.new ≡ self.old) }
     {
@@ -84,7 +84,7 @@ impl Gate {
     pub fn restore(&mut self, dst: u8, count: u32)
         requires dst { dst < 16 }
         requires none { self.old.waiting ≡ [] }
-        requires bound { count ≤ 524288 }
+        requires bound { count ≤ LIMIT }
         ensures { self.new ≡ record { waiting = []; released = slice_set self.old.released dst count } }
     {
         self.released[dst as usize] = count;
