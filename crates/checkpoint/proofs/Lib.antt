@@ -1,3 +1,4 @@
+pub mod ByteLemmas
 pub mod Restored
 pub mod Counted
 pub mod FieldLemmas

@@ -10,6 +10,7 @@ ghost use Rattle.checkpoint.specs.Reading.{Gives, bytes_at, byte_at, number_at, 
 use crate::fault::{SavedError, SavedFault};
 use crate::form::Form;
 use crate::saved::{COUNT_LIMIT, RECEIPT_LIMIT, STATE_LIMIT};
+use byteorder::{ByteOrder, LittleEndian};
 use helpers::PAYLOAD_LIMIT;
 use std::alloc::Global;
 
@@ -54,13 +55,13 @@ pub fn byte_of(least: u8, most: u8, bytes: &[u8]) -> Result<(u8, &[u8]), SavedEr
 }
 
 /// A number of two bytes, in a range.
-#[tactic(auto, unfolding(crate::specs::Reading::number_at))]
+#[tactic(auto, using(crate::proofs::ByteLemmas::little_16), unfolding(crate::specs::Reading::number_at))]
 pub fn u16_of(least: u16, most: u16, bytes: &[u8]) -> Result<(u16, &[u8]), SavedError>
     ensures exact { Gives (λ x. (x.0, x.1.now)) result (number_at w16 least most bytes.now) }
     ensures range { IfOk result (λ x. (least ≤ x.0) × (x.0 ≤ most)) }
 {
     let (front, rest) = bytes_of(2, bytes)?;
-    let number = u16::from_le_bytes([front[0], front[1]]);
+    let number = LittleEndian::read_u16(front);
     if number < least || number > most {
         return Err(SavedError::Fault(SavedFault::Range));
     }
@@ -68,13 +69,13 @@ pub fn u16_of(least: u16, most: u16, bytes: &[u8]) -> Result<(u16, &[u8]), Saved
 }
 
 /// A number of four bytes, in a range.
-#[tactic(auto, unfolding(crate::specs::Reading::number_at))]
+#[tactic(auto, using(crate::proofs::ByteLemmas::little_32), unfolding(crate::specs::Reading::number_at))]
 pub fn u32_of(least: u32, most: u32, bytes: &[u8]) -> Result<(u32, &[u8]), SavedError>
     ensures exact { Gives (λ x. (x.0, x.1.now)) result (number_at w32 least most bytes.now) }
     ensures range { IfOk result (λ x. (least ≤ x.0) × (x.0 ≤ most)) }
 {
     let (front, rest) = bytes_of(4, bytes)?;
-    let number = u32::from_le_bytes([front[0], front[1], front[2], front[3]]);
+    let number = LittleEndian::read_u32(front);
     if number < least || number > most {
         return Err(SavedError::Fault(SavedFault::Range));
     }

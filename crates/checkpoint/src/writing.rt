@@ -1,6 +1,7 @@
 //! A saved process to bytes.
 
 ghost use Rattle.std.specs.Prelude.{◌≡◌, ◌++◌, ◌<◌, ◌≤◌, length, IfOk, OnOk};
+ghost use Rattle.std.specs.Int.{w16, w32, to_le_bytes};
 ghost use Rattle.std.specs.List.{flat_map, AllByRecursion};
 ghost use Rattle.checkpoint.specs.declared.form.Form.TheVariants.{Second};
 ghost use Rattle.checkpoint.specs.Format.{number_bytes, payload_bytes, kept_bytes, IsCheckpoint};
@@ -8,6 +9,7 @@ ghost use Rattle.checkpoint.specs.Format.{number_bytes, payload_bytes, kept_byte
 use crate::form::Form;
 use crate::kept::Kept;
 use crate::saved::Saved;
+use byteorder::{ByteOrder, LittleEndian};
 use std::alloc::{AllocError, Global};
 
 /// The checkpoint of a saved process, in the second form.
@@ -30,10 +32,9 @@ pub fn encode(alloc: Global, saved: &Saved) -> Result<Vec<u8>, AllocError>
 fn put_numbers(out: &mut Vec<u8>, saved: &Saved) -> Result<(), AllocError>
     ensures { OnOk result (out.new.items ≡ out.old.items ++ number_bytes saved.now) }
 {
-    out.extend_from_slice(&(saved.state().len() as u16).to_le_bytes())?;
+    put_u16(out, saved.state().len() as u16)?;
     out.extend_from_slice(&[saved.count(), saved.me()])?;
-    out.extend_from_slice(&saved.length().to_le_bytes())?;
-    Ok(())
+    put_u32(out, saved.length())
 }
 
 /// Appends what is kept for some destinations.
@@ -50,8 +51,8 @@ fn put_queues(out: &mut Vec<u8>, queues: &[Kept]) -> Result<(), AllocError>
 fn put_kept(out: &mut Vec<u8>, kept: &Kept) -> Result<(), AllocError>
     ensures { OnOk result (out.new.items ≡ out.old.items ++ kept_bytes Second kept.now) }
 {
-    out.extend_from_slice(&kept.first().to_le_bytes())?;
-    out.extend_from_slice(&(kept.payloads().len() as u32).to_le_bytes())?;
+    put_u32(out, kept.first())?;
+    put_u32(out, kept.payloads().len() as u32)?;
     for payload in kept.payloads() {
         put_payload(out, payload.as_slice())?;
     }
@@ -63,7 +64,24 @@ fn put_payload(out: &mut Vec<u8>, payload: &[u8]) -> Result<(), AllocError>
     requires { length payload.now ≤ 256 }
     ensures { OnOk result (out.new.items ≡ out.old.items ++ payload_bytes Second payload.now) }
 {
-    out.extend_from_slice(&(payload.len() as u16).to_le_bytes())?;
-    out.extend_from_slice(payload)?;
-    Ok(())
+    put_u16(out, payload.len() as u16)?;
+    out.extend_from_slice(payload)
+}
+
+/// Appends a number of two bytes, the lowest first.
+fn put_u16(out: &mut Vec<u8>, number: u16) -> Result<(), AllocError>
+    ensures { OnOk result (out.new.items ≡ out.old.items ++ to_le_bytes w16 number) }
+{
+    let mut bytes = [0; 2];
+    LittleEndian::write_u16(&mut bytes, number);
+    out.extend_from_slice(&bytes)
+}
+
+/// Appends a number of four bytes, the lowest first.
+fn put_u32(out: &mut Vec<u8>, number: u32) -> Result<(), AllocError>
+    ensures { OnOk result (out.new.items ≡ out.old.items ++ to_le_bytes w32 number) }
+{
+    let mut bytes = [0; 4];
+    LittleEndian::write_u32(&mut bytes, number);
+    out.extend_from_slice(&bytes)
 }
