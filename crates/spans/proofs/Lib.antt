@@ -1,0 +1,11 @@
+pub mod Tests
+pub mod Order
+pub mod Growing
+pub mod Holding
+pub mod Narrowing
+pub mod Access
+pub mod Monotone
+pub mod Memory
+pub mod Fitting
+pub mod Closed
+pub mod Entry

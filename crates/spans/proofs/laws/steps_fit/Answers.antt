@@ -1,0 +1,5 @@
+use Rattle.spans.proofs.Fitting.{preserves}
+use Rattle.spans.proofs.laws.steps_fit.Goals as goal
+
+pub returns : goal.returns
+returns c = preserves

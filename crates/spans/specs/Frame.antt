@@ -1,0 +1,96 @@
+-- What is known of the registers and of the words of the stack, and its order.
+use Rattle.std.specs.Prelude.{◌≡◌, ℕ, nat_lt, int_le, ◌==◌, ℤ, pos, ◌≤ℤ◌, Bool, true, false, if◌then◌else◌}
+use Rattle.regtypes.specs.declared.frame.Region.{Region}
+use Rattle.regtypes.specs.declared.frame.Region.TheVariants.{Message, State, Stack}
+use Rattle.spans.specs.Span.{Span, span, whole, IsSpan, Within, joined_span}
+
+-- the distances from a region's first byte, from lo to hi, both among them
+pub record Reach : Type 0 where
+  pub lo : ℤ
+  pub hi : ℤ
+
+-- one place alone
+abbrev pub at_place : ℤ → Reach
+at_place k = record { lo = k; hi = k }
+
+-- the distances of the first are among those of the second
+abbrev pub WithinReach : Reach → Reach → Type 0
+WithinReach s t = (t.lo ≤ℤ s.lo) × (s.hi ≤ℤ t.hi)
+
+-- the least reach that has the distances of both
+abbrev pub joined_reach : Reach → Reach → Reach
+joined_reach s t = record { lo = if int_le s.lo t.lo then s.lo else t.lo; hi = if int_le s.hi t.hi then t.hi else s.hi }
+
+-- nothing is known, it is a number of this span, or a place of this region that has one of these distances
+pub data Kind : Type 0 where
+  Unset : Kind
+  Num : Span → Kind
+  Place : Region → Reach → Kind
+
+-- a kind of numbers or places has one, and its numbers are words of 64 bits
+abbrev pub IsKind : Kind → Type 0
+IsKind Unset = Unit {0}
+IsKind (Num s) = IsSpan 64 s
+IsKind (Place r s) = s.lo ≤ℤ s.hi
+
+-- what the second kind says, the first says too
+abbrev pub LeqKind : Kind → Kind → Type 0
+LeqKind a Unset = Unit {0}
+LeqKind Unset (Num t) = ⊥
+LeqKind (Num s) (Num t) = Within s t
+LeqKind (Place r s) (Num t) = ⊥
+LeqKind Unset (Place q t) = ⊥
+LeqKind (Num s) (Place q t) = ⊥
+LeqKind (Place r s) (Place q t) = (r ≡ q) × WithinReach s t
+
+-- what both kinds say: the numbers of both, or the places of both where they are of one region
+abbrev pub joined_kind : Kind → Kind → Kind
+joined_kind (Num s) (Num t) = Num (joined_span s t)
+joined_kind (Place Message s) (Place Message t) = Place Message (joined_reach s t)
+joined_kind (Place State s) (Place State t) = Place State (joined_reach s t)
+joined_kind (Place Stack s) (Place Stack t) = Place Stack (joined_reach s t)
+joined_kind a b = Unset
+
+abbrev pub is_num : Kind → Bool
+is_num Unset = false
+is_num (Num s) = true
+is_num (Place r s) = false
+
+abbrev pub is_set : Kind → Bool
+is_set Unset = false
+is_set (Num s) = true
+is_set (Place r s) = true
+
+-- ---- frames
+
+-- the kind of each cell: cells 0 to 10 are the registers, cells 11 to 74 the 64 words of the stack from its first byte
+-- on (no instruction reaches a cell behind them)
+abbrev pub Frame : Type 0
+Frame = ℕ → Kind
+
+-- each cell has such a kind
+abbrev pub IsFrame : Frame → Type 0
+IsFrame f = (c : ℕ) → IsKind (f c)
+
+-- what the second frame says, the first says too
+abbrev pub Leq : Frame → Frame → Type 0
+Leq f g = (c : ℕ) → LeqKind (f c) (g c)
+
+-- what both frames say
+abbrev pub joined : Frame → Frame → Frame
+joined f g c = joined_kind (f c) (g c)
+
+-- the frame with another kind in one cell
+abbrev pub with_kind : Frame → ℕ → Kind → Frame
+with_kind f c k d = if d == c then k else f d
+
+-- as a call begins: r1 is the message, r2 the state, r3 how many bytes the message has, r10 the end of the stack, whose
+-- words are numbers; nothing else is set
+abbrev pub entry_frame : Frame
+entry_frame d =
+    if d == 1 then Place Message (at_place (pos 0))
+    else if d == 2 then Place State (at_place (pos 0))
+    else if d == 3 then Num (span 0 256)
+    else if d == 10 then Place Stack (at_place (pos 512))
+    else if nat_lt 10 d then Num (whole 64)
+    else Unset

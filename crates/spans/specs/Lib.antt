@@ -1,0 +1,9 @@
+pub mod Span
+pub mod Narrowing
+pub mod Frame
+pub mod Access
+pub mod Leaving
+pub mod Configuration
+pub mod Memory
+pub mod Step
+pub mod Laws
