@@ -1,6 +1,6 @@
 //! Entries to what is drawn of them.
 
-use crate::ink::{Point, push_line};
+use crate::ink::{Point, push_line, push_mark};
 use crate::lane::{Job, Lane, Phase};
 use crate::page::{column_x, lane_y};
 use crate::wire::Wire;
@@ -77,7 +77,7 @@ impl Picture {
     }
 
     /// The lines are drawn to their ends, with the handler calls that are still open, and the packets
-    /// that are on their way half the way to where they go.
+    /// that are on their way half the way to where they go, a copy with its ring.
     pub(crate) fn close(&mut self, column: usize) -> Result<(), AllocError> {
         let end = column_x(column);
         for number in 0..=u8::MAX {
@@ -95,12 +95,11 @@ impl Picture {
             )?;
         }
         for wire in self.wires.values() {
-            push_line(
-                &mut self.arrows,
-                wire.headless(),
-                wire.start(),
-                wire.half(column),
-            )?;
+            let half = wire.half(column);
+            push_line(&mut self.arrows, wire.headless(), wire.start(), half)?;
+            if let Some(copied) = wire.copied {
+                push_mark(&mut self.marks, "copy", wire.point_at(copied, half))?;
+            }
         }
         Ok(())
     }
