@@ -1,6 +1,6 @@
 //! The bytes of instructions.
 
-ghost use Rattle.std.specs.Prelude.{◌≡◌, ◌+◌, ◌*◌, ◌/◌, ◌%◌, [], ◌∷◌, ◌++◌, OnOk, if◌then◌else◌};
+ghost use Rattle.std.specs.Prelude.{◌≡◌, ◌<◌, ◌+◌, ◌*◌, ◌/◌, ◌%◌, [], ◌∷◌, ◌++◌, OnOk, if◌then◌else◌};
 ghost use Rattle.operations.specs.Bytes.{le_bytes};
 ghost use Rattle.x86.specs.Encoding as encoding;
 
@@ -245,6 +245,124 @@ fn put_alu_imm(
     }
 }
 
+// A register in the opcode.
+fn put_named(code: &mut Vec<u8>, width: Width, opcode: u8, reg: u8) -> Result<(), AllocError>
+    requires { opcode < 248 }
+    ensures { OnOk result (code.new.items ≡ code.old.items ++ encoding.rex width 0 reg ∷ (opcode + reg % 8) ∷ []) }
+{
+    put(code, rex(width, 0, reg))?;
+    put(code, opcode + reg % 8)
+}
+
+fn put_swap_low(code: &mut Vec<u8>, to: u8) -> Result<(), AllocError>
+    ensures { OnOk result (code.new.items ≡ code.old.items ++ encoding.bytes_of (Instr.SwapLow to)) }
+{
+    put(code, 0x66)?;
+    put_two(code, Width::W32, 0xc1, 0, to)?;
+    put(code, 8)
+}
+
+fn put_swap(code: &mut Vec<u8>, width: Width, to: u8) -> Result<(), AllocError>
+    ensures { OnOk result (code.new.items ≡ code.old.items ++ encoding.bytes_of (Instr.Swap width to)) }
+{
+    put(code, rex(width, 0, to))?;
+    put(code, 0x0f)?;
+    put(code, 0xc8 + to % 8)
+}
+
+fn put_load(code: &mut Vec<u8>, size: Size, to: u8, base: u8, disp: u64) -> Result<(), AllocError>
+    ensures { OnOk result (code.new.items ≡ code.old.items ++ encoding.bytes_of (Instr.Load size to base disp)) }
+{
+    match size {
+        Size::Byte => put_memory_0f(code, Width::W32, 0xb6, to, base, disp),
+        Size::Half => put_memory_0f(code, Width::W32, 0xb7, to, base, disp),
+        Size::Word => put_memory(code, Width::W32, 0x8b, to, base, disp),
+        Size::Double => put_memory(code, Width::W64, 0x8b, to, base, disp),
+    }
+}
+
+fn put_load_sx(
+    code: &mut Vec<u8>,
+    size: SignedSize,
+    to: u8,
+    base: u8,
+    disp: u64,
+) -> Result<(), AllocError>
+    ensures { OnOk result (code.new.items ≡ code.old.items ++ encoding.bytes_of (Instr.LoadSx size to base disp)) }
+{
+    match size {
+        SignedSize::Byte => put_memory_0f(code, Width::W64, 0xbe, to, base, disp),
+        SignedSize::Half => put_memory_0f(code, Width::W64, 0xbf, to, base, disp),
+        SignedSize::Word => put_memory(code, Width::W64, 0x63, to, base, disp),
+    }
+}
+
+fn put_store(
+    code: &mut Vec<u8>,
+    size: Size,
+    base: u8,
+    disp: u64,
+    from: u8,
+) -> Result<(), AllocError>
+    ensures { OnOk result (code.new.items ≡ code.old.items ++ encoding.bytes_of (Instr.Store size base disp from)) }
+{
+    match size {
+        Size::Byte => put_memory(code, Width::W32, 0x88, from, base, disp),
+        Size::Half => {
+            put(code, 0x66)?;
+            put_memory(code, Width::W32, 0x89, from, base, disp)
+        }
+        Size::Word => put_memory(code, Width::W32, 0x89, from, base, disp),
+        Size::Double => put_memory(code, Width::W64, 0x89, from, base, disp),
+    }
+}
+
+fn put_store_imm(
+    code: &mut Vec<u8>,
+    size: Size,
+    base: u8,
+    disp: u64,
+    imm: u64,
+) -> Result<(), AllocError>
+    ensures { OnOk result (code.new.items ≡ code.old.items ++ encoding.bytes_of (Instr.StoreImm size base disp imm)) }
+{
+    match size {
+        Size::Byte => {
+            put_memory(code, Width::W32, 0xc6, 0, base, disp)?;
+            put(code, (imm % 256) as u8)
+        }
+        Size::Half => {
+            put(code, 0x66)?;
+            put_memory(code, Width::W32, 0xc7, 0, base, disp)?;
+            put_half(code, imm)
+        }
+        Size::Word => {
+            put_memory(code, Width::W32, 0xc7, 0, base, disp)?;
+            put_number(code, imm)
+        }
+        Size::Double => {
+            put_memory(code, Width::W64, 0xc7, 0, base, disp)?;
+            put_number(code, imm)
+        }
+    }
+}
+
+fn put_lea_by(code: &mut Vec<u8>, to: u8, base: u8, index: u8, disp: u64) -> Result<(), AllocError>
+    ensures { OnOk result (code.new.items ≡ code.old.items ++ encoding.bytes_of (Instr.LeaBy to base index disp)) }
+{
+    put(code, rex_by(Width::W64, to, index, base))?;
+    put(code, 0x8d)?;
+    memory_by(code, to, base, index, disp)
+}
+
+fn put_jump_if(code: &mut Vec<u8>, condition: Condition, distance: u64) -> Result<(), AllocError>
+    ensures { OnOk result (code.new.items ≡ code.old.items ++ encoding.bytes_of (Instr.JumpIf condition distance)) }
+{
+    put(code, 0x0f)?;
+    put(code, 0x80 + code_of(condition))?;
+    put_number(code, distance)
+}
+
 impl Instr {
     /// Writes its bytes behind those that are there.
     pub fn write(&self, code: &mut Vec<u8>) -> Result<(), AllocError>
@@ -253,8 +371,7 @@ impl Instr {
         match *self {
             Instr::Mov { width, to, from } => put_two(code, width, 0x89, from, to),
             Instr::MovImm { to, imm } => {
-                put(code, rex(Width::W32, 0, to))?;
-                put(code, 0xb8 + to % 8)?;
+                put_named(code, Width::W32, 0xb8, to)?;
                 put_number(code, imm)
             }
             Instr::MovSigned { to, imm } => {
@@ -262,8 +379,7 @@ impl Instr {
                 put_number(code, imm)
             }
             Instr::MovWide { to, imm } => {
-                put(code, rex(Width::W64, 0, to))?;
-                put(code, 0xb8 + to % 8)?;
+                put_named(code, Width::W64, 0xb8, to)?;
                 put_wide(code, imm)
             }
             Instr::MovSx {
@@ -305,16 +421,8 @@ impl Instr {
                 put(code, count)
             }
             Instr::ShiftBy { op, width, to } => put_two(code, width, 0xd3, shift_number(op), to),
-            Instr::SwapLow { to } => {
-                put(code, 0x66)?;
-                put_two(code, Width::W32, 0xc1, 0, to)?;
-                put(code, 8)
-            }
-            Instr::Swap { width, to } => {
-                put(code, rex(width, 0, to))?;
-                put(code, 0x0f)?;
-                put(code, 0xc8 + to % 8)
-            }
+            Instr::SwapLow { to } => put_swap_low(code, to),
+            Instr::Swap { width, to } => put_swap(code, width, to),
             Instr::Div { width, by } => put_two(code, width, 0xf7, 6, by),
             Instr::SignedDiv { width, by } => put_two(code, width, 0xf7, 7, by),
             Instr::Spread { width } => {
@@ -326,60 +434,25 @@ impl Instr {
                 to,
                 base,
                 disp,
-            } => match size {
-                Size::Byte => put_memory_0f(code, Width::W32, 0xb6, to, base, disp),
-                Size::Half => put_memory_0f(code, Width::W32, 0xb7, to, base, disp),
-                Size::Word => put_memory(code, Width::W32, 0x8b, to, base, disp),
-                Size::Double => put_memory(code, Width::W64, 0x8b, to, base, disp),
-            },
+            } => put_load(code, size, to, base, disp),
             Instr::LoadSx {
                 size,
                 to,
                 base,
                 disp,
-            } => match size {
-                SignedSize::Byte => put_memory_0f(code, Width::W64, 0xbe, to, base, disp),
-                SignedSize::Half => put_memory_0f(code, Width::W64, 0xbf, to, base, disp),
-                SignedSize::Word => put_memory(code, Width::W64, 0x63, to, base, disp),
-            },
+            } => put_load_sx(code, size, to, base, disp),
             Instr::Store {
                 size,
                 base,
                 disp,
                 from,
-            } => match size {
-                Size::Byte => put_memory(code, Width::W32, 0x88, from, base, disp),
-                Size::Half => {
-                    put(code, 0x66)?;
-                    put_memory(code, Width::W32, 0x89, from, base, disp)
-                }
-                Size::Word => put_memory(code, Width::W32, 0x89, from, base, disp),
-                Size::Double => put_memory(code, Width::W64, 0x89, from, base, disp),
-            },
+            } => put_store(code, size, base, disp, from),
             Instr::StoreImm {
                 size,
                 base,
                 disp,
                 imm,
-            } => match size {
-                Size::Byte => {
-                    put_memory(code, Width::W32, 0xc6, 0, base, disp)?;
-                    put(code, (imm % 256) as u8)
-                }
-                Size::Half => {
-                    put(code, 0x66)?;
-                    put_memory(code, Width::W32, 0xc7, 0, base, disp)?;
-                    put_half(code, imm)
-                }
-                Size::Word => {
-                    put_memory(code, Width::W32, 0xc7, 0, base, disp)?;
-                    put_number(code, imm)
-                }
-                Size::Double => {
-                    put_memory(code, Width::W64, 0xc7, 0, base, disp)?;
-                    put_number(code, imm)
-                }
-            },
+            } => put_store_imm(code, size, base, disp, imm),
             Instr::LoadLong { base, disp } => put_memory_0f(code, Width::W32, 0x10, 0, base, disp),
             Instr::StoreLong { base, disp } => put_memory_0f(code, Width::W32, 0x11, 0, base, disp),
             Instr::Lea { to, base, disp } => put_memory(code, Width::W64, 0x8d, to, base, disp),
@@ -388,11 +461,7 @@ impl Instr {
                 base,
                 index,
                 disp,
-            } => {
-                put(code, rex_by(Width::W64, to, index, base))?;
-                put(code, 0x8d)?;
-                memory_by(code, to, base, index, disp)
-            }
+            } => put_lea_by(code, to, base, index, disp),
             Instr::Jump { distance } => {
                 put(code, 0xe9)?;
                 put_number(code, distance)
@@ -400,19 +469,9 @@ impl Instr {
             Instr::JumpIf {
                 condition,
                 distance,
-            } => {
-                put(code, 0x0f)?;
-                put(code, 0x80 + code_of(condition))?;
-                put_number(code, distance)
-            }
-            Instr::Push { reg } => {
-                put(code, rex(Width::W32, 0, reg))?;
-                put(code, 0x50 + reg % 8)
-            }
-            Instr::Pop { reg } => {
-                put(code, rex(Width::W32, 0, reg))?;
-                put(code, 0x58 + reg % 8)
-            }
+            } => put_jump_if(code, condition, distance),
+            Instr::Push { reg } => put_named(code, Width::W32, 0x50, reg),
+            Instr::Pop { reg } => put_named(code, Width::W32, 0x58, reg),
             Instr::CopyBytes => {
                 put(code, 0xf3)?;
                 put(code, 0xa4)
