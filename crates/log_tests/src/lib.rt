@@ -6,6 +6,8 @@
 #[cfg(test)]
 mod holding;
 #[cfg(test)]
+mod limits;
+#[cfg(test)]
 mod logging;
 #[cfg(test)]
 mod receiving;
