@@ -15,6 +15,7 @@
 mod ink;
 mod lane;
 mod legend;
+mod marks;
 mod packets;
 mod page;
 mod picture;

@@ -2,10 +2,12 @@
 
 ghost use Rattle.std.specs.Prelude.{◌≡◌, ◌++◌, IfOk, OnOk, length, min, string_bytes};
 ghost use Rattle.indexmap.specs.IndexMap.{index_map_len};
+ghost use Rattle.diagram.specs.Marks.{HasPart, marks_from};
 ghost use Rattle.diagram.specs.Page.{IsPicture, column_place, head_text, line_place, page_height, page_width};
 
 use crate::ink::{Point, push_count, push_line, push_text};
 use crate::legend::{LEGEND, LEGEND_HEIGHT, LEGEND_WIDTH, STYLE};
+use crate::marks::push_marks;
 use crate::picture::Picture;
 use indexmap::IndexMap;
 use scenario::{Process, name_at};
@@ -56,7 +58,9 @@ pub fn draw(
     processes: &IndexMap<String, Process>,
     entries: &[Entry],
 ) -> Result<String, AllocError>
-    ensures { IfOk result (λ text. IsPicture (index_map_len processes.now) (length entries.now) (string_bytes text)) }
+    ensures whole { IfOk result (λ text. IsPicture (index_map_len processes.now) (length entries.now) (string_bytes text)) }
+    // Each entry's mark stands in its column and on its line, with its labels.
+    ensures marks { IfOk result (λ text. HasPart (marks_from (min (index_map_len processes.now) 255) 0 entries.now) (string_bytes text)) }
 {
     let inside = drawing(alloc, processes, entries)?;
     let width = page_width(entries.len());
@@ -73,7 +77,9 @@ fn drawing(
     alloc: Global,
     processes: &IndexMap<String, Process>,
     entries: &[Entry],
-) -> Result<String, AllocError> {
+) -> Result<String, AllocError>
+    ensures { IfOk result (λ text. HasPart (marks_from (min (index_map_len processes.now) 255) 0 entries.now) (string_bytes text)) }
+{
     let count = lane_count(processes);
     let foot = lane_y(count) + MARGIN;
     let mut picture = Picture::new(alloc, count, BEGIN)?;
@@ -83,7 +89,7 @@ fn drawing(
     }
     picture.close(entries.len())?;
     push_names(&mut picture.marks, processes, count, entries.len())?;
-    joined(alloc, &picture, foot)
+    joined(alloc, &picture, count, entries, foot)
 }
 
 /// The width of a page with so many columns, in pixels.
@@ -152,14 +158,23 @@ fn push_lane_names(
     Ok(())
 }
 
-/// The layers of a picture, and its legend.
-fn joined(alloc: Global, picture: &Picture, foot: usize) -> Result<String, AllocError> {
+/// The layers of a picture of so many processes, with the marks of its entries above them, and its legend.
+fn joined(
+    alloc: Global,
+    picture: &Picture,
+    count: u8,
+    entries: &[Entry],
+    foot: usize,
+) -> Result<String, AllocError>
+    ensures { IfOk result (λ text. HasPart (marks_from count 0 entries.now) (string_bytes text)) }
+{
     let mut out = String::from_str(alloc, STYLE)?;
     out.push_str("<rect width='100%' height='100%' fill='#fff'/>\n")?;
     out.push_str(picture.lines.as_str())?;
     out.push_str(picture.boxes.as_str())?;
     out.push_str(picture.arrows.as_str())?;
     out.push_str(picture.marks.as_str())?;
+    push_marks(&mut out, count, entries)?;
     writeln!(out, "<g transform='translate(0 {foot})'>")?;
     out.push_str(LEGEND)?;
     out.push_str("</g>\n")?;

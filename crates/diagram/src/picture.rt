@@ -21,7 +21,7 @@ pub struct Picture {
     pub boxes: String,
     /// the arrows,
     pub arrows: String,
-    /// and marks and labels.
+    /// and marks and labels of packets and handler calls.
     pub marks: String,
 }
 
@@ -42,10 +42,10 @@ impl Picture {
         })
     }
 
-    /// Draws an entry in its column. What names nobody that is there isn't drawn.
+    /// Draws an entry in its column, but for the mark that it has by itself (`marks`). What names nobody that is there
+    /// isn't drawn.
     pub(crate) fn enter(&mut self, column: usize, entry: &Entry) -> Result<(), AllocError> {
         match (entry.call, entry.answer) {
-            (Call::Input { to, feed, .. }, _) => self.input(column, to, feed),
             (Call::Transmit { from, to, ssn }, Answer::Placed(key)) => {
                 self.transmit(column, (from, to), ssn, key)
             }
@@ -54,12 +54,10 @@ impl Picture {
             (Call::Arrive { key }, answer) => self.arrive(column, key, answer),
             (Call::Finish { process }, answer) => self.finish(column, process, answer),
             (Call::Checkpoint { process }, Answer::Saved(length)) => {
-                self.checkpoint(column, process, length)
+                self.checkpoint(process, length);
+                Ok(())
             }
-            (Call::Trim { to }, Answer::Trimmed(count)) => self.trim(column, to, count),
-            (Call::Crash { process }, Answer::Crashed(incarnation)) => {
-                self.crash(column, process, incarnation)
-            }
+            (Call::Crash { process }, Answer::Crashed(_)) => self.crash(column, process),
             (Call::Recover { process }, Answer::Kept(kept)) => {
                 self.recover(column, process, kept, false)
             }

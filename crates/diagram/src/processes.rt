@@ -1,8 +1,6 @@
 //! What is drawn of processes: their lines, handler calls, checkpoints, crashes and recoveries.
 
-use crate::ink::{
-    Point, Side, push_box, push_count, push_label, push_line, push_mark, push_numbered,
-};
+use crate::ink::{Point, Side, push_box, push_count, push_line, push_numbered};
 use crate::lane::{Job, Lane, Phase};
 use crate::page::{column_x, lane_y};
 use crate::picture::Picture;
@@ -11,14 +9,6 @@ use std::alloc::AllocError;
 use world::Answer;
 
 impl Picture {
-    /// The outside hands in a message for a process.
-    pub(crate) fn input(&mut self, column: usize, to: u8, feed: u32) -> Result<(), AllocError> {
-        let at = point(column, 0);
-        push_mark(&mut self.marks, "input", at)?;
-        push_numbered(&mut self.marks, "t", at, Side::Above, "in ", feed)?;
-        push_numbered(&mut self.marks, "t", at, Side::Below, "for ", u32::from(to))
-    }
-
     /// A handler call begins: with a message of a sender, or one that is replayed.
     pub(crate) fn begin(
         &mut self,
@@ -103,47 +93,19 @@ impl Picture {
     }
 
     /// A process is saved.
-    pub(crate) fn checkpoint(
-        &mut self,
-        column: usize,
-        process: u8,
-        length: u32,
-    ) -> Result<(), AllocError> {
-        let Some(lane) = self.lanes.get_mut(usize::from(process)) else {
-            return Ok(());
-        };
-        lane.saved = length;
-        let at = point(column, process);
-        push_mark(&mut self.marks, "saved", at)?;
-        push_numbered(&mut self.marks, "t", at, Side::Above, "save ", length)
-    }
-
-    /// Logged messages to a process are dropped.
-    pub(crate) fn trim(&mut self, column: usize, to: u8, count: u32) -> Result<(), AllocError> {
-        if !self.has(to) {
-            return Ok(());
+    pub(crate) fn checkpoint(&mut self, process: u8, length: u32) {
+        if let Some(lane) = self.lanes.get_mut(usize::from(process)) {
+            lane.saved = length;
         }
-        let at = point(column, to);
-        push_mark(&mut self.marks, "trim", at)?;
-        push_numbered(&mut self.marks, "t", at, Side::Above, "trim ", count)
     }
 
     /// A process crashes.
-    pub(crate) fn crash(
-        &mut self,
-        column: usize,
-        process: u8,
-        incarnation: u32,
-    ) -> Result<(), AllocError> {
+    pub(crate) fn crash(&mut self, column: usize, process: u8) -> Result<(), AllocError> {
         if !self.has(process) {
             return Ok(());
         }
         self.stop(process, column_x(column), true)?;
-        self.turn(column, process, Phase::Down)?;
-        let at = point(column, process);
-        push_mark(&mut self.marks, "crash", at)?;
-        push_label(&mut self.marks, "c", at, Side::Above, "crash")?;
-        push_numbered(&mut self.marks, "t", at, Side::Below, "inc ", incarnation)
+        self.turn(column, process, Phase::Down)
     }
 
     /// A process comes back with so many messages; alone, or with all others up.
@@ -158,15 +120,10 @@ impl Picture {
             return Ok(());
         };
         if lane.saved < kept {
-            self.turn(column, process, Phase::Replaying { kept, alone })?;
+            self.turn(column, process, Phase::Replaying { kept, alone })
         } else {
-            self.restore(column, process, alone)?;
+            self.restore(column, process, alone)
         }
-        let at = point(column, process);
-        push_mark(&mut self.marks, "recover", at)?;
-        let word = if alone { "alone" } else { "recover" };
-        push_label(&mut self.marks, "r", at, Side::Above, word)?;
-        push_numbered(&mut self.marks, "t", at, Side::Below, "kept ", kept)
     }
 
     /// A process restores the numbers of its messages to a peer.

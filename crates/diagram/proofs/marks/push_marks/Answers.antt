@@ -1,0 +1,8 @@
+use Rattle.std.proofs.Common.{◌<◌, length, rules}
+use Rattle.diagram.proofs.MarkLemmas.{has_one_more}
+use Rattle.diagram.proofs.marks.push_marks.Goals as goal
+
+pub loop-column-preserved : goal.loop-column-preserved
+loop-column-preserved c =
+    let within : c.loop-column.column < length c.args.entries.now = search rules in
+    has_one_more c.args.processes c.args.entries.now c.loop-column.column _ _ _ _ _ within c.index-entries-column.is c.loop-column.invariant c.in_ok-push_entry_mark.ensures
