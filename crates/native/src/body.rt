@@ -7,7 +7,7 @@ ghost use Rattle.native.specs.Code as codes;
 ghost use Rattle.native.specs.Code.{IsShort, TaskIsShort};
 
 use crate::task::Task;
-use decode::{AluOp, ByteOrder, Operand, Reg, Size, SwapBits, Width};
+use decode::{AluOp, ByteOrder, Extension, Operand, Reg, SignedSize, Size, SwapBits, Width};
 use operations::word_of_imm;
 use x86::{Alu, Instr, Shift};
 
@@ -158,48 +158,38 @@ fn shift_code(op: Shift, width: Width, to: u8, operand: Operand) -> Body
     }
 }
 
+fn move_imm(width: Width, to: u8, imm: u64) -> Body
+    ensures { result ≡ codes.move_imm width to imm }
+{
+    match width {
+        Width::W64 => {
+            if imm < 0x8000_0000 {
+                Body::One(Instr::MovImm { to, imm })
+            } else {
+                Body::One(Instr::MovSigned { to, imm })
+            }
+        }
+        Width::W32 => Body::One(Instr::MovImm { to, imm }),
+    }
+}
+
 fn move_code(width: Width, to: u8, operand: Operand) -> Body
     ensures value { result ≡ codes.move_code width to operand }
     ensures short { IsShort operand }
 {
     match operand {
-        Operand::Imm(imm) => {
-            let imm = number(imm);
-            match width {
-                Width::W64 => {
-                    if imm < 0x8000_0000 {
-                        Body::One(Instr::MovImm { to, imm })
-                    } else {
-                        Body::One(Instr::MovSigned { to, imm })
-                    }
-                }
-                Width::W32 => Body::One(Instr::MovImm { to, imm }),
+        Operand::Imm(imm) => move_imm(width, to, number(imm)),
+        Operand::Reg(src) => {
+            if src.number < 10 {
+                Body::One(Instr::Mov {
+                    width,
+                    to,
+                    from: gpr(src),
+                })
+            } else {
+                Body::One(Instr::MovImm { to, imm: 0 })
             }
         }
-        Operand::Reg(src) => match width {
-            Width::W64 => {
-                if src.number < 10 {
-                    Body::One(Instr::Mov {
-                        width,
-                        to,
-                        from: gpr(src),
-                    })
-                } else {
-                    Body::One(Instr::MovImm { to, imm: 0 })
-                }
-            }
-            Width::W32 => {
-                if src.number < 10 {
-                    Body::One(Instr::Mov {
-                        width,
-                        to,
-                        from: gpr(src),
-                    })
-                } else {
-                    Body::One(Instr::MovImm { to, imm: 0 })
-                }
-            }
-        },
     }
 }
 
@@ -225,47 +215,122 @@ fn compute_code(op: AluOp, width: Width, to: u8, operand: Operand) -> Body
     }
 }
 
+// The least bits, as they are.
+fn low_code(bits: SwapBits, to: u8) -> Body
+    ensures { result ≡ codes.reorder_code ByteOrder.Little bits to }
+{
+    match bits {
+        SwapBits::Bits16 => Body::One(Instr::MovZx { to, from: to }),
+        SwapBits::Bits32 => Body::One(Instr::Mov {
+            width: Width::W32,
+            to,
+            from: to,
+        }),
+        SwapBits::Bits64 => Body::One(Instr::Mov {
+            width: Width::W64,
+            to,
+            from: to,
+        }),
+    }
+}
+
+// Their bytes in the other order.
+fn swap_code(bits: SwapBits, to: u8) -> Body
+    ensures big { result ≡ codes.reorder_code ByteOrder.Big bits to }
+    ensures swap { result ≡ codes.reorder_code ByteOrder.Swap bits to }
+{
+    match bits {
+        SwapBits::Bits16 => Body::Two(Instr::SwapLow { to }, Instr::MovZx { to, from: to }),
+        SwapBits::Bits32 => Body::One(Instr::Swap {
+            width: Width::W32,
+            to,
+        }),
+        SwapBits::Bits64 => Body::One(Instr::Swap {
+            width: Width::W64,
+            to,
+        }),
+    }
+}
+
 fn reorder_code(order: ByteOrder, bits: SwapBits, to: u8) -> Body
     ensures { result ≡ codes.reorder_code order bits to }
 {
-    let low = Instr::MovZx { to, from: to };
-    match bits {
-        SwapBits::Bits16 => match order {
-            ByteOrder::Little => Body::One(low),
-            ByteOrder::Big => Body::Two(Instr::SwapLow { to }, low),
-            ByteOrder::Swap => Body::Two(Instr::SwapLow { to }, low),
-        },
-        SwapBits::Bits32 => match order {
-            ByteOrder::Little => Body::One(Instr::Mov {
-                width: Width::W32,
-                to,
-                from: to,
-            }),
-            ByteOrder::Big => Body::One(Instr::Swap {
-                width: Width::W32,
-                to,
-            }),
-            ByteOrder::Swap => Body::One(Instr::Swap {
-                width: Width::W32,
-                to,
-            }),
-        },
-        SwapBits::Bits64 => match order {
-            ByteOrder::Little => Body::One(Instr::Mov {
-                width: Width::W64,
-                to,
-                from: to,
-            }),
-            ByteOrder::Big => Body::One(Instr::Swap {
-                width: Width::W64,
-                to,
-            }),
-            ByteOrder::Swap => Body::One(Instr::Swap {
-                width: Width::W64,
-                to,
-            }),
-        },
+    match order {
+        ByteOrder::Little => low_code(bits, to),
+        ByteOrder::Big => swap_code(bits, to),
+        ByteOrder::Swap => swap_code(bits, to),
     }
+}
+
+fn extend_code(extension: Extension, dst: Reg, src: Reg) -> Body
+    ensures { result ≡ codes.body_of (Task.Extend extension dst src) }
+{
+    let extend = Instr::MovSx {
+        extension,
+        to: gpr(dst),
+        from: gpr(src),
+    };
+    by_word(dst, by_word(src, Body::One(extend)))
+}
+
+fn load_code(size: Size, dst: Reg, at: u16) -> Body
+    ensures { result ≡ codes.body_of (Task.Load size dst at) }
+{
+    let load = Instr::Load {
+        size,
+        to: gpr(dst),
+        base: 5,
+        disp: seen(at as u64),
+    };
+    by_word(dst, Body::One(load))
+}
+
+fn load_sx_code(size: SignedSize, dst: Reg, at: u16) -> Body
+    ensures { result ≡ codes.body_of (Task.LoadSx size dst at) }
+{
+    let load = Instr::LoadSx {
+        size,
+        to: gpr(dst),
+        base: 5,
+        disp: seen(at as u64),
+    };
+    by_word(dst, Body::One(load))
+}
+
+fn store_code(size: Size, src: Reg, at: u16) -> Body
+    ensures { result ≡ codes.body_of (Task.Store size src at) }
+{
+    let store = Instr::Store {
+        size,
+        base: 5,
+        disp: seen(at as u64),
+        from: gpr(src),
+    };
+    by_word(src, Body::One(store))
+}
+
+fn store_imm_code(size: Size, at: u16, imm: i32) -> Body
+    ensures value { result ≡ codes.body_of (Task.StoreImm size at imm) }
+    ensures short { TaskIsShort (Task.StoreImm size at imm) }
+{
+    Body::One(Instr::StoreImm {
+        size,
+        base: 5,
+        disp: seen(at as u64),
+        imm: number(imm),
+    })
+}
+
+// A word of the record to r0.
+fn told_code(at: u64) -> Body
+    ensures { result ≡ codes.told_code at }
+{
+    Body::One(Instr::Load {
+        size: Size::Double,
+        to: 0,
+        base: 15,
+        disp: at,
+    })
 }
 
 /// The instructions of a task that has no jump.
@@ -284,87 +349,22 @@ pub(crate) fn body_of(task: Task) -> Body
             extension,
             dst,
             src,
-        } => {
-            by_word(
-                dst,
-                by_word(
-                    src,
-                    Body::One(Instr::MovSx {
-                        extension,
-                        to: gpr(dst),
-                        from: gpr(src),
-                    }),
-                ),
-            )
+        } => extend_code(extension, dst, src),
+        Task::Negate { width, dst } => {
+            let to = gpr(dst);
+            by_word(dst, Body::One(Instr::Neg { width, to }))
         }
-        Task::Negate { width, dst } => by_word(
-            dst,
-            Body::One(Instr::Neg {
-                width,
-                to: gpr(dst),
-            }),
-        ),
         Task::Reorder { order, bits, dst } => by_word(dst, reorder_code(order, bits, gpr(dst))),
-        Task::Load { size, dst, at } => {
-            by_word(
-                dst,
-                Body::One(Instr::Load {
-                    size,
-                    to: gpr(dst),
-                    base: 5,
-                    disp: seen(at as u64),
-                }),
-            )
+        Task::Load { size, dst, at } => load_code(size, dst, at),
+        Task::LoadSx { size, dst, at } => load_sx_code(size, dst, at),
+        Task::Store { size, src, at } => store_code(size, src, at),
+        Task::StoreImm { size, at, imm } => store_imm_code(size, at, imm),
+        Task::Wide { dst, value } => {
+            let to = gpr(dst);
+            by_word(dst, Body::One(Instr::MovWide { to, imm: value }))
         }
-        Task::LoadSx { size, dst, at } => {
-            by_word(
-                dst,
-                Body::One(Instr::LoadSx {
-                    size,
-                    to: gpr(dst),
-                    base: 5,
-                    disp: seen(at as u64),
-                }),
-            )
-        }
-        Task::Store { size, src, at } => {
-            by_word(
-                src,
-                Body::One(Instr::Store {
-                    size,
-                    base: 5,
-                    disp: seen(at as u64),
-                    from: gpr(src),
-                }),
-            )
-        }
-        Task::StoreImm { size, at, imm } => {
-            Body::One(Instr::StoreImm {
-                size,
-                base: 5,
-                disp: seen(at as u64),
-                imm: number(imm),
-            })
-        }
-        Task::Wide { dst, value } => by_word(
-            dst,
-            Body::One(Instr::MovWide {
-                to: gpr(dst),
-                imm: value,
-            }),
-        ),
-        Task::Me => Body::One(Instr::Load {
-            size: Size::Double,
-            to: 0,
-            base: 15,
-            disp: 24,
-        }),
-        Task::From => Body::One(Instr::Load {
-            size: Size::Double,
-            to: 0,
-            base: 15,
-            disp: 32,
-        }),
+        Task::Me => told_code(24),
+        Task::From => told_code(32),
         Task::Branch { operand, .. } => {
             let _short = alu_code(Alu::Add, Width::W64, 0, operand);
             Body::Refused

@@ -7,13 +7,9 @@ ghost use Rattle.native.specs.Code as specs;
 
 use crate::body::{Body, body_of, gpr};
 use crate::comparison::{compare_code, condition_of};
-use crate::output::{
-    output_end, output_good, output_sized_end, output_sized_good, output_sized_tests, output_tests,
-};
-use crate::quotient::{Ways, divisor_code, quotient_code, signed_code};
-use crate::send::{
-    send_end, send_good, send_sized_end, send_sized_good, send_sized_tests, send_tests,
-};
+use crate::helper::{Helper, write_end, write_good, write_tests};
+use crate::quotient::{Ways, divisor_code, write_quotient, write_signed};
+use crate::sequence::write_all;
 use crate::task::Task;
 use decode::{AluOp, Condition, Operand, Reg, Size, Width};
 use std::alloc::{AllocError, Global};
@@ -33,6 +29,16 @@ fn count(pends: &[u64], slot: usize, to: usize) -> Option<u64>
     let steps = at(pends, slot).checked_add(1)?;
     let k = steps.checked_sub(at(pends, to))?;
     if k < 0x8000_0000 { Some(k) } else { None }
+}
+
+// The same where it may go on at either of two slots.
+fn count_both(pends: &[u64], slot: usize, to: usize, other: usize) -> Option<u64>
+    ensures first { IfSome result (λ k. Counts pends.now slot to k) }
+    ensures second { IfSome result (λ k. Counts pends.now slot other k) }
+{
+    let k = count(pends, slot, to)?;
+    let also = count(pends, slot, other)?;
+    if also == k { Some(k) } else { None }
 }
 
 // How far it is from behind a jump to a slot.
@@ -80,87 +86,24 @@ fn emit_body(code: &mut Vec<u8>, body: Body) -> Result<bool, AllocError>
     }
 }
 
-// How many bytes instructions have.
-fn measure(alloc: Global, list: &[Instr]) -> Result<u64, AllocError>
-    ensures { IfOk result (λ n. n ≡ length (codes list.now)) }
-{
-    let mut code = Vec::new(alloc);
-    write_all(&mut code, list)?;
-    Ok(code.len() as u64)
-}
-
-// A call: tests, what they pass by, and the rest.
-fn emit_parts(
+// A helper that emits. `false`: it is too long.
+fn emit_helper(
+    alloc: Global,
     code: &mut Vec<u8>,
-    tests: &[Instr],
-    good: &[Instr],
-    rest: &[Instr],
-) -> Result<(), AllocError>
-    ensures { OnOk result (code.new.items ≡ code.old.items ++ codes (tests.now ++ (good.now ++ rest.now))) }
+    helper: Helper,
+    at: u16,
+) -> Result<bool, AllocError>
+    ensures { IfOk result (λ yes. IsTrue yes → (is : List machine.Instr) × IsCall (specs.tests_of helper) (specs.good_of helper at) (specs.end_of helper) is × (code.new.items ≡ code.old.items ++ codes is)) }
 {
-    write_all(code, tests)?;
-    write_all(code, good)?;
-    write_all(code, rest)?;
-    Ok(())
-}
-
-// Helper 1. `false`: it is too long.
-fn emit_send(alloc: Global, code: &mut Vec<u8>, at: u16) -> Result<bool, AllocError>
-    ensures { IfOk result (λ yes. IsTrue yes → (is : List machine.Instr) × IsCall specs.send_tests (specs.send_good at) specs.send_end is × (code.new.items ≡ code.old.items ++ codes is)) }
-{
-    let good = send_good(at as u64);
-    let size = measure(alloc, &good)?;
+    let mut good = Vec::new(alloc);
+    write_good(&mut good, helper, at as u64)?;
+    let size = good.len() as u64;
     if size >= 1000 {
         return Ok(false);
     }
-    let tests = send_tests(size);
-    let rest = send_end();
-    emit_parts(code, &tests, &good, &rest)?;
-    Ok(true)
-}
-
-// Helper 2. `false`: it is too long.
-fn emit_output(alloc: Global, code: &mut Vec<u8>, at: u16) -> Result<bool, AllocError>
-    ensures { IfOk result (λ yes. IsTrue yes → (is : List machine.Instr) × IsCall specs.output_tests (specs.output_good at) specs.output_end is × (code.new.items ≡ code.old.items ++ codes is)) }
-{
-    let good = output_good(at as u64);
-    let size = measure(alloc, &good)?;
-    if size >= 1000 {
-        return Ok(false);
-    }
-    let tests = output_tests(size);
-    let rest = output_end();
-    emit_parts(code, &tests, &good, &rest)?;
-    Ok(true)
-}
-
-// Helper 5. `false`: it is too long.
-fn emit_send_sized(alloc: Global, code: &mut Vec<u8>, at: u16) -> Result<bool, AllocError>
-    ensures { IfOk result (λ yes. IsTrue yes → (is : List machine.Instr) × IsCall specs.send_sized_tests (specs.send_sized_good at) specs.send_sized_end is × (code.new.items ≡ code.old.items ++ codes is)) }
-{
-    let good = send_sized_good(at as u64);
-    let size = measure(alloc, &good)?;
-    if size >= 1000 {
-        return Ok(false);
-    }
-    let tests = send_sized_tests(size);
-    let rest = send_sized_end();
-    emit_parts(code, &tests, &good, &rest)?;
-    Ok(true)
-}
-
-// Helper 6. `false`: it is too long.
-fn emit_output_sized(alloc: Global, code: &mut Vec<u8>, at: u16) -> Result<bool, AllocError>
-    ensures { IfOk result (λ yes. IsTrue yes → (is : List machine.Instr) × IsCall specs.output_sized_tests (specs.output_sized_good at) specs.output_sized_end is × (code.new.items ≡ code.old.items ++ codes is)) }
-{
-    let good = output_sized_good(at as u64);
-    let size = measure(alloc, &good)?;
-    if size >= 1000 {
-        return Ok(false);
-    }
-    let tests = output_sized_tests(size);
-    let rest = output_sized_end();
-    emit_parts(code, &tests, &good, &rest)?;
+    write_tests(code, helper, size)?;
+    write_good(code, helper, at as u64)?;
+    write_end(code, helper)?;
     Ok(true)
 }
 
@@ -182,8 +125,7 @@ fn emit_quotient(
     let Some(first) = divisor_code(width, operand) else {
         return Ok(false);
     };
-    let list = quotient_code(first, width, gpr(dst), from, none, size);
-    write_all(code, &list)?;
+    write_quotient(code, first, width, gpr(dst), from, none, size)?;
     Ok(true)
 }
 
@@ -204,9 +146,50 @@ fn emit_signed(
     let Some(first) = divisor_code(width, operand) else {
         return Ok(false);
     };
-    let list = signed_code(first, width, gpr(dst), from, ways);
-    write_all(code, &list)?;
+    write_signed(code, first, width, gpr(dst), from, ways)?;
     Ok(true)
+}
+
+// A signed quotient. `false`: it can't be written.
+fn emit_sdiv(
+    code: &mut Vec<u8>,
+    width: Width,
+    dst: Reg,
+    operand: Operand,
+) -> Result<bool, AllocError>
+    ensures { IfOk result (λ yes. IsTrue yes → (is : List machine.Instr) × IsDone (Task.Compute AluOp.Sdiv width dst operand) is × (code.new.items ≡ code.old.items ++ codes is)) }
+{
+    let to = gpr(dst);
+    let ways = Ways {
+        minus: Instr::Neg { width, to },
+        minus_size: 3,
+        none: Instr::MovImm { to, imm: 0 },
+        none_size: 6,
+    };
+    emit_signed(code, width, dst, operand, 0, ways)
+}
+
+// A signed remainder. `false`: it can't be written.
+fn emit_smod(
+    code: &mut Vec<u8>,
+    width: Width,
+    dst: Reg,
+    operand: Operand,
+) -> Result<bool, AllocError>
+    ensures { IfOk result (λ yes. IsTrue yes → (is : List machine.Instr) × IsDone (Task.Compute AluOp.Smod width dst operand) is × (code.new.items ≡ code.old.items ++ codes is)) }
+{
+    let to = gpr(dst);
+    let ways = Ways {
+        minus: Instr::MovImm { to, imm: 0 },
+        minus_size: 6,
+        none: Instr::Mov {
+            width,
+            to,
+            from: to,
+        },
+        none_size: 3,
+    };
+    emit_signed(code, width, dst, operand, 2, ways)
 }
 
 // Arithmetic. `false`: it can't be written.
@@ -226,38 +209,19 @@ fn emit_compute(
         to,
         from: to,
     };
-    let negated = Instr::Neg { width, to };
     match op {
         AluOp::Div => emit_quotient(code, width, dst, operand, 0, zero, 6),
         AluOp::Mod => emit_quotient(code, width, dst, operand, 2, same, 3),
-        AluOp::Sdiv => {
-            let ways = Ways {
-                minus: negated,
-                minus_size: 3,
-                none: zero,
-                none_size: 6,
-            };
-            emit_signed(code, width, dst, operand, 0, ways)
-        }
-        AluOp::Smod => {
-            let ways = Ways {
-                minus: zero,
-                minus_size: 6,
-                none: same,
-                none_size: 3,
-            };
-            emit_signed(code, width, dst, operand, 2, ways)
-        }
+        AluOp::Sdiv => emit_sdiv(code, width, dst, operand),
+        AluOp::Smod => emit_smod(code, width, dst, operand),
         _ => {
-            let done = emit_body(
-                code,
-                body_of(Task::Compute {
-                    op,
-                    width,
-                    dst,
-                    operand,
-                }),
-            )?;
+            let task = Task::Compute {
+                op,
+                width,
+                dst,
+                operand,
+            };
+            let done = emit_body(code, body_of(task))?;
             Ok(done)
         }
     }
@@ -268,10 +232,10 @@ fn emit_done(alloc: Global, code: &mut Vec<u8>, task: Task) -> Result<bool, Allo
     ensures { IfOk result (λ yes. IsTrue yes → (is : List machine.Instr) × IsDone task is × (code.new.items ≡ code.old.items ++ codes is)) }
 {
     match task {
-        Task::Send { at } => emit_send(alloc, code, at),
-        Task::Output { at } => emit_output(alloc, code, at),
-        Task::SendSized { at } => emit_send_sized(alloc, code, at),
-        Task::OutputSized { at } => emit_output_sized(alloc, code, at),
+        Task::Send { at } => emit_helper(alloc, code, Helper::Send, at),
+        Task::Output { at } => emit_helper(alloc, code, Helper::Output, at),
+        Task::SendSized { at } => emit_helper(alloc, code, Helper::SendSized, at),
+        Task::OutputSized { at } => emit_helper(alloc, code, Helper::OutputSized, at),
         Task::Compute {
             op,
             width,
@@ -346,15 +310,9 @@ fn emit_branch(
         return Ok(false);
     };
     let met = condition_of(condition);
-    let Some(k) = count(pends, slot, slot + 1) else {
+    let Some(k) = count_both(pends, slot, slot + 1, to as usize) else {
         return Ok(false);
     };
-    let Some(taken) = count(pends, slot, to as usize) else {
-        return Ok(false);
-    };
-    if taken != k {
-        return Ok(false);
-    }
     flush(code, k)?;
     compare.write(code)?;
     let Some(behind) = (code.len() as u64).checked_add(6) else {
@@ -393,16 +351,6 @@ fn emit_leap(
     };
     Instr::Jump { distance }.write(code)?;
     Ok(true)
-}
-
-// Writes instructions.
-fn write_all(code: &mut Vec<u8>, list: &[Instr]) -> Result<(), AllocError>
-    ensures { OnOk result (code.new.items ≡ code.old.items ++ codes list.now) }
-{
-    for instr in list {
-        instr.write(code)?;
-    }
-    Ok(())
 }
 
 /// The end.

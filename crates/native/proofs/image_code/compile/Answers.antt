@@ -1,7 +1,7 @@
-use Rattle.std.proofs.Common.{◌≡◌, ◌<◌, ◌≤◌, ◌+◌, List, ℕ, length, IsTrue, Some, refl, sym, ap, ◌∙◌, subst, arith, rules}
+use Rattle.std.proofs.Common.{◌≡◌, ◌<◌, length, IsTrue, Some, sym, ap, ◌∙◌, subst, arith, rules}
 use Rattle.std.specs.Prelude.{slice_get}
 use Rattle.std.proofs.lemmas.Option.{slice_get-get_or}
-use Rattle.native.specs.Laid.{Lays, LaidTo}
+use Rattle.native.specs.Laid.{Lays}
 use Rattle.native.proofs.Native.{laid_next, native}
 use Rattle.native.proofs.image_code.compile.Goals as goal
 

@@ -1,4 +1,4 @@
-use Rattle.std.proofs.Common.{◌≡◌, ◌+◌, ◌++◌, length, IsTrue, refl, sym, ap, ◌∙◌, subst, arith, rules, length-append, slice_index}
+use Rattle.std.proofs.Common.{◌≡◌, ◌+◌, length, IsTrue, sym, ap, ◌∙◌, subst, arith, rules, length-append, slice_index}
 use Rattle.std.proofs.lemmas.Bool.Decides.{nat_tests}
 use Rattle.x86.specs.Machine.{HasAt}
 use Rattle.native.specs.Code.{codes, Serves}

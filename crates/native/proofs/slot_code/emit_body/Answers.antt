@@ -1,4 +1,4 @@
-use Rattle.std.proofs.Common.{◌≡◌, [], ◌∷◌, refl, sym, subst}
+use Rattle.std.proofs.Common.{[], ◌∷◌, refl, sym, subst}
 use Rattle.native.specs.Code.{IsBody}
 use Rattle.native.proofs.slot_code.emit_body.Goals as goal
 

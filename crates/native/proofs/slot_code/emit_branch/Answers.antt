@@ -1,13 +1,13 @@
-use Rattle.std.proofs.Common.{◌≡◌, ◌+◌, [], ◌∷◌, ◌++◌, length, refl, sym, ap, ◌∙◌, subst, arith}
+use Rattle.std.proofs.Common.{◌≡◌, ◌+◌, [], ◌∷◌, ◌++◌, length, refl, sym, ap, ◌∙◌, subst}
 use Rattle.x86.specs.declared.instruction.Instr.TheVariants as instr
 use Rattle.x86.specs.Encoding.{bytes_of}
-use Rattle.native.specs.Code.{codes, flushed, condition_of, Counts, Reaches}
+use Rattle.native.specs.Code.{flushed, condition_of, Reaches}
 use Rattle.native.proofs.Emitted.{then_two, behind_is}
 use Rattle.native.proofs.slot_code.emit_branch.Goals as goal
 
 pub returns : goal.returns
 returns c =
-    let k = c.in-Some-count.k in
+    let k = c.in-Some-count_both.k in
     let i = c.in-Some.compare in
     let y = condition_of c.args.condition in
     let d = c.in-Some-distance.distance in
@@ -26,8 +26,8 @@ returns c =
         d = d;
         compares = sym c.in-Some.ensures.value;
         is_are = refl;
-        passes = c.in-Some-count.ensures;
-        takes = subst (λ x. Counts c.args.pends.now c.args.slot c.args.to x) c.if-taken-k.false c.in-Some-count-2.ensures;
+        passes = c.in-Some-count_both.ensures.first;
+        takes = c.in-Some-count_both.ensures.second;
         reaches = subst (λ x. Reaches c.args.places.now x c.args.to d) (sym b) c.in-Some-distance.ensures;
         short = c.in-Some.ensures.short;
       },

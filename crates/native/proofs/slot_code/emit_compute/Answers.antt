@@ -1,4 +1,4 @@
-use Rattle.std.proofs.Common.{sym, subst}
+use Rattle.std.proofs.Common.{subst}
 use Rattle.native.specs.Code.{IsBody}
 use Rattle.native.proofs.Emitted.{computed_by_body}
 use Rattle.native.proofs.slot_code.emit_compute.Goals as goal

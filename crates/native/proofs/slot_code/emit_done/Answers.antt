@@ -1,4 +1,4 @@
-use Rattle.std.proofs.Common.{sym, subst}
+use Rattle.std.proofs.Common.{subst}
 use Rattle.native.specs.Code.{IsBody}
 use Rattle.native.proofs.Emitted.{done_by_body}
 use Rattle.native.proofs.slot_code.emit_done.Goals as goal

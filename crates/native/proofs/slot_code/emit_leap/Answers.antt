@@ -1,7 +1,7 @@
-use Rattle.std.proofs.Common.{◌≡◌, ◌+◌, [], ◌∷◌, ◌++◌, length, refl, sym, ap, ◌∙◌, subst, arith}
+use Rattle.std.proofs.Common.{◌≡◌, ◌+◌, [], ◌∷◌, ◌++◌, length, refl, sym, ap, ◌∙◌, subst}
 use Rattle.x86.specs.declared.instruction.Instr.TheVariants as instr
 use Rattle.x86.specs.Encoding.{bytes_of}
-use Rattle.native.specs.Code.{codes, flushed, Reaches}
+use Rattle.native.specs.Code.{flushed, Reaches}
 use Rattle.native.proofs.Emitted.{then_one, behind_is}
 use Rattle.native.proofs.slot_code.emit_leap.Goals as goal
 

@@ -1,4 +1,4 @@
-use Rattle.std.proofs.Common.{◌≡◌, ◌+◌, ◌++◌, IsTrue, refl, sym, ap, ◌∙◌, subst, arith, rules, slice_index, length, length-append}
+use Rattle.std.proofs.Common.{◌+◌, ◌++◌, IsTrue, refl, sym, ap, ◌∙◌, subst, arith, rules, slice_index, length, length-append}
 use Rattle.native.specs.Code.{codes, flushed, Counts}
 use Rattle.native.proofs.Emitted.{some_then}
 use Rattle.native.proofs.slot_code.emit_plain.Goals as goal

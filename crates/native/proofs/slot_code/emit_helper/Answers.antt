@@ -1,0 +1,12 @@
+use Rattle.std.proofs.Common.{◌++◌, ap, ◌∙◌, length, arith}
+use Rattle.native.specs.Code as specs
+use Rattle.native.proofs.Emitted.{call_is}
+use Rattle.native.proofs.slot_code.emit_helper.Goals as goal
+
+pub returns : goal.returns
+returns c =
+    let h = c.args.helper in
+    let good = specs.good_of h c.args.at in
+    let written = c.in_ok-write_good.ensures ∙ ap (λ l. l ++ specs.codes good) c.new-good.ensures.items in
+    let size = c.len-size.ensures ∙ c.write_good.new.code.ok.0 ∙ ap length written in
+    λ _. call_is (specs.tests_of h) good (specs.end_of h) c.len-size.result c.args.code.now.items c.write_tests.new.code.items c.write_good-2.new.code.items c.write_end.new.code.items size (omega (arith, c.if-size-ge1000.false)) c.in_ok-write_tests.ensures c.in_ok-write_good-2.ensures c.in_ok-write_end.ensures

@@ -1,0 +1,392 @@
+//! Helpers that emit: their tests, what they do, and their answers.
+
+ghost use Rattle.std.specs.Prelude.{◌≡◌, ◌<◌, ◌^◌, ◌++◌, OnOk};
+ghost use Rattle.native.specs.Code.{codes};
+ghost use Rattle.native.specs.Code as specs;
+
+use crate::body::seen;
+use crate::sequence::write_all;
+use decode::{Size, Width};
+use std::alloc::AllocError;
+use x86::{Alu, Condition, Instr};
+
+/// A helper that emits.
+#[derive(Clone, Copy)]
+pub(crate) enum Helper {
+    /// 1
+    Send,
+    /// 2
+    Output,
+    /// 5
+    SendSized,
+    /// 6
+    OutputSized,
+}
+
+// rcx: how many there are; eight are all.
+fn write_room_test(code: &mut Vec<u8>, count_at: u64, none: u64) -> Result<(), AllocError>
+    ensures { OnOk result (code.new.items ≡ code.old.items ++ codes (specs.room_test count_at none)) }
+{
+    write_all(
+        code,
+        &[
+            Instr::Load {
+                size: Size::Double,
+                to: 1,
+                base: 15,
+                disp: count_at,
+            },
+            Instr::AluImm {
+                op: Alu::Cmp,
+                width: Width::W64,
+                to: 1,
+                imm: 8,
+            },
+            Instr::JumpIf {
+                condition: Condition::AboveEqual,
+                distance: none,
+            },
+        ],
+    )
+}
+
+// The destination is at least 1.
+fn write_least_test(code: &mut Vec<u8>, none: u64) -> Result<(), AllocError>
+    ensures { OnOk result (code.new.items ≡ code.old.items ++ codes (specs.least_test none)) }
+{
+    write_all(
+        code,
+        &[
+            Instr::AluImm {
+                op: Alu::Cmp,
+                width: Width::W64,
+                to: 7,
+                imm: 1,
+            },
+            Instr::JumpIf {
+                condition: Condition::Below,
+                distance: none,
+            },
+        ],
+    )
+}
+
+// It is at most the number of processes.
+fn write_most_test(code: &mut Vec<u8>, none: u64) -> Result<(), AllocError>
+    ensures { OnOk result (code.new.items ≡ code.old.items ++ codes (specs.most_test none)) }
+{
+    write_all(
+        code,
+        &[
+            Instr::Load {
+                size: Size::Double,
+                to: 1,
+                base: 15,
+                disp: 40,
+            },
+            Instr::Alu {
+                op: Alu::Cmp,
+                width: Width::W64,
+                to: 1,
+                from: 7,
+            },
+            Instr::JumpIf {
+                condition: Condition::Below,
+                distance: none,
+            },
+        ],
+    )
+}
+
+// It isn't the process itself.
+fn write_other_test(code: &mut Vec<u8>, none: u64) -> Result<(), AllocError>
+    ensures { OnOk result (code.new.items ≡ code.old.items ++ codes (specs.other_test none)) }
+{
+    write_all(
+        code,
+        &[
+            Instr::Load {
+                size: Size::Double,
+                to: 1,
+                base: 15,
+                disp: 24,
+            },
+            Instr::Alu {
+                op: Alu::Cmp,
+                width: Width::W64,
+                to: 7,
+                from: 1,
+            },
+            Instr::JumpIf {
+                condition: Condition::Equal,
+                distance: none,
+            },
+        ],
+    )
+}
+
+// All three, each with its distance to the answer.
+fn write_peer_tests(code: &mut Vec<u8>, none: u64, beyond: u64, own: u64) -> Result<(), AllocError>
+    ensures { OnOk result (code.new.items ≡ code.old.items ++ codes (specs.peer_tests none beyond own)) }
+{
+    write_least_test(code, none)?;
+    write_most_test(code, beyond)?;
+    write_other_test(code, own)?;
+    Ok(())
+}
+
+// A register holds at most 256.
+fn write_length_test(code: &mut Vec<u8>, len: u8, long: u64) -> Result<(), AllocError>
+    ensures { OnOk result (code.new.items ≡ code.old.items ++ codes (specs.length_test len long)) }
+{
+    write_all(
+        code,
+        &[
+            Instr::AluImm {
+                op: Alu::Cmp,
+                width: Width::W64,
+                to: len,
+                imm: 256,
+            },
+            Instr::JumpIf {
+                condition: Condition::Above,
+                distance: long,
+            },
+        ],
+    )
+}
+
+/// Its tests, which pass by so many bytes.
+pub(crate) fn write_tests(code: &mut Vec<u8>, helper: Helper, size: u64) -> Result<(), AllocError>
+    requires { size < 1000 }
+    ensures { OnOk result (code.new.items ≡ code.old.items ++ codes (specs.tests_of helper size)) }
+{
+    match helper {
+        Helper::Send => {
+            write_peer_tests(code, size + 40, size + 27, size + 14)?;
+            write_room_test(code, 0, size + 11)?;
+            Ok(())
+        }
+        Helper::Output => write_room_test(code, 8, size),
+        Helper::SendSized => {
+            write_peer_tests(code, size + 64, size + 51, size + 38)?;
+            write_room_test(code, 0, size + 35)?;
+            write_length_test(code, 8, size)?;
+            Ok(())
+        }
+        Helper::OutputSized => {
+            write_room_test(code, 8, size + 24)?;
+            write_length_test(code, 6, size)?;
+            Ok(())
+        }
+    }
+}
+
+// rdx: the address of the next place; rcx: one more.
+fn write_place(code: &mut Vec<u8>, base: u64) -> Result<(), AllocError>
+    ensures { OnOk result (code.new.items ≡ code.old.items ++ codes (specs.place_code base)) }
+{
+    write_all(
+        code,
+        &[
+            Instr::MulImm {
+                width: Width::W64,
+                to: 2,
+                from: 1,
+                imm: 272,
+            },
+            Instr::LeaBy {
+                to: 2,
+                base: 15,
+                index: 2,
+                disp: base,
+            },
+            Instr::Lea {
+                to: 1,
+                base: 1,
+                disp: 1,
+            },
+        ],
+    )
+}
+
+// The destination.
+fn write_aim(code: &mut Vec<u8>) -> Result<(), AllocError>
+    ensures { OnOk result (code.new.items ≡ code.old.items ++ codes specs.aim_code) }
+{
+    write_all(
+        code,
+        &[Instr::Store {
+            size: Size::Double,
+            base: 2,
+            disp: 0,
+            from: 7,
+        }],
+    )
+}
+
+// The length, and 64 bytes.
+fn write_copy(code: &mut Vec<u8>, at: u64) -> Result<(), AllocError>
+    requires { at < 2 ^ 16 }
+    ensures { OnOk result (code.new.items ≡ code.old.items ++ codes (specs.copy_code at)) }
+{
+    write_all(
+        code,
+        &[
+            Instr::StoreImm {
+                size: Size::Double,
+                base: 2,
+                disp: 8,
+                imm: 64,
+            },
+            Instr::LoadLong {
+                base: 5,
+                disp: seen(at),
+            },
+            Instr::StoreLong { base: 2, disp: 16 },
+            Instr::LoadLong {
+                base: 5,
+                disp: seen(at + 16),
+            },
+            Instr::StoreLong { base: 2, disp: 32 },
+            Instr::LoadLong {
+                base: 5,
+                disp: seen(at + 32),
+            },
+            Instr::StoreLong { base: 2, disp: 48 },
+            Instr::LoadLong {
+                base: 5,
+                disp: seen(at + 48),
+            },
+            Instr::StoreLong { base: 2, disp: 64 },
+        ],
+    )
+}
+
+// The length, which a register has, and so many bytes.
+fn write_sized(code: &mut Vec<u8>, at: u64, len: u8) -> Result<(), AllocError>
+    ensures { OnOk result (code.new.items ≡ code.old.items ++ codes (specs.sized_code at len)) }
+{
+    write_all(
+        code,
+        &[
+            Instr::Store {
+                size: Size::Double,
+                base: 2,
+                disp: 8,
+                from: len,
+            },
+            Instr::Push { reg: 1 },
+            Instr::Push { reg: 6 },
+            Instr::Push { reg: 7 },
+            Instr::Mov {
+                width: Width::W64,
+                to: 1,
+                from: len,
+            },
+            Instr::Lea {
+                to: 6,
+                base: 5,
+                disp: seen(at),
+            },
+            Instr::Lea {
+                to: 7,
+                base: 2,
+                disp: 16,
+            },
+            Instr::CopyBytes,
+            Instr::Pop { reg: 7 },
+            Instr::Pop { reg: 6 },
+            Instr::Pop { reg: 1 },
+        ],
+    )
+}
+
+// The new count and the answer, and past the other answers.
+fn write_good_end(code: &mut Vec<u8>, count_at: u64, past: u64) -> Result<(), AllocError>
+    ensures { OnOk result (code.new.items ≡ code.old.items ++ codes (specs.good_end count_at past)) }
+{
+    write_all(
+        code,
+        &[
+            Instr::Store {
+                size: Size::Double,
+                base: 15,
+                disp: count_at,
+                from: 1,
+            },
+            Instr::MovImm { to: 0, imm: 0 },
+            Instr::Jump { distance: past },
+        ],
+    )
+}
+
+fn write_send(code: &mut Vec<u8>, at: u64) -> Result<(), AllocError>
+    requires { at < 2 ^ 16 }
+    ensures { OnOk result (code.new.items ≡ code.old.items ++ codes (specs.send_good at)) }
+{
+    write_place(code, 64)?;
+    write_aim(code)?;
+    write_copy(code, at)?;
+    write_good_end(code, 0, 17)?;
+    Ok(())
+}
+
+fn write_output(code: &mut Vec<u8>, at: u64) -> Result<(), AllocError>
+    requires { at < 2 ^ 16 }
+    ensures { OnOk result (code.new.items ≡ code.old.items ++ codes (specs.output_good at)) }
+{
+    write_place(code, 2240)?;
+    write_copy(code, at)?;
+    write_good_end(code, 8, 6)?;
+    Ok(())
+}
+
+fn write_send_sized(code: &mut Vec<u8>, at: u64) -> Result<(), AllocError>
+    ensures { OnOk result (code.new.items ≡ code.old.items ++ codes (specs.send_sized_good at)) }
+{
+    write_place(code, 64)?;
+    write_aim(code)?;
+    write_sized(code, at, 8)?;
+    write_good_end(code, 0, 28)?;
+    Ok(())
+}
+
+fn write_output_sized(code: &mut Vec<u8>, at: u64) -> Result<(), AllocError>
+    ensures { OnOk result (code.new.items ≡ code.old.items ++ codes (specs.output_sized_good at)) }
+{
+    write_place(code, 2240)?;
+    write_sized(code, at, 6)?;
+    write_good_end(code, 8, 17)?;
+    Ok(())
+}
+
+/// What it does where its tests pass.
+pub(crate) fn write_good(code: &mut Vec<u8>, helper: Helper, at: u64) -> Result<(), AllocError>
+    requires { at < 2 ^ 16 }
+    ensures { OnOk result (code.new.items ≡ code.old.items ++ codes (specs.good_of helper at)) }
+{
+    match helper {
+        Helper::Send => write_send(code, at),
+        Helper::Output => write_output(code, at),
+        Helper::SendSized => write_send_sized(code, at),
+        Helper::OutputSized => write_output_sized(code, at),
+    }
+}
+
+/// Its other answers.
+pub(crate) fn write_end(code: &mut Vec<u8>, helper: Helper) -> Result<(), AllocError>
+    ensures { OnOk result (code.new.items ≡ code.old.items ++ codes (specs.end_of helper)) }
+{
+    let long = Instr::MovImm { to: 0, imm: 3 };
+    let no_peer = Instr::MovImm { to: 0, imm: 1 };
+    let no_room = Instr::MovImm { to: 0, imm: 2 };
+    let past_one = Instr::Jump { distance: 6 };
+    let past_two = Instr::Jump { distance: 17 };
+    match helper {
+        Helper::Send => write_all(code, &[no_peer, past_one, no_room]),
+        Helper::Output => write_all(code, &[no_room]),
+        Helper::SendSized => write_all(code, &[long, past_two, no_peer, past_one, no_room]),
+        Helper::OutputSized => write_all(code, &[long, past_one, no_room]),
+    }
+}
