@@ -3,24 +3,32 @@
 ghost use Rattle.std.specs.Prelude.{◌≡◌};
 ghost use Rattle.embed.specs.Exports.{refusal_number, refused_rule, refused_slot};
 
+use thiserror::Error;
 use verifier::ImageError;
 
 /// Why a file or a call is refused, by number.
-#[derive(Debug, Drop)]
+#[derive(Debug, Drop, Error)]
 pub enum Refusal {
     /// 1 to 4: no memory, or a fault of the file's header, of its code, or by the verifier's rules.
+    #[error(transparent)]
     Image(ImageError),
     /// 5: the state isn't as long as the file says.
+    #[error("the state isn't as long as the file says")]
     State,
     /// 6: what is given isn't messages of 64 bytes.
+    #[error("no whole messages of 64 bytes")]
     Message,
     /// 7: the numbers of the processes aren't in range.
+    #[error("numbers of processes out of range")]
     Who,
     /// 8: the buffer for the answer is too short.
+    #[error("the buffer for the answer is too short")]
     Room,
     /// 9: the file is of form 2, whose messages and payloads have lengths.
+    #[error("the image is an SBI2, which these functions only check")]
     Form,
     /// 10: the handle is null.
+    #[error("the handle is null")]
     Handle,
 }
 

@@ -3,22 +3,29 @@
 ghost use Rattle.std.specs.Prelude.{◌≡◌, IfErr, IfOk};
 ghost use Rattle.embed_session.specs.Session.{fault_number};
 
+use thiserror::Error;
 use world::Refusal;
 
 /// Why a function did nothing, by number.
-#[derive(Debug, Drop)]
+#[derive(Debug, Drop, Error)]
 pub enum Fault {
     /// 1 to 15: the session refused the call.
+    #[error(transparent)]
     Session(Refusal),
     /// 16: the handle is closed, or where one is to be opened, it is open.
+    #[error("the handle is closed; to open one, it is open")]
     Handle,
     /// 17: a file isn't that of an image, or the files aren't as long as their lengths say.
+    #[error("a file is none of an image, or the lengths don't fit")]
     File,
     /// 18: a payload has more than 256 bytes.
+    #[error("a payload has more than 256 bytes")]
     Payload,
     /// 19: the buffer is too short.
+    #[error("the buffer is too short")]
     Room,
     /// 20: there is none of this number.
+    #[error("there is none of this number")]
     Absent,
 }
 

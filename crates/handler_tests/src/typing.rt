@@ -4,6 +4,7 @@ use regtypes::{
     transfer,
 };
 use std::process::Abort;
+use std::test::Fail;
 
 const R0: Reg = Reg { number: 0 };
 
@@ -212,6 +213,37 @@ fn is_below(rt: &impl Abort, low: &Frame, high: &Frame) {
     let order = (leq(low, high), leq(high, low));
     assert_eq!(rt; order, (true, false));
     assert_eq!(rt; join(low, high), *high);
+}
+
+/// What is shown of each rule.
+const RULES: [(Rule, &str); 10] = [
+    (
+        Rule::V1,
+        "a jump's target is no instruction of a later slot",
+    ),
+    (Rule::V2, "nothing follows the last instruction"),
+    (Rule::V3, "a register is read that is unset"),
+    (Rule::V4, "r10 is written"),
+    (
+        Rule::V5,
+        "a place is read where a number is wanted, or a number is the base of a load or store",
+    ),
+    (
+        Rule::V6,
+        "an access does not lie in its region, or a place is moved too far",
+    ),
+    (Rule::V7, "a store goes through a place of the message"),
+    (Rule::V8, "the image's form has no helper of this number"),
+    (Rule::V9, "a helper's argument is not what it wants"),
+    (Rule::V10, "r0 is not a number at EXIT"),
+];
+
+#[test]
+fn rules_shown(rt: HostRuntime) -> Result<(), Fail> {
+    for &(rule, text) in RULES.as_slice() {
+        assert_eq!(rt; format!(in rt.alloc(); "{rule}")?.as_str(), text);
+    }
+    Ok(())
 }
 
 #[test]

@@ -124,7 +124,12 @@ fn errors_shown(rt: HostRuntime) -> Result<(), Fail> {
         rule: regtypes::Rule::V6,
         slot: 4,
     };
-    is_shown(&rt, alloc, verify, "slot 4 breaks V6")?;
+    is_shown(
+        &rt,
+        alloc,
+        verify,
+        "slot 4 breaks V6: an access does not lie in its region, or a place is moved too far",
+    )?;
     is_shown(&rt, alloc, ImageError::Memory, "out of memory")
 }
 

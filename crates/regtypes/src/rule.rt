@@ -1,28 +1,40 @@
 //! The rules of the verifier.
 
+use thiserror::Error;
+
 /// A rule that an instruction can break. The least one is named.
-#[derive(Clone, Copy, Debug, PartialEq, Eq)]
+#[derive(Clone, Copy, Debug, PartialEq, Eq, Error)]
 pub enum Rule {
     /// A jump doesn't lead to an instruction that begins at a later slot.
+    #[error("a jump's target is no instruction of a later slot")]
     V1,
     /// The end of the image follows.
+    #[error("nothing follows the last instruction")]
     V2,
     /// A register that is not set is read.
+    #[error("a register is read that is unset")]
     V3,
     /// r10 is written.
+    #[error("r10 is written")]
     V4,
     /// A place is read where a number is wanted, or a number is the base of a load or store.
+    #[error("a place is read where a number is wanted, or a number is the base of a load or store")]
     V5,
     /// A load or store leaves its region, or a place is moved out of 16 bits and a sign.
+    #[error("an access does not lie in its region, or a place is moved too far")]
     V6,
     /// The message is written.
+    #[error("a store goes through a place of the message")]
     V7,
     /// No helper of the image's form has this number.
+    #[error("the image's form has no helper of this number")]
     V8,
     /// A helper's argument isn't the number, the place of 64 bytes, or the place with a length,
     /// that it takes.
+    #[error("a helper's argument is not what it wants")]
     V9,
     /// r0 isn't a number at the end.
+    #[error("r0 is not a number at EXIT")]
     V10,
 }
 

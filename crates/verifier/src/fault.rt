@@ -9,7 +9,7 @@ pub enum VerifyError {
     #[error("out of memory")]
     Memory,
     /// The code breaks a rule.
-    #[error("slot {slot} breaks {rule:?}")]
+    #[error("slot {slot} breaks {rule:?}: {rule}")]
     Fault {
         /// The least rule that the slot breaks.
         rule: regtypes::Rule,
@@ -74,7 +74,7 @@ pub enum ImageError {
         slot: usize,
     },
     /// The code isn't typable.
-    #[error("slot {slot} breaks {rule:?}")]
+    #[error("slot {slot} breaks {rule:?}: {rule}")]
     Verify {
         /// The least rule that the slot breaks.
         rule: regtypes::Rule,
