@@ -11,6 +11,7 @@ use Rattle.world.specs.Logs.{state_of, length_of}
 use Rattle.machine.specs.Saving.{IsSavedOf}
 use Rattle.scenario.specs.Trace.{trace_text}
 use Rattle.sessions.specs.Journal.{TheSession, is_exact, world_at}
+use Rattle.service.specs.Service.{KeepsPromises}
 use Rattle.embed_session.specs.declared.fault.Fault.{Fault}
 use Rattle.embed_session.specs.declared.fault.Fault.TheVariants.{Session, Handle, Room, Absent}
 
@@ -29,6 +30,10 @@ IsInside s p = (1 ≤ p) × (p ≤ length s.images)
 -- the handle is open, and this holds of its session
 abbrev pub OfOpen : Option TheSession → (TheSession → Type 0) → Type 0
 OfOpen handle holds = (s : TheSession) × (handle ≡ Some s) × holds s
+
+-- the same of a session that keeps what is promised of it
+abbrev pub OfPromised : Option TheSession → (TheSession → Type 0) → Type 0
+OfPromised handle holds = OfOpen handle (λ s. KeepsPromises s × holds s)
 
 -- why nothing is told of a process: the handle is closed, or there is no such process
 abbrev pub IsUntold : Option TheSession → ℕ → Fault → Type 0
@@ -71,7 +76,7 @@ IsStanding handle p length phase =
 -- an output that was shown, by its place from 0: its sender, its number and its bytes
 abbrev pub IsShown : Option TheSession → ℕ → ℕ → ℕ → List ℕ → List ℕ → ℕ → Type 0
 IsShown handle k sender ssn old new size =
-    OfOpen handle (λ s. (m : Message) × (slice_get (world_at s).shown k ≡ Some m) × (sender ≡ m.sender) × (ssn ≡ m.ssn) × IsCopied m.payload old new size)
+    OfPromised handle (λ s. (m : Message) × (slice_get (world_at s).shown k ≡ Some m) × (sender ≡ m.sender) × (ssn ≡ m.ssn) × IsCopied m.payload old new size)
 
 -- why none is: there is none of this place, the buffer is too short for it, or the handle is closed
 abbrev pub IsUnshown : Option TheSession → ℕ → List ℕ → List ℕ → ℕ → ℕ → Fault → Type 0
@@ -86,7 +91,7 @@ exact_number s = if is_exact s then 1 else 0
 
 -- the trace of the journal
 abbrev pub IsTraced : Option TheSession → List ℕ → List ℕ → ℕ → Type 0
-IsTraced handle old new size = OfOpen handle (λ s. IsCopied (trace_text s.entries) old new size)
+IsTraced handle old new size = OfPromised handle (λ s. IsCopied (trace_text s.entries) old new size)
 
 -- why it isn't written: memory ran out, the buffer is too short for it, or the handle is closed
 abbrev pub IsUntraced : Option TheSession → List ℕ → List ℕ → ℕ → ℕ → Fault → Type 0

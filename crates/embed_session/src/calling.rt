@@ -39,6 +39,7 @@ pub(crate) fn call(
         return Err(Fault::Handle);
     };
     let answered = service.call(call);
+    service.promises();
     handle.put(service);
     match answered {
         Ok(answer) => {
@@ -62,6 +63,7 @@ pub(crate) fn drive(
         return Err(Fault::Handle);
     };
     let driven = service.drive(budget);
+    service.promises();
     handle.put(service);
     match driven {
         Ok(count) => {

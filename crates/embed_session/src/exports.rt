@@ -6,7 +6,7 @@ ghost use Rattle.embed_session.specs.declared.fault.Fault.TheVariants.{Handle as
 ghost use Rattle.embed_session.specs.Session.{Answers, IsCalled, IsClosed, IsDriven, IsHandedBack, IsHandedIn, IsUncalled, IsUndriven, WasClosed};
 ghost use Rattle.embed_session.specs.Opening.{IsOpened, IsUnopened};
 ghost use Rattle.embed_session.specs.Entries.{AreWritten, IsEntryAt, IsNoEntry};
-ghost use Rattle.embed_session.specs.Reading.{IsReadOf, IsSaved, IsShown, IsStanding, IsState, IsTraced, IsUnreadOf, IsUnshown, IsUntold, IsUntraced, OfOpen, exact_number};
+ghost use Rattle.embed_session.specs.Reading.{IsReadOf, IsSaved, IsShown, IsStanding, IsState, IsTraced, IsUnreadOf, IsUnshown, IsUntold, IsUntraced, OfPromised, exact_number};
 
 use crate::entry::Record;
 use crate::fault::code;
@@ -200,7 +200,7 @@ pub extern "C" fn sblog_session_shown(
 /// Writes 1 where failures came one at a time, else 0.
 #[unsafe(no_mangle)]
 pub extern "C" fn sblog_session_exact(alloc: Global, handle: &mut Handle, answer: &mut u32) -> u32
-    ensures { Answers result (OfOpen handle.old.session.value (λ s. answer.new ≡ exact_number s) × (handle.new.session.value ≡ handle.old.session.value)) (λ why. (why ≡ Closed) × (handle.old.session.value ≡ None) × (handle.new.session.value ≡ handle.old.session.value) × (answer.new ≡ answer.old)) }
+    ensures { Answers result (OfPromised handle.old.session.value (λ s. answer.new ≡ exact_number s) × (handle.new.session.value ≡ handle.old.session.value)) (λ why. (why ≡ Closed) × (handle.old.session.value ≡ None) × (handle.new.session.value ≡ handle.old.session.value) × (answer.new ≡ answer.old)) }
 {
     code(reading::exact(alloc, handle, answer))
 }
@@ -225,7 +225,7 @@ pub extern "C" fn sblog_session_journal(
     handle: &mut Handle,
     count: &mut usize,
 ) -> u32
-    ensures { Answers result (OfOpen handle.old.session.value (λ s. count.new ≡ length s.entries) × (handle.new.session.value ≡ handle.old.session.value)) (λ why. (why ≡ Closed) × (handle.old.session.value ≡ None) × (handle.new.session.value ≡ handle.old.session.value) × (count.new ≡ count.old)) }
+    ensures { Answers result (OfPromised handle.old.session.value (λ s. count.new ≡ length s.entries) × (handle.new.session.value ≡ handle.old.session.value)) (λ why. (why ≡ Closed) × (handle.old.session.value ≡ None) × (handle.new.session.value ≡ handle.old.session.value) × (count.new ≡ count.old)) }
 {
     code(journal::length(alloc, handle, count))
 }
@@ -253,7 +253,7 @@ pub extern "C" fn sblog_session_entries(
     out: &mut [Record],
     count: &mut usize,
 ) -> u32
-    ensures { Answers result (OfOpen handle.old.session.value (λ s. AreWritten (drop from s.entries) out.old out.new count.new) × (handle.new.session.value ≡ handle.old.session.value)) (λ why. (why ≡ Closed) × (handle.old.session.value ≡ None) × (handle.new.session.value ≡ handle.old.session.value) × (out.new ≡ out.old) × (count.new ≡ count.old)) }
+    ensures { Answers result (OfPromised handle.old.session.value (λ s. AreWritten (drop from s.entries) out.old out.new count.new) × (handle.new.session.value ≡ handle.old.session.value)) (λ why. (why ≡ Closed) × (handle.old.session.value ≡ None) × (handle.new.session.value ≡ handle.old.session.value) × (out.new ≡ out.old) × (count.new ≡ count.old)) }
 {
     code(journal::entries(alloc, handle, from, out, count))
 }

@@ -8,8 +8,9 @@ use Rattle.world.specs.declared.answer.Answer.TheVariants.{Kept}
 use Rattle.world.specs.declared.refusal.Refusal.{Refusal}
 use Rattle.world.specs.declared.refusal.Refusal.TheVariants.{NoSuchProcess, Memory}
 use Rattle.machine.specs.Opening.{AreFew}
+use Rattle.theorems.specs.Orphans.{NoOrphan, ShownBegin}
 use Rattle.sessions.specs.Seats.{TheSeat}
-use Rattle.sessions.specs.Journal.{TheSession, Adds, ReturnsTo}
+use Rattle.sessions.specs.Journal.{TheSession, Adds, IsExact, IsLegal, ReturnsTo, world_at}
 
 -- the seat that the program's calls stand for: nobody's, which was answered for each entry
 abbrev pub own_seat : TheSession → TheSeat
@@ -36,3 +37,10 @@ OpensAlone images (Ok s) = AreFew images × (s ≡ record { images = images; ent
 OpensAlone images (Err NoSuchProcess) = ¬ AreFew images
 OpensAlone images (Err Memory) = AreFew images
 OpensAlone images (Err r) = ⊥
+
+-- what is promised of a session: its journal is legal; and where failures came one at a time, each message that was received or shown
+-- is sent by its sender's history, and what was shown is, in order and each once, a beginning of the outputs
+pub record KeepsPromises (s : TheSession) : Type 0 where
+  pub legal : IsLegal s
+  pub no_orphan : IsExact s → NoOrphan (world_at s)
+  pub output_once : IsExact s → ShownBegin (world_at s)

@@ -6,6 +6,7 @@ ghost use Rattle.world.specs.Logs.{state_of, length_of};
 ghost use Rattle.machine.specs.Saving.{IsSavedOf};
 ghost use Rattle.theorems.specs.Orphans.{NoOrphan, ShownBegin};
 ghost use Rattle.sessions.specs.Journal.{IsExact, IsLegal, is_exact, world_at};
+ghost use Rattle.service.specs.Service.{KeepsPromises};
 
 use crate::service::Service;
 use world::{Entry, Message, PhaseName};
@@ -27,6 +28,13 @@ impl Service {
         ensures output_once { IsExact self.now → ShownBegin (world_at self.now) }
     {
         self.journal.as_slice()
+    }
+
+    /// What its type keeps of it, whatever was called before. It does nothing.
+    pub fn promises(&self)
+        ensures { KeepsPromises self.now }
+    {
+        let _entries = self.journal();
     }
 
     /// The state of a process, which is empty while the process is down.
