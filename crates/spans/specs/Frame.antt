@@ -51,11 +51,13 @@ joined_kind (Place State s) (Place State t) = Place State (joined_reach s t)
 joined_kind (Place Stack s) (Place Stack t) = Place Stack (joined_reach s t)
 joined_kind a b = Unset
 
+-- it is known to be a number
 abbrev pub is_num : Kind → Bool
 is_num Unset = false
 is_num (Num s) = true
 is_num (Place r s) = false
 
+-- it is known to be set, a number or a place
 abbrev pub is_set : Kind → Bool
 is_set Unset = false
 is_set (Num s) = true

@@ -73,6 +73,7 @@ set_kind (Place r s) = Some (Place r s)
 abbrev pub near_place : Region → Reach → Option Kind
 near_place r s = if int_le (negsuc 32767) s.lo && int_le s.hi (pos 32767) then Some (Place r s) else None
 
+-- each distance grows by a number from lo to hi
 abbrev pub moved_reach : Reach → ℤ → ℤ → Reach
 moved_reach s lo hi = record { lo = s.lo +ℤ lo; hi = s.hi +ℤ hi }
 
