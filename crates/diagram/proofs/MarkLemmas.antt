@@ -21,22 +21,14 @@ has_one_more n es i d e start old new lt is before written =
     written ∙ ap (λ t. t ++ entry_mark n i e) before
     ∙ append_assoc start (marks_from n 0 (take i es)) (entry_mark n i e)
     ∙ ap (λ t. start ++ t)
-        (ap (λ k. marks_from n 0 (take i es) ++ entry_mark n k e) (sym at)
-        ∙ sym (marks_push n 0 (take i es) e)
-        ∙ ap (λ x. marks_from n 0 (take i es ++ x ∷ [])) is
-        ∙ ap (λ l. marks_from n 0 l) (sym (take_more es i d lt)))
+    (ap (λ k. marks_from n 0 (take i es) ++ entry_mark n k e) (sym at)
+    ∙ sym (marks_push n 0 (take i es) e)
+    ∙ ap (λ x. marks_from n 0 (take i es ++ x ∷ [])) is
+    ∙ ap (λ l. marks_from n 0 l) (sym (take_more es i d lt)))
 
 -- a part stays a part behind more text
 pub has_more : (part text more : List ℕ) → HasPart part text → HasPart part (text ++ more)
 has_more part text more (before, after, is) = (before, after ++ more, ap (λ t. t ++ more) is ∙ append_assoc (before ++ part) after more)
-
--- and before it
-pub has_before : (part text more : List ℕ) → HasPart part text → HasPart part (more ++ text)
-has_before part text more (before, after, is) = (
-  more ++ before,
-  after,
-  ap (λ t. more ++ t) is ∙ sym (append_assoc more (before ++ part) after) ∙ ap (λ t. t ++ after) (sym (append_assoc more before part)),
-)
 
 -- what was just written is a part
 pub has_last : (part text start : List ℕ) → text ≡ start ++ part → HasPart part text

@@ -1,5 +1,5 @@
--- What a picture is as a text, and how large it is.
-use Rattle.std.specs.Prelude.{◌≡◌, ℕ, ◌+◌, ◌*◌, ◌/◌, min, max, List, ◌++◌, codes, decimal}
+-- How large a picture is, and where its columns and lines are.
+use Rattle.std.specs.Prelude.{ℕ, ◌+◌, ◌*◌, ◌/◌, min, max, List, ◌++◌, codes, decimal}
 
 -- where a column is: 44 pixels a column, and 140 after each 40 columns; those from 2^32 - 1 on are in one place
 abbrev pub column_place : ℕ → ℕ
@@ -21,8 +21,3 @@ page_height processes = line_place (min processes 255) + 44 + 124
 abbrev pub head_text : ℕ → ℕ → List ℕ
 head_text width height = codes "<svg xmlns='http://www.w3.org/2000/svg' width='" ++ (decimal width ++ (codes "' height='" ++ (decimal height
     ++ (codes "' viewBox='0 0 " ++ (decimal width ++ (codes " " ++ (decimal height ++ codes "'>\n")))))))
-
--- one element `svg`, as large as the picture of so many processes and entries, with something inside
-abbrev pub IsPicture : ℕ → ℕ → List ℕ → Type 0
-IsPicture processes entries text =
-    (inside : List ℕ) × (text ≡ head_text (page_width entries) (page_height processes) ++ inside ++ codes "</svg>\n")

@@ -3,7 +3,8 @@
 ghost use Rattle.std.specs.Prelude.{◌≡◌, ◌++◌, IfOk, OnOk, length, min, string_bytes};
 ghost use Rattle.indexmap.specs.IndexMap.{index_map_len};
 ghost use Rattle.diagram.specs.Marks.{HasPart, marks_from};
-ghost use Rattle.diagram.specs.Page.{IsPicture, column_place, head_text, line_place, page_height, page_width};
+ghost use Rattle.diagram.specs.Picture.{IsPicture};
+ghost use Rattle.diagram.specs.Page.{column_place, head_text, line_place, page_height, page_width};
 
 use crate::ink::{Point, push_count, push_line, push_text};
 use crate::legend::{LEGEND, LEGEND_HEIGHT, LEGEND_WIDTH, STYLE};
@@ -58,9 +59,7 @@ pub fn draw(
     processes: &IndexMap<String, Process>,
     entries: &[Entry],
 ) -> Result<String, AllocError>
-    ensures whole { IfOk result (λ text. IsPicture (index_map_len processes.now) (length entries.now) (string_bytes text)) }
-    // Each entry's mark stands in its column and on its line, with its labels.
-    ensures marks { IfOk result (λ text. HasPart (marks_from (min (index_map_len processes.now) 255) 0 entries.now) (string_bytes text)) }
+    ensures { IfOk result (λ text. IsPicture (index_map_len processes.now) entries.now (string_bytes text)) }
 {
     let inside = drawing(alloc, processes, entries)?;
     let width = page_width(entries.len());

@@ -1,6 +1,6 @@
 -- The command `draw` (docs/FORMATS.md, "Commands").
 use Rattle.std.specs.Prelude.{ℕ, List, length}
-use Rattle.diagram.specs.Page.{IsPicture}
+use Rattle.diagram.specs.Picture.{IsPicture}
 use Rattle.runner.specs.Run.{IsJournal}
 use Rattle.verifier.specs.Typed.{Typed}
 use Rattle.world.specs.declared.entry.Entry.{Entry}
@@ -16,4 +16,4 @@ pub record IsDrawn (content : Content) (bytes text : List ℕ) : Type 0 where
   pub staged : IsStaged content All bytes scenario images
   pub entries : List Entry
   pub journal : IsJournal images scenario.steps.items entries
-  pub picture : IsPicture (length scenario.processes.entries) (length entries) text
+  pub picture : IsPicture (length scenario.processes.entries) entries text

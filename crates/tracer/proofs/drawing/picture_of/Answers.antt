@@ -1,6 +1,6 @@
 use Rattle.std.proofs.Common.{List, length, map, string_bytes, subst}
 use Rattle.std.specs.Arc.{arc_value}
-use Rattle.diagram.specs.Page.{IsPicture}
+use Rattle.diagram.specs.Picture.{IsPicture}
 use Rattle.scenario.specs.declared.order.Allowed.TheVariants.{All}
 use Rattle.world.specs.declared.entry.Entry.{Entry}
 use Rattle.tracer.proofs.StageLemmas.{are_few, staged}
@@ -21,5 +21,5 @@ returns-clause-drawn g c = λ known there.
       staged = staged (g.F.Files.content c.args.files.now) All c.args.path.now known s images c.in_ok-scenario.ensures.staged there;
       entries = c.in_ok-entries.entries.items;
       journal = c.in_ok-entries.ensures;
-      picture = subst (λ (es : List Entry). IsPicture (length s.processes.entries) (length es) (string_bytes c.in_ok-text.text)) c.as_slice.ensures.value c.in_ok-text.ensures;
+      picture = subst (λ (es : List Entry). IsPicture (length s.processes.entries) es (string_bytes c.in_ok-text.text)) c.as_slice.ensures.value c.in_ok-text.ensures;
     }
