@@ -3,7 +3,7 @@ use Rattle.std.proofs.Common.{◌≡◌, ◌≢◌, ℕ, zero, suc, ◌+◌, ◌
 use Rattle.std.specs.Prelude.{if◌then◌else◌, ◌==◌, ◌&&◌, ◌||◌, not, nat_lt, nat_le, Option, Some, None, is_some, count_by, slice_index_or, option_and_then, IfNone, IfSome}
 use Rattle.std.proofs.lemmas.Bool.Decides.{nat_tests}
 use Rattle.std.proofs.lemmas.List.{length-map, get_or_default}
-use Rattle.rsn.specs.Receipts.{numbers_from, numbers_of, judged, run_of}
+use Rattle.rsn.specs.Receipts.{numbers_from, numbers_of, judged, run_of, acknowledged_of}
 use Rattle.rsn.specs.declared.receipts.Judgement.{Judgement}
 use Rattle.rsn.specs.declared.receipts.Judgement.TheVariants.{Next, Duplicate, Early}
 use Rattle.sender_log.specs.Queue.{is_logged}
@@ -30,7 +30,8 @@ use Rattle.machine.specs.Simulation.{TheMachine, StandsAt, Stands, process_at, l
 use Rattle.machine.specs.Sending.{busy, live, placing, released_at}
 use Rattle.machine.specs.Picking.{IsPick, ArePeers, next_ssn}
 use Rattle.machine.proofs.ReceiptLemmas.{senders, length-numbers, rsn_from-numbers}
-use Rattle.machine.proofs.NumberLemmas.{numbers_from-above, numbers_from-within, numbers_from-ascend, run_of-ends, rsn_from-none}
+use Rattle.rsn.proofs.ReceiptLemmas.{numbers_from-above, numbers_from-within, flag-at}
+use Rattle.machine.proofs.NumberLemmas.{run_of-ends, rsn_from-none}
 use Rattle.machine.proofs.Standing.{wire-is, key-low, at_process, up_is, up_at, down_at, held-live, is_live-at, entry_at, released_is}
 use Rattle.machine.proofs.Causes.{transmit-outside, transmit-same, transmit-rest}
 use Rattle.machine.proofs.ReplayCauses.{replay-outside, resync-outside}
@@ -106,15 +107,15 @@ module _ (m : TheMachine) (w : World) (s : Stands m w) (from to : ℕ) (inside :
         by_place false e true = unknown (grind (arith, nat_tests))
         by_place false e false = unknown (grind (arith, nat_tests))
 
-    -- a number that isn't acknowledged is one of the sender's, and is behind the run
-    pub unacknowledged : is_unacknowledged (w.acknowledged to) (rsn_of (w.history to) from i) ≡ true → (i ≤ length numbers) × (run_of (process_at m to).receipts.acknowledged < slice_index_or numbers (i - 1) 0)
+    -- one that isn't acknowledged is one of the sender's, and is behind its run
+    pub unacknowledged : is_unacknowledged (w.acknowledged to) (rsn_of (w.history to) from i) ≡ true → (i ≤ length numbers) × (run_of (acknowledged_of from (process_at m to).receipts) < i)
     unacknowledged e = by_place (nat_lt (i - 1) (length numbers)) refl
       where
         open_flag : (b : Bool) → not b ≡ true → b ≡ false
         open_flag true f = absurd (cc)
         open_flag false f = refl
 
-        by_place : (b : Bool) → nat_lt (i - 1) (length numbers) ≡ b → (i ≤ length numbers) × (run_of (process_at m to).receipts.acknowledged < slice_index_or numbers (i - 1) 0)
+        by_place : (b : Bool) → nat_lt (i - 1) (length numbers) ≡ b → (i ≤ length numbers) × (run_of (acknowledged_of from (process_at m to).receipts) < i)
         by_place true l =
             let below : i - 1 < length numbers = grind (arith, nat_tests) in
             let x = slice_index_or numbers (i - 1) 0 in
@@ -122,8 +123,8 @@ module _ (m : TheMachine) (w : World) (s : Stands m w) (from to : ℕ) (inside :
             let high : x ≤ 0 + length (process_at m to).receipts.senders = numbers_from-within from 0 (process_at m to).receipts.senders (i - 1) below in
             let flag : w.acknowledged to x ≡ false = open_flag (w.acknowledged to x) (rw (known below) at e) in
             let open_at : slice_index_or (process_at m to).receipts.acknowledged (x - 1) false ≡ false = flag-is m w s to inside within x (omega arith) (omega arith) ∙ flag in
-            let run = run_of-ends (process_at m to).receipts.acknowledged (x - 1) open_at in
-            (omega (arith, below), omega (arith, run, low))
+            let run = run_of-ends (acknowledged_of from (process_at m to).receipts) (i - 1) (flag-at numbers (process_at m to).receipts.acknowledged (i - 1) below ∙ open_at) in
+            (omega (arith, below), omega (arith, run))
         by_place false l = let none = unknown (grind (arith, nat_tests)) in absurd (true≢false (sym (rw none at e)))
 
 -- What a receiver wants
@@ -202,7 +203,7 @@ by_listing {P} m w keys s listed here elsewhere key = by_slot (slice_index_or m.
     by_slot : (o : Option Packet) → slice_index_or m.slots key None ≡ o → P key
     by_slot None e = elsewhere key (s.shows.wire key ∙ e)
     by_slot (Some k) e =
-        let (place, below, at) = listed key k e in
+        let (place, below, at) = listed.all key k e in
         subst P (get_or_default keys place 0 key below ∙ at) (here place below)
 
 -- and none does where none under a listed key does
@@ -287,8 +288,8 @@ module _ (m : TheMachine) (w : World) (s : Stands m w) (room from to i : ℕ) (p
     pub useful-pick : ((key : ℕ) → 4096 ≤ key → slice_index_or m.slots key None ≡ None) → placing m room ≡ None → IsPick w room (Transmit from to i)
     useful-pick keys free = record { useful = useful; accepted = useful-place keys ∙ ap (option_and_then cause_of) free }
 
-    -- one that isn't the next of its sender is one whose number is behind the run
-    pub useful-again : 0 < to → i ≢ next_ssn w from to → (i ≤ length (numbers_of from (process_at m to).receipts)) × (run_of (process_at m to).receipts.acknowledged < slice_index_or (numbers_of from (process_at m to).receipts) (i - 1) 0)
+    -- one that isn't the next of its sender is one that is behind the sender's run
+    pub useful-again : 0 < to → i ≢ next_ssn w from to → (i ≤ length (numbers_of from (process_at m to).receipts)) × (run_of (acknowledged_of from (process_at m to).receipts) < i)
     useful-again inside apart =
         unacknowledged m w s from to inside peers.to_within peers.to_up i useful-first (sym (wants-other m w s from to i inside peers.to_within peers.to_up useful-first apart) ∙ useful-wanted)
 
@@ -328,24 +329,13 @@ below-more P n top first here above i over under = by_place (n == i) refl
     by_place true e = let same : n ≡ i = grind (arith, nat_tests) in subst P same here
     by_place false e = above i (grind (arith, nat_tests)) under
 
--- where the number of n is in the run, none up to n is wanted again
-pub run-passes : (m : TheMachine) (w : World) (s : Stands m w) (from to n i : ℕ) → ArePeers m from to → 0 < to → n ≤ length (numbers_of from (process_at m to).receipts)
-    → slice_index_or (numbers_of from (process_at m to).receipts) (n - 1) 0 ≤ run_of (process_at m to).receipts.acknowledged
+-- none in the sender's run is wanted again
+pub run-passes : (m : TheMachine) (w : World) (s : Stands m w) (from to n i : ℕ) → ArePeers m from to → 0 < to → n ≤ run_of (acknowledged_of from (process_at m to).receipts)
     → ((j : ℕ) → n < j → j ≤ length (numbers_of from (process_at m to).receipts) → is_useful w (Transmit from to j) ≢ true)
     → i ≢ next_ssn w from to → is_useful w (Transmit from to i) ≢ true
-run-passes m w s from to n i peers inside within low above apart useful =
-    by_place (nat_lt n i) refl
-  where
-    again : (i ≤ length (numbers_of from (process_at m to).receipts)) × (run_of (process_at m to).receipts.acknowledged < slice_index_or (numbers_of from (process_at m to).receipts) (i - 1) 0)
-    again = useful-again m w s 0 from to i peers useful inside apart
-
-    by_place : (b : Bool) → nat_lt n i ≡ b → ⊥
-    by_place true e = above i (grind (arith, nat_tests)) again.0 useful
-    by_place false e =
-        let upto : i ≤ n = grind (arith, nat_tests) in
-        let first : 0 < i = useful-first m w s 0 from to i peers useful in
-        let ascend = numbers_from-ascend from 0 (process_at m to).receipts.senders (i - 1) (n - 1) (omega arith) (omega arith) in
-        absurd (omega (arith, ascend, again.1, low))
+run-passes m w s from to n i peers inside low above apart useful =
+    let again = useful-again m w s 0 from to i peers useful inside apart in
+    above i (omega (arith, low, again.1)) again.0 useful
 
 free-place : (full crowded : Bool) → option_and_then cause_of (if full then Some JournalFull else (if crowded then Some WireFull else None)) ≡ None → (if full then Some JournalFull else (if crowded then Some WireFull else None)) ≡ None
 free-place true b e = absurd (cc)

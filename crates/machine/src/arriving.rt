@@ -69,13 +69,13 @@ impl Machine {
         ensures cause { (w : World) → Stands self.now w → refusal_of w room (Call.Arrive key) ≡ option_and_then cause_of result }
         ensures told { IsTold result }
     {
-        let Some(packet) = self.wire.get(key) else {
+        let Some(packet) = self.wire.peek(key) else {
             return Some(Refusal::NoPacket);
         };
-        if self.is_to_busy(&packet) {
+        if self.is_to_busy(packet) {
             return Some(Refusal::Busy);
         }
-        if room <= self.open_jobs() + self.started_by(&packet) {
+        if room <= self.open_jobs() + self.started_by(packet) {
             return Some(Refusal::JournalFull);
         }
         None

@@ -146,8 +146,8 @@ impl Machine {
         self.wanted_again(from, to)
     }
 
-    // The SSN of one that the receiver has, the last one first. Those whose numbers are in the run of
-    // acknowledged ones aren't looked at.
+    // The SSN of one that the receiver has, the last one first. Those that are acknowledged without a
+    // gap, among the messages of this sender, aren't looked at.
     fn wanted_again(&self, from: u8, to: u8) -> Option<u32>
         requires peers { ArePeers self.now from to }
         requires inside { 0 < to }
@@ -155,10 +155,9 @@ impl Machine {
         ensures none { IfNone result ((w : World) → Stands self.now w → (ssn : ℕ) → ssn ≢ next_ssn w from to → is_useful w (Call.Transmit from to ssn) ≢ true) }
     {
         let receipts = self.process(to).receipts();
-        let numbers = receipts.numbers(from);
-        let run = receipts.run_length();
+        let run = receipts.run_length_of(from);
         let mut ssn = receipts.next(from) - 1;
-        while ssn > 0 && numbers[ssn as usize - 1] > run {
+        while ssn > run {
             if self.is_wanted(from, to, ssn) {
                 return Some(ssn);
             }
@@ -235,8 +234,8 @@ impl Machine {
         ensures { (w : World) → Stands self.now w → result ≡ any_below (λ key. belongs w from to ssn (w.wire key)) WIRE }
     {
         for key in self.wire.keys() {
-            if let Some(packet) = self.wire.get(*key) {
-                if self.belongs(from, to, ssn, &packet) {
+            if let Some(packet) = self.wire.peek(*key) {
+                if self.belongs(from, to, ssn, packet) {
                     return true;
                 }
             }

@@ -1,7 +1,7 @@
 //! The packets on the wire, each under a key.
 
-ghost use Rattle.std.specs.Prelude.{◌≡◌, ◌<◌, ◌≤◌, [], length, Some, None, is_some, IsSome, IfOk, OnErr, slice_index_or, count_by};
-ghost use Rattle.machine.specs.Wire.{Puts, AreListed};
+ghost use Rattle.std.specs.Prelude.{◌≡◌, ◌<◌, ◌≤◌, ℕ, [], length, Some, None, is_some, IsSome, IfOk, OnErr, option_copied, slice_index_or, count_by};
+ghost use Rattle.machine.specs.Wire.{Puts, Ascend, AreListed};
 
 use slab::Slab;
 use std::alloc::{AllocError, Global};
@@ -50,14 +50,21 @@ impl Wire {
         self.slab.len()
     }
 
-    /// The keys under which packets lie.
+    /// The keys under which packets lie, the least one first.
     pub fn keys(&self) -> &[usize]
         ensures { AreListed self.now result.now }
     {
         self.keys.as_slice()
     }
 
-    /// The packet under this key.
+    /// The packet under this key, where it lies.
+    pub fn peek(&self, key: usize) -> Option<&Packet>
+        ensures { option_copied result ≡ slice_index_or self.now key None }
+    {
+        self.slab.get(key)
+    }
+
+    /// A copy of it.
     pub fn get(&self, key: usize) -> Option<Packet>
         ensures { result ≡ slice_index_or self.now key None }
     {
@@ -94,17 +101,19 @@ impl Wire {
     pub fn remove(&mut self, key: usize)
         ensures { Puts self.old self.new key (slice_index_or self.old key None) None }
     {
-        self.slab.try_remove(key);
-        let place = rank(self.keys.as_slice(), key);
-        if place < self.keys.len() && self.keys[place] == key {
+        if self.slab.try_remove(key).is_some() {
+            let place = rank(self.keys.as_slice(), key);
             self.keys.remove(place);
         }
     }
 }
 
-/// How many of these keys, which ascend, are below this one.
+/// How many of these keys are below this one.
 fn rank(keys: &[usize], key: usize) -> usize
-    ensures { result ≤ length keys.now }
+    requires { Ascend keys.now }
+    ensures within { result ≤ length keys.now }
+    ensures below { (i : ℕ) → i < result → slice_index_or keys.now i 0 < key }
+    ensures above { (i : ℕ) → result ≤ i → i < length keys.now → key ≤ slice_index_or keys.now i 0 }
 {
     keys.partition_point(|other| *other < key)
 }

@@ -1,5 +1,5 @@
 use Rattle.std.proofs.Common.{rules, ◌≡◌, ◌≢◌, ◌≤◌, ℕ, length, slice_index_or, ap, sym, ◌∙◌, arith}
-use Rattle.std.specs.Prelude.{None, insert}
+use Rattle.std.specs.Prelude.{None, Some, insert}
 use Rattle.std.proofs.lemmas.Grind.{common_steps}
 use Rattle.slab.specs.Slab.{Slab}
 use Rattle.world.specs.declared.packet.Packet.{Packet}
@@ -13,8 +13,11 @@ invariant_of-self-2 c =
     let keys = c.self.inside.keys.items in
     let place = c.rank-place.result in
     let key = c.vacant_key-key.result in
-    let within : place ≤ length keys = first_of (search rules, grind (arith, common_steps)) in
+    let same : c.insert_reserved.result ≡ key = c.insert_reserved.ensures.key ∙ sym c.vacant_key-key.ensures.value in
     let others : (other : ℕ) → other ≢ key → slice_index_or new other None ≡ slice_index_or old other None =
-    λ other differ. c.insert_reserved.ensures.updates.others other (λ same. differ (same ∙ c.insert_reserved.ensures.key ∙ sym c.vacant_key-key.ensures.value)) ∙ ap (λ (s : Slab Packet). slice_index_or s.slots other None) c.reserve.ensures.rest_kept in
+    λ other differ. c.insert_reserved.ensures.updates.others other (λ e. differ (e ∙ same)) ∙ ap (λ (s : Slab Packet). slice_index_or s.slots other None) c.reserve.ensures.rest_kept in
+    let vacant : slice_index_or old key None ≡ None = ap (λ (s : Slab Packet). slice_index_or s.slots key None) (sym c.reserve.ensures.rest_kept) ∙ ap (λ k. slice_index_or c.reserve.new.self.slots k None) (sym same) ∙ c.insert_reserved.ensures.was_vacant in
+    let now : slice_index_or new key None ≡ Some c.args.packet = ap (λ k. slice_index_or new k None) (sym same) ∙ c.insert_reserved.ensures.updates.changed in
     let is : c.insert.new.self.items ≡ insert keys place key = first_of (search rules, grind (arith, common_steps)) in
-    rw is (listed-insert old new keys place key within others c.self.invariant)
+    let order = c.rank-place.ensures in
+    rw is (listed-insert old new keys place key c.args.packet (rw c.as_slice.ensures.value at order.within) (rw c.as_slice.ensures.value at order.below) (rw c.as_slice.ensures.value at order.above) vacant now others c.self.invariant)
