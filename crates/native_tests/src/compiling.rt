@@ -48,7 +48,7 @@ const RELAY_CODE: [u8; 235] = [
 ];
 
 /// The machine code of an image's bytes. `None`: they are refused, or there is no code for them.
-fn code_of(alloc: Global, bytes: &[u8]) -> Result<Option<Vec<u8>>, Fail> {
+pub(crate) fn code_of(alloc: Global, bytes: &[u8]) -> Result<Option<Vec<u8>>, Fail> {
     let Ok(image) = load(alloc, bytes) else {
         return Ok(None);
     };
