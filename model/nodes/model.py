@@ -1,8 +1,8 @@
 #!/usr/bin/env python3
 """A model of nodes (docs/CLUSTER.md): the rules of node.py, run at random with kills, and the promises asserted on the way.
 
-    examples/nodes/model.py [RUNS]            all rules: no promise is broken
-    examples/nodes/model.py left-out [RUNS]   leaves out one rule after the other, and tells how many runs notice it
+    model/nodes/model.py [RUNS]            all rules: no promise is broken
+    model/nodes/model.py left-out [RUNS]   leaves out one rule after the other, and tells how many runs notice it
 
 It shares nothing with the proofs. Seeds are 1, 2, 3 and so on, so that a run is the same each time."""
 import random
