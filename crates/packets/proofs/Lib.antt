@@ -1,0 +1,5 @@
+pub mod ChecksumLemmas
+pub mod Counted
+pub mod Codecs
+pub mod BodyLemmas
+pub mod WholeLemmas

@@ -1,0 +1,431 @@
+-- The laws of packets: what is read is written so, what is written so is read, and a refusal is the first fault
+use Rattle.std.proofs.Common.{◌≡◌, ℕ, zero, suc, ◌+◌, ◌-◌, ◌^◌, ◌<◌, ◌≤◌, Bool, true, false, cond, eqb, ltb, List, [], ◌∷◌, ◌++◌, length, get_or, take, drop, Option, Some, None, Result, Ok, Err, refl, sym, ap, subst, ◌∙◌, append_assoc, arith, inl, inr, ◌⊎◌}
+use Rattle.std.specs.Prelude.{◌≢◌, not, ◌||◌, nat_lt, nat_eq, IfOk, IfErr, slice_index}
+use Rattle.std.specs.Cmp.Lexicographic.{pointwise, same_text, other_text}
+use Rattle.std.proofs.lemmas.Bool.{ltb-false, ltb-true, le-ltb, eqb-true, eqb-false, eq-eqb, ne_eqb, cases_lt}
+use Rattle.std.proofs.lemmas.List.{take_at, drop_at, take-append-drop, length-append, length-take}
+use Rattle.byteorder.specs.Endian.{little_bytes, little_number}
+use Rattle.packets.specs.declared.kind.Kind as the_kind
+use Rattle.packets.specs.declared.kind.Kind.TheVariants as kinds
+use Rattle.packets.specs.declared.head.Head.{Head}
+use Rattle.packets.specs.declared.packet.Body.{Body}
+use Rattle.packets.specs.declared.packet.Packet.{Packet}
+use Rattle.packets.specs.declared.fault.PacketFault.{PacketFault}
+use Rattle.packets.specs.declared.fault.PacketFault.TheVariants.{Short, Magic, Checksum, Kind, Count, Ends, Fields, Range}
+use Rattle.packets.specs.declared.fault.PacketError.{PacketError}
+use Rattle.packets.specs.declared.fault.PacketError.TheVariants as errors
+use Rattle.packets.specs.Checksum.{crc32c}
+use Rattle.packets.specs.Packet.{kind_number, kind_at, kind_of, in_range}
+use Rattle.packets.specs.Format.{magic, body_bytes, unsealed, packet_bytes, checksum_bytes, HasRoom, Fits, IsPacket}
+use Rattle.packets.specs.Faults.{fault_number, fields_of, Spells, HasFault, IsFirst, IsReason, Reads}
+use Rattle.packets.specs.Laws.{IsOnePacket}
+use Rattle.packets.specs.Inside.Reading.{◌>>=◌, Gives, body_at, fields_at, known, head_in_range, head_at, packet_of, reading}
+use Rattle.packets.proofs.Codecs.{IsBytes, IsBytes-drop, IsBytes-take, bind_ok, passed_ok, passed, err_is, bind_err, cond_err, done, ok_is, back_4, number_again}
+use Rattle.packets.proofs.BodyLemmas.{IsBody, body_found, body_again, body_fails}
+
+-- ---- kinds
+
+kind_again : (k : the_kind.Kind) → kind_at (kind_number k) ≡ Some k
+kind_again kinds.Delivery = refl
+kind_again kinds.Number = refl
+kind_again kinds.Acknowledgement = refl
+kind_again kinds.Ask = refl
+kind_again kinds.Told = refl
+kind_again kinds.Resume = refl
+kind_again kinds.Restored = refl
+kind_again kinds.Saved = refl
+
+some_is : {A : Type 0} (x y : A) → Some x ≡ Some y → x ≡ y
+some_is x y e = cc
+
+one_kind : (k l : the_kind.Kind) → kind_number k ≡ kind_number l → k ≡ l
+one_kind k l e = some_is k l (sym (kind_again k) ∙ ap kind_at e ∙ kind_again l)
+
+picked : (b : Bool) (x k : the_kind.Kind) (rest : Option the_kind.Kind) → cond b (Some x) rest ≡ Some k → ((b ≡ true) × (x ≡ k)) ⊎ (rest ≡ Some k)
+picked true x k rest e = inl (refl, some_is x k e)
+picked false x k rest e = inr e
+
+this_or : (n : ℕ) (x k : the_kind.Kind) (rest : Option the_kind.Kind) → (rest ≡ Some k → kind_number k ≡ n) → cond (eqb n (kind_number x)) (Some x) rest ≡ Some k → kind_number k ≡ n
+this_or n x k rest others e =
+    elim (picked (eqb n (kind_number x)) x k rest e) [
+      | inl h ↦ ap kind_number (sym h.1) ∙ sym (eqb-true n (kind_number x) h.0)
+      | inr h ↦ others h
+    ]
+
+none_is : (n : ℕ) (k : the_kind.Kind) → None ≡ Some k → kind_number k ≡ n
+none_is n k e = absurd cc
+
+kind_found : (n : ℕ) (k : the_kind.Kind) → kind_at n ≡ Some k → kind_number k ≡ n
+kind_found n k = this_or n kinds.Delivery k _ (this_or n kinds.Number k _ (this_or n kinds.Acknowledgement k _ (this_or n kinds.Ask k _
+    (this_or n kinds.Told k _ (this_or n kinds.Resume k _ (this_or n kinds.Restored k _ (this_or n kinds.Saved k _ (none_is n k))))))))
+
+-- ---- faults before others
+
+fault_at : ℕ → PacketFault
+fault_at (suc zero) = Short
+fault_at (suc (suc zero)) = Magic
+fault_at (suc (suc (suc zero))) = Checksum
+fault_at (suc (suc (suc (suc zero)))) = Kind
+fault_at (suc (suc (suc (suc (suc zero))))) = Count
+fault_at (suc (suc (suc (suc (suc (suc zero)))))) = Ends
+fault_at (suc (suc (suc (suc (suc (suc (suc zero))))))) = Fields
+fault_at _ = Range
+
+fault_again : (f : PacketFault) → fault_at (fault_number f) ≡ f
+unfolding fault_at
+fault_again Short = refl
+fault_again Magic = refl
+fault_again Checksum = refl
+fault_again Kind = refl
+fault_again Count = refl
+fault_again Ends = refl
+fault_again Fields = refl
+fault_again Range = refl
+
+-- no fault below this number
+abbrev Clear : ℕ → List ℕ → Type 0
+Clear n bytes = (g : PacketFault) → fault_number g < n → ¬ HasFault g bytes
+
+clear_none : (bytes : List ℕ) → Clear 1 bytes
+clear_none bytes g lt = absurd (no g lt)
+  where
+    no : (g : PacketFault) → fault_number g < 1 → ⊥
+    no Short lt = omega arith
+    no Magic lt = omega arith
+    no Checksum lt = omega arith
+    no Kind lt = omega arith
+    no Count lt = omega arith
+    no Ends lt = omega arith
+    no Fields lt = omega arith
+    no Range lt = omega arith
+
+clear_more : (f : PacketFault) (bytes : List ℕ) → Clear (fault_number f) bytes → ¬ HasFault f bytes → Clear (suc (fault_number f)) bytes
+clear_more f bytes clear absent g lt =
+    elim (cases_lt (fault_number g) (fault_number f)) [
+      | inl below ↦ clear g below
+      | inr le ↦
+          let same : fault_number f ≡ fault_number g = omega arith in
+          let is : f ≡ g = sym (fault_again f) ∙ ap fault_at same ∙ fault_again g in
+          subst (λ (h : PacketFault). ¬ HasFault h bytes) is absent
+    ]
+
+-- ---- magic and checksum
+
+record Sealed (bytes fields : List ℕ) : Type 0 where
+  long : 12 ≤ length bytes
+  magical : take 4 bytes ≡ magic
+  summed : little_number 4 (drop (length bytes - 4) bytes) ≡ crc32c (take (length bytes - 4) bytes)
+  fields_are : fields ≡ fields_of bytes
+
+turned : (b : Bool) → not b ≡ false → b ≡ true
+turned true e = refl
+turned false e = absurd cc
+
+turned_back : (b : Bool) → not b ≡ true → b ≡ false
+turned_back true e = absurd cc
+turned_back false e = refl
+
+sealed : (bytes fields : List ℕ) → fields_at bytes ≡ Ok fields → Sealed bytes fields
+unfolding fields_at
+sealed bytes fields e =
+    let a = passed (nat_lt (length bytes) 12) Short _ fields e in
+    let b = passed (not (pointwise nat_eq (take 4 bytes) magic)) Magic _ fields a.1 in
+    let c = passed (not (eqb (little_number 4 (drop (length bytes - 4) bytes)) (crc32c (take (length bytes - 4) bytes)))) Checksum _ fields b.1 in
+    record {
+      long = ltb-false _ _ a.0;
+      magical = same_text (take 4 bytes) magic (sym (turned _ b.0));
+      summed = eqb-true _ _ (turned _ c.0);
+      fields_are = sym (ok_is (fields_of bytes) fields c.1);
+    }
+
+sealed_clear : (bytes fields : List ℕ) → Sealed bytes fields → Clear 4 bytes
+sealed_clear bytes fields s =
+    clear_more Checksum bytes (clear_more Magic bytes (clear_more Short bytes (clear_none bytes) (λ h. omega (arith, h, s.long))) (λ h. h s.magical)) (λ h. h s.summed)
+
+sealed_refused : (bytes : List ℕ) (f : PacketFault) → fields_at bytes ≡ Err f → IsFirst f bytes
+unfolding fields_at
+sealed_refused bytes f e =
+    elim (cond_err (nat_lt (length bytes) 12) Short _ f e) [
+      | inl h ↦ subst (λ (g : PacketFault). IsFirst g bytes) h.1 (record { holds = ltb-true _ _ h.0; first = clear_none bytes })
+      | inr a ↦
+          let c1 : Clear 2 bytes = clear_more Short bytes (clear_none bytes) (λ h. let long : 12 ≤ length bytes = ltb-false _ _ a.0 in omega (arith, h, long)) in
+          elim (cond_err (not (pointwise nat_eq (take 4 bytes) magic)) Magic _ f a.1) [
+            | inl h ↦ subst (λ (g : PacketFault). IsFirst g bytes) h.1 (record { holds = other_text (take 4 bytes) magic (sym (turned_back _ h.0)); first = c1 })
+            | inr b ↦
+                let c2 : Clear 3 bytes = clear_more Magic bytes c1 (λ h. h (same_text (take 4 bytes) magic (sym (turned _ b.0)))) in
+                elim (cond_err (not (eqb (little_number 4 (drop (length bytes - 4) bytes)) (crc32c (take (length bytes - 4) bytes)))) Checksum _ f b.1) [
+                  | inl h ↦ subst (λ (g : PacketFault). IsFirst g bytes) h.1 (record { holds = eqb-false _ _ (turned_back _ h.0); first = c2 })
+                  | inr c ↦ let no : done (fields_of bytes) ≡ Err f = c.1 in absurd cc
+                ]
+          ]
+    ]
+
+-- ---- the head
+
+neither : (a b : Bool) → (a || b) ≡ false → (a ≡ false) × (b ≡ false)
+neither false false e = (refl, refl)
+neither false true e = absurd cc
+neither true b e = absurd cc
+
+either : (a b : Bool) → (a || b) ≡ true → (a ≡ true) ⊎ (b ≡ true)
+either true b e = inl refl
+either false b e = inr e
+
+record Headed (bytes : List ℕ) (h : Head) : Type 0 where
+  kind : kind_number h.kind ≡ slice_index bytes 4
+  some : 1 ≤ slice_index bytes 5
+  few : slice_index bytes 5 ≤ 15
+  from : slice_index bytes 6 ≤ slice_index bytes 5
+  to : slice_index bytes 7 ≤ slice_index bytes 5
+  apart : slice_index bytes 6 ≢ slice_index bytes 7
+  count_is : h.count ≡ slice_index bytes 5
+  from_is : h.from ≡ slice_index bytes 6
+  to_is : h.to ≡ slice_index bytes 7
+
+known_ok : (o : Option the_kind.Kind) (k : the_kind.Kind) → known o ≡ Ok k → o ≡ Some k
+known_ok None k e = absurd cc
+known_ok (Some l) k e = ap (λ (m : the_kind.Kind). Some m) (ok_is l k e)
+
+known_err : (o : Option the_kind.Kind) (f : PacketFault) → known o ≡ Err f → (o ≡ None) × (Kind ≡ f)
+known_err None f e = (refl, err_is {A = the_kind.Kind} Kind f e)
+known_err (Some l) f e = absurd cc
+
+headed : (bytes : List ℕ) (h : Head) → head_at bytes ≡ Ok h → Headed bytes h
+unfolding head_at
+headed bytes h e =
+    let n = slice_index bytes 5 in
+    let from = slice_index bytes 6 in
+    let to = slice_index bytes 7 in
+    let k = bind_ok (known (kind_at (slice_index bytes 4))) (λ kind. head_in_range kind n from to) h e in
+    let a = passed (nat_lt n 1 || nat_lt 15 n) Count _ h k.2 in
+    let b = passed (nat_lt n from || (nat_lt n to || eqb from to)) Ends _ h a.1 in
+    let a2 = neither (nat_lt n 1) (nat_lt 15 n) a.0 in
+    let b2 = neither (nat_lt n from) (nat_lt n to || eqb from to) b.0 in
+    let b3 = neither (nat_lt n to) (eqb from to) b2.1 in
+    let h1 : Head = record { kind = k.0; count = n; from = from; to = to } in
+    let here : Headed bytes h1 = record {
+      kind = kind_found (slice_index bytes 4) k.0 (known_ok _ k.0 k.1);
+      some = ltb-false _ _ a2.0;
+      few = ltb-false _ _ a2.1;
+      from = ltb-false _ _ b2.0;
+      to = ltb-false _ _ b3.0;
+      apart = eqb-false _ _ b3.1;
+      count_is = refl;
+      from_is = refl;
+      to_is = refl;
+    } in
+    subst (λ (g : Head). Headed bytes g) (ok_is h1 h b.1) here
+
+headed_clear : (bytes : List ℕ) (h : Head) → Headed bytes h → Clear 4 bytes → Clear 7 bytes
+headed_clear bytes h s clear =
+    clear_more Ends bytes (clear_more Count bytes (clear_more Kind bytes clear (λ no. no h.kind s.kind)) (λ no. no (s.some, s.few))) (λ no. no (s.from, s.to, s.apart))
+
+ends_wrong : (n from to : ℕ) → (nat_lt n from || (nat_lt n to || eqb from to)) ≡ true → ¬ ((from ≤ n) × (to ≤ n) × (from ≢ to))
+ends_wrong n from to e ok =
+    elim (either (nat_lt n from) (nat_lt n to || eqb from to) e) [
+      | inl h ↦ let lt : n < from = ltb-true _ _ h in omega (arith, lt, ok.0)
+      | inr h ↦ elim (either (nat_lt n to) (eqb from to) h) [
+        | inl g ↦ let lt : n < to = ltb-true _ _ g in omega (arith, lt, ok.1)
+        | inr g ↦ ok.2 (eqb-true from to g)
+      ]
+    ]
+
+count_wrong : (n : ℕ) → (nat_lt n 1 || nat_lt 15 n) ≡ true → ¬ ((1 ≤ n) × (n ≤ 15))
+count_wrong n e ok =
+    elim (either (nat_lt n 1) (nat_lt 15 n) e) [
+      | inl h ↦ let lt : n < 1 = ltb-true _ _ h in omega (arith, lt, ok.0)
+      | inr h ↦ let lt : 15 < n = ltb-true _ _ h in omega (arith, lt, ok.1)
+    ]
+
+headed_refused : (bytes : List ℕ) (f : PacketFault) → Clear 4 bytes → head_at bytes ≡ Err f → IsFirst f bytes
+unfolding head_at
+headed_refused bytes f clear e =
+    let n = slice_index bytes 5 in
+    let from = slice_index bytes 6 in
+    let to = slice_index bytes 7 in
+    elim (bind_err (known (kind_at (slice_index bytes 4))) (λ kind. head_in_range kind n from to) f e) [
+      | inl a ↦
+          let none = known_err (kind_at (slice_index bytes 4)) f a in
+          let wrong : HasFault Kind bytes = λ k same. let here : Some k ≡ None = sym (kind_again k) ∙ ap kind_at same ∙ none.0 in absurd cc in
+          subst (λ (g : PacketFault). IsFirst g bytes) none.1 (record { holds = wrong; first = clear })
+      | inr a ↦
+          let c4 : Clear 5 bytes = clear_more Kind bytes clear (λ no. no a.0 (kind_found (slice_index bytes 4) a.0 (known_ok _ a.0 a.1))) in
+          elim (cond_err (nat_lt n 1 || nat_lt 15 n) Count _ f a.2) [
+            | inl h ↦ subst (λ (g : PacketFault). IsFirst g bytes) h.1 (record { holds = count_wrong n h.0; first = c4 })
+            | inr b ↦
+                let two = neither (nat_lt n 1) (nat_lt 15 n) b.0 in
+                let c5 : Clear 6 bytes = clear_more Count bytes c4 (λ no. no (ltb-false _ _ two.0, ltb-false _ _ two.1)) in
+                elim (cond_err (nat_lt n from || (nat_lt n to || eqb from to)) Ends _ f b.1) [
+                  | inl h ↦ subst (λ (g : PacketFault). IsFirst g bytes) h.1 (record { holds = ends_wrong n from to h.0; first = c5 })
+                  | inr c ↦ let no : Ok (let g : Head = record { kind = a.0; count = n; from = from; to = to } in g) ≡ Err f = c.1 in absurd cc
+                ]
+          ]
+    ]
+
+-- ---- the fields
+
+spelled : (bytes fields : List ℕ) (h : Head) (b : Body) → Sealed bytes fields → Headed bytes h → IsBody h.kind fields b → Spells b bytes
+spelled bytes fields h b s t is = record { kind = ap kind_number is.kind_is ∙ t.kind; room = is.room; fields = sym s.fields_are ∙ is.spelled }
+
+read_again : (bytes fields : List ℕ) (h : Head) (b : Body) → Sealed bytes fields → Headed bytes h → Spells b bytes → body_at h.kind fields ≡ Ok b
+read_again bytes fields h b s t is =
+    let same : kind_of b ≡ h.kind = one_kind (kind_of b) h.kind (is.kind ∙ sym t.kind) in
+    let text : fields ≡ body_bytes b = s.fields_are ∙ is.fields in
+    subst (λ (k : the_kind.Kind). body_at k fields ≡ Ok b) same (subst (λ (x : List ℕ). body_at (kind_of b) x ≡ Ok b) (sym text) (body_again b is.room))
+
+chosen_err : (c : Bool) (p : Packet) (f : PacketFault) → cond c (Ok p) (Err Range) ≡ Err f → (c ≡ false) × (Range ≡ f)
+chosen_err true p f e = absurd cc
+chosen_err false p f e = (refl, err_is {A = Packet} Range f e)
+
+pub refused : (bytes : List ℕ) (f : PacketFault) → IsBytes bytes → reading bytes ≡ Err f → IsFirst f bytes
+unfolding reading
+refused bytes f fits e =
+    elim (bind_err (fields_at bytes) (λ fields. head_at bytes >>= λ head. body_at head.kind fields >>= λ body. cond (in_range body) (Ok (packet_of head body)) (Err Range)) f e) [
+      | inl a ↦ sealed_refused bytes f a
+      | inr a ↦
+          let s : Sealed bytes a.0 = sealed bytes a.0 a.1 in
+          let c3 : Clear 4 bytes = sealed_clear bytes a.0 s in
+          elim (bind_err (head_at bytes) (λ head. body_at head.kind a.0 >>= λ body. cond (in_range body) (Ok (packet_of head body)) (Err Range)) f a.2) [
+            | inl b ↦ headed_refused bytes f c3 b
+            | inr b ↦
+                let t : Headed bytes b.0 = headed bytes b.0 b.1 in
+                let c6 : Clear 7 bytes = headed_clear bytes b.0 t c3 in
+                elim (bind_err (body_at b.0.kind a.0) (λ body. cond (in_range body) (Ok (packet_of b.0 body)) (Err Range)) f b.2) [
+                  | inl c ↦
+                      let is : Fields ≡ f = sym (body_fails b.0.kind a.0 f c) in
+                      let wrong : HasFault Fields bytes = λ x h. let here : Ok x ≡ Err f = sym (read_again bytes a.0 b.0 x s t h) ∙ c in absurd cc in
+                      subst (λ (g : PacketFault). IsFirst g bytes) is (record { holds = wrong; first = c6 })
+                  | inr c ↦
+                      let out = chosen_err (in_range c.0) (packet_of b.0 c.0) f c.2 in
+                      let bytes_fit : IsBytes a.0 = subst (λ (x : List ℕ). IsBytes x) (sym s.fields_are) (IsBytes-take _ (drop 8 bytes) (IsBytes-drop 8 bytes fits)) in
+                      let here : Spells c.0 bytes = spelled bytes a.0 b.0 c.0 s t (body_found b.0.kind a.0 c.0 bytes_fit c.1) in
+                      let wrong : HasFault Range bytes = λ x h good.
+                      let same : x ≡ c.0 = ok_is x c.0 (sym (read_again bytes a.0 b.0 x s t h) ∙ c.1) in
+                      let no : true ≡ false = sym good ∙ ap in_range same ∙ out.0 in
+                      absurd cc in
+                      subst (λ (g : PacketFault). IsFirst g bytes) out.1 (record { holds = wrong; first = clear_more Fields bytes c6 (λ no. no c.0 here) })
+                ]
+          ]
+    ]
+
+-- ---- what is read is written so
+
+eight : (bytes : List ℕ) (m : ℕ) → 8 ≤ length bytes → take (suc (suc (suc (suc (suc (suc (suc (suc m)))))))) bytes
+    ≡ take 4 bytes ++ (slice_index bytes 4 ∷ slice_index bytes 5 ∷ slice_index bytes 6 ∷ slice_index bytes 7 ∷ take m (drop 8 bytes))
+eight [] m le = absurd (omega arith)
+eight (a ∷ []) m le = absurd (omega arith)
+eight (a ∷ b ∷ []) m le = absurd (omega arith)
+eight (a ∷ b ∷ c ∷ []) m le = absurd (omega arith)
+eight (a ∷ b ∷ c ∷ d ∷ []) m le = absurd (omega arith)
+eight (a ∷ b ∷ c ∷ d ∷ e ∷ []) m le = absurd (omega arith)
+eight (a ∷ b ∷ c ∷ d ∷ e ∷ f ∷ []) m le = absurd (omega arith)
+eight (a ∷ b ∷ c ∷ d ∷ e ∷ f ∷ g ∷ []) m le = absurd (omega arith)
+eight (a ∷ b ∷ c ∷ d ∷ e ∷ f ∷ g ∷ h ∷ rest) m le = refl
+
+fits_of : (bytes : List ℕ) (h : Head) (b : Body) → Headed bytes h → HasRoom b → in_range b ≡ true → Fits (packet_of h b)
+fits_of bytes h b t room range = record {
+  some = rw t.count_is t.some;
+  few = rw t.count_is t.few;
+  from = rw (t.count_is, t.from_is) t.from;
+  to = rw (t.count_is, t.to_is) t.to;
+  apart = λ same. t.apart (sym t.from_is ∙ same ∙ t.to_is);
+  room = room;
+  range = range;
+}
+
+text_of : (bytes : List ℕ) (h : Head) (b : Body) → 12 ≤ length bytes → take 4 bytes ≡ magic → Headed bytes h → Spells b bytes → take (length bytes - 4) bytes ≡ unsealed (packet_of h b)
+text_of bytes h b long magical t is =
+    let m = length bytes - 4 - 8 in
+    let cut : length bytes - 4 ≡ suc (suc (suc (suc (suc (suc (suc (suc m))))))) = omega (arith, long) in
+    ap (λ (n : ℕ). take n bytes) cut ∙ eight bytes m (omega (arith, long))
+    ∙ rw (magical, ← is.kind, ← t.count_is, ← t.from_is, ← t.to_is) (ap (λ (x : List ℕ). magic ++ (kind_number (kind_of b) ∷ h.count ∷ h.from ∷ h.to ∷ x)) is.fields)
+
+split_as : (n : ℕ) (bytes front back : List ℕ) → take n bytes ≡ front → drop n bytes ≡ back → bytes ≡ front ++ back
+split_as n bytes front back a b = sym (take-append-drop n bytes) ∙ rw (a, b) refl
+
+last_of : (bytes text : List ℕ) → IsBytes bytes → 12 ≤ length bytes → little_number 4 (drop (length bytes - 4) bytes) ≡ crc32c (take (length bytes - 4) bytes) → take (length bytes - 4) bytes ≡ text
+    → drop (length bytes - 4) bytes ≡ checksum_bytes text
+unfolding checksum_bytes
+last_of bytes text fits long summed front =
+    let n = length bytes - 4 in
+    let four : length (drop n bytes) ≡ 4 = omega (arith, length-append (take n bytes) (drop n bytes), ap length (take-append-drop n bytes), length-take n bytes, long) in
+    sym (back_4 (drop n bytes) four (IsBytes-drop n bytes fits)) ∙ ap (λ (x : ℕ). little_bytes 4 x) (summed ∙ ap crc32c front)
+
+is_this : (bytes : List ℕ) (q p : Packet) → q ≡ p → Fits q → bytes ≡ packet_bytes q → IsPacket p bytes
+is_this bytes q p same fits text = subst (λ (x : Packet). IsPacket x bytes) same (record { fits = fits; bytes_are = text })
+
+pub found : (bytes : List ℕ) (p : Packet) → IsBytes bytes → reading bytes ≡ Ok p → IsPacket p bytes
+unfolding reading
+found bytes p fits e =
+    let a = bind_ok (fields_at bytes) (λ fields. head_at bytes >>= λ head. body_at head.kind fields >>= λ body. cond (in_range body) (Ok (packet_of head body)) (Err Range)) p e in
+    let b = bind_ok (head_at bytes) (λ head. body_at head.kind a.0 >>= λ body. cond (in_range body) (Ok (packet_of head body)) (Err Range)) p a.2 in
+    let c = bind_ok (body_at b.0.kind a.0) (λ body. cond (in_range body) (Ok (packet_of b.0 body)) (Err Range)) p b.2 in
+    let g = passed_ok (in_range c.0) Range (packet_of b.0 c.0) p c.2 in
+    let s : Sealed bytes a.0 = sealed bytes a.0 a.1 in
+    let t : Headed bytes b.0 = headed bytes b.0 b.1 in
+    let bytes_fit : IsBytes a.0 = subst (λ (x : List ℕ). IsBytes x) (sym s.fields_are) (IsBytes-take _ (drop 8 bytes) (IsBytes-drop 8 bytes fits)) in
+    let is : Spells c.0 bytes = spelled bytes a.0 b.0 c.0 s t (body_found b.0.kind a.0 c.0 bytes_fit c.1) in
+    let q : Packet = packet_of b.0 c.0 in
+    let text : take (length bytes - 4) bytes ≡ unsealed q = text_of bytes b.0 c.0 s.long s.magical t is in
+    let last : drop (length bytes - 4) bytes ≡ checksum_bytes (unsealed q) = last_of bytes (unsealed q) fits s.long s.summed text in
+    let spelled_so : bytes ≡ packet_bytes q = split_as (length bytes - 4) bytes (unsealed q) (checksum_bytes (unsealed q)) text last in
+    let good : Fits q = fits_of bytes b.0 c.0 t is.room g.0 in
+    is_this bytes q p g.1 good spelled_so
+
+-- ---- what is written so is read
+
+crc_fits : (bytes : List ℕ) → crc32c bytes < 256 ^ 4
+unfolding crc32c
+crc_fits bytes = omega arith
+
+fields_again : (p : Packet) → fields_at (packet_bytes p) ≡ Ok (body_bytes p.body)
+unfolding fields_at checksum_bytes
+fields_again p =
+    let body = body_bytes p.body in
+    let u = unsealed p in
+    let sum = little_bytes 4 (crc32c u) in
+    let bytes = u ++ sum in
+    let len : length bytes ≡ length body + 12 = omega (arith, length-append u sum) in
+    let cut : length u ≡ length bytes - 4 = omega (arith, len) in
+    let inner : length body ≡ length bytes - 4 - 8 = omega (arith, len) in
+    let long : nat_lt (length bytes) 12 ≡ false = le-ltb _ _ (omega (arith, len)) in
+    let front : take (length bytes - 4) bytes ≡ u = take_at u sum (length bytes - 4) cut in
+    let back : drop (length bytes - 4) bytes ≡ sum = drop_at u sum (length bytes - 4) cut in
+    let summed : eqb (little_number 4 (drop (length bytes - 4) bytes)) (crc32c (take (length bytes - 4) bytes)) ≡ true =
+    eq-eqb _ _ (ap (λ (x : List ℕ). little_number 4 x) back ∙ number_again 4 (crc32c u) (crc_fits u) ∙ ap crc32c (sym front)) in
+    let text : fields_of bytes ≡ body = take_at body sum (length bytes - 4 - 8) inner in
+    rw (long, summed, text) refl
+
+head_again : (p : Packet) → Fits p → head_at (packet_bytes p) ≡ Ok (record { kind = kind_of p.body; count = p.count; from = p.from; to = p.to })
+unfolding head_at
+head_again p fits =
+    let a : nat_lt p.count 1 ≡ false = le-ltb _ _ fits.some in
+    let b : nat_lt 15 p.count ≡ false = le-ltb _ _ fits.few in
+    let c : nat_lt p.count p.from ≡ false = le-ltb _ _ fits.from in
+    let d : nat_lt p.count p.to ≡ false = le-ltb _ _ fits.to in
+    let e : eqb p.from p.to ≡ false = ne_eqb _ _ fits.apart in
+    rw (kind_again (kind_of p.body), a, b, c, d, e) refl
+
+pub reading_again : (p : Packet) (bytes : List ℕ) → IsPacket p bytes → reading bytes ≡ Ok p
+unfolding reading
+reading_again p bytes is =
+    ap reading is.bytes_are ∙ rw (fields_again p, head_again p is.fits, body_again p.body is.fits.room, is.fits.range) refl
+
+pub one_packet : IsOnePacket
+one_packet p q bytes a b = ok_is p q (sym (reading_again p bytes a) ∙ reading_again q bytes b)
+
+-- ---- results
+
+pub is_found : (bytes : List ℕ) (r : Result Packet PacketError) → IsBytes bytes → Gives (λ (x : Packet). x) r (reading bytes) → IfOk r (λ p. IsPacket p bytes)
+is_found bytes (Ok p) fits e = found bytes p fits e
+is_found bytes (Err d) fits e = tt
+
+pub is_refused : (bytes : List ℕ) (r : Result Packet PacketError) → IsBytes bytes → Gives (λ (x : Packet). x) r (reading bytes) → IfErr r (λ d. IsReason d bytes)
+is_refused bytes (Ok p) fits e = tt
+is_refused bytes (Err errors.Memory) fits e = tt
+is_refused bytes (Err (errors.Fault f)) fits e = refused bytes f fits e
+
+pub is_read : (bytes : List ℕ) (r : Result Packet PacketError) (p : Packet) → Gives (λ (x : Packet). x) r (reading bytes) → IsPacket p bytes → Reads r p
+is_read bytes (Ok q) p e is = ok_is q p (sym e ∙ reading_again p bytes is)
+is_read bytes (Err errors.Memory) p e is = tt
+is_read bytes (Err (errors.Fault f)) p e is = let no : Ok p ≡ Err f = sym (reading_again p bytes is) ∙ e in absurd cc

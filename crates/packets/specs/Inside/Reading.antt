@@ -1,0 +1,120 @@
+-- Reading a packet from left to right, with the first fault that is met. A field is a value and the bytes after it.
+use Rattle.std.specs.Prelude.{◌≡◌, ℕ, zero, suc, ◌-◌, List, [], ◌∷◌, length, take, drop, slice_index, Option, Some, None, Result, Ok, Err, not, nat_lt, nat_eq, ◌==◌, ◌||◌, if◌then◌else◌}
+use Rattle.std.specs.Cmp.Lexicographic.{pointwise}
+use Rattle.byteorder.specs.Endian.{little_number}
+use Rattle.packets.specs.declared.kind.Kind.{Kind}
+use Rattle.packets.specs.declared.kind.Kind.TheVariants as kinds
+use Rattle.packets.specs.declared.page.Entry.{Entry}
+use Rattle.packets.specs.declared.page.Pair.{Pair}
+use Rattle.packets.specs.declared.packet.Body.{Body}
+use Rattle.packets.specs.declared.packet.Body.TheVariants.{Delivery, Number, Acknowledgement, Ask, Told, Resume, Restored, Saved}
+use Rattle.packets.specs.declared.packet.Packet.{Packet}
+use Rattle.packets.specs.declared.head.Head.{Head}
+use Rattle.packets.specs.declared.fault.PacketFault.{PacketFault}
+use Rattle.packets.specs.declared.fault.PacketFault.TheVariants as faults
+use Rattle.packets.specs.declared.fault.PacketError.{PacketError}
+use Rattle.packets.specs.declared.fault.PacketError.TheVariants as errors
+use Rattle.packets.specs.Checksum.{crc32c}
+use Rattle.packets.specs.Packet.{kind_at, in_range}
+use Rattle.packets.specs.Format.{magic}
+use Rattle.packets.specs.Faults.{fields_of}
+
+infixl 10 ◌>>=◌
+abbrev pub ◌>>=◌ : {A B : Type 0} → Result A PacketFault → (A → Result B PacketFault) → Result B PacketFault
+(Ok x) >>= f = f x
+(Err e) >>= f = Err e
+
+-- an error is the one that reading gives, unless memory ran out
+abbrev pub Fails : {Y : Type 0} → PacketError → Result Y PacketFault → Type 0
+Fails errors.Memory read = Unit {0}
+Fails (errors.Fault fault) read = read ≡ Err fault
+
+-- what a function returned, seen by view, is what reading gives, unless memory ran out
+abbrev pub Gives : {X Y : Type 0} → (X → Y) → Result X PacketError → Result Y PacketFault → Type 0
+Gives view (Ok x) read = read ≡ Ok (view x)
+Gives view (Err e) read = Fails e read
+
+-- ---- fields
+
+abbrev pub Reader : Type 0 → Type 0
+Reader A = List ℕ → Result (A × List ℕ) PacketFault
+
+-- so many bytes
+abbrev pub bytes_at : ℕ → Reader (List ℕ)
+bytes_at n bytes = if nat_lt (length bytes) n then Err faults.Fields else Ok (take n bytes, drop n bytes)
+
+-- one byte
+abbrev pub byte_at : Reader ℕ
+byte_at [] = Err faults.Fields
+byte_at (b ∷ rest) = Ok (b, rest)
+
+-- a number of so many bytes
+unfoldable pub number_at : ℕ → Reader ℕ
+number_at n bytes = bytes_at n bytes >>= λ found. Ok (little_number n found.0, found.1)
+
+-- a length, and as many bytes
+unfoldable pub payload_at : Reader (List ℕ)
+payload_at bytes = number_at 2 bytes >>= λ len. if nat_lt 256 len.0 then Err faults.Fields else bytes_at len.0 len.1
+
+-- one field behind the other
+abbrev pub both : {A B : Type 0} → Reader A → Reader B → Reader (A × B)
+both read next bytes = read bytes >>= λ x. next x.1 >>= λ y. Ok ((x.0, y.0), y.1)
+
+-- so many fields of a kind
+unfoldable pub times : {A : Type 0} → Reader A → ℕ → Reader (List A)
+times field zero bytes = Ok ([], bytes)
+times field (suc n) bytes = field bytes >>= λ first. times field n first.1 >>= λ others. Ok (first.0 ∷ others.0, others.1)
+
+-- how many there are, and each
+unfoldable pub page_at : {A : Type 0} → Reader A → Reader (List A)
+page_at field bytes = number_at 2 bytes >>= λ count. times field count.0 count.1
+
+unfoldable pub entry_at : Reader Entry
+entry_at bytes = both (number_at 8) (both (number_at 8) payload_at) bytes >>= λ x. Ok (record { number = x.0.0; ssn = x.0.1.0; payload = x.0.1.1 }, x.1)
+
+unfoldable pub pair_at : Reader Pair
+pair_at bytes = both (number_at 8) (number_at 8) bytes >>= λ x. Ok (record { ssn = x.0.0; number = x.0.1 }, x.1)
+
+-- ---- the whole
+
+-- all of the bytes: none are left over
+abbrev pub whole : {A : Type 0} → Reader A → List ℕ → Result A PacketFault
+whole read bytes = read bytes >>= λ x. if length x.1 == 0 then Ok x.0 else Err faults.Fields
+
+-- the fields of a kind
+unfoldable pub body_at : Kind → List ℕ → Result Body PacketFault
+body_at kinds.Delivery bytes = whole (both (number_at 8) (both (number_at 8) payload_at)) bytes >>= λ x. Ok (Delivery x.0 x.1.0 x.1.1)
+body_at kinds.Number bytes = whole (both (number_at 8) (both (number_at 8) (number_at 8))) bytes >>= λ x. Ok (Number x.0 x.1.0 x.1.1)
+body_at kinds.Acknowledgement bytes = whole (both (number_at 8) (number_at 8)) bytes >>= λ x. Ok (Acknowledgement x.0 x.1)
+body_at kinds.Ask bytes = whole (both (number_at 8) (number_at 8)) bytes >>= λ x. Ok (Ask x.0 x.1)
+body_at kinds.Told bytes =
+    whole (both (number_at 8) (both (number_at 8) (both (number_at 8) (both byte_at (page_at entry_at))))) bytes >>= λ x. Ok (Told x.0 x.1.0 x.1.1.0 (record { bits = x.1.1.1.0 }) x.1.1.1.1)
+body_at kinds.Resume bytes = whole (both (number_at 8) (both (number_at 8) (number_at 8))) bytes >>= λ x. Ok (Resume x.0 x.1.0 x.1.1)
+body_at kinds.Restored bytes =
+    whole (both (number_at 8) (both (number_at 8) (both (number_at 8) (both (number_at 8) (both byte_at (page_at pair_at)))))) bytes >>= λ x.
+    Ok (Restored x.0 x.1.0 x.1.1.0 x.1.1.1.0 (record { bits = x.1.1.1.1.0 }) x.1.1.1.1.1)
+body_at kinds.Saved bytes = whole (number_at 8) bytes >>= λ c. Ok (Saved c)
+
+-- the bytes of the fields, where magic and checksum are right
+unfoldable pub fields_at : List ℕ → Result (List ℕ) PacketFault
+fields_at bytes =
+    if nat_lt (length bytes) 12 then Err faults.Short else if not (pointwise nat_eq (take 4 bytes) magic) then Err faults.Magic
+    else if not (little_number 4 (drop (length bytes - 4) bytes) == crc32c (take (length bytes - 4) bytes)) then Err faults.Checksum else Ok (fields_of bytes)
+
+abbrev pub known : Option Kind → Result Kind PacketFault
+known None = Err faults.Kind
+known (Some kind) = Ok kind
+
+-- kind, the number of processes, from and to
+abbrev pub head_in_range : Kind → ℕ → ℕ → ℕ → Result Head PacketFault
+head_in_range kind n from to =
+    if nat_lt n 1 || nat_lt 15 n then Err faults.Count else if nat_lt n from || (nat_lt n to || from == to) then Err faults.Ends else Ok (record { kind = kind; count = n; from = from; to = to })
+
+unfoldable pub head_at : List ℕ → Result Head PacketFault
+head_at bytes = known (kind_at (slice_index bytes 4)) >>= λ kind. head_in_range kind (slice_index bytes 5) (slice_index bytes 6) (slice_index bytes 7)
+
+abbrev pub packet_of : Head → Body → Packet
+packet_of head body = record { count = head.count; from = head.from; to = head.to; body = body }
+
+unfoldable pub reading : List ℕ → Result Packet PacketFault
+reading bytes = fields_at bytes >>= λ fields. head_at bytes >>= λ head. body_at head.kind fields >>= λ body. if in_range body then Ok (packet_of head body) else Err faults.Range

@@ -1,0 +1,6 @@
+pub mod Checksum
+pub mod Packet
+pub mod Format
+pub mod Faults
+pub mod Laws
+pub mod Inside

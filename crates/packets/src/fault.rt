@@ -1,0 +1,84 @@
+//! Why bytes are no packet.
+
+ghost use Rattle.std.specs.Prelude.{◌≡◌};
+ghost use Rattle.packets.specs.declared.fault.PacketError.TheVariants.{Memory};
+
+use std::alloc::{AllocError, AllocFailed};
+use thiserror::Error;
+
+/// The first fault of bytes that are no packet, in the order of their numbers.
+#[derive(Clone, Copy, Debug, PartialEq, Eq, Error)]
+pub enum PacketFault {
+    /// 1: fewer than 12 bytes.
+    #[error("fewer than 12 bytes")]
+    Short,
+    /// 2: the first four bytes are not the magic.
+    #[error("no packet")]
+    Magic,
+    /// 3: the last four bytes are not the checksum of the others.
+    #[error("the checksum is wrong")]
+    Checksum,
+    /// 4: there is no such kind.
+    #[error("no kind of packet")]
+    Kind,
+    /// 5: the number of processes is out of its range.
+    #[error("the number of processes is out of range")]
+    Count,
+    /// 6: it isn't from one node to another one.
+    #[error("not from one node to another one")]
+    Ends,
+    /// 7: the fields are not those of the kind, or a payload is too long.
+    #[error("the fields do not take just the bytes that are there")]
+    Fields,
+    /// 8: a field is out of its range.
+    #[error("a field is out of range")]
+    Range,
+}
+
+impl PacketFault {
+    ghost use Rattle.std.specs.Prelude.{◌≡◌};
+    ghost use Rattle.packets.specs.Faults.{fault_number};
+
+    /// Its number, 1 to 8.
+    pub fn number(self) -> u8
+        ensures { result ≡ fault_number self }
+    {
+        match self {
+            PacketFault::Short => 1,
+            PacketFault::Magic => 2,
+            PacketFault::Checksum => 3,
+            PacketFault::Kind => 4,
+            PacketFault::Count => 5,
+            PacketFault::Ends => 6,
+            PacketFault::Fields => 7,
+            PacketFault::Range => 8,
+        }
+    }
+}
+
+/// Why a packet was not read.
+#[derive(Debug, Drop, PartialEq, Eq, Error)]
+pub enum PacketError {
+    /// Memory ran out.
+    #[error("out of memory")]
+    Memory,
+    /// The bytes are no packet.
+    #[error("packet: {0}")]
+    Fault(PacketFault),
+}
+
+impl From<AllocError> for PacketError {
+    ghost from_gives = { λ _ e. e ≡ Memory };
+
+    fn from(_e: AllocError) -> PacketError {
+        PacketError::Memory
+    }
+}
+
+impl<T: Drop> From<AllocFailed<T>> for PacketError {
+    ghost from_gives = { λ _ e. e ≡ Memory };
+
+    fn from(_e: AllocFailed<T>) -> PacketError {
+        PacketError::Memory
+    }
+}

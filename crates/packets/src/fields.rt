@@ -1,0 +1,143 @@
+//! The fields of a packet, from bytes.
+
+ghost use Rattle.std.specs.Prelude.{◌≡◌, ◌≤◌, length, IfOk};
+ghost use Rattle.packets.specs.Inside.Reading.{Gives, bytes_at, byte_at, number_at, payload_at, entry_at, pair_at, times, page_at};
+
+use crate::fault::{PacketError, PacketFault};
+use crate::page::{Entry, Page, Pair};
+use byteorder::{ByteOrder, LittleEndian};
+use helpers::{PAYLOAD_LIMIT, Payload};
+use std::alloc::Global;
+
+/// So many bytes, and those after them.
+fn bytes_of(len: usize, bytes: &[u8]) -> Result<(&[u8], &[u8]), PacketError>
+    ensures exact { Gives (λ x. (x.0.now, x.1.now)) result (bytes_at len bytes.now) }
+    ensures len { IfOk result (λ x. length x.0.now ≡ len) }
+{
+    if bytes.len() < len {
+        return Err(PacketError::Fault(PacketFault::Fields));
+    }
+    Ok(bytes.split_at(len))
+}
+
+/// One byte.
+pub fn byte_of(bytes: &[u8]) -> Result<(u8, &[u8]), PacketError>
+    ensures { Gives (λ x. (x.0, x.1.now)) result (byte_at bytes.now) }
+{
+    let [byte, rest @ ..] = bytes else {
+        return Err(PacketError::Fault(PacketFault::Fields));
+    };
+    Ok((*byte, rest))
+}
+
+/// A number of two bytes.
+#[tactic(auto, unfolding(crate::specs::Inside::Reading::number_at))]
+fn u16_of(bytes: &[u8]) -> Result<(u16, &[u8]), PacketError>
+    ensures { Gives (λ x. (x.0, x.1.now)) result (number_at 2 bytes.now) }
+{
+    let (front, rest) = bytes_of(2, bytes)?;
+    Ok((LittleEndian::read_u16(front), rest))
+}
+
+/// A number of eight bytes.
+#[tactic(auto, unfolding(crate::specs::Inside::Reading::number_at))]
+pub fn u64_of(bytes: &[u8]) -> Result<(u64, &[u8]), PacketError>
+    ensures { Gives (λ x. (x.0, x.1.now)) result (number_at 8 bytes.now) }
+{
+    let (front, rest) = bytes_of(8, bytes)?;
+    Ok((LittleEndian::read_u64(front), rest))
+}
+
+/// A payload behind its length.
+#[tactic(auto, unfolding(crate::specs::Inside::Reading::payload_at))]
+pub fn payload_of(bytes: &[u8]) -> Result<(&[u8], &[u8]), PacketError>
+    ensures exact { Gives (λ x. (x.0.now, x.1.now)) result (payload_at bytes.now) }
+    ensures bound { IfOk result (λ x. length x.0.now ≤ 256) }
+{
+    let (len, rest) = u16_of(bytes)?;
+    if len as usize > PAYLOAD_LIMIT {
+        return Err(PacketError::Fault(PacketFault::Fields));
+    }
+    bytes_of(len as usize, rest)
+}
+
+/// The number, the SSN and the payload of an entry, and the bytes after them.
+#[tactic(auto, unfolding(crate::specs::Inside::Reading::entry_at))]
+fn entry_of(bytes: &[u8]) -> Result<(u64, u64, &[u8], &[u8]), PacketError>
+    ensures exact { Gives (λ x. (record { number = x.0; ssn = x.1; payload = x.2.now }, x.3.now)) result (entry_at bytes.now) }
+    ensures bound { IfOk result (λ x. length x.2.now ≤ 256) }
+{
+    let (number, rest) = u64_of(bytes)?;
+    let (ssn, rest) = u64_of(rest)?;
+    let (payload, rest) = payload_of(rest)?;
+    Ok((number, ssn, payload, rest))
+}
+
+/// The SSN and the number of a pair.
+#[tactic(auto, unfolding(crate::specs::Inside::Reading::pair_at))]
+fn pair_of(bytes: &[u8]) -> Result<(Pair, &[u8]), PacketError>
+    ensures { Gives (λ x. (x.0, x.1.now)) result (pair_at bytes.now) }
+{
+    let (ssn, rest) = u64_of(bytes)?;
+    let (number, rest) = u64_of(rest)?;
+    Ok((Pair { ssn, number }, rest))
+}
+
+/// A page of entries.
+#[tactic(auto, unfolding(crate::specs::Inside::Reading::page_at))]
+pub fn entries_of(alloc: Global, bytes: &[u8]) -> Result<(Page<Entry>, &[u8]), PacketError>
+    ensures { Gives (λ x. (x.0, x.1.now)) result (page_at entry_at bytes.now) }
+{
+    let (count, rest) = u16_of(bytes)?;
+    so_many_entries(alloc, count, rest)
+}
+
+/// So many entries.
+fn so_many_entries(
+    alloc: Global,
+    count: u16,
+    bytes: &[u8],
+) -> Result<(Page<Entry>, &[u8]), PacketError>
+    ensures { Gives (λ x. (x.0, x.1.now)) result (times entry_at count bytes.now) }
+{
+    let mut entries = Page::new(alloc);
+    let mut rest = bytes;
+    for _ in 0..count {
+        let (number, ssn, payload, after) = entry_of(rest)?;
+        let payload = Payload::from_slice(payload);
+        entries.push(Entry {
+            number,
+            ssn,
+            payload,
+        })?;
+        rest = after;
+    }
+    Ok((entries, rest))
+}
+
+/// A page of pairs.
+#[tactic(auto, unfolding(crate::specs::Inside::Reading::page_at))]
+pub fn pairs_of(alloc: Global, bytes: &[u8]) -> Result<(Page<Pair>, &[u8]), PacketError>
+    ensures { Gives (λ x. (x.0, x.1.now)) result (page_at pair_at bytes.now) }
+{
+    let (count, rest) = u16_of(bytes)?;
+    so_many_pairs(alloc, count, rest)
+}
+
+/// So many pairs.
+fn so_many_pairs(
+    alloc: Global,
+    count: u16,
+    bytes: &[u8],
+) -> Result<(Page<Pair>, &[u8]), PacketError>
+    ensures { Gives (λ x. (x.0, x.1.now)) result (times pair_at count bytes.now) }
+{
+    let mut pairs = Page::new(alloc);
+    let mut rest = bytes;
+    for _ in 0..count {
+        let (pair, after) = pair_of(rest)?;
+        pairs.push(pair)?;
+        rest = after;
+    }
+    Ok((pairs, rest))
+}

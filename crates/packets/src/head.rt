@@ -1,0 +1,73 @@
+//! The first bytes of a packet.
+
+ghost use Rattle.std.specs.Prelude.{◌≡◌, ◌≤◌, length, IfOk};
+ghost use Rattle.packets.specs.Inside.Reading.{Gives, fields_at, head_at};
+
+use crate::checksum::crc32c;
+use crate::fault::{PacketError, PacketFault};
+use crate::kind::Kind;
+use crate::packet::COUNT_LIMIT;
+use byteorder::{ByteOrder, LittleEndian};
+
+/// `SBP1`, the four bytes that a packet begins with.
+pub const MAGIC: [u8; 4] = [0x53, 0x42, 0x50, 0x31];
+
+/// How many bytes magic, kind, count, from and to have.
+pub const HEAD_LEN: usize = 8;
+
+/// How many bytes the checksum has.
+pub const CHECKSUM_LEN: usize = 4;
+
+/// What stands before the fields.
+#[derive(Clone, Copy)]
+pub struct Head {
+    pub kind: Kind,
+    pub count: u8,
+    pub from: u8,
+    pub to: u8,
+}
+
+/// The bytes of the fields, where magic and checksum are right.
+#[tactic(auto, unfolding(crate::specs::Inside::Reading::fields_at))]
+pub fn fields_of(bytes: &[u8]) -> Result<&[u8], PacketError>
+    ensures exact { Gives (λ x. x.now) result (fields_at bytes.now) }
+    ensures long { IfOk result (λ x. 12 ≤ length bytes.now) }
+{
+    if bytes.len() < HEAD_LEN + CHECKSUM_LEN {
+        return Err(PacketError::Fault(PacketFault::Short));
+    }
+    if &bytes[..4] != MAGIC.as_slice() {
+        return Err(PacketError::Fault(PacketFault::Magic));
+    }
+    let (text, checksum) = bytes.split_at(bytes.len() - CHECKSUM_LEN);
+    if LittleEndian::read_u32(checksum) != crc32c(text) {
+        return Err(PacketError::Fault(PacketFault::Checksum));
+    }
+    Ok(&bytes[HEAD_LEN..bytes.len() - CHECKSUM_LEN])
+}
+
+/// Kind, the number of processes, from and to.
+#[tactic(auto, unfolding(crate::specs::Inside::Reading::head_at))]
+pub fn head_of(bytes: &[u8]) -> Result<Head, PacketError>
+    requires { 8 ≤ length bytes.now }
+    ensures { Gives (λ x. x) result (head_at bytes.now) }
+{
+    let Some(kind) = Kind::of(bytes[4]) else {
+        return Err(PacketError::Fault(PacketFault::Kind));
+    };
+    let count = bytes[5];
+    let from = bytes[6];
+    let to = bytes[7];
+    if count < 1 || count > COUNT_LIMIT {
+        return Err(PacketError::Fault(PacketFault::Count));
+    }
+    if from > count || to > count || from == to {
+        return Err(PacketError::Fault(PacketFault::Ends));
+    }
+    Ok(Head {
+        kind,
+        count,
+        from,
+        to,
+    })
+}

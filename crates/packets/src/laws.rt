@@ -1,0 +1,34 @@
+//! What holds of all packets.
+
+ghost use Rattle.std.specs.Prelude.{◌≡◌, IfOk};
+ghost use Rattle.packets.specs.Format.{Fits};
+ghost use Rattle.packets.specs.Faults.{Reads};
+ghost use Rattle.packets.specs.Laws.{IsOnePacket};
+
+use crate::fault::PacketError;
+use crate::packet::Packet;
+use crate::reading::decode;
+use crate::writing::encode;
+use std::alloc::Global;
+
+/// Bytes are one packet's, if they are one's.
+pub fn one_packet()
+    ensures { IsOnePacket }
+{}
+
+/// What is written is read back, unless memory runs out.
+pub fn there_and_back(alloc: Global, packet: &Packet) -> Result<Packet, PacketError>
+    requires { Fits packet.now }
+    ensures { Reads result packet.now }
+{
+    let bytes = encode(alloc, packet)?;
+    decode(alloc, &bytes)
+}
+
+/// What is read is written again as the same bytes, unless memory runs out.
+pub fn back_and_there(alloc: Global, bytes: &[u8]) -> Result<Vec<u8>, PacketError>
+    ensures { IfOk result (λ v. v.items ≡ bytes.now) }
+{
+    let packet = decode(alloc, bytes)?;
+    Ok(encode(alloc, &packet)?)
+}

@@ -1,0 +1,221 @@
+//! A packet.
+
+ghost use Rattle.std.specs.Prelude.{◌≡◌};
+ghost use Rattle.std.specs.List.{list_all};
+ghost use Rattle.packets.specs.Packet.{kind_of, is_number, is_positive, in_range, is_entry_above, is_pair_above, entry_before, pair_before, ascends, entries_in_range, pairs_in_range};
+
+use crate::kind::Kind;
+use crate::page::{Entry, Flags, Page, Pair};
+use helpers::Payload;
+
+/// The most processes that there can be.
+pub const COUNT_LIMIT: u8 = 15;
+
+/// Each number is below this.
+pub const NUMBER_LIMIT: u64 = 0x8000_0000_0000_0000;
+
+/// What one node tells another one. The processes are 1 to `count`, 0 is the gateway.
+#[derive(Drop)]
+pub struct Packet {
+    pub count: u8,
+    pub from: u8,
+    pub to: u8,
+    pub body: Body,
+}
+
+/// What a packet says. An SSN numbers the messages of a sender to a receiver, a number those that
+/// a process received.
+#[derive(Drop)]
+pub enum Body {
+    /// A message of a sender in this incarnation.
+    Delivery {
+        incarnation: u64,
+        ssn: u64,
+        payload: Payload,
+    },
+    /// The message has this number at the receiver, which is in this incarnation.
+    Number {
+        incarnation: u64,
+        ssn: u64,
+        number: u64,
+    },
+    /// This number is in the sender's log.
+    Acknowledgement {
+        incarnation: u64,
+        number: u64,
+    },
+    /// What does your log hold for me under numbers above this one?
+    Ask {
+        incarnation: u64,
+        above: u64,
+    },
+    /// What the log holds, by number and SSN: a page of it.
+    Told {
+        incarnation: u64,
+        teller: u64,
+        above: u64,
+        flags: Flags,
+        entries: Page<Entry>,
+    },
+    /// I keep so many messages. Which of mine have you, behind this SSN?
+    Resume {
+        incarnation: u64,
+        kept: u64,
+        above: u64,
+    },
+    /// The first messages are covered for good, these are the next ones, by SSN: a page of them.
+    Restored {
+        incarnation: u64,
+        teller: u64,
+        covered: u64,
+        above: u64,
+        flags: Flags,
+        pairs: Page<Pair>,
+    },
+    /// So many of your messages are covered for good.
+    Saved {
+        covered: u64,
+    },
+}
+
+impl Body {
+    /// What it says, without the fields.
+    pub fn kind(&self) -> Kind
+        ensures { result ≡ kind_of self.now }
+    {
+        match self {
+            Body::Delivery { .. } => Kind::Delivery,
+            Body::Number { .. } => Kind::Number,
+            Body::Acknowledgement { .. } => Kind::Acknowledgement,
+            Body::Ask { .. } => Kind::Ask,
+            Body::Told { .. } => Kind::Told,
+            Body::Resume { .. } => Kind::Resume,
+            Body::Restored { .. } => Kind::Restored,
+            Body::Saved { .. } => Kind::Saved,
+        }
+    }
+
+    /// Whether each field is in its range.
+    pub fn is_in_range(&self) -> bool
+        ensures { result ≡ in_range self.now }
+    {
+        match self {
+            Body::Delivery {
+                incarnation,
+                ssn,
+                ..
+            } => is_positive(*incarnation) && is_positive(*ssn),
+            Body::Number {
+                incarnation,
+                ssn,
+                number,
+            } => is_positive(*incarnation) && is_positive(*ssn) && is_positive(*number),
+            Body::Acknowledgement {
+                incarnation,
+                number,
+            } => is_positive(*incarnation) && is_positive(*number),
+            Body::Ask { incarnation, above } => is_positive(*incarnation) && is_number(*above),
+            Body::Told {
+                incarnation,
+                teller,
+                above,
+                flags,
+                entries,
+            } => {
+                is_positive(*incarnation)
+                    && is_positive(*teller)
+                    && is_number(*above)
+                    && are_entries(*above, *flags, entries.as_slice())
+            }
+            Body::Resume {
+                incarnation,
+                kept,
+                above,
+            } => is_positive(*incarnation) && is_number(*kept) && is_number(*above),
+            Body::Restored {
+                incarnation,
+                teller,
+                covered,
+                above,
+                flags,
+                pairs,
+            } => {
+                is_positive(*incarnation)
+                    && is_positive(*teller)
+                    && is_number(*covered)
+                    && is_number(*above)
+                    && are_pairs(*above, *flags, pairs.as_slice())
+            }
+            Body::Saved { covered } => is_number(*covered),
+        }
+    }
+}
+
+/// Whether it is a number.
+fn is_number(n: u64) -> bool
+    ensures { result ≡ is_number n }
+{
+    n < NUMBER_LIMIT
+}
+
+/// Whether it is a number that isn't zero.
+fn is_positive(n: u64) -> bool
+    ensures { result ≡ is_positive n }
+{
+    n > 0 && n < NUMBER_LIMIT
+}
+
+/// Whether these are the flags and the entries of a page above this number.
+#[tactic(auto, unfolding(crate::specs::Packet::entries_in_range))]
+fn are_entries(above: u64, flags: Flags, entries: &[Entry]) -> bool
+    ensures { result ≡ entries_in_range above flags entries.now }
+{
+    flags.bits < 8
+        && (flags.done() || !entries.is_empty())
+        && are_entries_above(above, entries)
+        && entries_ascend(entries)
+}
+
+/// Whether each entry has numbers, and the number is above this one.
+fn are_entries_above(above: u64, entries: &[Entry]) -> bool
+    ensures { result ≡ list_all (is_entry_above above) entries.now }
+{
+    entries.iter().all(|e| is_positive(e.number) && is_positive(e.ssn) && above < e.number)
+}
+
+/// Whether each entry is before the next one.
+fn entries_ascend(entries: &[Entry]) -> bool
+    ensures { result ≡ ascends entry_before entries.now }
+{
+    entries.iter().zip(entries.iter().skip(1)).all(|(a, b)| a.number < b.number
+        || a.number == b.number && a.ssn < b.ssn)
+}
+
+/// Whether these are the flags and the pairs of a page above this SSN.
+#[tactic(auto, unfolding(crate::specs::Packet::pairs_in_range))]
+fn are_pairs(above: u64, flags: Flags, pairs: &[Pair]) -> bool
+    ensures { result ≡ pairs_in_range above flags pairs.now }
+{
+    flags.bits < 8
+        && !flags.lost()
+        && (flags.done() || !pairs.is_empty())
+        && are_pairs_above(above, pairs)
+        && pairs_ascend(pairs)
+}
+
+/// Whether each pair has numbers, and the SSN is above this one.
+fn are_pairs_above(above: u64, pairs: &[Pair]) -> bool
+    ensures { result ≡ list_all (is_pair_above above) pairs.now }
+{
+    pairs.iter().all(|p| is_positive(p.number) && is_positive(p.ssn) && above < p.ssn)
+}
+
+/// Whether each pair is before the next one.
+fn pairs_ascend(pairs: &[Pair]) -> bool
+    ensures { result ≡ ascends pair_before pairs.now }
+{
+    pairs
+        .iter()
+        .zip(pairs.iter().skip(1))
+        .all(|(a, b)| a.ssn < b.ssn)
+}

@@ -1,0 +1,117 @@
+//! What a page tells of a log.
+
+use helpers::Payload;
+use std::alloc::{AllocError, Global};
+use std::marker::Model;
+
+/// A message of a log: its number at the receiver, its SSN and what it says.
+#[derive(Clone, Copy, Debug, PartialEq, Eq)]
+pub struct Entry {
+    pub number: u64,
+    pub ssn: u64,
+    pub payload: Payload,
+}
+
+/// A message that the receiver has: its SSN and its number there.
+#[derive(Clone, Copy, Debug, PartialEq, Eq)]
+pub struct Pair {
+    pub ssn: u64,
+    pub number: u64,
+}
+
+/// As many entries or pairs as fit a packet, in order.
+#[derive(Drop)]
+pub struct Page<T> {
+    items: Vec<T>,
+}
+
+impl<T> Model for Page<T> {
+    ghost use Rattle.std.specs.Prelude.{List};
+
+    ghost Value = { List T };
+
+    ghost view = { λ p. p.items.items };
+}
+
+impl<T> Page<T> {
+    ghost use Rattle.std.specs.Prelude.{◌≡◌, []};
+
+    /// An empty page.
+    pub fn new(alloc: Global) -> Page<T>
+        ensures { result ≡ [] }
+    {
+        Page {
+            items: Vec::new(alloc),
+        }
+    }
+
+    /// What is on it.
+    pub fn as_slice(&self) -> &[T]
+        ensures { result.now ≡ self.now }
+    {
+        self.items.as_slice()
+    }
+}
+
+impl<T: Drop> Page<T> {
+    ghost use Rattle.std.specs.Prelude.{◌≡◌, ◌++◌, ◌∷◌, [], OnOk};
+
+    /// One more behind the others.
+    pub fn push(&mut self, item: T) -> Result<(), AllocError>
+        ensures { OnOk result (self.new ≡ self.old ++ item ∷ []) }
+    {
+        match self.items.push(item) {
+            Ok(()) => Ok(()),
+            Err(_) => Err(AllocError),
+        }
+    }
+}
+
+/// What a page says of itself.
+#[derive(Clone, Copy, Debug, PartialEq, Eq)]
+pub struct Flags {
+    pub bits: u8,
+}
+
+impl Flags {
+    ghost use Rattle.std.specs.Prelude.{◌≡◌};
+    ghost use Rattle.packets.specs.Packet.{is_done, is_lost, is_exact, flags_of};
+
+    /// All was told, what tells is coming back itself, failures came one at a time as far as it knows.
+    pub fn new(done: bool, lost: bool, exact: bool) -> Flags
+        ensures { result ≡ flags_of done lost exact }
+    {
+        let mut bits = 0;
+        if done {
+            bits += 1;
+        }
+        if lost {
+            bits += 2;
+        }
+        if exact {
+            bits += 4;
+        }
+        Flags { bits }
+    }
+
+    /// Whether all was told.
+    pub fn done(self) -> bool
+        ensures { result ≡ is_done self }
+    {
+        self.bits % 2 == 1
+    }
+
+    /// Whether what tells is coming back itself.
+    pub fn lost(self) -> bool
+        ensures { result ≡ is_lost self }
+    {
+        self.bits / 2 % 2 == 1
+    }
+
+    /// Whether failures came one at a time, as far as what tells knows.
+    pub fn exact(self) -> bool
+        ensures { result ≡ is_exact self }
+    {
+        self.bits / 4 % 2 == 1
+    }
+}

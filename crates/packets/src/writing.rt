@@ -1,0 +1,182 @@
+//! A packet to bytes.
+
+ghost use Rattle.std.specs.Prelude.{◌≡◌, ◌++◌, ◌<◌, ◌≤◌, ◌^◌, length, IfOk, OnOk};
+ghost use Rattle.std.specs.List.{flat_map, AllByRecursion};
+ghost use Rattle.packets.specs.Format.{short_bytes, long_bytes, checksum_bytes, payload_bytes, entry_bytes, pair_bytes, page_bytes, body_bytes, packet_bytes, HasRoom, IsEntry, IsPage, Fits, IsPacket};
+
+use crate::checksum::crc32c;
+use crate::head::MAGIC;
+use crate::packet::{Body, Packet};
+use crate::page::{Entry, Pair};
+use byteorder::{ByteOrder, LittleEndian};
+use std::alloc::{AllocError, Global};
+
+/// The bytes of a packet.
+pub fn encode(alloc: Global, packet: &Packet) -> Result<Vec<u8>, AllocError>
+    requires { Fits packet.now }
+    ensures { IfOk result (λ v. IsPacket packet.now v.items) }
+{
+    let mut out = Vec::from_slice(alloc, &MAGIC)?;
+    let head = [
+        packet.body.kind().number(),
+        packet.count,
+        packet.from,
+        packet.to,
+    ];
+    out.extend_from_slice(&head)?;
+    put_body(&mut out, &packet.body)?;
+    put_checksum(&mut out)?;
+    Ok(out)
+}
+
+/// Appends the fields.
+fn put_body(out: &mut Vec<u8>, body: &Body) -> Result<(), AllocError>
+    requires { HasRoom body.now }
+    ensures { OnOk result (out.new.items ≡ out.old.items ++ body_bytes body.now) }
+{
+    match body {
+        Body::Delivery {
+            incarnation,
+            ssn,
+            payload,
+        } => {
+            put_u64(out, *incarnation)?;
+            put_u64(out, *ssn)?;
+            put_payload(out, payload.as_slice())
+        }
+        Body::Number {
+            incarnation: a,
+            ssn: b,
+            number: c,
+        }
+        | Body::Resume {
+            incarnation: a,
+            kept: b,
+            above: c,
+        } => {
+            put_u64(out, *a)?;
+            put_u64(out, *b)?;
+            put_u64(out, *c)
+        }
+        Body::Acknowledgement {
+            incarnation: a,
+            number: b,
+        }
+        | Body::Ask {
+            incarnation: a,
+            above: b,
+        } => {
+            put_u64(out, *a)?;
+            put_u64(out, *b)
+        }
+        Body::Told {
+            incarnation,
+            teller,
+            above,
+            flags,
+            entries,
+        } => {
+            put_u64(out, *incarnation)?;
+            put_u64(out, *teller)?;
+            put_u64(out, *above)?;
+            out.extend_from_slice(&[flags.bits])?;
+            put_entries(out, entries.as_slice())
+        }
+        Body::Restored {
+            incarnation,
+            teller,
+            covered,
+            above,
+            flags,
+            pairs,
+        } => {
+            put_u64(out, *incarnation)?;
+            put_u64(out, *teller)?;
+            put_u64(out, *covered)?;
+            put_u64(out, *above)?;
+            out.extend_from_slice(&[flags.bits])?;
+            put_pairs(out, pairs.as_slice())
+        }
+        Body::Saved { covered } => put_u64(out, *covered),
+    }
+}
+
+/// Appends a number of two bytes.
+#[tactic(auto, unfolding(crate::specs::Format::short_bytes))]
+fn put_u16(out: &mut Vec<u8>, n: u16) -> Result<(), AllocError>
+    ensures { OnOk result (out.new.items ≡ out.old.items ++ short_bytes n) }
+{
+    let mut bytes = [0; 2];
+    LittleEndian::write_u16(&mut bytes, n);
+    out.extend_from_slice(&bytes)
+}
+
+/// Appends the checksum of what is there.
+#[tactic(auto, unfolding(crate::specs::Format::checksum_bytes))]
+fn put_checksum(out: &mut Vec<u8>) -> Result<(), AllocError>
+    ensures { OnOk result (out.new.items ≡ out.old.items ++ checksum_bytes out.old.items) }
+{
+    let mut bytes = [0; 4];
+    LittleEndian::write_u32(&mut bytes, crc32c(out));
+    out.extend_from_slice(&bytes)
+}
+
+/// Appends a number of eight bytes.
+#[tactic(auto, unfolding(crate::specs::Format::long_bytes))]
+fn put_u64(out: &mut Vec<u8>, n: u64) -> Result<(), AllocError>
+    ensures { OnOk result (out.new.items ≡ out.old.items ++ long_bytes n) }
+{
+    let mut bytes = [0; 8];
+    LittleEndian::write_u64(&mut bytes, n);
+    out.extend_from_slice(&bytes)
+}
+
+/// Appends a payload behind its length.
+fn put_payload(out: &mut Vec<u8>, payload: &[u8]) -> Result<(), AllocError>
+    requires { length payload.now ≤ 256 }
+    ensures { OnOk result (out.new.items ≡ out.old.items ++ payload_bytes payload.now) }
+{
+    put_u16(out, payload.len() as u16)?;
+    out.extend_from_slice(payload)
+}
+
+/// Appends the number, the SSN and the payload of an entry.
+fn put_entry(out: &mut Vec<u8>, entry: &Entry) -> Result<(), AllocError>
+    ensures { OnOk result (out.new.items ≡ out.old.items ++ entry_bytes entry.now) }
+{
+    put_u64(out, entry.number)?;
+    put_u64(out, entry.ssn)?;
+    put_payload(out, entry.payload.as_slice())
+}
+
+/// Appends how many entries there are, and each.
+fn put_entries(out: &mut Vec<u8>, entries: &[Entry]) -> Result<(), AllocError>
+    requires { length entries.now < 2 ^ 16 }
+    ensures { OnOk result (out.new.items ≡ out.old.items ++ page_bytes entry_bytes entries.now) }
+{
+    put_u16(out, entries.len() as u16)?;
+    for entry in entries {
+        put_entry(out, entry)?;
+    }
+    Ok(())
+}
+
+/// Appends the SSN and the number of a pair.
+fn put_pair(out: &mut Vec<u8>, pair: &Pair) -> Result<(), AllocError>
+    ensures { OnOk result (out.new.items ≡ out.old.items ++ pair_bytes pair.now) }
+{
+    put_u64(out, pair.ssn)?;
+    put_u64(out, pair.number)
+}
+
+/// Appends how many pairs there are, and each.
+fn put_pairs(out: &mut Vec<u8>, pairs: &[Pair]) -> Result<(), AllocError>
+    requires { length pairs.now < 2 ^ 16 }
+    ensures { OnOk result (out.new.items ≡ out.old.items ++ page_bytes pair_bytes pairs.now) }
+{
+    put_u16(out, pairs.len() as u16)?;
+    for pair in pairs {
+        put_pair(out, pair)?;
+    }
+    Ok(())
+}
