@@ -174,7 +174,7 @@ returns-to old new worker p k is more single =
     let joined : new.entries ++ more ≡ es = ap (λ (s : TheSession). s.entries ++ more) is ∙ append_assoc old.entries (recovery worker p k ∷ []) more in
     let images : new.images ≡ old.images = ap (λ (s : TheSession). s.images) is in
     let P : List Typed → List Entry → Type 0 = λ images xs. IsSingle (length images) (handlers_of images) xs in
-    let Q : List Typed → List Entry → Type 0 = λ images xs. RecoversExactly (world_at old) (world_of (length images) (handlers_of images) xs) p k in
+    let Q : List Typed → List Entry → Type 0 = λ images xs. RecoversExactly (world_at old) (world_of (length images) (handlers_of images) xs) p k more in
     let given : P old.images es = subst (λ i. P i es) images (subst (P new.images) joined single) in
     let all : Q old.images es = recovers-exactly (length old.images) (handlers_of old.images) old.entries more worker p k given in
     subst (Q new.images) (sym joined) (subst (λ i. Q i es) (sym images) all)

@@ -13,6 +13,7 @@ ghost use Rattle.sessions.specs.Driving.{IsQuiet};
 ghost use Rattle.sessions.specs.Seats.{AreSeats, IsWhole, answered_by, new_seats, seat_at};
 ghost use Rattle.sessions.specs.Shares.{answers_of};
 ghost use Rattle.sessions.specs.Journal.{IsExact, IsLegal, world_at, room_at, Adds, HandsOut, Takes, OpensWith};
+ghost use Rattle.theorems.specs.Kept.{HasKept};
 ghost use Rattle.theorems.specs.Orphans.{NoOrphan, ShownBegin};
 
 use crate::journal::Journal;
@@ -137,6 +138,7 @@ impl<L: Ledger> Session<L> {
     pub fn journal(&self) -> &[Entry]
         ensures entries { result.now ≡ self.now.entries }
         ensures legal { IsLegal self.now }
+        ensures kept { HasKept (world_at self.now) }
         ensures no_orphan { IsExact self.now → NoOrphan (world_at self.now) }
         ensures output_once { IsExact self.now → ShownBegin (world_at self.now) }
     {

@@ -1,10 +1,19 @@
 use Rattle.std.proofs.Common.{length, subst}
 use Rattle.world.specs.Fold.{handlers_of}
+use Rattle.theorems.specs.Kept.{HasKept}
 use Rattle.theorems.specs.Orphans.{NoOrphan, ShownBegin}
-use Rattle.theorems.proofs.HandlerLemmas.{single-of}
+use Rattle.theorems.proofs.HandlerLemmas.{handlers-grow, single-of}
+use Rattle.theorems.proofs.KeptLemmas.{has-kept}
 use Rattle.theorems.proofs.OrphanLemmas.{no-orphan, output-once}
 use Rattle.sessions.specs.Journal.{TheSession, IsExact, world_at}
 use Rattle.sessions.proofs.session.Session.journal.Goals as goal
+
+pub returns-clause-kept : goal.returns-clause-kept
+returns-clause-kept g c =
+    let images = c.self.inside.machine.images in
+    let es = c.self.inside.journal.entries in
+    let P : TheSession → Type 0 = λ s. HasKept (world_at s) in
+    subst P c.self.view_is (has-kept (length images) (handlers_of images) es (handlers-grow images) c.self.invariant.0.legal)
 
 pub returns-clause-no_orphan : goal.returns-clause-no_orphan
 returns-clause-no_orphan g c =
