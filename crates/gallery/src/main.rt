@@ -1,5 +1,6 @@
 //! The stored examples as one program: it has `sblog` carry out each order of its standard input over
-//! the files beside it, and prints a line `sblog ORDER` before what that prints.
+//! the files beside it, and prints a line `sblog ORDER` before what that prints, and behind it what
+//! it would write.
 #![tactic(auto)]
 
 ghost use Rattle.std.specs.Prelude.{◌≡◌, IfOk};
@@ -18,6 +19,7 @@ use tracer::{Failure, Fault, Stream, Written, sblog};
 fn carry_out<R: Threads + Wait + Sync + Files + AllocGlobal, O: Stream, E: Stream>(
     rt: &R,
     order: &str,
+    files: &mut StoredFiles<'_, R>,
     out: &mut O,
     err: &mut E,
 ) -> Result<u8, Fault>
@@ -28,8 +30,7 @@ fn carry_out<R: Threads + Wait + Sync + Files + AllocGlobal, O: Stream, E: Strea
     let alloc = rt.alloc();
     out.print(format_args!("sblog {order}\n"))?;
     let words: Vec<&str> = order.split_whitespace().collect(alloc)?;
-    let mut files = StoredFiles(rt);
-    Ok(sblog(rt, alloc, words.as_slice(), &mut files, out, err))
+    Ok(sblog(rt, alloc, words.as_slice(), files, out, err))
 }
 
 /// Carries out the orders of the input, up to the first that is refused, and answers its status, or 0.
@@ -40,10 +41,15 @@ fn carry_out_all<R: Threads + Wait + Sync + Files + Input + AllocGlobal, O: Stre
 ) -> Result<u8, Fault> {
     for line in rt.lines(rt.alloc()) {
         let order = line.map_err(Failure::from)?;
-        let status = carry_out(rt, order.as_str(), out, err)?;
+        let mut files = StoredFiles {
+            rt,
+            written: Vec::new(rt.alloc()),
+        };
+        let status = carry_out(rt, order.as_str(), &mut files, out, err)?;
         if status != 0 {
             return Ok(status);
         }
+        out.print(str::from_utf8(files.written.as_slice()).unwrap_or(""))?;
     }
     Ok(0)
 }
