@@ -56,7 +56,7 @@ fn carry_out_all<R: Threads + Wait + Sync + Files + Input + AllocGlobal, O: Stre
 
 fn main(rt: HostRuntime) -> ExitCode {
     let (mut stdout, mut stderr) = (rt.stdout(), rt.stderr());
-    let (mut out, mut err) = (Written(&mut stdout), Written(&mut stderr));
+    let (mut out, mut err) = (Written::new(&mut stdout), Written::new(&mut stderr));
     let status = match carry_out_all(&rt, &mut out, &mut err) {
         Ok(status) => status,
         Err(fault) => fault.tell(&mut err),

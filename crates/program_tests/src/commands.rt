@@ -1,47 +1,21 @@
+//! The commands of the program, over files and streams in memory.
+
+ghost use Rattle.std.specs.Prelude.{◌≡◌, ◌≢◌, ◌||◌, [], Some, map};
+ghost use Rattle.program_tests.specs.Folder.{bytes_of};
+ghost use Rattle.tracer.specs.Program.{IsDone, IsTold};
+
+mod folder;
 mod scenarios;
 mod streams;
 mod text;
 
+use crate::commands::folder::Folder;
 use std::alloc::Global;
 use std::str;
 use std::sync::Wait;
 use std::test::Fail;
 use std::thread::Threads;
-use tracer::{Failure, Files, Written, sblog};
-
-/// As many of the bytes as may be read.
-fn some_of(alloc: Global, bytes: &[u8], limit: Option<usize>) -> Result<Vec<u8>, Failure> {
-    let read = match limit {
-        Some(limit) if limit < bytes.len() => &bytes[..limit],
-        _ => bytes,
-    };
-    read.to_vec(alloc).map_err(|_| Failure::Memory)
-}
-
-/// One file in memory, at the path `a`; every other path fails.
-#[derive(Drop)]
-struct OneFile<'a> {
-    bytes: &'a [u8],
-    fault: Failure,
-}
-
-impl Files for OneFile<'_> {
-    fn read(
-        &mut self,
-        alloc: Global,
-        path: &str,
-        limit: Option<usize>,
-    ) -> Result<Vec<u8>, Failure> {
-        if path != "a" {
-            return Err(self.fault);
-        }
-        some_of(alloc, self.bytes, limit)
-    }
-
-    fn write(&mut self, _path: &str, _bytes: &[u8]) -> Result<(), Failure> {
-        Err(self.fault)
-    }
-}
+use tracer::{Written, sblog};
 
 static ADDER: [u8; 56] = *b"SBI1\x08\x00\x06\x00\
     \x79\x13\x00\x00\x00\x00\x00\x00\x79\x24\x00\x00\x00\x00\x00\x00\
@@ -57,19 +31,54 @@ static UNSET_AT_EXIT: &str = "form 1, 8 bytes of state
 verify refused V10 at slot 0
 ";
 
-/// What one command line comes to: its status, and what it shows on each stream.
-fn carried<R: Threads + Wait + Sync + AllocGlobal, F: Files>(
+/// What a command line comes to, with streams that have nothing yet.
+#[derive(Drop)]
+struct Ended {
+    status: u8,
+    out: Vec<u8>,
+    err: Vec<u8>,
+    /// Whether a stream has failed, as one in memory does only where memory runs out.
+    out_failed: bool,
+    err_failed: bool,
+}
+
+/// Carries out one command line in memory, where all is known: what the words come to is what stands on
+/// the streams and in the files, whole.
+fn in_memory<R: Threads + Wait + Sync>(
     rt: &R,
-    line: &str,
-    files: &mut F,
-) -> Result<(u8, Vec<u8>, Vec<u8>), Fail> {
-    let alloc = rt.alloc();
-    let words: Vec<&str> = line.split_whitespace().collect(alloc)?;
+    alloc: Global,
+    words: &[&str],
+    files: &mut Folder,
+) -> Ended
+    ensures done { result.status ≡ 0 → IsDone (map (λ w. w.now) words.now) (bytes_of files.old.files) (bytes_of files.new.files)
+        (Some []) (Some result.out.items) × (result.err.items ≡ []) }
+    ensures told { result.status ≢ 0 → IsTold (map (λ w. w.now) words.now) (bytes_of files.old.files)
+        (files.new.failed || result.out_failed) result.err_failed (Some []) (Some result.err.items) result.status }
+    ensures kept { result.status ≢ 0 → bytes_of files.new.files ≡ bytes_of files.old.files }
+{
     let mut out: Vec<u8> = Vec::new(alloc);
     let mut err: Vec<u8> = Vec::new(alloc);
-    let (mut shown, mut told) = (Written(&mut out), Written(&mut err));
-    let status = sblog(rt, alloc, words.as_slice(), files, &mut shown, &mut told);
-    Ok((status, out, err))
+    let (mut shown, mut told) = (Written::new(&mut out), Written::new(&mut err));
+    let status = sblog(rt, alloc, words, files, &mut shown, &mut told);
+    let (out_failed, err_failed) = (shown.failed, told.failed);
+    Ended {
+        status,
+        out,
+        err,
+        out_failed,
+        err_failed,
+    }
+}
+
+/// The same of a line, of which each word is an argument.
+fn carried<R: Threads + Wait + Sync + AllocGlobal>(
+    rt: &R,
+    line: &str,
+    files: &mut Folder,
+) -> Result<Ended, Fail> {
+    let alloc = rt.alloc();
+    let words: Vec<&str> = line.split_whitespace().collect(alloc)?;
+    Ok(in_memory(rt, alloc, words.as_slice(), files))
 }
 
 #[test]
@@ -96,9 +105,13 @@ fn statuses_and_lines(rt: HostRuntime) -> Result<(), Fail> {
         ("explain b", adder, 6, "input or output\n"),
     ];
     for (line, bytes, want, text) in cases {
-        let fault = Failure::InputOutput;
-        let mut files = OneFile { bytes, fault };
-        let (status, out, err) = carried(&rt, line, &mut files)?;
+        let mut files = Folder::new(rt.alloc(), [("a", bytes)].as_slice())?;
+        let Ended {
+            status,
+            out,
+            err,
+            ..
+        } = carried(&rt, line, &mut files)?;
         assert_eq!(rt; status, want, "at {text}");
         let (shown, silent) = if want == 0 {
             (&out, &err)
@@ -132,10 +145,13 @@ fn usage_texts(rt: HostRuntime) -> Result<(), Fail> {
         ("help run", "Usage: sblog run <SCENARIO>"),
     ];
     for (line, part) in cases {
-        let bytes = ADDER.as_slice();
-        let fault = Failure::InputOutput;
-        let mut files = OneFile { bytes, fault };
-        let (status, out, err) = carried(&rt, line, &mut files)?;
+        let mut files = Folder::new(rt.alloc(), [("a", ADDER.as_slice())].as_slice())?;
+        let Ended {
+            status,
+            out,
+            err,
+            ..
+        } = carried(&rt, line, &mut files)?;
         assert_eq!(rt; status, 2, "at {line}");
         assert!(rt; out.is_empty(), "at {line}");
         let shown = str::from_utf8(err.as_slice()).unwrap_or("");

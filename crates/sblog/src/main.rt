@@ -44,7 +44,7 @@ fn main(rt: HostRuntime) -> ExitCode {
         stream: rt.stderr(),
         broken: &broken,
     };
-    let (mut out, mut err) = (Written(&mut reports), Written(&mut faults));
+    let (mut out, mut err) = (Written::new(&mut reports), Written::new(&mut faults));
     let status = match arguments(&rt) {
         Ok(words) => {
             let process = process::id(rt.process());

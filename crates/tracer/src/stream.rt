@@ -25,11 +25,32 @@ pub trait Stream {
 
 /// A writer as a stream.
 #[derive(Drop)]
-pub struct Written<'a, W: Write>(pub &'a mut W);
+pub struct Written<'a, W: Write> {
+    pub writer: &'a mut W,
+    /// Whether a write has failed.
+    pub failed: bool,
+}
+
+impl<'a, W: Write> Written<'a, W> {
+    /// The stream of a writer, before its first write.
+    pub fn new(writer: &'a mut W) -> Written<'a, W> {
+        Written {
+            writer,
+            failed: false,
+        }
+    }
+}
 
 impl<W: Write> Stream for Written<'_, W> {
+    ghost contents = { λ w. W.contents w.writer.now };
+
+    ghost failed = { λ w. w.failed };
+
     fn print<D: Display + Drop>(&mut self, text: D) -> Result<(), Failure> {
-        let written = write!(self.0, "{text}");
+        let written = write!(self.writer, "{text}");
+        if written.is_err() {
+            self.failed = true;
+        }
         written.map_err(Failure::from)
     }
 }

@@ -1,46 +1,24 @@
 //! The commands `run`, `live` and `draw` over files in memory.
 
-use super::{ADDER, carried, some_of};
-use std::alloc::Global;
+use super::folder::Folder;
+use super::{ADDER, Ended, carried};
+use std::alloc::{AllocError, Global};
 use std::process::Abort;
 use std::str;
 use std::sync::Wait;
 use std::test::Fail;
 use std::thread::Threads;
-use tracer::{Failure, Files};
 
-/// A scenario at the path `s`, an image at `adder.sbi`, one that is cut off at `cut.sbi`, and what was
-/// written at `out`; every other path fails.
-#[derive(Drop)]
-struct Folder {
-    scenario: Vec<u8>,
-    out: Vec<u8>,
-}
-
-impl Files for Folder {
-    fn read(
-        &mut self,
-        alloc: Global,
-        path: &str,
-        limit: Option<usize>,
-    ) -> Result<Vec<u8>, Failure> {
-        match path {
-            "s" => some_of(alloc, self.scenario.as_slice(), limit),
-            "adder.sbi" => some_of(alloc, ADDER.as_slice(), limit),
-            "cut.sbi" => some_of(alloc, &ADDER[..55], limit),
-            _ => Err(Failure::InputOutput),
-        }
-    }
-
-    fn write(&mut self, path: &str, bytes: &[u8]) -> Result<(), Failure> {
-        if path != "out" {
-            return Err(Failure::InputOutput);
-        }
-        self.out.clear();
-        self.out
-            .extend_from_slice(bytes)
-            .map_err(|_| Failure::Memory)
-    }
+/// A scenario at the path `s`, an image at `adder.sbi`, one that is cut off at `cut.sbi`, and a file at
+/// `out` that has the bytes `old`.
+fn folder(alloc: Global, scenario: &[u8]) -> Result<Folder, AllocError> {
+    let files = [
+        ("s", scenario),
+        ("adder.sbi", ADDER.as_slice()),
+        ("cut.sbi", &ADDER[..55]),
+        ("out", b"old".as_slice()),
+    ];
+    Folder::new(alloc, files.as_slice())
 }
 
 /// Carries out one line on a scenario, and tests its status and what it shows on each stream.
@@ -52,15 +30,18 @@ fn ends<R: Threads + Wait + Sync + Abort + AllocGlobal>(
     shown: &str,
     told: &str,
 ) -> Result<(), Fail> {
-    let mut files = Folder {
-        scenario: scenario.to_vec(rt.alloc())?,
-        out: Vec::new(rt.alloc()),
-    };
-    let (answered, out, err) = carried(rt, line, &mut files)?;
-    assert_eq!(rt; answered, status, "at {line}, {told}");
-    assert!(rt; out.as_slice() == shown.as_bytes(), "at {line}, {told}");
-    assert!(rt; err.as_slice() == told.as_bytes(), "at {line}, {told}");
-    assert!(rt; files.out.is_empty(), "at {line}");
+    let mut files = folder(rt.alloc(), scenario)?;
+    let ended = carried(rt, line, &mut files)?;
+    assert_eq!(rt; ended.status, status, "at {line}, {told}");
+    assert!(rt;
+        ended.out.as_slice() == shown.as_bytes(),
+        "at {line}, {told}"
+    );
+    assert!(rt;
+        ended.err.as_slice() == told.as_bytes(),
+        "at {line}, {told}"
+    );
+    assert!(rt; files.bytes("out") == b"old".as_slice(), "at {line}");
     Ok(())
 }
 
@@ -138,22 +119,21 @@ fn pictures(rt: HostRuntime) -> Result<(), Fail> {
         ("draw folder out", 6, "input or output\n", ["old", "old"]),
     ];
     for (line, want, told, parts) in cases {
-        let mut files = Folder {
-            scenario: b"process a adder.sbi\ninput a 5\ndrive 10\n".to_vec(rt.alloc())?,
-            out: b"old".to_vec(rt.alloc())?,
-        };
-        let scenario = files.scenario.clone()?;
-        let (status, out, err) = carried(&rt, line, &mut files)?;
+        let scenario = b"process a adder.sbi\ninput a 5\ndrive 10\n".as_slice();
+        let mut files = folder(rt.alloc(), scenario)?;
+        let Ended {
+            status,
+            out,
+            err,
+            ..
+        } = carried(&rt, line, &mut files)?;
         assert_eq!(rt; status, want, "at {line}");
         assert!(rt;
             out.is_empty() && err.as_slice() == told.as_bytes(),
             "at {line}"
         );
-        assert!(rt;
-            files.scenario.as_slice() == scenario.as_slice(),
-            "at {line}"
-        );
-        let left = str::from_utf8(files.out.as_slice()).unwrap_or("");
+        assert!(rt; files.bytes("s") == scenario, "at {line}");
+        let left = str::from_utf8(files.bytes("out")).unwrap_or("");
         for part in parts {
             assert!(rt; left.contains(part), "at {line}: {left}");
         }

@@ -1,10 +1,11 @@
 //! Streams that take a few bytes at a time, and streams that fail.
 
-use super::{ADDER, OneFile};
+use super::ADDER;
+use super::folder::Folder;
 use std::io;
 use std::io::Write;
 use std::test::Fail;
-use tracer::{Failure, Written, sblog};
+use tracer::{Written, sblog};
 
 /// A writer that takes two bytes at a time, and fails when it has so many.
 #[derive(Drop)]
@@ -40,14 +41,11 @@ fn short_and_failing_streams(rt: HostRuntime) -> Result<(), Fail> {
         ("check b", 100, 100, 6, "", "input or output\n"),
         ("check b", 100, 0, 6, "", ""),
         ("fly", 100, 7, 6, "", "error: "),
-        ("asm a a --state 8", 0, 100, 6, "", "input or output\n"),
+        ("asm b a --state 8", 0, 100, 6, "", "input or output\n"),
     ];
     for (line, room, space, want, shown, told) in cases {
         let words: Vec<&str> = line.split_whitespace().collect(alloc)?;
-        let mut files = OneFile {
-            bytes: ADDER.as_slice(),
-            fault: Failure::InputOutput,
-        };
+        let mut files = Folder::new(alloc, [("a", ADDER.as_slice())].as_slice())?;
         let mut out = Short {
             bytes: Vec::new(alloc),
             room,
@@ -56,7 +54,7 @@ fn short_and_failing_streams(rt: HostRuntime) -> Result<(), Fail> {
             bytes: Vec::new(alloc),
             room: space,
         };
-        let (mut reports, mut faults) = (Written(&mut out), Written(&mut err));
+        let (mut reports, mut faults) = (Written::new(&mut out), Written::new(&mut err));
         let status = sblog(
             &rt,
             alloc,

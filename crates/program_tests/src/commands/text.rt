@@ -1,43 +1,16 @@
 //! The commands `asm`, `pack` and `dis` over files in memory.
 
-use super::{ADDER, carried, some_of};
-use std::alloc::Global;
+use super::folder::Folder;
+use super::{ADDER, carried};
+use std::alloc::{AllocError, Global};
 use std::process::Abort;
 use std::sync::Wait;
 use std::test::Fail;
 use std::thread::Threads;
-use tracer::{Failure, Files};
 
-/// A text at the path `s` and an image at the path `i`; every other path fails.
-#[derive(Drop)]
-struct TwoFiles<'a> {
-    text: &'a [u8],
-    image: Vec<u8>,
-}
-
-impl Files for TwoFiles<'_> {
-    fn read(
-        &mut self,
-        alloc: Global,
-        path: &str,
-        limit: Option<usize>,
-    ) -> Result<Vec<u8>, Failure> {
-        match path {
-            "s" => some_of(alloc, self.text, limit),
-            "i" => some_of(alloc, self.image.as_slice(), limit),
-            _ => Err(Failure::InputOutput),
-        }
-    }
-
-    fn write(&mut self, path: &str, bytes: &[u8]) -> Result<(), Failure> {
-        if path != "i" {
-            return Err(Failure::InputOutput);
-        }
-        self.image.clear();
-        self.image
-            .extend_from_slice(bytes)
-            .map_err(|_| Failure::Memory)
-    }
+/// A text, or code, at the path `s` and an image at the path `i`.
+fn folder(alloc: Global, text: &[u8], image: &[u8]) -> Result<Folder, AllocError> {
+    Folder::new(alloc, [("s", text), ("i", image)].as_slice())
 }
 
 static ADDER_TEXT: &str = "ldxdw r3, [r1+0]\nldxdw r4, [r2+0]\nadd r4, r3\nstxdw [r2+0], r4\n\
@@ -47,29 +20,27 @@ static ADDER_TEXT: &str = "ldxdw r3, [r1+0]\nldxdw r4, [r2+0]\nadd r4, r3\nstxdw
 fn ends<R: Threads + Wait + Sync + Abort + AllocGlobal>(
     rt: &R,
     line: &str,
-    files: &mut TwoFiles<'_>,
+    files: &mut Folder,
     status: u8,
     shown: &str,
     left: &[u8],
 ) -> Result<(), Fail> {
-    let (answered, out, err) = carried(rt, line, files)?;
-    assert_eq!(rt; answered, status, "at {line}, {shown}");
+    let ended = carried(rt, line, files)?;
+    assert_eq!(rt; ended.status, status, "at {line}, {shown}");
     let (told, silent) = if status == 0 {
-        (&out, &err)
+        (&ended.out, &ended.err)
     } else {
-        (&err, &out)
+        (&ended.err, &ended.out)
     };
     assert!(rt; told.as_slice() == shown.as_bytes(), "at {line}, {shown}");
     assert!(rt; silent.is_empty(), "at {line}, {shown}");
-    assert!(rt; files.image.as_slice() == left, "at {line}, {shown}");
+    assert!(rt; files.bytes("i") == left, "at {line}, {shown}");
     Ok(())
 }
 
 #[test]
 fn adder_both_ways(rt: HostRuntime) -> Result<(), Fail> {
-    let image = b"old".to_vec(rt.alloc())?;
-    let text = ADDER_TEXT.as_bytes();
-    let mut files = TwoFiles { text, image };
+    let mut files = folder(rt.alloc(), ADDER_TEXT.as_bytes(), b"old")?;
     let adder = ADDER.as_slice();
     ends(&rt, "asm s i --state 8", &mut files, 0, "", adder)?;
     ends(&rt, "dis i", &mut files, 0, ADDER_TEXT, adder)?;
@@ -118,8 +89,7 @@ fn packed_code(rt: HostRuntime) -> Result<(), Fail> {
         ),
     ];
     for (options, text, status, shown, left) in cases {
-        let image = b"old".to_vec(alloc)?;
-        let mut files = TwoFiles { text, image };
+        let mut files = folder(alloc, text, b"old")?;
         let line = format!(in alloc; "pack s i {options}")?;
         ends(&rt, line.as_str(), &mut files, status, shown, left)?;
     }
@@ -128,9 +98,6 @@ fn packed_code(rt: HostRuntime) -> Result<(), Fail> {
 
 #[test]
 fn refused_texts_write_nothing(rt: HostRuntime) -> Result<(), Fail> {
-    let image = b"old".to_vec(rt.alloc())?;
-    let text = b"".as_slice();
-    let mut files = TwoFiles { text, image };
     let cases = [
         (b"foo\n".as_slice(), 3, "asm refused 1 at line 1\n"),
         (b"mov r11, 0".as_slice(), 3, "asm refused 2 at line 1\n"),
@@ -149,7 +116,7 @@ fn refused_texts_write_nothing(rt: HostRuntime) -> Result<(), Fail> {
         (b"# \xff\nexit\n".as_slice(), 6, "input or output\n"),
     ];
     for (text, status, shown) in cases {
-        files.text = text;
+        let mut files = folder(rt.alloc(), text, b"old")?;
         ends(&rt, "asm s i --state 8", &mut files, status, shown, b"old")?;
     }
     Ok(())
@@ -167,13 +134,9 @@ fn at_most_1024_slots(rt: HostRuntime) -> Result<(), Fail> {
     }
     let mut longer = text.clone()?;
     longer.extend_from_slice(b"exit\n")?;
-    let image = Vec::new(alloc);
-    let mut files = TwoFiles {
-        text: text.as_slice(),
-        image,
-    };
+    let mut files = folder(alloc, &text, b"old")?;
     ends(&rt, "asm s i --state 1024", &mut files, 0, "", &file)?;
-    files.text = longer.as_slice();
+    let mut files = folder(alloc, &longer, &file)?;
     let refused = "asm refused 4 at line 1025\n";
     ends(&rt, "asm s i --state 0", &mut files, 3, refused, &file)?;
     // Nothing follows the largest image, also behind as many bytes as are read of one.
@@ -181,7 +144,7 @@ fn at_most_1024_slots(rt: HostRuntime) -> Result<(), Fail> {
     ends(&rt, "check i", &mut files, 3, unset, &file)?;
     for rest in [b"\x95".as_slice(), b"\x00\x00\x00\x00\x00\x00\x00"] {
         file.extend_from_slice(rest)?;
-        files.image.extend_from_slice(rest)?;
+        let mut files = folder(alloc, b"", &file)?;
         ends(&rt, "check i", &mut files, 3, "load refused 5\n", &file)?;
     }
     Ok(())
@@ -189,19 +152,17 @@ fn at_most_1024_slots(rt: HostRuntime) -> Result<(), Fail> {
 
 #[test]
 fn paths_and_images(rt: HostRuntime) -> Result<(), Fail> {
-    let image = b"SBI1\x08\x00\x01\x00\x95\x00\x00\x00\x00\x00\x00\x00".to_vec(rt.alloc())?;
-    let text = b"exit".as_slice();
-    let mut files = TwoFiles { text, image };
-    let exit = files.image.clone()?;
-    ends(&rt, "dis i", &mut files, 0, "exit\n", &exit)?;
-    ends(&rt, "dis x", &mut files, 6, "input or output\n", &exit)?;
+    let exit = b"SBI1\x08\x00\x01\x00\x95\x00\x00\x00\x00\x00\x00\x00".as_slice();
+    let mut files = folder(rt.alloc(), b"exit", exit)?;
+    ends(&rt, "dis i", &mut files, 0, "exit\n", exit)?;
+    ends(&rt, "dis x", &mut files, 6, "input or output\n", exit)?;
     ends(
         &rt,
         "asm x i --state 8",
         &mut files,
         6,
         "input or output\n",
-        &exit,
+        exit,
     )?;
     ends(
         &rt,
@@ -209,24 +170,17 @@ fn paths_and_images(rt: HostRuntime) -> Result<(), Fail> {
         &mut files,
         6,
         "input or output\n",
-        &exit,
+        exit,
     )?;
-    ends(
-        &rt,
-        "asm i i --state 8",
-        &mut files,
-        6,
-        "input or output\n",
-        &exit,
-    )?;
-    ends(&rt, "dis s", &mut files, 3, "load refused 1\n", &exit)?;
-    files.text = b"SBI1\x08\x00\x01\x00\x0f\x34\x00\x00\x01\x00\x00\x00";
+    ends(&rt, "dis s", &mut files, 3, "load refused 1\n", exit)?;
+    let bad_field = b"SBI1\x08\x00\x01\x00\x0f\x34\x00\x00\x01\x00\x00\x00";
+    let mut files = folder(rt.alloc(), bad_field, exit)?;
     ends(
         &rt,
         "dis s",
         &mut files,
         3,
         "decode refused 3 at slot 0\n",
-        &exit,
+        exit,
     )
 }
