@@ -124,6 +124,10 @@ abbrev pub IsRefusal : List Text → Refusal → Type 0
 IsRefusal words (refusal.Usage usage) = IsAmong usage.kind (fault_of sblog_app words) × (string_bytes usage.text ≢ [])
 IsRefusal words refusal.Memory = Unit {0}
 
+-- what is shown of an order whose OUT is a file that it reads
+abbrev pub own_input_text : Text
+own_input_text = codes "error: OUT is a file that is read\n"
+
 -- the same kind, and something to show; want of memory is no usage
 abbrev pub Explains : ErrorKind → Refusal → Type 0
 Explains kind (refusal.Usage usage) = (usage.kind ≡ kind) × (kind ≢ OutOfMemory) × (string_bytes usage.text ≢ [])

@@ -1,6 +1,7 @@
 //! Why a command line asks for nothing.
 
 ghost use Rattle.std.specs.Prelude.{◌≡◌, ◌≢◌, IfOk, [], string_bytes};
+ghost use Rattle.cli.specs.Asks.{own_input_text};
 ghost use Rattle.cli.specs.declared.refusal.Refusal.TheVariants.{Memory};
 
 use clap::error::ErrorKind;
@@ -22,6 +23,17 @@ impl Usage {
         ensures { IfOk result (λ u. string_bytes u.text ≢ []) }
     {
         let text = String::from_str(alloc, "error: an argument is not UTF-8\n")?;
+        Ok(Usage {
+            kind: ErrorKind::ValueValidation,
+            text,
+        })
+    }
+
+    /// That of an order whose OUT is a file that it reads.
+    pub fn own_input(alloc: Global) -> Result<Usage, AllocError>
+        ensures { IfOk result (λ u. string_bytes u.text ≡ own_input_text) }
+    {
+        let text = String::from_str(alloc, "error: OUT is a file that is read\n")?;
         Ok(Usage {
             kind: ErrorKind::ValueValidation,
             text,

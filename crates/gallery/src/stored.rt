@@ -14,6 +14,10 @@ pub struct StoredFiles<'a, R: rt::Files + AllocGlobal> {
 }
 
 impl<'a, R: rt::Files + AllocGlobal> Files for StoredFiles<'a, R> {
+    fn is_one(&self, _alloc: Global, path: &str, other: &str) -> Result<bool, Failure> {
+        Ok(path == other)
+    }
+
     fn read(
         &mut self,
         alloc: Global,

@@ -1,6 +1,7 @@
 //! The commands of the program, over files and streams in memory.
 
 ghost use Rattle.std.specs.Prelude.{◌≡◌, ◌≢◌, ◌||◌, [], Some, map};
+ghost use Rattle.std.specs.Str.{bytes_eq};
 ghost use Rattle.program_tests.specs.Folder.{bytes_of};
 ghost use Rattle.tracer.specs.Program.{IsDone, IsTold};
 
@@ -52,7 +53,7 @@ fn in_memory<R: Threads + Wait + Sync>(
 ) -> Ended
     ensures done { result.status ≡ 0 → IsDone (map (λ w. w.now) words.now) (bytes_of files.old.files) (bytes_of files.new.files)
         (Some []) (Some result.out.items) × (result.err.items ≡ []) }
-    ensures told { result.status ≢ 0 → IsTold (map (λ w. w.now) words.now) (bytes_of files.old.files)
+    ensures told { result.status ≢ 0 → IsTold (map (λ w. w.now) words.now) (bytes_of files.old.files) bytes_eq
         (files.new.failed || result.out_failed) result.err_failed (Some []) (Some result.err.items) result.status }
     ensures kept { result.status ≢ 0 → bytes_of files.new.files ≡ bytes_of files.old.files }
 {

@@ -6,6 +6,7 @@ use std::alloc::Global;
 use std::cell::Cell;
 use std::fs::{OpenFile, OpenOptions, Permissions};
 use std::io::{Read, Write};
+use std::os::unix::fs::MetadataExt;
 use std::path::Path;
 use std::{fs, io, rt};
 use tracer::{Failure, Files};
@@ -22,6 +23,16 @@ pub struct SystemFiles<'a, R: rt::Files + AllocGlobal> {
 }
 
 impl<'a, R: rt::Files + AllocGlobal> Files for SystemFiles<'a, R> {
+    fn is_one(&self, _alloc: Global, path: &str, other: &str) -> Result<bool, Failure> {
+        if path == other {
+            return Ok(true);
+        }
+        match (identity(self.rt, path)?, identity(self.rt, other)?) {
+            (Some(one), Some(other)) => Ok(one == other),
+            _ => Ok(false),
+        }
+    }
+
     fn read(
         &mut self,
         alloc: Global,
@@ -43,6 +54,16 @@ impl<'a, R: rt::Files + AllocGlobal> Files for SystemFiles<'a, R> {
             note(e, self.broken);
         }
         written.map_err(Failure::from)
+    }
+}
+
+/// The device and the number of the plain file to which a path leads. A device or a pipe may be read
+/// and written at once, and what isn't found is no file.
+fn identity<R: rt::Files + AllocGlobal>(rt: &R, path: &str) -> Result<Option<(u64, u64)>, Failure> {
+    match fs::metadata(rt, path) {
+        Ok(found) if found.is_file() => Ok(Some((found.dev(), found.ino()))),
+        Err(e) if e.kind() == io::ErrorKind::OutOfMemory => Err(Failure::Memory),
+        _ => Ok(None),
     }
 }
 

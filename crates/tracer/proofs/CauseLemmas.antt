@@ -11,8 +11,8 @@ use Rattle.verifier.specs.declared.fault.ImageError.TheVariants as image
 use Rattle.tracer.specs.Dis.{IsUnlisted}
 use Rattle.tracer.specs.Fault.{fault_of_failure, fault_of_image, fault_of_refusal}
 use Rattle.tracer.specs.Files.{Content}
-use Rattle.tracer.specs.Inside.{EndsShort, IsPlainFault, LoadFault}
-use Rattle.tracer.specs.Program.{FaultOf, IsCause, IsFault}
+use Rattle.tracer.specs.Inside.{EndsShort, IsOwnInput, IsPlainFault, IsWriteFault, LoadFault}
+use Rattle.tracer.specs.Program.{FaultOf, IsCause, Sameness}
 use Rattle.tracer.specs.declared.fault.Fault.{Fault}
 use Rattle.tracer.specs.declared.fault.Fault.TheVariants.{Usage, Header, Decode, Verify, Assemble, Scenario, Memory, InputOutput}
 use Rattle.tracer.specs.declared.files.Failure.{Failure}
@@ -20,10 +20,10 @@ use Rattle.tracer.specs.declared.files.Failure.TheVariants as failure
 use Rattle.tracer.proofs.HeadLemmas.{head_refusal, head_unread}
 
 -- a command line that is refused
-pub refusal_is_cause : (words : List (List ℕ)) (content : Content) (failed : Bool) (e : Refusal) (f : Fault)
-    → IsRefusal words e → f ≡ fault_of_refusal e → IsCause words content failed f
-refusal_is_cause words content failed (refusal.Usage usage) f why is = subst (IsCause words content failed) (sym is) why
-refusal_is_cause words content failed refusal.Memory f why is = subst (IsCause words content failed) (sym is) tt
+pub refusal_is_cause : (words : List (List ℕ)) (content : Content) (one : Sameness) (failed : Bool) (e : Refusal) (f : Fault)
+    → IsRefusal words e → f ≡ fault_of_refusal e → IsCause words content one failed f
+refusal_is_cause words content one failed (refusal.Usage usage) f why is = subst (IsCause words content one failed) (sym is) (inl why)
+refusal_is_cause words content one failed refusal.Memory f why is = subst (IsCause words content one failed) (sym is) tt
 
 -- the error that an error of a part became
 pub becomes : {T E : Type 0} (r : Result T E) (P Q : E → Type 0) → IsErrAnd r P → ((e : E) → P e → Q e) → IfErr r Q
@@ -31,27 +31,45 @@ becomes (Ok x) P Q at step = tt
 becomes (Err e) P Q at step = step e at
 
 -- an order that comes to a fault
-pub fault_is_cause : (words : List (List ℕ)) (content : Content) (failed : Bool) (order : Order) (f : Fault)
-    → AsksFor words order → IsFault content failed order f → IsCause words content failed f
-fault_is_cause words content failed order (Usage usage) asked fault = absurd fault
-fault_is_cause words content failed order (Header h) asked fault = (order, asked, fault)
-fault_is_cause words content failed order (Decode rule slot) asked fault = (order, asked, fault)
-fault_is_cause words content failed order (Verify rule slot) asked fault = (order, asked, fault)
-fault_is_cause words content failed order (Assemble rule line) asked fault = (order, asked, fault)
-fault_is_cause words content failed order (Scenario line said) asked fault = (order, asked, fault)
-fault_is_cause words content failed order Memory asked fault = tt
-fault_is_cause words content failed order InputOutput asked fault = (order, asked, fault)
+pub fault_is_cause : (words : List (List ℕ)) (content : Content) (one : Sameness) (failed : Bool) (order : Order) (f : Fault)
+    → AsksFor words order → IsWriteFault one content failed order f → IsCause words content one failed f
+fault_is_cause words content one failed order (Usage usage) asked (inl fault) = absurd fault
+fault_is_cause words content one failed order (Usage usage) asked (inr own) = inr (own.0, order, asked, own.1)
+fault_is_cause words content one failed order (Header h) asked (inl fault) = (order, asked, fault)
+fault_is_cause words content one failed order (Header h) asked (inr own) = absurd own
+fault_is_cause words content one failed order (Decode rule slot) asked (inl fault) = (order, asked, fault)
+fault_is_cause words content one failed order (Decode rule slot) asked (inr own) = absurd own
+fault_is_cause words content one failed order (Verify rule slot) asked (inl fault) = (order, asked, fault)
+fault_is_cause words content one failed order (Verify rule slot) asked (inr own) = absurd own
+fault_is_cause words content one failed order (Assemble rule line) asked (inl fault) = (order, asked, fault)
+fault_is_cause words content one failed order (Assemble rule line) asked (inr own) = absurd own
+fault_is_cause words content one failed order (Scenario line said) asked (inl fault) = (order, asked, fault)
+fault_is_cause words content one failed order (Scenario line said) asked (inr own) = absurd own
+fault_is_cause words content one failed order Memory asked fault = tt
+fault_is_cause words content one failed order InputOutput asked (inl fault) = (order, asked, fault)
+fault_is_cause words content one failed order InputOutput asked (inr own) = absurd own
+
+-- what holds where a file would be written over may be said in other words
+pub own_input_of : (P Q : Type 0) (f : Fault) → (P → Q) → IsOwnInput P f → IsOwnInput Q f
+own_input_of P Q (Usage usage) step own = (own.0, step own.1)
+own_input_of P Q (Header h) step own = absurd own
+own_input_of P Q (Decode rule slot) step own = absurd own
+own_input_of P Q (Verify rule slot) step own = absurd own
+own_input_of P Q (Assemble rule line) step own = absurd own
+own_input_of P Q (Scenario line said) step own = absurd own
+own_input_of P Q Memory step own = tt
+own_input_of P Q InputOutput step own = absurd own
 
 second : (a b : Bool) → b ≡ true → (a || b) ≡ true
 second true b is = refl
 second false b is = is
 
 -- a stream that failed is the cause of its fault
-pub stream_cause : (words : List (List ℕ)) (content : Content) (failed stream : Bool) (order : Order) (f : Fault)
-    → AsksFor words order → stream ≡ true → (f ≡ Memory) ⊎ (f ≡ InputOutput) → IsCause words content (failed || stream) f
-stream_cause words content failed stream order f asked is (inl memory) = subst (IsCause words content (failed || stream)) (sym memory) tt
-stream_cause words content failed stream order f asked is (inr output) =
-    subst (IsCause words content (failed || stream)) (sym output) (order, asked, inl (second failed stream is))
+pub stream_cause : (words : List (List ℕ)) (content : Content) (one : Sameness) (failed stream : Bool) (order : Order) (f : Fault)
+    → AsksFor words order → stream ≡ true → (f ≡ Memory) ⊎ (f ≡ InputOutput) → IsCause words content one (failed || stream) f
+stream_cause words content one failed stream order f asked is (inl memory) = subst (IsCause words content one (failed || stream)) (sym memory) tt
+stream_cause words content one failed stream order f asked is (inr output) =
+    subst (IsCause words content one (failed || stream)) (sym output) (order, asked, inl (second failed stream is))
 
 -- ---- what is read from a file
 
@@ -85,8 +103,8 @@ listing_fault content failed path bytes e f read why is = subst (FaultOf content
 -- ---- a run that memory ended
 
 -- a stream that failed while its lines were printed
-pub failure_cause : (words : List (List ℕ)) (content : Content) (failed stream : Bool) (f g : Fault) (text : List ℕ)
+pub failure_cause : (words : List (List ℕ)) (content : Content) (one : Sameness) (failed stream : Bool) (f g : Fault) (text : List ℕ)
     → (text ≡ []) ⊎ ((f ≡ Memory) × EndsShort words content text) → (text ≡ [] → ⊥) → stream ≡ true → (g ≡ Memory) ⊎ (g ≡ InputOutput)
-    → IsCause words content (failed || stream) g
-failure_cause words content failed stream f g text (inl none) some is kind = absurd (some none)
-failure_cause words content failed stream f g text (inr ends) some is kind = stream_cause words content failed stream ends.1.0 g ends.1.1 is kind
+    → IsCause words content one (failed || stream) g
+failure_cause words content one failed stream f g text (inl none) some is kind = absurd (some none)
+failure_cause words content one failed stream f g text (inr ends) some is kind = stream_cause words content one failed stream ends.1.0 g ends.1.1 is kind

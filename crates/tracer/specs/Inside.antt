@@ -1,7 +1,8 @@
 -- What the functions of this crate say to one another.
 use Rattle.std.specs.Prelude.{◌≡◌, ◌⊎◌, ℕ, Bool, true, List, Some, String}
 use Rattle.std.specs.declared.alloc.Global.{Global}
-use Rattle.cli.specs.Asks.{AsksFor, Order}
+use Rattle.std.specs.String.{string_bytes}
+use Rattle.cli.specs.Asks.{AsksFor, Order, own_input_text}
 use Rattle.verifier.specs.ImageFile as image_file
 use Rattle.verifier.specs.Typed.{Typed}
 use Rattle.verifier.specs.declared.fault.ImageError.{ImageError}
@@ -11,10 +12,10 @@ use Rattle.scenario.specs.declared.process.Process.{Process}
 use Rattle.scenario.specs.declared.scenario.Scenario.{Scenario}
 use Rattle.tracer.specs.Fault.{fault_of_image}
 use Rattle.tracer.specs.Files.{Content}
-use Rattle.tracer.specs.Program.{IsShort}
+use Rattle.tracer.specs.Program.{IsFault, IsShort, Sameness, WritesOver}
 use Rattle.tracer.specs.Stage.{AreLoaded, AreRefused}
 use Rattle.tracer.specs.declared.fault.Fault.{Fault}
-use Rattle.tracer.specs.declared.fault.Fault.TheVariants.{Memory, InputOutput}
+use Rattle.tracer.specs.declared.fault.Fault.TheVariants.{Usage, Header, Decode, Verify, Assemble, Scenario, Memory, InputOutput}
 
 -- memory ran out, or a file has failed
 abbrev pub IsPlainFault : Bool → Fault → Type 0
@@ -29,6 +30,16 @@ LoadFault content failed path f =
 abbrev pub ImagesFault : Content → Bool → List (String Global × Process) → Fault → Type 0
 ImagesFault content failed processes f =
     IsPlainFault failed f ⊎ ((e : ImageError) × (f ≡ fault_of_image e) × AreRefused content processes f)
+
+-- memory ran out, or a file that is read would be written over, of which this holds
+abbrev pub IsOwnInput : Type 0 → Fault → Type 0
+IsOwnInput found Memory = Unit {0}
+IsOwnInput found (Usage usage) = (string_bytes usage.text ≡ own_input_text) × found
+IsOwnInput found f = ⊥
+
+-- the order, which writes a file, comes to the fault
+abbrev pub IsWriteFault : Sameness → Content → Bool → Order → Fault → Type 0
+IsWriteFault one content failed order f = IsFault content failed order f ⊎ IsOwnInput (WritesOver one content order) f
 
 -- the scenario is that of the file at the path
 abbrev pub IsReadAs : Content → Allowed → List ℕ → Scenario → Type 0

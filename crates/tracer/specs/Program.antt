@@ -1,9 +1,14 @@
 -- How the program ends: the words, the files that they name, and whether a file or a stream failed decide it.
-use Rattle.std.specs.Prelude.{◌≡◌, ◌≢◌, ◌⊎◌, ℕ, Bool, true, List, Option, Some}
+use Rattle.std.specs.Prelude.{◌≡◌, ◌≢◌, ◌⊎◌, ℕ, Bool, true, List, Option, Some, String, slice_get}
+use Rattle.std.specs.declared.alloc.Global.{Global}
 use Rattle.std.specs.Io.KnownBytes.{Appends}
-use Rattle.cli.specs.Asks.{AsksFor, IsRefusal, Order, Run, Live, Draw, Check, Explain, Asm, Pack, Dis}
+use Rattle.std.specs.String.{string_bytes}
+use Rattle.cli.specs.Asks.{AsksFor, IsRefusal, own_input_text, Order, Run, Live, Draw, Check, Explain, Asm, Pack, Dis}
 use Rattle.cli.specs.declared.refusal.Refusal.TheVariants as refusal
+use Rattle.scenario.specs.Scenario.{IsScenario}
 use Rattle.scenario.specs.declared.order.Allowed.TheVariants.{All, Inputs}
+use Rattle.scenario.specs.declared.process.Process.{Process}
+use Rattle.scenario.specs.declared.scenario.Scenario.{Scenario}
 use Rattle.tracer.specs.Asm.{IsAssembled, IsUnassembled}
 use Rattle.tracer.specs.Check.{IsImageFault}
 use Rattle.tracer.specs.Dis.{IsUnlisted}
@@ -19,11 +24,21 @@ use Rattle.tracer.specs.declared.fault.Fault.TheVariants.{Usage, Memory, InputOu
 
 -- ---- an order that is carried out
 
--- the file that is made of the source is at its place, and every other file is as it was
+-- the file that is made of the source is at its place, which isn't that of the source, and every other file is as it was
 pub record IsWritten (source place : List ℕ) (makes : List ℕ → List ℕ → Type 0) (content content' : Content) : Type 0 where
+  pub apart : source ≢ place
   pub file : (bytes before : List ℕ) → content source ≡ Some bytes → content place ≡ Some before
       → (file : List ℕ) × makes bytes file × (content' place ≡ Some file)
   pub others : (other : List ℕ) → other ≢ place → content' other ≡ content other
+
+-- a process has the image at this path
+abbrev pub IsImagePath : List (String Global × Process) → List ℕ → Type 0
+IsImagePath processes path = (i : ℕ) × (e : String Global × Process) × (slice_get processes i ≡ Some e) × (path ≡ string_bytes e.1.path)
+
+-- no process of the scenario at this path has its image at the place
+abbrev pub SparesImages : Content → List ℕ → List ℕ → Type 0
+SparesImages content scenario place = (bytes : List ℕ) → content scenario ≡ Some bytes
+    → (s : Scenario) × IsScenario All bytes s × ((path : List ℕ) → IsImagePath s.processes.entries path → path ≢ place)
 
 -- the files after an order: `asm` and `pack` write the image file of their source, `draw` the picture of its scenario, the others
 -- leave all as it was
@@ -31,6 +46,7 @@ abbrev pub Leaves : Order → Content → Content → Type 0
 Leaves (Asm source image state form) content content' = IsWritten source image (λ bytes file. IsAssembled bytes state form file) content content'
 Leaves (Pack code image state form) content content' = IsWritten code image (λ bytes file. IsPacked bytes state form file) content content'
 Leaves (Draw scenario picture) content content' = IsWritten scenario picture (λ bytes file. IsDrawn content bytes file) content content'
+    × SparesImages content scenario picture
 Leaves order content content' = content' ≡ content
 
 -- the order prints this text, by its file
@@ -76,11 +92,24 @@ FaultOf content failed path refused f = (bytes : List ℕ) → content path ≡ 
 abbrev pub IsFault : Content → Bool → Order → Fault → Type 0
 IsFault content failed order f = FaultOf content failed (path_of order) (IsRefused content order) f
 
--- the words come to the fault: they are refused, or ask for an order that comes to it
-abbrev pub IsCause : List (List ℕ) → Content → Bool → Fault → Type 0
-IsCause words content failed (Usage usage) = IsRefusal words (refusal.Usage usage)
-IsCause words content failed Memory = Unit {0}
-IsCause words content failed f = (order : Order) × AsksFor words order × IsFault content failed order f
+-- which paths may lead to one file
+abbrev pub Sameness : Type 0
+Sameness = List ℕ → List ℕ → Bool
+
+-- the order's OUT may be a file that it reads
+abbrev pub WritesOver : Sameness → Content → Order → Type 0
+WritesOver one content (Asm source image state form) = one source image ≡ true
+WritesOver one content (Pack code image state form) = one code image ≡ true
+WritesOver one content (Draw scenario picture) = (one scenario picture ≡ true) ⊎ ((bytes : List ℕ) → content scenario ≡ Some bytes
+    → (s : Scenario) × IsScenario All bytes s × (path : List ℕ) × IsImagePath s.processes.entries path × (one path picture ≡ true))
+WritesOver one content order = ⊥
+
+-- the words come to the fault: they are refused, or ask for an order that comes to it or whose OUT may be a file that it reads
+abbrev pub IsCause : List (List ℕ) → Content → Sameness → Bool → Fault → Type 0
+IsCause words content one failed (Usage usage) = IsRefusal words (refusal.Usage usage)
+    ⊎ ((string_bytes usage.text ≡ own_input_text) × (order : Order) × AsksFor words order × WritesOver one content order)
+IsCause words content one failed Memory = Unit {0}
+IsCause words content one failed f = (order : Order) × AsksFor words order × IsFault content failed order f
 
 -- a run that memory ended has this text: the lines of the orders that were refused until then
 abbrev pub IsShort : Content → Order → List ℕ → Type 0
@@ -102,8 +131,8 @@ Tells f failed err err' status =
 
 -- the words come to a fault, which was told; `failed` says whether a file or the stream for reports has failed, `deaf` whether
 -- that for faults has
-pub record IsTold (words : List (List ℕ)) (content : Content) (failed deaf : Bool) (err err' : Option (List ℕ)) (status : ℕ)
+pub record IsTold (words : List (List ℕ)) (content : Content) (one : Sameness) (failed deaf : Bool) (err err' : Option (List ℕ)) (status : ℕ)
     : Type 0 where
   pub fault : Fault
-  pub cause : IsCause words content failed fault
+  pub cause : IsCause words content one failed fault
   pub told : Tells fault deaf err err' status

@@ -2,28 +2,35 @@
 
 ghost use Rattle.std.specs.Prelude.{◌≡◌, ℕ, List, [], IfErr, IfOk, OnErr, OnOk, Some, string_bytes};
 ghost use Rattle.cli.specs.Asks.{Draw};
-ghost use Rattle.scenario.specs.declared.order.Allowed.TheVariants.{All};
 ghost use Rattle.tracer.specs.Draw.{IsDrawn};
-ghost use Rattle.tracer.specs.Program.{FaultOf, IsAnswer, IsFault, Leaves};
-ghost use Rattle.tracer.specs.Stage.{IsUnstaged};
+ghost use Rattle.tracer.specs.Inside.{IsWriteFault};
+ghost use Rattle.tracer.specs.Program.{IsAnswer, Leaves, SparesImages};
 
 use crate::fault::Fault;
 use crate::files::Files;
+use crate::own_input::{spare, spare_images};
 use crate::staging::{Staged, stage};
 use diagram::draw;
 use runner::journal_of;
 use scenario::Allowed;
 use std::alloc::Global;
 
-/// The picture of the run of a scenario, as the text of an SVG file.
-fn picture_of<F: Files>(alloc: Global, path: &str, files: &mut F) -> Result<String, Fault>
+/// The picture of the run of a scenario, as the text of an SVG file, for a place that is that of none
+/// of its images.
+fn picture_of<F: Files>(
+    alloc: Global,
+    path: &str,
+    place: &str,
+    files: &mut F,
+) -> Result<String, Fault>
     ensures drawn { IfOk result (λ t. (bytes : List ℕ) → F.content files.old path.now ≡ Some bytes
         → IsDrawn (F.content files.old) bytes (string_bytes t)) }
+    ensures spared { OnOk result (SparesImages (F.content files.old) path.now place.now) }
     ensures same { F.content files.new ≡ F.content files.old }
-    ensures fault { IfErr result (FaultOf (F.content files.old) (F.failed files.new) path.now
-        (IsUnstaged (F.content files.old) All)) }
+    ensures fault { IfErr result (IsWriteFault F.may_be_one (F.content files.old) (F.failed files.new) (Draw path.now place.now)) }
 {
     let Staged { scenario, images } = stage(alloc, path, Allowed::All, files)?;
+    spare_images(alloc, &scenario.processes, place, files)?;
     let entries = journal_of(alloc, &scenario, images)?;
     let text = draw(alloc, &scenario.processes, entries.as_slice())?;
     Ok(text)
@@ -38,10 +45,11 @@ pub fn draw_scenario<F: Files>(
 ) -> Result<(), Fault>
     ensures report { OnOk result (IsAnswer (F.content files.old) (Draw path.now picture.now) []) }
     ensures left { OnOk result (Leaves (Draw path.now picture.now) (F.content files.old) (F.content files.new)) }
-    ensures fault { IfErr result (IsFault (F.content files.old) (F.failed files.new) (Draw path.now picture.now)) }
+    ensures fault { IfErr result (IsWriteFault F.may_be_one (F.content files.old) (F.failed files.new) (Draw path.now picture.now)) }
     ensures kept { OnErr result (F.content files.new ≡ F.content files.old) }
 {
-    let text = picture_of(alloc, path, files)?;
+    spare(alloc, path, picture, files)?;
+    let text = picture_of(alloc, path, picture, files)?;
     files.write(picture, text.as_str().as_bytes())?;
     Ok(())
 }

@@ -2,7 +2,7 @@
 
 ghost use Rattle.std.specs.Prelude.{◌≡◌, ◌≢◌, ℕ, Bool, true, List, Option, None, Some, IfErr, IfOk, OnErr, OnOk};
 ghost use Rattle.tracer.specs.Files.{up_to};
-ghost use Rattle.tracer.specs.declared.files.Failure.TheVariants.{InputOutput};
+ghost use Rattle.tracer.specs.declared.files.Failure.TheVariants.{InputOutput, Memory};
 
 use std::alloc::Global;
 
@@ -20,6 +20,15 @@ pub trait Files {
 
     // Whether a read or a write has failed by input or output, where that is known.
     ghost failed: { Self → Bool } = { λ _. true };
+
+    // Whether two paths may lead to one file.
+    ghost may_be_one: { List ℕ → List ℕ → Bool } = { λ _ _. true };
+
+    /// Whether two paths lead to one file. A path leads to the same file as itself, whatever is there.
+    fn is_one(&self, alloc: Global, path: &str, other: &str) -> Result<bool, Failure>
+        ensures one { IfOk result (λ one. one ≡ true → may_be_one path.now other.now ≡ true) }
+        ensures same { IfOk result (λ one. path.now ≡ other.now → one ≡ true) }
+        ensures fault { IfErr result (λ e. e ≡ Memory) };
 
     /// The bytes of a file; with a limit, the first so many where it has more.
     fn read(&mut self, alloc: Global, path: &str, limit: Option<usize>) -> Result<Vec<u8>, Failure>

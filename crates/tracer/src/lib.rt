@@ -4,12 +4,12 @@
 //! standard output is what the words ask for, by the files that they name, and nothing is on standard error; with
 //! every other status standard error has the fault that the words, or the bytes of the files, come to, standard
 //! output has nothing, and no file has changed. Of a run that memory ended, the lines of the orders that were refused
-//! until then are printed. `asm`, `pack` and `draw` write the file that their words name, and no other one; no other
-//! command writes a file. A status for input or output comes only where a file or a stream has failed, or a text file
-//! is no text. Where a stream has failed, it may have a part of its text. What a command answers is a definition over
-//! bytes, in the file of `specs/` that has the command's name; the lines are those of `specs/Fault.antt` and
-//! `specs/Report.antt`. Files are behind the trait `Files`, streams behind `Stream`, so a test can hold them in memory,
-//! and let them fail.
+//! until then are printed. `asm`, `pack` and `draw` write the file that their words name, which is none that they
+//! read, and no other one; no other command writes a file. A status for input or output comes only where a file or a
+//! stream has failed, or a text file is no text. Where a stream has failed, it may have a part of its text. What a
+//! command answers is a definition over bytes, in the file of `specs/` that has the command's name; the lines are those
+//! of `specs/Fault.antt` and `specs/Report.antt`. Files are behind the trait `Files`, streams behind `Stream`, so a test
+//! can hold them in memory, where all of this is known of them, and let them fail.
 //!
 //! ```text
 //! let status = sblog(alloc, ["check", "adder.sbi"].as_slice(), &mut files, &mut out, &mut err);
@@ -25,6 +25,7 @@ mod explaining;
 mod fault;
 mod files;
 mod living;
+mod own_input;
 mod pack;
 mod playing;
 mod program;

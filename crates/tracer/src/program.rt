@@ -3,8 +3,8 @@
 ghost use Rattle.std.specs.Prelude.{◌≡◌, ◌≢◌, ◌≤◌, ◌⊎◌, ◌||◌, true, [], IfErr, IsOk, OnErr, OnOk, map, string_bytes};
 ghost use Rattle.std.specs.Io.KnownBytes.{Appends};
 ghost use Rattle.cli.specs.Asks.{Asm, IsInRange, Pack, order_of};
-ghost use Rattle.tracer.specs.Inside.{EndsShort};
-ghost use Rattle.tracer.specs.Program.{IsAnswer, IsAnswered, IsCause, IsCutShort, IsDone, IsFault, IsShort, IsTold, Leaves};
+ghost use Rattle.tracer.specs.Inside.{EndsShort, IsWriteFault};
+ghost use Rattle.tracer.specs.Program.{IsAnswer, IsAnswered, IsCause, IsCutShort, IsDone, IsShort, IsTold, Leaves};
 ghost use Rattle.tracer.specs.declared.fault.Fault.TheVariants.{InputOutput, Memory};
 
 use crate::asm::asm;
@@ -15,6 +15,7 @@ use crate::explaining::explain_image;
 use crate::fault::Fault;
 use crate::files::Files;
 use crate::living::live_scenario;
+use crate::own_input::spare;
 use crate::pack::pack;
 use crate::playing::run_scenario;
 use crate::stream::Stream;
@@ -38,9 +39,10 @@ fn write_image<F: Files>(
     ensures report { OnOk result (IsAnswer (F.content files.old) (Asm source.now image.now state form) []) }
     ensures left { OnOk result (Leaves (Asm source.now image.now state form)
         (F.content files.old) (F.content files.new)) }
-    ensures fault { IfErr result (IsFault (F.content files.old) (F.failed files.new) (Asm source.now image.now state form)) }
+    ensures fault { IfErr result (IsWriteFault F.may_be_one (F.content files.old) (F.failed files.new) (Asm source.now image.now state form)) }
     ensures kept { OnErr result (F.content files.new ≡ F.content files.old) }
 {
+    spare(alloc, source, image, files)?;
     let text = files.read(alloc, source, None)?;
     let bytes = asm(alloc, text.as_slice(), state, form)?;
     files.write(image, bytes.as_slice())?;
@@ -60,9 +62,10 @@ fn write_packed<F: Files>(
     ensures report { OnOk result (IsAnswer (F.content files.old) (Pack code.now image.now state form) []) }
     ensures left { OnOk result (Leaves (Pack code.now image.now state form)
         (F.content files.old) (F.content files.new)) }
-    ensures fault { IfErr result (IsFault (F.content files.old) (F.failed files.new) (Pack code.now image.now state form)) }
+    ensures fault { IfErr result (IsWriteFault F.may_be_one (F.content files.old) (F.failed files.new) (Pack code.now image.now state form)) }
     ensures kept { OnErr result (F.content files.new ≡ F.content files.old) }
 {
+    spare(alloc, code, image, files)?;
     let words = files.read(alloc, code, None)?;
     let bytes = pack(alloc, words.as_slice(), state, form)?;
     files.write(image, bytes.as_slice())?;
@@ -82,7 +85,7 @@ fn answer<R: Threads + Wait + Sync, F: Files>(
     ensures report { OnOk result (IsAnswer (F.content files.old) (order_of request.entry) (string_bytes text.new)) }
     ensures left { OnOk result (Leaves (order_of request.entry)
         (F.content files.old) (F.content files.new)) }
-    ensures fault { IfErr result (IsFault (F.content files.old) (F.failed files.new) (order_of request.entry)) }
+    ensures fault { IfErr result (IsWriteFault F.may_be_one (F.content files.old) (F.failed files.new) (order_of request.entry)) }
     ensures kept { OnErr result (F.content files.new ≡ F.content files.old) }
     ensures short { IfErr result (λ f. (string_bytes text.new ≡ [])
         ⊎ ((f ≡ Memory) × IsShort (F.content files.old) (order_of request.entry) (string_bytes text.new))) }
@@ -135,7 +138,7 @@ fn carry_out<R: Threads + Wait + Sync, S: AsStr, F: Files>(
     requires { string_bytes text.old ≡ [] }
     ensures report { OnOk result (IsAnswered (map S.text words.now)
         (F.content files.old) (F.content files.new) (string_bytes text.new)) }
-    ensures fault { IfErr result (IsCause (map S.text words.now) (F.content files.old) (F.failed files.new)) }
+    ensures fault { IfErr result (IsCause (map S.text words.now) (F.content files.old) F.may_be_one (F.failed files.new)) }
     ensures kept { OnErr result (F.content files.new ≡ F.content files.old) }
     ensures short { IfErr result (λ f. (string_bytes text.new ≡ [])
         ⊎ ((f ≡ Memory) × EndsShort (map S.text words.now) (F.content files.old) (string_bytes text.new))) }
@@ -176,7 +179,7 @@ pub fn sblog<R: Threads + Wait + Sync, S: AsStr, F: Files, O: Stream, E: Stream>
     ensures done { result ≡ 0 → IsDone (map S.text words.now) (F.content files.old) (F.content files.new)
         (O.contents out.old) (O.contents out.new) × (err.new ≡ err.old) }
     // With every other status they come to a fault of this status, which was told; unless `err` has failed.
-    ensures told { result ≢ 0 → IsTold (map S.text words.now) (F.content files.old)
+    ensures told { result ≢ 0 → IsTold (map S.text words.now) (F.content files.old) F.may_be_one
         (F.failed files.new || O.failed out.new) (E.failed err.new) (E.contents err.old) (E.contents err.new) result }
     // Then no file has changed, and nothing was printed but of a run that memory ended; unless `out` has failed.
     ensures kept { result ≢ 0 → F.content files.new ≡ F.content files.old }

@@ -80,6 +80,12 @@ impl Files for Folder {
 
     ghost failed = { λ f. f.failed };
 
+    ghost may_be_one = { bytes_eq };
+
+    fn is_one(&self, _alloc: Global, path: &str, other: &str) -> Result<bool, Failure> {
+        Ok(path == other)
+    }
+
     fn read(
         &mut self,
         alloc: Global,
