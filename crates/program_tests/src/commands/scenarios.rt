@@ -147,33 +147,43 @@ fn pictures(rt: HostRuntime) -> Result<(), Fail> {
 
 /// A line, the scenario, the status, and what is told.
 const REFUSED: [(&str, &[u8], u8, &str); 14] = [
-    ("run s", b"", 4, "scenario refused at line 0\n"),
-    ("run s", b"# nothing\n\n", 4, "scenario refused at line 0\n"),
+    (
+        "run s",
+        b"",
+        4,
+        "scenario refused at line 0\nline 0: no line declares a process: process NAME PATH\n",
+    ),
+    (
+        "run s",
+        b"# nothing\n\n",
+        4,
+        "scenario refused at line 0\nline 0: no line declares a process: process NAME PATH\n",
+    ),
     (
         "run s",
         b"process a adder.sbi\ndrive 07\n",
         4,
-        "scenario refused at line 2\n",
+        "scenario refused at line 2\nline 2: 07 is no number: 0, or digits without a leading zero, below 2^32\n",
     ),
     // A carriage return or a tab is of no path.
     (
         "run s",
         b"process a adder.sbi\r\ninput a 5\r\n",
         4,
-        "scenario refused at line 1\n",
+        "scenario refused at line 1\nline 1: a carriage return: lines end with a line feed alone\n",
     ),
     (
         "draw s out",
         b"# a run\nprocess a adder.sbi\t\n",
         4,
-        "scenario refused at line 2\n",
+        "scenario refused at line 2\nline 2: a tab: words stand with one space between them\n",
     ),
     // The whole text is checked before the first image is read.
     (
         "run s",
         b"process a missing.sbi\nfly a\n",
         4,
-        "scenario refused at line 2\n",
+        "scenario refused at line 2\nline 2: no line begins with fly: process, input, bytes, transmit, copy, lose, arrive, finish, checkpoint, trim, crash, recover, alone, replay, resync and drive do\n",
     ),
     ("run s", b"process a missing.sbi\n", 6, "input or output\n"),
     ("run s", b"process a cut.sbi\n", 3, "load refused 5\n"),
@@ -194,7 +204,7 @@ const REFUSED: [(&str, &[u8], u8, &str); 14] = [
         "live s --workers 4 --budget 9",
         b"process a missing.sbi\ninput a 1\ncrash a\n",
         4,
-        "scenario refused at line 3\n",
+        "scenario refused at line 3\nline 3: only input and bytes lines can stand here\n",
     ),
     (
         "live s --workers 4 --budget 9",
@@ -206,7 +216,7 @@ const REFUSED: [(&str, &[u8], u8, &str); 14] = [
         "draw s out",
         b"process a adder.sbi\nfinish b\n",
         4,
-        "scenario refused at line 2\n",
+        "scenario refused at line 2\nline 2: no process is named b; declared are a\n",
     ),
 ];
 
