@@ -1,6 +1,7 @@
--- A call and a record, written down by the C calling convention and as C lays a struct out.
-use Rattle.std.specs.Prelude.{ℕ, ◌-◌, ◌*◌, ◌≤◌, List, [], ◌∷◌, ◌++◌, length, replicate}
+-- A call and a record, written down by the C calling convention and as C lays a struct out, and what a record tells.
+use Rattle.std.specs.Prelude.{◌≡◌, ℕ, ◌-◌, ◌*◌, ◌^◌, ◌<◌, ◌≤◌, Some, slice_get, List, [], ◌∷◌, ◌++◌, length, replicate}
 use Rattle.helpers.specs.declared.effects.Who.{Who}
+use Rattle.helpers.specs.declared.effects.Sent.{Sent}
 use Rattle.helpers.specs.Effects.{Emitted}
 use Rattle.interp.specs.Words.{AreBytes}
 use Rattle.operations.specs.Bytes.{le_bytes}
@@ -36,6 +37,16 @@ told =
 -- a record with these effects has these bytes
 abbrev pub IsLaidOut : Type 0
 IsLaidOut = Keeps who effects told
+
+-- destinations are words
+abbrev pub AreWords : Emitted → Type 0
+AreWords e = (k : ℕ) (s : Sent) → slice_get e.sends k ≡ Some s → s.dst < 2 ^ 64
+
+-- no two calls, and no two effects, have one record
+abbrev pub TellsOne : Type 0
+TellsOne =
+    (w v : Who) (e f : Emitted) (bytes : List ℕ) → Keeps w e bytes → Keeps v f bytes → AreWords e → AreWords f
+    → (w ≡ v) × (e ≡ f)
 
 -- code(array, record, m) in C: rdi, rsi, rdx
 abbrev pub called : ℕ → List ℕ → State

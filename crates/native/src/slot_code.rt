@@ -7,7 +7,7 @@ ghost use Rattle.native.specs.Code as specs;
 
 use crate::body::{Body, body_of, gpr};
 use crate::comparison::{compare_code, condition_of};
-use crate::helper::{Helper, write_end, write_good, write_tests};
+use crate::emission::{Helper, write_end, write_good, write_tests};
 use crate::quotient::{Ways, divisor_code, write_quotient, write_signed};
 use crate::sequence::write_all;
 use crate::task::Task;

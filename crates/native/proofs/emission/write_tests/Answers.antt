@@ -1,7 +1,7 @@
 use Rattle.std.proofs.Common.{◌+◌, ◌++◌, sym, ap, ◌∙◌}
 use Rattle.native.specs.Code.{codes, room_test, peer_tests, length_test, tests_of}
 use Rattle.native.proofs.Emitted.{some_then, three_then}
-use Rattle.native.proofs.helper.write_tests.Goals as goal
+use Rattle.native.proofs.emission.write_tests.Goals as goal
 
 pub returns-in_ok-write_room_test-in-Send : goal.returns-in_ok-write_room_test-in-Send
 returns-in_ok-write_room_test-in-Send c =
