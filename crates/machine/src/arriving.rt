@@ -75,7 +75,12 @@ impl Machine {
         if self.is_to_busy(packet) {
             return Some(Refusal::Busy);
         }
-        if room <= self.open_jobs() + self.started_by(packet) {
+        let jobs = self.open_jobs();
+        // A packet starts one job at most: it is judged only where one place is left.
+        if room > jobs + 1 {
+            return None;
+        }
+        if room <= jobs + self.started_by(packet) {
             return Some(Refusal::JournalFull);
         }
         None
