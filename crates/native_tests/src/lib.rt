@@ -6,4 +6,4 @@
 #[cfg(test)]
 mod compiling;
 #[cfg(test)]
-mod operations;
+mod each_operation;
