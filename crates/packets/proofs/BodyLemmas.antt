@@ -1,5 +1,5 @@
 -- The fields of a kind are read just where they are a body's
-use Rattle.std.proofs.Common.{◌≡◌, ℕ, ◌<◌, List, [], ◌∷◌, ◌++◌, Result, Ok, Err, refl, sym, ap, subst, ◌∙◌, inl, inr}
+use Rattle.std.proofs.Common.{◌≡◌, ℕ, ◌<◌, List, [], ◌∷◌, ◌++◌, Ok, Err, refl, sym, subst, inl, inr}
 use Rattle.packets.specs.declared.kind.Kind.{Kind}
 use Rattle.packets.specs.declared.kind.Kind.TheVariants as kinds
 use Rattle.packets.specs.declared.page.Entry.{Entry}

@@ -1,10 +1,10 @@
 -- What the table gives is what the division of eight bits gives
-use Rattle.std.proofs.Common.{◌≡◌, ℕ, zero, suc, ◌+◌, ◌*◌, ◌/◌, ◌%◌, ◌^◌, ◌<◌, Bool, true, cond, eqb, ◌&&◌, List, [], ◌∷◌, ◌++◌, length, get_or, take, replicate, refl, sym, ap, ◌∙◌, zero-add, add-zero, inl, inr, ◌⊎◌, arith}
+use Rattle.std.proofs.Common.{◌≡◌, ℕ, zero, suc, ◌+◌, ◌*◌, ◌/◌, ◌%◌, ◌^◌, ◌<◌, Bool, true, cond, eqb, ◌&&◌, List, [], ◌∷◌, length, get_or, replicate, refl, sym, ap, ◌∙◌, zero-add, add-zero, inl, inr, ◌⊎◌, arith}
 use Rattle.std.specs.Prelude.{bit_xor, bit_and}
 use Rattle.std.specs.List.{fold}
 use Rattle.std.specs.Int.Bits.{xor_assoc, xor_zero_r}
 use Rattle.std.proofs.lemmas.Bool.{cases_lt, eqb-true}
-use Rattle.std.proofs.lemmas.Nat.{xor_comm, xor_shr, xor_mod, xor_block, shr-shr, shr_split, and_mask, pow_pos}
+use Rattle.std.proofs.lemmas.Nat.{xor_comm, xor_shr, xor_mod, xor_block, shr-shr, shr_split, and_mask}
 use Rattle.std.proofs.Math.Nat.{div-one, mod-lt, pow-suc, mul_assoc}
 use Rattle.packets.specs.declared.table.TheConstants.{TABLE}
 use Rattle.packets.specs.Checksum.{polynomial, next_remainder, bits, byte_bits}

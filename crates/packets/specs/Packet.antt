@@ -1,6 +1,6 @@
 -- The kinds of packets, and the ranges of their fields
-use Rattle.std.specs.Prelude.{◌≡◌, ◌≢◌, ℕ, ◌+◌, ◌/◌, ◌%◌, ◌^◌, ◌<◌, ◌≤◌, List, length, drop, Bool, true, not, ◌&&◌, ◌||◌, ◌==◌, nat_lt, Option, Some, None, if◌then◌else◌}
-use Rattle.std.specs.List.{list_all, zip, AllByRecursion}
+use Rattle.std.specs.Prelude.{ℕ, ◌+◌, ◌/◌, ◌%◌, ◌^◌, List, length, drop, Bool, not, ◌&&◌, ◌||◌, ◌==◌, nat_lt, Option, Some, None, if◌then◌else◌}
+use Rattle.std.specs.List.{list_all, zip}
 use Rattle.packets.specs.declared.kind.Kind.{Kind}
 use Rattle.packets.specs.declared.kind.Kind.TheVariants as kinds
 use Rattle.packets.specs.declared.page.Entry.{Entry}
@@ -8,7 +8,6 @@ use Rattle.packets.specs.declared.page.Pair.{Pair}
 use Rattle.packets.specs.declared.page.Flags.{Flags}
 use Rattle.packets.specs.declared.packet.Body.{Body}
 use Rattle.packets.specs.declared.packet.Body.TheVariants.{Delivery, Number, Acknowledgement, Ask, Told, Resume, Restored, Saved}
-use Rattle.packets.specs.declared.packet.Packet.{Packet}
 
 -- ---- kinds
 

@@ -187,8 +187,17 @@ fn are_entries_above(above: u64, entries: &[Entry]) -> bool
 fn entries_ascend(entries: &[Entry]) -> bool
     ensures { result ≡ ascends entry_before entries.now }
 {
-    entries.iter().zip(entries.iter().skip(1)).all(|(a, b)| a.number < b.number
-        || a.number == b.number && a.ssn < b.ssn)
+    entries
+        .iter()
+        .zip(entries.iter().skip(1))
+        .all(|(a, b)| is_before(a, b))
+}
+
+/// Whether an entry is before another one: by number, and where that is the same by SSN.
+fn is_before(a: &Entry, b: &Entry) -> bool
+    ensures { result ≡ entry_before a.now b.now }
+{
+    a.number < b.number || a.number == b.number && a.ssn < b.ssn
 }
 
 /// Whether these are the flags and the pairs of a page above this SSN.

@@ -1,4 +1,3 @@
-use Rattle.std.proofs.Common.{rules}
 use Rattle.packets.proofs.ChecksumLemmas.{behind_byte}
 use Rattle.packets.proofs.checksum.behind.Goals as goal
 

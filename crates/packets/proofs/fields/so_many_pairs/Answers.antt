@@ -1,4 +1,3 @@
-use Rattle.std.proofs.Common.{◌≡◌, ◌++◌, ◌∷◌, []}
 use Rattle.std.proofs.lemmas.Result.{err_from_is_err_and}
 use Rattle.packets.specs.Inside.Reading.{pair_at, times}
 use Rattle.packets.proofs.Counted.{goes_on, ends, is_done}
