@@ -10,7 +10,7 @@ use std::test::Fail;
 use verifier::{HeaderFault, ImageError, file};
 
 /// Each rule once and more, and code that is accepted: form, length of the state, source and listing.
-static CASES: [(ImageForm, u16, &str, &str); 16] = [
+static CASES: [(ImageForm, u16, &str, &str); 17] = [
     (
         ImageForm::Sbi1,
         0,
@@ -56,6 +56,21 @@ static CASES: [(ImageForm, u16, &str, &str); 16] = [
          \x20\x20\x20\x20to do: set it on each way that leads here, alike; what a helper must not lose belongs in r6 to r9\n\
          2: exit\n\
          verify refused V3 at slot 1\n",
+    ),
+    (
+        ImageForm::Sbi1,
+        8,
+        "call 3\njeq r0, 0, +1\nldxdw r0, [r2+0]\nexit\n",
+        "form 1, 8 bytes of state\n\
+         0: call 3\n\
+         1: jeq r0, 0, +1\n\
+         \x20\x20\x20\x20r0 number\n\
+         2: ldxdw r0, [r2+0]\n\
+         \x20\x20\x20\x20r2 unset: lost behind the helper at slot 0\n\
+         \x20\x20\x20\x20refused by V3: r2 is read and isn't set\n\
+         \x20\x20\x20\x20to do: set it on each way that leads here, alike; what a helper must not lose belongs in r6 to r9\n\
+         3: exit\n\
+         verify refused V3 at slot 2\n",
     ),
     (
         ImageForm::Sbi1,

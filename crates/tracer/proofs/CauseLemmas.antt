@@ -2,6 +2,10 @@
 use Rattle.std.proofs.Common.{◌≡◌, ◌⊎◌, ◌||◌, ℕ, Bool, true, false, IfErr, List, Some, Result, Ok, Err, take, refl, sym, subst, inl, inr}
 use Rattle.std.specs.Prelude.{[]}
 use Rattle.std.specs.Result.{IsErrAnd}
+use Rattle.assemble.specs.declared.fault.AsmError.{AsmError}
+use Rattle.assemble.specs.declared.fault.AsmError.TheVariants as text
+use Rattle.decode.specs.declared.fault.DecodeError.{DecodeError}
+use Rattle.decode.specs.declared.fault.DecodeError.TheVariants as code
 use Rattle.cli.specs.Asks.{AsksFor, IsRefusal, Order}
 use Rattle.cli.specs.declared.refusal.Refusal.{Refusal}
 use Rattle.cli.specs.declared.refusal.Refusal.TheVariants as refusal
@@ -9,9 +13,9 @@ use Rattle.verifier.specs.ImageFile as image_file
 use Rattle.verifier.specs.declared.fault.ImageError.{ImageError}
 use Rattle.verifier.specs.declared.fault.ImageError.TheVariants as image
 use Rattle.tracer.specs.Dis.{IsUnlisted}
-use Rattle.tracer.specs.Fault.{fault_of_failure, fault_of_image, fault_of_refusal}
+use Rattle.tracer.specs.Fault.{fault_of_code, fault_of_failure, fault_of_image, fault_of_refusal, fault_of_text}
 use Rattle.tracer.specs.Files.{Content}
-use Rattle.tracer.specs.Inside.{EndsShort, IsOwnInput, IsPlainFault, IsWriteFault, LoadFault}
+use Rattle.tracer.specs.Inside.{EndsShort, IsNoUsage, IsOwnInput, IsPlainFault, IsWriteFault, LoadFault}
 use Rattle.tracer.specs.Program.{FaultOf, IsCause, Sameness}
 use Rattle.tracer.specs.declared.fault.Fault.{Fault}
 use Rattle.tracer.specs.declared.fault.Fault.TheVariants.{Usage, Header, Decode, Verify, Assemble, Scenario, Memory, InputOutput}
@@ -99,6 +103,33 @@ listing_fault content failed path bytes e f read why is = subst (FaultOf content
     by (image.Header h) refused = λ known there. (image.Header h, whole (image.Header h) refused known there, refl)
     by (image.Decode rule slot) refused = λ known there. (image.Decode rule slot, whole (image.Decode rule slot) refused known there, refl)
     by (image.Verify rule slot) refused = absurd refused
+
+-- the bytes that were read of a file come to a fault that isn't the words'
+pub reading_fault : (content : Content) (failed : Bool) (path : List ℕ) (refused : List ℕ → Fault → Type 0) (f : Fault) → IsNoUsage f
+    → ((bytes : List ℕ) → content path ≡ Some bytes → refused bytes f) → FaultOf content failed path refused f
+reading_fault content failed path refused (Usage usage) kind why = absurd kind
+reading_fault content failed path refused (Header h) kind why = why
+reading_fault content failed path refused (Decode rule slot) kind why = why
+reading_fault content failed path refused (Verify rule slot) kind why = why
+reading_fault content failed path refused (Assemble rule line) kind why = why
+reading_fault content failed path refused (Scenario line) kind why = why
+reading_fault content failed path refused Memory kind why = tt
+reading_fault content failed path refused InputOutput kind why = inr why
+
+-- a text or an image that is refused is no fault of the words
+pub no_usage_text : (e : AsmError) (f : Fault) → f ≡ fault_of_text e → IsNoUsage f
+no_usage_text text.Memory f is = subst IsNoUsage (sym is) tt
+no_usage_text (text.Fault rule line) f is = subst IsNoUsage (sym is) tt
+
+pub no_usage_code : (e : DecodeError) (f : Fault) → f ≡ fault_of_code e → IsNoUsage f
+no_usage_code code.Memory f is = subst IsNoUsage (sym is) tt
+no_usage_code (code.Fault rule slot) f is = subst IsNoUsage (sym is) tt
+
+pub no_usage_image : (e : ImageError) (f : Fault) → f ≡ fault_of_image e → IsNoUsage f
+no_usage_image image.Memory f is = subst IsNoUsage (sym is) tt
+no_usage_image (image.Header h) f is = subst IsNoUsage (sym is) tt
+no_usage_image (image.Decode rule slot) f is = subst IsNoUsage (sym is) tt
+no_usage_image (image.Verify rule slot) f is = subst IsNoUsage (sym is) tt
 
 -- ---- a run that memory ended
 

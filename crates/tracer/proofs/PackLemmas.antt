@@ -1,5 +1,5 @@
 -- Why code comes to no file.
-use Rattle.std.proofs.Common.{◌≡◌, ◌<◌, ◌≤◌, ◌*◌, ◌⊎◌, ℕ, List, length, sym, ap, subst, arith, inl, inr}
+use Rattle.std.proofs.Common.{◌≡◌, ◌<◌, ◌≤◌, ◌*◌, ◌⊎◌, ℕ, List, length, sym, subst, arith, inl, inr}
 use Rattle.decode.specs.Refusal as decoding
 use Rattle.decode.specs.Slots.{slots}
 use Rattle.decode.specs.declared.fault.DecodeError.{DecodeError}
@@ -13,9 +13,9 @@ use Rattle.tracer.specs.Pack.{IsUnpacked}
 use Rattle.tracer.specs.declared.fault.Fault.{Fault}
 
 -- bytes that are no encoding
-pub bytes_refused : (bytes : List ℕ) (e : DecodeError) (f : Fault) → decoding.IsRefusal bytes e → f ≡ fault_of_code e → IsUnpacked bytes f
-bytes_refused bytes code.Memory f why is = subst (IsUnpacked bytes) (sym is) tt
-bytes_refused bytes (code.Fault rule slot) f why is = subst (IsUnpacked bytes) (sym is) why
+pub bytes_refused : (bytes : List ℕ) (e : DecodeError) (f : Fault) → length bytes ≤ 8 * 1024 → decoding.IsRefusal bytes e → f ≡ fault_of_code e → IsUnpacked bytes f
+bytes_refused bytes code.Memory f short why is = subst (IsUnpacked bytes) (sym is) tt
+bytes_refused bytes (code.Fault rule slot) f short why is = subst (IsUnpacked bytes) (sym is) (short, why)
 
 -- instructions that have no file
 pub code_unwritten : (bytes : List ℕ) (insns : List Insn) (e : ImageError) (f : Fault) → 8 * slots insns ≡ length bytes → IsUnwritten insns e

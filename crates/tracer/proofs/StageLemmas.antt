@@ -92,7 +92,7 @@ are_few content allowed path s is staged =
 -- ---- faults
 
 -- memory or a file that failed
-plain_fault : (content : Content) (failed : Bool) (path : List ℕ) (refused : List ℕ → Fault → Type 0) (f : Fault)
+pub plain_fault : (content : Content) (failed : Bool) (path : List ℕ) (refused : List ℕ → Fault → Type 0) (f : Fault)
     → IsPlainFault failed f → FaultOf content failed path refused f
 plain_fault content failed path refused f (inl memory) = subst (FaultOf content failed path refused) (sym memory) tt
 plain_fault content failed path refused f (inr input) = subst (FaultOf content failed path refused) (sym input.0) (inl input.1)

@@ -1,5 +1,5 @@
 -- The command `asm` (docs/FORMATS.md, "Commands").
-use Rattle.std.specs.Prelude.{◌≡◌, ℕ, List, []}
+use Rattle.std.specs.Prelude.{◌≡◌, ◌<◌, ◌≤◌, ◌⊎◌, ℕ, List, [], length}
 use Rattle.std.specs.Str.{IsUtf8}
 use Rattle.assemble.specs.Refusal as assembling
 use Rattle.assemble.specs.Text.{lines_of, spoken}
@@ -7,21 +7,31 @@ use Rattle.decode.specs.declared.insn.Insn.{Insn}
 use Rattle.regtypes.specs.declared.image_form.ImageForm.{ImageForm}
 use Rattle.verifier.specs.ImageFile.{IsFile}
 use Rattle.verifier.specs.declared.fault.HeaderFault.TheVariants.{SlotCount}
+use Rattle.tracer.specs.Judged.{IsJudged}
 use Rattle.tracer.specs.declared.fault.Fault.{Fault}
 use Rattle.tracer.specs.declared.fault.Fault.TheVariants.{Usage, Header, Decode, Verify, Assemble, Scenario, Memory, InputOutput}
 
 -- the source is the text of code of which these bytes are the file of this form, with a state of this length
 pub record IsAssembled (source : List ℕ) (state : ℕ) (form : ImageForm) (bytes : List ℕ) : Type 0 where
+  pub short : length source ≤ 1048576
   pub text : IsUtf8 source
   pub code : List Insn
   pub lines : assembling.AreLines (lines_of source) code
   pub file : IsFile form code state bytes
 
--- why a source comes to no file: a line that is refused, no instruction, or no text; want of memory says nothing of it
+-- the source has more bytes than a text may have, and no line that ends within these is refused
+pub record IsTooLong (source : List ℕ) : Type 0 where
+  pub long : 1048576 < length source
+  pub head : List ℕ
+  pub judged : IsJudged source head
+  pub code : List Insn
+  pub fine : assembling.AreLines (lines_of head) code
+
+-- why a source comes to no file: a line that is refused, no instruction, too many bytes, or no text; want of memory says nothing of it
 abbrev pub IsUnassembled : List ℕ → Fault → Type 0
 IsUnassembled source (Assemble rule line) = assembling.IsFault source rule line
-IsUnassembled source (Header fault) = (fault ≡ SlotCount) × (spoken (lines_of source) ≡ [])
-IsUnassembled source InputOutput = ¬ IsUtf8 source
+IsUnassembled source (Header fault) = (fault ≡ SlotCount) × ((spoken (lines_of source) ≡ []) ⊎ IsTooLong source)
+IsUnassembled source InputOutput = (head : List ℕ) × IsJudged source head × ¬ IsUtf8 head
 IsUnassembled source Memory = Unit {0}
 IsUnassembled source (Scenario line words) = ⊥
 IsUnassembled source (Usage usage) = ⊥

@@ -15,7 +15,7 @@ use Rattle.tracer.specs.Files.{Content}
 use Rattle.tracer.specs.Program.{IsFault, IsShort, Sameness, WritesOver}
 use Rattle.tracer.specs.Stage.{AreLoaded, AreRefused}
 use Rattle.tracer.specs.declared.fault.Fault.{Fault}
-use Rattle.tracer.specs.declared.fault.Fault.TheVariants.{Usage, Header, Decode, Verify, Assemble, Scenario, Memory, InputOutput}
+use Rattle.tracer.specs.declared.fault.Fault.TheVariants.{Usage, Memory, InputOutput}
 
 -- memory ran out, or a file has failed
 abbrev pub IsPlainFault : Bool → Fault → Type 0
@@ -36,6 +36,11 @@ abbrev pub IsOwnInput : Type 0 → Fault → Type 0
 IsOwnInput found Memory = Unit {0}
 IsOwnInput found (Usage usage) = (string_bytes usage.text ≡ own_input_text) × found
 IsOwnInput found f = ⊥
+
+-- it isn't the words that are at fault
+abbrev pub IsNoUsage : Fault → Type 0
+IsNoUsage (Usage usage) = ⊥
+IsNoUsage f = Unit {0}
 
 -- the order, which writes a file, comes to the fault
 abbrev pub IsWriteFault : Sameness → Content → Bool → Order → Fault → Type 0

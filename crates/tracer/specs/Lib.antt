@@ -5,6 +5,7 @@ pub mod Draw
 pub mod Fault
 pub mod Files
 pub mod Inside
+pub mod Judged
 pub mod Live
 pub mod Pack
 pub mod Program

@@ -1,5 +1,5 @@
 -- The command `pack` (docs/FORMATS.md, "Commands").
-use Rattle.std.specs.Prelude.{◌≡◌, ◌<◌, ◌*◌, ◌⊎◌, ℕ, List, length}
+use Rattle.std.specs.Prelude.{◌≡◌, ◌<◌, ◌≤◌, ◌*◌, ◌⊎◌, ℕ, List, length}
 use Rattle.decode.specs.Encoding.{encoding}
 use Rattle.decode.specs.Refusal as decoding
 use Rattle.decode.specs.declared.insn.Insn.{Insn}
@@ -15,9 +15,9 @@ pub record IsPacked (code : List ℕ) (state : ℕ) (form : ImageForm) (bytes : 
   pub encoded : code ≡ encoding insns
   pub file : IsFile form insns state bytes
 
--- why code comes to no file: it is no encoding, or has no slot or more than 1,024; want of memory says nothing of it
+-- why code comes to no file: it has no slot or more than 1,024, or is no encoding; want of memory says nothing of it
 abbrev pub IsUnpacked : List ℕ → Fault → Type 0
-IsUnpacked code (Decode rule slot) = decoding.IsFault code rule slot
+IsUnpacked code (Decode rule slot) = (length code ≤ 8 * 1024) × decoding.IsFault code rule slot
 IsUnpacked code (Header fault) = (fault ≡ SlotCount) × ((length code ≡ 0) ⊎ (8 * 1024 < length code))
 IsUnpacked code Memory = Unit {0}
 IsUnpacked code InputOutput = ⊥

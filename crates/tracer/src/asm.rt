@@ -1,25 +1,37 @@
 //! The command `asm`.
 
-ghost use Rattle.std.specs.Prelude.{◌≤◌, IfErr, IfOk};
+ghost use Rattle.std.specs.Prelude.{◌≡◌, ◌≤◌, ℕ, IfErr, IfOk, List, take};
 ghost use Rattle.tracer.specs.Asm.{IsAssembled, IsUnassembled};
+ghost use Rattle.tracer.specs.Inside.{IsNoUsage};
 
 use crate::fault::Fault;
+use crate::judged::{TEXT_LIMIT, judged};
 use assemble::assemble;
 use regtypes::ImageForm;
 use std::alloc::Global;
-use verifier::file;
+use verifier::{HeaderFault, file};
 
-/// The image file of this form of a source, with a state of this length, at most 1,024 bytes. Its code
-/// is not verified. A source that is not UTF-8 can't be read as a text: `Fault::InputOutput`.
+/// The bytes that decide what a source comes to: as many as a text has at most, and one more.
+pub const SOURCE_LIMIT: usize = TEXT_LIMIT + 1;
+
+/// The image file of this form of a source, of which these are the bytes that decide, with a state of this
+/// length, at most 1,024 bytes. Its code is not verified. A source that is not UTF-8 can't be read as a text:
+/// `Fault::InputOutput`. One with more bytes than a text has comes to the first fault of the lines that end
+/// within these, or else to `HeaderFault::SlotCount`.
 pub fn asm(alloc: Global, source: &[u8], state: u16, form: ImageForm) -> Result<Vec<u8>, Fault>
     requires { state ≤ 1024 }
-    ensures written { IfOk result (λ v. IsAssembled source.now state form v.items) }
-    ensures refused { IfErr result (IsUnassembled source.now) }
+    ensures written { IfOk result (λ v. (whole : List ℕ) → source.now ≡ take 1048577 whole
+        → IsAssembled whole state form v.items) }
+    ensures refused { IfErr result (λ f. (whole : List ℕ) → source.now ≡ take 1048577 whole → IsUnassembled whole f) }
+    ensures kind { IfErr result IsNoUsage }
 {
-    let Ok(text) = str::from_utf8(source) else {
+    let Ok(text) = str::from_utf8(judged(source)) else {
         return Err(Fault::InputOutput);
     };
     let code = assemble(alloc, text)?;
+    if source.len() > TEXT_LIMIT {
+        return Err(Fault::Header(HeaderFault::SlotCount));
+    }
     let bytes = file(alloc, form, code.as_slice(), state)?;
     Ok(bytes)
 }

@@ -24,6 +24,7 @@ mod drawing;
 mod explaining;
 mod fault;
 mod files;
+mod judged;
 mod living;
 mod own_input;
 mod pack;

@@ -1,21 +1,30 @@
 //! The command `pack`.
 
-ghost use Rattle.std.specs.Prelude.{◌≤◌, IfErr, IfOk};
+ghost use Rattle.std.specs.Prelude.{◌≡◌, ◌≤◌, ℕ, IfErr, IfOk, List, take};
 ghost use Rattle.tracer.specs.Pack.{IsPacked, IsUnpacked};
+ghost use Rattle.tracer.specs.Inside.{IsNoUsage};
 
 use crate::fault::Fault;
 use decode::decode;
 use regtypes::ImageForm;
 use std::alloc::Global;
-use verifier::file;
+use verifier::{HeaderFault, file};
 
-/// The image file of this form of code, given as its bytes, with a state of this length, at most
-/// 1,024 bytes. The code is not verified.
+/// The bytes that decide what code comes to: as many as 1,024 slots have, and one more.
+pub const CODE_LIMIT: usize = 8193;
+
+/// The image file of this form of code, of which these are the bytes that decide, with a state of this
+/// length, at most 1,024 bytes. The code is not verified. More bytes than 1,024 slots have are refused
+/// whatever they are.
 pub fn pack(alloc: Global, code: &[u8], state: u16, form: ImageForm) -> Result<Vec<u8>, Fault>
     requires { state ≤ 1024 }
-    ensures written { IfOk result (λ v. IsPacked code.now state form v.items) }
-    ensures refused { IfErr result (IsUnpacked code.now) }
+    ensures written { IfOk result (λ v. (whole : List ℕ) → code.now ≡ take 8193 whole → IsPacked whole state form v.items) }
+    ensures refused { IfErr result (λ f. (whole : List ℕ) → code.now ≡ take 8193 whole → IsUnpacked whole f) }
+    ensures kind { IfErr result IsNoUsage }
 {
+    if code.len() >= CODE_LIMIT {
+        return Err(Fault::Header(HeaderFault::SlotCount));
+    }
     let insns = decode(alloc, code)?;
     let bytes = file(alloc, form, insns.as_slice(), state)?;
     Ok(bytes)

@@ -7,7 +7,7 @@ ghost use Rattle.tracer.specs.Inside.{EndsShort, IsWriteFault};
 ghost use Rattle.tracer.specs.Program.{IsAnswer, IsAnswered, IsCause, IsCutShort, IsDone, IsShort, IsTold, Leaves};
 ghost use Rattle.tracer.specs.declared.fault.Fault.TheVariants.{InputOutput, Memory};
 
-use crate::asm::asm;
+use crate::asm::{SOURCE_LIMIT, asm};
 use crate::check::check;
 use crate::dis::dis;
 use crate::drawing::draw_scenario;
@@ -16,7 +16,7 @@ use crate::fault::Fault;
 use crate::files::Files;
 use crate::living::live_scenario;
 use crate::own_input::spare;
-use crate::pack::pack;
+use crate::pack::{CODE_LIMIT, pack};
 use crate::playing::run_scenario;
 use crate::stream::Stream;
 use cli::{Request, parse_words};
@@ -43,7 +43,7 @@ fn write_image<F: Files>(
     ensures kept { OnErr result (F.content files.new ≡ F.content files.old) }
 {
     spare(alloc, source, image, files)?;
-    let text = files.read(alloc, source, None)?;
+    let text = files.read(alloc, source, Some(SOURCE_LIMIT))?;
     let bytes = asm(alloc, text.as_slice(), state, form)?;
     files.write(image, bytes.as_slice())?;
     Ok(())
@@ -66,7 +66,7 @@ fn write_packed<F: Files>(
     ensures kept { OnErr result (F.content files.new ≡ F.content files.old) }
 {
     spare(alloc, code, image, files)?;
-    let words = files.read(alloc, code, None)?;
+    let words = files.read(alloc, code, Some(CODE_LIMIT))?;
     let bytes = pack(alloc, words.as_slice(), state, form)?;
     files.write(image, bytes.as_slice())?;
     Ok(())

@@ -100,6 +100,88 @@ exact
     ),
 ];
 
+/// Four workers take a hundred messages. Which of them made which call is open.
+#[test]
+fn four_workers(rt: HostRuntime) -> Result<(), Fail> {
+    let mut scenario: Vec<u8> = b"process a adder.sbi\n".to_vec(rt.alloc())?;
+    for _ in 0..100 {
+        scenario.extend_from_slice(b"input a 1\n")?;
+    }
+    let mut files = folder(rt.alloc(), &scenario)?;
+    let line = "live s --workers 4 --budget 10000";
+    let ended = carried(&rt, line, &mut files)?;
+    let text = str::from_utf8(ended.out.as_slice()).unwrap_or("");
+    assert_eq!(rt; ended.status, 0);
+    assert!(rt; ended.err.is_empty());
+    assert_eq!(rt; text.lines().count(), 602);
+    assert!(rt;
+        text.ends_with("\nprocess a up 100 6400000000000000\nexact\n"),
+        "{text}"
+    );
+    Ok(())
+}
+
+/// A full wire or journal refuses the next call by its number, and the run goes on.
+#[test]
+fn full_wire_and_journal(rt: HostRuntime) -> Result<(), Fail> {
+    let cases: [(&str, u32, &str, &str); 2] = [
+        ("copy 0\n", 4095, "copy 0\n", "line 4099 refused 13\n"),
+        (
+            "copy 0\nlose 1\n",
+            32767,
+            "lose 0\n",
+            "line 65538 refused 12\n",
+        ),
+    ];
+    for (lines, times, last, told) in cases {
+        let opening = b"process a adder.sbi\ninput a 1\ntransmit outside a 1\n";
+        let mut scenario: Vec<u8> = opening.to_vec(rt.alloc())?;
+        for _ in 0..times {
+            scenario.extend_from_slice(lines.as_bytes())?;
+        }
+        scenario.extend_from_slice(last.as_bytes())?;
+        let mut files = folder(rt.alloc(), &scenario)?;
+        let ended = carried(&rt, "run s", &mut files)?;
+        let text = str::from_utf8(ended.out.as_slice()).unwrap_or("");
+        assert_eq!(rt; ended.status, 0, "at {told}");
+        assert!(rt; text.starts_with(told), "at {told}");
+        assert!(rt;
+            text.ends_with("\nprocess a up 0 0000000000000000\nexact\n"),
+            "at {told}"
+        );
+    }
+    Ok(())
+}
+
+/// An image of 1,024 slots, which puts 1,020 times a message's word into its state.
+fn largest(alloc: Global) -> Result<Vec<u8>, AllocError> {
+    let mut file: Vec<u8> = b"SBI1\x08\x00\x00\x04".to_vec(alloc)?;
+    file.extend_from_slice(b"\x79\x13\x00\x00\x00\x00\x00\x00\xb7\x00\x00\x00\x00\x00\x00\x00")?;
+    for _ in 0..1020 {
+        file.extend_from_slice(b"\x0f\x30\x00\x00\x00\x00\x00\x00")?;
+    }
+    file.extend_from_slice(b"\x7b\x02\x00\x00\x00\x00\x00\x00\x95\x00\x00\x00\x00\x00\x00\x00")?;
+    Ok(file)
+}
+
+#[test]
+fn largest_image(rt: HostRuntime) -> Result<(), Fail> {
+    let image = largest(rt.alloc())?;
+    let scenario = b"process a i\ninput a 5\ndrive 10\n".as_slice();
+    let named = [("s", scenario), ("i", image.as_slice())];
+    let mut files = Folder::new(rt.alloc(), named.as_slice())?;
+    let checked = carried(&rt, "check i", &mut files)?;
+    assert!(rt; checked.out.as_slice() == b"accepted 1024 instructions\n".as_slice());
+    let ended = carried(&rt, "run s", &mut files)?;
+    let text = str::from_utf8(ended.out.as_slice()).unwrap_or("");
+    assert_eq!(rt; ended.status, 0);
+    assert!(rt;
+        text.ends_with("\nprocess a up 1 ec13000000000000\nexact\n"),
+        "{text}"
+    );
+    Ok(())
+}
+
 #[test]
 fn what_is_shown(rt: HostRuntime) -> Result<(), Fail> {
     for (line, scenario, shown) in SHOWN {
@@ -107,6 +189,9 @@ fn what_is_shown(rt: HostRuntime) -> Result<(), Fail> {
     }
     Ok(())
 }
+
+/// What is told where OUT is a file that is read.
+const OWN_INPUT: &str = "error: OUT is a file that is read\n";
 
 /// A picture is at its place whole, or all is as it was.
 #[test]
@@ -117,6 +202,8 @@ fn pictures(rt: HostRuntime) -> Result<(), Fail> {
         ("draw s out", 0, "", [sized, named]),
         ("draw s folder", 6, "input or output\n", ["old", "old"]),
         ("draw folder out", 6, "input or output\n", ["old", "old"]),
+        ("draw s s", 2, OWN_INPUT, ["old", "old"]),
+        ("draw s adder.sbi", 2, OWN_INPUT, ["old", "old"]),
     ];
     for (line, want, told, parts) in cases {
         let scenario = b"process a adder.sbi\ninput a 5\ndrive 10\n".as_slice();
@@ -133,6 +220,7 @@ fn pictures(rt: HostRuntime) -> Result<(), Fail> {
             "at {line}"
         );
         assert!(rt; files.bytes("s") == scenario, "at {line}");
+        assert!(rt; files.bytes("adder.sbi") == ADDER.as_slice(), "at {line}");
         let left = str::from_utf8(files.bytes("out")).unwrap_or("");
         for part in parts {
             assert!(rt; left.contains(part), "at {line}: {left}");

@@ -96,6 +96,52 @@ fn packed_code(rt: HostRuntime) -> Result<(), Fail> {
     Ok(())
 }
 
+// A wide instruction is one line.
+#[test]
+fn wide_instruction(rt: HostRuntime) -> Result<(), Fail> {
+    let code = b"\x18\x01\x00\x00\x78\x56\x34\x12\x00\x00\x00\x00\xf0\xde\xbc\x9a".as_slice();
+    let image = b"SBI1\x00\x00\x02\x00\
+        \x18\x01\x00\x00\x78\x56\x34\x12\x00\x00\x00\x00\xf0\xde\xbc\x9a";
+    let mut files = folder(rt.alloc(), code, b"old")?;
+    ends(&rt, "pack s i --state 0", &mut files, 0, "", image)?;
+    let line = "lddw r1, 11150031900141442680\n";
+    ends(&rt, "dis i", &mut files, 0, line, image)
+}
+
+// More than a text or code may have is refused, but for a line that is refused before.
+#[test]
+fn long_sources(rt: HostRuntime) -> Result<(), Fail> {
+    let alloc = rt.alloc();
+    let mut text: Vec<u8> = vec![in alloc; b'#'; 1_048_571]?;
+    text.extend_from_slice(b"\nexit")?;
+    let mut code: Vec<u8> = vec![in alloc; 0; 8193]?;
+    let exit = b"SBI1\x00\x00\x01\x00\x95\x00\x00\x00\x00\x00\x00\x00".as_slice();
+    let mut files = folder(alloc, &text, b"old")?;
+    ends(&rt, "asm s i --state 0", &mut files, 0, "", exit)?;
+    let refused = "load refused 4\n";
+    let mut files = folder(alloc, &code, b"old")?;
+    ends(&rt, "pack s i --state 0", &mut files, 3, refused, b"old")?;
+    code.pop();
+    let (fault, mut files) = (
+        "decode refused 2 at slot 0\n",
+        folder(alloc, &code, b"old")?,
+    );
+    ends(&rt, "pack s i --state 0", &mut files, 3, fault, b"old")?;
+    for (end, told) in [(b"\n".as_slice(), refused), (b"\xff\nfly\n", refused)] {
+        let mut longer = text.clone()?;
+        longer.extend_from_slice(end)?;
+        let mut files = folder(alloc, &longer, b"old")?;
+        ends(&rt, "asm s i --state 0", &mut files, 3, told, b"old")?;
+    }
+    let (unknown, mut early): (&str, Vec<u8>) = (
+        "asm refused 1 at line 1\n",
+        Vec::from_slice(alloc, b"fly\n")?,
+    );
+    early.extend_from_slice(&text)?;
+    let mut files = folder(alloc, &early, b"old")?;
+    ends(&rt, "asm s i --state 0", &mut files, 3, unknown, b"old")
+}
+
 #[test]
 fn refused_texts_write_nothing(rt: HostRuntime) -> Result<(), Fail> {
     let cases = [
@@ -156,6 +202,14 @@ fn paths_and_images(rt: HostRuntime) -> Result<(), Fail> {
     let mut files = folder(rt.alloc(), b"exit", exit)?;
     ends(&rt, "dis i", &mut files, 0, "exit\n", exit)?;
     ends(&rt, "dis x", &mut files, 6, "input or output\n", exit)?;
+    let own = "error: OUT is a file that is read\n";
+    for line in [
+        "asm i i --state 8",
+        "pack i i --state 8",
+        "asm x x --state 8",
+    ] {
+        ends(&rt, line, &mut files, 2, own, exit)?;
+    }
     ends(
         &rt,
         "asm x i --state 8",

@@ -1,8 +1,12 @@
-use Rattle.std.proofs.Common.{List, length, map, string_bytes, subst}
+use Rattle.std.proofs.Common.{◌≡◌, ℕ, List, inr, length, map, string_bytes, subst, sym, true}
 use Rattle.std.specs.Arc.{arc_value}
+use Rattle.cli.specs.Asks.{Draw}
 use Rattle.diagram.specs.Picture.{IsPicture}
 use Rattle.scenario.specs.declared.order.Allowed.TheVariants.{All}
 use Rattle.world.specs.declared.entry.Entry.{Entry}
+use Rattle.tracer.specs.Inside.{IsOwnInput}
+use Rattle.tracer.specs.Program.{IsImagePath, WritesOver}
+use Rattle.tracer.proofs.CauseLemmas.{becomes, own_input_of}
 use Rattle.tracer.proofs.StageLemmas.{are_few, staged}
 use Rattle.tracer.proofs.drawing.picture_of.Goals as goal
 
@@ -23,3 +27,24 @@ returns-clause-drawn g c = λ known there.
       journal = c.in_ok-entries.ensures;
       picture = subst (λ (es : List Entry). IsPicture (length s.processes.entries) es (string_bytes c.in_ok-text.text)) c.as_slice.ensures.value c.in_ok-text.ensures;
     }
+
+pub returns-in_err-spare_images-clause-fault : goal.returns-in_err-spare_images-clause-fault
+returns-in_err-spare_images-clause-fault g c =
+    let content = g.F.Files.content c.args.files.now in
+    let s = c.in_ok-scenario.field-0.scenario in
+    let images = map arc_value c.in_ok-scenario.field-0.images.items in
+    let one = g.F.Files.may_be_one in
+    becomes c.from_residual-in_err-spare_images.result _ _ c.from_residual-in_err-spare_images.ensures.1
+    (λ f is. inr (own_input_of ((path : List ℕ) × IsImagePath s.processes.entries path × (one path c.args.place.now ≡ true))
+    (WritesOver one content (Draw c.args.path.now c.args.place.now)) f
+    (λ over. inr (λ known there. (s, (staged content All c.args.path.now known s images c.in_ok-scenario.ensures.staged there).written, over.0, over.1, over.2)))
+    (subst (IsOwnInput ((path : List ℕ) × IsImagePath s.processes.entries path × (one path c.args.place.now ≡ true))) (sym is) c.in_err-spare_images.ensures.fault)))
+
+pub returns-clause-spared : goal.returns-clause-spared
+returns-clause-spared g c = λ known there.
+    let s = c.in_ok-scenario.field-0.scenario in
+    let images = map arc_value c.in_ok-scenario.field-0.images.items in (
+      s,
+      (staged (g.F.Files.content c.args.files.now) All c.args.path.now known s images c.in_ok-scenario.ensures.staged there).written,
+      c.in_ok-spare_images.ensures.apart,
+    )
