@@ -112,7 +112,7 @@ reading_fault content failed path refused (Header h) kind why = why
 reading_fault content failed path refused (Decode rule slot) kind why = why
 reading_fault content failed path refused (Verify rule slot) kind why = why
 reading_fault content failed path refused (Assemble rule line) kind why = why
-reading_fault content failed path refused (Scenario line) kind why = why
+reading_fault content failed path refused (Scenario line said) kind why = why
 reading_fault content failed path refused Memory kind why = tt
 reading_fault content failed path refused InputOutput kind why = inr why
 
