@@ -12,7 +12,8 @@ use Rattle.decode.specs.declared.insn.Insn.{Insn}
 use Rattle.decode.specs.declared.insn.Insn.TheVariants.{Alu, Load, StoreReg, Exit}
 use Rattle.regtypes.specs.declared.frame.Region.TheVariants.{State}
 use Rattle.spans.specs.Span.{whole}
-use Rattle.spans.specs.Frame.{Frame, IsFrame, IsKind, Num, Place, at_place, entry_frame, with_kind}
+use Rattle.spans.specs.declared.kind.Kind.TheVariants.{Num, Place}
+use Rattle.spans.specs.Frame.{Frame, IsFrame, IsKind, at_place, entry_frame, with_kind}
 use Rattle.span_calls.specs.Typing.{Code, IsAllowed, Table}
 use Rattle.span_calls.specs.Worked.{IsSpillingTyped}
 use Rattle.spans.proofs.Order.{Leq-refl}

@@ -9,3 +9,4 @@ pub mod Memory
 pub mod Fitting
 pub mod Closed
 pub mod Entry
+pub mod KindLemmas

@@ -1,13 +1,10 @@
 -- What is known of the registers and of the words of the stack, and its order.
-use Rattle.std.specs.Prelude.{◌≡◌, ℕ, nat_lt, int_le, ◌==◌, ℤ, pos, ◌≤ℤ◌, Bool, true, false, if◌then◌else◌}
-use Rattle.regtypes.specs.declared.frame.Region.{Region}
+use Rattle.std.specs.Prelude.{◌≡◌, ℕ, List, slice_index_or, nat_lt, int_le, ◌==◌, ℤ, pos, ◌≤ℤ◌, Bool, true, false, if◌then◌else◌}
 use Rattle.regtypes.specs.declared.frame.Region.TheVariants.{Message, State, Stack}
-use Rattle.spans.specs.Span.{Span, span, whole, IsSpan, Within, joined_span}
-
--- the distances from a region's first byte, from lo to hi, both among them
-pub record Reach : Type 0 where
-  pub lo : ℤ
-  pub hi : ℤ
+pub use Rattle.spans.specs.declared.kind.Reach.{Reach}
+pub use Rattle.spans.specs.declared.kind.Kind.{Kind}
+pub use Rattle.spans.specs.declared.kind.Kind.TheVariants.{Unset, Num, Place}
+use Rattle.spans.specs.Span.{span, whole, IsSpan, Within, joined_span}
 
 -- one place alone
 abbrev pub at_place : ℤ → Reach
@@ -20,12 +17,6 @@ WithinReach s t = (t.lo ≤ℤ s.lo) × (s.hi ≤ℤ t.hi)
 -- the least reach that has the distances of both
 abbrev pub joined_reach : Reach → Reach → Reach
 joined_reach s t = record { lo = if int_le s.lo t.lo then s.lo else t.lo; hi = if int_le s.hi t.hi then t.hi else s.hi }
-
--- nothing is known, it is a number of this span, or a place of this region that has one of these distances
-pub data Kind : Type 0 where
-  Unset : Kind
-  Num : Span → Kind
-  Place : Region → Reach → Kind
 
 -- a kind of numbers or places has one, and its numbers are words of 64 bits
 abbrev pub IsKind : Kind → Type 0
@@ -64,6 +55,10 @@ is_set (Num s) = true
 is_set (Place r s) = true
 
 -- ---- frames
+
+-- the kind of a cell in a list of them; behind its end nothing is known
+abbrev pub kind_at : List Kind → ℕ → Kind
+kind_at kinds c = slice_index_or kinds c Unset
 
 -- the kind of each cell: cells 0 to 10 are the registers, cells 11 to 74 the 64 words of the stack from its first byte
 -- on (no instruction reaches a cell behind them)

@@ -2,11 +2,7 @@
 use Rattle.std.specs.Prelude.{ℕ, zero, suc, ◌+◌, ◌-◌, ◌*◌, ◌/◌, ◌^◌, ◌<◌, ◌≤◌, min, max, nat_lt, nat_le, ◌&&◌, if◌then◌else◌}
 use Rattle.decode.specs.declared.insn.AluOp.{AluOp}
 use Rattle.decode.specs.declared.insn.AluOp.TheVariants.{Add, Sub, Mul, Div, Sdiv, Or, And, Lsh, Rsh, Mod, Smod, Xor, Mov, Arsh}
-
--- the numbers from lo to hi, both among them
-pub record Span : Type 0 where
-  pub lo : ℕ
-  pub hi : ℕ
+pub use Rattle.spans.specs.declared.span.Span.{Span}
 
 -- a span by its two ends
 abbrev pub span : ℕ → ℕ → Span
