@@ -3,6 +3,8 @@
 
 ghost use Rattle.service.specs.Service.{IsJobless};
 
+mod limits;
+
 use helpers::Payload;
 use service::Service;
 use std::alloc::Global;
@@ -53,6 +55,10 @@ enum Step {
     Does(Act, Answer),
     /// The call is refused, with this number.
     Refuses(Act, u8),
+    /// These two are accepted in turn, so often.
+    Repeats(Act, Act, u32),
+    /// The word 1 for process 1, under each of the feed numbers from 1 to this one.
+    Feeds(u32),
     /// A drive with this budget makes so many calls.
     Drives(u32, u32),
     /// A process has this phase, so many messages, and these bytes as its state.
@@ -104,6 +110,25 @@ fn saves(service: &Service, p: u8, size: usize) -> bool {
     1 <= p && p <= service.count() && service.saved(p).len() == size
 }
 
+fn repeats(service: &mut Service, first: Act, second: Act, times: u32) -> bool {
+    for _ in 0..times {
+        if service.call(call_of(first)).is_err() || service.call(call_of(second)).is_err() {
+            return false;
+        }
+    }
+    true
+}
+
+fn feeds(service: &mut Service, count: u32) -> bool {
+    for feed in 1..=count {
+        let answer = service.call(call_of(Act::Input(1, feed, 1)));
+        if !matches!(answer, Ok(Answer::Logged(ssn)) if ssn == feed) {
+            return false;
+        }
+    }
+    true
+}
+
 fn holds(service: &mut Service, step: Step) -> bool {
     match step {
         Step::Does(act, expected) => {
@@ -112,6 +137,8 @@ fn holds(service: &mut Service, step: Step) -> bool {
         Step::Refuses(act, number) => {
             matches!(service.call(call_of(act)), Err(refusal) if refusal.number() == number)
         }
+        Step::Repeats(first, second, times) => repeats(service, first, second, times),
+        Step::Feeds(count) => feeds(service, count),
         Step::Drives(budget, count) => matches!(service.drive(budget), Ok(n) if n == count),
         Step::IsAt(p, phase, length, state) => is_at(service, p, phase, length, state),
         Step::Shows(since, count) => service.shown_since(since).len() == count,

@@ -3,6 +3,7 @@ ghost use Rattle.std.specs.Prelude.{◌≡◌};
 mod crashing;
 mod driven;
 mod lengths;
+mod limits;
 mod messages;
 mod reading;
 mod recovering;
