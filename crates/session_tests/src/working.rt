@@ -4,7 +4,7 @@ mod alone;
 mod course;
 mod turnstiles;
 
-use alone::{Alone, Trouble, meet};
+use alone::{Alone, Trouble, Watched, meet, watch};
 use course::{Before, Case, Feeds, Left, Outcome, follow};
 use std::test::Fail;
 use turnstiles::Crossed;
@@ -189,7 +189,7 @@ const OVERLAP: Case = Case {
 fn handlers_run_while_the_lock_is_free(rt: HostRuntime) -> Result<(), Fail> {
     let crossed = Crossed::new();
     let outcome = follow(&rt, rt.alloc(), OVERLAP, &crossed)?;
-    assert!(rt; !crossed.is_over());
+    assert!(rt; crossed.is_crossed());
     let left = Left {
         entries: 12,
         quiet: 2,
@@ -198,6 +198,17 @@ fn handlers_run_while_the_lock_is_free(rt: HostRuntime) -> Result<(), Fail> {
         ..QUIET
     };
     assert_eq!(rt; outcome, Outcome::Ran(left));
+    Ok(())
+}
+
+#[test]
+fn results_are_told_after_they_were_accepted(rt: HostRuntime) -> Result<(), Fail> {
+    let watched = Watched {
+        seen: Some((3, 3)),
+        end: End::Quiet,
+        entries: 18,
+    };
+    assert_eq!(rt; watch(&rt, rt.alloc())?, watched);
     Ok(())
 }
 

@@ -28,11 +28,11 @@ drop-push zero xs x within = refl
 drop-push (suc k) [] x within = absurd (omega (arith, within))
 drop-push (suc k) (y ∷ xs) x within = drop-push k xs x (omega (arith, within))
 
-take-front : {X : Type 0} → (xs ys : List X) → take (length xs) (xs ++ ys) ≡ xs
+pub take-front : {X : Type 0} → (xs ys : List X) → take (length xs) (xs ++ ys) ≡ xs
 take-front [] ys = refl
 take-front (x ∷ xs) ys = ap (λ l. x ∷ l) (take-front xs ys)
 
-drop-front : {X : Type 0} → (xs ys : List X) → drop (length xs) (xs ++ ys) ≡ ys
+pub drop-front : {X : Type 0} → (xs ys : List X) → drop (length xs) (xs ++ ys) ≡ ys
 drop-front [] ys = refl
 drop-front (x ∷ xs) ys = drop-front xs ys
 

@@ -4,8 +4,10 @@
 //! the lock free, and brings the result back under it. Each worker calls by its own seat, so each
 //! entry of the journal bears who made it. What a session keeps by its type, it keeps whenever the
 //! lock is free: its journal is legal and leads to where it is, and an accepted call is one entry
-//! and one more for its seat. In a run it also keeps its images, and the entries that it began with. When all seats are handed in, the journal is as long as they were
-//! answered together.
+//! and one more for its seat. A worker knows what lies under the lock by [`Shared`] alone: each
+//! turn and each result that it brings back keeps the images and the entries that were there, and
+//! what it adds are calls that a worker may make, so that none is a crash. When all seats are handed
+//! in, the journal is as long as they were answered together.
 //!
 //! No contract says that a worker gets on: [`worker`] and [`run`] promise what holds if they return.
 //!
@@ -27,5 +29,7 @@ pub use closing::{Closed, close};
 pub use feeding::Item;
 pub use running::{RunError, run};
 pub use sessions::{End, Share};
+pub use shared::Shared;
+pub use turn::Turn;
 pub use turnstile::{Open, Turnstile};
 pub use working::worker;

@@ -1,7 +1,8 @@
 //! What workers share.
 
-ghost use Rattle.std.specs.Prelude.{◌≡◌};
-ghost use Rattle.workers.specs.Continues.{Begins};
+ghost use Rattle.std.specs.Prelude.{◌≡◌, true, length, drop};
+ghost use Rattle.sessions.specs.Journal.{TheSession, world_at};
+ghost use Rattle.workers.specs.Continues.{Begins, Continues, are_allowed};
 ghost use Rattle.workers.specs.Shares.{GoesOn};
 
 use crate::turn::{Turn, finish_job, take_turn};
@@ -11,37 +12,41 @@ use std::marker::{Brand, PhantomData};
 use std::sync::ledger::Ledger;
 use world::{Feed, Refusal};
 
-/// What lies under the lock of workers.
-pub(crate) trait Shared<L: Ledger> {
-    /// A turn of a seat, as [`take_turn`] takes it.
-    fn turn_of(
+/// What lies under the lock of workers: a session, alone or with what is known of it.
+pub trait Shared<L: Ledger> {
+    // The session that it is.
+    ghost session: { Self → TheSession };
+
+    /// A turn of a seat: takes in the feed, if there is one, picks a call and makes it. A feed whose
+    /// number is taken is counted. It refuses what else a call is refused for.
+    fn take_turn(
         &mut self,
         seat: &mut Seat<L>,
         feed: Option<Feed>,
         doubled: &mut u32,
     ) -> Result<Turn, Refusal>
-        ensures { GoesOn seat.old seat.new };
+        ensures seat { GoesOn seat.old seat.new }
+        ensures session { Continues (session self.old) (session self.new) };
 
     /// Takes in the result of a job that a seat started.
-    fn finish_of(&mut self, seat: &mut Seat<L>, done: Done) -> Result<(), Refusal>
-        ensures { GoesOn seat.old seat.new };
+    fn take_result(&mut self, seat: &mut Seat<L>, done: Done) -> Result<(), Refusal>
+        ensures seat { GoesOn seat.old seat.new }
+        ensures session { Continues (session self.old) (session self.new) };
 }
 
 impl<L: Ledger> Shared<L> for Session<L> {
-    fn turn_of(
+    ghost session = { λ s. s };
+
+    fn take_turn(
         &mut self,
         seat: &mut Seat<L>,
         feed: Option<Feed>,
         doubled: &mut u32,
-    ) -> Result<Turn, Refusal>
-        ensures { GoesOn seat.old seat.new }
-    {
+    ) -> Result<Turn, Refusal> {
         take_turn(self, seat, feed, doubled)
     }
 
-    fn finish_of(&mut self, seat: &mut Seat<L>, done: Done) -> Result<(), Refusal>
-        ensures { GoesOn seat.old seat.new }
-    {
+    fn take_result(&mut self, seat: &mut Seat<L>, done: Done) -> Result<(), Refusal> {
         finish_job(self, seat, done)
     }
 }
@@ -66,23 +71,22 @@ pub(crate) struct Running<L: Ledger, B: Start> {
     pub start: PhantomData<B>,
     ghost images: { session.images ≡ B.session.images },
     ghost entries: { Begins B.session.entries session.entries },
+    ghost allowed: { are_allowed (world_at B.session) (drop (length B.session.entries) session.entries) ≡ true },
 }
 
 impl<L: Ledger, B: Start> Shared<L> for Running<L, B> {
-    fn turn_of(
+    ghost session = { λ r. r.session };
+
+    fn take_turn(
         &mut self,
         seat: &mut Seat<L>,
         feed: Option<Feed>,
         doubled: &mut u32,
-    ) -> Result<Turn, Refusal>
-        ensures { GoesOn seat.old seat.new }
-    {
+    ) -> Result<Turn, Refusal> {
         take_turn(&mut self.session, seat, feed, doubled)
     }
 
-    fn finish_of(&mut self, seat: &mut Seat<L>, done: Done) -> Result<(), Refusal>
-        ensures { GoesOn seat.old seat.new }
-    {
+    fn take_result(&mut self, seat: &mut Seat<L>, done: Done) -> Result<(), Refusal> {
         finish_job(&mut self.session, seat, done)
     }
 }

@@ -11,7 +11,7 @@ use world::{Feed, Refusal};
 
 /// What a turn came to.
 #[derive(Drop)]
-pub(crate) enum Turn {
+pub enum Turn {
     /// A call was made.
     Made,
     /// A call was made, and started this job.

@@ -1,21 +1,28 @@
-//! What is called beside a job.
+//! What runs jobs, and is told what came of them.
 
-/// Called by a worker beside each job that it runs, both times with the lock free. A job is told by
+ghost use Rattle.std.specs.Prelude.{◌≡◌};
+
+use replay::{Done, Job};
+
+/// Called by a worker for each job that it takes, both times with the lock free. A job is told by
 /// its serial number, from 1, in the order of their starts.
 pub trait Turnstile: Sync {
-    /// The job was taken, and isn't run yet.
-    fn between(&self, serial: u32);
+    /// Runs the job (`Job::run`), and does what is to be done before and after that.
+    fn run(&self, job: Job) -> Done
+        ensures { result ≡ job };
 
     /// The job's result was accepted.
     fn committed(&self, serial: u32);
 }
 
-/// A turnstile that does nothing.
+/// A turnstile that runs each job at once.
 #[derive(Clone, Copy, PartialEq, Eq, Debug)]
 pub struct Open;
 
 impl Turnstile for Open {
-    fn between(&self, _serial: u32) {}
+    fn run(&self, job: Job) -> Done {
+        job.run()
+    }
 
     fn committed(&self, _serial: u32) {}
 }

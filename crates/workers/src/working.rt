@@ -9,7 +9,7 @@ use crate::turn::Turn;
 use crate::turnstile::Turnstile;
 use crossbeam_channel::Receiver;
 use replay::Job;
-use sessions::{End, Seat, Session, Share};
+use sessions::{End, Seat, Share};
 use std::sync::ledger::Ledger;
 use std::sync::{Mutex, Wait};
 use std::{hint, thread};
@@ -20,8 +20,10 @@ use world::{Feed, Refusal};
 const PATIENCE: u32 = 1_000_000;
 
 /// For so many of them it leaves its processor to others each time, and then each time that so many
-/// are over: where all processors are busy it gives up in the end, too.
-const EAGER: u32 = 1_000;
+/// are over. Where all processors are busy, each time costs it many milliseconds: so they are few.
+const EAGER: u32 = 100;
+
+const SELDOM: u32 = 10_000;
 
 /// How long it leaves the lock to others between two of them, in looks at nothing.
 const PAUSE: u32 = 64;
@@ -30,11 +32,12 @@ const PAUSE: u32 = 64;
 /// call is refused. In a turn it takes the next item, until it took the last one, gives the feed to
 /// `input`, and picks a call and makes it. A job that starts is run with the lock free, and its
 /// result is brought back. Ends are those of [`End`]; it waits for items, for the lock, and for jobs
-/// of others.
-pub fn worker<L: Ledger, R: Wait, G: Turnstile>(
+/// of others. What lies under the lock it knows by [`Shared`] alone: so all that it does there are
+/// turns and results, and each call that they make is one that a worker may make.
+pub fn worker<L: Ledger, S: Shared<L>, R: Wait, G: Turnstile>(
     rt: &R,
     seat: Seat<L>,
-    session: &Mutex<Session<L>>,
+    session: &Mutex<S>,
     items: Receiver<Item>,
     turnstile: &G,
     budget: u32,
@@ -103,7 +106,7 @@ fn rest(idle: u32) {
     for _ in 0..PAUSE {
         hint::spin_loop();
     }
-    if idle < EAGER || idle % EAGER == 0 {
+    if idle < EAGER || idle % SELDOM == 0 {
         thread::yield_now();
     }
 }
@@ -119,7 +122,7 @@ fn turn<L: Ledger, S: Shared<L>, R: Wait, G: Turnstile>(
 ) -> Result<Turn, Refusal>
     ensures { GoesOn seat.old seat.new }
 {
-    let taken = session.lock(rt).turn_of(seat, feed, doubled)?;
+    let taken = session.lock(rt).take_turn(seat, feed, doubled)?;
     let Turn::Started(job) = taken else {
         return Ok(taken);
     };
@@ -138,9 +141,8 @@ fn carry_out<L: Ledger, S: Shared<L>, R: Wait, G: Turnstile>(
     ensures { GoesOn seat.old seat.new }
 {
     let serial = job.task().serial();
-    turnstile.between(serial);
-    let done = job.run();
-    session.lock(rt).finish_of(seat, done)?;
+    let done = turnstile.run(job);
+    session.lock(rt).take_result(seat, done)?;
     turnstile.committed(serial);
     Ok(())
 }

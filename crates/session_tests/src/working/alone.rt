@@ -3,7 +3,7 @@
 ghost use Rattle.std.specs.Prelude.{◌≡◌};
 
 use super::course::{adders, place_of, word};
-use super::turnstiles::Crasher;
+use super::turnstiles::{Crasher, Watcher};
 use crossbeam_channel::{Receiver, Sender};
 use replay::Job;
 use sessions::{Arrival, Session};
@@ -135,4 +135,46 @@ fn meet_in<L: Ledger + Send + Sync, R: Wait + Sync>(
 /// The worker meets this.
 pub(crate) fn meet<R: Wait + Sync>(rt: &R, alloc: Global, trouble: Trouble) -> Result<Alone, Fail> {
     meet_in::<Brand, R>(rt, alloc, Blank::new(17), trouble)
+}
+
+/// What a worker alone did with three feeds: how many jobs it ran and results it told, with the lock
+/// free and after they were accepted, and how many entries the journal has.
+#[derive(Clone, Copy, PartialEq, Eq, Debug)]
+pub(crate) struct Watched {
+    pub(crate) seen: Option<(u32, u32)>,
+    pub(crate) end: End,
+    pub(crate) entries: usize,
+}
+
+fn watch_in<L: Ledger + Send + Sync, R: Wait + Sync>(
+    rt: &R,
+    alloc: Global,
+    blank: Blank,
+) -> Result<Watched, Fail>
+    requires name { blank.name ≡ L.name }
+    requires parts { (blank.parts ≡ L.parts) × (blank.parts ≡ 17) }
+{
+    let mut session: Session<L> = Session::open(alloc, blank, adders(alloc, 1)?)?;
+    let feeds = [word(1, 1, 5), word(2, 1, 6), word(3, 1, 7)];
+    let (to, items) = channel_of(rt, alloc, &feeds, 1)?;
+    drop(to);
+    let Some(seat) = session.sit(1) else {
+        return Err("worker 1 has no seat")?;
+    };
+    let lock = Mutex::new(session);
+    let watcher = Watcher::new(&lock);
+    let share = worker(rt, seat, &lock, items, &watcher, 100);
+    let seen = watcher.seen();
+    drop(watcher);
+    let session = lock.into_inner();
+    Ok(Watched {
+        seen,
+        end: share.end,
+        entries: session.journal().len(),
+    })
+}
+
+/// Watches a worker alone.
+pub(crate) fn watch<R: Wait + Sync>(rt: &R, alloc: Global) -> Result<Watched, Fail> {
+    watch_in::<Brand, R>(rt, alloc, Blank::new(17))
 }

@@ -1,11 +1,13 @@
 //! Turnstiles that look at what goes on beside a job.
 
+use replay::{Done, Job};
 use sessions::Session;
-use std::sync::atomic::{AtomicBool, Ordering};
+use std::sync::atomic::{AtomicBool, AtomicU32, Ordering};
 use std::sync::ledger::Ledger;
 use std::sync::{Mutex, Wait};
 use std::{hint, thread};
 use workers::Turnstile;
+use world::{Call, Entry};
 
 /// How often the first job's worker looks whether the second result was accepted.
 const TURNS: u32 = 1_000_000;
@@ -20,20 +22,20 @@ const PAUSE: u32 = 1_000;
 #[derive(Drop)]
 pub(crate) struct Crossed {
     is_second: AtomicBool,
-    is_over: AtomicBool,
+    is_crossed: AtomicBool,
 }
 
 impl Crossed {
     pub(crate) fn new() -> Crossed {
         Crossed {
             is_second: AtomicBool::new(false),
-            is_over: AtomicBool::new(false),
+            is_crossed: AtomicBool::new(false),
         }
     }
 
-    /// Whether the second result wasn't accepted in time.
-    pub(crate) fn is_over(&self) -> bool {
-        self.is_over.load(Ordering::SeqCst)
+    /// Whether the second result was accepted in time, while the first job was out.
+    pub(crate) fn is_crossed(&self) -> bool {
+        self.is_crossed.load(Ordering::SeqCst)
     }
 
     fn waits(&self) -> bool {
@@ -55,17 +57,14 @@ fn pause() {
 }
 
 impl Turnstile for Crossed {
-    fn between(&self, serial: u32) {
-        if serial != 1 {
-            return;
+    fn run(&self, job: Job) -> Done {
+        if job.task().serial() == 1 && self.waits() {
+            self.is_crossed.store(true, Ordering::SeqCst);
+            for _ in 0..PAUSES {
+                pause();
+            }
         }
-        if !self.waits() {
-            self.is_over.store(true, Ordering::SeqCst);
-            return;
-        }
-        for _ in 0..PAUSES {
-            pause();
-        }
+        job.run()
     }
 
     fn committed(&self, serial: u32) {
@@ -83,11 +82,8 @@ pub(crate) struct Crasher<'a, L: Ledger, R: Wait> {
     pub(crate) is_on: bool,
 }
 
-impl<L: Ledger + Send + Sync, R: Wait + Sync> Turnstile for Crasher<'_, L, R> {
-    fn between(&self, serial: u32) {
-        if serial != 1 || !self.is_on {
-            return;
-        }
+impl<L: Ledger, R: Wait> Crasher<'_, L, R> {
+    fn crash(&self) {
         let mut session = self.session.lock(self.rt);
         let Some(mut seat) = session.sit(0) else {
             return;
@@ -98,6 +94,83 @@ impl<L: Ledger + Send + Sync, R: Wait + Sync> Turnstile for Crasher<'_, L, R> {
             session.rise(seat);
         }
     }
+}
+
+impl<L: Ledger + Send + Sync, R: Wait + Sync> Turnstile for Crasher<'_, L, R> {
+    fn run(&self, job: Job) -> Done {
+        if self.is_on && job.task().serial() == 1 {
+            self.crash();
+        }
+        job.run()
+    }
 
     fn committed(&self, _serial: u32) {}
+}
+
+/// Looks at the session of a worker that is alone: the lock is free before and after each job and
+/// where a result was accepted, and the journal has as many results as were told by then.
+#[derive(Drop)]
+pub(crate) struct Watcher<'a, L: Ledger> {
+    session: &'a Mutex<Session<L>>,
+    jobs: AtomicU32,
+    told: AtomicU32,
+    is_wrong: AtomicBool,
+}
+
+impl<'a, L: Ledger> Watcher<'a, L> {
+    pub(crate) fn new(session: &'a Mutex<Session<L>>) -> Watcher<'a, L> {
+        Watcher {
+            session,
+            jobs: AtomicU32::new(0),
+            told: AtomicU32::new(0),
+            is_wrong: AtomicBool::new(false),
+        }
+    }
+
+    /// How many jobs were run, and how many results were told; none where something was wrong.
+    pub(crate) fn seen(&self) -> Option<(u32, u32)> {
+        if self.is_wrong.load(Ordering::SeqCst) {
+            return None;
+        }
+        Some((
+            self.jobs.load(Ordering::SeqCst),
+            self.told.load(Ordering::SeqCst),
+        ))
+    }
+
+    fn look(&self) {
+        let is_right = match self.session.try_lock() {
+            Some(session) => results(session.journal()) == self.told.load(Ordering::SeqCst),
+            None => false
+        };
+        if !is_right {
+            self.is_wrong.store(true, Ordering::SeqCst);
+        }
+    }
+}
+
+/// How many results are in a journal.
+fn results(journal: &[Entry]) -> u32 {
+    let mut results = 0u32;
+    for entry in journal {
+        if matches!(entry.call, Call::Finish { .. }) {
+            results = results.saturating_add(1);
+        }
+    }
+    results
+}
+
+impl<L: Ledger + Send + Sync> Turnstile for Watcher<'_, L> {
+    fn run(&self, job: Job) -> Done {
+        self.look();
+        self.jobs.fetch_add(1, Ordering::SeqCst);
+        let done = job.run();
+        self.look();
+        done
+    }
+
+    fn committed(&self, _serial: u32) {
+        self.told.fetch_add(1, Ordering::SeqCst);
+        self.look();
+    }
 }

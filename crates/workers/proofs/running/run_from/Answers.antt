@@ -1,11 +1,10 @@
 use Rattle.std.proofs.Common.{◌≡◌, ◌+◌, ◌-◌, length, length-append, sym, ap, ◌∙◌, subst, arith}
-use Rattle.sessions.specs.Journal.{TheSession}
 use Rattle.sessions.specs.Seats.{answered_by}
 use Rattle.sessions.specs.Shares.{answers_of}
 use Rattle.workers.specs.Shares.{AreServed}
 use Rattle.workers.specs.Running.{manned, unmanned}
-use Rattle.workers.specs.Continues.{Begins}
-use Rattle.workers.proofs.Continuing.{continues_of}
+use Rattle.workers.specs.Continues.{Continues}
+use Rattle.workers.proofs.Continuing.{continues-of}
 use Rattle.workers.proofs.Served.{length-served, take-others, drop-others}
 use Rattle.workers.proofs.running.run_from.Goals as goal
 use Rattle.workers.proofs.running.run_from.Goals.{After-settled}
@@ -62,7 +61,6 @@ returns-clause-continues g c =
     let start = g.B.Start.session in
     let left = c.into_inner-session.result in
     let end = c.settled.result.session in
-    let same : end ≡ left.session = c.settled.ensures.session in
-    let images : end.images ≡ c.args.session.images = ap (λ (s : TheSession). s.images) same ∙ left.images ∙ ap (λ (s : TheSession). s.images) (sym c.requires.start) in
-    let begins : Begins start.entries end.entries = subst (Begins start.entries) (ap (λ (s : TheSession). s.entries) (sym same)) left.entries in
-    continues_of c.args.session end images (subst (λ es. Begins es end.entries) (ap (λ (s : TheSession). s.entries) (sym c.requires.start)) begins)
+    let all : Continues start left.session = continues-of start left.session left.images left.entries left.allowed in
+    let here : Continues c.args.session left.session = subst (λ s. Continues s left.session) (sym c.requires.start) all in
+    subst (Continues c.args.session) (sym c.settled.ensures.session) here
