@@ -1,0 +1,10 @@
+//! Tests of packets as bytes.
+//!
+//! They stand in a crate of their own, as in `handler_tests`. The bytes are those that
+//! `model/nodes/packets.py` prints.
+#![tactic(auto)]
+
+#[cfg(test)]
+mod refusals;
+#[cfg(test)]
+mod spelling;
