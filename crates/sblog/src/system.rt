@@ -1,5 +1,8 @@
 //! The files of the system.
 
+ghost use Rattle.std.specs.Prelude.{◌≡◌, IfErr};
+ghost use Rattle.tracer.specs.declared.files.Failure.TheVariants.{Memory};
+
 use crate::place::Place;
 use crate::streams::note;
 use std::alloc::Global;
@@ -59,7 +62,9 @@ impl<'a, R: rt::Files + AllocGlobal> Files for SystemFiles<'a, R> {
 
 /// The device and the number of the plain file to which a path leads. A device or a pipe may be read
 /// and written at once, and what isn't found is no file.
-fn identity<R: rt::Files + AllocGlobal>(rt: &R, path: &str) -> Result<Option<(u64, u64)>, Failure> {
+fn identity<R: rt::Files + AllocGlobal>(rt: &R, path: &str) -> Result<Option<(u64, u64)>, Failure>
+    ensures { IfErr result (λ e. e ≡ Memory) }
+{
     match fs::metadata(rt, path) {
         Ok(found) if found.is_file() => Ok(Some((found.dev(), found.ino()))),
         Err(e) if e.kind() == io::ErrorKind::OutOfMemory => Err(Failure::Memory),
