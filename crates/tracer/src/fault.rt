@@ -84,7 +84,10 @@ impl fmt::Display for Fault {
                 let number = rule.number();
                 writeln!(f, "asm refused {number} at line {line}")
             }
-            Fault::Scenario { line, words } => write!(f, "scenario refused at line {line}\n{words}"),
+            Fault::Scenario { line, words } => write!(
+                f,
+                "scenario refused at line {line}\n{words}"
+            ),
             Fault::Memory => writeln!(f, "memory"),
             Fault::InputOutput => writeln!(f, "input or output"),
         }

@@ -59,12 +59,7 @@ fn refusal(alloc: Global, text: &str, allowed: Allowed, error: ScenarioError) ->
 }
 
 /// What is wrong with a line, as a line of text.
-fn said(
-    alloc: Global,
-    text: &str,
-    line: usize,
-    allowed: Allowed,
-) -> Result<String, AllocError> {
+fn said(alloc: Global, text: &str, line: usize, allowed: Allowed) -> Result<String, AllocError> {
     match mistake_of(text, line, allowed) {
         Some(mistake) => format!(in alloc; "line {line}: {mistake}\n"),
         None => Ok(String::new(alloc)),
