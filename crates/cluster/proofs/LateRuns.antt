@@ -1,5 +1,5 @@
 -- The worked runs of late packets
-use Rattle.std.proofs.Common.{◌≡◌, ◌≢◌, inl, inr, ℕ, ◌<◌, ◌≤◌, List, take, refl, arith}
+use Rattle.std.proofs.Common.{◌≡◌, inl, inr, ℕ, ◌<◌, List, take, refl, arith}
 use Rattle.world.specs.declared.message.Message.{Message}
 use Rattle.world.specs.Worked.{relaying}
 use Rattle.theorems.specs.Overlap.{passing}
