@@ -1,4 +1,4 @@
-//! Images of which a bit or a byte is changed, and beginnings of them.
+//! Images of which a bit is changed.
 
 ghost use Rattle.std.specs.Prelude.{◌≡◌, length};
 ghost use Rattle.interp.specs.Configuration.{IsLong};
@@ -93,35 +93,6 @@ fn changed_bits(alloc: Global, file: &[u8]) -> Result<u64, Fail> {
     Ok(digest.0)
 }
 
-/// The digest of what becomes of a file with each of its bytes changed to each other value, ascending.
-fn changed_bytes(alloc: Global, file: &[u8]) -> Result<u64, Fail> {
-    let mut digest = Digest(0);
-    let mut changed = Vec::from_slice(alloc, file)?;
-    for (place, byte) in file.iter().enumerate() {
-        for value in 0..=255 {
-            if value != *byte {
-                if let Some(here) = changed.get_mut(place) {
-                    *here = value;
-                }
-                digest.take_file(alloc, &changed)?;
-            }
-        }
-        if let Some(here) = changed.get_mut(place) {
-            *here = *byte;
-        }
-    }
-    Ok(digest.0)
-}
-
-/// The digest of what becomes of each beginning of a file, the shortest first.
-fn beginnings(alloc: Global, file: &[u8]) -> Result<u64, Fail> {
-    let mut digest = Digest(0);
-    for end in 0..file.len() {
-        digest.take_file(alloc, &file[..end])?;
-    }
-    Ok(digest.0)
-}
-
 // The digests are those of a slow verifier and interpreter that share no code with these.
 #[test]
 fn a_bit_is_changed(rt: HostRuntime) -> Result<(), Fail> {
@@ -132,29 +103,6 @@ fn a_bit_is_changed(rt: HostRuntime) -> Result<(), Fail> {
     assert_eq!(rt;
         changed_bits(rt.alloc(), &SECOND_FORM)?,
         0x7037_c024_fbd5_416a
-    );
-    Ok(())
-}
-
-#[test]
-fn a_byte_is_changed(rt: HostRuntime) -> Result<(), Fail> {
-    assert_eq!(rt;
-        changed_bytes(rt.alloc(), &FIRST_FORM)?,
-        0x05e0_2112_fa43_48be
-    );
-    assert_eq!(rt;
-        changed_bytes(rt.alloc(), &SECOND_FORM)?,
-        0x705e_9a78_d6b7_32bb
-    );
-    Ok(())
-}
-
-#[test]
-fn the_end_is_cut_off(rt: HostRuntime) -> Result<(), Fail> {
-    assert_eq!(rt; beginnings(rt.alloc(), &FIRST_FORM)?, 0xc80a_e947_4105_7ee0);
-    assert_eq!(rt;
-        beginnings(rt.alloc(), &SECOND_FORM)?,
-        0xc271_ec65_a143_77e0
     );
     Ok(())
 }
