@@ -21,6 +21,7 @@ some≢none x e = cc
 -- what `get_one` reads of an argument is its number, where that is in its range
 module _ {E : Type 0} (G : Text → Result ℕ E → Type 0) (m : ArgMatches) (id : Text) (low high : ℕ)
     (parses : (t : Text) (x : Result ℕ E) → G t x → ParsesUnsigned 64 10 t x) where
+  -- what is read as no number is none
   pub no_number : high < 2 ^ 64 → ((t : Text) → one_text (found_of m) id ≡ Some t → ReadsOne G t None)
       → (n : ℕ) → HasNumber id low high (rows_of (found_of m)) n → ⊥
   no_number limit value n h =
@@ -28,6 +29,7 @@ module _ {E : Type 0} (G : Text → Result ℕ E → Type 0) (m : ArgMatches) (i
       let read = value h.0 text in
       parses h.0 (Err read.0) read.1 (h.2.digits, omega (arith, limit, h.2.value, h.2.most))
 
+  -- nor is what is read as a number out of range
   pub other_number : (n : ℕ) → ((t : Text) → one_text (found_of m) id ≡ Some t → ReadsOne G t (Some n))
       → (low ≤ n → n ≤ high → ⊥) → (k : ℕ) → HasNumber id low high (rows_of (found_of m)) k → ⊥
   other_number n value outside k h =
@@ -35,6 +37,7 @@ module _ {E : Type 0} (G : Text → Result ℕ E → Type 0) (m : ArgMatches) (i
       let read = parses h.0 (Ok n) (value h.0 text) in
       outside (omega (arith, h.2.value, h.2.least, read.1)) (omega (arith, h.2.value, h.2.most, read.1))
 
+  -- what is read as one in range is the argument's
   pub number_read : (n : ℕ) → (one_text (found_of m) id ≡ None → Some n ≡ None)
       → ((t : Text) → one_text (found_of m) id ≡ Some t → ReadsOne G t (Some n))
       → low ≤ n → n ≤ high → HasNumber id low high (rows_of (found_of m)) n
@@ -58,6 +61,7 @@ second_form rows n other h =
     let two : n ≡ 2 = omega (arith, other, h.2.least, h.2.most) in
     inl (subst (HasNumber (codes "form") 1 2 rows) two h)
 
+-- and the number 1 is that of form 1
 pub first_form : (rows : List Row) (n : ℕ) → n ≡ 1 → HasNumber (codes "form") 1 2 rows n → HasForm rows Sbi1
 first_form rows n one h = inl (subst (HasNumber (codes "form") 1 2 rows) one h)
 
@@ -89,6 +93,7 @@ no_asm rows none (order.Asm source image state form) h = none state form h.3 h.4
 no_asm rows none (order.Pack code image state form) h = unlike (codes "asm") (codes "pack") (λ (e : ◌≡◌ {A = ℕ} 97 112). omega arith) h.0
 no_asm rows none (order.Dis image) h = unlike (codes "asm") (codes "dis") (λ (e : ◌≡◌ {A = ℕ} 97 100). omega arith) h.0
 
+-- the same of `pack`
 pub no_pack : (rows : List Row) → ((n : ℕ) (form : ImageForm) → HasState rows n → HasForm rows form → ⊥)
     → (o : Order) → AsksIn (codes "pack") rows o → ⊥
 no_pack rows none (order.Run scenario) h = unlike (codes "pack") (codes "run") (λ (e : ◌≡◌ {A = ℕ} 112 114). omega arith) h.0

@@ -23,10 +23,12 @@ pub some_kind : (k : ErrorKind) (ks : Kinds) → k ∷ ks ≡ [] → ⊥
 unfolding is_none
 some_kind k ks e = true≢false (sym (ap is_none e))
 
+-- where neither of two finds a fault, the first finds none
 pub first_none : (a b : Kinds) → or_else a b ≡ [] → a ≡ []
 first_none [] b none = refl
 first_none (k ∷ ks) b none = none
 
+-- nor does the second
 pub second_none : (a b : Kinds) → or_else a b ≡ [] → b ≡ []
 second_none [] b none = none
 second_none (k ∷ ks) b none = absurd (some_kind k ks none)
@@ -63,6 +65,7 @@ module _ (P : Row → Type 0) (s : Shape) (keeps : (p : Rule → Bool) (a : Rule
   settled_if_pending None rows none all = all
   settled_if_pending (Some p) rows none all = used_if_found (arg_by_id s.rules p.0) p.1 rows (λ a is. keeps (λ b. bytes_eq b.id p.0) a is) none all
 
+  -- to settle an argument that waits for its values keeps what holds of each row
   pub settle_keeps : (h : Held) → settle_fault s.rules s.args_override_self h ≡ [] → All h.rows → All (settled s.rules h).rows
   settle_keeps h none all = settled_if_pending h.pending h.rows none all
 

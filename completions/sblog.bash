@@ -1,0 +1,69 @@
+# Completion of sblog for bash, written by tools/completions: source it, or put it into
+# ~/.local/share/bash-completion/completions/sblog
+_sblog_words() {
+    [[ $word == -* ]] && COMPREPLY=($(compgen -W "$1" -- "$word"))
+}
+_sblog_files() {
+    local end path
+    compopt -o filenames 2> /dev/null
+    mapfile -t COMPREPLY < <(compgen -d -- "$word"
+        [[ -z $1 ]] && compgen -f -- "$word"
+        for end in $1; do compgen -f -X "!*.$end" -- "$word"; done)
+    [[ ${#COMPREPLY[@]} -gt 0 ]] || mapfile -t COMPREPLY < <(compgen -f -- "$word")
+}
+_sblog() {
+    local word=${COMP_WORDS[COMP_CWORD]} before=${COMP_WORDS[COMP_CWORD - 1]} at=1
+    [[ ${COMP_WORDS[1]} == --unproved ]] && at=2
+    if [[ $COMP_CWORD -eq $at ]]; then
+        local names='run live draw check explain asm pack dis help --help --unproved --version'
+        [[ $at -eq 2 ]] && names='run check explain dis'
+        COMPREPLY=($(compgen -W "$names" -- "$word"))
+        return
+    fi
+    case ${COMP_WORDS[at]} in
+    run)
+        _sblog_words '--help' || _sblog_files 'scenario'
+        ;;
+    live)
+        case $before in
+            --workers) COMPREPLY=($(compgen -W '' -- "$word")); return ;;
+            --budget) COMPREPLY=($(compgen -W '' -- "$word")); return ;;
+        esac
+        _sblog_words '--workers --budget --help' || _sblog_files 'scenario'
+        ;;
+    draw)
+        _sblog_words '--help' || _sblog_files 'scenario'
+        ;;
+    check)
+        _sblog_words '--help' || _sblog_files 'sbi'
+        ;;
+    explain)
+        case $before in
+            --source) _sblog_files o; return ;;
+        esac
+        _sblog_words '--source --help' || _sblog_files 'sbi'
+        ;;
+    asm)
+        case $before in
+            --state) COMPREPLY=($(compgen -W '' -- "$word")); return ;;
+            --form) COMPREPLY=($(compgen -W '1 2' -- "$word")); return ;;
+        esac
+        _sblog_words '--state --form --help' || _sblog_files 's'
+        ;;
+    pack)
+        case $before in
+            --state) COMPREPLY=($(compgen -W '' -- "$word")); return ;;
+            --form) COMPREPLY=($(compgen -W '1 2' -- "$word")); return ;;
+            --function) COMPREPLY=($(compgen -W '' -- "$word")); return ;;
+        esac
+        _sblog_words '--state --form --function --help' || _sblog_files 'bin o'
+        ;;
+    dis)
+        _sblog_words '--help' || _sblog_files 'sbi'
+        ;;
+    help)
+        COMPREPLY=($(compgen -W 'run live draw check explain asm pack dis' -- "$word"))
+        ;;
+    esac
+}
+complete -F _sblog sblog ./sblog
