@@ -2,7 +2,7 @@
    every kind of call that the library makes; behind each step the entries that are new are read, and a
    line is written of each from its numbers. In the end these lines have to be those of the trace, and
    each input's payload the one that was handed in. */
-#include "sblog_session.h"
+#include "sblog.h"
 
 #include <stdarg.h>
 #include <stdio.h>

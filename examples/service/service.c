@@ -2,7 +2,7 @@
    the total, any other prints what was done so far. The argument says after how many commands the
    process is lost, again and again: never without one. It is back before the next command, and
    whoever types doesn't notice. */
-#include "sblog_session.h"
+#include "sblog.h"
 
 #include <stdio.h>
 #include <stdlib.h>
