@@ -6,6 +6,7 @@ use Rattle.checkpoint.specs.declared.fault.SavedError.{SavedError}
 use Rattle.checkpoint.specs.declared.fault.SavedError.TheVariants as errors
 use Rattle.checkpoint.specs.Reading.{◌>>=◌, Fails, times}
 
+-- what reads a field from the front of bytes, and leaves the rest
 abbrev pub Field : Type 0 → Type 0
 Field A = List ℕ → Result (A × List ℕ) SavedFault
 
@@ -17,6 +18,7 @@ regroup : {A : Type 0} (front : List A) (n : A) (read : Result (List A × List �
 regroup {A} front n (Ok x) = ap (λ (ns : List A). Ok (ns, x.1)) (simp append_assoc)
 regroup front n (Err f) = refl
 
+-- one field more is read: with what is still to be read it makes the same whole
 pub goes_on : {A : Type 0} (field : Field A) (front : List A) (count i : ℕ) (bytes : List ℕ) (n : A) (after : List ℕ) (total : Result (List A × List ℕ) SavedFault) → i < count → field bytes ≡ Ok (n, after)
     → with_front front (times field (count - i) bytes) ≡ total → with_front (front ++ n ∷ []) (times field (count - (i + 1)) after) ≡ total
 unfolding times
@@ -25,6 +27,7 @@ goes_on field front count i bytes n after total lt h so_far =
     let one : with_front front (times field (count - i) bytes) ≡ with_front (front ++ n ∷ []) (times field (count - (i + 1)) after) = rw (k, h) (regroup front n (times field (count - (i + 1)) after)) in
     sym one ∙ so_far
 
+-- a fault of the next field is that of the whole
 pub ends : {A : Type 0} (e : SavedError) (field : Field A) (front : List A) (count i : ℕ) (bytes : List ℕ) (total : Result (List A × List ℕ) SavedFault) → i < count → Fails e (field bytes)
     → with_front front (times field (count - i) bytes) ≡ total → Fails e total
 unfolding times
@@ -34,6 +37,7 @@ ends (errors.Fault f) field front count i bytes total lt h so_far =
     let one : with_front front (times field (count - i) bytes) ≡ Err f = rw (k, h) refl in
     sym so_far ∙ one
 
+-- where all are read, what was read is the whole
 pub is_done : {A : Type 0} (field : Field A) (front : List A) (count i : ℕ) (bytes : List ℕ) (total : Result (List A × List ℕ) SavedFault) → count ≤ i → with_front front (times field (count - i) bytes) ≡ total → total ≡ Ok (front, bytes)
 unfolding times
 is_done {A} field front count i bytes total le so_far =

@@ -5,7 +5,7 @@ use Rattle.std.specs.Int.{Width, w16, w32, byte_len, from_le_bytes, to_le_bytes}
 use Rattle.std.specs.List.{list_all}
 use Rattle.std.specs.Cmp.Lexicographic.{pointwise, same_text}
 use Rattle.std.proofs.lemmas.Bool.{cases_lt, ltb-false, le-ltb}
-use Rattle.std.proofs.lemmas.List.{take_at, drop_at, take-append-drop, length-append, length-take, get_or-drop, get_or-take, get_or_past}
+use Rattle.std.proofs.lemmas.List.{take_at, drop_at, take-append-drop, length-append, length-take, length-drop, get_or-drop, get_or-take, get_or_past}
 use Rattle.std.proofs.lemmas.Nat.{le_bytes_2, le_bytes_4, from_le_bytes-to_le_bytes_2, from_le_bytes-to_le_bytes_4}
 use Rattle.checkpoint.specs.declared.form.Form.{Form}
 use Rattle.checkpoint.specs.declared.form.Form.TheVariants.{First, Second}
@@ -15,6 +15,7 @@ use Rattle.checkpoint.specs.Saved.{PayloadFits, is_sender}
 use Rattle.checkpoint.specs.Format.{magic, payload_bytes}
 use Rattle.checkpoint.specs.Reading.{◌>>=◌, bytes_at, in_range, byte_at, number_at, form_at, senders_at, payload_at}
 
+-- each number is a byte's
 abbrev pub IsBytes : List ℕ → Type 0
 IsBytes bytes = (i : ℕ) → get_or bytes i 0 < 256
 
@@ -40,6 +41,7 @@ guard_ok : {A : Type 0} (b : Bool) (d : SavedFault) (x y : A) → cond b (Err d)
 guard_ok true d x y e = absurd cc
 guard_ok false d x y e = (refl, cc)
 
+-- and one that had to pass
 pub passed_ok : {A : Type 0} (b : Bool) (d : SavedFault) (x y : A) → cond b (Ok x) (Err d) ≡ Ok y → (b ≡ true) × (x ≡ y)
 passed_ok true d x y e = (refl, cc)
 passed_ok false d x y e = absurd cc
@@ -60,11 +62,13 @@ pub record Takes (bytes text rest : List ℕ) : Type 0 where
   pub parts : bytes ≡ text ++ rest
   pub rest_fits : IsBytes rest
 
+-- what two readers took one after the other is what both took
 pub Takes-then : (a x b y c : List ℕ) → Takes a x b → Takes b y c → Takes a (x ++ y) c
 Takes-then a x b y c p q = record { parts = p.parts ∙ ap (λ (t : List ℕ). x ++ t) q.parts ∙ sym (append_assoc x y c); rest_fits = q.rest_fits }
 
 -- ---- bytes
 
+-- bytes that are read are the front, as many as were asked for
 pub bytes_takes : (n : ℕ) (bytes : List ℕ) (x : List ℕ × List ℕ) → IsBytes bytes → bytes_at n bytes ≡ Ok x → Takes bytes x.0 x.1 × (length x.0 ≡ n) × IsBytes x.0
 bytes_takes n bytes x fits e =
     let g = guard_ok (ltb (length bytes) n) Length (take n bytes, drop n bytes) x e in
@@ -73,6 +77,7 @@ bytes_takes n bytes x fits e =
     let here : Takes bytes (take n bytes) (drop n bytes) = record { parts = sym (take-append-drop n bytes); rest_fits = IsBytes-drop n bytes fits } in
     subst (λ (p : List ℕ × List ℕ). Takes bytes p.0 p.1 × (length p.0 ≡ n) × IsBytes p.0) g.1 (here, len, IsBytes-take n bytes fits)
 
+-- and a front of that length is what is read
 pub bytes_again : (n : ℕ) (text rest : List ℕ) → length text ≡ n → bytes_at n (text ++ rest) ≡ Ok (text, rest)
 bytes_again n text rest len =
     let long : ltb (length (text ++ rest)) n ≡ false = le-ltb _ _ (omega (arith, length-append text rest, len)) in
@@ -92,6 +97,7 @@ range_again low high n rest least most =
     let two : nat_lt high n ≡ false = le-ltb _ _ most in
     rw (one, two) refl
 
+-- a byte that is read is in range
 pub byte_takes : (low high : ℕ) (bytes : List ℕ) (x : ℕ × List ℕ) → IsBytes bytes → byte_at low high bytes ≡ Ok x → Takes bytes (x.0 ∷ []) x.1 × (low ≤ x.0) × (x.0 ≤ high)
 byte_takes low high [] x fits e = absurd cc
 byte_takes low high (b ∷ rest) x fits e =
@@ -99,9 +105,11 @@ byte_takes low high (b ∷ rest) x fits e =
     let here : Takes (b ∷ rest) (b ∷ []) rest = record { parts = refl; rest_fits = λ i. fits (suc i) } in
     subst (λ (p : ℕ × List ℕ). Takes (b ∷ rest) (p.0 ∷ []) p.1 × (low ≤ p.0) × (p.0 ≤ high)) r.0 (here, r.1, r.2)
 
+-- and one in range is read
 pub byte_again : (low high n : ℕ) (rest : List ℕ) → low ≤ n → n ≤ high → byte_at low high (n ∷ rest) ≡ Ok (n, rest)
 byte_again low high n rest least most = range_again low high n rest least most
 
+-- numbers below the limit, and bytes of this width, spell each other
 pub record IsWide (w : Width) (limit : ℕ) : Type 0 where
   pub len : (n : ℕ) → length (to_le_bytes w n) ≡ byte_len w
   pub back : (bytes : List ℕ) → length bytes ≡ byte_len w → IsBytes bytes → to_le_bytes w (from_le_bytes w bytes) ≡ bytes
@@ -121,6 +129,7 @@ wide32 = record {
   again = λ n lt. from_le_bytes-to_le_bytes_4 n lt;
 }
 
+-- a number that is read was spelled so, and is in range
 pub number_takes : (w : Width) (limit : ℕ) (wide : IsWide w limit) (low high : ℕ) (bytes : List ℕ) (x : ℕ × List ℕ) → IsBytes bytes → number_at w low high bytes ≡ Ok x → Takes bytes (to_le_bytes w x.0) x.1 × (low ≤ x.0) × (x.0 ≤ high)
 unfolding number_at
 number_takes w limit wide low high bytes x fits e =
@@ -131,6 +140,7 @@ number_takes w limit wide low high bytes x fits e =
     let here : Takes bytes (to_le_bytes w (from_le_bytes w b.0.0)) b.0.1 = subst (λ (text : List ℕ). Takes bytes text b.0.1) (sym front) t.0 in
     subst (λ (p : ℕ × List ℕ). Takes bytes (to_le_bytes w p.0) p.1 × (low ≤ p.0) × (p.0 ≤ high)) r.0 (here, r.1, r.2)
 
+-- and one in range, spelled so, is read
 pub number_again : (w : Width) (limit : ℕ) (wide : IsWide w limit) (low high n : ℕ) (rest : List ℕ) → low ≤ n → n ≤ high → n < limit → number_at w low high (to_le_bytes w n ++ rest) ≡ Ok (n, rest)
 unfolding number_at
 number_again w limit wide low high n rest least most lt =
@@ -160,6 +170,7 @@ unfolding form_at
 form_again First rest = rw (bytes_again 4 (magic First) rest refl) refl
 form_again Second rest = rw (bytes_again 4 (magic Second) rest refl) refl
 
+-- receipts that are read are as many as were asked for, each of a sender of this process
 pub senders_takes : (me count received : ℕ) (bytes : List ℕ) (x : List ℕ × List ℕ) → IsBytes bytes → senders_at me count received bytes ≡ Ok x → Takes bytes x.0 x.1 × (length x.0 ≡ received) × (list_all (is_sender me count) x.0 ≡ true)
 unfolding senders_at
 senders_takes me count received bytes x fits e =
@@ -172,6 +183,7 @@ pub senders_again : (me count : ℕ) (senders rest : List ℕ) → list_all (is_
 unfolding senders_at
 senders_again me count senders rest all = rw (bytes_again (length senders) senders rest refl, all) refl
 
+-- a payload that is read was spelled so in this form, and fits it
 pub payload_takes : (form : Form) (bytes : List ℕ) (x : List ℕ × List ℕ) → IsBytes bytes → payload_at form bytes ≡ Ok x → Takes bytes (payload_bytes form x.0) x.1 × PayloadFits form x.0
 unfolding payload_at
 payload_takes First bytes x fits e = let t = bytes_takes 64 bytes x fits e in (t.0, t.1)
@@ -182,6 +194,27 @@ payload_takes Second bytes x fits e =
     let whole = Takes-then bytes (to_le_bytes w16 b.0.0) b.0.1 x.0 x.1 t.0 u.0 in
     (subst (λ (n : ℕ). Takes bytes (to_le_bytes w16 n ++ x.0) x.1) (sym u.1) whole, omega (arith, u.1, t.2))
 
+-- a payload that was read and what is left are no longer than the bytes
+bytes_short : (n : ℕ) (bytes : List ℕ) (x : List ℕ × List ℕ) → bytes_at n bytes ≡ Ok x → length x.0 + length x.1 ≤ length bytes
+bytes_short n bytes x e =
+    let g = guard_ok (ltb (length bytes) n) Length (take n bytes, drop n bytes) x e in
+    subst (λ (p : List ℕ × List ℕ). length p.0 + length p.1 ≤ length bytes) g.1 (omega (arith, length-take n bytes, length-drop n bytes))
+
+number_short : (w : Width) (low high : ℕ) (bytes : List ℕ) (x : ℕ × List ℕ) → number_at w low high bytes ≡ Ok x → length x.1 ≤ length bytes
+unfolding number_at
+number_short w low high bytes x e =
+    let b = bind_ok (bytes_at (byte_len w) bytes) (λ found. in_range low high (from_le_bytes w found.0) found.1) x e in
+    let r = range_takes low high (from_le_bytes w b.0.0) b.0.1 x b.2 in
+    subst (λ (p : ℕ × List ℕ). length p.1 ≤ length bytes) r.0 (omega (arith, bytes_short (byte_len w) bytes b.0 b.1))
+
+pub payload_short : (form : Form) (bytes : List ℕ) (x : List ℕ × List ℕ) → payload_at form bytes ≡ Ok x → length x.0 + length x.1 ≤ length bytes
+unfolding payload_at
+payload_short First bytes x e = bytes_short 64 bytes x e
+payload_short Second bytes x e =
+    let b = bind_ok (number_at w16 0 256 bytes) (λ len. bytes_at len.0 len.1) x e in
+    omega (arith, number_short w16 0 256 bytes b.0 b.1, bytes_short b.0.0 b.0.1 x b.2)
+
+-- and one that fits, spelled so, is read
 pub payload_again : (form : Form) (payload rest : List ℕ) → PayloadFits form payload → payload_at form (payload_bytes form payload ++ rest) ≡ Ok (payload, rest)
 unfolding payload_at
 payload_again First payload rest fits = bytes_again 64 payload rest fits

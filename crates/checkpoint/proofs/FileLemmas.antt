@@ -60,9 +60,11 @@ all-removed P (y ∷ ys) (suc i) all = (all.0, all-removed P ys i all.1)
 
 -- ---- the first fields
 
+-- the first fields, spelled
 abbrev pub head_bytes : Head → List ℕ
 head_bytes h = magic h.form ++ (to_le_bytes w16 h.state ++ (h.count ∷ h.me ∷ to_le_bytes w32 h.received))
 
+-- the first fields of a checkpoint
 abbrev pub head : Form → TheSaved → Head
 head form s = record { form = form; state = length s.state; count = s.count; me = s.me; received = length s.senders }
 
@@ -92,6 +94,7 @@ head_takes bytes x fits e =
     let ranges : HeadFits h = record { state = t1.2; some = t2.1; few = t2.2; least = t3.1; own = t3.2; received = t4.2 } in
     subst (λ (y : Head × List ℕ). Takes bytes (head_bytes y.0) y.1 × HeadFits y.0) (ok_is (h, f.0.1) x f.2) (whole, ranges)
 
+-- first fields that fit, spelled so, are read
 pub head_again : (h : Head) (rest : List ℕ) → HeadFits h → head_at (head_bytes h ++ rest) ≡ Ok (h, rest)
 unfolding head_at
 head_again h rest fits =
@@ -108,6 +111,7 @@ head_again h rest fits =
 
 -- ---- what follows them
 
+-- what follows them, spelled
 abbrev pub body_bytes : Form → TheSaved → List ℕ
 body_bytes form s = s.state ++ (s.senders ++ flat_map (kept_bytes form) (remove s.queues s.me))
 
@@ -180,9 +184,11 @@ reading_takes bytes s fits e =
     let whole : bytes ≡ bytes_of form b.0.0 = front ∙ append_assoc (magic form) (number_bytes b.0.0) (body_bytes form b.0.0) in
     (form, subst (λ (y : TheSaved). IsCheckpoint form y bytes) p.1 (record { fits = u.2; bytes_are = whole }))
 
+-- the first fields of a checkpoint that fits fit, too
 pub head_fits : (form : Form) (s : TheSaved) → Fits form s → HeadFits (head form s)
 head_fits form s fits = record { state = fits.state; some = fits.some; few = fits.few; least = fits.least; own = fits.own; received = fits.received }
 
+-- the bytes of a checkpoint are read as that checkpoint
 pub reading_again : (form : Form) (s : TheSaved) (bytes : List ℕ) → IsCheckpoint form s bytes → reading bytes ≡ Ok s
 unfolding reading
 reading_again form s bytes is =
@@ -192,6 +198,7 @@ reading_again form s bytes is =
     is.bytes_are ∙ sym (append_assoc (magic form) (number_bytes s) body) ∙ ap (λ (t : List ℕ). head_bytes (head form s) ++ t) (sym (append-nil body)) in
     ap reading regrouped ∙ rw (head_again (head form s) (body ++ []) ranges, body_again form s [] is.fits) refl
 
+-- and what is read from bytes is what they are a checkpoint of
 pub is_found : (bytes : List ℕ) (r : Result TheSaved SavedError) → IsBytes bytes → Gives (λ (s : TheSaved). s) r (reading bytes) → IfOk r (λ s. (form : Form) × IsCheckpoint form s bytes)
 is_found bytes (Ok s) fits given = reading_takes bytes s fits given
 is_found bytes (Err e) fits given = tt

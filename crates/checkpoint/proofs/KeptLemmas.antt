@@ -11,6 +11,7 @@ use Rattle.checkpoint.proofs.FieldLemmas.{IsBytes, bind_ok, ok_is, Takes, Takes-
 
 -- ---- so many fields
 
+-- where each field that is read was spelled so, so were all of them
 pub times_takes : {A : Type 0} (field : Field A) (spell : A → List ℕ) (P : A → Type 0) (step : (bytes : List ℕ) (x : A × List ℕ) → IsBytes bytes → field bytes ≡ Ok x → Takes bytes (spell x.0) x.1 × P x.0)
     (n : ℕ) (bytes : List ℕ) (x : List A × List ℕ) → IsBytes bytes → times field n bytes ≡ Ok x → Takes bytes (flat_map spell x.0) x.1 × (length x.0 ≡ n) × AllByRecursion P x.0
 unfolding times
@@ -25,6 +26,7 @@ times_takes {A} field spell P step (suc n) bytes x fits e =
     subst (λ (y : List A × List ℕ). Takes bytes (flat_map spell y.0) y.1 × (length y.0 ≡ suc n) × AllByRecursion P y.0) (ok_is (a.0.0 ∷ b.0.0, b.0.1) x b.2)
     (Takes-then bytes (spell a.0.0) a.0.1 (flat_map spell b.0.0) b.0.1 t.0 u.0, ap suc u.1, (t.1, u.2))
 
+-- and where each, spelled so, is read, all are
 pub times_again : {A : Type 0} (field : Field A) (spell : A → List ℕ) (P : A → Type 0) (step : (a : A) (rest : List ℕ) → P a → field (spell a ++ rest) ≡ Ok (a, rest))
     (xs : List A) (rest : List ℕ) → AllByRecursion P xs → times field (length xs) (flat_map spell xs ++ rest) ≡ Ok (xs, rest)
 unfolding times
@@ -35,6 +37,7 @@ times_again field spell P step (x ∷ xs) rest all =
 
 -- ---- what is kept
 
+-- what is read for a destination was spelled so, and fits
 pub kept_takes : (form : Form) (bytes : List ℕ) (x : TheKept × List ℕ) → IsBytes bytes → kept_at form bytes ≡ Ok x → Takes bytes (kept_bytes form x.0) x.1 × KeptFits form x.0
 unfolding kept_at
 kept_takes form bytes x fits e =
@@ -51,6 +54,7 @@ kept_takes form bytes x fits e =
     let ranges : KeptFits form kept = record { least = t0.1; bound = omega (arith, t0.2, t1.2, t2.1); payloads = t2.2 } in
     subst (λ (y : TheKept × List ℕ). Takes bytes (kept_bytes form y.0) y.1 × KeptFits form y.0) (ok_is (kept, c.0.1) x c.2) (whole, ranges)
 
+-- and what fits, spelled so, is read
 pub kept_again : (form : Form) (kept : TheKept) (rest : List ℕ) → KeptFits form kept → kept_at form (kept_bytes form kept ++ rest) ≡ Ok (kept, rest)
 unfolding kept_at
 kept_again form kept rest fits =

@@ -3,5 +3,7 @@ pub mod Restored
 pub mod Counted
 pub mod FieldLemmas
 pub mod KeptLemmas
+pub mod PayloadLemmas
 pub mod FileLemmas
 pub mod CutLemmas
+pub mod StoredLemmas

@@ -1,2 +1,4 @@
 -- What the crate's own functions say to one another. No public contract reaches it.
 pub mod Saved
+pub mod Payloads
+pub mod Stored

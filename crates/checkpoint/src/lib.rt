@@ -27,8 +27,10 @@ mod form;
 mod kept;
 mod laws;
 mod migrating;
+mod payloads;
 mod reading;
 mod saved;
+mod stored;
 mod writing;
 
 pub use fault::{SavedError, SavedFault};
@@ -36,4 +38,5 @@ pub use laws::{one_checkpoint, there_and_back, too_long, too_short};
 pub use migrating::migrate;
 pub use reading::decode;
 pub use saved::{COUNT_LIMIT, RECEIPT_LIMIT, STATE_LIMIT, Saved};
+pub use stored::Stored;
 pub use writing::encode;

@@ -1,6 +1,6 @@
 //! Bytes to a saved process.
 
-ghost use Rattle.std.specs.Prelude.{◌≡◌, ◌≢◌, ◌+◌, ◌≤◌, true, length, IfOk, Ok};
+ghost use Rattle.std.specs.Prelude.{◌≡◌, ◌≢◌, ◌+◌, ◌*◌, ◌≤◌, true, length, IfOk, Ok};
 ghost use Rattle.std.specs.List.{AllByRecursion};
 ghost use Rattle.checkpoint.specs.declared.form.Form.{Form};
 ghost use Rattle.checkpoint.specs.declared.form.Form.TheVariants.{Second};
@@ -13,8 +13,8 @@ use crate::fault::{SavedError, SavedFault};
 use crate::fields::{Head, bytes_of, head_of, payload_of, senders_of, u32_of};
 use crate::form::Form;
 use crate::kept::Kept;
+use crate::payloads::Payloads;
 use crate::saved::Saved;
-use helpers::Payload;
 use sender_log::LIMIT;
 use std::alloc::Global;
 
@@ -101,17 +101,34 @@ fn payloads_of(
     form: Form,
     count: u32,
     bytes: &[u8],
-) -> Result<(Vec<Payload>, &[u8]), SavedError>
-    ensures exact { Gives (λ x. (x.0.items, x.1.now)) result (times (payload_at form) count bytes.now) }
-    ensures count { IfOk result (λ x. length x.0.items ≡ count) }
-    ensures fits { IfOk result (λ x. AllByRecursion (PayloadFits Second) x.0.items) }
+) -> Result<(Payloads, &[u8]), SavedError>
+    ensures exact { Gives (λ x. (x.0, x.1.now)) result (times (payload_at form) count bytes.now) }
+    ensures count { IfOk result (λ x. length x.0 ≡ count) }
+    ensures fits { IfOk result (λ x. AllByRecursion (PayloadFits Second) x.0) }
 {
-    let mut payloads = Vec::new(alloc);
+    let mut payloads = Payloads::with_room(alloc, room_of(form, count, bytes))?;
     let mut rest = bytes;
     for _ in 0..count {
         let (payload, after) = payload_of(form, rest)?;
-        payloads.push(Payload::from_slice(payload))?;
+        payloads.push(payload)?;
         rest = after;
     }
     Ok((payloads, rest))
+}
+
+/// How many bytes so many payloads take, each behind its length, up to the first that can't be
+/// read.
+fn room_of(form: Form, count: u32, bytes: &[u8]) -> usize
+    ensures { result ≤ length bytes.now + 2 * count }
+{
+    let mut room = 0;
+    let mut rest = bytes;
+    for _ in 0..count {
+        let Ok((payload, after)) = payload_of(form, rest) else {
+            return room;
+        };
+        room += payload.len() + 2;
+        rest = after;
+    }
+    room
 }

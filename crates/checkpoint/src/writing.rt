@@ -1,6 +1,6 @@
 //! A saved process to bytes.
 
-ghost use Rattle.std.specs.Prelude.{◌≡◌, ◌++◌, ◌<◌, ◌≤◌, length, IfOk, OnOk};
+ghost use Rattle.std.specs.Prelude.{◌≡◌, ◌++◌, ◌<◌, ◌≤◌, length, take, IfOk, OnOk, OnErr};
 ghost use Rattle.std.specs.Int.{w16, w32, to_le_bytes};
 ghost use Rattle.std.specs.List.{flat_map, AllByRecursion};
 ghost use Rattle.checkpoint.specs.declared.form.Form.TheVariants.{Second};
@@ -24,6 +24,7 @@ pub fn encode(alloc: Global, saved: &Saved) -> Result<Vec<u8>, AllocError>
     let own = saved.me() as usize;
     put_queues(&mut out, &queues[..own])?;
     put_queues(&mut out, &queues[own + 1..])?;
+    out.shrink_to_fit();
     Ok(out)
 }
 
@@ -52,17 +53,16 @@ fn put_kept(out: &mut Vec<u8>, kept: &Kept) -> Result<(), AllocError>
     ensures { OnOk result (out.new.items ≡ out.old.items ++ kept_bytes Second kept.now) }
 {
     put_u32(out, kept.first())?;
-    put_u32(out, kept.payloads().len() as u32)?;
-    for payload in kept.payloads() {
-        put_payload(out, payload.as_slice())?;
-    }
-    Ok(())
+    let payloads = kept.payloads();
+    put_u32(out, payloads.count())?;
+    out.extend_from_slice(payloads.bytes())
 }
 
-/// Appends a payload behind its length.
-fn put_payload(out: &mut Vec<u8>, payload: &[u8]) -> Result<(), AllocError>
+/// Appends a payload behind its length. What was there before stays, also at a refusal.
+pub fn put_payload(out: &mut Vec<u8>, payload: &[u8]) -> Result<(), AllocError>
     requires { length payload.now ≤ 256 }
-    ensures { OnOk result (out.new.items ≡ out.old.items ++ payload_bytes Second payload.now) }
+    ensures ok { OnOk result (out.new.items ≡ out.old.items ++ payload_bytes Second payload.now) }
+    ensures err { OnErr result (take (length out.old.items) out.new.items ≡ out.old.items) }
 {
     put_u16(out, payload.len() as u16)?;
     out.extend_from_slice(payload)
@@ -70,7 +70,8 @@ fn put_payload(out: &mut Vec<u8>, payload: &[u8]) -> Result<(), AllocError>
 
 /// Appends a number of two bytes, the lowest first.
 fn put_u16(out: &mut Vec<u8>, number: u16) -> Result<(), AllocError>
-    ensures { OnOk result (out.new.items ≡ out.old.items ++ to_le_bytes w16 number) }
+    ensures ok { OnOk result (out.new.items ≡ out.old.items ++ to_le_bytes w16 number) }
+    ensures err { OnErr result (out.new.items ≡ out.old.items) }
 {
     let mut bytes = [0; 2];
     LittleEndian::write_u16(&mut bytes, number);

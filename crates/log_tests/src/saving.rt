@@ -1,6 +1,6 @@
 ghost use Rattle.std.specs.Prelude.{◌≤◌, length};
 
-use checkpoint::{Saved, SavedError, decode, encode, migrate, there_and_back};
+use checkpoint::{Saved, SavedError, Stored, decode, encode, migrate, there_and_back};
 use rsn::Receipts;
 use sender_log::Log;
 use std::alloc::Global;
@@ -74,6 +74,23 @@ fn with_payload(alloc: Global, payload: &[u8]) -> Result<Vec<u8>, Fail>
     Ok(encode(alloc, &saved)?)
 }
 
+/// The relay has its message, and has sent it on.
+fn is_the_relay(rt: &impl Abort, receipts: &Receipts, log: &Log) -> Result<(), Fail> {
+    assert_eq!(rt; receipts.length(), 1);
+    assert_eq!(rt; receipts.run_length(), 1);
+    assert_eq!(rt; receipts.next(0), 2);
+    match log.entry(2, 1) {
+        Some((payload, number)) => {
+            assert_eq!(rt; payload, seven().as_slice());
+            assert_eq!(rt; number, None);
+        }
+        None => assert!(rt; false),
+    }
+    assert!(rt; log.entry(2, 2).is_none());
+    assert!(rt; log.entry(0, 1).is_none());
+    Ok(())
+}
+
 #[test]
 fn the_opening_checkpoint(rt: HostRuntime) -> Result<(), Fail> {
     let alloc = rt.alloc();
@@ -108,19 +125,19 @@ fn a_relay_is_saved_and_comes_back(rt: HostRuntime) -> Result<(), Fail> {
     assert_eq!(rt; bytes.len(), 95);
     assert_eq!(rt; bytes.as_slice(), relay_bytes(alloc)?.as_slice());
     let (receipts, log) = decode(alloc, &bytes)?.restore(alloc)?;
-    assert_eq!(rt; receipts.length(), 1);
-    assert_eq!(rt; receipts.run_length(), 1);
-    assert_eq!(rt; receipts.next(0), 2);
-    match log.entry(2, 1) {
-        Some((payload, number)) => {
-            assert_eq!(rt; payload, seven().as_slice());
-            assert_eq!(rt; number, None);
-        }
-        None => assert!(rt; false),
-    }
-    assert!(rt; log.entry(2, 2).is_none());
-    assert!(rt; log.entry(0, 1).is_none());
-    Ok(())
+    is_the_relay(&rt, &receipts, &log)
+}
+
+#[test]
+fn a_relay_is_kept_as_bytes(rt: HostRuntime) -> Result<(), Fail> {
+    let alloc = rt.alloc();
+    let bytes = relay_bytes(alloc)?;
+    let stored = Stored::of(alloc, &decode(alloc, &bytes)?)?;
+    assert_eq!(rt; stored.bytes(), bytes.as_slice());
+    assert_eq!(rt; stored.length(), 1);
+    assert!(rt; stored.state().is_empty());
+    let (receipts, log) = stored.restore(alloc)?;
+    is_the_relay(&rt, &receipts, &log)
 }
 
 #[test]

@@ -1,4 +1,4 @@
-use Rattle.std.proofs.Common.{rules, ◌≡◌, ◌++◌, ◌∷◌, [], ◌∙◌, ap, arith}
+use Rattle.std.proofs.Common.{rules, ◌≡◌, ◌++◌, ◌∷◌, [], arith}
 use Rattle.std.proofs.lemmas.Result.{err_from_is_err_and}
 use Rattle.std.proofs.lemmas.Grind.{common_steps}
 use Rattle.checkpoint.specs.Reading.{payload_at, times}
@@ -7,18 +7,18 @@ use Rattle.checkpoint.proofs.reading.payloads_of.Goals as goal
 
 pub returns-in_err-payload-clause-exact : goal.returns-in_err-payload-clause-exact
 returns-in_err-payload-clause-exact c =
-    let p = err_from_is_err_and c.from_residual.result c.from_residual.ensures.1 in
-    rw (p.1, p.2) (ends c.in_err-payload.field-0.0 (payload_at c.args.form) c.loop.payloads.items c.args.count c.loop.counter c.loop.rest.now (times (payload_at c.args.form) c.args.count c.args.bytes.now) c.loop-test.true c.in_err-payload.ensures.exact c.loop.invariant.read)
+    let p = err_from_is_err_and c.from_residual-in_err-payload.result c.from_residual-in_err-payload.ensures.1 in
+    rw (p.1, p.2) (ends c.in_err-payload.field-0.0 (payload_at c.args.form) c.loop.payloads c.args.count c.loop.counter c.loop.rest.now (times (payload_at c.args.form) c.args.count c.args.bytes.now) c.loop-test.true c.in_err-payload.ensures.exact c.loop.invariant.read)
 
 pub loop-preserved : goal.loop-preserved
 loop-preserved c =
     let p = c.in_ok-payload.payload.now in
-    let e : c.push.new.self.items ≡ c.loop.payloads.items ++ p ∷ [] = c.in_ok-push.ensures.items ∙ ap (λ x. c.loop.payloads.items ++ x ∷ []) c.from_slice.ensures in
+    let e : c.push.new.self ≡ c.loop.payloads ++ p ∷ [] = c.in_ok-push.ensures.ok in
     record {
-      read = rw e (goes_on (payload_at c.args.form) c.loop.payloads.items c.args.count c.loop.counter c.loop.rest.now p c.in_ok-payload.after.now (times (payload_at c.args.form) c.args.count c.args.bytes.now) c.loop-test.true c.in_ok-payload.ensures.exact c.loop.invariant.read);
+      read = rw e (goes_on (payload_at c.args.form) c.loop.payloads c.args.count c.loop.counter c.loop.rest.now p c.in_ok-payload.after.now (times (payload_at c.args.form) c.args.count c.args.bytes.now) c.loop-test.true c.in_ok-payload.ensures.exact c.loop.invariant.read);
       count = first_of (search rules, grind (arith, common_steps));
       fits = first_of (search rules, grind (arith, common_steps));
     }
 
 pub returns-clause-exact : goal.returns-clause-exact
-returns-clause-exact c = is_done (payload_at c.args.form) c.loop.payloads.items c.args.count c.loop.counter c.loop.rest.now (times (payload_at c.args.form) c.args.count c.args.bytes.now) c.loop-test.false c.loop.invariant.read
+returns-clause-exact c = is_done (payload_at c.args.form) c.loop.payloads c.args.count c.loop.counter c.loop.rest.now (times (payload_at c.args.form) c.args.count c.args.bytes.now) c.loop-test.false c.loop.invariant.read

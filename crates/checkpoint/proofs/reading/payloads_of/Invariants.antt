@@ -7,4 +7,4 @@ use Rattle.checkpoint.proofs.Counted.{with_front}
 use Rattle.checkpoint.proofs.reading.payloads_of.Given as goal
 
 abbrev pub invariant-loop : goal.invariant-loop
-invariant-loop l = record { read : with_front l.payloads.items (times (payload_at l.form) (l.count - l.counter) l.rest) ≡ times (payload_at l.form) l.count l.bytes; count : length l.payloads.items ≡ l.counter; fits : AllByRecursion (PayloadFits Second) l.payloads.items }
+invariant-loop l = record { read : with_front l.payloads (times (payload_at l.form) (l.count - l.counter) l.rest) ≡ times (payload_at l.form) l.count l.bytes; count : length l.payloads ≡ l.counter; fits : AllByRecursion (PayloadFits Second) l.payloads }

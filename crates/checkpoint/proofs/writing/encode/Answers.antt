@@ -26,4 +26,4 @@ returns c =
     joined (magic Second) (number_bytes s) s.state s.senders before after c.in_ok-out.out.items c.put_numbers.new.out.items c.extend_from_slice.new.self.items c.extend_from_slice-2.new.self.items c.put_queues.new.out.items c.put_queues-2.new.out.items
     (c.in_ok-out.ensures.items ∙ c.magic.ensures) c.in_ok-put_numbers.ensures two three four five
     ∙ ap (λ (xs : List ℕ). magic Second ++ (number_bytes s ++ (s.state ++ (s.senders ++ xs)))) (sym (flat_map-append (kept_bytes Second) (take s.me s.queues) (drop (suc s.me) s.queues))) in
-    record { fits = c.me-own.ensures.fits; bytes_are = bytes }
+    record { fits = c.me-own.ensures.fits; bytes_are = c.shrink_to_fit.ensures.items ∙ bytes }
