@@ -70,6 +70,7 @@ found A P s r f kind one is bytes b fits e =
     let here : IsBody kind bytes (f a.0) = subst (λ (text : List ℕ). IsBody kind text (f a.0)) (sym t.1) (is a.0 t.0) in
     subst (λ (y : Body). IsBody kind bytes y) (ok_is (f a.0) b a.2) here
 
+-- fields that are read are the bytes of the body that they are read as
 pub body_found : (kind : Kind) (bytes : List ℕ) (b : Body) → IsBytes bytes → body_at kind bytes ≡ Ok b → IsBody kind bytes b
 unfolding body_at
 body_found kinds.Delivery = found _ _ _ _ (λ x. Delivery x.0 x.1.0 x.1.1) kinds.Delivery delivery (λ a h. record { kind_is = refl; room = h; spelled = refl })
@@ -84,6 +85,7 @@ body_found kinds.Saved = found _ _ _ _ (λ x. Saved x) kinds.Saved word_codec (�
 again : (A : Type 0) (P : A → Type 0) (s : A → List ℕ) (r : Reader A) (f : A → Body) → Codec A P s r → (a : A) → P a → (whole r (s a) >>= λ x. Ok (f x)) ≡ Ok (f a)
 again A P s r f one a h = rw (whole_again A P s r one a h) refl
 
+-- the bytes of a body are read as the body
 pub body_again : (b : Body) → HasRoom b → body_at (kind_of b) (body_bytes b) ≡ Ok b
 unfolding body_at
 body_again (Delivery i ssn payload) h = again _ _ _ _ (λ x. Delivery x.0 x.1.0 x.1.1) delivery (i, (ssn, payload)) h
@@ -102,6 +104,7 @@ fails A P s r f one bytes d e =
       | inr h ↦ let no : done (f h.0) ≡ Err d = h.2 in absurd cc
     ]
 
+-- where fields can't be read as a body, the fault is `Fields`
 pub body_fails : (kind : Kind) (bytes : List ℕ) (d : PacketFault) → body_at kind bytes ≡ Err d → d ≡ Fields
 unfolding body_at
 body_fails kinds.Delivery = fails _ _ _ _ (λ x. Delivery x.0 x.1.0 x.1.1) delivery

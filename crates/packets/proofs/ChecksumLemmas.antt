@@ -98,6 +98,7 @@ apart c =
     ∙ ap (λ (bs : List ℕ). bit_xor (fold next_remainder (c % 256) bs) (c / 256 * 256 / 2 ^ 8)) (no_bits 8 (c / 256))
     ∙ ap (λ (y : ℕ). bit_xor (fold next_remainder (c % 256) (replicate 8 0)) y) (omega arith)
 
+-- a step by the table is eight steps of the division, by the bits of a byte
 pub behind_byte : (r b : ℕ) → b < 256 → bit_xor (get_or TABLE (bit_and (bit_xor r b) 255) 0) (r / 2 ^ 8) ≡ fold next_remainder r (byte_bits b)
 unfolding left zeros byte_bits
 behind_byte r b lt =

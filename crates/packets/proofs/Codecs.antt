@@ -39,6 +39,7 @@ pub guard_ok : {A : Type 0} (b : Bool) (d : PacketFault) (x y : A) → cond b (E
 guard_ok true d x y e = absurd cc
 guard_ok false d x y e = (refl, cc)
 
+-- a test that had to hold, and did
 pub passed_ok : {A : Type 0} (b : Bool) (d : PacketFault) (x y : A) → cond b (Ok x) (Err d) ≡ Ok y → (b ≡ true) × (x ≡ y)
 passed_ok true d x y e = (refl, cc)
 passed_ok false d x y e = absurd cc
@@ -51,6 +52,7 @@ passed false d r y e = (refl, e)
 abbrev broken : {A : Type 0} → PacketFault → Result A PacketFault
 broken f = Err f
 
+-- a step fails with one fault
 pub err_is : {A : Type 0} (d f : PacketFault) → broken {A = A} d ≡ Err f → d ≡ f
 err_is d f e = cc
 
@@ -67,9 +69,11 @@ cond_err false d r f e = inr (refl, e)
 abbrev pub done : {A : Type 0} → A → Result A PacketFault
 done x = Ok x
 
+-- a step that gave a value didn't fail
 pub not_both : {A : Type 0} (x : A) (f : PacketFault) → done x ≡ Err f → ⊥
 not_both x f e = cc
 
+-- a step gives one value
 pub ok_is : {A : Type 0} (x y : A) → done x ≡ done y → x ≡ y
 ok_is x y e = cc
 
@@ -107,6 +111,7 @@ bytes_again n text rest len =
     let long : ltb (length (text ++ rest)) n ≡ false = le-ltb _ _ (omega (arith, length-append text rest, len)) in
     rw (long, take_at text rest n len, drop_at text rest n len) refl
 
+-- a byte is read just as it stands
 pub byte_codec : Codec ℕ (λ b. b < 256) (λ b. b ∷ []) byte_at
 byte_codec = record {
   takes = byte_takes;
@@ -133,12 +138,14 @@ Back n = (bytes : List ℕ) → length bytes ≡ n → IsBytes bytes → little_
 back_2 : Back 2
 back_2 bytes len fits = let same : little_number 2 bytes ≡ from_le_bytes w16 bytes = omega arith in le_bytes_2 bytes (little_number 2 bytes) len fits same
 
+-- four bytes are those of their number
 pub back_4 : Back 4
 back_4 bytes len fits = let same : little_number 4 bytes ≡ from_le_bytes w32 bytes = omega arith in le_bytes_4 bytes (little_number 4 bytes) len fits same
 
 back_8 : Back 8
 back_8 bytes len fits = let same : little_number 8 bytes ≡ from_le_bytes w64 bytes = omega arith in le_bytes_8 bytes (little_number 8 bytes) len fits same
 
+-- a number is read back from its bytes
 pub number_again : (n x : ℕ) → x < 256 ^ n → little_number n (little_bytes n x) ≡ x
 number_again n x lt = ap (λ (bytes : List ℕ). little_number n bytes) (sym (append-nil (little_bytes n x))) ∙ little_number-reads_back n x [] lt
 
@@ -159,16 +166,19 @@ number_codec n back = record {
       ];
 }
 
+-- a number of two bytes
 pub short_codec : Codec ℕ (λ x. x < 256 ^ 2) (λ x. short_bytes x) (number_at 2)
 unfolding short_bytes
 short_codec = number_codec 2 back_2
 
+-- a number of eight bytes
 pub word_codec : Codec ℕ (λ x. IsLong x) (λ x. long_bytes x) (number_at 8)
 unfolding long_bytes
 word_codec = number_codec 8 back_8
 
 -- ---- one behind the other
 
+-- two things one behind the other, where each is read just as it is spelled
 pub both_codec : (A B : Type 0) (P : A → Type 0) (Q : B → Type 0) (s : A → List ℕ) (t : B → List ℕ) (r : Reader A) (q : Reader B) → Codec A P s r → Codec B Q t q
     → Codec (A × B) (λ x. P x.0 × Q x.1) (λ x. s x.0 ++ t x.1) (both r q)
 both_codec A B P Q s t r q one two = record {
@@ -211,6 +221,7 @@ mapped_codec A B P s r f g gf fg one = record {
 
 -- ---- payloads, entries and pairs
 
+-- a payload behind its length
 pub payload_codec : Codec (List ℕ) (λ p. IsPayload p) (λ p. payload_bytes p) payload_at
 unfolding payload_at
 payload_codec = record {
@@ -239,6 +250,7 @@ payload_codec = record {
       ];
 }
 
+-- an entry: its two numbers, and its payload
 pub entry_codec : Codec Entry (λ e. IsEntry e) (λ e. entry_bytes e) entry_at
 unfolding entry_at
 entry_codec = mapped_codec (ℕ × (ℕ × List ℕ)) Entry (λ x. IsLong x.0 × (IsLong x.1.0 × IsPayload x.1.1)) (λ x. long_bytes x.0 ++ (long_bytes x.1.0 ++ payload_bytes x.1.1))
@@ -246,9 +258,11 @@ entry_codec = mapped_codec (ℕ × (ℕ × List ℕ)) Entry (λ x. IsLong x.0 ×
     (both_codec ℕ (ℕ × List ℕ) (λ n. IsLong n) (λ x. IsLong x.0 × IsPayload x.1) (λ n. long_bytes n) (λ x. long_bytes x.0 ++ payload_bytes x.1) (number_at 8) (both (number_at 8) payload_at) word_codec
     (both_codec ℕ (List ℕ) (λ n. IsLong n) (λ p. IsPayload p) (λ n. long_bytes n) (λ p. payload_bytes p) (number_at 8) payload_at word_codec payload_codec))
 
+-- two numbers of eight bytes
 pub two_words : Codec (ℕ × ℕ) (λ x. IsLong x.0 × IsLong x.1) (λ x. long_bytes x.0 ++ long_bytes x.1) (both (number_at 8) (number_at 8))
 two_words = both_codec ℕ ℕ (λ n. IsLong n) (λ n. IsLong n) (λ n. long_bytes n) (λ n. long_bytes n) (number_at 8) (number_at 8) word_codec word_codec
 
+-- a pair of an SSN and a number
 pub pair_codec : Codec Pair (λ p. IsPair p) (λ p. pair_bytes p) pair_at
 unfolding pair_at
 pair_codec = mapped_codec (ℕ × ℕ) Pair (λ x. IsLong x.0 × IsLong x.1) (λ x. long_bytes x.0 ++ long_bytes x.1) (both (number_at 8) (number_at 8)) (λ x. record { ssn = x.0; number = x.1 }) (λ p. (p.ssn, p.number))
@@ -293,6 +307,7 @@ times_fails A P s r one (suc n) bytes f e =
       ]
     ]
 
+-- a count, and as many things, where one is read just as it is spelled
 pub page_codec : (A : Type 0) (P : A → Type 0) (s : A → List ℕ) (r : Reader A) → Codec A P s r → Codec (List A) (λ xs. IsPage P xs) (λ xs. page_bytes s xs) (page_at r)
 unfolding page_at
 page_codec A P s r one = record {
@@ -316,6 +331,7 @@ page_codec A P s r one = record {
 
 -- ---- all of the bytes
 
+-- where all of the bytes are read, they are those of what is read
 pub whole_found : (A : Type 0) (P : A → Type 0) (s : A → List ℕ) (r : Reader A) → Codec A P s r → (bytes : List ℕ) (a : A) → IsBytes bytes → whole r bytes ≡ Ok a → P a × (bytes ≡ s a)
 whole_found A P s r one bytes a fits e =
     let b = bind_ok (r bytes) (λ x. cond (eqb (length x.1) 0) (Ok x.0) (Err Fields)) a e in
@@ -324,9 +340,11 @@ whole_found A P s r one bytes a fits e =
     let none : b.0.1 ≡ [] = nil_from_length b.0.1 (eqb-true (length b.0.1) 0 g.0) in
     subst (λ (y : A). P y × (bytes ≡ s y)) g.1 (t.fits, t.parts ∙ ap (λ (rest : List ℕ). s b.0.0 ++ rest) none ∙ append-nil (s b.0.0))
 
+-- the bytes of a thing alone are read as it
 pub whole_again : (A : Type 0) (P : A → Type 0) (s : A → List ℕ) (r : Reader A) → Codec A P s r → (a : A) → P a → whole r (s a) ≡ Ok a
 whole_again A P s r one a h = ap (λ (bytes : List ℕ). whole r bytes) (sym (append-nil (s a))) ∙ rw (one.again a [] h) refl
 
+-- where the bytes aren't just such a thing, the fault is `Fields`
 pub whole_fails : (A : Type 0) (P : A → Type 0) (s : A → List ℕ) (r : Reader A) → Codec A P s r → (bytes : List ℕ) (f : PacketFault) → whole r bytes ≡ Err f → f ≡ Fields
 whole_fails A P s r one bytes f e =
     elim (bind_err (r bytes) (λ x. cond (eqb (length x.1) 0) (Ok x.0) (Err Fields)) f e) [

@@ -17,6 +17,7 @@ regroup : {A : Type 0} (front : List A) (n : A) (read : Result (List A × List �
 regroup {A} front n (Ok x) = ap (λ (ns : List A). Ok (ns, x.1)) (simp append_assoc)
 regroup front n (Err f) = refl
 
+-- the loop has read one thing more
 pub goes_on : {A : Type 0} (field : Field A) (front : List A) (count i : ℕ) (bytes : List ℕ) (n : A) (after : List ℕ) (total : Result (List A × List ℕ) PacketFault) → i < count → field bytes ≡ Ok (n, after)
     → with_front front (times field (count - i) bytes) ≡ total → with_front (front ++ n ∷ []) (times field (count - (i + 1)) after) ≡ total
 unfolding times
@@ -25,6 +26,7 @@ goes_on field front count i bytes n after total lt h so_far =
     let one : with_front front (times field (count - i) bytes) ≡ with_front (front ++ n ∷ []) (times field (count - (i + 1)) after) = rw (k, h) (regroup front n (times field (count - (i + 1)) after)) in
     sym one ∙ so_far
 
+-- it fails where a thing can't be read
 pub ends : {A : Type 0} (e : PacketError) (field : Field A) (front : List A) (count i : ℕ) (bytes : List ℕ) (total : Result (List A × List ℕ) PacketFault) → i < count → Fails e (field bytes)
     → with_front front (times field (count - i) bytes) ≡ total → Fails e total
 unfolding times
@@ -34,6 +36,7 @@ ends (errors.Fault f) field front count i bytes total lt h so_far =
     let one : with_front front (times field (count - i) bytes) ≡ Err f = rw (k, h) refl in
     sym so_far ∙ one
 
+-- it has read as many as were counted
 pub is_done : {A : Type 0} (field : Field A) (front : List A) (count i : ℕ) (bytes : List ℕ) (total : Result (List A × List ℕ) PacketFault) → count ≤ i → with_front front (times field (count - i) bytes) ≡ total → total ≡ Ok (front, bytes)
 unfolding times
 is_done {A} field front count i bytes total le so_far =

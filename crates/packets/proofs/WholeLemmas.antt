@@ -277,6 +277,7 @@ chosen_err : (c : Bool) (p : Packet) (f : PacketFault) → cond c (Ok p) (Err Ra
 chosen_err true p f e = absurd cc
 chosen_err false p f e = (refl, err_is {A = Packet} Range f e)
 
+-- the fault of bytes that are refused is the first that they have
 pub refused : (bytes : List ℕ) (f : PacketFault) → IsBytes bytes → reading bytes ≡ Err f → IsFirst f bytes
 unfolding reading
 refused bytes f fits e =
@@ -354,6 +355,7 @@ last_of bytes text fits long summed front =
 is_this : (bytes : List ℕ) (q p : Packet) → q ≡ p → Fits q → bytes ≡ packet_bytes q → IsPacket p bytes
 is_this bytes q p same fits text = subst (λ (x : Packet). IsPacket x bytes) same (record { fits = fits; bytes_are = text })
 
+-- bytes that are read as a packet are its bytes
 pub found : (bytes : List ℕ) (p : Packet) → IsBytes bytes → reading bytes ≡ Ok p → IsPacket p bytes
 unfolding reading
 found bytes p fits e =
@@ -406,6 +408,7 @@ head_again p fits =
     let e : eqb p.from p.to ≡ false = ne_eqb _ _ fits.apart in
     rw (kind_again (kind_of p.body), a, b, c, d, e) refl
 
+-- the bytes of a packet are read as it
 pub reading_again : (p : Packet) (bytes : List ℕ) → IsPacket p bytes → reading bytes ≡ Ok p
 unfolding reading
 reading_again p bytes is =
@@ -416,15 +419,18 @@ one_packet p q bytes a b = ok_is p q (sym (reading_again p bytes a) ∙ reading_
 
 -- ---- results
 
+-- what the code reads, as the definitions do, is the packet of the bytes
 pub is_found : (bytes : List ℕ) (r : Result Packet PacketError) → IsBytes bytes → Gives (λ (x : Packet). x) r (reading bytes) → IfOk r (λ p. IsPacket p bytes)
 is_found bytes (Ok p) fits e = found bytes p fits e
 is_found bytes (Err d) fits e = tt
 
+-- what it refuses, as they do, has this reason
 pub is_refused : (bytes : List ℕ) (r : Result Packet PacketError) → IsBytes bytes → Gives (λ (x : Packet). x) r (reading bytes) → IfErr r (λ d. IsReason d bytes)
 is_refused bytes (Ok p) fits e = tt
 is_refused bytes (Err errors.Memory) fits e = tt
 is_refused bytes (Err (errors.Fault f)) fits e = refused bytes f fits e
 
+-- a packet's bytes give the code nothing but the packet, or want of memory
 pub is_read : (bytes : List ℕ) (r : Result Packet PacketError) (p : Packet) → Gives (λ (x : Packet). x) r (reading bytes) → IsPacket p bytes → Reads r p
 is_read bytes (Ok q) p e is = ok_is q p (sym e ∙ reading_again p bytes is)
 is_read bytes (Err errors.Memory) p e is = tt

@@ -1,0 +1,110 @@
+-- Acts of others leave what a node stands for
+use Rattle.std.proofs.Common.{◌≡◌, ◌≢◌, inr, ℕ, suc, ◌≤◌, ◌+◌, List, [], ◌∷◌, length, Bool, true, false, refl, sym, ◌∙◌, subst, arith}
+use Rattle.std.specs.Prelude.{◌==◌, nat_lt, if◌then◌else◌}
+use Rattle.std.proofs.lemmas.Bool.Decides.{nat_tests}
+use Rattle.world.specs.World.{put}
+use Rattle.world.specs.Phases.{Replaying}
+use Rattle.world.specs.Calls.{peers}
+use Rattle.cluster.specs.Parcels.{Parcel, In}
+use Rattle.cluster.specs.Cluster.{Cluster, seen}
+use Rattle.cluster.specs.Rules.{Act, Input, Puts, Starts, Shows, Works, Replays, Records, Counts, Drops, Hears, Collects, Recovers, Obeys, Enters, Restores, Greets, Freezes, Keeps, Thaws, Dies, Opens, does, after_run, goes_on, taken_back}
+use Rattle.node.specs.Node.{TheNode}
+use Rattle.node.specs.Stands.{Each, Stands, Goes, PutOut, actor}
+use Rattle.cluster.proofs.Settings.{does-count}
+use Rattle.node.specs.Beside.{AllStand, NodesRun}
+use Rattle.node.proofs.Lists.{all-more}
+use Rattle.node.proofs.Putting.{put-still}
+
+-- of p the cluster d has what c has, and all that was put out in c
+pub record Same (c d : Cluster) (p : ℕ) : Type 0 where
+  pub count : c.count ≡ d.count
+  pub handlers : c.handlers ≡ d.handlers
+  pub stage : c.stage p ≡ d.stage p
+  pub greeted : c.greeted p ≡ d.greeted p
+  pub phase : c.phase p ≡ d.phase p
+  pub life : c.life p ≡ d.life p
+  pub history : c.history p ≡ d.history p
+  pub saved : c.saved p ≡ d.saved p
+  pub acknowledged : c.acknowledged p ≡ d.acknowledged p
+  pub released : c.released p ≡ d.released p
+  pub trims : (k : ℕ) → c.trims p k ≡ d.trims p k
+  pub numbers : (k : ℕ) → c.numbers p k ≡ d.numbers p k
+  pub heard : (k : ℕ) → c.heard p k ≡ d.heard p k
+  pub parcels : (x : Parcel) → In x c.parcels → In x d.parcels
+
+-- an act of another node changes none of it
+pub same : (c : Cluster) (a : Act) (p : ℕ) → (p == actor a) ≡ false → Same c (does c a) p
+same c (Input d x) p e = record { count = refl; handlers = refl; stage = refl; greeted = refl; phase = refl; life = refl; history = refl; saved = refl; acknowledged = refl; released = refl; trims = λ k. refl; numbers = λ k. refl; heard = λ k. refl; parcels = λ x i. i }
+same c (Puts q d x) p e = record { count = refl; handlers = refl; stage = refl; greeted = refl; phase = refl; life = refl; history = refl; saved = refl; acknowledged = refl; released = refl; trims = λ k. refl; numbers = λ k. refl; heard = λ k. refl; parcels = λ x i. inr i }
+same c (Starts q d i ssn x) p e = record { count = refl; handlers = refl; stage = refl; greeted = refl; phase = rw e refl; life = refl; history = refl; saved = refl; acknowledged = refl; released = refl; trims = λ k. refl; numbers = λ k. refl; heard = λ k. refl; parcels = λ x i. i }
+same c (Shows q i ssn x) p e = record { count = refl; handlers = refl; stage = refl; greeted = refl; phase = refl; life = refl; history = refl; saved = refl; acknowledged = refl; released = refl; trims = λ k. refl; numbers = λ k. refl; heard = λ k. refl; parcels = λ x i. i }
+same c (Works q m) p e = record { count = refl; handlers = refl; stage = refl; greeted = refl; phase = rw e refl; life = refl; history = rw e refl; saved = refl; acknowledged = refl; released = refl; trims = λ k. refl; numbers = λ k. refl; heard = λ k. refl; parcels = λ x i. i }
+same c (Replays q j) p e = by_end (nat_lt (c.saved q + suc j) (length (c.history q)))
+  where
+    by_end : (b : Bool) → Same c (if b then record c { phase = put c.phase q (Replaying (suc j) false false) } else goes_on c q (peers (seen c) q false)) p
+    by_end true = record { count = refl; handlers = refl; stage = refl; greeted = refl; phase = rw e refl; life = refl; history = refl; saved = refl; acknowledged = refl; released = refl; trims = λ k. refl; numbers = λ k. refl; heard = λ k. refl; parcels = λ x i. i }
+    by_end false = record { count = refl; handlers = refl; stage = refl; greeted = refl; phase = rw e refl; life = refl; history = refl; saved = refl; acknowledged = refl; released = rw e refl; trims = λ k. refl; numbers = λ k. refl; heard = λ k. refl; parcels = λ x i. i }
+same c (Records r s i ssn k) p e = record { count = refl; handlers = refl; stage = refl; greeted = refl; phase = refl; life = refl; history = refl; saved = refl; acknowledged = refl; released = refl; trims = λ k. refl; numbers = λ k. rw e refl; heard = λ k. refl; parcels = λ x i. inr i }
+same c (Counts s r i k) p e = record { count = refl; handlers = refl; stage = refl; greeted = refl; phase = refl; life = refl; history = refl; saved = refl; acknowledged = rw e refl; released = rw e refl; trims = λ k. refl; numbers = λ k. refl; heard = λ k. refl; parcels = λ x i. i }
+same c (Drops d s n) p e = record { count = refl; handlers = refl; stage = refl; greeted = refl; phase = refl; life = refl; history = refl; saved = refl; acknowledged = refl; released = refl; trims = λ k. rw e refl; numbers = λ k. refl; heard = λ k. refl; parcels = λ x i. i }
+same c (Hears r q i k) p e = record { count = refl; handlers = refl; stage = refl; greeted = refl; phase = refl; life = refl; history = refl; saved = refl; acknowledged = refl; released = refl; trims = λ k. refl; numbers = λ k. refl; heard = λ k. rw e refl; parcels = λ x i. i }
+same c (Collects r q i j k u f) p e = record { count = refl; handlers = refl; stage = refl; greeted = refl; phase = refl; life = refl; history = refl; saved = refl; acknowledged = refl; released = refl; trims = λ k. refl; numbers = λ k. refl; heard = λ k. rw e refl; parcels = λ x i. i }
+same c (Recovers q k) p e = by_end (nat_lt (c.saved q) k)
+  where
+    by_end : (b : Bool) → Same c (if b then record (taken_back c q k) { phase = put c.phase q (Replaying 0 false false) } else goes_on (taken_back c q k) q (peers (seen c) q false)) p
+    by_end true = record { count = refl; handlers = refl; stage = rw e refl; greeted = rw e refl; phase = rw e refl; life = rw e refl; history = rw e refl; saved = refl; acknowledged = rw e refl; released = rw e refl; trims = λ k. rw e refl; numbers = λ k. rw e refl; heard = λ k. refl; parcels = λ x i. i }
+    by_end false = record { count = refl; handlers = refl; stage = rw e refl; greeted = rw e refl; phase = rw e refl; life = rw e refl; history = rw e refl; saved = refl; acknowledged = rw e refl; released = rw e refl; trims = λ k. rw e refl; numbers = λ k. rw e refl; heard = λ k. refl; parcels = λ x i. i }
+same c (Obeys r q i k s) p e = record { count = refl; handlers = refl; stage = refl; greeted = refl; phase = refl; life = refl; history = refl; saved = refl; acknowledged = refl; released = refl; trims = λ k. refl; numbers = λ k. rw e refl; heard = λ k. refl; parcels = λ x i. i }
+same c (Enters r q i j n s u f) p e = record { count = refl; handlers = refl; stage = refl; greeted = refl; phase = refl; life = refl; history = refl; saved = refl; acknowledged = refl; released = refl; trims = λ k. rw e refl; numbers = λ k. rw e refl; heard = λ k. rw e refl; parcels = λ x i. i }
+same c (Restores r q i j n s f) p e = record { count = refl; handlers = refl; stage = refl; greeted = refl; phase = rw e refl; life = refl; history = refl; saved = refl; acknowledged = refl; released = rw e refl; trims = λ k. rw e refl; numbers = λ k. rw e refl; heard = λ k. rw e refl; parcels = λ x i. i }
+same c (Greets q i j n s f) p e = record { count = refl; handlers = refl; stage = refl; greeted = rw e refl; phase = refl; life = refl; history = refl; saved = refl; acknowledged = refl; released = refl; trims = λ k. rw e refl; numbers = λ k. refl; heard = λ k. refl; parcels = λ x i. i }
+same c (Freezes q) p e = record { count = refl; handlers = refl; stage = rw e refl; greeted = refl; phase = refl; life = refl; history = refl; saved = refl; acknowledged = refl; released = refl; trims = λ k. refl; numbers = λ k. refl; heard = λ k. refl; parcels = λ x i. i }
+same c (Keeps q) p e = record { count = refl; handlers = refl; stage = refl; greeted = refl; phase = refl; life = refl; history = refl; saved = rw e refl; acknowledged = rw e refl; released = rw e refl; trims = λ k. refl; numbers = λ k. refl; heard = λ k. refl; parcels = λ x i. i }
+same c (Thaws q) p e = record { count = refl; handlers = refl; stage = rw e refl; greeted = refl; phase = refl; life = refl; history = refl; saved = refl; acknowledged = refl; released = refl; trims = λ k. refl; numbers = λ k. refl; heard = λ k. refl; parcels = λ x i. i }
+same c (Dies q) p e = record { count = refl; handlers = refl; stage = rw e refl; greeted = refl; phase = refl; life = refl; history = refl; saved = refl; acknowledged = refl; released = refl; trims = λ k. refl; numbers = λ k. refl; heard = λ k. refl; parcels = λ x i. i }
+same c (Opens q n) p e = record { count = refl; handlers = refl; stage = rw e refl; greeted = refl; phase = refl; life = refl; history = refl; saved = refl; acknowledged = refl; released = refl; trims = λ k. refl; numbers = λ k. refl; heard = λ k. rw e refl; parcels = λ x i. i }
+
+-- so the node stands
+stands-same : (n : TheNode) (c d : Cluster) (p : ℕ) → Same c d p → Stands n c p → Stands n d p
+stands-same n c d p e s =
+    record {
+      me = s.me;
+      count = s.count ∙ e.count;
+      inside = (s.inside.0, subst (λ k. p ≤ k) e.count s.inside.1);
+      live = sym e.stage ∙ s.live;
+      greeted = sym e.greeted ∙ s.greeted;
+      phase = sym e.phase ∙ s.phase;
+      works = rw (sym e.history) s.works;
+      life = sym e.life ∙ s.life;
+      state = rw (sym e.handlers, sym e.history) s.state;
+      saved = sym e.saved ∙ s.saved;
+      received = rw (sym e.history, sym e.acknowledged) s.received;
+      waits = rw (sym e.history, sym e.acknowledged) s.waits;
+      logs = λ k l o. rw (sym e.handlers, sym e.history, sym (e.trims k), sym (e.numbers k)) (s.logs k (subst (λ m. k ≤ m) (sym e.count) l) o);
+      heard = λ q l. rw (sym (e.heard q)) (s.heard q (subst (λ m. q ≤ m) (sym e.count) l));
+      out = all-more (PutOut c.count c.parcels p) (PutOut d.count d.parcels p) n.out (λ o. put-still c d p o e.count (λ b i. e.parcels _ i)) s.out;
+    }
+
+-- a node stands after the acts of another
+pub stands-still : (n : TheNode) (p q : ℕ) (acts : List Act) (c : Cluster) → q ≢ p → Each (λ (a : Act). actor a ≡ q) acts → Stands n c p → Stands n (after_run c acts) p
+stands-still n p q [] c other by s = s
+stands-still n p q (a ∷ acts) c other by s =
+    let apart : (p == actor a) ≡ false = (let f : actor a ≡ q = by.0 in grind (arith, nat_tests)) in
+    stands-still n p q acts (does c a) other by.1 (stands-same n c (does c a) p (same c a p apart) s)
+
+pub count-after : (c : Cluster) (acts : List Act) → (after_run c acts).count ≡ c.count
+count-after c [] = refl
+count-after c (a ∷ acts) = count-after (does c a) acts ∙ does-count c a
+
+-- where one node goes on, all stand
+pub all-stand : (nodes : ℕ → TheNode) (c : Cluster) (p : ℕ) (new : TheNode) → AllStand nodes c → (g : Goes p new c) → AllStand (put nodes p new) (after_run c g.acts)
+all-stand nodes c p new all g q some low = each (q == p) refl
+  where
+    each : (b : Bool) → (q == p) ≡ b → Stands (if b then new else nodes q) (after_run c g.acts) q
+    each true e = let same : p ≡ q = grind (arith, nat_tests) in subst (Stands new (after_run c g.acts)) same g.stands
+    each false e =
+        let apart : p ≢ q = grind (arith, nat_tests) in
+        stands-still (nodes q) q p g.acts c apart g.by (all q some (omega (arith, low, count-after c g.acts)))
+
+pub nodes-run : NodesRun
+nodes-run nodes c p new all g = record { acts = g.acts; run = g.run; stand = all-stand nodes c p new all g }

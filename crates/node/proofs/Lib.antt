@@ -1,0 +1,14 @@
+pub mod Lists
+pub mod Numbers
+pub mod Logs
+pub mod Views
+pub mod Putting
+pub mod Receiving
+pub mod Working
+pub mod Recording
+pub mod Beside
+pub mod Acknowledging
+pub mod Opening
+pub mod Handing
+pub mod Outside
+pub mod Runs

@@ -1,0 +1,29 @@
+-- Lists
+use Rattle.std.proofs.Common.{◌≡◌, ℕ, suc, ◌+◌, List, [], ◌∷◌, ◌++◌, length, subst, arith}
+use Rattle.std.specs.Prelude.{Some, slice_get}
+use Rattle.world.specs.declared.message.Message.{Message}
+use Rattle.world.specs.History.{count_of}
+use Rattle.node.specs.Stands.{Each}
+
+-- what holds of all holds of them where less was asked
+pub all-more : {X : Type 0} (P Q : X → Type 0) (xs : List X) → ((x : X) → P x → Q x) → Each P xs → Each Q xs
+all-more P Q [] f h = tt
+all-more P Q (x ∷ xs) f h = (f x h.0, all-more P Q xs f h.1)
+
+pub all-push : {X : Type 0} (P : X → Type 0) (xs : List X) (x : X) → Each P xs → P x → Each P (xs ++ x ∷ [])
+all-push P [] x h e = (e, tt)
+all-push P (y ∷ xs) x h e = (h.0, all-push P xs x h.1 e)
+
+pub count-append : (s : ℕ) (g h : List Message) → count_of s (g ++ h) ≡ count_of s g + count_of s h
+count-append s [] h = omega arith
+count-append s (m ∷ g) h = let e : count_of s (g ++ h) ≡ count_of s g + count_of s h = count-append s g h in omega (arith, e)
+
+pub get-behind : {X : Type 0} (xs ys : List X) (k : ℕ) (x : X) → slice_get ys k ≡ Some x → slice_get (xs ++ ys) (length xs + k) ≡ Some x
+get-behind {X} [] ys k x e =
+    let P : ℕ → Type 0 = λ j. slice_get ys j ≡ Some x in
+    let j : k ≡ 0 + k = omega arith in
+    subst P j e
+get-behind {X} (y ∷ xs) ys k x e =
+    let P : ℕ → Type 0 = λ j. slice_get (y ∷ (xs ++ ys)) j ≡ Some x in
+    let j : suc (length xs + k) ≡ suc (length xs) + k = omega arith in
+    subst P j (get-behind xs ys k x e)

@@ -1,0 +1,49 @@
+-- A node at the opening
+use Rattle.std.proofs.Common.{ℕ, ◌+◌, ◌≤◌, [], refl, sym, subst, arith}
+use Rattle.std.specs.Prelude.{None}
+use Rattle.std.proofs.lemmas.List.{get_or-replicate}
+use Rattle.world.specs.Handlers.{Handlers}
+use Rattle.cluster.specs.Cluster.{opening}
+use Rattle.node.specs.Queue.{no_queue}
+use Rattle.node.specs.Node.{new_node}
+use Rattle.node.specs.Stands.{Stands, KeepsOf, BeginsWith}
+
+pub stands-opened : (me count len : ℕ) (f : Handlers) → 1 ≤ me → me ≤ count → BeginsWith f me len → Stands (new_node me count len) (opening count f) me
+stands-opened me count len f some low begins =
+    record {
+      me = refl;
+      count = refl;
+      inside = (some, low);
+      live = refl;
+      greeted = refl;
+      phase = refl;
+      works = tt;
+      life = refl;
+      state = begins.state_is;
+      saved = refl;
+      received = record {
+        before = [];
+        behind = [];
+        joined = refl;
+        many = refl;
+        covered_is = λ q l. get_or-replicate (count + 1) q 0 0 (omega (arith, l));
+        senders = refl;
+        in_order = tt;
+        flags = refl;
+        acknowledged_is = λ k l. absurd (omega (arith, l));
+        below = λ k l. absurd (omega (arith, l));
+        above = λ k l. refl;
+      };
+      waits = refl;
+      logs = λ d l o. subst (λ q. KeepsOf q 0 (f.sends me [] d) (λ _. None)) (sym (get_or-replicate (count + 1) d no_queue no_queue (omega (arith, l)))) (record {
+        before = [];
+        many = refl;
+        joined = sym (begins.sends_are d);
+        dropped_is = refl;
+        as_many = refl;
+        numbers_are = λ i z. absurd (omega (arith, z));
+        beyond = λ i z. refl;
+      });
+      heard = λ q l. sym (get_or-replicate (count + 1) q 1 0 (omega (arith, l)));
+      out = tt;
+    }

@@ -1,0 +1,297 @@
+-- The gateway beside nodes: what it sees of a cluster
+use Rattle.std.proofs.Common.{◌≡◌, inl, inr, ℕ, zero, suc, ◌<◌, ◌+◌, List, [], ◌∷◌, length, Bool, true, false, refl, sym, ap, ◌∙◌, arith}
+use Rattle.std.specs.Prelude.{Option, ◌==◌, nat_lt, if◌then◌else◌}
+use Rattle.std.proofs.lemmas.Bool.Decides.{nat_tests}
+use Rattle.world.specs.World.{put}
+use Rattle.world.specs.History.{Payload}
+use Rattle.world.specs.Plan.{first_below, logged_as}
+use Rattle.world.specs.Calls.{peers}
+use Rattle.world.specs.Phases.{Replaying}
+use Rattle.cluster.specs.Parcels.{Body, Delivery, Number, Acknowledgement, Ask, Told, Resume, Restored, Saved, Parcel, In, parcel}
+use Rattle.cluster.specs.Cluster.{Cluster, seen}
+use Rattle.cluster.specs.Rules.{Act, Input, Puts, Starts, Shows, Works, Replays, Records, Counts, Drops, Hears, Collects, Recovers, Obeys, Enters, Restores, Greets, Freezes, Keeps, Thaws, Dies, Opens, May, MayPut, entry_of, does, after_run, goes_on, taken_back}
+use Rattle.node.specs.Stands.{Each, actor}
+use Rattle.node.specs.Runs.{IsGateway}
+use Rattle.node.proofs.Beside.{Same, same}
+
+-- the gateway of c has what that of g has, and all that was put out in g was put out in c
+pub record SameOutside (g c : Cluster) : Type 0 where
+  pub count : g.count ≡ c.count
+  pub handlers : g.handlers ≡ c.handlers
+  pub stage : g.stage 0 ≡ c.stage 0
+  pub greeted : g.greeted 0 ≡ c.greeted 0
+  pub phase : g.phase 0 ≡ c.phase 0
+  pub life : g.life 0 ≡ c.life 0
+  pub history : g.history 0 ≡ c.history 0
+  pub trims : (k : ℕ) → g.trims 0 k ≡ c.trims 0 k
+  pub numbers : (k : ℕ) → g.numbers 0 k ≡ c.numbers 0 k
+  pub heard : (k : ℕ) → g.heard 0 k ≡ c.heard 0 k
+  pub resumed : (k : ℕ) → g.resumed 0 k ≡ c.resumed 0 k
+  pub inputs : (k : ℕ) → g.inputs k ≡ c.inputs k
+  pub shown : g.shown ≡ c.shown
+  pub parcels : (x : Parcel) → In x g.parcels → In x c.parcels
+
+pub outside-self : (c : Cluster) → SameOutside c c
+outside-self c = record { count = refl; handlers = refl; stage = refl; greeted = refl; phase = refl; life = refl; history = refl; trims = λ k. refl; numbers = λ k. refl; heard = λ k. refl; resumed = λ k. refl; inputs = λ k. refl; shown = refl; parcels = λ x i. i }
+
+-- what acts of nodes leave of the gateway, besides what they leave of each other
+record Left (c d : Cluster) : Type 0 where
+  resumed : (k : ℕ) → c.resumed 0 k ≡ d.resumed 0 k
+  inputs : (k : ℕ) → c.inputs k ≡ d.inputs k
+  shown : c.shown ≡ d.shown
+
+left : (c : Cluster) (a : Act) → (0 == actor a) ≡ false → Left c (does c a)
+left c (Input d x) e = absurd (cc)
+left c (Puts q d x) e = record { resumed = λ k. refl; inputs = λ k. refl; shown = refl }
+left c (Starts q d i ssn x) e = record { resumed = λ k. refl; inputs = λ k. refl; shown = refl }
+left c (Shows q i ssn x) e = absurd (cc)
+left c (Works q m) e = record { resumed = λ k. refl; inputs = λ k. refl; shown = refl }
+left c (Replays q j) e = by_end (nat_lt (c.saved q + suc j) (length (c.history q)))
+  where
+    by_end : (b : Bool) → Left c (if b then record c { phase = put c.phase q (Replaying (suc j) false false) } else goes_on c q (peers (seen c) q false))
+    by_end true = record { resumed = λ k. refl; inputs = λ k. refl; shown = refl }
+    by_end false = record { resumed = λ k. refl; inputs = λ k. refl; shown = refl }
+left c (Records r s i ssn k) e = record { resumed = λ k. refl; inputs = λ k. refl; shown = refl }
+left c (Counts s r i k) e = record { resumed = λ k. refl; inputs = λ k. refl; shown = refl }
+left c (Drops d s n) e = record { resumed = λ k. refl; inputs = λ k. refl; shown = refl }
+left c (Hears r q i k) e = record { resumed = λ k. rw e refl; inputs = λ k. refl; shown = refl }
+left c (Collects r q i j k u f) e = record { resumed = λ k. refl; inputs = λ k. refl; shown = refl }
+left c (Recovers q k) e = by_end (nat_lt (c.saved q) k)
+  where
+    by_end : (b : Bool) → Left c (if b then record (taken_back c q k) { phase = put c.phase q (Replaying 0 false false) } else goes_on (taken_back c q k) q (peers (seen c) q false))
+    by_end true = record { resumed = λ k. rw e refl; inputs = λ k. refl; shown = refl }
+    by_end false = record { resumed = λ k. rw e refl; inputs = λ k. refl; shown = refl }
+left c (Obeys r q i k s) e = record { resumed = λ k. rw e refl; inputs = λ k. refl; shown = refl }
+left c (Enters r q i j n s u f) e = record { resumed = λ k. refl; inputs = λ k. refl; shown = refl }
+left c (Restores r q i j n s f) e = record { resumed = λ k. refl; inputs = λ k. refl; shown = refl }
+left c (Greets q i j n s f) e = record { resumed = λ k. refl; inputs = λ k. refl; shown = refl }
+left c (Freezes q) e = record { resumed = λ k. refl; inputs = λ k. refl; shown = refl }
+left c (Keeps q) e = record { resumed = λ k. refl; inputs = λ k. refl; shown = refl }
+left c (Thaws q) e = record { resumed = λ k. refl; inputs = λ k. refl; shown = refl }
+left c (Dies q) e = record { resumed = λ k. refl; inputs = λ k. refl; shown = refl }
+left c (Opens q n) e = record { resumed = λ k. rw e refl; inputs = λ k. refl; shown = refl }
+
+-- a node acts
+outside-act : (g c : Cluster) (a : Act) → (0 == actor a) ≡ false → SameOutside g c → SameOutside g (does c a)
+outside-act g c a other e =
+    let s : Same c (does c a) 0 = same c a 0 other in
+    let l : Left c (does c a) = left c a other in
+    record {
+      count = e.count ∙ s.count;
+      handlers = e.handlers ∙ s.handlers;
+      stage = e.stage ∙ s.stage;
+      greeted = e.greeted ∙ s.greeted;
+      phase = e.phase ∙ s.phase;
+      life = e.life ∙ s.life;
+      history = e.history ∙ s.history;
+      trims = λ k. e.trims k ∙ s.trims k;
+      numbers = λ k. e.numbers k ∙ s.numbers k;
+      heard = λ k. e.heard k ∙ s.heard k;
+      resumed = λ k. e.resumed k ∙ l.resumed k;
+      inputs = λ k. e.inputs k ∙ l.inputs k;
+      shown = e.shown ∙ l.shown;
+      parcels = λ x i. s.parcels x (e.parcels x i);
+    }
+
+-- a node's acts leave the gateway as it is
+pub outside-still : (g c : Cluster) (p : ℕ) (acts : List Act) → 0 < p → Each (λ (a : Act). actor a ≡ p) acts → SameOutside g c → SameOutside g (after_run c acts)
+outside-still g c p [] some by e = e
+outside-still g c p (a ∷ acts) some by e =
+    let other : (0 == actor a) ≡ false = (let f : actor a ≡ p = by.0 in grind (arith, nat_tests)) in
+    outside-still g (does c a) p acts some by.1 (outside-act g c a other e)
+
+in-more : (x y : Parcel) (ps qs : List Parcel) → (In x ps → In x qs) → In x (y ∷ ps) → In x (y ∷ qs)
+in-more x y ps qs more (inl e) = inl e
+in-more x y ps qs more (inr i) = inr (more i)
+
+first-same : {X : Type 0} (f g : ℕ → Option X) (n : ℕ) → ((i : ℕ) → f i ≡ g i) → first_below f n ≡ first_below g n
+first-same f g zero e = refl
+first-same f g (suc n) e = rw (first-same f g n e, e n) refl
+
+-- its log has the same entries
+entry-same : (g c : Cluster) → SameOutside g c → (d m : ℕ) → entry_of g 0 d m ≡ entry_of c 0 d m
+entry-same g c e d m =
+    let logged : (i : ℕ) → logged_as (seen g) d m 0 i ≡ logged_as (seen c) d m 0 i = λ i. rw (e.phase, e.trims d, e.inputs d, e.numbers d) refl in
+    first-same (logged_as (seen g) d m 0) (logged_as (seen c) d m 0) (suc (length (g.inputs d))) logged
+    ∙ ap (λ (xs : List Payload). first_below (logged_as (seen c) d m 0) (suc (length xs))) (e.inputs d)
+
+-- what the gateway may put out by what it sees, it may
+may-put : (g c : Cluster) → SameOutside g c → (d : ℕ) (x : Body) → IsGateway (Puts 0 d x) → MayPut g 0 d x → MayPut c 0 d x
+may-put g c e d (Delivery i ssn y) o m = rw (sym e.stage, sym e.greeted, sym e.phase, sym e.life, sym (e.inputs d), sym (e.trims d)) m
+may-put g c e d (Number i ssn k) o m = rw (sym e.stage, sym e.greeted, sym e.phase, sym e.life, sym e.history) m
+may-put g c e d (Acknowledgement i k) o m = m
+may-put g c e d (Ask i k) o m = absurd o
+may-put g c e d (Told i j k u f) o m = (rw (sym e.stage, sym e.greeted, sym e.phase) m.0, m.1 ∙ e.heard d, m.2 ∙ e.life, m.3, λ w l r. m.4 w l r ∙ entry-same g c e d w)
+may-put g c e d (Resume i k s) o m = absurd o
+may-put g c e d (Restored i j n s u f) o m = rw (sym e.stage, sym e.greeted, sym e.phase, sym e.life, sym (e.heard d), sym (e.resumed d), sym e.shown, sym e.history) m
+may-put g c e d (Saved n) o m = rw (sym e.stage, sym e.greeted, sym e.phase, sym e.shown) m
+
+-- so it may do what it may by what it sees
+pub may-too : (g c : Cluster) → SameOutside g c → (a : Act) → IsGateway a → May g a → May c a
+may-too g c e (Input d x) o m = rw (sym e.count) m
+may-too g c e (Puts zero d x) o m = (rw (sym e.count) m.0, rw (sym e.count) m.1, m.2, may-put g c e d x o m.3)
+may-too g c e (Puts (suc p) d x) o m = absurd o
+may-too g c e (Shows p i ssn x) o m = (e.parcels _ m.0, m.1 ∙ e.heard p, rw (sym e.shown) m.2)
+may-too g c e (Records r zero i ssn k) o m = (e.parcels _ m.0, rw (sym e.stage, sym e.greeted, sym e.phase) m.1, m.2 ∙ e.heard r, rw (sym e.phase, sym (e.trims r), sym (e.inputs r)) m.3)
+may-too g c e (Records r (suc s) i ssn k) o m = absurd o
+may-too g c e (Drops d zero n) o m = (e.parcels _ m.0, rw (sym e.stage, sym e.greeted, sym e.phase) m.1)
+may-too g c e (Drops d (suc s) n) o m = absurd o
+may-too g c e (Hears p zero i k) o m = (e.parcels _ m.0, rw (sym (e.heard p)) m.1, rw (sym e.stage, sym e.greeted, sym e.phase) m.2)
+may-too g c e (Hears p (suc q) i k) o m = absurd o
+may-too g c e (Obeys p zero i k s) o m = (e.parcels _ m.0, rw (sym e.stage, sym e.greeted, sym e.phase) m.1, m.2 ∙ e.heard p, rw (sym (e.resumed p)) m.3, rw (sym e.phase) m.4)
+may-too g c e (Obeys p (suc q) i k s) o m = absurd o
+may-too g c e (Starts q d i ssn x) o m = absurd o
+may-too g c e (Works q w) o m = absurd o
+may-too g c e (Replays q j) o m = absurd o
+may-too g c e (Counts s r i k) o m = absurd o
+may-too g c e (Collects r q i j k u f) o m = absurd o
+may-too g c e (Recovers q k) o m = absurd o
+may-too g c e (Enters r q i j n s u f) o m = absurd o
+may-too g c e (Restores r q i j n s f) o m = absurd o
+may-too g c e (Greets q i j n s f) o m = absurd o
+may-too g c e (Freezes q) o m = absurd o
+may-too g c e (Keeps q) o m = absurd o
+may-too g c e (Thaws q) o m = absurd o
+may-too g c e (Dies q) o m = absurd o
+may-too g c e (Opens q n) o m = absurd o
+
+-- and has the same then
+pub outside-too : (g c : Cluster) → SameOutside g c → (a : Act) → IsGateway a → SameOutside (does g a) (does c a)
+outside-too g c e (Input d x) o =
+    record {
+      count = e.count;
+      handlers = e.handlers;
+      stage = e.stage;
+      greeted = e.greeted;
+      phase = e.phase;
+      life = e.life;
+      history = e.history;
+      trims = λ k. e.trims k;
+      numbers = λ k. e.numbers k;
+      heard = λ k. e.heard k;
+      resumed = λ k. e.resumed k;
+      inputs = λ k. rw (e.inputs d, e.inputs k) refl;
+      shown = e.shown;
+      parcels = λ x i. e.parcels x i;
+    }
+outside-too g c e (Puts zero d x) o =
+    record {
+      count = e.count;
+      handlers = e.handlers;
+      stage = e.stage;
+      greeted = e.greeted;
+      phase = e.phase;
+      life = e.life;
+      history = e.history;
+      trims = λ k. e.trims k;
+      numbers = λ k. e.numbers k;
+      heard = λ k. e.heard k;
+      resumed = λ k. e.resumed k;
+      inputs = λ k. e.inputs k;
+      shown = e.shown;
+      parcels = λ y i. in-more y (parcel 0 d x) g.parcels c.parcels (e.parcels y) i;
+    }
+outside-too g c e (Puts (suc p) d x) o = absurd o
+outside-too g c e (Shows p i ssn x) o =
+    record {
+      count = e.count;
+      handlers = e.handlers;
+      stage = e.stage;
+      greeted = e.greeted;
+      phase = e.phase;
+      life = e.life;
+      history = e.history;
+      trims = λ k. e.trims k;
+      numbers = λ k. e.numbers k;
+      heard = λ k. e.heard k;
+      resumed = λ k. e.resumed k;
+      inputs = λ k. e.inputs k;
+      shown = rw e.shown refl;
+      parcels = λ x i. e.parcels x i;
+    }
+outside-too g c e (Records r zero i ssn k) o =
+    record {
+      count = e.count;
+      handlers = e.handlers;
+      stage = e.stage;
+      greeted = e.greeted;
+      phase = e.phase;
+      life = e.life;
+      history = e.history;
+      trims = λ k. e.trims k;
+      numbers = λ z. rw (e.numbers r, e.numbers z) refl;
+      heard = λ k. e.heard k;
+      resumed = λ k. e.resumed k;
+      inputs = λ k. e.inputs k;
+      shown = e.shown;
+      parcels = λ y z. in-more y (parcel 0 r (Acknowledgement i k)) g.parcels c.parcels (e.parcels y) z;
+    }
+outside-too g c e (Records r (suc s) i ssn k) o = absurd o
+outside-too g c e (Drops d zero n) o =
+    record {
+      count = e.count;
+      handlers = e.handlers;
+      stage = e.stage;
+      greeted = e.greeted;
+      phase = e.phase;
+      life = e.life;
+      history = e.history;
+      trims = λ k. rw (e.trims d, e.inputs d, e.trims k) refl;
+      numbers = λ k. e.numbers k;
+      heard = λ k. e.heard k;
+      resumed = λ k. e.resumed k;
+      inputs = λ k. e.inputs k;
+      shown = e.shown;
+      parcels = λ x i. e.parcels x i;
+    }
+outside-too g c e (Drops d (suc s) n) o = absurd o
+outside-too g c e (Hears p zero i k) o =
+    record {
+      count = e.count;
+      handlers = e.handlers;
+      stage = e.stage;
+      greeted = e.greeted;
+      phase = e.phase;
+      life = e.life;
+      history = e.history;
+      trims = λ k. e.trims k;
+      numbers = λ k. e.numbers k;
+      heard = λ z. rw (e.heard z) refl;
+      resumed = λ z. rw (e.resumed z) refl;
+      inputs = λ k. e.inputs k;
+      shown = e.shown;
+      parcels = λ x i. e.parcels x i;
+    }
+outside-too g c e (Hears p (suc q) i k) o = absurd o
+outside-too g c e (Obeys p zero i k s) o =
+    record {
+      count = e.count;
+      handlers = e.handlers;
+      stage = e.stage;
+      greeted = e.greeted;
+      phase = e.phase;
+      life = e.life;
+      history = e.history;
+      trims = λ k. e.trims k;
+      numbers = λ z. rw (e.numbers p, e.numbers z) refl;
+      heard = λ k. e.heard k;
+      resumed = λ z. rw (e.resumed z) refl;
+      inputs = λ k. e.inputs k;
+      shown = e.shown;
+      parcels = λ x i. e.parcels x i;
+    }
+outside-too g c e (Obeys p (suc q) i k s) o = absurd o
+outside-too g c e (Starts q d i ssn x) o = absurd o
+outside-too g c e (Works q m) o = absurd o
+outside-too g c e (Replays q j) o = absurd o
+outside-too g c e (Counts s r i k) o = absurd o
+outside-too g c e (Collects r q i j k u f) o = absurd o
+outside-too g c e (Recovers q k) o = absurd o
+outside-too g c e (Enters r q i j n s u f) o = absurd o
+outside-too g c e (Restores r q i j n s f) o = absurd o
+outside-too g c e (Greets q i j n s f) o = absurd o
+outside-too g c e (Freezes q) o = absurd o
+outside-too g c e (Keeps q) o = absurd o
+outside-too g c e (Thaws q) o = absurd o
+outside-too g c e (Dies q) o = absurd o
+outside-too g c e (Opens q n) o = absurd o

@@ -1,0 +1,114 @@
+-- A message comes
+use Rattle.std.proofs.Common.{◌≡◌, ◌≢◌, ℕ, suc, ◌+◌, ◌-◌, ◌<◌, ◌≤◌, List, [], ◌∷◌, ◌++◌, length, take, map, false, refl, sym, ap, ◌∙◌, arith}
+use Rattle.std.specs.Prelude.{Some, None, slice_get, slice_index_or, ◌==◌, if◌then◌else◌}
+use Rattle.std.proofs.lemmas.Bool.Decides.{nat_tests}
+use Rattle.rsn.specs.Receipts.{numbers_of, numbers_from}
+use Rattle.world.specs.declared.message.Message.{Message}
+use Rattle.world.specs.History.{Payload, nth, count_of}
+use Rattle.world.specs.Phases.{Up, Busy}
+use Rattle.world.specs.Logs.{covered}
+use Rattle.theorems.specs.Invariants.Exact.{Names}
+use Rattle.theorems.proofs.Changes.{at-itself}
+use Rattle.theorems.proofs.HistoryLemmas.{found-at}
+use Rattle.cluster.specs.Parcels.{Body, Delivery, Number, Saved}
+use Rattle.cluster.specs.Cluster.{Cluster, seen, waiting, WINDOW}
+use Rattle.cluster.specs.Rules.{Act, Starts, message}
+use Rattle.packets.specs.declared.packet.Body.TheVariants as packets
+use Rattle.node.specs.Node.{TheNode, posts}
+use Rattle.node.specs.Stands.{Stands, HasReceived, Receives}
+use Rattle.node.proofs.Lists.{count-append, get-behind}
+use Rattle.node.proofs.Putting.{stands-takes, stands-well, posted}
+use Rattle.node.proofs.Numbers.{length-numbers, rsn_from-numbers}
+
+-- the messages of q that it received: those that its checkpoint covers, and those behind
+counted : (n : TheNode) (c : Cluster) (p q : ℕ) (s : Stands n c p) → q ≤ n.count → slice_index_or n.covered q 0 + length (numbers_of q n.receipts) ≡ count_of q (c.history p)
+counted n c p q s low =
+    let r = s.received in
+    let a : length (numbers_from q 0 n.receipts.senders) ≡ count_of q r.behind = ap (λ xs. length (numbers_from q 0 xs)) r.senders ∙ length-numbers q 0 r.behind in
+    let b : count_of q (c.history p) ≡ count_of q r.before + count_of q r.behind = ap (count_of q) (sym r.joined) ∙ count-append q r.before r.behind in
+    omega (arith, a, b, r.covered_is q low)
+
+-- what its checkpoint covers
+first-part : {X : Type 0} (xs ys : List X) → take (length xs) (xs ++ ys) ≡ xs
+first-part [] ys = refl
+first-part (x ∷ xs) ys = ap (λ l. x ∷ l) (first-part xs ys)
+
+covers : (n : TheNode) (c : Cluster) (p q : ℕ) (s : Stands n c p) → q ≤ n.count → 0 < p → slice_index_or n.covered q 0 ≡ covered (seen c) q p
+covers n c p q s low positive =
+    let r = s.received in
+    let inner : (p == 0) ≡ false = grind (arith, nat_tests) in
+    let many : c.saved p ≡ length r.before = s.saved ∙ sym r.many in
+    let e : take (c.saved p) (c.history p) ≡ r.before = ap (λ k. take k (c.history p)) many ∙ ap (take (length r.before)) (sym r.joined) ∙ first-part r.before r.behind in
+    r.covered_is q low ∙ ap (count_of q) (sym e) ∙ rw inner refl
+
+-- the sender's message is one that the checkpoint covers
+pub says-saved : (n : TheNode) (from k : ℕ) (body : Body) → from ≤ n.count → from ≢ n.me → k ≡ slice_index_or n.covered from 0 → Receives from body n (posts from (packets.Saved k) n)
+says-saved n from k body low other is c s g =
+    posted n c from (packets.Saved k) (Saved k) refl s low other (stands-well n c n.me s, is ∙ covers n c n.me from s low s.inside.0)
+
+-- it is one behind: its number is known
+pub says-number : (n : TheNode) (from ssn k : ℕ) (body : Body) → from ≤ n.count → from ≢ n.me → slice_index_or n.covered from 0 < ssn
+    → ssn - slice_index_or n.covered from 0 - 1 < length (numbers_of from n.receipts) → k ≡ n.base + slice_index_or (numbers_of from n.receipts) (ssn - slice_index_or n.covered from 0 - 1) 0
+    → Receives from body n (posts from (packets.Number n.life ssn k) n)
+says-number n from ssn k body low other above known is c s g =
+    posted n c from (packets.Number n.life ssn k) (Number n.life ssn k) refl s low other (stands-well n c n.me s, sym s.life, names)
+  where
+    r : HasReceived n.count n.base n.covered n.receipts (c.history n.me) (c.acknowledged n.me)
+    r = s.received
+
+    names : Names (c.history n.me) k from ssn
+    names =
+        let here : slice_index_or n.covered from 0 ≡ count_of from r.before = r.covered_is from low in
+        let many : length (numbers_from from 0 n.receipts.senders) ≡ count_of from r.behind = ap (λ xs. length (numbers_from from 0 xs)) r.senders ∙ length-numbers from 0 r.behind in
+        let found = rsn_from-numbers 0 (λ q. count_of q r.before) from ssn r.behind r.in_order (omega (arith, here, above)) (omega (arith, here, many, known, above)) in
+        let f = found-at 0 from ssn r.behind _ found in
+        let place : ssn - slice_index_or n.covered from 0 - 1 ≡ ssn - suc (count_of from r.before) = omega (arith, here) in
+        let same : slice_index_or (numbers_of from n.receipts) (ssn - slice_index_or n.covered from 0 - 1) 0 ≡ slice_index_or (numbers_from from 0 (map (λ (m : Message). m.sender) r.behind)) (ssn - suc (count_of from r.before)) 0 =
+        ap (λ j. slice_index_or (numbers_of from n.receipts) j 0) place ∙ ap (λ xs. slice_index_or (numbers_from from 0 xs) (ssn - suc (count_of from r.before)) 0) r.senders in
+        let number : k ≡ suc (length r.before + f.0) = omega (arith, is, same, f.1, r.many) in
+        let at : nth (c.history n.me) (suc (length r.before + f.0)) ≡ Some f.2 = ap (λ h. slice_get h (length r.before + f.0)) (sym r.joined) ∙ get-behind r.before r.behind f.0 f.2 f.3 in
+        record { message = f.2; at = ap (nth (c.history n.me)) number ∙ at; sender = f.4; ssn = f.5 }
+
+-- it is the next of its sender: a job is open
+pub starts : (n : TheNode) (from i ssn : ℕ) (x : Payload) → from ≤ n.count → from ≢ n.me → n.working ≡ None → i ≡ slice_index_or n.heard from 0 → slice_index_or n.covered from 0 < ssn
+    → ssn - slice_index_or n.covered from 0 - 1 ≡ length (numbers_of from n.receipts) → n.waiting < 256
+    → Receives from (Delivery i ssn x) n (record n { working = Some (record { sender = from; ssn = ssn; payload = x }) })
+unfolding WINDOW
+starts n from i ssn x low other idle incarnation above next room c s given =
+    record {
+      acts = act ∷ [];
+      run = ((given, s.inside, stands-takes n c n.me s, up, incarnation ∙ sym (s.heard from within), is-next, few), tt);
+      by = (refl, tt);
+      stands = record {
+        me = s.me;
+        count = s.count;
+        inside = s.inside;
+        live = s.live;
+        greeted = s.greeted;
+        phase = at-itself n.me (λ t. (if t then Busy (message from ssn x) else c.phase n.me) ≡ Busy (message from ssn x)) refl;
+        works = is-next;
+        life = s.life;
+        state = s.state;
+        saved = s.saved;
+        received = s.received;
+        waits = s.waits;
+        logs = s.logs;
+        heard = s.heard;
+        out = s.out;
+      };
+    }
+  where
+    act : Act
+    act = Starts from n.me i ssn x
+
+    within : from ≤ c.count
+    within = omega (arith, low, s.count)
+
+    up : c.phase n.me ≡ Up
+    up = s.phase ∙ rw idle refl
+
+    is-next : ssn ≡ suc (count_of from (c.history n.me))
+    is-next = omega (arith, counted n c n.me from s low, above, next)
+
+    few : waiting c n.me < WINDOW
+    few = let e : waiting c n.me ≡ n.waiting = s.waits in omega (arith, e, room)

@@ -1,0 +1,213 @@
+-- Calls of nodes, one after another
+use Rattle.std.proofs.Common.{◌≡◌, inl, inr, ℕ, zero, suc, ◌≤◌, ◌<◌, List, [], ◌∷◌, ◌++◌, refl, sym, ap, ◌∙◌, subst, arith, append_assoc}
+use Rattle.std.specs.Prelude.{Option, Some, None, replicate}
+use Rattle.world.specs.declared.message.Message.{Message}
+use Rattle.world.specs.Handlers.{Handlers}
+use Rattle.world.specs.World.{put}
+use Rattle.theorems.specs.Growth.{Grows}
+use Rattle.packets.specs.declared.packet.Packet.{Packet}
+use Rattle.cluster.specs.Parcels.{Body, Parcel, In, parcel}
+use Rattle.cluster.specs.Cluster.{Cluster, opening}
+use Rattle.cluster.specs.Rules.{Act, Input, Puts, Starts, Shows, Works, Replays, Records, Counts, Drops, Hears, Collects, Recovers, Obeys, Enters, Restores, Greets, Freezes, Keeps, Thaws, Dies, Opens, does, Run, after_run}
+use Rattle.cluster.proofs.Settings.{does-count, does-handlers}
+use Rattle.cluster.proofs.Runs.{run-handlers}
+use Rattle.cluster.proofs.Promised.{nodes-keep}
+use Rattle.node.specs.Node.{TheNode}
+use Rattle.node.specs.Stands.{Stands, Goes, PutOut, WasSaid, Owes, Handles, Answers, actor, body_of, job_of, payloads_to}
+use Rattle.node.specs.Beside.{AllStand}
+use Rattle.node.specs.Runs.{Answer, Answering, state_from, sends_from, handlers_of, System, new_system, Call, Gave, Handed, Worked, Acted, IsGateway, IsAnswer, DoesIt, with_said, after_call, Calls, after_calls, CallsRun}
+use Rattle.node.proofs.Beside.{all-stand, stands-still}
+use Rattle.node.proofs.Opening.{stands-opened}
+use Rattle.node.proofs.Outside.{SameOutside, outside-self, outside-still, may-too, outside-too}
+
+-- one message more is answered in the state that the others left
+state-more : (f : Answering) (p : ℕ) (s : List ℕ) (h : List Message) (m : Message) → state_from f p s (h ++ m ∷ []) ≡ (f p (state_from f p s h) m).state
+state-more f p s [] m = refl
+state-more f p s (x ∷ h) m = state-more f p (f p s x).state h m
+
+none-more : {X : Type 0} (xs : List X) → xs ++ [] ≡ xs
+none-more [] = refl
+none-more (x ∷ xs) = ap (λ l. x ∷ l) (none-more xs)
+
+sends-more : (f : Answering) (p : ℕ) (s : List ℕ) (h : List Message) (m : Message) (d : ℕ) → sends_from f p s (h ++ m ∷ []) d ≡ sends_from f p s h d ++ payloads_to d (f p (state_from f p s h) m).given
+sends-more f p s [] m d = none-more (payloads_to d (f p s m).given)
+sends-more f p s (x ∷ h) m d =
+    ap (λ l. payloads_to d (f p s x).given ++ l) (sends-more f p (f p s x).state h m d)
+    ∙ sym (append_assoc (payloads_to d (f p s x).given) (sends_from f p (f p s x).state h d) (payloads_to d (f p (state_from f p (f p s x).state h) m).given))
+
+-- such handlers take nothing back
+grows : (f : Answering) (len : ℕ → ℕ) → Grows (handlers_of f len)
+grows f len p h m d = (payloads_to d (f p (state_from f p (replicate (len p) 0) h) m).given, sym (sends-more f p (replicate (len p) 0) h m d))
+
+-- a run goes on
+run-on : (c : Cluster) (acts more : List Act) → Run c acts → Run (after_run c acts) more → Run c (acts ++ more) × (after_run c (acts ++ more) ≡ after_run (after_run c acts) more)
+run-on c [] more r q = (q, refl)
+run-on c (a ∷ acts) more r q = let t = run-on (does c a) acts more r.1 q in ((r.0, t.0), t.1)
+
+-- a cluster in which all nodes of a system stand, and whose gateway has what that of the system has
+record Holds (f : Handlers) (s : System) (c : Cluster) : Type 0 where
+  stand : AllStand s.nodes c
+  outside : SameOutside s.outside c
+  handlers : c.handlers ≡ f
+
+-- the cluster runs on to one that does
+record Onward (f : Handlers) (c : Cluster) (s : System) : Type 0 where
+  acts : List Act
+  run : Run c acts
+  holds : Holds f s (after_run c acts)
+
+-- a node goes on
+node-goes : (f : Handlers) (s : System) (c : Cluster) (p : ℕ) (new : TheNode) → 0 < p → Holds f s c → Goes p new c → Onward f c (record s { nodes = put s.nodes p new })
+node-goes f s c p new some h g =
+    record {
+      acts = g.acts;
+      run = g.run;
+      holds = record {
+        stand = all-stand s.nodes c p new h.stand g;
+        outside = outside-still s.outside c p g.acts some g.by h.outside;
+        handlers = run-handlers c g.acts ∙ h.handlers;
+      };
+    }
+
+-- a node of the system stands, and owes by its own number
+stands-at : (f : Handlers) (s : System) (c : Cluster) (p : ℕ) → 0 < p → p ≤ s.outside.count → Holds f s c → Stands (s.nodes p) c p
+stands-at f s c p some low h = h.stand p some (subst (λ k. p ≤ k) h.outside.count low)
+
+owes-at : (given : Cluster → Type 0) (old new : TheNode) (c : Cluster) (p : ℕ) → Owes given old new → Stands old c p → given c → Goes p new c
+owes-at given old new c p owed s g =
+    let me : old.me ≡ p = s.me in
+    subst (λ k. Goes k new c) me (owed c (subst (Stands old c) (sym me) s) g)
+
+said-in : (ps qs : List Parcel) (p d : ℕ) (o : Option Body) (b : Body) → ((x : Parcel) → In x ps → In x qs) → WasSaid ps p d o → o ≡ Some b → In (parcel p d b) qs
+said-in ps qs p d None b more w e = absurd w
+said-in ps qs p d (Some y) b more w e =
+    let same : y ≡ b = (cc) in
+    more (parcel p d b) (subst (λ z. In (parcel p d z) ps) same w)
+
+said-here : (ps qs : List Parcel) (x : Packet) (o : Option Body) → ((y : Parcel) → In y ps → In y qs) → WasSaid qs x.from x.to o → (y : Parcel) → In y (with_said x o ps) → In y qs
+said-here ps qs x None more w y i = more y i
+said-here ps qs x (Some b) more w y (inl e) = subst (λ z. In z qs) (sym e) w
+said-here ps qs x (Some b) more w y (inr i) = more y i
+
+-- the handler's answer is what the cluster's handlers say
+answers : (f : Answering) (len : ℕ → ℕ) (n : TheNode) (c : Cluster) (p : ℕ) (a : Answer) → c.handlers ≡ handlers_of f len → Stands n c p → IsAnswer f p n a → Handles a.state a.given n c
+answers f len n c p a handlers s is j busy =
+    let me : n.me ≡ p = s.me in
+    let h : List Message = c.history p in
+    let here : state_from f p (replicate (len p) 0) h ≡ n.state = ap (λ (g : Handlers). g.state p h) (sym handlers) ∙ s.state in
+    let answer : f p (state_from f p (replicate (len p) 0) h) (job_of j) ≡ a = ap (λ z. f p z (job_of j)) here ∙ sym (is j busy) in
+    subst (λ k. Answers c k (job_of j) a.state a.given) (sym me) (record {
+      state_is = ap (λ (g : Handlers). g.state p (h ++ job_of j ∷ [])) handlers ∙ state-more f p (replicate (len p) 0) h (job_of j) ∙ ap (λ (z : Answer). z.state) answer;
+      sends_are = λ d. ap (λ (g : Handlers). g.sends p (h ++ job_of j ∷ []) d) handlers ∙ sends-more f p (replicate (len p) 0) h (job_of j) d
+          ∙ ap (λ (z : Answer). sends_from f p (replicate (len p) 0) h d ++ payloads_to d z.given) answer ∙ ap (λ (g : Handlers). g.sends p h d ++ payloads_to d a.given) (sym handlers);
+    })
+
+-- whose act it is
+of-gateway : (a : Act) → IsGateway a → actor a ≡ 0
+of-gateway (Input d x) o = refl
+of-gateway (Puts zero d x) o = refl
+of-gateway (Puts (suc q) d x) o = absurd o
+of-gateway (Starts q d i ssn x) o = absurd o
+of-gateway (Shows q i ssn x) o = refl
+of-gateway (Works q m) o = absurd o
+of-gateway (Replays q j) o = absurd o
+of-gateway (Records r zero i ssn k) o = refl
+of-gateway (Records r (suc q) i ssn k) o = absurd o
+of-gateway (Counts s r i k) o = absurd o
+of-gateway (Drops d zero n) o = refl
+of-gateway (Drops d (suc q) n) o = absurd o
+of-gateway (Hears r zero i k) o = refl
+of-gateway (Hears r (suc q) i k) o = absurd o
+of-gateway (Collects r q i j k u f) o = absurd o
+of-gateway (Recovers q k) o = absurd o
+of-gateway (Obeys r zero i k s) o = refl
+of-gateway (Obeys r (suc q) i k s) o = absurd o
+of-gateway (Enters r q i j n s u f) o = absurd o
+of-gateway (Restores r q i j n s f) o = absurd o
+of-gateway (Greets q i j n s f) o = absurd o
+of-gateway (Freezes q) o = absurd o
+of-gateway (Keeps q) o = absurd o
+of-gateway (Thaws q) o = absurd o
+of-gateway (Dies q) o = absurd o
+of-gateway (Opens q n) o = absurd o
+
+-- each call
+call-goes : (f : Answering) (len : ℕ → ℕ) (s : System) (c : Cluster) (k : Call) → Holds (handlers_of f len) s c → DoesIt f s k → Onward (handlers_of f len) c (after_call s k)
+call-goes f len s c (Gave p x new) h m =
+    let at : Stands (s.nodes p) c p = stands-at (handlers_of f len) s c p m.0 m.1 h in
+    let me : (s.nodes p).me ≡ p = at.me in
+    let took : PutOut c.count c.parcels p x × Stands new c p = subst (λ k. PutOut c.count c.parcels k x × Stands new c k) me (m.2.1 c (subst (Stands (s.nodes p) c) (sym me) at)) in
+    let said : WasSaid c.parcels x.from x.to (body_of x.body) = subst (λ k. WasSaid c.parcels k x.to (body_of x.body)) (sym took.0.from) took.0.said in
+    let o = h.outside in
+    record {
+      acts = [];
+      run = tt;
+      holds = record {
+        stand = all-stand s.nodes c p new h.stand (record { acts = []; run = tt; by = tt; stands = took.1 });
+        outside = record {
+          count = o.count;
+          handlers = o.handlers;
+          stage = o.stage;
+          greeted = o.greeted;
+          phase = o.phase;
+          life = o.life;
+          history = o.history;
+          trims = o.trims;
+          numbers = o.numbers;
+          heard = o.heard;
+          resumed = o.resumed;
+          inputs = o.inputs;
+          shown = o.shown;
+          parcels = said-here s.outside.parcels c.parcels x (body_of x.body) o.parcels said;
+        };
+        handlers = h.handlers;
+      };
+    }
+call-goes f len s c (Handed p x new) h m =
+    let at : Stands (s.nodes p) c p = stands-at (handlers_of f len) s c p m.0 m.1 h in
+    node-goes (handlers_of f len) s c p new m.0 h
+    (owes-at (λ d. (b : Body) → body_of x.body ≡ Some b → In (parcel x.from x.to b) d.parcels) (s.nodes p) new c p m.3 at
+    (λ b e. said-in s.outside.parcels c.parcels x.from x.to (body_of x.body) b h.outside.parcels m.2.said e))
+call-goes f len s c (Worked p a new) h m =
+    let at : Stands (s.nodes p) c p = stands-at (handlers_of f len) s c p m.0 m.1 h in
+    node-goes (handlers_of f len) s c p new m.0 h (owes-at (Handles a.state a.given (s.nodes p)) (s.nodes p) new c p m.3 at (answers f len (s.nodes p) c p a h.handlers at m.2))
+call-goes f len s c (Acted a) h m =
+    record {
+      acts = a ∷ [];
+      run = (may-too s.outside c h.outside a m.0 m.1, tt);
+      holds = record {
+        stand = λ q some low. stands-still (s.nodes q) q 0 (a ∷ []) c (λ e. absurd (omega (arith, some, e))) (of-gateway a m.0, tt) (h.stand q some (subst (λ k. q ≤ k) (does-count c a) low));
+        outside = outside-too s.outside c h.outside a m.0;
+        handlers = does-handlers c a ∙ h.handlers;
+      };
+    }
+
+calls-go : (f : Answering) (len : ℕ → ℕ) (s : System) (c : Cluster) (ks : List Call) → Holds (handlers_of f len) s c → Calls f s ks → Onward (handlers_of f len) c (after_calls s ks)
+calls-go f len s c [] h m = record { acts = []; run = tt; holds = h }
+calls-go f len s c (k ∷ ks) h m =
+    let one = call-goes f len s c k h m.0 in
+    let rest = calls-go f len (after_call s k) (after_run c one.acts) ks one.holds m.1 in
+    let both = run-on c one.acts rest.acts one.run rest.run in
+    record {
+      acts = one.acts ++ rest.acts;
+      run = both.0;
+      holds = subst (Holds (handlers_of f len) (after_calls (after_call s k) ks)) (sym both.1) rest.holds;
+    }
+
+pub calls-run : CallsRun
+calls-run f n len calls few m =
+    let g : Handlers = handlers_of f len in
+    let s : System = new_system n len g in
+    let begins : Holds g s (opening n g) = record { stand = λ p some low. stands-opened p n (len p) g some low (record { state_is = refl; sends_are = λ d. refl }); outside = outside-self (opening n g); handlers = refl } in
+    let all = calls-go f len s (opening n g) calls begins m in
+    let keeps = nodes-keep n g all.acts few (grows f len) all.run in
+    record {
+      acts = all.acts;
+      run = all.run;
+      stand = all.holds.stand;
+      inputs = all.holds.outside.inputs;
+      shown = all.holds.outside.shown;
+      no_orphan = keeps.0;
+      output_once = keeps.1;
+      received_once = keeps.2;
+    }

@@ -1,0 +1,5 @@
+use Rattle.node.proofs.Beside.{stands-still}
+use Rattle.node.proofs.laws.others_stand.Goals as goal
+
+pub returns : goal.returns
+returns c = stands-still

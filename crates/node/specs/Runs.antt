@@ -1,0 +1,120 @@
+-- Calls of nodes, one after another, with a gateway beside them
+use Rattle.std.specs.Prelude.{◌≡◌, ℕ, zero, ◌<◌, ◌≤◌, List, [], ◌∷◌, ◌++◌, Option, Some, None, replicate}
+use Rattle.world.specs.declared.message.Message.{Message}
+use Rattle.world.specs.History.{Payload}
+use Rattle.world.specs.Handlers.{Handlers}
+use Rattle.world.specs.World.{put}
+use Rattle.packets.specs.declared.packet.Packet.{Packet}
+use Rattle.cluster.specs.Parcels.{Body, Ask, Resume, Parcel, parcel}
+use Rattle.cluster.specs.Cluster.{Cluster, opening}
+use Rattle.cluster.specs.Rules.{Act, Input, Puts, Shows, Records, Drops, Hears, Obeys, May, does, Run, after_run}
+use Rattle.cluster.specs.Promises.{NoOrphanNode, OutputOnce, ReceivedOnce}
+use Rattle.node.specs.declared.job.OpenJob.{OpenJob}
+use Rattle.node.specs.declared.job.Given.{Given}
+use Rattle.node.specs.Node.{TheNode, new_node}
+use Rattle.node.specs.Stands.{PutOut, Owes, Handles, Takes, IsHanded, body_of, job_of, payloads_to}
+use Rattle.node.specs.Beside.{AllStand}
+
+-- the state that a handler leaves, and the message that it gives
+pub record Answer : Type 0 where
+  pub state : List ℕ
+  pub given : Option Given
+
+-- what the handler of each process answers to a message, in a state
+abbrev pub Answering : Type 0
+Answering = ℕ → List ℕ → Message → Answer
+
+-- the state of p after these messages, from the state s on
+abbrev pub state_from : Answering → ℕ → List ℕ → List Message → List ℕ
+state_from f p s [] = s
+state_from f p s (m ∷ h) = state_from f p (f p s m).state h
+
+-- and what it sent to d by then
+abbrev pub sends_from : Answering → ℕ → List ℕ → List Message → ℕ → List Payload
+sends_from f p s [] d = []
+sends_from f p s (m ∷ h) d = payloads_to d (f p s m).given ++ sends_from f p (f p s m).state h d
+
+-- the handlers that answer so, and begin with states of so many zeros
+abbrev pub handlers_of : Answering → (ℕ → ℕ) → Handlers
+handlers_of f len = record { state = λ p h. state_from f p (replicate (len p) 0) h; sends = λ p h d. sends_from f p (replicate (len p) 0) h d }
+
+-- the nodes by number; and a cluster as the gateway sees it: of itself it has all, of the others what they gave it or each other
+pub record System : Type 0 where
+  pub nodes : ℕ → TheNode
+  pub outside : Cluster
+
+-- n new nodes, and a gateway
+abbrev pub new_system : ℕ → (ℕ → ℕ) → Handlers → System
+new_system n len f = record { nodes = λ p. new_node p n (len p); outside = opening n f }
+
+-- a call of a node that isn't refused, and what the node is then; or an act of the gateway
+pub data Call : Type 0 where
+  -- it gave this packet
+  Gave : ℕ → Packet → TheNode → Call
+  -- it was handed this packet
+  Handed : ℕ → Packet → TheNode → Call
+  -- its handler answered
+  Worked : ℕ → Answer → TheNode → Call
+  Acted : Act → Call
+
+-- the gateway acts: it is handed an input, puts out a message or an answer, shows a message, or takes what came
+abbrev pub IsGateway : Act → Type 0
+IsGateway (Input d x) = Unit {0}
+IsGateway (Puts zero d (Ask i k)) = ⊥
+IsGateway (Puts zero d (Resume i k s)) = ⊥
+IsGateway (Puts zero d x) = Unit {0}
+IsGateway (Shows p i ssn x) = Unit {0}
+IsGateway (Records r zero i ssn k) = Unit {0}
+IsGateway (Drops d zero n) = Unit {0}
+IsGateway (Hears p zero i k) = Unit {0}
+IsGateway (Obeys p zero i k s) = Unit {0}
+IsGateway act = ⊥
+
+-- the answer is that of the handler, where a job is open
+abbrev pub IsAnswer : Answering → ℕ → TheNode → Answer → Type 0
+IsAnswer f p n a = (j : OpenJob) → n.working ≡ Some j → a ≡ f p n.state (job_of j)
+
+-- each call does what the contract of its function says: `take`; `receive`, handed a packet that a node or the gateway put out, whenever,
+-- or again; and `work`, with the handler's answer. The gateway does what it may by what it sees
+abbrev pub DoesIt : Answering → System → Call → Type 0
+DoesIt f s (Gave p x new) = (0 < p) × (p ≤ s.outside.count) × Takes (Some x) (s.nodes p) new
+DoesIt f s (Handed p x new) = (0 < p) × (p ≤ s.outside.count) × PutOut s.outside.count s.outside.parcels x.from x × IsHanded x (s.nodes p) new
+DoesIt f s (Worked p a new) = (0 < p) × (p ≤ s.outside.count) × IsAnswer f p (s.nodes p) a × Owes (Handles a.state a.given (s.nodes p)) (s.nodes p) new
+DoesIt f s (Acted act) = IsGateway act × May s.outside act
+
+-- what a packet says is among the parcels
+abbrev pub with_said : Packet → Option Body → List Parcel → List Parcel
+with_said x None ps = ps
+with_said x (Some b) ps = parcel x.from x.to b ∷ ps
+
+abbrev pub after_call : System → Call → System
+after_call s (Gave p x new) = record { nodes = put s.nodes p new; outside = record s.outside { parcels = with_said x (body_of x.body) s.outside.parcels } }
+after_call s (Handed p x new) = record s { nodes = put s.nodes p new }
+after_call s (Worked p a new) = record s { nodes = put s.nodes p new }
+after_call s (Acted act) = record s { outside = does s.outside act }
+
+-- calls one after another
+abbrev pub Calls : Answering → System → List Call → Type 0
+Calls f s [] = Unit {0}
+Calls f s (k ∷ ks) = DoesIt f s k × Calls f (after_call s k) ks
+
+abbrev pub after_calls : System → List Call → System
+after_calls s [] = s
+after_calls s (k ∷ ks) = after_calls (after_call s k) ks
+
+-- the cluster runs from its opening to one in which all these nodes stand, with the gateway's inputs and what it showed; and what is
+-- promised of runs holds of it
+pub record IsRunOf (n : ℕ) (f : Handlers) (s : System) : Type 0 where
+  pub acts : List Act
+  pub run : Run (opening n f) acts
+  pub stand : AllStand s.nodes (after_run (opening n f) acts)
+  pub inputs : (d : ℕ) → s.outside.inputs d ≡ (after_run (opening n f) acts).inputs d
+  pub shown : s.outside.shown ≡ (after_run (opening n f) acts).shown
+  pub no_orphan : NoOrphanNode (after_run (opening n f) acts)
+  pub output_once : OutputOnce (after_run (opening n f) acts)
+  pub received_once : ReceivedOnce (after_run (opening n f) acts)
+
+-- calls of nodes in any order, with packets handed over late, twice or never, are a run of a cluster
+abbrev pub CallsRun : Type 0
+CallsRun = (f : Answering) (n : ℕ) (len : ℕ → ℕ) (calls : List Call) → n ≤ 15 → Calls f (new_system n len (handlers_of f len)) calls
+    → IsRunOf n (handlers_of f len) (after_calls (new_system n len (handlers_of f len)) calls)

@@ -1,0 +1,174 @@
+-- Which clusters a node stands in, and what a call owes
+use Rattle.std.specs.Prelude.{◌≡◌, ◌≢◌, ℕ, suc, ◌+◌, ◌<◌, ◌≤◌, List, [], ◌∷◌, ◌++◌, length, map, Option, Some, None, Bool, true, false, slice_index_or, replicate, ◌==◌, if◌then◌else◌}
+use Rattle.rsn.specs.Receipts.{Received}
+use Rattle.world.specs.declared.message.Message.{Message}
+use Rattle.world.specs.History.{Payload, count_of}
+use Rattle.world.specs.Phases.{Phase, Up, Busy}
+use Rattle.world.specs.Handlers.{Handlers}
+use Rattle.world.specs.World.{put}
+use Rattle.cluster.specs.Parcels.{Body, Delivery, Number, Acknowledgement, Ask, Resume, Saved, Parcel, parcel, In}
+use Rattle.cluster.specs.Cluster.{Cluster, Live, waiting}
+use Rattle.cluster.specs.Rules.{Act, Input, Puts, Starts, Shows, Works, Replays, Records, Counts, Drops, Hears, Collects, Recovers, Obeys, Enters, Restores, Greets, Freezes, Keeps, Thaws, Dies, Opens, Run, after_run, IsNode, message}
+use Rattle.packets.specs.declared.packet.Body as bodies
+use Rattle.packets.specs.declared.packet.Body.TheVariants as packets
+use Rattle.packets.specs.declared.packet.Packet.{Packet}
+use Rattle.node.specs.declared.job.OpenJob.{OpenJob}
+use Rattle.node.specs.declared.job.Given.{Given}
+use Rattle.node.specs.Queue.{TheQueue}
+use Rattle.node.specs.Node.{TheNode, log_at}
+
+-- it holds of each
+abbrev pub Each : {X : Type 0} → (X → Type 0) → List X → Type 0
+Each P [] = Unit {0}
+Each P (x ∷ xs) = P x × Each P xs
+
+-- what a packet says; of the pages of a node that comes back nothing is said yet
+abbrev pub body_of : bodies.Body → Option Body
+body_of (packets.Delivery i ssn x) = Some (Delivery i ssn x)
+body_of (packets.Number i ssn k) = Some (Number i ssn k)
+body_of (packets.Acknowledgement i k) = Some (Acknowledgement i k)
+body_of (packets.Ask i k) = Some (Ask i k)
+body_of (packets.Told i j k flags entries) = None
+body_of (packets.Resume i k s) = Some (Resume i k s)
+body_of (packets.Restored i j n s flags pairs) = None
+body_of (packets.Saved n) = Some (Saved n)
+
+-- this was put out from p to d, where these parcels were
+abbrev pub WasSaid : List Parcel → ℕ → ℕ → Option Body → Type 0
+WasSaid parcels p d None = ⊥
+WasSaid parcels p d (Some b) = In (parcel p d b) parcels
+
+-- the packet is of the process p of so many, and was put out
+pub record PutOut (count : ℕ) (parcels : List Parcel) (p : ℕ) (x : Packet) : Type 0 where
+  pub count_is : x.count ≡ count
+  pub from : x.from ≡ p
+  pub said : WasSaid parcels p x.to (body_of x.body)
+
+-- the message of a job
+abbrev pub job_of : OpenJob → Message
+job_of j = message j.sender j.ssn j.payload
+
+-- what it does, with this open job
+abbrev pub phase_of : Option OpenJob → Phase
+phase_of None = Up
+phase_of (Some j) = Busy (job_of j)
+
+-- each message is the next of its sender, where so many of each came before
+abbrev pub InOrderFrom : (ℕ → ℕ) → List Message → Type 0
+InOrderFrom c [] = Unit {0}
+InOrderFrom c (m ∷ ms) = (m.ssn ≡ suc (c m.sender)) × InOrderFrom (put c m.sender (suc (c m.sender))) ms
+
+-- the message that is worked on is the next of its sender
+abbrev pub IsNextAfter : List Message → Option OpenJob → Type 0
+IsNextAfter h None = Unit {0}
+IsNextAfter h (Some j) = j.ssn ≡ suc (count_of j.sender h)
+
+-- of a history the first messages, as many as base, are known by their count of each sender, and those behind by their senders
+pub record HasReceived (count base : ℕ) (covered : List ℕ) (receipts : Received) (history : List Message) (acknowledged : ℕ → Bool) : Type 0 where
+  pub before : List Message
+  pub behind : List Message
+  pub joined : before ++ behind ≡ history
+  pub many : length before ≡ base
+  pub covered_is : (q : ℕ) → q ≤ count → slice_index_or covered q 0 ≡ count_of q before
+  pub senders : receipts.senders ≡ map (λ (m : Message). m.sender) behind
+  pub in_order : InOrderFrom (λ q. count_of q before) behind
+  pub flags : length receipts.acknowledged ≡ length receipts.senders
+  pub acknowledged_is : (k : ℕ) → k < length receipts.senders → slice_index_or receipts.acknowledged k false ≡ acknowledged (suc (base + k))
+  pub below : (k : ℕ) → k < base → acknowledged (suc k) ≡ true
+  pub above : (k : ℕ) → length history < k → acknowledged k ≡ false
+
+-- of these messages so many are dropped, and a queue keeps the others, with their numbers by SSN; what isn't sent has no number
+pub record KeepsOf (q : TheQueue) (dropped : ℕ) (payloads : List Payload) (numbers : ℕ → Option ℕ) : Type 0 where
+  pub before : List Payload
+  pub many : length before ≡ q.dropped
+  pub joined : before ++ q.payloads ≡ payloads
+  pub dropped_is : dropped ≡ q.dropped
+  pub as_many : length q.numbers ≡ length q.payloads
+  pub numbers_are : (i : ℕ) → i < length q.payloads → slice_index_or q.numbers i None ≡ numbers (suc (q.dropped + i))
+  pub beyond : (i : ℕ) → q.dropped + length q.payloads < i → numbers i ≡ None
+
+-- what a node holds is what the cluster has of the process p. It says nothing of others
+pub record Stands (n : TheNode) (c : Cluster) (p : ℕ) : Type 0 where
+  pub me : n.me ≡ p
+  pub count : n.count ≡ c.count
+  pub inside : IsNode c p
+  pub live : c.stage p ≡ Live
+  pub greeted : c.greeted p ≡ true
+  pub phase : c.phase p ≡ phase_of n.working
+  pub works : IsNextAfter (c.history p) n.working
+  pub life : c.life p ≡ n.life
+  pub state : c.handlers.state p (c.history p) ≡ n.state
+  pub saved : c.saved p ≡ n.base
+  pub received : HasReceived n.count n.base n.covered n.receipts (c.history p) (c.acknowledged p)
+  pub waits : waiting c p ≡ n.waiting
+  pub logs : (d : ℕ) → d ≤ c.count → d ≢ p → KeepsOf (log_at n.logs d) (c.trims p d) (c.handlers.sends p (c.history p) d) (c.numbers p d)
+  pub heard : (q : ℕ) → q ≤ c.count → c.heard p q ≡ slice_index_or n.heard q 0
+  -- what waits to be taken was put out
+  pub out : Each (PutOut c.count c.parcels p) n.out
+
+-- whose step an act is
+abbrev pub actor : Act → ℕ
+actor (Input d x) = 0
+actor (Puts p d x) = p
+actor (Starts p d i ssn x) = d
+actor (Shows p i ssn x) = 0
+actor (Works p m) = p
+actor (Replays p j) = p
+actor (Records r s i ssn k) = s
+actor (Counts s r i k) = r
+actor (Drops d s n) = s
+actor (Hears p q i k) = q
+actor (Collects q p i j k u f) = p
+actor (Recovers p k) = p
+actor (Obeys p q i k s) = q
+actor (Enters q p i j n s u f) = p
+actor (Restores q p i j n s f) = p
+actor (Greets p i j n s f) = p
+actor (Freezes p) = p
+actor (Keeps p) = p
+actor (Thaws p) = p
+actor (Dies p) = p
+actor (Opens p n) = p
+
+-- by acts of its own the node's process goes from the cluster c to one in which the new node stands
+pub record Goes (p : ℕ) (new : TheNode) (c : Cluster) : Type 0 where
+  pub acts : List Act
+  pub run : Run c acts
+  pub by : Each (λ (a : Act). actor a ≡ p) acts
+  pub stands : Stands new (after_run c acts) p
+
+-- what a call owes, in each cluster in which the node stands, and which this holds of
+abbrev pub Owes : (Cluster → Type 0) → TheNode → TheNode → Type 0
+Owes given old new = (c : Cluster) → Stands old c old.me → given c → Goes old.me new c
+
+-- what one owes that is handed a packet of another that says this
+abbrev pub Receives : ℕ → Body → TheNode → TheNode → Type 0
+Receives from body old new = Owes (λ c. In (parcel from old.me body) c.parcels) old new
+
+-- the payloads of what a handler gives
+abbrev pub payloads_to : ℕ → Option Given → List Payload
+payloads_to d None = []
+payloads_to d (Some s) = if d == s.to then s.payload ∷ [] else []
+
+-- the handler of p leaves this state on its next message, and gives this
+pub record Answers (c : Cluster) (p : ℕ) (m : Message) (state : List ℕ) (given : Option Given) : Type 0 where
+  pub state_is : c.handlers.state p (c.history p ++ m ∷ []) ≡ state
+  pub sends_are : (d : ℕ) → c.handlers.sends p (c.history p ++ m ∷ []) d ≡ c.handlers.sends p (c.history p) d ++ payloads_to d given
+
+-- it does so on the message that the node works on
+abbrev pub Handles : List ℕ → Option Given → TheNode → Cluster → Type 0
+Handles state given n c = (j : OpenJob) → n.working ≡ Some j → Answers c n.me (job_of j) state given
+
+-- handlers that begin with a state of zeros, and have sent nothing then
+pub record BeginsWith (f : Handlers) (p len : ℕ) : Type 0 where
+  pub state_is : f.state p [] ≡ replicate len 0
+  pub sends_are : (d : ℕ) → f.sends p [] d ≡ []
+
+-- what it owes that is handed a packet, if that was put out
+abbrev pub IsHanded : Packet → TheNode → TheNode → Type 0
+IsHanded x old new = Owes (λ c. (b : Body) → body_of x.body ≡ Some b → In (parcel x.from x.to b) c.parcels) old new
+
+-- what take owes: a packet that waited, which was put out; the node is without it
+abbrev pub Takes : Option Packet → TheNode → TheNode → Type 0
+Takes None old new = (old.out ≡ []) × (new ≡ old)
+Takes (Some x) old new = (old ≡ record new { out = new.out ++ x ∷ [] }) × ((c : Cluster) → Stands old c old.me → PutOut c.count c.parcels old.me x × Stands new c old.me)
