@@ -1,2 +1,5 @@
+mod Reasons
 mod Studies
 mod Texts
+mod Together
+mod Ways

@@ -8,6 +8,7 @@ use Rattle.verifier.specs.ImageFile.{IsFile}
 use Rattle.explain.specs.declared.study.Study.{Study}
 use Rattle.explain.specs.Study.{IsStudy}
 
+-- the code of a file has at most 1,024 slots
 pub short_file : (form : ImageForm) (code : List Insn) (len : ℕ) (bytes : List ℕ) → IsFile form code len bytes → length (slots_of code) ≤ 1024
 short_file form code len bytes f = let e = length-slots_of code in omega (arith, f.short)
 
@@ -15,9 +16,11 @@ some_code : (code : List Insn) → 0 < slots code → 0 < length code
 some_code [] h = absurd (omega arith)
 some_code (i ∷ is) h = omega arith
 
+-- and some instruction
 pub some_file : (form : ImageForm) (code : List Insn) (len : ℕ) (bytes : List ℕ) → IsFile form code len bytes → 0 < length code
 some_file form code len bytes f = some_code code f.some
 
+-- the study of a file has at most 1,024 slots
 pub short_study : (bytes : List ℕ) (s : Study) → IsStudy bytes s → length s.slots.items ≤ 1024
 short_study bytes s h =
     let e = ap length h.slots in

@@ -1,5 +1,5 @@
 -- Why a register isn't set at a slot. A way goes from slot to slot, each behind an instruction that leads to the next one.
-use Rattle.std.specs.Prelude.{◌≡◌, ◌≢◌, ◌<◌, ◌&&◌, ℕ, false, List, [], ◌∷◌, Some, pos, ℤ, slice_index_or}
+use Rattle.std.specs.Prelude.{◌≡◌, ◌≢◌, ◌<◌, ◌&&◌, ℕ, false, List, [], ◌∷◌, Some, None, pos, ℤ, slice_index_or}
 use Rattle.std.specs.List.{Contains}
 use Rattle.decode.specs.declared.insn.Insn.{Insn}
 use Rattle.decode.specs.declared.insn.Insn.TheVariants.{Call}
@@ -9,6 +9,7 @@ use Rattle.regtypes.specs.declared.frame.Kind.{Kind}
 use Rattle.regtypes.specs.declared.frame.Kind.TheVariants.{Unset}
 use Rattle.regtypes.specs.Flow.{exits}
 use Rattle.regtypes.specs.Frame.{entry_frame, is_num, kind_at}
+use Rattle.regtypes.specs.Rules.{first_broken, tests_of}
 use Rattle.regtypes.specs.Typing.{frame_at}
 use Rattle.explain.specs.declared.study.Study.{Study}
 use Rattle.explain.specs.declared.why.Why.{Why}
@@ -24,11 +25,6 @@ pub record Leaves (s : Study) (r p t : ℕ) (k : Kind) : Type 0 where
   pub leads : Contains (exits p insn frame) (pos t, left)
   pub kind : k ≡ kind_at left.kinds r
 
--- a way from slot p over these slots, the last of which is t: the register is unset all along
-abbrev pub StaysUnset : Study → ℕ → ℕ → List ℕ → ℕ → Type 0
-StaysUnset s r p [] t = p ≡ t
-StaysUnset s r p (q ∷ rest) t = Leaves s r p q Unset × StaysUnset s r q rest t
-
 -- at slot p a helper is called, and the register holds something there
 pub record Calls (s : Study) (r p : ℕ) : Type 0 where
   pub helper : ℤ
@@ -36,6 +32,11 @@ pub record Calls (s : Study) (r p : ℕ) : Type 0 where
   pub frame : Frame
   pub there : frame_at s.table.items p ≡ Some frame
   pub held : kind_at frame.kinds r ≢ Unset
+
+-- a way from slot p over these slots, the last of which is t: the register is unset all along, and no call on the way found anything in it
+abbrev pub StaysUnset : Study → ℕ → ℕ → List ℕ → ℕ → Type 0
+StaysUnset s r p [] t = p ≡ t
+StaysUnset s r p (q ∷ rest) t = Leaves s r p q Unset × (¬ Calls s r p) × StaysUnset s r q rest t
 
 -- both kinds say something, and nothing together
 pub record Clash (a b : Kind) : Type 0 where
@@ -52,9 +53,21 @@ pub record Disagree (s : Study) (r p q t : ℕ) : Type 0 where
   pub kept : second ≢ Unset
   pub clash : Clash first second
 
--- the reason lies at slot t
+-- slot p leads to slot t with this kind in the register, and its instruction breaks no rule
+pub record Passes (s : Study) (r p t : ℕ) (k : Kind) : Type 0 where
+  pub leaves : Leaves s r p t k
+  pub kept : first_broken (tests_of s.form s.state_len leaves.insn leaves.frame) ≡ None
+
+-- each earlier slot that passes on to slot t leaves something in the register, and nothing that clashes with one kind: a register that
+-- comes there by a jump, behind a conditional jump or from the instruction before is among them. As a call begins, at slot 0, it is set
+pub record Agree (s : Study) (r t : ℕ) : Type 0 where
+  pub kind : Kind
+  pub entry : t ≡ 0 → kind_at (entry_frame s.form).kinds r ≢ Unset
+  pub all : (p : ℕ) (k : Kind) → p < t → Passes s r p t k → (k ≢ Unset) × ¬ Clash kind k
+
+-- the reason lies at slot t; none is found only where there is none
 abbrev pub IsReason : Study → ℕ → Why → ℕ → Type 0
-IsReason s r Unknown t = Unit {0}
+IsReason s r Unknown t = Agree s r t
 IsReason s r Never t = (t ≡ 0) × (kind_at (entry_frame s.form).kinds r ≡ Unset)
 IsReason s r (Lost p) t = Calls s r p × Leaves s r p t Unset
 IsReason s r (Differs p q at) t = (at ≡ t) × Disagree s r p q t
@@ -63,6 +76,17 @@ IsReason s r (Differs p q at) t = (at ≡ t) × Disagree s r p q t
 abbrev pub IsWhy : Study → ℕ → Why → ℕ → Type 0
 IsWhy s r why here = (t : ℕ) × (way : List ℕ) × IsReason s r why t × StaysUnset s r t way here
 
--- a reason for each register
+-- a slot is reached, and the register isn't set there
+pub record IsUnsetAt (s : Study) (r here : ℕ) : Type 0 where
+  pub frame : Frame
+  pub there : frame_at s.table.items here ≡ Some frame
+  pub unset : kind_at frame.kinds r ≡ Unset
+
+-- a reason where the register isn't set at a slot, and none where it is, or no way leads there
+pub record Explains (s : Study) (r : ℕ) (why : Why) (here : ℕ) : Type 0 where
+  pub unset : IsUnsetAt s r here → IsWhy s r why here
+  pub set : ¬ IsUnsetAt s r here → why ≡ Unknown
+
+-- the same for each register
 abbrev pub AreWhys : Study → List Why → ℕ → Type 0
-AreWhys s whys here = (r : ℕ) → r < 11 → IsWhy s r (slice_index_or whys r Unknown) here
+AreWhys s whys here = (r : ℕ) → r < 11 → Explains s r (slice_index_or whys r Unknown) here

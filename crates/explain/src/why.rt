@@ -1,9 +1,9 @@
 //! Why a register isn't set at a slot.
 
-ghost use Rattle.std.specs.Prelude.{◌≡◌, ◌<◌, ◌+◌, ◌+ℤ◌, IfSome, pos};
-ghost use Rattle.std.specs.Bool.{OnTrue};
-ghost use Rattle.explain.specs.Inside.Arrives.{Arrives};
-ghost use Rattle.explain.specs.Why.{AreWhys, Calls, Clash, IsWhy, Leaves};
+ghost use Rattle.std.specs.Prelude.{◌≡◌, ◌↔◌, ◌<◌, ◌+◌, ◌+ℤ◌, IfSome, IsTrue, Some, pos};
+ghost use Rattle.regtypes.specs.declared.frame.Kind.{Kind};
+ghost use Rattle.explain.specs.Inside.Arrives.{Arrives, LeadsTo};
+ghost use Rattle.explain.specs.Why.{AreWhys, Calls, Clash, IsWhy, Leaves, Passes};
 
 use crate::study::Study;
 use decode::{Insn, Reg};
@@ -31,33 +31,45 @@ enum Arrival {
 
 /// Whether a jump by this distance leads from a slot to another.
 fn jumps(from: usize, distance: i32, to: usize) -> bool
-    ensures { OnTrue result (pos (from + 1) +ℤ distance ≡ pos to) }
+    ensures { IsTrue result ↔ (pos (from + 1) +ℤ distance ≡ pos to) }
 {
     from as i128 + 1 + i128::from(distance) == to as i128
 }
 
-/// What an instruction leaves in a register on its way to a later slot, if it leads there.
+/// Whether an instruction leads from its slot to a later one. Behind a conditional jump there are two ways.
+fn leads(flow: Flow, from: usize, to: usize) -> bool
+    requires { from < to }
+    ensures { IsTrue result ↔ LeadsTo flow from to }
+{
+    match flow {
+        Flow::Ends => false,
+        Flow::Leaps(distance) => jumps(from, distance, to),
+        Flow::Forks(distance) => jumps(from, distance, to) || to - from == 1,
+        Flow::Falls(size) => to - from == size,
+    }
+}
+
+/// What an instruction leaves in a register on its way to a later slot, if it leads there. That is the same on both ways
+/// of a conditional jump.
 fn kind_left(study: &Study, reg: Reg, from: usize, to: usize) -> Option<Kind>
     requires { from < to }
-    ensures { IfSome result (Leaves study.now reg.number from to) }
+    ensures left { IfSome result (Leaves study.now reg.number from to) }
+    ensures each { (k : Kind) → Passes study.now reg.number from to k → result ≡ Some k }
 {
     let insn = study.insn_at(from)?;
     let frame = study.frame_at(from)?;
     let Ok(left) = transfer(study.form, &insn, &frame, study.state_len) else {
         return None;
     };
-    match flow_from(&insn) {
-        Flow::Leaps(distance) if jumps(from, distance, to) => Some(left.taken.kind(reg)),
-        Flow::Forks(distance) if jumps(from, distance, to) => Some(left.taken.kind(reg)),
-        Flow::Forks(_) if to - from == 1 => Some(left.next.kind(reg)),
-        Flow::Falls(size) if to - from == size => Some(left.next.kind(reg)),
-        _ => None,
+    if !leads(flow_from(&insn), from, to) {
+        return None;
     }
+    Some(left.next.kind(reg))
 }
 
 /// Whether a helper is called at a slot where the register holds something.
 fn calls(study: &Study, reg: Reg, slot: usize) -> bool
-    ensures { OnTrue result (Calls study.now reg.number slot) }
+    ensures { IsTrue result ↔ Calls study.now reg.number slot }
 {
     let (Some(insn), Some(frame)) = (study.insn_at(slot), study.frame_at(slot)) else {
         return false;
@@ -70,7 +82,7 @@ fn calls(study: &Study, reg: Reg, slot: usize) -> bool
 
 /// Whether two kinds, of which both say something, say nothing together.
 fn clash(a: Kind, b: Kind) -> bool
-    ensures { OnTrue result (Clash a b) }
+    ensures { IsTrue result ↔ Clash a b }
 {
     let both = matches!(a, Kind::Num | Kind::Len) && matches!(b, Kind::Num | Kind::Len);
     a != b && !both
@@ -78,6 +90,7 @@ fn clash(a: Kind, b: Kind) -> bool
 
 /// How a register that is unset comes to a slot.
 fn arrival_at(study: &Study, reg: Reg, at: usize) -> Arrival
+    requires { 0 < at }
     ensures { Arrives study.now reg.number at result }
 {
     let mut set: Option<(usize, Kind)> = None;

@@ -8,6 +8,7 @@ use Rattle.std.specs.String.{string_cmp}
 use Rattle.std.proofs.lemmas.Map.Text.{btree_map_updates_text}
 use Rattle.program_tests.specs.Folder.{bytes_of}
 
+-- the file that was put has these bytes, and each other what it had
 pub bytes_after : (m n : BTreeMap (String Global) (Vec ℕ Global)) (path bytes name : List ℕ) (key : String Global) (v : Vec ℕ Global)
     → string_bytes key ≡ path → v.items ≡ bytes → Updates string_cmp m n key (Some v)
     → bytes_of n name ≡ cond (bytes_eq path name) (Some bytes) (bytes_of m name)

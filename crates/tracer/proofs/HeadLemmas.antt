@@ -30,6 +30,7 @@ heads bytes = go (nat_le (length bytes) 8201) refl
 cut : (bytes : List ℕ) → 8201 < length bytes → length (take 8201 bytes) ≡ 8201
 cut bytes long = length-take-le 8201 bytes (omega (arith, long))
 
+-- a file whose first bytes are an image is that image
 pub head_file : (form : ImageForm) (is : List Insn) (len : ℕ) (bytes : List ℕ) → IsFile form is len (take 8201 bytes) → IsFile form is len bytes
 head_file form is len bytes f = go (heads bytes)
   where
@@ -37,6 +38,7 @@ head_file form is len bytes f = go (heads bytes)
     go (inl all) = subst (IsFile form is len) all f
     go (inr long) = absurd (omega (arith, file_length form is len (take 8201 bytes) f, cut bytes long))
 
+-- a listing of its first bytes is one of the file
 pub head_explained : (bytes text : List ℕ) → IsExplained (take 8201 bytes) text → IsExplained bytes text
 head_explained bytes text e = record {
   study = e.study;
@@ -106,6 +108,7 @@ head_unread_of bytes (Decode rule slot) long why =
     absurd (why.0 FileLength (λ e. why.0 SlotCount (inr (omega (arith, e, cut bytes long)))))
 head_unread_of bytes (Verify rule slot) long why = absurd why
 
+-- what makes its first bytes no image file makes the file none
 pub head_unread : (bytes : List ℕ) (e : ImageError) → IsUnread (take 8201 bytes) e → IsUnread bytes e
 head_unread bytes e why = go (heads bytes)
   where
@@ -113,6 +116,7 @@ head_unread bytes e why = go (heads bytes)
     go (inl all) = subst (λ b. IsUnread b e) all why
     go (inr long) = head_unread_of bytes e long why
 
+-- what makes its first bytes no file of typable code makes the file none
 pub head_refusal : (bytes : List ℕ) (e : ImageError) → IsRefusal (take 8201 bytes) e → IsRefusal bytes e
 head_refusal bytes Memory why = tt
 head_refusal bytes (Header fault) why = head_unread bytes (Header fault) why

@@ -30,6 +30,7 @@ fewer n bytes whole is = ap (take n) is ∙ less n whole
     less (suc m) [] = refl
     less (suc m) (x ∷ xs) = ap (λ ys. x ∷ ys) (less m xs)
 
+-- a file of whose beginning more than n bytes were read has more than n
 pub longer : (n : ℕ) (bytes whole : List ℕ) → bytes ≡ take (suc n) whole → n < length bytes → n < length whole
 longer n bytes whole is long = go (nat_le (length whole) n) refl
   where

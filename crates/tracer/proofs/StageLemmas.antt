@@ -50,6 +50,7 @@ map_push : {A B : Type 0} (f : A → B) (xs : List A) (y : A) → map f (xs ++ y
 map_push f [] y = refl
 map_push f (x ∷ xs) y = ap (λ l. f x ∷ l) (map_push f xs y)
 
+-- one element more, and one more of what a function makes of each
 pub pushed : {A B : Type 0} (f : A → B) (xs ys : List A) (y : A) (b : B) → ys ≡ xs ++ y ∷ [] → f y ≡ b → map f ys ≡ map f xs ++ b ∷ []
 pushed f xs ys y b more is = ap (map f) more ∙ map_push f xs y ∙ ap (λ z. map f xs ++ z ∷ []) is
 
@@ -70,6 +71,7 @@ loaded_more content es i is js e image at all last more =
     subst (λ (xs : List Entry). AreLoaded content xs js) (sym (taken es i e at) ∙ ap (λ n. take n es) (sym next))
     (subst (AreLoaded content (take i es ++ e ∷ [])) (sym more) (loaded_append content (take i es) is e image all last))
 
+-- as many images are loaded as there are processes
 pub as_many : (content : Content) (es : List Entry) (is : List Typed) → AreLoaded content es is → length es ≡ length is
 as_many content [] [] all = refl
 as_many content [] (i ∷ is) all = absurd all

@@ -1,19 +1,15 @@
 //! Traces and reports.
 
-ghost use Rattle.std.specs.Prelude.{◌≡◌};
-
 use super::{ADDER, ECHO, image};
 use helpers::Payload;
 use runner::push_results;
 use scenario::{Allowed, Scenario, parse};
-use sessions::Session;
+use sessions::Service;
 use std::alloc::Global;
-use std::marker::Brand;
 use std::sync::Arc;
-use std::sync::ledger::{Blank, Ledger};
 use std::test::Fail;
 use verifier::Image;
-use world::Feed;
+use world::Call;
 
 /// The images of an echo and two adders.
 fn images(alloc: Global) -> Result<Vec<Arc<Image>>, Fail> {
@@ -26,32 +22,20 @@ fn images(alloc: Global) -> Result<Vec<Arc<Image>>, Fail> {
 
 /// What these processes came to, after one message that the first one gave out and a crash of the
 /// last one.
-fn results_in<L: Ledger>(
-    alloc: Global,
-    blank: Blank,
-    scenario: &Scenario,
-    images: Vec<Arc<Image>>,
-) -> Result<String, Fail>
-    requires name { blank.name ≡ L.name }
-    requires parts { (blank.parts ≡ L.parts) × (blank.parts ≡ 17) }
-{
-    let mut session: Session<L> = Session::open(alloc, blank, images)?;
-    let Some(mut seat) = session.sit(0) else {
-        return Err("nobody has no seat")?;
-    };
-    let feed = Feed {
-        number: 1,
-        dst: 1,
+fn results(alloc: Global, scenario: &Scenario, images: Vec<Arc<Image>>) -> Result<String, Fail> {
+    let mut service = Service::open(alloc, images)?;
+    service.call(&Call::Input {
+        to: 1,
+        feed: 1,
         payload: Payload::from_slice(&[0xa5]),
-    };
-    session.input(&mut seat, &feed)?;
-    session.drive(&mut seat, 100)?;
-    session.crash(&mut seat, 3)?;
-    if scenario.processes.len() != usize::from(session.count()) {
+    })?;
+    service.drive(100)?;
+    service.call(&Call::Crash { process: 3 })?;
+    if scenario.processes.len() != usize::from(service.count()) {
         return Err("as many images as processes")?;
     }
     let mut out = String::from_str(alloc, "line 9 refused 1\n")?;
-    push_results(alloc, &mut out, &scenario.processes, &session)?;
+    push_results(alloc, &mut out, &scenario.processes, &service)?;
     Ok(out)
 }
 
@@ -63,7 +47,7 @@ fn an_output_and_a_crash(rt: HostRuntime) -> Result<(), Fail> {
         "process echo x\nprocess a2 y\nprocess b z\n",
         Allowed::All,
     )?;
-    let out = results_in::<Brand>(alloc, Blank::new(17), &scenario, images(alloc)?)?;
+    let out = results(alloc, &scenario, images(alloc)?)?;
     let want = "line 9 refused 1
 000001 w0 input 1 1 -> logged 1
 000002 w0 transmit 0 1 1 -> packet 0

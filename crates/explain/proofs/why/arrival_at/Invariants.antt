@@ -1,9 +1,12 @@
-use Rattle.explain.specs.Inside.Arrives.{IsSet}
+use Rattle.std.proofs.Common.{◌≢◌}
+use Rattle.explain.specs.declared.why.Why.TheVariants.{Unknown}
+use Rattle.explain.specs.Inside.Arrives.{GoTogether, IsSet}
 use Rattle.explain.specs.Why.{IsReason}
 use Rattle.explain.proofs.why.arrival_at.Given as goal
 
 abbrev pub invariant-loop-from : goal.invariant-loop-from
 invariant-loop-from l = record {
   set : IsSet l.study l.reg.number l.at l.set;
-  reason : IsReason l.study l.reg.number l.reason l.at;
+  reason : l.reason ≢ Unknown → IsReason l.study l.reg.number l.reason l.at;
+  together : GoTogether l.study l.reg.number l.at l.from l.set l.reason;
 }

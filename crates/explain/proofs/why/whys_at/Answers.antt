@@ -1,55 +1,52 @@
-use Rattle.std.proofs.Common.{◌≡◌, ◌≢◌, ℕ, ◌<◌, List, [], ◌∷◌, zero, suc, length, get_or, refl, sym, ap, ◌∙◌, subst, ⊎_elim, arith}
-use Rattle.std.specs.Prelude.{slice_set}
-use Rattle.std.specs.List.{AllByRecursion}
-use Rattle.std.proofs.lemmas.Bool.{cases_eq}
-use Rattle.std.proofs.lemmas.List.{get_or-set_same, get_or-set_other, length-set}
-use Rattle.explain.specs.declared.study.Study.{Study}
+use Rattle.std.proofs.Common.{◌≡◌, ◌≢◌, ℕ, ◌<◌, ◌≤◌, ◌∙◌, length, get_or, rules, refl, sym, ap, subst, arith}
+use Rattle.std.proofs.lemmas.List.{length-set}
+use Rattle.std.specs.Prelude.{Some}
+use Rattle.regtypes.specs.declared.frame.Kind.TheVariants.{Unset}
+use Rattle.regtypes.specs.Frame.{kind_at}
+use Rattle.regtypes.specs.Typing.{frame_at}
 use Rattle.explain.specs.declared.why.Why.{Why}
 use Rattle.explain.specs.declared.why.Why.TheVariants.{Unknown}
-use Rattle.explain.specs.Why.{IsWhy}
+use Rattle.explain.specs.Why.{Explains}
+use Rattle.explain.proofs.Reasons.{eleven, none_yet, of_nowhere, of_set, of_unset, one_more, set_here, set_others}
 use Rattle.explain.proofs.why.whys_at.Goals as goal
 use Rattle.explain.proofs.why.whys_at.Goals.{then-eq, else-eq}
 
-unknown_at : (whys : List Why) (r : ℕ) → AllByRecursion (λ w. w ≡ Unknown) whys → get_or whys r Unknown ≡ Unknown
-unknown_at [] r h = refl
-unknown_at (w ∷ whys) zero h = h.0
-unknown_at (w ∷ whys) (suc r) h = unknown_at whys r h.1
-
--- no reason was found yet
-none_found : (s : Study) (whys : List Why) (here r : ℕ) → AllByRecursion (λ w. w ≡ Unknown) whys → IsWhy s r (get_or whys r Unknown) here
-none_found s whys here r h = subst (λ w. IsWhy s r w here) (sym (unknown_at whys r h)) (here, [], tt, refl)
-
--- one reason more
-one_found : (s : Study) (whys new : List Why) (why : Why) (here n : ℕ) → n < length whys → new ≡ slice_set whys n why → ((r : ℕ) → r < 11 → IsWhy s r (get_or whys r Unknown) here) → IsWhy s n why here → (r : ℕ) → r < 11 → IsWhy s r (get_or new r Unknown) here
-one_found s whys new why here n lt e old found r short =
-    let same = λ (q : r ≡ n). let k : get_or new r Unknown ≡ why = ap (λ l. get_or l r Unknown) e ∙ ap (λ m. get_or (slice_set whys n why) m Unknown) q ∙ get_or-set_same whys n why Unknown lt in
-    subst (λ w. IsWhy s r w here) (sym k) (subst (λ m. IsWhy s m why here) (sym q) found) in
-    let apart = λ (q : r ≢ n). let k : get_or new r Unknown ≡ get_or whys r Unknown = ap (λ l. get_or l r Unknown) e ∙ get_or-set_other whys n r why Unknown q in
-    subst (λ w. IsWhy s r w here) (sym k) (old r short) in
-    ⊎_elim same apart (cases_eq r n)
-
-abbrev eleven : List Why
-eleven = Unknown ∷ Unknown ∷ Unknown ∷ Unknown ∷ Unknown ∷ Unknown ∷ Unknown ∷ Unknown ∷ Unknown ∷ Unknown ∷ Unknown ∷ []
-
-all_unknown : AllByRecursion (λ w. w ≡ Unknown) eleven
-all_unknown = (refl, (refl, (refl, (refl, (refl, (refl, (refl, (refl, (refl, (refl, (refl, tt)))))))))))
-
 pub returns-in_default : goal.returns-in_default
-returns-in_default c = λ r lt. none_found c.args.study.now eleven c.args.slot r all_unknown
+returns-in_default c = λ r lt. of_nowhere c.args.study.now r c.args.slot (get_or eleven r Unknown) (sym c.frame_at.ensures ∙ c.in_default.is) (none_yet r)
 
 pub loop-number-init : goal.loop-number-init
-loop-number-init c = record { size = refl; found = λ r lt. none_found c.args.study.now eleven c.args.slot r all_unknown }
+loop-number-init c = record { size = refl; found = λ r lt. absurd (omega (arith, lt)); rest = λ r le. none_yet r }
 
 pub loop-number-preserved : goal.loop-number-preserved
 loop-number-preserved c =
-    let n : c.loop-number.number < length c.loop-number.whys = let k = c.loop-number.invariant.size in omega arith in
-    record {
-      size = elim c.if-eq.branch [
-        | then-eq w ↦ ap length w.whys-is ∙ length-set c.loop-number.whys c.loop-number.number w.why_of.result ∙ c.loop-number.invariant.size
-        | else-eq w ↦ ap length w.whys-is ∙ c.loop-number.invariant.size
-      ];
-      found = elim c.if-eq.branch [
-        | then-eq w ↦ one_found c.args.study.now c.loop-number.whys c.if-eq.whys w.why_of.result c.args.slot c.loop-number.number n w.whys-is c.loop-number.invariant.found w.why_of.ensures
-        | else-eq w ↦ subst (λ l. (r : ℕ) → r < 11 → IsWhy c.args.study.now r (get_or l r Unknown) c.args.slot) (sym w.whys-is) c.loop-number.invariant.found
-      ];
-    }
+    let s = c.args.study.now in
+    let n = c.loop-number.number in
+    let old = c.loop-number.whys in
+    let was = c.loop-number.invariant in
+    let frame = c.in-Some.frame in
+    let there : frame_at s.table.items c.args.slot ≡ Some frame = sym c.frame_at.ensures ∙ c.in-Some.is in
+    let within : n < length old = let k = was.size in omega arith in
+    let at_least : n ≤ n = omega arith in
+    elim c.if-eq.branch [
+      | then-eq w ↦
+          let why = w.why_of.result in
+          let unset : kind_at frame.kinds n ≡ Unset = search rules in
+          let others : (r : ℕ) → r ≢ n → get_or c.if-eq.whys r Unknown ≡ get_or old r Unknown = λ r apart. set_others old c.if-eq.whys why n r w.whys-is apart in
+          let now : Explains s n (get_or c.if-eq.whys n Unknown) c.args.slot = subst (λ (x : Why). Explains s n x c.args.slot) (sym (set_here old c.if-eq.whys why n w.whys-is within)) (of_unset s n c.args.slot frame why there unset w.why_of.ensures) in
+          record {
+            size = ap length w.whys-is ∙ length-set old n why ∙ was.size;
+            found = one_more s old c.if-eq.whys c.args.slot n was.found (λ r lt. others r (λ (q : r ≡ n). omega (arith, q, lt))) now;
+            rest = λ r le. others r (λ (q : r ≡ n). omega (arith, q, le)) ∙ was.rest r (omega (arith, le));
+          }
+      | else-eq w ↦
+          let set : kind_at frame.kinds n ≢ Unset = search rules in
+          let now : Explains s n (get_or c.if-eq.whys n Unknown) c.args.slot = of_set s n c.args.slot frame (get_or c.if-eq.whys n Unknown) there set (ap (λ l. get_or l n Unknown) w.whys-is ∙ was.rest n at_least) in
+          record {
+            size = ap length w.whys-is ∙ was.size;
+            found = one_more s old c.if-eq.whys c.args.slot n was.found (λ r lt. ap (λ l. get_or l r Unknown) w.whys-is) now;
+            rest = λ r le. ap (λ l. get_or l r Unknown) w.whys-is ∙ was.rest r (omega (arith, le));
+          }
+    ]
+
+pub returns : goal.returns
+returns c = λ r lt. c.loop-number.invariant.found r (omega (arith, lt))
