@@ -1,4 +1,4 @@
-/* Calls each export of the static library embed, with a handle open, again where memory was refused, and
+/* Calls each export of the C library that calls handlers, with a handle open, again where memory was refused, and
    prints what it answers.
 
        exports IMAGE

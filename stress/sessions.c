@@ -1,4 +1,4 @@
-/* Makes a list of calls by each export of the static library embed_session, again where memory was
+/* Makes a list of calls by each export of the C library that is for sessions, again where memory was
    refused, and prints what they answer.
 
        sessions RELAY ECHO ADDER
@@ -17,7 +17,7 @@
 #include <string.h>
 #include <unistd.h>
 
-#include "sblog_session.h"
+#include "sblog.h"
 
 enum { PROCESSES = 3, MANY = 1 << 16, BUDGET = 1000, UNWRITTEN = 0x5a, FEED_TAKEN = 14 };
 

@@ -33,6 +33,7 @@ pub record Reported (form : ImageForm) (slots : List (Option Insn)) (who : Who) 
   pub end_is : end ≡ length (flat_map report_of calls)
   pub bound : end ≤ 1064 * i
 
+-- before the first message nothing is reported
 pub none_reported : (form : ImageForm) (slots : List (Option Insn)) (who : Who) (state messages out : List ℕ) → Reported form slots who state messages out 0 state out 0
 none_reported form slots who state messages out =
     record { calls = []; handles = (refl, refl); count = refl; out_is = overwritten_none out 0; end_is = refl; bound = omega arith }
@@ -47,6 +48,7 @@ reports_more : (hs : List Handled) (h : Handled) → flat_map report_of hs ++ re
 reports_more hs h =
     ap (λ l. flat_map report_of hs ++ l) (sym (append-nil (report_of h))) ∙ sym (flat_map-append report_of hs (h ∷ []))
 
+-- one message more is handled, and reported behind the others
 pub reported_more : (form : ImageForm) (slots : List (Option Insn)) (who : Who) (state messages out : List ℕ) (i : ℕ) (middle written : List ℕ) (end : ℕ) (message after written' : List ℕ) (end' : ℕ) → Reported form slots who state messages out i middle written end → message ≡ slice_range messages (64 * i) (64 * i + 64) → i < length messages / 64 → 1064 * (length messages / 64) ≤ length out → IsReported form slots who middle message after written end written' end' → Reported form slots who state messages out (i + 1) after written' end'
 reported_more form slots who state messages out i middle written end message after written' end' r e lt room s =
     let inside : 64 * i + 64 ≤ length messages = omega arith in
@@ -66,6 +68,7 @@ reported_more form slots who state messages out i middle written end message aft
       bound = omega (arith, s.end_is, s.size, r.bound);
     }
 
+-- when each message is handled, the reports are those of the calls
 pub all_reported : (form : ImageForm) (slots : List (Option Insn)) (who : Who) (state messages out : List ℕ) (i : ℕ) (after written : List ℕ) (end : ℕ) → Reported form slots who state messages out i after written end → length messages % 64 ≡ 0 → length messages / 64 ≤ i → AreReported form slots who state messages after out written
 all_reported form slots who state messages out i after written end r whole last =
     record {

@@ -16,13 +16,16 @@ passes : (file state : List ℕ) (who : Who) (whole room : Type 0) (t : Test) (t
 unfolding FailsFirst
 passes file state who whole room t ts why p f = inr (p, f)
 
+-- what is no seat is refused before all else
 pub no_seat : (file state : List ℕ) (who : Who) (whole room : Type 0) → (¬ IsSeat who) → FailsFirst file state who whole room order NotSeat
 no_seat file state who whole room n = stops file state who whole room OfSeat _ NotSeat (refl, n)
 
+-- then bytes that are no whole messages
 pub no_messages : (file state : List ℕ) (who : Who) (whole room : Type 0) → IsSeat who → (¬ whole) → FailsFirst file state who whole room order Message
 no_messages file state who whole room s n =
     passes file state who whole room OfSeat _ Message s (stops file state who whole room OfMessages _ Message (refl, n))
 
+-- then too little room for the reports
 pub no_room : (file state : List ℕ) (who : Who) (whole room : Type 0) → IsSeat who → whole → (¬ room) → FailsFirst file state who whole room order Room
 no_room file state who whole room s w n =
     passes file state who whole room OfSeat _ Room s (passes file state who whole room OfMessages _ Room w (stops file state who whole room OfRoom _ Room (refl, n)))
@@ -39,6 +42,7 @@ from_file file state who whole room why (inr (t, inl f)) =
 from_file file state who whole room why (inr (t, inr p)) =
     passes file state who whole room OfFile _ why t (passes file state who whole room OfForm _ why p.0 (stops file state who whole room OfState _ why p.1))
 
+-- then a file, a form or a state with which nothing is opened
 pub no_image : (file state : List ℕ) (who : Who) (whole room : Type 0) (why : Refusal) → IsSeat who → whole → room → IsUnopened file state why → FailsFirst file state who whole room order why
 no_image file state who whole room why s w r f =
     passes file state who whole room OfSeat _ why s (passes file state who whole room OfMessages _ why w (passes file state who whole room OfRoom _ why r (from_file file state who whole room why f)))

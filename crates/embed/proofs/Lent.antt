@@ -24,6 +24,7 @@ use denote.Slice.{MutSlice, finally, res-finally, coded_holeys, heres}
 abbrev pub given_slice : (κ : Lft) (R : RattleType) → MutBor (List R.Denot) → List R.Denot → Fml
 given_slice κ R x ys = fsep (finally R x.ghost_name ys) (fbor κ (Body (Arr (Holey (mem R)) (length x.now)) x.ref_ptr.0 x.ref_ptr.1 x.ghost_name))
 
+-- a slice that a function left alone ends with the value that it has now
 pub slice_left : {M : Type 1} {𝓤 : Ura M} (𝓛 : Logic 𝓤) (ℓ : Lifetime) (κ : Lft) (R : RattleType) (x : MutBor (List R.Denot)) (vs : List Val)
     → ent 𝓤 (sem 𝓛 ((MutSlice ℓ κ R).own_val x vs)) (sem 𝓛 (given_slice κ R x x.now))
 slice_left 𝓛 ℓ κ R x vs =

@@ -14,6 +14,7 @@ use Rattle.embed.proofs.Overwritten.{put_more}
 abbrev pub Written : List ℕ → List ℕ → ℕ → List ℕ → ℕ → ℕ → Type 0
 Written xs us a bytes size n = (us ≡ overwritten xs a bytes) × (length bytes ≡ size) × (n ≡ a + size)
 
+-- one piece more is written behind the others
 pub written_more : (xs us vs : List ℕ) (a k m n r : ℕ) (ys zs : List ℕ) → Written xs us a ys k n → a + k ≤ length xs → length zs ≡ m → vs ≡ overwritten us n zs → r ≡ n + m → Written xs vs a (ys ++ zs) (k + m) r
 written_more xs us vs a k m n r ys zs w h z v e =
     (put_more xs us vs a n ys zs w.0 (w.2 ∙ ap (λ j. a + j) (sym w.1)) (omega (arith, w.1)) v, length-append ys zs ∙ ap₂ (λ i j. i + j) w.1 z, omega (arith, w.2, e))
@@ -23,6 +24,7 @@ flat_map_next : {X : Type 0} (f : X → List ℕ) (xs : List X) (i : ℕ) (d : X
 flat_map_next f xs i d h =
     ap (flat_map f) (take_more xs i d h) ∙ flat_map-append f (take i xs) (get_or xs i d ∷ []) ∙ ap (λ l. flat_map f (take i xs) ++ l) (append-nil (f (get_or xs i d)))
 
+-- one output more
 pub output_more : (xs us vs ys : List ℕ) (a i n r : ℕ) (os : List (List ℕ)) (d : List ℕ) → Written xs us a (flat_map view64 (take i os)) (64 * i) n → a + 64 * length os ≤ length xs → i < length os → ys ≡ view64 (get_or os i d) → vs ≡ overwritten us n ys → r ≡ n + length ys → Written xs vs a (flat_map view64 (take (i + 1) os)) (64 * (i + 1)) r
 output_more xs us vs ys a i n r os d w h lt z v e =
     let size : length ys ≡ 64 = ap length z ∙ length-view64 (get_or os i d) in
@@ -30,6 +32,7 @@ output_more xs us vs ys a i n r os d w h lt z v e =
     let step = flat_map_next view64 os i d lt ∙ ap (λ l. flat_map view64 (take i os) ++ l) (sym z) in
     (m.0 ∙ ap (overwritten xs a) (sym step), ap length step ∙ m.1 ∙ omega arith, omega (arith, m.2))
 
+-- one sent message more: its destination, and its payload
 pub sent_more : (xs us vs ws ys : List ℕ) (a i n m r : ℕ) (ss : List Sent) (s : Sent) → Written xs us a (flat_map sent_bytes (take i ss)) (65 * i) n → a + 65 * length ss ≤ length xs → i < length ss → s ≡ get_or ss i s → ys ≡ view64 s.payload → vs ≡ overwritten us n (s.dst ∷ []) → m ≡ n + 1 → ws ≡ overwritten vs m ys → r ≡ m + length ys → Written xs ws a (flat_map sent_bytes (take (i + 1) ss)) (65 * (i + 1)) r
 sent_more xs us vs ws ys a i n m r ss s w h lt is z v e v' e' =
     let size : length ys ≡ 64 = ap length z ∙ length-view64 s.payload in
@@ -49,6 +52,7 @@ unfolding report_bytes
 pieces_are r0 k steps s o e ek es eo =
     ap (λ j. pieces r0 j s o) ek ∙ ap (λ l. pieces r0 steps l o) es ∙ ap (λ l. pieces r0 steps e.sends l) eo
 
+-- a report's six pieces, written one behind the other, are the report
 pub report_written : (xs x1 x2 x3 x4 x5 x6 : List ℕ) (a n1 n2 n3 n4 n5 n6 r0 k steps : ℕ) (s : List Sent) (o : List (List ℕ)) (e : Emitted) → k ≡ steps → s ≡ e.sends → o ≡ e.outputs → a + 1064 ≤ length xs → length s ≤ 8 → length o ≤ 8 → length (flat_map sent_bytes s) ≡ 65 * length s → length (flat_map view64 o) ≡ 64 * length o → x1 ≡ overwritten xs a (number_bytes r0) → n1 ≡ a + 8 → x2 ≡ overwritten x1 n1 (number_bytes k) → n2 ≡ n1 + 8 → x3 ≡ overwritten x2 n2 (number_bytes (length s)) → n3 ≡ n2 + 8 → x4 ≡ overwritten x3 n3 (number_bytes (length o)) → n4 ≡ n3 + 8 → x5 ≡ overwritten x4 n4 (flat_map sent_bytes s) → n5 ≡ n4 + length (flat_map sent_bytes s) → x6 ≡ overwritten x5 n5 (flat_map view64 o) → n6 ≡ n5 + length (flat_map view64 o) → (x6 ≡ overwritten xs a (report_bytes r0 steps e)) × (n6 ≡ a + length (report_bytes r0 steps e)) × (length (report_bytes r0 steps e) ≤ 1064)
 report_written xs x1 x2 x3 x4 x5 x6 a n1 n2 n3 n4 n5 n6 r0 k steps s o e ek es eo room ls lo zs zo w1 e1 w2 e2 w3 e3 w4 e4 w5 e5 w6 e6 =
     let h1 : List ℕ = number_bytes r0 in

@@ -6,8 +6,8 @@ use Rattle.std_alloc.proofs.BoxSteps.Form.{Bx}
 use Rattle.std_heap.specs.contracts.Global as Heap
 use Rattle.std_heap.specs.contracts.GlobalAllocator.TheImpl.{ghosts, dict}
 use Rattle.std_heap.proofs.Global.TheLaws as heap
-use Rattle.service.specs.contracts.service.Service as Service
-use Rattle.service.proofs.service.Service.TheLaws as service
+use Rattle.sessions.specs.contracts.service.Service as Service
+use Rattle.sessions.proofs.service.Service.TheLaws as service
 use Rattle.embed_session.specs.contracts.parts.Parts as Parts
 use Rattle.embed_session.specs.contracts.loose.Loose as Loose
 

@@ -11,7 +11,7 @@ use Rattle.world.specs.Logs.{state_of, length_of}
 use Rattle.machine.specs.Saving.{IsSavedOf}
 use Rattle.scenario.specs.Trace.{trace_text}
 use Rattle.sessions.specs.Journal.{TheSession, is_exact, world_at}
-use Rattle.service.specs.Service.{KeepsPromises}
+use Rattle.sessions.specs.Service.{KeepsPromises}
 use Rattle.embed_session.specs.declared.fault.Fault.{Fault}
 use Rattle.embed_session.specs.declared.fault.Fault.TheVariants.{Session, Handle, Room, Absent}
 

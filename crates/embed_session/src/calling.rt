@@ -1,7 +1,7 @@
 //! Calls of the session of a handle.
 
 ghost use Rattle.std.specs.Prelude.{◌≡◌, ◌≤◌, MatchResult, length};
-ghost use Rattle.service.specs.Service.{IsJobless};
+ghost use Rattle.machine.specs.Stepping.{TakesNoResult};
 ghost use Rattle.embed_session.specs.Session.{number_of, IsCalled, IsClosed, IsDriven, IsHandedBack, IsHandedIn, IsUncalled, IsUndriven, WasClosed};
 
 use crate::fault::Fault;
@@ -25,25 +25,25 @@ fn number_of(answer: &Answer) -> u32
     }
 }
 
-/// Makes a call that neither starts nor ends a job, and writes the number that its answer tells.
+/// Makes a call, and writes the number that its answer tells.
 pub(crate) fn call(
     alloc: Global,
     handle: &mut Handle,
     call: Call,
     number: &mut u32,
 ) -> Result<(), Fault>
-    requires { IsJobless call }
+    requires { TakesNoResult call }
     ensures { MatchResult result (λ _. IsCalled call handle.old.session.value handle.new.session.value number.new) (λ why. IsUncalled call handle.old.session.value handle.new.session.value why × (number.new ≡ number.old)) }
 {
     let Some(mut service) = handle.take(alloc) else {
         return Err(Fault::Handle);
     };
-    let answered = service.call(call);
+    let answered = service.call(&call);
     service.promises();
     handle.put(service);
     match answered {
-        Ok(answer) => {
-            *number = number_of(&answer);
+        Ok(reply) => {
+            *number = number_of(&reply.answer);
             Ok(())
         }
         Err(refusal) => Err(Fault::Session(refusal)),

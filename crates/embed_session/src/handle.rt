@@ -5,7 +5,7 @@ ghost use Rattle.std.specs.Ptr.{null_ptr};
 
 use crate::loose::Loose;
 use crate::parts::Parts;
-use service::Service;
+use sessions::Service;
 use std::alloc::Global;
 use std::mem::replace;
 

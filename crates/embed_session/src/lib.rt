@@ -1,4 +1,4 @@
-//! Sessions for programs in C and Rust: a static library over [`service`].
+//! Sessions for programs in C and Rust: a static library over [`sessions`].
 //!
 //! [`exports`] has the functions that cross. A program holds a session by a handle, two words of its
 //! own that it makes of zeros: closed. `sblog_session_open` opens it, the other functions make calls

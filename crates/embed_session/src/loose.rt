@@ -6,7 +6,7 @@ ghost use Rattle.sessions.specs.Journal.{TheSession};
 ghost use Rattle.embed_session.specs.Inside.Held.{held};
 
 use crate::parts::Parts;
-use service::Service;
+use sessions::Service;
 use std::alloc::Global;
 use std::marker::Model;
 use std::ptr::null_mut;

@@ -7,7 +7,7 @@ ghost use Rattle.embed_session.specs.Opening.{IsImageIn, IsMisfit, IsOpened, IsR
 
 use crate::fault::Fault;
 use crate::handle::Handle;
-use service::Service;
+use sessions::Service;
 use std::alloc::Global;
 use std::sync::Arc;
 use verifier::{Image, ImageError, load};

@@ -62,6 +62,7 @@ module _ (m : TheMachine) (w : World) (s : Stands m w) (room key calls : ℕ) (s
 -- The wire
 
 module _ (m : TheMachine) (w : World) (s : Stands m w) (key calls : ℕ) (slots : List (Option Packet)) (was : Option Packet) where
+  -- where a packet goes, the machine shows the world without it
   pub dropped : Puts m.slots slots key was None → Shows (record m { slots = slots; calls = calls }) (lose w key)
   dropped puts = shows-wire m w s calls slots (put w.wire key None) (put-wire w m.slots slots key was None s.shows.wire puts)
 
@@ -69,6 +70,7 @@ module _ (m : TheMachine) (w : World) (s : Stands m w) (key calls : ℕ) (slots 
   replaced : (is : Packet) → Puts m.slots slots key was (Some is) → (j : ℕ) → put (put w.wire key None) key (Some is) j ≡ slice_index_or slots j None
   replaced is puts j = put-is (put w.wire key None) (λ k. slice_index_or slots k None) key (Some is) puts.now (λ k apart. puts.others k apart ∙ sym (let other : (k == key) ≡ false = grind (arith, nat_tests) in rw other (s.shows.wire k))) j
 
+  -- and where another takes its key, the world with that one
   pub changed : (is : Packet) → Puts m.slots slots key was (Some is) → Shows (record m { slots = slots; calls = calls }) (record w { wire = put (put w.wire key None) key (Some is) })
   changed is puts = shows-wire m w s calls slots (put (put w.wire key None) key (Some is)) (replaced is puts)
 
@@ -110,6 +112,7 @@ module _ (m : TheMachine) (w : World) (s : Stands m w) (room key to calls : ℕ)
   up = up_at m w s to within live
 
   module _ (puts : Puts m.slots slots key (Some (Delivery to x)) None) where
+    -- a message that comes too early changes nothing, and is gone
     pub early : judge w to x ≡ Ahead → Steps m (record m { slots = slots; calls = calls }) room (Arrive key) Early w
     early ahead = arrives m w s room key accepted (Delivery to x) found up _ Early (rw ahead (anywhere to)) (dropped m w s key calls slots (Some (Delivery to x)) puts) refl
       where
@@ -212,6 +215,7 @@ module _ (m : TheMachine) (w : World) (s : Stands m w) (room key to calls : ℕ)
 -- An output that arrives at the outside
 
 module _ (m : TheMachine) (w : World) (s : Stands m w) (room key calls : ℕ) (x : Message) (slots : List (Option Packet)) (accepted : refusal_of w room (Arrive key) ≡ None) (found : slice_index_or m.slots key None ≡ Some (Delivery 0 x)) (puts : Puts m.slots slots key (Some (Delivery 0 x)) None) where
+  -- the next output of its sender is shown
   pub shown : judge w 0 x ≡ Next → Steps m (record m { outside = record m.outside { shown = m.outside.shown ++ x ∷ [] }; slots = slots; calls = calls }) room (Arrive key) (Shown x.ssn) w
   shown verdict =
       arrives m w s room key accepted (Delivery 0 x) found (ap is_up s.shows.outside) (record m { outside = record m.outside { shown = m.outside.shown ++ x ∷ [] }; slots = slots; calls = calls }) (Shown x.ssn) (rw verdict refl)
@@ -230,6 +234,7 @@ module _ (m : TheMachine) (w : World) (s : Stands m w) (room key calls : ℕ) (x
       })
       refl
 
+  -- one that was shown before changes nothing, and is gone
   pub shown_before : judge w 0 x ≡ Known → Steps m (record m { slots = slots; calls = calls }) room (Arrive key) ShownBefore w
   shown_before verdict = arrives m w s room key accepted (Delivery 0 x) found (ap is_up s.shows.outside) _ ShownBefore (rw verdict refl) (dropped m w s key calls slots (Some (Delivery 0 x)) puts) refl
 
@@ -286,9 +291,11 @@ module _ (m : TheMachine) (w : World) (s : Stands m w) (room key r t i k incarna
     stale : (b : Bool) → ((incarnation == w.incarnation r) && is_entry w t r i) ≡ b → b ≡ false → Steps m (record m { slots = slots; calls = calls }) room (Arrive key) Stale w
     stale b is e = arrives m w s room key accepted (Number r t i k incarnation) found sender_up _ Stale (rw (is ∙ e) refl) (dropped m w s key calls slots (Some (Number r t i k incarnation)) puts) refl
 
+    -- a number of another incarnation is stale
     pub number-past : incarnation ≢ (process_at m r).incarnation → Steps m (record m { slots = slots; calls = calls }) room (Arrive key) Stale w
     number-past other = let e : (incarnation == (process_at m r).incarnation) ≡ false = grind (arith, nat_tests) in stale _ (rw (present, e) refl) refl
 
+    -- and so is one of a message that isn't logged
     pub number-unlogged : is_logged i (queue_of r (log_at m t)) ≡ false → Steps m (record m { slots = slots; calls = calls }) room (Arrive key) Stale w
     number-unlogged gone = stale _ refl (rw (entry, gone) (none (incarnation == w.incarnation r)))
       where
@@ -398,6 +405,7 @@ module _ (m : TheMachine) (w : World) (s : Stands m w) (room key r t i k incarna
         log_is p z true e is = let f : (p == t) ≡ false = grind (arith, nat_tests) in rw f refl
         log_is p z false e is = is (grind (arith, nat_tests))
 
+    -- any other is noted in the log, and its acknowledgement takes the key
     pub noted : (v : TheMachine) → Records m v t r i k → Steps m (record v { slots = slots; calls = calls }) room (Arrive key) (Numbered key) w
     noted v records = by_sender (t == 0) refl records
       where
@@ -438,9 +446,11 @@ module _ (m : TheMachine) (w : World) (s : Stands m w) (room key t r k incarnati
   past : (b : Bool) → ((incarnation == w.incarnation r) && nat_le k (length_of w r)) ≡ b → b ≡ false → Steps m (record m { slots = slots; calls = calls }) room (Arrive key) Stale w
   past b is e = arrives m w s room key accepted (Acknowledgement t r k incarnation) found running _ Stale (rw (is ∙ e) refl) (dropped m w s key calls slots (Some (Acknowledgement t r k incarnation)) puts) refl
 
+  -- an acknowledgement of another incarnation is stale
   pub acknowledgement-past : incarnation ≢ (process_at m r).incarnation → Steps m (record m { slots = slots; calls = calls }) room (Arrive key) Stale w
   acknowledgement-past other = let e : (incarnation == (process_at m r).incarnation) ≡ false = grind (arith, nat_tests) in past _ (rw (receiver.incarnation_is, e) refl) refl
 
+  -- and so is one of a number above what was received
   pub acknowledgement-ahead : received (process_at m r) < k → Steps m (record m { slots = slots; calls = calls }) room (Arrive key) Stale w
   acknowledgement-ahead above = past _ refl (let e : nat_le k (received (process_at m r)) ≡ false = grind (arith, nat_tests) in rw (in_state, e) (none (incarnation == w.incarnation r)))
     where
@@ -494,6 +504,7 @@ module _ (m : TheMachine) (w : World) (s : Stands m w) (room key t r k incarnati
         let f : nat_le k (received (process_at m r)) ≡ true = grind (arith, nat_tests) in
         rw (receiver.incarnation_is, e, in_state, f) refl
 
+    -- any other counts, and what may leave then is released
     pub acknowledged : Steps m (record m { processes = set m.processes (r - 1) y; slots = slots; calls = calls }) room (Arrive key) Acknowledged w
     acknowledged =
         let new : TheMachine = record m { processes = set m.processes (r - 1) y; slots = slots; calls = calls } in

@@ -101,6 +101,7 @@ module _ (m : TheMachine) (w : World) (s : Stands m w) (room p d i : ℕ) where
               missing zero n = let below : nat_lt (w.trims p d) 0 ≡ false = grind (arith, nat_tests) in rw (down_at m w s p within up, below) refl
               missing (suc j) n = entry_at m w s p d within to apart (down_at m w s p within up) (suc j) ∙ n (omega arith)
 
+          -- past these causes, a message is refused only where it has no place
           pub transmit-rest : is_logged i (queue_of d (log_at m p)) ≡ true → ((key : ℕ) → 4096 ≤ key → slice_index_or m.slots key None ≡ None) → refusal_of w room (Transmit p d i) ≡ option_and_then cause_of (placing m room)
           transmit-rest logged keys = rest ∙ rw (out, entry_at m w s p d within to apart (down_at m w s p within up) i ∙ logged) (place-is m w s room keys)
 
@@ -128,6 +129,7 @@ module _ (m : TheMachine) (w : World) (s : Stands m w) (room key : ℕ) where
         by_slot None some = absurd (some refl)
         by_slot (Some k) some = refl
 
+    -- a copy of a packet that is there is refused only where it has no place
     pub copy-rest : ((key : ℕ) → 4096 ≤ key → slice_index_or m.slots key None ≡ None) → refusal_of w room (Copy key) ≡ option_and_then cause_of (placing m room)
     copy-rest keys = rw something (place-is m w s room keys)
 

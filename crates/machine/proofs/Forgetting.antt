@@ -26,10 +26,12 @@ forgot p k l = with_queue p (unnumbered k (queue_of p l)) l
 
 -- Queues
 
+-- the world and a queue forget the same numbers
 pub same_up_to : (k : ℕ) (o : Option ℕ) → up_to k o ≡ kept_to k o
 same_up_to k None = refl
 same_up_to k (Some r) = refl
 
+-- a queue that forgets the numbers above k still keeps the messages, and the other numbers
 pub keeps-unnumbered : (k : ℕ) (q : TheQueue) (dropped : ℕ) (payloads : List Payload) (numbers : ℕ → Option ℕ) → Keeps q dropped payloads numbers → Keeps (unnumbered k q) dropped payloads (λ i. kept_to k (numbers i))
 keeps-unnumbered k q dropped payloads numbers h =
     record {
@@ -44,6 +46,7 @@ keeps-unnumbered k q dropped payloads numbers h =
 forgot-none : (p k : ℕ) (queues : List TheQueue) → slice_index_or queues p no_queue ≡ no_queue → unnumbered k (slice_index_or queues p no_queue) ≡ slice_index_or queues p no_queue
 forgot-none p k queues none = ap (unnumbered k) none ∙ sym none
 
+-- the queue to p has forgotten them
 pub forgot-same : (p k : ℕ) (l : TheLog) → queue_of p (forgot p k l) ≡ unnumbered k (queue_of p l)
 forgot-same p k l = by_place (nat_lt p (length l.queues)) refl
   where
@@ -54,9 +57,11 @@ forgot-same p k l = by_place (nat_lt p (length l.queues)) refl
         let none : queue_of p l ≡ no_queue = get_or-eq_default l.queues no_queue out in
         get_or-eq_default (set l.queues p (unnumbered k (queue_of p l))) no_queue (omega (arith, out, length-set l.queues p (unnumbered k (queue_of p l)))) ∙ sym (forgot-none p k l.queues none ∙ none)
 
+-- and the other queues haven't changed
 pub forgot-other : (p d k : ℕ) (l : TheLog) → d ≢ p → queue_of d (forgot p k l) ≡ queue_of d l
 forgot-other p d k l other = get_or-set_other l.queues p d (unnumbered k (queue_of p l)) no_queue other
 
+-- such a log is still that of its owner, among n processes
 pub log-forgot : (n me p k : ℕ) (l : TheLog) → IsLogOf n me l → IsLogOf n me (forgot p k l)
 log-forgot n me p k l i = record { owner = i.owner; width = length-set l.queues p (unnumbered k (queue_of p l)) ∙ i.width }
 
@@ -73,6 +78,7 @@ empty-forgot me n p k =
 -- Processes
 
 module _ (n me p k : ℕ) (x : TheProcess) where
+  -- a process that forgets numbers stands for what it stood for
   pub stands-forgot : (w : World) (a : TheLife) → StandsFor w n me x a → StandsFor w n me (unnumbered_at p k x) a
   stands-forgot w a h =
       record {
@@ -88,6 +94,7 @@ module _ (n me p k : ℕ) (x : TheProcess) where
         saves = h.saves;
       }
 
+  -- and stays sound
   pub sound-forgot : (len calls : ℕ) → IsSoundAt n me len calls x → IsSoundAt n me len calls (unnumbered_at p k x)
   sound-forgot len calls h =
       record {
@@ -108,6 +115,7 @@ module _ (n me p k : ℕ) (x : TheProcess) where
 -- A walk over all
 
 module _ {X : Type 0} (f : X → X) (xs ys : List X) (i : ℕ) (x v : X) where
+  -- when the next one is changed, all up to it are
   pub walked : ys ≡ map f (take i xs) ++ drop i xs → i < length xs → v ≡ f (slice_index_or ys i x) → set ys i v ≡ map f (take (i + 1) xs) ++ drop (i + 1) xs
   walked is h now =
       let front = map f (take i xs) in
@@ -196,5 +204,6 @@ module _ (m : TheMachine) (p k : ℕ) where
         outside = b.outside;
       }
 
+  -- of all but p, the machine shows the world in which senders have forgotten p's later numbers
   pub but-forgotten : (n : ℕ) (w : World) → ShowsBut n p m w → ShowsBut n p (forgotten p k m) (without_later w)
   but-forgotten n w b = subst (λ j. ShowsBut j p (forgotten p k m) (without_later w)) b.width (forgotten-but w (subst (λ j. ShowsBut j p m w) (sym b.width) b))

@@ -47,6 +47,7 @@ working-back stages.Down o saved h x may e = absurd (cc)
 working-back (stages.Replaying plan alone) o saved h x may e = refl
 working-back (stages.Resync peers) o saved h x may e = refl
 
+-- an element by its number, from 1, is the one at the place before
 pub nth-inside : {X : Type 0} (xs : List X) (p : ℕ) (d : X) → 0 < p → p ≤ length xs → nth xs p ≡ Some (slice_index_or xs (p - 1) d)
 nth-inside xs zero d h k = absurd (omega arith)
 nth-inside xs (suc p) d h k =
@@ -98,6 +99,7 @@ module _ (m : TheMachine) (t : TheTask) (w : World) (s : Stands m w) where
         form = form;
       }
 
+  -- a task that matches its process is that of an open job in the world
   pub opens : length m.images ≡ length m.processes → Matches m t → IsOpen m.images t w
   opens sizes k = opens-at (omega (arith, sizes, k.within)) k
 

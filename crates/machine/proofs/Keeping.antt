@@ -8,10 +8,12 @@ use Rattle.machine.specs.Wire.{Puts}
 use Rattle.machine.specs.Inside.{IsCarried, AreCarried, IsSoundAt, IsSound}
 use Rattle.machine.specs.declared.machine.Machine.TheInside.{Inside}
 
+-- a packet, if there is one, is one that n processes may have on the wire
 abbrev pub IsSomeCarried : ℕ → Option Packet → Type 0
 IsSomeCarried n None = Unit {0}
 IsSomeCarried n (Some x) = IsCarried n x
 
+-- a sound process stays sound when one more call is counted
 pub later : (n me len calls : ℕ) (x : TheProcess) → IsSoundAt n me len calls x → IsSoundAt n me len (calls + 1) x
 later n me len calls x s =
     record {
@@ -30,6 +32,7 @@ later n me len calls x s =
     }
 
 module _ (old new : List (Option Packet)) (key : ℕ) (was is : Option Packet) (puts : Puts old new key was is) where
+  -- where one such packet is put, or none, all on the wire are such
   pub carried-put : (n : ℕ) → IsSomeCarried n is → AreCarried old n → AreCarried new n
   carried-put n fits all j x e = by_key (j == key) refl
     where
@@ -40,6 +43,7 @@ module _ (old new : List (Option Packet)) (key : ℕ) (was is : Option Packet) (
           subst (IsSomeCarried n) here fits
       by_key false at = all j x (sym (puts.others j (grind (arith, nat_tests))) ∙ e)
 
+  -- and no key above is used
   pub keys-put : key < 4096 → ((j : ℕ) → 4096 ≤ j → slice_index_or old j None ≡ None) → (j : ℕ) → 4096 ≤ j → slice_index_or new j None ≡ None
   keys-put low all j h = puts.others j (omega arith) ∙ all j h
 

@@ -38,3 +38,4 @@ pub mod Restoring
 pub mod NumberLemmas
 pub mod Picks
 pub mod WireLemmas
+pub mod StartLemmas

@@ -36,9 +36,11 @@ pub record Same (w : World) (history : ℕ → List Message) (phase : ℕ → Ph
 module _ (m : TheMachine) (w : World) (shows : Shows m w) (p : ℕ) (positive : 0 < p) (within : p ≤ length m.processes) (y : TheProcess) (started calls w_started : ℕ) (started_is : w_started ≡ started)
     (history : ℕ → List Message) (phase : ℕ → Phase) (saved : ℕ → ℕ) (saved_trims : ℕ → ℕ → ℕ) (acknowledged : ℕ → ℕ → Bool) (released : ℕ → ℕ → ℕ) (incarnation : ℕ → ℕ) (trims : ℕ → ℕ → ℕ) (numbers : ℕ → ℕ → ℕ → Option ℕ)
     (others : (q : ℕ) → (q == p) ≡ false → Same w history phase saved saved_trims acknowledged released incarnation trims numbers q) where
+  -- the machine in which p has become y
   abbrev pub changed : TheMachine
   changed = record m { processes = set m.processes (p - 1) y; started = started; calls = calls }
 
+  -- and the world with these parts
   abbrev pub changed_world : World
   changed_world = record w { history = history; phase = phase; saved = saved; saved_trims = saved_trims; acknowledged = acknowledged; released = released; incarnation = incarnation; trims = trims; numbers = numbers; started = w_started }
 

@@ -64,6 +64,7 @@ replicate-at n k x = replicate-split n k x (nat_lt k n) refl
 abbrev none : Typed
 none = record { form = Sbi1; code = []; slots = []; table = []; len = 0; low = 0 }
 
+-- the machine that opens with these images and processes
 abbrev pub fresh : List Typed → List TheProcess → TheMachine
 fresh images ps = record { images = images; processes = ps; outside = empty_outside (length images); slots = []; started = 0; calls = 0 }
 

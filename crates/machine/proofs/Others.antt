@@ -26,6 +26,7 @@ pub record TheLife : Type 0 where
   pub trims : ℕ → ℕ
   pub numbers : ℕ → ℕ → Option ℕ
 
+-- what the world has of p
 abbrev pub life : World → ℕ → TheLife
 life w p =
     record {
@@ -136,6 +137,7 @@ module _ (m : TheMachine) (w : World) (p : ℕ) (inside : 0 < p) (within : p ≤
         outside = b.outside;
       }
 
+-- a machine that shows what a world has of p, and all else, shows the world
 pub together : (n : ℕ) (m : TheMachine) (w : World) (p : ℕ) → 0 < p → p ≤ n → ShowsBut n p m w → ShowsAt n p m w (life w p) → Shows m w
 together n m w p inside within b a =
     whole m w p inside (omega (arith, b.width)) (subst (λ k. ShowsBut k p m w) (sym b.width) b) (subst (λ k. ShowsAt k p m w (life w p)) (sym b.width) a)

@@ -285,6 +285,7 @@ module _ (m : TheMachine) (w : World) (s : Stands m w) (room from to i : ℕ) (p
     pub useful-place : ((key : ℕ) → 4096 ≤ key → slice_index_or m.slots key None ≡ None) → refusal_of w room (Transmit from to i) ≡ option_and_then cause_of (placing m room)
     useful-place keys = transmit-rest m w s room from to i peers.from_within peers.to_within peers.from_up peers.other useful-released useful_logged keys
 
+    -- where it has one, the message may be picked
     pub useful-pick : ((key : ℕ) → 4096 ≤ key → slice_index_or m.slots key None ≡ None) → placing m room ≡ None → IsPick w room (Transmit from to i)
     useful-pick keys free = record { useful = useful; accepted = useful-place keys ∙ ap (option_and_then cause_of) free }
 
@@ -389,6 +390,7 @@ replay-pick w room p e =
     let c = first_not (not (is_replaying (w.phase p))) 11 ((journal_full room (open_jobs w + 1), 12) ∷ []) b.1 in
     record { useful = rw (b.0, not_not (is_replaying (w.phase p)) c.0) refl; accepted = e }
 
+-- and so are numbers that may be restored
 pub resync-pick : (w : World) (room p r : ℕ) → refusal_of w room (ResyncWith p r) ≡ None → IsPick w room (ResyncWith p r)
 resync-pick w room p r e =
     let a = first_not (not (is_inside w p && is_inside w r)) 1 ((p == r, 5) ∷ (not (is_up (w.phase r)), 8) ∷ (not (has (todo_of (w.phase p)) r), 11) ∷ (journal_full room (open_jobs w), 12) ∷ []) e in
@@ -445,6 +447,7 @@ upto-more P n here below k positive h = by_place (n == k) refl
     by_place true e = let same : n ≡ k = grind (arith, nat_tests) in subst P same here
     by_place false e = below k positive (grind (arith, nat_tests))
 
+-- and the same, with 0 among them
 pub up-more : (P : ℕ → Type 0) (n : ℕ) → P n → ((k : ℕ) → k < n → P k) → (k : ℕ) → k < n + 1 → P k
 up-more P n here below k h = by_place (n == k) refl
   where

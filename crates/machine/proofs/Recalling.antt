@@ -237,6 +237,7 @@ module _ (m : TheMachine) (w : World) (s : Stands m w) (t : TheTask) (k : Matche
         (λ d to other up. let e = rw (self-same me) at up in absurd (false≢true e))
         (λ d down. shut_now d)
 
+    -- the result of a replayed message is a step, where more is left to replay
     pub goes-on : Steps m (record m { processes = set m.processes (me - 1) y; calls = calls }) 0 (Finish me) (Replayed t.rsn) w
     goes-on =
         step m (record m { processes = set m.processes (me - 1) y; calls = calls }) 0 (Finish me) (Replayed t.rsn) w s accepted (rw phase_was (ap Replayed rsn_is))
@@ -283,6 +284,7 @@ module _ (m : TheMachine) (w : World) (s : Stands m w) (t : TheTask) (k : Matche
     ups : (q : ℕ) → 0 < q → q ≤ n → q ≢ me → is_up_at now q ≡ is_up (w.phase q)
     ups q positive within other = up-but n me now w others_now q positive within other
 
+    -- and so is that of the last one, after which the process restores its numbers, or is up
     pub settles : (new : TheMachine) → SettlesAt me alone now new → Steps m (record new { calls = calls }) 0 (Finish me) (Replayed t.rsn) w
     settles new e =
         let todo = peers_of w me alone in

@@ -15,9 +15,11 @@ use Rattle.machine.specs.Recovering.{returning}
 use Rattle.machine.specs.Stage.{is_live, is_lost}
 use Rattle.machine.proofs.Standing.{jobs, at_process, up_is, down_is, is_working-phase_of, is_busy-phase_of}
 
+-- a journal has no place for a call where its room is no more than the open jobs
 pub late : (room n : ℕ) → room ≤ n → nat_lt room (n + 1) ≡ true
 late room n h = grind (arith, nat_tests)
 
+-- and it has one where the room is more
 pub early : (room n : ℕ) → n < room → nat_lt room (n + 1) ≡ false
 early room n h = grind (arith, nat_tests)
 
@@ -140,9 +142,11 @@ module _ (m : TheMachine) (w : World) (s : Stands m w) (room p : ℕ) where
     return-is true true e f = rw (e, f, late room (busy m) (grind (arith, nat_tests))) refl
     return-is true false e f = rw (e, f, early room (busy m) (grind (arith, nat_tests))) refl
 
+    -- past these causes, `returning` tells why p doesn't come back
     pub recover-rest : others_up w p ≡ true → refusal_of w room (Recover p) ≡ option_and_then cause_of (returning m room p)
     recover-rest up = rw (inside, up, down_is m w s p positive within, jobs m w s) (return-is (is_lost (process_at m p).stage) (nat_le room (busy m)) refl refl)
 
+    -- and so it does of p alone
     pub alone-rest : refusal_of w room (RecoverAlone p) ≡ option_and_then cause_of (returning m room p)
     alone-rest = rw (inside, down_is m w s p positive within, jobs m w s) (return-is (is_lost (process_at m p).stage) (nat_le room (busy m)) refl refl)
 

@@ -131,6 +131,7 @@ image-at t images k all = by_place (nat_lt k (length images)) refl
         let one_is : t.len ≡ 1 = ap (λ (x : Typed). x.len) (all b ∙ get_or-eq_default images b past) in
         absurd (omega (arith, zero_is, one_is))
 
+-- the task that a process begins is that of its open job, in each world that the machine stands for then
 pub handed-out : (m new : TheMachine) (p : ℕ) (x : Message) (t : TheTask) → Begins m new p x t → 0 < p → p ≤ length m.processes → (w : World) → Stands new w → IsOpen new.images t w
 handed-out m new p x t b positive within w s =
     let images : new.images ≡ m.images = ap (λ (v : TheMachine). v.images) b.becomes in

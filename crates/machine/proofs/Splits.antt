@@ -34,12 +34,15 @@ module _ (i : Inside) (s : IsSound i) (m : TheMachine) (view_is : view_of i ≡ 
       let none : drop (length ys) was_all ≡ [] = drop_all (length ys) was_all (omega (arith, many)) in
       ap (λ l. take i.processes.len (ys ++ l)) none ∙ ap (take i.processes.len) (append-nil ys) ∙ take_all i.processes.len ys (omega (arith, many, len_is)) ∙ ys_are
 
+  -- what is cut out is the process
   pub split-was : was ≡ process_at m p
   split-was = was_at ∙ get_or_default i.processes.items (p - 1) was (idle_process 0 0 0) (omega (arith, positive, inside)) ∙ ap (λ (v : TheMachine). process_at v p) view_is
 
+  -- where it is put back, the machine has it in its place
   pub split-view : view_of (record i { processes = with_items i.processes ys }) ≡ record m { processes = set m.processes (p - 1) y }
   split-view = (λ j. record (view_of i) { processes = zs_are j }) ∙ (λ j. record (view_is j) { processes = set (view_is j).processes (p - 1) y })
 
+  -- with its log
   pub split-log : log_at (view_of (record i { processes = with_items i.processes ys })) p ≡ y.outbox.log
   split-log =
       let apart : (p == 0) ≡ false = grind (arith, nat_tests) in
@@ -74,6 +77,7 @@ module _ (i : Inside) (s : IsSound i) (m : TheMachine) (view_is : view_of i ≡ 
         (sound-outbox (length i.processes.items) p _ i.calls was (with_messages r (renumbered (numbers_of p receipts) (queue_of r was.outbox.log)) was.outbox) old
         (record { owner = old.log.owner; width = length-set was.outbox.log.queues r (renumbered (numbers_of p receipts) (queue_of r was.outbox.log)) ∙ old.log.width }))
 
+    -- the machine stays sound, whether numbers are restored or memory runs out
     pub resynced-sound : IsSound (record i { processes = with_items i.processes ys })
     resynced-sound =
         split-sound (λ e. either answer ok err (renumbered-sound e) (λ same. subst (IsSoundAt (length i.processes.items) p (slice_index_or (map arc_value i.images.items) (p - 1) e).len i.calls) (sym same) (sound-was e)))
@@ -82,6 +86,7 @@ module _ (i : Inside) (s : IsSound i) (m : TheMachine) (view_is : view_of i ≡ 
     if-fine (Ok x) A B v f = f v
     if-fine (Err e) A B v f = tt
 
+    -- and where they are, it is the machine with p's numbers for r
     pub resynced-view : receipts ≡ (process_at m r).receipts → OnOk answer (view_of (record i { processes = with_items i.processes ys }) ≡ renumbered_at p r m)
     resynced-view read =
         if-fine answer (y ≡ record was { outbox = with_messages r (renumbered (numbers_of p receipts) (queue_of r was.outbox.log)) was.outbox }) (view_of (record i { processes = with_items i.processes ys }) ≡ renumbered_at p r m) ok

@@ -46,6 +46,7 @@ module _ (counts : List ℕ) (f : ℕ → ℕ) (k n : ℕ) (inside : k < length 
   pub counts-above : ((x : ℕ) → x < 16 → k ≤ x → slice_index_or counts x 0 ≡ 0) → (x : ℕ) → x < 16 → k + 1 ≤ x → slice_index_or (set counts k n) x 0 ≡ 0
   counts-above before x small high = get_or-set_other counts k x n 0 (λ e. absurd (omega (arith, e, high))) ∙ before x small (omega (arith, high))
 
+-- of queues that nothing was sent to, nothing is kept
 pub none-kept : (n : ℕ) → map kept_of (replicate n no_queue) ≡ replicate n nothing_kept
 none-kept zero = refl
 none-kept (suc n) = ap (λ ks. nothing_kept ∷ ks) (none-kept n)

@@ -31,6 +31,7 @@ use Rattle.machine.specs.Sending.{live, released_at}
 use Rattle.machine.specs.Arriving.{IsJudged}
 use Rattle.machine.proofs.ReceiptLemmas.{senders, length-numbers, rsn_from-numbers}
 
+-- the size of the wire as a number, which the fields are compared with
 pub wire-is : WIRE ≡ 4096
 unfolding WIRE
 wire-is = refl
@@ -84,6 +85,7 @@ live-busy n stages.Down x e = absurd (false≢true e)
 live-busy n (stages.Replaying plan alone) x e = absurd (false≢true e)
 live-busy n (stages.Resync peers) x e = absurd (false≢true e)
 
+-- a live process may have a job open on the next message of a sender
 pub live-works : (t : Stage) (o : Option Message) (saved : ℕ) (h : List Message) → is_live t ≡ true → IsNextAfter h o → MayWork t o saved h
 live-works stages.Live o saved h e next = next
 live-works stages.Down o saved h e next = absurd (false≢true e)
@@ -137,11 +139,13 @@ module _ (m : TheMachine) (w : World) (s : Stands m w) (test : Phase → Bool) (
       let shifted = count_below-shift (λ p. test (w.phase p)) w.count in
       shifted ∙ rw outside (omega (arith, listed, ap (count_below inside) s.shows.count))
 
+-- the world has as many open jobs as the fields tell
 pub jobs : (m : TheMachine) (w : World) → Stands m w → open_jobs w ≡ count_by (λ (x : TheProcess). is_some x.working) m.processes
 jobs m w s =
     jobs_by m w s is_working (λ (x : TheProcess). is_some x.working)
     (λ p d h. let at = s.shows.process p d h in ap is_working at.phase_is ∙ is_working-phase_of _ _ _ _ _ at.works) refl
 
+-- and as many live ones
 pub live-is : (m : TheMachine) (w : World) → Stands m w → live_jobs w ≡ live m
 live-is m w s =
     jobs_by m w s is_busy (λ (x : TheProcess). is_live x.stage && is_some x.working)
@@ -163,6 +167,7 @@ packets_to m w n s none =
     ∙ counted m.slots n none (nat_le (length m.slots) n) refl
     ∙ sym (count_below-list is_some (λ key. is_some (slice_index_or m.slots key None)) m.slots (λ p d h. ap is_some (get_or_default m.slots p d None h)))
 
+-- and as many packets, where no key from the size of the wire on has one
 pub packets-is : (m : TheMachine) (w : World) → Stands m w → ((key : ℕ) → 4096 ≤ key → slice_index_or m.slots key None ≡ None) → packets w ≡ count_by is_some m.slots
 packets-is m w s keys = packets_to m w WIRE s (λ key h. keys key (rw wire-is at h))
 
@@ -178,6 +183,7 @@ pub up_is : (m : TheMachine) (w : World) → Stands m w → (p : ℕ) → p ≤ 
 up_is m w s zero within = ap is_up s.shows.outside
 up_is m w s (suc p) within = let apart : (suc p == 0) ≡ false = grind (arith, nat_tests) in rw apart (ap is_up (at_process m w s (suc p) (omega arith) within).phase_is ∙ is_up-phase_of _ _ _)
 
+-- so a process that is up by its fields is up in the world
 pub up_at : (m : TheMachine) (w : World) → Stands m w → (p : ℕ) → p ≤ length m.processes → is_up_at m p ≡ true → is_up (w.phase p) ≡ true
 up_at m w s p within up = up_is m w s p within ∙ up
 
@@ -185,6 +191,7 @@ up_at m w s p within up = up_is m w s p within ∙ up
 pub down_is : (m : TheMachine) (w : World) → Stands m w → (p : ℕ) → 0 < p → p ≤ length m.processes → is_down (w.phase p) ≡ is_lost (process_at m p).stage
 down_is m w s p inside within = ap is_down (at_process m w s p inside within).phase_is ∙ is_down-phase_of _ _ _
 
+-- nor is one down in the world that is up by its fields
 pub down_at : (m : TheMachine) (w : World) → Stands m w → (p : ℕ) → p ≤ length m.processes → is_up_at m p ≡ true → is_down (w.phase p) ≡ false
 down_at m w s p within up = up-down (w.phase p) (up_at m w s p within up)
 

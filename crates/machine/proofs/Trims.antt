@@ -57,6 +57,7 @@ module _ (q : TheQueue) (t i : ℕ) (all : List Payload) (numbers : ℕ → Opti
 
 -- one sender after the other
 
+-- no trim changes how many processes there are
 pub width-without : (m : TheMachine) (d s : ℕ) → length (without_covered m d s).processes ≡ length m.processes
 width-without m d s = by_drops (drops m d s) (s == 0)
   where
@@ -139,6 +140,7 @@ own-covered w sound unsent (suc d) = by_up (is_up (w.phase (suc d)))
 abbrev pub trims_to : World → ℕ → ℕ → ℕ → ℕ → ℕ
 trims_to w d k s = put (w.trims s) d (if nat_lt s k then trimmed_in w d s else w.trims s d)
 
+-- the world when the senders below k have dropped
 abbrev pub world_to : World → ℕ → ℕ → World
 world_to w d k = record w { trims = trims_to w d k }
 
@@ -246,6 +248,7 @@ module _ (m : TheMachine) (w : World) (d k : ℕ) (shows : Shows m (world_to w d
       by_own true e = let same : d ≡ k = grind (arith, nat_tests) in subst (λ j. trimmed_in w j k ≡ w.trims k j) (sym same) (own-covered w sound unsent k)
       by_own false e = let down : is_up_at m k ≡ false = sym (rw e refl) ∙ b in let here : is_up (w.phase k) ≡ false = up_at_k ∙ down in rw here refl
 
+  -- k drops as many as in the world
   pub dropped-is : dropped_by m d k ≡ trimmed_in w d k - w.trims k d
   dropped-is = by_drops (drops m d k) refl
     where
@@ -402,6 +405,7 @@ calls-without v d k true true = refl
 calls-without v d k true false = refl
 calls-without v d k false c = refl
 
+-- no call is counted while the senders drop
 pub calls-to : (m : TheMachine) (d k : ℕ) → (trimmed_to d m k).calls ≡ m.calls
 calls-to m d zero = refl
 calls-to m d (suc k) = calls-without (trimmed_to d m k) d k (drops (trimmed_to d m k) d k) (k == 0) ∙ calls-to m d k

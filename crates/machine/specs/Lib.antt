@@ -19,3 +19,4 @@ pub mod Sending
 pub mod Arriving
 pub mod Picking
 pub mod Reading
+pub mod Stepping

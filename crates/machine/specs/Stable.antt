@@ -1,16 +1,12 @@
 -- What outlives a crash
-use Rattle.std.specs.Prelude.{◌≡◌, ◌≢◌, ℕ, suc, ◌+◌, ◌*◌, ◌<◌, ◌≤◌, ◌==◌, List, ◌++◌, length, map, count_by, replicate, [], slice_index_or}
-use Rattle.checkpoint.specs.declared.form.Form.TheVariants.{Second}
-use Rattle.checkpoint.specs.Format.{IsCheckpoint}
-use Rattle.checkpoint.specs.Saved.{TheKept, TheSaved, nothing_kept}
+use Rattle.std.specs.Prelude.{◌≡◌, ◌≢◌, ℕ, suc, ◌+◌, ◌*◌, ◌<◌, ◌≤◌, ◌==◌, List, length, map, count_by, replicate, [], slice_index_or}
+use Rattle.checkpoint.specs.Saved.{TheSaved, nothing_kept}
 use Rattle.world.specs.declared.message.Message.{Message}
 use Rattle.world.specs.History.{Payload}
 use Rattle.machine.specs.Queue.{IsRest}
 
--- the bytes are its checkpoint, the counts those of its senders, and it sent at most 8 messages to a destination for each that it
--- received
-pub record IsStable (s : TheSaved) (bytes counts : List ℕ) : Type 0 where
-  pub bytes_are : IsCheckpoint Second s bytes
+-- the counts are those of its senders, and it sent at most 8 messages to a destination for each that it received
+pub record IsStable (s : TheSaved) (counts : List ℕ) : Type 0 where
   pub counts_are : (x : ℕ) → x < 16 → slice_index_or counts x 0 ≡ count_by (λ y. y == x) s.senders
   pub sent : (d : ℕ) → (slice_index_or s.queues d nothing_kept).first + length (slice_index_or s.queues d nothing_kept).payloads ≤ 8 * length s.senders + 1
 

@@ -72,6 +72,16 @@ impl Machine {
         let Some(packet) = self.wire.peek(key) else {
             return Some(Refusal::NoPacket);
         };
+        self.take_cause(room, packet)
+    }
+
+    // Why a packet that lies on the wire would not be taken.
+    fn take_cause(&self, room: u32, packet: &Packet) -> Option<Refusal>
+        requires { IsCarried (length self.now.processes) packet.now }
+        ensures none { IfNone result (0 < room) }
+        ensures cause { (w : World) (key : ℕ) → Stands self.now w → slice_index_or self.now.slots key None ≡ Some packet.now → refusal_of w room (Call.Arrive key) ≡ option_and_then cause_of result }
+        ensures told { IsTold result }
+    {
         if self.is_to_busy(packet) {
             return Some(Refusal::Busy);
         }
@@ -105,12 +115,13 @@ impl Machine {
         ensures target { IfOk result (IsJobFor (slice_index_or self.old.slots key None)) }
         ensures calls { OnOk result (self.new.calls ≡ self.old.calls + 1) }
     {
-        if let Some(refusal) = self.arrive_cause(room, key) {
-            return Err(refusal);
-        }
-        let Some(packet) = self.wire.get(key) else {
+        let Some(found) = self.wire.peek(key) else {
             return Err(Refusal::NoPacket);
         };
+        if let Some(refusal) = self.take_cause(room, found) {
+            return Err(refusal);
+        }
+        let packet = *found;
         if !self.is_up(target(&packet)) {
             self.drop_packet(key);
             return Ok(Arrival::Unreachable);

@@ -28,7 +28,9 @@ mod saving;
 mod sending;
 mod stable;
 mod stage;
+mod stepping;
 mod wire;
 
 pub use arrival::{Arrival, Finished};
 pub use machine::Machine;
+pub use stepping::Reply;

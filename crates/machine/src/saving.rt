@@ -52,6 +52,7 @@ impl Machine {
         requires { (1 ≤ p) × (p ≤ length self.now.processes) }
         ensures { (w : World) → Stands self.now w → IsSavedOf w p result.now }
     {
+        // For the proof: reading a field tells the invariant, here of each checkpoint.
         let _alloc = &self.alloc;
         self.process(p).stable().bytes()
     }
@@ -78,6 +79,7 @@ impl Machine {
         ensures step { Simulates self.old self.new room (Call.Trim d) (answering Answer.Trimmed result) }
         ensures calls { OnOk result (self.new.calls ≡ self.old.calls + 1) }
     {
+        // For the proof: reading a field tells the invariant, here how wide each log is.
         let _alloc = &self.alloc;
         if let Some(refusal) = self.trim_cause(room, d) {
             return Err(refusal);

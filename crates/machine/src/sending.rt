@@ -121,7 +121,7 @@ impl Machine {
         ensures cause { (w : World) → Stands self.now w → refusal_of w room (Call.Copy key) ≡ option_and_then cause_of result }
         ensures told { IsTold result }
     {
-        if self.wire.get(key).is_none() {
+        if self.wire.peek(key).is_none() {
             return Some(Refusal::NoPacket);
         }
         self.place_cause(room)
@@ -150,7 +150,7 @@ impl Machine {
         ensures cause { (w : World) → Stands self.now w → refusal_of w room (Call.Lose key) ≡ option_and_then cause_of result }
         ensures told { IsTold result }
     {
-        if self.wire.get(key).is_none() {
+        if self.wire.peek(key).is_none() {
             return Some(Refusal::NoPacket);
         }
         if room <= self.open_jobs() {

@@ -8,17 +8,15 @@ ghost use Rattle.checkpoint.specs.Saved.{Fits, is_sender, saved_of, receipts_aga
 ghost use Rattle.machine.specs.Outbox.{outbox_again};
 
 use crate::outbox::Outbox;
-use checkpoint::{Saved, encode};
+use checkpoint::{Saved, Stored};
 use rsn::Receipts;
 use std::alloc::{AllocError, Global};
 use std::marker::Model;
 
-/// The checkpoint of a process, as it was saved and as bytes, and by sender how many messages it
-/// covers.
+/// The checkpoint of a process, kept as its bytes alone, and by sender how many messages it covers.
 #[derive(Drop)]
 pub struct Stable {
-    saved: Saved,
-    bytes: Vec<u8>,
+    saved: Stored,
     counts: [u32; 16],
 }
 
@@ -30,7 +28,7 @@ impl Model for Stable {
 
     ghost view = { λ s. s.saved };
 
-    ghost invariant = { λ s. IsStable s.saved s.bytes.items s.counts };
+    ghost invariant = { λ s. IsStable s.saved s.counts };
 }
 
 impl Stable {
@@ -53,24 +51,20 @@ impl Stable {
         requires made { outbox.now.made ≡ length receipts.now.senders }
         ensures { IfOk result (λ s. s ≡ saved_of me n state.now receipts.now outbox.now.log) }
     {
-        let saved = Saved::of(alloc, me, n, state, receipts, outbox.log())?;
-        let bytes = encode(alloc, &saved)?;
+        let parsed = Saved::of(alloc, me, n, state, receipts, outbox.log())?;
+        let saved = Stored::of(alloc, &parsed)?;
         let mut counts = [0; 16];
         for sender in 0..n + 1 {
             counts[sender as usize] = receipts.next(sender) - 1;
         }
-        Ok(Stable {
-            saved,
-            bytes,
-            counts,
-        })
+        Ok(Stable { saved, counts })
     }
 
     /// Its bytes, in the second form.
     pub fn bytes(&self) -> &[u8]
         ensures { IsCheckpoint Second self.now result.now }
     {
-        self.bytes.as_slice()
+        self.saved.bytes()
     }
 
     /// How many messages it covers.
@@ -87,6 +81,8 @@ impl Stable {
         ensures value { result ≡ count_by (λ s. s == sender) self.now.senders }
         ensures bound { result ≤ 65536 }
     {
+        // For the proof: it covers at most 65,536 messages, and those of one sender are no more.
+        let _covered = self.length();
         self.counts[sender as usize]
     }
 

@@ -9,7 +9,7 @@ use Rattle.world.specs.declared.refusal.Refusal.{Refusal}
 use Rattle.world.specs.declared.refusal.Refusal.TheVariants as refusals
 use Rattle.world.specs.Refusals.{cause_of, number_of}
 use Rattle.replay.specs.Task.{TheTask}
-use Rattle.sessions.specs.Driving.{job_of}
+use Rattle.machine.specs.Stepping.{job_of}
 use Rattle.scenario.specs.declared.order.Order.{Order}
 use Rattle.scenario.specs.declared.order.Order.TheVariants as order
 use Rattle.scenario.specs.declared.scenario.Step.{Step}
@@ -50,6 +50,7 @@ carried-images at (order.ReplayBegin p) new r does = called-images _ _ new r doe
 carried-images at (order.Resync p peer) new r does = called-images _ _ new r does
 carried-images at (order.Drive budget) new r does = ap (λ (x : Position). x.images) does.0.new_is
 
+-- no order of a run changes the images
 pub runs-images : (at : Position) (steps : List Step) (lines : List ℕ) (new : Position) → RunsThrough at steps lines new → new.images ≡ at.images
 runs-images at [] lines new leads = ap (λ (x : Position). x.images) leads.1
 runs-images at (step ∷ steps) lines new leads =
@@ -71,9 +72,11 @@ runs-more at mid next (first ∷ steps) step lines r leads does = (
   ap (λ ls. ls ++ refused_text step.line r) leads.5 ∙ append_assoc (refused_text first.line leads.1) leads.2 (refused_text step.line r),
 )
 
+-- where no order is made, nothing is told
 pub played-none : (at : Position) (old : List ℕ) → ArePlayed [] at at old old
 played-none at old = ([], (refl, refl), sym (append-nil old))
 
+-- and one more that is made tells its line, or none, behind the rest
 pub played-more : (at mid next : Position) (steps : List Step) (step : Step) (old so new : List ℕ) → ArePlayed steps at mid old so → IsPlayed step mid next so new
     → ArePlayed (steps ++ step ∷ []) at next old new
 played-more at mid next steps step old so new are is = (
@@ -116,6 +119,7 @@ pub played-cut : (images : List Typed) (end : Position) (steps : List Step) (cou
 played-cut images end steps count old new played =
     record { count = count; lines = played.0; end = end; leads = played.1; text = played.2 }
 
+-- and all of them, to the end
 pub played-all : (images : List Typed) (end : Position) (steps : List Step) (old new : List ℕ)
     → ArePlayed steps (beginning images) end old new → IsCut images steps old new
 played-all images end steps old new played =

@@ -15,7 +15,7 @@ use Rattle.runner.specs.Run.{RunsThrough, refused_text}
 use Rattle.runner.specs.Word.{message_word}
 
 -- where a player stands
-abbrev pub position_of : {L : Type 0} → Player L → Position
+abbrev pub position_of : Player → Position
 position_of player = record { images = player.session.images; entries = player.session.entries; held = player.held.items; inputs = player.inputs }
 
 -- something was done, or refused with a number. Where memory runs out nothing is said

@@ -1,7 +1,7 @@
 //! Carrying out orders.
 
 ghost use Rattle.std.specs.Prelude.{◌≡◌};
-ghost use Rattle.world.specs.declared.call.Call.TheVariants as call;
+ghost use Rattle.machine.specs.Stepping.{TakesNoResult};
 ghost use Rattle.runner.specs.Orders.{CarriesOut, BringsBack, HandsIn, IsDriven, MakesCall, held_for, without_job};
 ghost use Rattle.runner.specs.Inside.{ComesTo, position_of};
 
@@ -9,33 +9,29 @@ use crate::player::Player;
 use crate::word::payload_of;
 use helpers::Payload;
 use scenario::Order;
-use sessions::Arrival;
-use std::sync::ledger::Ledger;
-use world::{Feed, Refusal};
+use world::{Call, Refusal};
 
-impl<L: Ledger> Player<L> {
+impl Player {
     /// Carries out an order as nobody. A refused order leaves all as it is, but that it has used
     /// its feed number, or that a held job is dropped. Behind want of memory the run is to end.
     pub(crate) fn carry_out(&mut self, order: &Order) -> Result<(), Refusal>
         ensures { ComesTo (CarriesOut (position_of self.old) order.now (position_of self.new)) result }
     {
-        let session = &mut self.session;
-        let seat = &mut self.seat;
         match *order {
             Order::Input { to, word } => self.hand_in(to, payload_of(word)),
             Order::Bytes { to, payload } => self.hand_in(to, payload),
-            Order::Transmit { from, to, ssn } => session.transmit(seat, from, to, ssn).and(Ok(())),
-            Order::Copy { key } => session.copy(seat, key as usize).and(Ok(())),
-            Order::Lose { key } => session.lose(seat, key as usize),
-            Order::Arrive { key } => self.arrive(key as usize),
+            Order::Transmit { from, to, ssn } => self.make(&Call::Transmit { from, to, ssn }),
+            Order::Copy { key } => self.make(&Call::Copy { key: key as usize }),
+            Order::Lose { key } => self.make(&Call::Lose { key: key as usize }),
+            Order::Arrive { key } => self.make(&Call::Arrive { key: key as usize }),
             Order::Finish { process } => self.finish(process),
-            Order::Checkpoint { process } => session.checkpoint(seat, process).and(Ok(())),
-            Order::Trim { to } => session.trim(seat, to).and(Ok(())),
-            Order::Crash { process } => session.crash(seat, process).and(Ok(())),
-            Order::Recover { process } => session.recover(seat, process).and(Ok(())),
-            Order::RecoverAlone { process } => session.recover_alone(seat, process).and(Ok(())),
-            Order::ReplayBegin { process } => self.replay_begin(process),
-            Order::Resync { process, peer } => session.resync(seat, process, peer).and(Ok(())),
+            Order::Checkpoint { process } => self.make(&Call::Checkpoint { process }),
+            Order::Trim { to } => self.make(&Call::Trim { to }),
+            Order::Crash { process } => self.make(&Call::Crash { process }),
+            Order::Recover { process } => self.make(&Call::Recover { process }),
+            Order::RecoverAlone { process } => self.make(&Call::RecoverAlone { process }),
+            Order::ReplayBegin { process } => self.make(&Call::ReplayBegin { process }),
+            Order::Resync { process, peer } => self.make(&Call::Resync { process, peer }),
             Order::Drive { budget } => self.drive(budget),
         }
     }
@@ -45,35 +41,22 @@ impl<L: Ledger> Player<L> {
     fn hand_in(&mut self, to: u8, payload: Payload) -> Result<(), Refusal>
         ensures { ComesTo (HandsIn (position_of self.old) to payload (position_of self.new)) result }
     {
-        let Some(number) = self.inputs.checked_add(1) else {
+        let Some(feed) = self.inputs.checked_add(1) else {
             return Err(Refusal::Memory);
         };
-        self.inputs = number;
-        let feed = Feed {
-            number,
-            dst: to,
-            payload,
-        };
-        self.session.input(&mut self.seat, &feed).and(Ok(()))
+        self.inputs = feed;
+        self.make(&Call::Input { to, feed, payload })
     }
 
-    // Takes a packet from the wire, and holds the job that it starts.
-    fn arrive(&mut self, key: usize) -> Result<(), Refusal>
-        ensures { ComesTo (MakesCall (position_of self.old) (call.Arrive key) (position_of self.new)) result }
+    // Makes a call, and holds the job that it starts.
+    fn make(&mut self, call: &Call) -> Result<(), Refusal>
+        requires { TakesNoResult call.now }
+        ensures { ComesTo (MakesCall (position_of self.old) call.now (position_of self.new)) result }
     {
-        let arrival = self.session.arrive(&mut self.seat, key)?;
-        if let Arrival::Started(job) = arrival {
+        let reply = self.session.call(call)?;
+        if let Some(job) = reply.job {
             self.hold(job);
         }
-        Ok(())
-    }
-
-    // Opens the next job of a process that replays, and holds it.
-    fn replay_begin(&mut self, process: u8) -> Result<(), Refusal>
-        ensures { ComesTo (MakesCall (position_of self.old) (call.ReplayBegin process) (position_of self.new)) result }
-    {
-        let job = self.session.replay_begin(&mut self.seat, process)?;
-        self.hold(job);
         Ok(())
     }
 
@@ -84,7 +67,7 @@ impl<L: Ledger> Player<L> {
         let Some(job) = self.take(process) else {
             return Err(Refusal::StaleJob);
         };
-        match self.session.finish(&mut self.seat, job.run()) {
+        match self.session.finish(job.run()) {
             Ok(_) => Ok(()),
             Err((refusal, _)) => Err(refusal),
         }
@@ -94,6 +77,6 @@ impl<L: Ledger> Player<L> {
     fn drive(&mut self, budget: u32) -> Result<(), Refusal>
         ensures { ComesTo (λ refused. IsDriven budget (position_of self.old) (position_of self.new) × (refused ≡ None)) result }
     {
-        self.session.drive(&mut self.seat, budget).and(Ok(()))
+        self.session.drive(budget).and(Ok(()))
     }
 }

@@ -6,9 +6,8 @@ ghost use Rattle.runner.specs.Inside.{position_of};
 
 use crate::player::Player;
 use replay::Job;
-use std::sync::ledger::Ledger;
 
-impl<L: Ledger> Player<L> {
+impl Player {
     /// Holds a job, in place of one that is held for its process.
     pub(crate) fn hold(&mut self, job: Job)
         ensures { position_of self.new ≡ record (position_of self.old) { held = slice_set self.old.held.items job.who.me (Some job) } }

@@ -49,7 +49,7 @@ fn push_closed<L: Ledger>(
     if !have_memory(closed.shares.as_slice()) {
         return Err(AllocError);
     }
-    push_results(alloc, out, processes, &closed.session)
+    push_results(alloc, out, processes, closed.session.service())
 }
 
 // A session of this ledger, before the first call.

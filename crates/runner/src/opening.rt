@@ -9,10 +9,9 @@ ghost use Rattle.runner.specs.Inside.{position_of};
 
 use crate::player::Player;
 use replay::Job;
-use sessions::Session;
+use sessions::Service;
 use std::alloc::{AllocError, Global};
 use std::sync::Arc;
-use std::sync::ledger::{Blank, Ledger};
 use verifier::Image;
 use world::Refusal;
 
@@ -40,26 +39,16 @@ fn places(alloc: Global) -> Result<Vec<Option<Job>>, AllocError>
     Ok(held)
 }
 
-impl<L: Ledger> Player<L> {
+impl Player {
     /// Before the first order, over 1 to 15 images.
-    pub(crate) fn open(
-        alloc: Global,
-        blank: Blank,
-        images: Vec<Arc<Image>>,
-    ) -> Result<Player<L>, AllocError>
-        requires name { blank.name ≡ L.name }
-        requires parts { (blank.parts ≡ L.parts) × (blank.parts ≡ 17) }
-        requires few { AreFew (map arc_value images.items) }
+    pub(crate) fn open(alloc: Global, images: Vec<Arc<Image>>) -> Result<Player, AllocError>
+        requires { AreFew (map arc_value images.items) }
         ensures { IfOk result (λ player. position_of player ≡ beginning (map arc_value images.items)) }
     {
-        let mut session: Session<L> = Session::open(alloc, blank, images).map_err(want_of_memory)?;
-        let Some(seat) = session.sit(0) else {
-            unreachable!();
-        };
+        let session = Service::open(alloc, images).map_err(want_of_memory)?;
         let held = places(alloc)?;
         Ok(Player {
             session,
-            seat,
             held,
             inputs: 0,
         })

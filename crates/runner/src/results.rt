@@ -7,18 +7,12 @@ ghost use Rattle.runner.specs.Results.{outputs_text, process_text_of, processes_
 
 use indexmap::IndexMap;
 use scenario::{Process, name_at, push_exact, push_output, push_process, trace_text};
-use sessions::Session;
+use sessions::Service;
 use std::alloc::{AllocError, Global};
-use std::sync::ledger::Ledger;
 use world::Message;
 
 /// Writes the line of a process.
-fn push_state<L: Ledger>(
-    out: &mut String,
-    name: &str,
-    session: &Session<L>,
-    p: u8,
-) -> Result<(), AllocError>
+fn push_state(out: &mut String, name: &str, session: &Service, p: u8) -> Result<(), AllocError>
     requires { (1 ≤ p) × (p ≤ length session.now.images) }
     ensures { OnOk result (string_bytes out.new ≡ string_bytes out.old ++ process_text_of (world_at session.now) p name.now) }
 {
@@ -32,10 +26,10 @@ fn push_state<L: Ledger>(
 }
 
 /// Writes a line a process, in the order of their numbers.
-fn push_processes<L: Ledger>(
+fn push_processes(
     out: &mut String,
     processes: &IndexMap<String, Process>,
-    session: &Session<L>,
+    session: &Service,
 ) -> Result<(), AllocError>
     requires { length processes.now.entries ≡ length session.now.images }
     ensures { OnOk result (string_bytes out.new ≡ string_bytes out.old ++ processes_text (world_at session.now) (names_of processes.now)) }
@@ -64,28 +58,28 @@ fn push_outputs(
 
 /// What a session came to: the trace of its journal, a line a process, a line an output, and
 /// whether failures came one at a time.
-fn results<L: Ledger>(
+fn results(
     alloc: Global,
     processes: &IndexMap<String, Process>,
-    session: &Session<L>,
+    session: &Service,
 ) -> Result<String, AllocError>
     requires { length processes.now.entries ≡ length session.now.images }
     ensures { IfOk result (λ text. string_bytes text ≡ results_text (names_of processes.now) session.now.images session.now.entries) }
 {
     let mut text = trace_text(alloc, session.journal())?;
     push_processes(&mut text, processes, session)?;
-    push_outputs(&mut text, processes, session.shown())?;
+    push_outputs(&mut text, processes, session.shown_since(0))?;
     push_exact(&mut text, session.exact())?;
     Ok(text)
 }
 
 /// Writes what a session of these processes came to (docs/FORMATS.md, "Trace" and "Report"). Only
 /// memory can run out, and then nothing is written.
-pub fn push_results<L: Ledger>(
+pub fn push_results(
     alloc: Global,
     out: &mut String,
     processes: &IndexMap<String, Process>,
-    session: &Session<L>,
+    session: &Service,
 ) -> Result<(), AllocError>
     requires { length processes.now.entries ≡ length session.now.images }
     ensures written { OnOk result (string_bytes out.new ≡ string_bytes out.old ++ results_text (names_of processes.now) session.now.images session.now.entries) }

@@ -12,9 +12,7 @@ use crate::player::Player;
 use crate::results::push_results;
 use scenario::{Scenario, Step};
 use std::alloc::{AllocError, Global};
-use std::marker::Brand;
 use std::sync::Arc;
-use std::sync::ledger::{Blank, Ledger};
 use verifier::Image;
 use world::{Entry, Refusal};
 
@@ -28,7 +26,7 @@ fn push_refused(alloc: Global, out: &mut String, line: usize, number: u8) -> Res
     out.push_str(text.as_str())
 }
 
-impl<L: Ledger> Player<L> {
+impl Player {
     // Carries out the order of a step, and writes its line where it is refused. It ends the run
     // where memory runs out, and then writes nothing.
     fn obey(&mut self, alloc: Global, step: &Step, out: &mut String) -> Result<(), AllocError>
@@ -56,44 +54,20 @@ impl<L: Ledger> Player<L> {
     }
 }
 
-// Carries out the orders in a session of this ledger, and answers where they led.
-fn played<L: Ledger>(
+// Carries out the orders in a session of these images, and answers where they led.
+fn played(
     alloc: Global,
-    blank: Blank,
     steps: &[Step],
     images: Vec<Arc<Image>>,
     out: &mut String,
-) -> Result<Player<L>, AllocError>
-    requires name { blank.name ≡ L.name }
-    requires parts { (blank.parts ≡ L.parts) × (blank.parts ≡ 17) }
-    requires few { AreFew (map arc_value images.items) }
+) -> Result<Player, AllocError>
+    requires { AreFew (map arc_value images.items) }
     ensures done { IfOk result (λ player. ArePlayed steps.now (beginning (map arc_value images.items)) (position_of player) (string_bytes out.old) (string_bytes out.new)) }
     ensures short { OnErr result (IsCut (map arc_value images.items) steps.now (string_bytes out.old) (string_bytes out.new)) }
 {
-    let mut player: Player<L> = Player::open(alloc, blank, images)?;
+    let mut player = Player::open(alloc, images)?;
     player.play(alloc, steps, out)?;
     Ok(player)
-}
-
-// Carries out the orders in a session of this ledger, and writes what it came to.
-fn run_in<L: Ledger>(
-    alloc: Global,
-    blank: Blank,
-    scenario: &Scenario,
-    images: Vec<Arc<Image>>,
-    out: &mut String,
-) -> Result<(), AllocError>
-    requires name { blank.name ≡ L.name }
-    requires parts { (blank.parts ≡ L.parts) × (blank.parts ≡ 17) }
-    requires few { AreFew (map arc_value images.items) }
-    requires named { length scenario.now.processes.entries ≡ length images.items }
-    ensures done { OnOk result (IsRun (names_of scenario.now.processes) (map arc_value images.items) scenario.now.steps.items (string_bytes out.old) (string_bytes out.new)) }
-    ensures short { OnErr result (IsCut (map arc_value images.items) scenario.now.steps.items (string_bytes out.old) (string_bytes out.new)) }
-{
-    let player: Player<L> = played(alloc, blank, scenario.steps.as_slice(), images, out)?;
-    // The journal is told to be legal.
-    let _journal = player.session.journal();
-    push_results(alloc, out, &scenario.processes, &player.session)
 }
 
 /// Carries out the orders of a scenario as nobody, in a session of these images, 1 to 15, as many
@@ -111,25 +85,10 @@ pub fn run(
     ensures done { OnOk result (IsRun (names_of scenario.now.processes) (map arc_value images.items) scenario.now.steps.items (string_bytes out.old) (string_bytes out.new)) }
     ensures short { OnErr result (IsCut (map arc_value images.items) scenario.now.steps.items (string_bytes out.old) (string_bytes out.new)) }
 {
-    run_in::<Brand>(alloc, Blank::new(17), scenario, images, out)
-}
-
-// The calls that are accepted where the orders are carried out in a session of this ledger.
-fn journal_in<L: Ledger>(
-    alloc: Global,
-    blank: Blank,
-    steps: &[Step],
-    images: Vec<Arc<Image>>,
-) -> Result<Vec<Entry>, AllocError>
-    requires name { blank.name ≡ L.name }
-    requires parts { (blank.parts ≡ L.parts) × (blank.parts ≡ 17) }
-    requires few { AreFew (map arc_value images.items) }
-    ensures { IfOk result (λ v. IsJournal (map arc_value images.items) steps.now v.items) }
-{
-    let mut lines = String::new(alloc);
-    let player: Player<L> = played(alloc, blank, steps, images, &mut lines)?;
-    let entries = player.session.journal().to_vec(alloc)?;
-    Ok(entries)
+    let player = played(alloc, scenario.steps.as_slice(), images, out)?;
+    // The journal is told to be legal.
+    let _journal = player.session.journal();
+    push_results(alloc, out, &scenario.processes, &player.session)
 }
 
 /// The calls that are accepted, with their answers, where the orders of a scenario are carried out as
@@ -142,5 +101,8 @@ pub fn journal_of(
     requires { AreFew (map arc_value images.items) }
     ensures { IfOk result (λ v. IsJournal (map arc_value images.items) scenario.now.steps.items v.items) }
 {
-    journal_in::<Brand>(alloc, Blank::new(17), scenario.steps.as_slice(), images)
+    let mut lines = String::new(alloc);
+    let player = played(alloc, scenario.steps.as_slice(), images, &mut lines)?;
+    let entries = player.session.journal().to_vec(alloc)?;
+    Ok(entries)
 }

@@ -13,6 +13,7 @@ pub pairs_length : (v : List ℕ) → length (pairs_text v) ≡ 2 * length v
 pairs_length [] = refl
 pairs_length (b ∷ rest) = omega (arith, pairs_length rest)
 
+-- the first digit of a byte's pair is its high half
 pub pairs_high : (v : List ℕ) (i : ℕ) → i < length v → get_or (pairs_text v) (2 * i) 0 ≡ digit_char (get_or v i 0 / 16)
 pairs_high [] i lt = absurd (omega arith)
 pairs_high (b ∷ rest) zero lt = refl
@@ -20,6 +21,7 @@ pairs_high (b ∷ rest) (suc i) lt =
     let two : 2 * suc i ≡ suc (suc (2 * i)) = omega arith in
     ap (λ k. get_or (pairs_text (b ∷ rest)) k 0) two ∙ pairs_high rest i (omega arith)
 
+-- the second is its low half
 pub pairs_low : (v : List ℕ) (i : ℕ) → i < length v → get_or (pairs_text v) (2 * i + 1) 0 ≡ digit_char (get_or v i 0 % 16)
 pairs_low [] i lt = absurd (omega arith)
 pairs_low (b ∷ rest) zero lt = refl
@@ -59,6 +61,7 @@ module _ (text bytes : List ℕ) (i high low : ℕ) (inside : 2 * i + 1 < length
       ∙ sym (flat_map-append pair_text (take i bytes) (byte ∷ []))
       ∙ ap pairs_text (sym taken)
 
+  -- and each of them is small
   pub small_more : AllByRecursion (λ c. c < 256) (take i bytes) → AllByRecursion (λ c. c < 256) (take (i + 1) (set bytes i byte))
   small_more h = subst (λ (x : List ℕ). AllByRecursion (λ c. c < 256) x) (sym taken) (all_push (take i bytes) byte h (omega arith))
 
@@ -72,6 +75,7 @@ hex_reads text None other some none = by
     by [] fits is = other is
     by (b ∷ rest) fits is = none (b ∷ rest) fits is
 
+-- no payload is written as an empty text
 pub none_empty : (v : List ℕ) → [] ≢ hex_text v
 none_empty [] e = absurd cc
 none_empty (b ∷ rest) e = absurd cc

@@ -28,21 +28,25 @@ use Rattle.scenario.proofs.Orders.{other_verb, same_verb, verb_lacks}
 cut_no : (c : ℕ) (x : List (List ℕ)) (y : List (List ℕ)) → (c ≡ 10 → ⊥) → cond (c == 10) x y ≡ y
 cut_no c x y e = search (rules, nat_tests)
 
+-- the first line ends at the first line feed
 pub lines_cut : (a b : List ℕ) → Lacks 10 a → lines_of (a ++ 10 ∷ b) ≡ a ∷ lines_of b
 lines_cut [] b la = refl
 lines_cut (c ∷ cs) b la =
     cut_no c ([] ∷ lines_of (cs ++ 10 ∷ b)) (onto_first c (lines_of (cs ++ 10 ∷ b))) la.0 ∙ ap (λ (x : List (List ℕ)). onto_first c x) (lines_cut cs b la.1)
 
+-- a text without a line feed is one line
 pub lines_end : (a : List ℕ) → Lacks 10 a → lines_of a ≡ a ∷ []
 lines_end [] la = refl
 lines_end (c ∷ cs) la = cut_no c ([] ∷ lines_of cs) (onto_first c (lines_of cs)) la.0 ∙ ap (λ (x : List (List ℕ)). onto_first c x) (lines_end cs la.1)
 
 -- ---- declarations
 
+-- the word of a declaration has no space
 pub process_lacks : Lacks 32 (codes "process")
 process_lacks = bytes_lack (codes "process") refl
 
 module _ (text word operands : List ℕ) (whole : text ≡ word ++ 32 ∷ operands) (first : Lacks 32 word) where
+  -- a declaration's word and operands are what stands around its first space
   pub declared_parts : (n p : List ℕ) → text ≡ declaration_text n p → (word ≡ codes "process") × (operands ≡ n ++ 32 ∷ p)
   declared_parts n p is = one_cut 32 word operands (codes "process") (n ++ 32 ∷ p) first process_lacks (sym whole ∙ is)
 
@@ -59,32 +63,40 @@ module _ (text word operands : List ℕ) (whole : text ≡ word ++ 32 ∷ operan
     pub both_parts : (n p : List ℕ) → IsName n → text ≡ declaration_text n p → (name ≡ n) × (path ≡ p)
     both_parts n p named is = one_cut 32 name path n p before (bytes_lack n named.bytes) (sym cut ∙ (declared_parts n p is).1)
 
+    -- a name that is none
     pub no_name : (names : List (List ℕ)) (begun : Bool) → (IsName name → ⊥) → ReadsDeclaration names begun text None
     no_name names begun bad n p may is = bad (subst (λ (t : List ℕ). IsName t) (sym (both_parts n p may.named is).0) may.named)
 
+    -- a path that is none
     pub bad_path : (names : List (List ℕ)) (begun : Bool) → (IsPath path → ⊥) → ReadsDeclaration names begun text None
     bad_path names begun bad n p may is = bad (subst (λ (t : List ℕ). IsPath t) (sym (both_parts n p may.named is).1) may.pathed)
 
+    -- a name that was declared before
     pub name_taken : (names : List (List ℕ)) (begun : Bool) → (IsFresh name names → ⊥) → ReadsDeclaration names begun text None
     name_taken names begun bad n p may is = bad (subst (λ (t : List ℕ). IsFresh t names) (sym (both_parts n p may.named is).0) may.fresh)
 
+    -- the word of a declaration, and a name and a path behind it
     pub declares : word ≡ codes "process" → text ≡ declaration_text name path
     declares is = whole ∙ (λ k. is k ++ 32 ∷ cut k)
 
 -- ---- fresh names
 
+-- a name that is at no place among the others is fresh
 pub fresh_of : (name : List ℕ) (names : List (List ℕ)) → ((i : ℕ) → i < length names → name ≢ get_or names i []) → IsFresh name names
 fresh_of name [] h = tt
 fresh_of name (x ∷ xs) h = (λ e. h 0 (omega arith) (sym e), fresh_of name xs (λ i lt. h (suc i) (omega (arith, lt))))
 
+-- and a fresh name is at none
 pub fresh_at : (name : List ℕ) (names : List (List ℕ)) (i : ℕ) → IsFresh name names → i < length names → name ≢ get_or names i []
 fresh_at name [] i h lt = absurd (omega arith)
 fresh_at name (x ∷ xs) zero h lt = λ e. h.0 (sym e)
 fresh_at name (x ∷ xs) (suc i) h lt = fresh_at name xs i h.1 (omega arith)
 
+-- a name that isn't found is fresh
 pub is_fresh : (name : List ℕ) (names : List (List ℕ)) → position (bytes_eq name) names ≡ None → IsFresh name names
 is_fresh name names none = fresh_of name names (missing names name none)
 
+-- and one that is found isn't
 pub is_taken : (name : List ℕ) (names : List (List ℕ)) (i : ℕ) → position (bytes_eq name) names ≡ Some i → IsFresh name names → ⊥
 is_taken name names i some fresh = let at = found names name i some in fresh_at name names i fresh at.1 at.0
 
@@ -102,6 +114,7 @@ different_push : (names : List (List ℕ)) (name : List ℕ) → AreDifferent na
 different_push [] name h fresh = (tt, tt)
 different_push (x ∷ xs) name h fresh = (all_push (λ y. y ≢ x) xs name h.0 (λ e. fresh.0 (sym e)), different_push xs name h.1 fresh.1)
 
+-- the names of declared processes are names
 pub named_of : (es : List (String Global × Process)) → AllByRecursion IsDeclared es → AllByRecursion IsName (names_in es)
 named_of [] h = tt
 named_of (e ∷ es) h = (h.0.0, named_of es h.1)
@@ -122,6 +135,7 @@ rows_cond : (b : Bool) (p : ℕ × List ℕ) (x z : List (ℕ × List ℕ)) → 
 rows_cond true p x z = refl
 rows_cond false p x z = refl
 
+-- the rows of more lines are numbered on behind those of the first
 pub rows_append : (n : ℕ) (a b : List (List ℕ)) → rows n (a ++ b) ≡ rows n a ++ rows (n + length a) b
 rows_append n [] b = let at : n ≡ n + 0 = omega arith in ap (λ k. rows k b) at
 rows_append n (l ∷ ls) b =
@@ -204,9 +218,11 @@ module _ (allowed : Allowed) (text : List ℕ) (here : Bor (List ℕ)) (line : L
   counted : n + 1 ≡ length (h.before ++ line ∷ [])
   counted = omega (arith, length-append h.before (line ∷ []), h.number_is)
 
+  -- an empty line or a comment is read
   pub read_silent : is_silent line ≡ true → HaveRead allowed text rest (n + 1) es ss
   read_silent e = record { before = h.before ++ line ∷ []; whole = whole_then; number_is = counted; fine = silent_more allowed h.before line es ss h.fine e }
 
+  -- a line of an order is read, and its step is the last
   pub read_step : (x : Step) → x.line ≡ n + 1 → is_silent line ≡ false → line ≡ order_text (names_in es) x.order → IsInRange (length (names_in es)) x.order → takes allowed x.order ≡ true → HaveRead allowed text rest (n + 1) es (ss ++ x ∷ [])
   read_step x number speaks is range may = record {
     before = h.before ++ line ∷ [];
@@ -215,6 +231,7 @@ module _ (allowed : Allowed) (text : List ℕ) (here : Bor (List ℕ)) (line : L
     fine = step_more allowed h.before line es ss x h.fine speaks (omega (arith, number, h.number_is)) is range may;
   }
 
+  -- a line of a process is read, and it is the last
   pub read_process : (name path : List ℕ) (new : List (String Global × Process)) → is_silent line ≡ false → line ≡ declaration_text name path → MayDeclare (names_in es) (has_begun ss) name path
       → Declares (n + 1) name path es new → HaveRead allowed text rest (n + 1) new ss
   read_process name path new speaks is may d =
@@ -237,6 +254,7 @@ module _ (allowed : Allowed) (text : List ℕ) (here : Bor (List ℕ)) (line : L
       by All = refl
       by Inputs = ap is_input same
 
+  -- a line of such an order is faulty
   pub not_taken : (o : Order) → is_silent line ≡ false → line ≡ order_text (names_in es) o → takes allowed o ≡ false → IsFaulty allowed es ss line
   not_taken o speaks is refused = record {
     speaks = speaks;
@@ -246,6 +264,7 @@ module _ (allowed : Allowed) (text : List ℕ) (here : Bor (List ℕ)) (line : L
         true≢false (sym may ∙ takes_verb p o (same_verb (names_in es) p o (sym orders_it ∙ is)) ∙ refused);
   }
 
+  -- the first faulty line is what the text is refused for
   pub is_fault : IsFaulty allowed es ss line → IsRefusal allowed text (Line (n + 1))
   is_fault faulty = by (n + 1) (omega arith) (record {
     before = h.before;

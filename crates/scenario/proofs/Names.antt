@@ -21,6 +21,7 @@ and_both false b e = absurd cc
 no_space : (c : ℕ) → is_name_byte c ≡ true → c ≢ 32
 no_space c e is = absurd (let wrong : is_name_byte 32 ≡ true = ap is_name_byte (sym is) ∙ e in cc)
 
+-- bytes of which each may stand in a name have no space among them
 pub bytes_lack : (cs : List ℕ) → list_all is_name_byte cs ≡ true → Lacks 32 cs
 bytes_lack [] e = tt
 bytes_lack (c ∷ cs) e = let both = and_both (is_name_byte c) (list_all is_name_byte cs) e in (no_space c both.0, bytes_lack cs both.1)
@@ -37,10 +38,12 @@ process_lacks names p h = at_lacks names (p - 1) h
 outside_lacks : Lacks 32 (codes "outside")
 outside_lacks = bytes_lack (codes "outside") refl
 
+-- nor has the name of a party, the outside among them
 pub party_lacks : (names : List (List ℕ)) (p : ℕ) → AllByRecursion IsName names → Lacks 32 (party_text names p)
 party_lacks names zero h = outside_lacks
 party_lacks names (suc p) h = at_lacks names p h
 
+-- each in a list of names is a name
 pub at_named : (names : List (List ℕ)) (i : ℕ) → AllByRecursion IsName names → i < length names → IsName (get_or names i [])
 at_named [] i h lt = absurd (omega arith)
 at_named (x ∷ xs) zero h lt = h.0
@@ -67,6 +70,7 @@ pub same_length : (es : List (String Global × Process)) → length (keys_of es)
 same_length [] = refl
 same_length (e ∷ es) = omega (arith, same_length es)
 
+-- a name has the same place among the keys as among the names
 pub names_place : (t : List ℕ) (es : List (String Global × Process)) → position (λ k. bytes_eq t (string_bytes k)) (keys_of es) ≡ position (bytes_eq t) (map (λ e. string_bytes e.0) es)
 names_place t es =
     let place = same_place t es in

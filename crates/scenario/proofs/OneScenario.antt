@@ -24,9 +24,11 @@ use Rattle.scenario.proofs.Spellings.{one_order}
 abbrev pub AreOrders : List (ℕ × List ℕ) → Type 0
 AreOrders rows = AllByRecursion (λ r. (name path : List ℕ) → r.1 ≢ declaration_text name path) rows
 
+-- no line of an order is one of a process
 pub no_declaration : (names : List (List ℕ)) (o : Order) (name path : List ℕ) → order_text names o ≢ declaration_text name path
 no_declaration names o name path same = other_verb (verb_of o) (one_cut 32 _ _ _ _ (verb_lacks (verb_of o)) process_lacks same).0
 
+-- so no row of a step is
 pub are_orders : (names : List (List ℕ)) (steps : List Step) → AreOrders (map (step_row names) steps)
 are_orders names [] = tt
 are_orders names (x ∷ xs) = (no_declaration names x.order, are_orders names xs)
@@ -64,6 +66,7 @@ names_shown : (es : List (String Global × Process)) → names_in es ≡ map (λ
 names_shown [] = refl
 names_shown (e ∷ es) = ap (λ l. string_bytes e.0 ∷ l) (names_shown es)
 
+-- processes that are shown the same have the same names
 pub same_names : (es fs : List (String Global × Process)) → map shown_process es ≡ map shown_process fs → names_in es ≡ names_in fs
 same_names es fs same = names_shown es ∙ ap (λ l. map (λ (s : List ℕ × ℕ × List ℕ). s.0) l) same ∙ sym (names_shown fs)
 

@@ -34,6 +34,7 @@ verb_bytes : (v : Verb) → list_all is_name_byte (verb_text v) ≡ true
 verb_bytes verb.Input = refl
 verb_bytes v = refl
 
+-- the word of an order has no space
 pub verb_lacks : (v : Verb) → Lacks 32 (verb_text v)
 verb_lacks v = bytes_lack (verb_text v) (verb_bytes v)
 
@@ -42,6 +43,7 @@ no_process : (v : Verb) → bytes_eq (verb_text v) (codes "process") ≡ false
 no_process verb.Input = refl
 no_process v = refl
 
+-- and it isn't the one of a declaration
 pub other_verb : (v : Verb) → verb_text v ≡ codes "process" → ⊥
 other_verb v e = true≢false (sym (ap (λ t. bytes_eq t (codes "process")) e) ∙ no_process v)
 

@@ -1,12 +1,12 @@
 //! Services whose calls, answers and ends were worked out by `model/sessions.py`: the
 //! scenarios `crash` and `relay` call by call, and refusals by the table of docs/FORMATS.md.
 
-ghost use Rattle.service.specs.Service.{IsJobless};
+ghost use Rattle.machine.specs.Stepping.{TakesNoResult};
 
 mod limits;
 
 use helpers::Payload;
-use service::Service;
+use sessions::Service;
 use std::alloc::Global;
 use std::sync::Arc;
 use std::test::Fail;
@@ -78,7 +78,7 @@ fn word(value: u8) -> Payload {
 }
 
 fn call_of(act: Act) -> Call
-    ensures { IsJobless result }
+    ensures { TakesNoResult result }
 {
     match act {
         Act::Input(to, feed, value) => Call::Input {
@@ -112,7 +112,7 @@ fn saves(service: &Service, p: u8, size: usize) -> bool {
 
 fn repeats(service: &mut Service, first: Act, second: Act, times: u32) -> bool {
     for _ in 0..times {
-        if service.call(call_of(first)).is_err() || service.call(call_of(second)).is_err() {
+        if service.call(&call_of(first)).is_err() || service.call(&call_of(second)).is_err() {
             return false;
         }
     }
@@ -121,8 +121,10 @@ fn repeats(service: &mut Service, first: Act, second: Act, times: u32) -> bool {
 
 fn feeds(service: &mut Service, count: u32) -> bool {
     for feed in 1..=count {
-        let answer = service.call(call_of(Act::Input(1, feed, 1)));
-        if !matches!(answer, Ok(Answer::Logged(ssn)) if ssn == feed) {
+        let Ok(reply) = service.call(&call_of(Act::Input(1, feed, 1))) else {
+            return false;
+        };
+        if reply.answer != Answer::Logged(feed) {
             return false;
         }
     }
@@ -132,10 +134,10 @@ fn feeds(service: &mut Service, count: u32) -> bool {
 fn holds(service: &mut Service, step: Step) -> bool {
     match step {
         Step::Does(act, expected) => {
-            matches!(service.call(call_of(act)), Ok(answer) if answer == expected)
+            matches!(service.call(&call_of(act)), Ok(reply) if reply.answer == expected)
         }
         Step::Refuses(act, number) => {
-            matches!(service.call(call_of(act)), Err(refusal) if refusal.number() == number)
+            matches!(service.call(&call_of(act)), Err(refusal) if refusal.number() == number)
         }
         Step::Repeats(first, second, times) => repeats(service, first, second, times),
         Step::Feeds(count) => feeds(service, count),

@@ -15,7 +15,7 @@ use crashing::Course;
 use helpers::Payload;
 use replay::Done;
 use script::Step;
-use sessions::{Arrival, Finished, Seat, Session};
+use sessions::{Finished, Seat, Session};
 use std::alloc::Global;
 use std::marker::Brand;
 use std::process::Abort;
@@ -223,15 +223,25 @@ impl<L: Ledger> Stage<L> {
 
     /// The key of a message of the outside to the first process.
     fn sent(&mut self, ssn: u32) -> Option<usize> {
-        self.session.transmit(&mut self.seat, 0, 1, ssn).ok()
+        self.sent_to(1, ssn)
+    }
+
+    /// The key of a message of the outside to a process.
+    fn sent_to(&mut self, to: u8, ssn: u32) -> Option<usize> {
+        let call = Call::Transmit { from: 0, to, ssn };
+        match self.session.call(&mut self.seat, &call).ok()?.answer {
+            Answer::Placed(key) => Some(key),
+            _ => None,
+        }
     }
 
     /// The result of the job that an arrival starts.
     fn run(&mut self, key: usize) -> Option<Done> {
-        match self.session.arrive(&mut self.seat, key) {
-            Ok(Arrival::Started(job)) => Some(job.run()),
-            _ => None,
-        }
+        let reply = self
+            .session
+            .call(&mut self.seat, &Call::Arrive { key })
+            .ok()?;
+        Some(reply.job?.run())
     }
 
     /// The number of the message and the key of the packet that tells it, or the refusal's number.
@@ -247,22 +257,22 @@ impl<L: Ledger> Stage<L> {
     }
 
     fn entries(&self) -> usize {
-        self.session.journal().len()
+        self.session.service().journal().len()
     }
 
     /// Whether the process has this phase and length, and this byte at the head of its state.
     fn is_at(&self, p: u8, phase: PhaseName, length: u32, first: u8) -> bool {
-        if p == 0 || p > self.session.count() {
+        if p == 0 || p > self.session.service().count() {
             return false;
         }
-        self.session.phase(p) == phase
-            && self.session.length(p) == length
-            && self.session.state(p).first() == Some(&first)
+        self.session.service().phase(p) == phase
+            && self.session.service().length(p) == length
+            && self.session.service().state(p).first() == Some(&first)
     }
 
     /// Whether the journal is that of one message with this byte.
     fn has_one_message(&self, value: u8) -> bool {
-        match self.session.journal() {
+        match self.session.service().journal() {
             [input, transmit, arrive, finish] => {
                 is_input(input, value)
                     && is_transmit(transmit)
@@ -382,8 +392,10 @@ impl<L: Ledger> Stage<L> {
             dst,
             payload: word(value),
         };
-        let ssn = self.session.input(&mut self.seat, &feed).ok()?;
-        let key = self.session.transmit(&mut self.seat, 0, dst, ssn).ok()?;
+        let Answer::Logged(ssn) = self.session.input(&mut self.seat, &feed).ok()? else {
+            return None;
+        };
+        let key = self.sent_to(dst, ssn)?;
         self.run(key)
     }
 }
@@ -477,7 +489,7 @@ fn seats<L: Ledger>(rt: &impl Abort, stage: Stage<L>) -> Result<(), Fail> {
     assert_eq!(rt; seat.answered(), 1);
     stage.session.rise(seat);
     let workers = [0, 0, 16];
-    for (entry, worker) in stage.session.journal().iter().zip(workers) {
+    for (entry, worker) in stage.session.service().journal().iter().zip(workers) {
         assert_eq!(rt; entry.worker, worker);
     }
     assert_eq!(rt; stage.entries(), 3);

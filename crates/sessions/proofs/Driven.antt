@@ -3,13 +3,9 @@ use Rattle.std.proofs.Common.{◌≡◌, ℕ, suc, ◌+◌, ◌-◌, ◌<◌, �
 use Rattle.std.specs.Prelude.{Option, Some, None, Ok, ◌||◌, ◌==◌, nat_lt}
 use Rattle.std.proofs.lemmas.Bool.Decides.{nat_tests}
 use Rattle.std.proofs.lemmas.List.{append-nil}
-use Rattle.replay.specs.Task.{TheTask}
-use Rattle.world.specs.declared.packet.Packet.{Packet}
-use Rattle.world.specs.declared.packet.Packet.TheVariants.{Delivery, Number, Acknowledgement}
 use Rattle.world.specs.declared.call.Call.{Call}
-use Rattle.world.specs.declared.call.Call.TheVariants.{Arrive, Finish}
+use Rattle.world.specs.declared.call.Call.TheVariants.{Input, Transmit, Copy, Lose, Arrive, Finish, Checkpoint, Trim, Crash, Recover, RecoverAlone, ReplayBegin, Resync as ResyncWith}
 use Rattle.world.specs.declared.answer.Answer.{Answer}
-use Rattle.world.specs.declared.answer.Answer.TheVariants as answers
 use Rattle.world.specs.declared.entry.Entry.{Entry}
 use Rattle.world.specs.declared.refusal.Refusal.{Refusal}
 use Rattle.world.specs.declared.refusal.Refusal.TheVariants as refusals
@@ -17,19 +13,16 @@ use Rattle.world.specs.declared.refusal.Refusal.TheVariants.{Memory}
 use Rattle.world.specs.Fold.{handlers_of}
 use Rattle.world.specs.World.{World, opening}
 use Rattle.world.specs.Calls.{after}
-use Rattle.world.specs.Answers.{Receives}
-use Rattle.world.specs.Refusals.{cause_of, starts}
+use Rattle.world.specs.Refusals.{cause_of}
 use Rattle.world.specs.Useful.{is_free, is_useful, may_call}
 use Rattle.world.specs.Legal.{world_after}
 use Rattle.world.proofs.Runs.{world_after-append}
-use Rattle.machine.specs.Arrival.{answer_of, IsJobFor, Told}
-use Rattle.machine.specs.Picking.{IsPick}
-use Rattle.machine.specs.declared.arrival.Arrival.{Arrival}
-use Rattle.machine.specs.declared.arrival.Arrival.TheVariants.{Started, Duplicate, Early, Shown, ShownBefore, Numbered, Acknowledged, Unreachable, Stale}
+use Rattle.machine.specs.Arrival.{Told}
+use Rattle.machine.specs.Picking.{IsPick, IsMove}
+use Rattle.machine.specs.Stepping.{TakesNoResult, job_of}
 use Rattle.sessions.specs.Seats.{TheSeat}
 use Rattle.sessions.specs.Journal.{TheSession, world_at, room_at, entry, Adds}
-use Rattle.sessions.specs.Driving.{begun_by, job_of, Drives, Advances}
-use Rattle.sessions.proofs.Rooms.{started-starts}
+use Rattle.sessions.specs.Driving.{Drives, Advances}
 
 -- any seat may make a call that is picked
 pub may-pick : (w : World) (room worker : ℕ) (call : Call) → IsPick w room call → may_call w worker call ≡ true
@@ -39,6 +32,22 @@ may-pick w room worker call k = by_worker (worker == 0) (is_free call) (is_usefu
     by_worker true b c e = refl
     by_worker false true c e = refl
     by_worker false false c e = e
+
+-- a call that is picked isn't a finish
+pub takes-none : (call : Call) → IsMove call → TakesNoResult call
+takes-none (Arrive key) move = tt
+takes-none (Transmit p d i) move = tt
+takes-none (ReplayBegin p) move = tt
+takes-none (ResyncWith p r) move = tt
+takes-none (Input d feed x) move = absurd move
+takes-none (Copy key) move = absurd move
+takes-none (Lose key) move = absurd move
+takes-none (Finish p) move = absurd move
+takes-none (Checkpoint p) move = absurd move
+takes-none (Trim d) move = absurd move
+takes-none (Crash p) move = absurd move
+takes-none (Recover p) move = absurd move
+takes-none (RecoverAlone p) move = absurd move
 
 -- a refusal without a cause of the world's is want of memory
 pub cause-memory : (r : Refusal) → cause_of r ≡ None → r ≡ Memory
@@ -106,6 +115,7 @@ drives-append worker budget room (Some p) w (e ∷ es) fs left h short more =
 abbrev with_entries : TheSession → List Entry → TheSession
 with_entries s es = record s { entries = es }
 
+-- where no call is made, session and seat stay as they were
 pub advance-none : (budget : ℕ) (old new : TheSession) (by by' : TheSeat) → new ≡ old → by' ≡ by → Advances budget old new by by' 0 None
 advance-none budget old new by by' same seat =
     let none : old.entries ++ [] ≡ old.entries = append-nil old.entries in
@@ -118,6 +128,7 @@ advance-none budget old new by by' same seat =
       run = refl;
     }
 
+-- and where one is, its entry comes last, and counts for the seat
 pub advance-one : (old new : TheSession) (by by' : TheSeat) (call : Call) (answer : Answer) → IsPick (world_at old) (room_at old) call → Adds old new by by' call (Ok answer) → Advances 1 old new by by' 1 (job_of (world_at old) call answer)
 advance-one old new by by' call answer k adds =
     record {
@@ -171,34 +182,3 @@ advance-more budget old mid new by mine by' n k left a short b =
       seat = b.seat ∙ (λ i. record (a.seat i) { answered = sum i });
       run = drives-append by.worker budget (room_at old) None (world_at old) a.added b.added left a.run (omega (arith, a.as_many, short)) onward;
     }
-
--- The job of an arrival
-
-not-begun : (found : Option Packet) (a : Arrival) → ((t : TheTask) → a ≡ Started t → ⊥) → begun_by (answer_of a) found ≡ None
-not-begun found (Started t) other = absurd (other t refl)
-not-begun found (Duplicate key) other = refl
-not-begun found Early other = refl
-not-begun found (Shown ssn) other = refl
-not-begun found ShownBefore other = refl
-not-begun found (Numbered key) other = refl
-not-begun found Acknowledged other = refl
-not-begun found Unreachable other = refl
-not-begun found Stale other = refl
-
--- an arrival that starts none
-pub none-begun : (w : World) (key : ℕ) (a : Arrival) → ((t : TheTask) → a ≡ Started t → ⊥) → job_of w (Arrive key) (answer_of a) ≡ None
-none-begun w key a other = not-begun (w.wire key) a other
-
-begun-for : (w : World) (key : ℕ) (t : TheTask) (found : Option Packet) → starts w found ≡ true → IsJobFor found (Started t) → begun_by (answers.Started t.serial) found ≡ Some t.who.me
-begun-for w key t None e mine = absurd (true≢false (sym e))
-begun-for w key t (Some (Delivery d m)) e mine = by_place (nat_lt 0 d) refl
-  where
-    by_place : (b : Bool) → nat_lt 0 d ≡ b → Some d ≡ Some t.who.me
-    by_place true f = ap Some (sym (mine d m (grind (arith, nat_tests)) refl))
-    by_place false f = absurd (true≢false (sym (rw f at e)))
-begun-for w key t (Some (Number r s i k incarnation)) e mine = absurd (true≢false (sym e))
-begun-for w key t (Some (Acknowledgement s r k incarnation)) e mine = absurd (true≢false (sym e))
-
--- and one that starts the job of this task
-pub one-begun : (w : World) (key : ℕ) (t : TheTask) → Receives w key (w.wire key) (answers.Started t.serial) → IsJobFor (w.wire key) (Started t) → job_of w (Arrive key) (answers.Started t.serial) ≡ Some t.who.me
-one-begun w key t answered mine = begun-for w key t (w.wire key) (started-starts w key t.serial (w.wire key) answered) mine

@@ -1,4 +1,6 @@
 pub mod Rooms
 pub mod Steps
 mod SeatLemmas
+mod Own
+mod Together
 pub mod Driven

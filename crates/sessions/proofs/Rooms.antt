@@ -2,22 +2,23 @@
 use Rattle.std.proofs.Common.{◌≡◌, ℕ, zero, suc, ◌+◌, ◌-◌, ◌<◌, ◌≤◌, List, [], ◌∷◌, length, Bool, true, false, refl, sym, ap, ◌∙◌, subst, arith}
 use Rattle.std.specs.Prelude.{if◌then◌else◌, ◌==◌, ◌&&◌, not, nat_lt, Option, Some, None}
 use Rattle.std.proofs.lemmas.Bool.Decides.{nat_tests}
-use Rattle.world.specs.declared.message.Message.{Message}
 use Rattle.world.specs.declared.packet.Packet.{Packet}
 use Rattle.world.specs.declared.packet.Packet.TheVariants.{Delivery, Number, Acknowledgement}
 use Rattle.world.specs.declared.call.Call.{Call}
 use Rattle.world.specs.declared.call.Call.TheVariants.{Input, Transmit, Copy, Lose, Arrive, Finish, Checkpoint, Trim, Crash, Recover, RecoverAlone, ReplayBegin, Resync as ResyncWith}
-use Rattle.machine.specs.Picking.{IsPick, IsMove}
 use Rattle.world.specs.declared.answer.Answer.{Answer}
-use Rattle.world.specs.declared.answer.Answer.TheVariants.{Placed, Lost, Started, Duplicate, Shown, Numbered, Acknowledged, Committed, Replayed, Kept}
+use Rattle.world.specs.declared.answer.Answer.TheVariants as answers
+use Rattle.world.specs.declared.answer.Answer.TheVariants.{Placed, Lost, Started, Duplicate, Shown, Numbered, Acknowledged, Kept}
 use Rattle.world.specs.History.{Payload}
 use Rattle.world.specs.Phases.{Phase, Up, Busy, Down, Replaying, Resync, is_up, is_working, todo_of, without}
 use Rattle.world.specs.World.{World, put, is_inside}
 use Rattle.world.specs.Bounds.{count_below, open_jobs}
 use Rattle.world.specs.Calls.{after, arrive, commit, finish, replay, recover, keep, ready, peers, phase_with, with_open_job}
-use Rattle.world.specs.Answers.{MayAnswer, Finishes, Receives, ReceivesIf, ReceivesAs, NumbersAs, AcknowledgesAs, Verdict, Next, Known, Ahead, judge}
-use Rattle.world.specs.Refusals.{least, refusal_of, causes, starts, is_next, one_if}
+use Rattle.world.specs.Answers.{MayAnswer, Finishes, Keeps, Receives}
+use Rattle.world.specs.Refusals.{least, refusal_of, causes, starts, one_if}
 use Rattle.world.proofs.Counts.{count_below-same, count_below-put}
+use Rattle.machine.specs.Stepping.{TakesNoResult}
+use Rattle.machine.proofs.StartLemmas.{started-starts}
 
 -- a refusal that isn't told: no cause holds
 abbrev AllFalse : List (Bool × ℕ) → Type 0
@@ -40,7 +41,7 @@ put_test f p x q = by_key (q == p)
     by_key false = refl
 
 -- one process changes its phase
-pub jobs-put : (f : ℕ → Phase) (p n : ℕ) (x : Phase) → p < n → count_below (λ q. is_working (put f p x q)) n + one_if (is_working (f p)) ≡ count_below (λ q. is_working (f q)) n + one_if (is_working x)
+jobs-put : (f : ℕ → Phase) (p n : ℕ) (x : Phase) → p < n → count_below (λ q. is_working (put f p x q)) n + one_if (is_working (f p)) ≡ count_below (λ q. is_working (f q)) n + one_if (is_working x)
 jobs-put f p n x h =
     let same = count_below-same (λ q. is_working (put f p x q)) (put (λ q. is_working (f q)) p (is_working x)) n (λ k below. put_test f p x k) in
     rw same (count_below-put (λ q. is_working (f q)) p n (is_working x) h)
@@ -60,46 +61,6 @@ jobs-more f p n x = by_size (nat_lt p n) refl
     by_size true e = let h : p < n = grind (arith, nat_tests) in omega (arith, jobs-put f p n x h, at_most (is_working x))
     by_size false e = let h : n ≤ p = grind (arith, nat_tests) in omega (arith, jobs-beyond f p n x h)
 
--- an answer that starts a job is that of a message which does
-verdict-starts : (w : World) (key d n : ℕ) (m : Message) (v : Verdict) → ReceivesAs w key d m v (Started n) → (nat_lt 0 d && is_next v) ≡ true
-verdict-starts w key zero n m Next e = absurd (cc)
-verdict-starts w key zero n m Known e = absurd (cc)
-verdict-starts w key zero n m Ahead e = absurd (cc)
-verdict-starts w key (suc d) n m Next e = let here : nat_lt 0 (suc d) ≡ true = grind (arith, nat_tests) in rw here refl
-verdict-starts w key (suc d) n m Known e = let no = e.2 in absurd (cc)
-verdict-starts w key (suc d) n m Ahead e = absurd (cc)
-
-starts-if : (w : World) (key d n : ℕ) (m : Message) (b : Bool) → ReceivesIf b w key (Delivery d m) (Started n) → (nat_lt 0 d && b && is_next (judge w d m)) ≡ true
-starts-if w key d n m true e = both (nat_lt 0 d) (is_next (judge w d m)) (verdict-starts w key d n m (judge w d m) e)
-  where
-    both : (a b : Bool) → (a && b) ≡ true → (a && true && b) ≡ true
-    both true true e = refl
-    both true false e = e
-    both false b e = e
-starts-if w key d n m false e = absurd (cc)
-
-number-starts : (w : World) (key n : ℕ) (b : Bool) → ¬ NumbersAs w key b (Started n)
-number-starts w key n true e = let no = e.2 in cc
-number-starts w key n false e = cc
-
-acknowledgement-starts : (n : ℕ) (b : Bool) → ¬ AcknowledgesAs b (Started n)
-acknowledgement-starts n true e = cc
-acknowledgement-starts n false e = cc
-
-pub started-starts : (w : World) (key n : ℕ) (found : Option Packet) → Receives w key found (Started n) → starts w found ≡ true
-started-starts w key n None e = absurd e
-started-starts w key n (Some (Delivery d m)) e = starts-if w key d n m (is_up (w.phase d)) e
-started-starts w key n (Some (Number r s i k incarnation)) e = absurd (by_phase (is_up (w.phase s)) e)
-  where
-    by_phase : (b : Bool) → ¬ ReceivesIf b w key (Number r s i k incarnation) (Started n)
-    by_phase true e = number-starts w key n _ e
-    by_phase false e = cc
-started-starts w key n (Some (Acknowledgement s r k incarnation)) e = absurd (by_phase (is_up (w.phase r)) e)
-  where
-    by_phase : (b : Bool) → ¬ ReceivesIf b w key (Acknowledgement s r k incarnation) (Started n)
-    by_phase true e = acknowledgement-starts n _ e
-    by_phase false e = cc
-
 jobs-arrive : (w : World) (key : ℕ) (found : Option Packet) (a : Answer) → Receives w key found a → open_jobs (arrive w key found a) ≤ open_jobs w + one_if (starts w found)
 jobs-arrive w key (Some (Delivery d m)) (Started n) e =
     let more = jobs-more w.phase d (suc w.count) (Busy m) in
@@ -115,38 +76,22 @@ places : (room jobs : ℕ) → nat_lt room (jobs + 1) ≡ false → jobs + 1 ≤
 places room jobs e = grind (arith, nat_tests)
 
 -- a place for each job that is open after an accepted call
-pub room-input : (w : World) (room d feed : ℕ) (x : List ℕ) (a : Answer) → refusal_of w room (Input d feed x) ≡ None → open_jobs (after w (Input d feed x) a) + 1 ≤ room
+room-input : (w : World) (room d feed : ℕ) (x : List ℕ) (a : Answer) → refusal_of w room (Input d feed x) ≡ None → open_jobs (after w (Input d feed x) a) + 1 ≤ room
 room-input w room d feed x a accepted = places room (open_jobs w) (clear (causes w room (Input d feed x)) accepted).1.0
 
-pub room-transmit : (w : World) (room p d i key : ℕ) → refusal_of w room (Transmit p d i) ≡ None → open_jobs (after w (Transmit p d i) (Placed key)) + 1 ≤ room
+room-transmit : (w : World) (room p d i key : ℕ) → refusal_of w room (Transmit p d i) ≡ None → open_jobs (after w (Transmit p d i) (Placed key)) + 1 ≤ room
 room-transmit w room p d i key accepted = places room (open_jobs w) (clear (causes w room (Transmit p d i)) accepted).1.1.1.1.1.0
 
-pub room-copy : (w : World) (room key new : ℕ) → refusal_of w room (Copy key) ≡ None → open_jobs (after w (Copy key) (Placed new)) + 1 ≤ room
+room-copy : (w : World) (room key new : ℕ) → refusal_of w room (Copy key) ≡ None → open_jobs (after w (Copy key) (Placed new)) + 1 ≤ room
 room-copy w room key new accepted = places room (open_jobs w) (clear (causes w room (Copy key)) accepted).1.0
 
-pub room-lose : (w : World) (room key : ℕ) → refusal_of w room (Lose key) ≡ None → open_jobs (after w (Lose key) Lost) + 1 ≤ room
+room-lose : (w : World) (room key : ℕ) → refusal_of w room (Lose key) ≡ None → open_jobs (after w (Lose key) Lost) + 1 ≤ room
 room-lose w room key accepted = places room (open_jobs w) (clear (causes w room (Lose key)) accepted).1.0
 
-pub room-arrive : (w : World) (room key : ℕ) (a : Answer) → refusal_of w room (Arrive key) ≡ None → MayAnswer w (Arrive key) a → open_jobs (after w (Arrive key) a) + 1 ≤ room
+room-arrive : (w : World) (room key : ℕ) (a : Answer) → refusal_of w room (Arrive key) ≡ None → MayAnswer w (Arrive key) a → open_jobs (after w (Arrive key) a) + 1 ≤ room
 room-arrive w room key a accepted may =
     let place = places room (open_jobs w + one_if (starts w (w.wire key))) (clear (causes w room (Arrive key)) accepted).1.1.0 in
     omega (arith, place, jobs-arrive w key (w.wire key) a may)
-
--- a call that is picked has a place
-pub room-pick : (w : World) (room : ℕ) (call : Call) → IsMove call → IsPick w room call → 0 < room
-room-pick w room (Transmit p d i) move k = omega (arith, places room (open_jobs w) (clear (causes w room (Transmit p d i)) k.accepted).1.1.1.1.1.0)
-room-pick w room (Arrive key) move k = omega (arith, places room (open_jobs w + one_if (starts w (w.wire key))) (clear (causes w room (Arrive key)) k.accepted).1.1.0)
-room-pick w room (Input d feed x) move k = absurd move
-room-pick w room (Copy key) move k = absurd move
-room-pick w room (Lose key) move k = absurd move
-room-pick w room (Finish p) move k = absurd move
-room-pick w room (Checkpoint p) move k = absurd move
-room-pick w room (Trim d) move k = absurd move
-room-pick w room (Crash p) move k = absurd move
-room-pick w room (Recover p) move k = absurd move
-room-pick w room (RecoverAlone p) move k = absurd move
-room-pick w room (ReplayBegin p) move k = omega (arith, places room (open_jobs w + 1) (clear (causes w room (ReplayBegin p)) k.accepted).1.1.1.0)
-room-pick w room (ResyncWith p r) move k = omega (arith, places room (open_jobs w) (clear (causes w room (ResyncWith p r)) k.accepted).1.1.1.1.0)
 
 -- a process without an open job: not more are open
 fewer : (w : World) (p : ℕ) (x : Phase) → is_working x ≡ false → count_below (λ q. is_working (put w.phase p x q)) (suc w.count) ≤ open_jobs w
@@ -171,22 +116,22 @@ jobs-recover w p k alone = by_whole (nat_lt (w.saved p) k)
     by_whole true = fewer w p (Replaying 0 false alone) refl
     by_whole false = fewer w p (phase_with (peers w p alone)) (phase_with-idle (peers w p alone))
 
-pub room-checkpoint : (w : World) (room p : ℕ) (a : Answer) → refusal_of w room (Checkpoint p) ≡ None → open_jobs (after w (Checkpoint p) a) + 1 ≤ room
+room-checkpoint : (w : World) (room p : ℕ) (a : Answer) → refusal_of w room (Checkpoint p) ≡ None → open_jobs (after w (Checkpoint p) a) + 1 ≤ room
 room-checkpoint w room p a accepted = places room (open_jobs w) (clear (causes w room (Checkpoint p)) accepted).1.1.1.0
 
-pub room-trim : (w : World) (room d : ℕ) (a : Answer) → refusal_of w room (Trim d) ≡ None → open_jobs (after w (Trim d) a) + 1 ≤ room
+room-trim : (w : World) (room d : ℕ) (a : Answer) → refusal_of w room (Trim d) ≡ None → open_jobs (after w (Trim d) a) + 1 ≤ room
 room-trim w room d a accepted = places room (open_jobs w) (clear (causes w room (Trim d)) accepted).1.0
 
-pub room-recover : (w : World) (room p k : ℕ) → refusal_of w room (Recover p) ≡ None → open_jobs (after w (Recover p) (Kept k)) + 1 ≤ room
+room-recover : (w : World) (room p k : ℕ) → refusal_of w room (Recover p) ≡ None → open_jobs (after w (Recover p) (Kept k)) + 1 ≤ room
 room-recover w room p k accepted = omega (arith, places room (open_jobs w) (clear (causes w room (Recover p)) accepted).1.1.1.0, jobs-recover w p k false)
 
-pub room-alone : (w : World) (room p k : ℕ) → refusal_of w room (RecoverAlone p) ≡ None → open_jobs (after w (RecoverAlone p) (Kept k)) + 1 ≤ room
+room-alone : (w : World) (room p k : ℕ) → refusal_of w room (RecoverAlone p) ≡ None → open_jobs (after w (RecoverAlone p) (Kept k)) + 1 ≤ room
 room-alone w room p k accepted = omega (arith, places room (open_jobs w) (clear (causes w room (RecoverAlone p)) accepted).1.1.0, jobs-recover w p k true)
 
-pub room-begin : (w : World) (room p : ℕ) (a : Answer) → refusal_of w room (ReplayBegin p) ≡ None → open_jobs (after w (ReplayBegin p) a) + 1 ≤ room
+room-begin : (w : World) (room p : ℕ) (a : Answer) → refusal_of w room (ReplayBegin p) ≡ None → open_jobs (after w (ReplayBegin p) a) + 1 ≤ room
 room-begin w room p a accepted = omega (arith, places room (open_jobs w + 1) (clear (causes w room (ReplayBegin p)) accepted).1.1.1.0, jobs-more w.phase p (suc w.count) (with_open_job (w.phase p)))
 
-pub room-resync : (w : World) (room p r : ℕ) (a : Answer) → refusal_of w room (ResyncWith p r) ≡ None → open_jobs (after w (ResyncWith p r) a) + 1 ≤ room
+room-resync : (w : World) (room p r : ℕ) (a : Answer) → refusal_of w room (ResyncWith p r) ≡ None → open_jobs (after w (ResyncWith p r) a) + 1 ≤ room
 room-resync w room p r a accepted = omega (arith, places room (open_jobs w) (clear (causes w room (ResyncWith p r)) accepted).1.1.1.1.0, fewer w p (phase_with (without (todo_of (w.phase p)) r)) (phase_with-idle (without (todo_of (w.phase p)) r)))
 
 inside-below : (w : World) (p : ℕ) → is_inside w p ≡ true → p < suc w.count
@@ -202,7 +147,7 @@ not-false true e = refl
 not-false false e = absurd (cc)
 
 -- the open job of a process that crashes is gone
-pub room-crash : (w : World) (room p : ℕ) (a : Answer) → refusal_of w room (Crash p) ≡ None → open_jobs (after w (Crash p) a) + 1 ≤ room
+room-crash : (w : World) (room p : ℕ) (a : Answer) → refusal_of w room (Crash p) ≡ None → open_jobs (after w (Crash p) a) + 1 ≤ room
 room-crash w room p a accepted =
     let inside : is_inside w p ≡ true = not-false (is_inside w p) (clear (causes w room (Crash p)) accepted).0 in
     let same : count_below (λ q. is_working (put w.phase p Down q)) (suc w.count) + one_if (is_working (w.phase p)) ≡ open_jobs w + 0 = jobs-put w.phase p (suc w.count) Down (inside-below w p inside) in
@@ -235,3 +180,51 @@ pub room-finish : (w : World) (room p : ℕ) (a : Answer) → refusal_of w room 
 room-finish w room p a accepted may =
     let both = both-of (is_inside w p) (is_working (w.phase p)) (clear (causes w room (Finish p)) accepted).0 in
     finished-phase w p (w.phase p) a both.0 both.1 may
+
+-- a process that comes back is told how many messages it keeps
+kept : (w : World) (p : ℕ) (a : Answer) → Keeps w p a → (k : ℕ) × (a ≡ Kept k)
+kept w p (Kept k) h = (k, refl)
+kept w p (answers.Logged n) h = absurd h
+kept w p (answers.Placed n) h = absurd h
+kept w p answers.Lost h = absurd h
+kept w p (answers.Started n) h = absurd h
+kept w p (answers.Numbered n) h = absurd h
+kept w p answers.Acknowledged h = absurd h
+kept w p (answers.Shown n) h = absurd h
+kept w p (answers.Duplicate n) h = absurd h
+kept w p answers.ShownBefore h = absurd h
+kept w p answers.Early h = absurd h
+kept w p answers.Stale h = absurd h
+kept w p answers.Unreachable h = absurd h
+kept w p (answers.Committed n key) h = absurd h
+kept w p (answers.Replayed n) h = absurd h
+kept w p (answers.Saved n) h = absurd h
+kept w p (answers.Trimmed n) h = absurd h
+kept w p (answers.Crashed n) h = absurd h
+kept w p (answers.Restored n) h = absurd h
+
+-- a place for each job that is open after an accepted call
+pub room-of : (w : World) (room : ℕ) (call : Call) (a : Answer) → TakesNoResult call → refusal_of w room call ≡ None → MayAnswer w call a → open_jobs (after w call a) + 1 ≤ room
+room-of w room (Input d feed x) a j e may = room-input w room d feed x a e
+room-of w room (Transmit p d i) a j e may =
+    let P : Answer → Type 0 = λ a. open_jobs (after w (Transmit p d i) a) + 1 ≤ room in
+    subst P (sym may.2) (room-transmit w room p d i may.0 e)
+room-of w room (Copy key) a j e may =
+    let P : Answer → Type 0 = λ a. open_jobs (after w (Copy key) a) + 1 ≤ room in
+    subst P (sym may.2) (room-copy w room key may.0 e)
+room-of w room (Lose key) a j e may = room-lose w room key e
+room-of w room (Checkpoint p) a j e may = room-checkpoint w room p a e
+room-of w room (Trim d) a j e may = room-trim w room d a e
+room-of w room (Crash p) a j e may = room-crash w room p a e
+room-of w room (Recover p) a j e may =
+    let P : Answer → Type 0 = λ a. open_jobs (after w (Recover p) a) + 1 ≤ room in
+    let k = kept w p a may in
+    subst P (sym k.1) (room-recover w room p k.0 e)
+room-of w room (RecoverAlone p) a j e may =
+    let P : Answer → Type 0 = λ a. open_jobs (after w (RecoverAlone p) a) + 1 ≤ room in
+    let k = kept w p a may in
+    subst P (sym k.1) (room-alone w room p k.0 e)
+room-of w room (ResyncWith p r) a j e may = room-resync w room p r a e
+room-of w room (Arrive key) a j e may = room-arrive w room key a e may
+room-of w room (Finish p) a j e may = absurd j
+room-of w room (ReplayBegin p) a j e may = room-begin w room p a e

@@ -16,14 +16,11 @@ use Rattle.world.specs.Useful.{is_free, is_useful, may_call}
 use Rattle.world.specs.Legal.{WStep, world_of, world_after, is_single, all_single}
 use Rattle.world.proofs.Runs.{world_after-push, world_after-setting, Legal-push}
 use Rattle.machine.specs.Simulation.{TheMachine, Stands, Steps}
-use Rattle.machine.specs.Arrival.{IsJobOf}
-use Rattle.machine.specs.declared.arrival.Arrival.{Arrival}
-use Rattle.machine.specs.declared.arrival.Arrival.TheVariants.{Started, Duplicate, Early, Shown, ShownBefore, Numbered, Acknowledged, Unreachable, Stale}
 use Rattle.theorems.specs.Recovery.{RecoversExactly, recovery}
 use Rattle.theorems.specs.Single.{IsSingle}
 use Rattle.theorems.proofs.KeptLemmas.{recovers-exactly}
 use Rattle.sessions.specs.Seats.{TheSeat}
-use Rattle.sessions.specs.Journal.{TheSession, entry, answered_once, Adds, HandsOut, ReturnsTo, is_exact_of, world_at, room_at}
+use Rattle.sessions.specs.Journal.{TheSession, entry, answered_more, Adds, ReturnsTo, is_exact_of, world_at, room_at}
 use Rattle.sessions.specs.Inside.{IsSession}
 
 -- the world of a session's fields
@@ -68,9 +65,11 @@ single-push w (x ∷ es) e = ap (λ b. is_single w x.call && b) (single-push (af
 abbrev pub Carries : TheMachine → TheMachine → List Entry → List Entry → Call → Type 0
 Carries m m' es entries call = (b : Bool) → b ≡ is_exact_of m.images es → (b && is_single (here m es) call) ≡ is_exact_of m'.images entries
 
+-- by a call that keeps to a single failure it stays as it was
 pub carried : (b x : Bool) → (b && true) ≡ x → b ≡ x
 carried b x e = sym (and-true b) ∙ e
 
+-- and by another it is so no more
 pub ended : (b x : Bool) → (b && false) ≡ x → false ≡ x
 ended b x e = sym (and-false b) ∙ e
 
@@ -78,6 +77,7 @@ ended b x e = sym (and-false b) ∙ e
 pub stays : (b y o u x : Bool) → b ≡ true → y ≡ o → o ≡ u → (b && u) ≡ x → y ≡ x
 stays b y o u x h is same e = is ∙ same ∙ sym (ap (λ z. z && u) h) ∙ e
 
+-- and where it wasn't so before, it isn't after
 pub stops : (b y u x : Bool) → b ≡ false → y ≡ false → (b && u) ≡ x → y ≡ x
 stops b y u x h is e = is ∙ sym (ap (λ z. z && u) h) ∙ e
 
@@ -119,7 +119,7 @@ module _ (m m' : TheMachine) (es : List Entry) (seats : List (Option TheSeat)) (
       ap (λ x. x && is_single (here m es) call) h ∙ sym (single-push (opening (length m.images) (handlers_of m.images)) es (entry by.worker call answer)) ∙ sym moved
 
   -- the session after an accepted call
-  pub accepted : (entries : List Entry) → entries ≡ es ++ entry by.worker call answer ∷ [] → (by' : TheSeat) → by' ≡ answered_once by
+  pub accepted : (entries : List Entry) → entries ≡ es ++ entry by.worker call answer ∷ [] → (by' : TheSeat) → by' ≡ answered_more 1 by
       → m'.calls ≡ m.calls + 1 → length es + 1 + open_jobs (after (here m es) call answer) ≤ LIMIT
       → Accepts m m' es entries seats by by' call answer
   unfolding e
@@ -154,18 +154,6 @@ opened m images is calls stands =
     let P : List Typed → Type 0 = λ images. Stands m (opening (length images) (handlers_of images)) in
     let leads : Stands m (here m []) = subst P (sym is) stands in
     record { legal = tt; leads = leads; sizes = sizes-are m [] leads; calls = calls; room = omega (arith, no-jobs (suc (length m.images))) }
-
--- the job that a machine hands out is open in the session's world
-pub handed : (m : TheMachine) (es : List Entry) (seats : List (Option TheSeat)) (a : Arrival) → IsJobOf m a → Stands m (here m es) → HandsOut (session m es seats) a
-handed m es seats (Started task) job s = job (here m es) s
-handed m es seats (Duplicate key) job s = tt
-handed m es seats Early job s = tt
-handed m es seats (Shown ssn) job s = tt
-handed m es seats ShownBefore job s = tt
-handed m es seats (Numbered key) job s = tt
-handed m es seats Acknowledged job s = tt
-handed m es seats Stale job s = tt
-handed m es seats Unreachable job s = tt
 
 -- p came back with k messages
 pub returns-to : (old new : TheSession) (worker p k : ℕ) → new ≡ record old { entries = old.entries ++ recovery worker p k ∷ [] } → ReturnsTo old new p k

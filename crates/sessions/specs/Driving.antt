@@ -1,11 +1,8 @@
 -- Calls that are picked and made, with the jobs that they start
 use Rattle.std.specs.Prelude.{◌≡◌, ℕ, ◌+◌, ◌-◌, ◌<◌, ◌≤◌, ◌⊎◌, List, [], ◌∷◌, ◌++◌, length, Option, Some, None, Result, Ok, Err}
-use Rattle.world.specs.declared.packet.Packet.{Packet}
-use Rattle.world.specs.declared.packet.Packet.TheVariants.{Delivery}
 use Rattle.world.specs.declared.call.Call.{Call}
-use Rattle.world.specs.declared.call.Call.TheVariants.{Arrive, Finish, ReplayBegin}
+use Rattle.world.specs.declared.call.Call.TheVariants.{Finish}
 use Rattle.world.specs.declared.answer.Answer.{Answer}
-use Rattle.world.specs.declared.answer.Answer.TheVariants.{Started}
 use Rattle.world.specs.declared.entry.Entry.{Entry}
 use Rattle.world.specs.declared.refusal.Refusal.{Refusal}
 use Rattle.world.specs.declared.refusal.Refusal.TheVariants.{Memory}
@@ -14,19 +11,10 @@ use Rattle.world.specs.Calls.{after}
 use Rattle.replay.specs.Task.{TheTask}
 use Rattle.machine.specs.Arrival.{IsOpen}
 use Rattle.machine.specs.Picking.{IsPick}
+use Rattle.machine.specs.Stepping.{job_of}
+use Rattle.machine.specs.declared.stepping.Reply.{Reply}
 use Rattle.sessions.specs.Seats.{TheSeat}
 use Rattle.sessions.specs.Journal.{TheSession, world_at, room_at, Adds}
-
--- whose job the answer to a packet tells as started
-abbrev pub begun_by : Answer → Option Packet → Option ℕ
-begun_by (Started n) (Some (Delivery d m)) = Some d
-begun_by answer packet = None
-
--- the process whose job a call started
-abbrev pub job_of : World → Call → Answer → Option ℕ
-job_of w (Arrive key) answer = begun_by answer (w.wire key)
-job_of w (ReplayBegin p) answer = Some p
-job_of w call answer = None
 
 -- each of these entries of a worker is a call that can be picked where it is made, before so many were accepted, or the finish of
 -- the job that the entry before it started. `job` is the process whose job is open before them, and `left` that after them
@@ -53,6 +41,10 @@ IsQuiet s = (call : Call) → ¬ IsPick (world_at s) (room_at s) call
 abbrev pub Starts : TheSession → Option ℕ → Option TheTask → Type 0
 Starts s p None = p ≡ None
 Starts s p (Some task) = (p ≡ Some task.who.me) × IsOpen s.images task (world_at s)
+
+-- an accepted call hands out the job that it starts, which is open
+abbrev pub StartsJob : TheSession → TheSession → Call → Reply → Type 0
+StartsJob old new call reply = Starts new (job_of (world_at old) call reply.answer) reply.job
 
 -- what a call that was picked owes: it is accepted, and hands out the job that it starts; or memory ran out, and nothing has changed
 abbrev pub Makes : TheSession → TheSession → TheSeat → TheSeat → Call → Result (Option TheTask) Refusal → Type 0

@@ -1,35 +1,45 @@
 //! Sessions: processes that receive messages, with the journal of all that was done.
 //!
-//! A [`Session`] takes calls one at a time. A call that it accepts adds one entry to its journal; a
+//! A [`Service`] takes calls one at a time. A call that it accepts adds one entry to its journal; a
 //! call that it refuses changes nothing and tells the least number whose cause holds. Its type
 //! keeps that the journal is legal, so that each entry is a step of the world from the opening on,
 //! and that it leads to where the session is: states, lengths and phases are those of the world
-//! after the journal's last entry. But for `drive`, handlers don't run in it: `arrive` hands out a
-//! job, and `finish` takes its result back.
+//! after the journal's last entry. But for `drive`, handlers don't run in it: a call hands out the
+//! job that it starts, and `finish` takes its result back.
 //!
-//! A call is made by a [`Seat`], whose worker the entry bears and which counts it. The seats hold
-//! the parts of a ledger whose book, beside the journal, has the journal's length as total: so no
-//! entry comes without a seat that was answered, whichever threads hold the seats.
+//! ```text
+//! let mut service = Service::open(alloc, images)?;
+//! let reply = service.call(&Call::Input { to: 1, feed: 1, payload })?;
+//! let reply = service.call(&Call::Transmit { from: 0, to: 1, ssn: 1 })?;
+//! if let Some(job) = service.call(&Call::Arrive { key: 0 })?.job {
+//!     let committed = service.finish(job.run())?;
+//! }
+//! let accepted = service.drive(65_536)?;
+//! ```
+//!
+//! A [`Session`] is a service that many threads call. A call is made by a [`Seat`], whose worker the
+//! entry bears and which counts it. The seats hold the parts of a ledger whose book, beside the
+//! service, has the journal's length as total: so no entry comes without a seat that was answered,
+//! whichever threads hold the seats.
 //!
 //! ```text
 //! let mut session = Session::<L>::open(alloc, blank, images)?;
 //! let mut seat = session.sit(0)?;
-//! let ssn = session.input(&mut seat, &feed)?;
-//! let key = session.transmit(&mut seat, 0, 1, ssn)?;
-//! if let Arrival::Started(job) = session.arrive(&mut seat, key)? {
-//!     let committed = session.finish(&mut seat, job.run())?;
-//! }
+//! let reply = session.call(&mut seat, &Call::Input { to: 1, feed: 1, payload })?;
+//! let accepted = session.drive(&mut seat, 65_536)?;
 //! ```
 #![tactic(auto)]
 
 mod driving;
 mod journal;
-mod recovering;
+mod reading;
 mod seat;
+mod service;
 mod session;
 mod share;
 
-pub use machine::{Arrival, Finished};
+pub use machine::{Finished, Reply};
 pub use seat::Seat;
+pub use service::Service;
 pub use session::Session;
 pub use share::{End, Share};

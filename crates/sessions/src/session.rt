@@ -1,57 +1,52 @@
-//! The calls of a session.
+//! Sessions of many callers.
 
-ghost use Rattle.std.specs.Prelude.{◌≡◌, ◌+◌, ◌≤◌, ◌↔◌, IfNone, IfOk, IfSome, IsTrue, None, Some, [], true, false, length, map, slice_set};
+ghost use Rattle.std.specs.Prelude.{◌≡◌, ◌↔◌, ◌+◌, ◌≤◌, IfNone, IfOk, IfSome, IsTrue, None, Some, [], true, false, length, map, slice_set};
 ghost use Rattle.std.specs.Arc.{arc_value};
-ghost use Rattle.world.specs.Phases.{name_of, is_down};
-ghost use Rattle.world.specs.Bounds.{open_jobs};
-ghost use Rattle.world.specs.Logs.{state_of, length_of};
-ghost use Rattle.machine.specs.Simulation.{answering};
-ghost use Rattle.machine.specs.Arrival.{answer_of, IsJobFor};
-ghost use Rattle.machine.specs.Picking.{IsPick, IsMove};
 ghost use Rattle.world.specs.Useful.{may_call};
-ghost use Rattle.sessions.specs.Driving.{IsQuiet};
+ghost use Rattle.machine.specs.Simulation.{answering};
+ghost use Rattle.machine.specs.Stepping.{TakesNoResult, answer_in};
+ghost use Rattle.machine.specs.Picking.{IsPick, IsMove};
+ghost use Rattle.world.specs.declared.call.Call.TheVariants as call;
+ghost use Rattle.sessions.specs.Driving.{Driven, IsQuiet, Makes, StartsJob};
 ghost use Rattle.sessions.specs.Seats.{AreSeats, IsWhole, answered_by, new_seats, seat_at};
+ghost use Rattle.sessions.specs.Service.{Returns, alone};
 ghost use Rattle.sessions.specs.Shares.{answers_of};
-ghost use Rattle.sessions.specs.Journal.{IsExact, IsLegal, world_at, room_at, Adds, HandsOut, Takes, OpensWith};
-ghost use Rattle.theorems.specs.Kept.{HasKept};
-ghost use Rattle.theorems.specs.Orphans.{NoOrphan, ShownBegin};
+ghost use Rattle.sessions.specs.Journal.{IsLegal, world_at, room_at, Adds, Takes, OpensWith};
 
-use crate::journal::Journal;
-use crate::seat::Seat;
+use crate::seat::{Seat, settle};
+use crate::service::Service;
 use crate::share::Share;
-use machine::{Arrival, Finished, Machine};
-use replay::Done;
+use machine::{Finished, Reply};
+use replay::{Done, Job};
 use std::alloc::{AllocError, Global};
 use std::marker::Model;
 use std::sync::Arc;
-use std::sync::ledger::{Blank, Ledger, Share as Part};
+use std::sync::ledger::{Blank, Book, Ledger, Share as Part};
 use verifier::Image;
-use world::{Answer, Call, Entry, Feed, Message, PhaseName, Refusal};
+use world::{Answer, Call, Feed, Refusal};
 
 /// How many seats there are: one for nobody, and one for each of 16 workers.
 const SEATS: u8 = 17;
 
-/// Processes 1 to n, with the journal of the calls that led to where they are, and the seats that
+/// A service that many may call, the book that counts their accepted calls, and the seats that
 /// nobody took. `L` names the session's ledger, which has a part for each seat.
 #[derive(Drop)]
 pub struct Session<L: Ledger> {
-    pub(crate) machine: Machine,
-    pub(crate) journal: Journal<L>,
+    service: Service,
+    book: Book<L>,
     seats: Vec<Option<Seat<L>>>,
-    pub(crate) exact: bool,
 }
 
 impl<L: Ledger> Model for Session<L> {
-    ghost use Rattle.std.specs.Prelude.{◌≡◌};
-    ghost use Rattle.sessions.specs.Journal.{TheSession, is_exact_of};
+    ghost use Rattle.std.specs.Prelude.{◌≡◌, length};
+    ghost use Rattle.sessions.specs.Journal.{TheSession};
     ghost use Rattle.sessions.specs.Seats.{AreSeats};
-    ghost use Rattle.sessions.specs.Inside.{IsSession};
 
     ghost Value = { TheSession };
 
-    ghost view = { λ s. record { images = s.machine.images; entries = s.journal.entries; seats = s.seats.items } };
+    ghost view = { λ s. record { images = s.service.images; entries = s.service.entries; seats = s.seats.items } };
 
-    ghost invariant = { λ s. IsSession s.machine s.journal.entries × AreSeats s.seats.items × (s.exact ≡ is_exact_of s.machine.images s.journal.entries) };
+    ghost invariant = { λ s. AreSeats s.seats.items × (s.book.total ≡ length s.service.entries) };
 }
 
 // A seat for each part of the ledger.
@@ -79,15 +74,13 @@ impl<L: Ledger> Session<L> {
         requires parts { (blank.parts ≡ L.parts) × (L.parts ≡ 17) }
         ensures { OpensWith (map arc_value images.items) result }
     {
-        let machine = Machine::open(alloc, images)?;
+        let service = Service::open(alloc, images)?;
         let (book, parts) = blank.open::<L>();
         let seats = seats_of(alloc, parts)?;
-        let journal = Journal::new(alloc, book);
         Ok(Session {
-            machine,
-            journal,
+            service,
+            book,
             seats,
-            exact: true,
         })
     }
 
@@ -131,68 +124,17 @@ impl<L: Ledger> Session<L> {
         ensures legal { IsLegal self.new }
         ensures all { length shares.old + length seats.old ≡ 17 → length self.old.entries ≡ answers_of shares.old + answered_by seats.old }
     {
-        self.journal.settle(shares, seats);
+        settle(&mut self.book, shares, seats);
+        let _entries = self.service.journal();
     }
 
-    /// The accepted calls with their answers, the first one first.
-    pub fn journal(&self) -> &[Entry]
-        ensures entries { result.now ≡ self.now.entries }
-        ensures legal { IsLegal self.now }
-        ensures kept { HasKept (world_at self.now) }
-        ensures no_orphan { IsExact self.now → NoOrphan (world_at self.now) }
-        ensures output_once { IsExact self.now → ShownBegin (world_at self.now) }
+    /// What the callers share: all that can be read of the session is read there.
+    pub fn service(&self) -> &Service
+        ensures { result.now ≡ alone self.now }
     {
-        self.journal.as_slice()
-    }
-
-    /// How many processes there are, 1 to 15.
-    pub fn count(&self) -> u8
-        ensures value { result ≡ length self.now.images }
-        ensures some { (1 ≤ result) × (result ≤ 15) }
-    {
-        self.machine.count()
-    }
-
-    /// The state of a process, which is empty while the process is down.
-    pub fn state(&self, p: u8) -> &[u8]
-        requires { (1 ≤ p) × (p ≤ length self.now.images) }
-        ensures live { is_down ((world_at self.now).phase p) ≡ false → result.now ≡ state_of (world_at self.now) p }
-        ensures down { is_down ((world_at self.now).phase p) ≡ true → result.now ≡ [] }
-    {
-        self.machine.state(p)
-    }
-
-    /// How many messages its state has: while it is down, those of its checkpoint.
-    pub fn length(&self, p: u8) -> u32
-        requires { (1 ≤ p) × (p ≤ length self.now.images) }
-        ensures { result ≡ length_of (world_at self.now) p }
-    {
-        self.machine.length(p)
-    }
-
-    /// The outputs that the outside was shown, in order: each once, and none that its sender doesn't
-    /// send, where failures came one at a time.
-    pub fn shown(&self) -> &[Message]
-        ensures value { result.now ≡ (world_at self.now).shown }
-        ensures no_orphan { IsExact self.now → NoOrphan (world_at self.now) }
-        ensures output_once { IsExact self.now → ShownBegin (world_at self.now) }
-    {
-        self.machine.shown()
-    }
-
-    /// How many jobs are open.
-    pub fn open_jobs(&self) -> u32
-        ensures { result ≡ open_jobs (world_at self.now) }
-    {
-        self.machine.open_jobs()
-    }
-
-    /// The name of its phase.
-    pub fn phase(&self, p: u8) -> PhaseName
-        requires { (1 ≤ p) × (p ≤ length self.now.images) }
-        ensures { result ≡ name_of ((world_at self.now).phase p) }
-    {
-        self.machine.phase(p)
+        // A service has no seats, as the laws of its fields tell.
+        let _ = &self.service.exact;
+        &self.service
     }
 
     /// A useful call that isn't refused for another cause than want of memory, and `None` only where
@@ -201,133 +143,71 @@ impl<L: Ledger> Session<L> {
         ensures some { IfSome result (λ call. IsPick (world_at self.now) (room_at self.now) call) }
         ensures none { IfNone result (IsQuiet self.now) }
         ensures moves { IfSome result IsMove }
+        ensures result { IfSome result TakesNoResult }
     {
-        self.machine.pick(self.journal.room())
+        self.service.pick()
     }
 
-    /// Logs a message of the outside for a process, and answers its SSN. It refuses, in this order,
-    /// a number that isn't a process's, a full journal, a feed number that is taken, and want of
-    /// memory. Any seat may call it.
-    pub fn input(&mut self, by: &mut Seat<L>, feed: &Feed) -> Result<u32, Refusal>
-        ensures adds { Adds self.old self.new by.old by.new (Call.Input feed.now.dst feed.now.number feed.now.payload) (answering Answer.Logged result) }
+    /// Makes a call, as a [`Service`] does.
+    pub fn call(&mut self, by: &mut Seat<L>, call: &Call) -> Result<Reply, Refusal>
+        requires result { TakesNoResult call.now }
+        requires may { may_call (world_at self.old) by.old.worker call.now ≡ true }
+        ensures adds { Adds self.old self.new by.old by.new call.now (answering answer_in result) }
+        ensures worker { by.new.worker ≡ by.old.worker }
+        ensures job { IfOk result (StartsJob self.old self.new call.now) }
+        ensures exactly { IfOk result (λ reply. Returns self.old self.new call.now reply.answer) }
+    {
+        let reply = self.service.call_of(by.worker(), call)?;
+        by.answer(&mut self.book, 1);
+        Ok(reply)
+    }
+
+    /// Logs a message of the outside for a process. Any seat may call it.
+    pub fn input(&mut self, by: &mut Seat<L>, feed: &Feed) -> Result<Answer, Refusal>
+        ensures adds { Adds self.old self.new by.old by.new (call.Input feed.now.dst feed.now.number feed.now.payload) result }
         ensures worker { by.new.worker ≡ by.old.worker }
     {
-        let room = self.journal.room();
-        if !self.journal.reserve() {
-            let cause = self.machine.input_cause(room, feed);
-            return Err(cause.unwrap_or(Refusal::Memory));
-        }
-        let ssn = self.machine.input(room, feed)?;
         let call = Call::Input {
             to: feed.dst,
             feed: feed.number,
             payload: feed.payload,
         };
-        self.journal.append(by, call, Answer::Logged(ssn));
-        Ok(ssn)
+        let reply = self.call(by, &call)?;
+        Ok(reply.answer)
     }
 
-    /// Puts a logged and released message on the wire, and answers the packet's key. 0 is the
-    /// outside. It refuses, in this order, a number above those of the processes, a sender that
-    /// isn't up, a receiver that is the sender, a message that isn't released, one that isn't
-    /// logged, a full journal, a full wire, and want of memory.
-    pub fn transmit(
-        &mut self,
-        by: &mut Seat<L>,
-        from: u8,
-        to: u8,
-        ssn: u32,
-    ) -> Result<usize, Refusal>
-        requires { may_call (world_at self.old) by.old.worker (Call.Transmit from to ssn) ≡ true }
-        ensures adds { Adds self.old self.new by.old by.new (Call.Transmit from to ssn) (answering Answer.Placed result) }
+    /// Makes a call that was picked, and answers the job that it starts. It refuses want of memory
+    /// alone, and then nothing has changed.
+    pub fn make(&mut self, by: &mut Seat<L>, call: &Call) -> Result<Option<Job>, Refusal>
+        requires pick { IsPick (world_at self.old) (room_at self.old) call.now }
+        requires result { TakesNoResult call.now }
+        ensures makes { Makes self.old self.new by.old by.new call.now result }
         ensures worker { by.new.worker ≡ by.old.worker }
+        ensures answered { by.old.answered ≤ by.new.answered }
     {
-        let room = self.journal.room();
-        if !self.journal.reserve() {
-            let cause = self.machine.transmit_cause(room, from, to, ssn);
-            return Err(cause.unwrap_or(Refusal::Memory));
-        }
-        let key = self.machine.transmit(room, from, to, ssn)?;
-        let call = Call::Transmit { from, to, ssn };
-        self.journal.append(by, call, Answer::Placed(key));
-        Ok(key)
+        let reply = self.call(by, call)?;
+        Ok(reply.job)
     }
 
-    /// Puts a copy of a packet on the wire, and answers its key. It refuses, in this order, a key
-    /// without a packet, a full journal, a full wire, and want of memory.
-    pub fn copy(&mut self, by: &mut Seat<L>, key: usize) -> Result<usize, Refusal>
-        requires { may_call (world_at self.old) by.old.worker (Call.Copy key) ≡ true }
-        ensures adds { Adds self.old self.new by.old by.new (Call.Copy key) (answering Answer.Placed result) }
-        ensures worker { by.new.worker ≡ by.old.worker }
-    {
-        let room = self.journal.room();
-        if !self.journal.reserve() {
-            let cause = self.machine.copy_cause(room, key);
-            return Err(cause.unwrap_or(Refusal::Memory));
-        }
-        let new = self.machine.copy(room, key)?;
-        self.journal
-            .append(by, Call::Copy { key }, Answer::Placed(new));
-        Ok(new)
-    }
-
-    /// Takes a packet from the wire, which then arrives nowhere. It refuses, in this order, a key
-    /// without a packet, a full journal, and want of memory.
-    pub fn lose(&mut self, by: &mut Seat<L>, key: usize) -> Result<(), Refusal>
-        requires { may_call (world_at self.old) by.old.worker (Call.Lose key) ≡ true }
-        ensures adds { Adds self.old self.new by.old by.new (Call.Lose key) (answering (λ _. Answer.Lost) result) }
-        ensures worker { by.new.worker ≡ by.old.worker }
-    {
-        let room = self.journal.room();
-        if !self.journal.reserve() {
-            let cause = self.machine.lose_cause(room, key);
-            return Err(cause.unwrap_or(Refusal::Memory));
-        }
-        self.machine.lose(room, key)?;
-        self.journal.append(by, Call::Lose { key }, Answer::Lost);
-        Ok(())
-    }
-
-    /// Takes a packet from the wire to whom it is for. A message that is the next of its sender
-    /// starts a job at a process, and is shown at the outside; a number is recorded in its sender's
-    /// log; an acknowledgement releases what may leave then. It refuses, in this order, a message
-    /// for a process with an open job, a key without a packet, a full journal, and want of memory.
-    pub fn arrive(&mut self, by: &mut Seat<L>, key: usize) -> Result<Arrival, Refusal>
-        requires { may_call (world_at self.old) by.old.worker (Call.Arrive key) ≡ true }
-        ensures adds { Adds self.old self.new by.old by.new (Call.Arrive key) (answering answer_of result) }
-        ensures worker { by.new.worker ≡ by.old.worker }
-        ensures job { IfOk result (HandsOut self.new) }
-        ensures target { IfOk result (IsJobFor ((world_at self.old).wire key)) }
-    {
-        let room = self.journal.room();
-        if !self.journal.reserve() {
-            let cause = self.machine.arrive_cause(room, key);
-            return Err(cause.unwrap_or(Refusal::Memory));
-        }
-        let arrival = self.machine.arrive(room, key)?;
-        let call = Call::Arrive { key };
-        self.journal.append(by, call, arrival.answer());
-        Ok(arrival)
-    }
-
-    /// Takes in the result of the open job of its process: the message is received, and the packet
-    /// that tells its number is put on the wire; or it is replayed. It refuses a result that isn't
-    /// the open job's (`StaleJob`), and want of memory. The result comes back with a refusal. Any
-    /// seat may call it.
+    /// Takes in the result of the open job of its process, as a [`Service`] does. Any seat may call
+    /// it.
     pub fn finish(&mut self, by: &mut Seat<L>, done: Done) -> Result<Finished, (Refusal, Done)>
         ensures takes { Takes self.old self.new by.old by.new done result }
         ensures worker { by.new.worker ≡ by.old.worker }
     {
-        if !self.journal.reserve() {
-            if self.machine.is_open(done.task()) {
-                return Err((Refusal::Memory, done));
-            }
-            return Err((Refusal::StaleJob, done));
-        }
-        let process = done.task().process();
-        let finished = self.machine.finish(done)?;
-        let call = Call::Finish { process };
-        self.journal.append(by, call, finished.answer());
+        let finished = self.service.finish_of(by.worker(), done)?;
+        by.answer(&mut self.book, 1);
         Ok(finished)
+    }
+
+    /// Picks calls and makes them, as a [`Service`] does.
+    pub fn drive(&mut self, by: &mut Seat<L>, budget: u32) -> Result<u32, Refusal>
+        ensures { Driven budget self.old self.new by.old by.new result }
+    {
+        let before = self.service.journal().len();
+        let driven = self.service.drive_of(by.worker(), budget);
+        let added = self.service.journal().len() - before;
+        by.answer(&mut self.book, added as u32);
+        driven
     }
 }

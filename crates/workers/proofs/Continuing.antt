@@ -99,6 +99,7 @@ continues-of s t images begins allowed =
 pub begins-of : (s t : TheSession) → Continues s t → Begins s.entries t.entries
 begins-of s t c = ap (take (length s.entries)) c.entries ∙ take-front s.entries c.more
 
+-- and its later entries are allowed
 pub allowed-of : (s t : TheSession) → Continues s t → are_allowed (world_at s) (drop (length s.entries) t.entries) ≡ true
 allowed-of s t c = ap (λ es. are_allowed (world_at s) (drop (length s.entries) es)) c.entries ∙ ap (are_allowed (world_at s)) (drop-front s.entries c.more) ∙ c.allowed
 

@@ -22,6 +22,7 @@ pub taken-more : (xs ys : List (Option TheSeat)) (k n : ℕ) (before items items
     → items' ≡ items ++ listed (seat_at ys (k + n)) → items' ≡ before ++ seats_from xs k (n + 1)
 taken-more xs ys k n before items items' is here more = more ∙ (λ i. is i ++ listed (here i)) ∙ append_assoc before (seats_from xs k n) (listed (seat_at xs (k + n))) ∙ ap (λ s. before ++ s) (sym (seats_from-next xs k n))
 
+-- the other seats stay as they are
 pub others-more : (xs ys zs : List (Option TheSeat)) (k n : ℕ) → ((j : ℕ) → (j < k) ⊎ (k + n ≤ j) → seat_at ys j ≡ seat_at xs j) → zs ≡ slice_set ys (k + n) None
     → (j : ℕ) → (j < k) ⊎ (k + (n + 1) ≤ j) → seat_at zs j ≡ seat_at xs j
 others-more xs ys zs k n same set j (inl below) = ap (λ s. seat_at s j) set ∙ get_or-set_other ys (k + n) j None None (omega (arith, below)) ∙ same j (inl below)

@@ -59,13 +59,13 @@ pub(crate) fn take_turn<L: Ledger>(
 {
     take_feed(session, seat, feed, doubled)?;
     let Some(call) = session.pick() else {
-        return Ok(if session.open_jobs() == 0 {
+        return Ok(if session.service().open_jobs() == 0 {
             Turn::Quiet
         } else {
             Turn::Waiting
         });
     };
-    let started = session.make(seat, call)?;
+    let started = session.make(seat, &call)?;
     Ok(started.map_or(Turn::Made, Turn::Started))
 }
 

@@ -5,7 +5,7 @@ use Rattle.std.specs.Prelude.{Option, Some, None}
 use Rattle.std.specs.Global.{Global}
 use Rattle.std.specs.Box.Ownership.{box_owns}
 use Rattle.std_heap.specs.contracts.GlobalAllocator.TheImpl.{ghosts}
-use Rattle.service.specs.contracts.service.Service.{the_row}
+use Rattle.sessions.specs.contracts.service.Service.{the_row}
 
 -- the box of a service at a pointer, or nothing
 abbrev pub held : Global → Ptr → Option the_row.Denot → Fml

@@ -44,7 +44,7 @@ fn shown_in<L: Ledger>(
     assert_eq!(rt; stage.say(2, 1, second), 0);
     assert_eq!(rt; stage.drive(), Some(14));
     assert_eq!(rt; stage.entries(), 16);
-    match stage.session.shown() {
+    match stage.session.service().shown_since(0) {
         [a, b] if a.sender == 1 && a.ssn == 1 && b.sender == 1 && b.ssn == 2 => {
             Ok([a.payload, b.payload])
         }

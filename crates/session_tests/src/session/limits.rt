@@ -86,10 +86,10 @@ impl<L: Ledger> Stage<L> {
 
     /// How many bytes the checkpoint of a process has.
     fn saved_bytes(&self, p: u8) -> usize {
-        if p == 0 || p > self.session.count() {
+        if p == 0 || p > self.session.service().count() {
             return 0;
         }
-        self.session.saved(p).len()
+        self.session.service().saved(p).len()
     }
 }
 
@@ -110,8 +110,8 @@ fn fanned_in<L: Ledger>(
         assert_eq!(rt; stage.fans(number, payload), Some(21));
     }
     assert_eq!(rt; stage.entries(), 63_801);
-    assert_eq!(rt; stage.session.shown().len(), 23_200);
-    assert!(rt; are_of_the_fan(stage.session.shown(), payload));
+    assert_eq!(rt; stage.session.service().shown_since(0).len(), 23_200);
+    assert!(rt; are_of_the_fan(stage.session.service().shown_since(0), payload));
     assert_eq!(rt; stage.first_wrong(&SAVED), None);
     // 8 bytes, 4 of receipts, their senders, and for each destination 8 and its payloads
     assert_eq!(rt; stage.saved_bytes(1), 11_974_128);

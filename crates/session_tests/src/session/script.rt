@@ -1,10 +1,11 @@
 //! Scripts: what is done on a stage, and what is to be seen there.
 
+ghost use Rattle.machine.specs.Stepping.{TakesNoResult};
+
 use super::{Stage, word};
 use replay::{Done, Job};
-use sessions::Arrival;
 use std::sync::ledger::Ledger;
-use world::{Answer, Feed, PhaseName, Refusal};
+use world::{Answer, Call, Feed, PhaseName, Refusal};
 
 /// What is done on a stage.
 #[derive(Clone, Copy)]
@@ -104,10 +105,10 @@ impl<L: Ledger> Stage<L> {
             Step::Keeps(p, length, place, value) => self.keeps(p, length, place, value),
             Step::Saves(p, head, zeros) => self.saves(p, head, zeros),
             Step::Answered(place, answer) => {
-                matches!(self.session.journal().get(place), Some(entry) if entry.answer == answer)
+                matches!(self.session.service().journal().get(place), Some(entry) if entry.answer == answer)
             }
             Step::Has(entries) => self.entries() == entries,
-            Step::IsExact(exact) => self.session.exact() == exact,
+            Step::IsExact(exact) => self.session.service().exact() == exact,
             _ => false,
         }
     }
@@ -139,38 +140,38 @@ impl<L: Ledger> Stage<L> {
     }
 
     fn is_quiet(&self) -> bool {
-        self.session.pick().is_none() && self.session.open_jobs() == 0
+        self.session.pick().is_none() && self.session.service().open_jobs() == 0
     }
 
     fn is_bare(&self, p: u8, phase: PhaseName, length: u32) -> bool {
-        if p == 0 || p > self.session.count() {
+        if p == 0 || p > self.session.service().count() {
             return false;
         }
-        self.session.phase(p) == phase
-            && self.session.length(p) == length
-            && self.session.state(p).is_empty()
+        self.session.service().phase(p) == phase
+            && self.session.service().length(p) == length
+            && self.session.service().state(p).is_empty()
     }
 
     fn keeps(&self, p: u8, length: usize, place: usize, value: u8) -> bool {
-        if p == 0 || p > self.session.count() {
+        if p == 0 || p > self.session.service().count() {
             return false;
         }
-        let state = self.session.state(p);
+        let state = self.session.service().state(p);
         state.len() == length && state.get(place) == Some(&value)
     }
 
     fn saves(&self, p: u8, head: &[u8], zeros: usize) -> bool {
-        if p == 0 || p > self.session.count() {
+        if p == 0 || p > self.session.service().count() {
             return false;
         }
-        match self.session.saved(p).strip_prefix(head) {
+        match self.session.service().saved(p).strip_prefix(head) {
             Some(rest) => rest.len() == zeros && rest.iter().all(|byte| *byte == 0),
             None => false,
         }
     }
 
     fn shows(&self, outputs: &[(u8, u32, u8)]) -> bool {
-        let shown = self.session.shown();
+        let shown = self.session.service().shown_since(0);
         if shown.len() != outputs.len() {
             return false;
         }
@@ -185,43 +186,25 @@ impl<L: Ledger> Stage<L> {
 
     /// The answer to this act.
     pub(crate) fn act(&mut self, act: Act) -> Result<Answer, Refusal> {
-        let seat = &mut self.seat;
         match act {
             Act::Input(dst, value) => {
                 let number = u32::try_from(self.entries()).unwrap_or(u32::MAX);
                 self.feeds(number, dst, value)
             }
             Act::Again(dst, value) => self.feeds(0, dst, value),
-            Act::Transmit(from, to, ssn) => {
-                Ok(Answer::Placed(self.session.transmit(seat, from, to, ssn)?))
-            }
-            Act::Copy(key) => Ok(Answer::Placed(self.session.copy(seat, key)?)),
-            Act::Lose(key) => {
-                self.session.lose(seat, key)?;
-                Ok(Answer::Lost)
-            }
-            Act::Arrive(key) => self.arrives(key),
+            Act::Transmit(from, to, ssn) => self.calls(&Call::Transmit { from, to, ssn }),
+            Act::Copy(key) => self.calls(&Call::Copy { key }),
+            Act::Lose(key) => self.calls(&Call::Lose { key }),
+            Act::Arrive(key) => self.calls(&Call::Arrive { key }),
             Act::Finish => self.finishes(),
             Act::FinishLate => self.finishes_late(),
-            other => self.fails(other),
-        }
-    }
-
-    /// The answer to a call about a crash.
-    fn fails(&mut self, act: Act) -> Result<Answer, Refusal> {
-        let seat = &mut self.seat;
-        match act {
-            Act::Checkpoint(p) => Ok(Answer::Saved(self.session.checkpoint(seat, p)?)),
-            Act::Trim(d) => Ok(Answer::Trimmed(self.session.trim(seat, d)?)),
-            Act::Crash(p) => Ok(Answer::Crashed(self.session.crash(seat, p)?)),
-            Act::Recover(p) => Ok(Answer::Kept(self.session.recover(seat, p)?)),
-            Act::RecoverAlone(p) => Ok(Answer::Kept(self.session.recover_alone(seat, p)?)),
-            Act::Resync(p, r) => Ok(Answer::Restored(self.session.resync(seat, p, r)?)),
-            Act::Replay(p) => {
-                let job = self.session.replay_begin(seat, p)?;
-                Ok(self.starts(job))
-            }
-            _ => Err(Refusal::Memory),
+            Act::Checkpoint(process) => self.calls(&Call::Checkpoint { process }),
+            Act::Trim(to) => self.calls(&Call::Trim { to }),
+            Act::Crash(process) => self.calls(&Call::Crash { process }),
+            Act::Recover(process) => self.calls(&Call::Recover { process }),
+            Act::RecoverAlone(process) => self.calls(&Call::RecoverAlone { process }),
+            Act::Replay(process) => self.calls(&Call::ReplayBegin { process }),
+            Act::Resync(process, peer) => self.calls(&Call::Resync { process, peer }),
         }
     }
 
@@ -231,27 +214,27 @@ impl<L: Ledger> Stage<L> {
             dst,
             payload: word(value),
         };
-        let ssn = self.session.input(&mut self.seat, &feed)?;
-        Ok(Answer::Logged(ssn))
+        self.session.input(&mut self.seat, &feed)
     }
 
-    fn arrives(&mut self, key: usize) -> Result<Answer, Refusal> {
-        let arrival = self.session.arrive(&mut self.seat, key)?;
-        let answer = arrival.answer();
-        if let Arrival::Started(job) = arrival {
+    /// The answer to a call.
+    fn calls(&mut self, call: &Call) -> Result<Answer, Refusal>
+        requires { TakesNoResult call.now }
+    {
+        let reply = self.session.call(&mut self.seat, call)?;
+        let answer = reply.answer;
+        if let Some(job) = reply.job {
             self.starts(job);
         }
         Ok(answer)
     }
 
     /// Runs the job and holds its result.
-    fn starts(&mut self, job: Job) -> Answer {
-        let answer = Answer::Started(job.task().serial());
+    fn starts(&mut self, job: Job) {
         if self.last.is_some() {
             self.late = self.last.take();
         }
         self.last = Some(job.run());
-        answer
     }
 
     fn finishes(&mut self) -> Result<Answer, Refusal> {

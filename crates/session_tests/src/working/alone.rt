@@ -6,14 +6,14 @@ use super::course::{adders, place_of, word};
 use super::turnstiles::{Crasher, Watcher};
 use crossbeam_channel::{Receiver, Sender};
 use replay::Job;
-use sessions::{Arrival, Session};
+use sessions::Session;
 use std::alloc::Global;
 use std::marker::Brand;
 use std::sync::ledger::{Blank, Ledger};
 use std::sync::{Mutex, Wait};
 use std::test::Fail;
 use workers::{End, Item, worker};
-use world::{Feed, PhaseName};
+use world::{Answer, Call, Feed, PhaseName};
 
 /// What the worker meets.
 #[derive(Clone, Copy)]
@@ -65,14 +65,18 @@ fn held<L: Ledger>(session: &mut Session<L>) -> Result<Option<Job>, Fail> {
     let Some(mut seat) = session.sit(0) else {
         return Err("nobody has no seat")?;
     };
-    let ssn = session.input(&mut seat, &word(0, 1, 5))?;
-    let key = session.transmit(&mut seat, 0, 1, ssn)?;
-    let arrival = session.arrive(&mut seat, key)?;
+    session.input(&mut seat, &word(0, 1, 5))?;
+    let call = Call::Transmit {
+        from: 0,
+        to: 1,
+        ssn: 1,
+    };
+    let Answer::Placed(key) = session.call(&mut seat, &call)?.answer else {
+        return Err("no packet was placed")?;
+    };
+    let reply = session.call(&mut seat, &Call::Arrive { key })?;
     session.rise(seat);
-    match arrival {
-        Arrival::Started(job) => Ok(Some(job)),
-        _ => Ok(None),
-    }
+    Ok(reply.job)
 }
 
 // Finishes the job, if there is one, and drives on.
@@ -120,14 +124,14 @@ fn meet_in<L: Ledger + Send + Sync, R: Wait + Sync>(
     let mut alone = Alone {
         end: share.end,
         answered: share.seat.answered(),
-        entries: session.journal().len(),
-        phase: session.phase(session.count()),
+        entries: session.service().journal().len(),
+        phase: session.service().phase(session.service().count()),
         place: place_of(&session, 1),
         driven: 0,
         last: (0, 0),
     };
     go_on(&mut session, job)?;
-    alone.driven = session.journal().len();
+    alone.driven = session.service().journal().len();
     alone.last = place_of(&session, 1);
     Ok(alone)
 }
@@ -170,7 +174,7 @@ fn watch_in<L: Ledger + Send + Sync, R: Wait + Sync>(
     Ok(Watched {
         seen,
         end: share.end,
-        entries: session.journal().len(),
+        entries: session.service().journal().len(),
     })
 }
 

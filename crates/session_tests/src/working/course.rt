@@ -97,11 +97,11 @@ pub(crate) fn adders(alloc: Global, count: u8) -> Result<Vec<Arc<Image>>, Fail> 
 
 /// How many messages a process received, and the head of its state.
 pub(crate) fn place_of<L: Ledger>(session: &Session<L>, p: u8) -> (u32, u8) {
-    if p == 0 || p > session.count() {
+    if p == 0 || p > session.service().count() {
         return (0, 0);
     }
-    let head = session.state(p).first().copied().unwrap_or(0);
-    (session.length(p), head)
+    let head = session.service().state(p).first().copied().unwrap_or(0);
+    (session.service().length(p), head)
 }
 
 fn feeds_of(alloc: Global, feeds: Feeds) -> Result<Vec<Feed>, Fail> {
@@ -152,7 +152,7 @@ fn is_counted<L: Ledger>(journal: &[Entry], share: &Share<L>) -> bool {
 }
 
 fn left_by<L: Ledger>(closed: &Closed<L>, before: &[Entry]) -> Left {
-    let journal = closed.session.journal();
+    let journal = closed.session.service().journal();
     let mut left = Left {
         entries: journal.len(),
         quiet: 0,
@@ -187,7 +187,7 @@ fn follow_in<L: Ledger + Send + Sync, R: Threads + Wait + Sync, G: Turnstile>(
 {
     let mut session: Session<L> = Session::open(alloc, blank, adders(alloc, case.processes)?)?;
     prepare(&mut session, case.before)?;
-    let before = session.journal().to_vec(alloc)?;
+    let before = session.service().journal().to_vec(alloc)?;
     let feeds = feeds_of(alloc, case.feeds)?;
     match run(
         rt,
@@ -199,7 +199,10 @@ fn follow_in<L: Ledger + Send + Sync, R: Threads + Wait + Sync, G: Turnstile>(
         turnstile,
     ) {
         Ok(closed) => Ok(Outcome::Ran(left_by(&closed, before.as_slice()))),
-        Err((error, session)) => Ok(Outcome::Refused(error.number(), session.journal().len())),
+        Err((error, session)) => Ok(Outcome::Refused(
+            error.number(),
+            session.service().journal().len(),
+        )),
     }
 }
 

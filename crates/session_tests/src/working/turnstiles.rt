@@ -88,8 +88,10 @@ impl<L: Ledger, R: Wait> Crasher<'_, L, R> {
         let Some(mut seat) = session.sit(0) else {
             return;
         };
-        let crashed = session.crash(&mut seat, 1).is_ok();
-        let kept = session.recover(&mut seat, 1).is_ok();
+        let crash = Call::Crash { process: 1 };
+        let crashed = session.call(&mut seat, &crash).is_ok();
+        let recover = Call::Recover { process: 1 };
+        let kept = session.call(&mut seat, &recover).is_ok();
         if crashed && kept {
             session.rise(seat);
         }
@@ -140,7 +142,8 @@ impl<'a, L: Ledger> Watcher<'a, L> {
 
     fn look(&self) {
         let is_right = match self.session.try_lock() {
-            Some(session) => results(session.journal()) == self.told.load(Ordering::SeqCst),
+            Some(session) => results(session.service().journal())
+                == self.told.load(Ordering::SeqCst),
             None => false
         };
         if !is_right {

@@ -7,7 +7,7 @@ use Rattle.runner.proofs.ResultsLemmas.{process_more}
 use Rattle.runner.proofs.results.push_processes.Goals as goal
 
 pub loop-index-preserved : goal.loop-index-preserved
-loop-index-preserved g c =
+loop-index-preserved c =
     let w = world_at c.args.session.now in
     let names = names_of c.args.processes.now in
     let i = c.loop-index.index in

@@ -5,4 +5,4 @@ use Rattle.runner.specs.Results.{processes_text}
 use Rattle.runner.proofs.results.push_processes.Given as goal
 
 abbrev pub invariant-loop-index : goal.invariant-loop-index
-invariant-loop-index g l = string_bytes l.out ≡ string_bytes l.fn.out ++ processes_text (world_at l.session) (take l.index (names_of l.processes))
+invariant-loop-index l = string_bytes l.out ≡ string_bytes l.fn.out ++ processes_text (world_at l.session) (take l.index (names_of l.processes))

@@ -6,5 +6,5 @@ use Rattle.runner.specs.Orders.{Position}
 use Rattle.runner.proofs.running.played.Goals as goal
 
 pub returns-clause-done : goal.returns-clause-done
-returns-clause-done g c =
+returns-clause-done c =
     subst (λ (p : Position). ArePlayed c.args.steps.now p (position_of c.play.new.self) (string_bytes c.args.out.now) (string_bytes c.play.new.out)) c.in_ok-player.ensures c.in_ok-play.ensures.done

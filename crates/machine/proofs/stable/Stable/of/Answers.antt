@@ -26,7 +26,7 @@ invariant_of-result c =
     let v = c.loop-sender.invariant in
     let n = c.args.n in
     let saved = c.in_ok-saved.saved in
-    let is : saved ≡ saved_of c.args.me n c.args.state.now c.args.receipts.now c.log.result.now = c.in_ok-saved.ensures in
+    let is : saved ≡ saved_of c.args.me n c.args.state.now c.args.receipts.now c.log.result.now = c.in_ok-saved.ensures ∙ c.in_ok-parsed.ensures in
     let senders : saved.senders ≡ c.args.receipts.now.senders = ap (λ (s : TheSaved). s.senders) is in
     let all : c.loop-sender.sender ≡ n + 1 = omega arith in
     let inside : (x : ℕ) → x < n + 1 → slice_index_or c.loop-sender.counts x 0 ≡ count_by (λ y. y == x) saved.senders =
@@ -34,7 +34,6 @@ invariant_of-result c =
     let above : (x : ℕ) → x < 16 → n < x → slice_index_or c.loop-sender.counts x 0 ≡ count_by (λ y. y == x) saved.senders =
     (λ x small l. v.zero x small (omega (arith, all, l)) ∙ sym (none-above c.args.me n x l c.args.receipts.now.senders c.requires.senders) ∙ ap (λ xs. count_by (λ y. y == x) xs) (sym senders)) in
     record {
-      bytes_are = c.in_ok-bytes.ensures;
       counts_are = λ x small. elim (nat_lt x (n + 1)) as (λ b. nat_lt x (n + 1) ≡ b → slice_index_or c.loop-sender.counts x 0 ≡ count_by (λ y. y == x) saved.senders) [
         | true ↦ λ e. inside x (grind (arith, nat_tests))
         | false ↦ λ e. above x small (grind (arith, nat_tests))

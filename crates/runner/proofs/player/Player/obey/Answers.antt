@@ -7,7 +7,7 @@ use Rattle.runner.proofs.Played.{cause-number}
 use Rattle.runner.proofs.player.Player.obey.Goals as goal
 
 pub returns-in_default-refusal : goal.returns-in_default-refusal
-returns-in_default-refusal g c =
+returns-in_default-refusal c =
     let refusal = c.in-Err.refusal in
     let number = cause-number refusal c.in_default-refusal.not-Memory in
     let written = on_ok_weaker c.push_refused.result (λ text. (Some (number_of refusal), c.in-Err.ensures (number_of refusal) number, text ∙ ap (λ n. string_bytes c.args.out.now ++ refused_text c.args.step.now.line (Some n)) c.number.ensures)) c.push_refused.ensures.written in

@@ -7,7 +7,7 @@ use Rattle.runner.proofs.Played.{played-more}
 use Rattle.runner.proofs.player.Player.play.Goals as goal
 
 pub loop-step-preserved : goal.loop-step-preserved
-loop-step-preserved g c =
+loop-step-preserved c =
     let k = c.loop-step.step-index in
     let steps = c.args.steps.now in
     let step = c.step-item.result in

@@ -1,21 +1,14 @@
-use Rattle.std.proofs.Common.{◌≡◌, ℕ, ◌+◌, sym, ap, ◌∙◌, subst}
-use Rattle.std.specs.Prelude.{None, Result, Err}
-use Rattle.std.proofs.lemmas.Result.{err_from_is_err_and}
-use Rattle.world.specs.declared.refusal.Refusal.{Refusal}
+use Rattle.std.proofs.Common.{◌-◌, length, subst, ◌∙◌}
+use Rattle.sessions.specs.Journal.{answered_more}
 use Rattle.sessions.specs.Driving.{Driven}
-use Rattle.sessions.proofs.Driven.{advance-more}
+use Rattle.sessions.specs.Service.{seat_of}
+use Rattle.sessions.proofs.Together.{drives}
 use Rattle.sessions.proofs.session.Session.drive.Goals as goal
 
-pub returns-in_err-accepted : goal.returns-in_err-accepted
-returns-in_err-accepted g c =
-    let refusal = c.in_err-accepted.field-0.0 in
-    let err = c.in_err-accepted.ensures.err in
-    let out = err_from_is_err_and c.from_residual.result c.from_residual.ensures.1 in
-    let told : c.from_residual.result ≡ Err refusal = out.1 ∙ ap Err out.2 in
-    let P : Result ℕ Refusal → Type 0 = λ r. Driven c.args.budget c.args.self.now c.advance.new.self c.args.by.now c.advance.new.by r in
-    subst P (sym told)
-    (err.0, (c.loop-accepted.accepted + err.1.0, err.1.1, advance-more c.args.budget c.args.self.now c.loop-accepted.self c.advance.new.self c.args.by.now c.loop-accepted.by c.advance.new.by c.loop-accepted.accepted err.1.0 err.1.1 c.loop-accepted.invariant c.loop-accepted-test.true err.1.2))
-
-pub loop-accepted-preserved : goal.loop-accepted-preserved
-loop-accepted-preserved g c =
-    advance-more c.args.budget c.args.self.now c.loop-accepted.self c.advance.new.self c.args.by.now c.loop-accepted.by c.advance.new.by c.loop-accepted.accepted c.in_ok-accepted.field-0 None c.loop-accepted.invariant c.loop-accepted-test.true c.in_ok-accepted.ensures.ok
+pub returns : goal.returns
+returns g c =
+    let s = c.self.inside.service in
+    let new = c.drive_of-driven.new.self in
+    let made = subst (λ k. Driven c.args.budget s new (seat_of k s) (seat_of k new) c.drive_of-driven.result) c.worker.ensures.value c.drive_of-driven.ensures in
+    let seat = c.answer.ensures.seat ∙ (λ i. answered_more (length (c.journal.ensures.entries i) - length (c.journal-before.ensures.entries i)) c.args.by.now) in
+    rw (← c.self.view_is) (drives c.self.inside.seats.items c.args.budget s new c.args.by.now c.answer.new.self c.drive_of-driven.result made seat)

@@ -1,54 +1,23 @@
-use Rattle.std.proofs.Common.{◌≡◌, ◌-◌, ◌++◌, ◌∷◌, [], length, arith, refl, sym, ap, ◌∙◌, subst, true≢false}
-use Rattle.replay.specs.Task.{TheTask}
+use Rattle.std.proofs.Common.{◌∙◌, ap, arith, subst}
+use Rattle.std.specs.Prelude.{Err, Ok}
+use Rattle.std.proofs.lemmas.Result.{err_from_is_err_and}
 use Rattle.world.specs.declared.call.Call.TheVariants.{Finish}
-use Rattle.world.specs.World.{World}
-use Rattle.world.specs.Bounds.{LIMIT}
-use Rattle.machine.specs.Simulation.{Stands, Steps}
-use Rattle.machine.specs.Jobs.{Matches}
-use Rattle.machine.specs.Arrival.{IsOpen, finished_of}
-use Rattle.machine.proofs.JobLemmas.{opens, matches}
-use Rattle.sessions.specs.Journal.{entry}
-use Rattle.sessions.proofs.Rooms.{room-finish}
-use Rattle.sessions.proofs.Steps.{Accepts, accepted, carried, here, may-free}
+use Rattle.machine.specs.Arrival.{finished_of}
+use Rattle.sessions.specs.Journal.{Takes}
+use Rattle.sessions.specs.Service.{seat_of}
+use Rattle.sessions.proofs.Together.{grew, leaves, takes}
 use Rattle.sessions.proofs.session.Session.finish.Goals as goal
-use Rattle.sessions.proofs.session.Session.finish.Goals.{After-append}
-use Rattle.sessions.proofs.session.Session.finish.Given.{Over}
 
-pub returns-then-is_open-clause-takes : goal.returns-then-is_open-clause-takes
-returns-then-is_open-clause-takes g c =
-    let m = c.self.inside.machine in
-    let es = c.self.inside.journal.entries in
-    let k : Matches m c.args.done = subst (Matches m) c.task.ensures (c.is_open.ensures.matches.0 c.if-is_open.true) in
-    rw (← c.self.view_is, c.reserve.ensures.entries) (refl, refl, refl, opens m c.args.done (here m es) c.self.invariant.0.leads (sym c.self.invariant.0.sizes) k)
-
-pub returns-then-not-reserve-clause-takes : goal.returns-then-not-reserve-clause-takes
-returns-then-not-reserve-clause-takes g c =
-    let m = c.self.inside.machine in
-    let es = c.self.inside.journal.entries in
-    let none : IsOpen m.images c.args.done (here m es) → ⊥ = λ o. true≢false (sym (c.is_open.ensures.matches.1 (subst (Matches m) (sym c.task.ensures) (matches m c.args.done (here m es) c.self.invariant.0.leads o))) ∙ c.if-is_open.false) in
-    rw (← c.self.view_is, c.reserve.ensures.entries) (refl, refl, refl, none)
-
-done : (g : Over) (c : After-append g) → Accepts c.self.inside.machine c.finish.new.self c.self.inside.journal.entries c.append.new.self.entries c.self.inside.seats.items c.args.by.now c.append.new.by (Finish c.args.done.who.me) (finished_of c.in_ok-finished.finished)
-done g c =
-    let m = c.self.inside.machine in
-    let es = c.self.inside.journal.entries in
-    let t = c.args.done in
-    let call = Finish t.who.me in
-    let answer = finished_of c.in_ok-finished.finished in
-    let w = here m es in
-    let step : (w : World) → Stands m w → Steps m c.finish.new.self (LIMIT - length es) call answer w =
-    λ w s. let st = (c.in_ok-finished.ensures.step w s).1 in record { images = st.images; accepted = st.accepted; answered = st.answered; stands = st.stands } in
-    let process : c.process-process.result ≡ t.who.me = c.process-process.ensures ∙ ap (λ (z : TheTask). z.who.me) c.task-2.ensures in
-    let items : c.append.new.self.entries ≡ es ++ entry c.args.by.now.worker call answer ∷ [] =
-    c.append.ensures.entries ∙ (λ i. c.reserve.ensures.entries i ++ entry c.args.by.now.worker (Finish (process i)) (c.answer.ensures i) ∷ []) in
-    let taken = (c.in_ok-finished.ensures.step w c.self.invariant.0.leads).1 in
-    let place = room-finish w 0 t.who.me answer taken.accepted taken.answered in
-    accepted m c.finish.new.self es c.self.inside.seats.items c.args.by.now call answer c.self.invariant.0 (may-free w c.args.by.now.worker call refl) step c.append.new.self.entries items c.append.new.by c.append.ensures.seat c.in_ok-finished.ensures.calls (omega (arith, place, c.self.invariant.0.room))
-
-pub invariant_of-self-2 : goal.invariant_of-self-2
-invariant_of-self-2 g c =
-    let d = done g (goal.at.invariant_of-self-2 g c).After-append in
-    (d.0, c.self.invariant.1, carried c.self.inside.exact _ (d.2 c.self.inside.exact c.self.invariant.2))
+pub answer-requires : goal.answer-requires
+answer-requires g c =
+    let s = c.self.inside.service in
+    let worker = c.worker.result in
+    let new = c.finish_of.new.self in
+    omega (arith, c.self.invariant.1, c.finish_of.ensures.bound, grew s new (seat_of worker s) (seat_of worker new) (Finish c.args.done.who.me) (finished_of c.in_ok-finished.finished) c.in_ok-finished.ensures.takes.1)
 
 pub returns-clause-takes : goal.returns-clause-takes
-returns-clause-takes g c = rw (← c.self.view_is) ((c.in_ok-finished.ensures.step _ c.self.invariant.0.leads).0, (done g (goal.at.returns-clause-takes g c).After-append).1)
+returns-clause-takes g c =
+    let s = c.self.inside.service in
+    let new = c.finish_of.new.self in
+    let owes = subst (λ k. Takes s new (seat_of k s) (seat_of k new) c.args.done (Ok c.in_ok-finished.finished)) c.worker.ensures.value c.in_ok-finished.ensures.takes in
+    rw (← c.self.view_is) (takes c.self.inside.seats.items s new c.args.by.now c.answer.new.self c.args.done c.in_ok-finished.finished owes c.answer.ensures.seat)

@@ -1,45 +1,10 @@
-use Rattle.machine.specs.Simulation.{answering}
-use Rattle.std.proofs.lemmas.Result.{err_from_is_err_and}
-use Rattle.std.specs.Prelude.{Err}
-use Rattle.std.proofs.Common.{◌≡◌, ◌-◌, ◌++◌, ◌∷◌, [], length, arith, refl, ap, ◌∙◌}
+use Rattle.std.proofs.Common.{refl}
 use Rattle.world.specs.declared.call.Call.TheVariants.{Input}
-use Rattle.world.specs.declared.answer.Answer.TheVariants.{Logged}
-use Rattle.world.specs.Bounds.{LIMIT}
-use Rattle.sessions.specs.Journal.{entry}
-use Rattle.sessions.proofs.Rooms.{room-input}
-use Rattle.sessions.proofs.Steps.{Accepts, accepted, carried, here, may-free, refused}
+use Rattle.sessions.specs.Journal.{world_at}
+use Rattle.sessions.proofs.Steps.{may-free}
 use Rattle.sessions.proofs.session.Session.input.Goals as goal
-use Rattle.sessions.proofs.session.Session.input.Goals.{After-append}
-use Rattle.sessions.proofs.session.Session.input.Given.{Over}
 
-done : (g : Over) (c : After-append g) → Accepts c.self.inside.machine c.input.new.self c.self.inside.journal.entries c.append.new.self.entries c.self.inside.seats.items c.args.by.now c.append.new.by (Input c.args.feed.now.dst c.args.feed.now.number c.args.feed.now.payload) (Logged c.in_ok-ssn.ssn)
-done g c =
-    let m = c.self.inside.machine in
-    let es = c.self.inside.journal.entries in
-    let call = Input c.args.feed.now.dst c.args.feed.now.number c.args.feed.now.payload in
-    let answer = Logged c.in_ok-ssn.ssn in
-    let w = here m es in
-    let room_is : c.room-room.result ≡ LIMIT - length es = c.room-room.ensures.value in
-    let step = rw room_is at c.in_ok-ssn.ensures.step in
-    let items : c.append.new.self.entries ≡ es ++ entry c.args.by.now.worker call answer ∷ [] = c.append.ensures.entries ∙ ap (λ xs. xs ++ entry c.args.by.now.worker call answer ∷ []) c.reserve.ensures.entries in
-    let place = room-input w (LIMIT - length es) c.args.feed.now.dst c.args.feed.now.number c.args.feed.now.payload answer (step w c.self.invariant.0.leads).accepted in
-    accepted m c.input.new.self es c.self.inside.seats.items c.args.by.now call answer c.self.invariant.0 (may-free w c.args.by.now.worker call refl) step c.append.new.self.entries items c.append.new.by c.append.ensures.seat c.in_ok-ssn.ensures.calls (omega (arith, place, c.self.invariant.0.room))
-
-pub invariant_of-self-2 : goal.invariant_of-self-2
-invariant_of-self-2 g c =
-    let d = done g (goal.at.invariant_of-self-2 g c).After-append in
-    (d.0, c.self.invariant.1, carried c.self.inside.exact _ (d.2 c.self.inside.exact c.self.invariant.2))
-
-pub returns-clause-adds : goal.returns-clause-adds
-returns-clause-adds g c = rw (← c.self.view_is) (done g (goal.at.returns-clause-adds g c).After-append).1
-
-pub returns-in_err-ssn-clause-adds : goal.returns-in_err-ssn-clause-adds
-returns-in_err-ssn-clause-adds g c =
-    let m = c.self.inside.machine in
-    let es = c.self.inside.journal.entries in
-    let w = here m es in
-    let refusal = c.in_err-ssn.field-0.0 in
-    let step = c.in_err-ssn.ensures.step in
-    let out = err_from_is_err_and c.from_residual.result c.from_residual.ensures.1 in
-    let told : c.from_residual.result ≡ Err refusal = out.1 ∙ ap Err out.2 in
-    refused c.args.self.now m c.input.new.self es c.reserve.new.self.entries c.self.inside.seats.items c.args.by.now (Input c.args.feed.now.dst c.args.feed.now.number c.args.feed.now.payload) refusal c.room-room.result (answering Logged c.from_residual.result) c.self.view_is step.0 c.reserve.ensures.entries c.room-room.ensures.value (step.1 w c.self.invariant.0.leads) (ap (answering Logged) told)
+pub call-requires-clause-may : goal.call-requires-clause-may
+call-requires-clause-may g c =
+    let feed = c.args.feed.now in
+    may-free (world_at c.args.self.now) c.args.by.now.worker (Input feed.dst feed.number feed.payload) refl

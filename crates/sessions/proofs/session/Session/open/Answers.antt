@@ -1,8 +1,7 @@
-use Rattle.std.proofs.Common.{map, refl}
-use Rattle.std.specs.Arc.{arc_value}
+use Rattle.std.proofs.Common.{length, ap, sym, ◌∙◌}
+use Rattle.sessions.specs.Journal.{TheSession}
 use Rattle.sessions.proofs.SeatLemmas.{new-are-seats}
-use Rattle.sessions.proofs.Steps.{opened}
 use Rattle.sessions.proofs.session.Session.open.Goals as goal
 
 pub invariant_of-result : goal.invariant_of-result
-invariant_of-result g c = let o = c.in_ok-machine.ensures in (rw c.new-journal.ensures (opened c.in_ok-machine.machine (map arc_value c.args.images.items) o.1 o.2 o.3), rw c.in_ok-seats.ensures new-are-seats, rw c.new-journal.ensures refl)
+invariant_of-result g c = (rw c.in_ok-seats.ensures new-are-seats, c.open-book.ensures.total ∙ sym (ap (λ (s : TheSession). length s.entries) c.in_ok-service.ensures.1))

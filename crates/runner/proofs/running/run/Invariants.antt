@@ -1,4 +1,0 @@
-use Rattle.runner.proofs.running.run.Given as goal
-
-abbrev pub ghosts-run_in : goal.ghosts-run_in
-ghosts-run_in a = record { name = a.blank.name; parts = a.blank.parts }

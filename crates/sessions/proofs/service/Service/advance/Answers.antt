@@ -1,0 +1,30 @@
+use Rattle.std.proofs.Common.{◌≡◌, ℕ, sym, subst, ◌∙◌, ap}
+use Rattle.std.specs.Prelude.{None, Option, Some}
+use Rattle.replay.specs.Task.{TheTask}
+use Rattle.machine.specs.Arrival.{IsOpen}
+use Rattle.machine.specs.Stepping.{job_of}
+use Rattle.sessions.specs.Journal.{room_at, world_at}
+use Rattle.sessions.specs.Driving.{Advances, Starts}
+use Rattle.sessions.specs.Service.{seat_of}
+use Rattle.sessions.proofs.Driven.{told-memory, advance-one, may-pick}
+use Rattle.sessions.proofs.service.Service.advance.Goals as goal
+
+pub returns-clause-err : goal.returns-clause-err
+returns-clause-err c =
+    let old = c.args.self.now in
+    let mid = c.call_of.new.self in
+    let new = c.finish_of.new.self in
+    let by = seat_of c.args.worker old in
+    let call = c.args.call.now in
+    let reply = c.in_ok-reply.reply in
+    let left : Option ℕ = job_of (world_at old) call reply.answer in
+    let one = advance-one old mid by (seat_of c.args.worker mid) call reply.answer c.requires.pick c.in_ok-reply.ensures.adds in
+    let started = subst (Starts mid left) c.in-Some.is c.in_ok-reply.ensures.job in
+    let given : IsOpen mid.images c.run.result (world_at mid) = subst (λ (t : TheTask). IsOpen mid.images t (world_at mid)) (sym c.run.ensures) (rw c.in-Some.is started.1) in
+    let takes = c.in-Err.ensures.takes in (
+      told-memory c.in-Err.refusal (IsOpen mid.images c.run.result (world_at mid)) takes.3 given,
+      (1, left, subst (λ s. Advances 1 old s by (seat_of c.args.worker new) 1 left) (sym takes.1) (subst (λ s. Advances 1 old mid by s 1 left) (sym takes.2) one)),
+    )
+
+pub call_of-requires-clause-may : goal.call_of-requires-clause-may
+call_of-requires-clause-may c = may-pick (world_at c.args.self.now) (room_at c.args.self.now) c.args.worker c.args.call.now c.requires.pick

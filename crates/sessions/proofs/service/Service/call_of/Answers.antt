@@ -1,0 +1,85 @@
+use Rattle.std.specs.Prelude.{Err}
+use Rattle.std.proofs.Common.{◌≡◌, ◌-◌, ◌++◌, ◌∷◌, [], length, arith, refl, ap, subst, ◌∙◌}
+use Rattle.std.proofs.lemmas.Result.{err_from_is_err_and}
+use Rattle.world.specs.Bounds.{LIMIT}
+use Rattle.world.specs.Legal.{is_single}
+use Rattle.machine.specs.Simulation.{answering}
+use Rattle.machine.specs.Stepping.{answer_in, job_of}
+use Rattle.world.specs.Useful.{may_call}
+use Rattle.sessions.specs.Journal.{TheSession, entry, is_exact_of, world_at}
+use Rattle.sessions.specs.Driving.{Starts}
+use Rattle.sessions.proofs.Rooms.{room-of}
+use Rattle.sessions.proofs.Steps.{caused, here}
+use Rattle.sessions.proofs.Steps as steps
+use Rattle.sessions.proofs.Own.{Grows, grows, returns, service, starts, stays}
+use Rattle.sessions.proofs.service.Service.call_of.Goals as goal
+use Rattle.sessions.proofs.service.Service.call_of.Goals.{After-append, then-self, else-self}
+
+done : (c : After-append) → Grows c.args.worker c.self.inside.machine c.step.new.self c.self.inside.journal.entries c.append.new.self.entries c.args.call.now c.in_ok-reply.reply.answer
+done c =
+    let m = c.self.inside.machine in
+    let es = c.self.inside.journal.entries in
+    let call = c.args.call.now in
+    let answer = c.in_ok-reply.reply.answer in
+    let w = here m es in
+    let room_is : c.room-room.result ≡ LIMIT - length es = c.room-room.ensures.value in
+    let step = rw room_is at c.in_ok-reply.ensures.step in
+    let items : c.append.new.self.entries ≡ es ++ entry c.args.worker call answer ∷ [] = c.append.ensures ∙ ap (λ xs. xs ++ entry c.args.worker call answer ∷ []) c.reserve.ensures.entries in
+    let taken = step w c.self.invariant.0.leads in
+    let place = room-of w (LIMIT - length es) call answer c.requires.result taken.accepted taken.answered in
+    let may = ap (λ (v : TheSession). may_call (world_at v) c.args.worker call) c.self.view_is ∙ c.requires.may in
+    grows c.args.worker m c.step.new.self es c.append.new.self.entries call answer c.self.invariant.0 may step items c.in_ok-reply.ensures.calls (omega (arith, place, c.self.invariant.0.room))
+
+pub invariant_of-self-2 : goal.invariant_of-self-2
+invariant_of-self-2 c =
+    let d = done (goal.at.invariant_of-self-2 c).After-append in
+    let w = here c.self.inside.machine c.self.inside.journal.entries in
+    let exact = d.2 c.self.inside.exact c.self.invariant.1 in
+    let single = c.keeps_single-single.ensures w c.self.invariant.0.leads in
+    let last : c.if-self.self ≡ is_exact_of c.step.new.self.images c.append.new.self.entries =
+    elim c.if-self.branch [
+      | then-self b ↦ steps.stays c.self.inside.exact c.if-self.self c.keeps_single-single.result (is_single w c.args.call.now) _ b.if-self.true b.self-is single exact
+      | else-self b ↦ steps.stops c.self.inside.exact c.if-self.self (is_single w c.args.call.now) _ b.if-self.false (b.self-is ∙ b.if-self.false) exact
+    ] in
+    (d.0, last)
+
+pub returns-clause-adds : goal.returns-clause-adds
+returns-clause-adds c = rw (← c.self.view_is) (done (goal.at.returns-clause-adds c).After-append).1
+
+pub returns-clause-exactly : goal.returns-clause-exactly
+returns-clause-exactly c =
+    let m = c.self.inside.machine in
+    let es = c.self.inside.journal.entries in
+    let d = done (goal.at.returns-clause-exactly c).After-append in
+    rw (← c.self.view_is) (returns c.args.worker (service m es) (service c.step.new.self c.append.new.self.entries) c.args.call.now c.in_ok-reply.reply.answer d.1.1)
+
+pub returns-then-not-reserve-clause-adds : goal.returns-then-not-reserve-clause-adds
+returns-then-not-reserve-clause-adds c =
+    let m = c.self.inside.machine in
+    let es = c.self.inside.journal.entries in
+    let w = here m es in
+    let cause = caused w c.room-room.result c.args.call.now c.cause-cause.result c.unwrap_or.result (c.cause-cause.ensures.cause w c.self.invariant.0.leads) c.unwrap_or.ensures in
+    stays c.args.worker c.args.self.now m m es c.reserve.new.self.entries c.args.call.now c.unwrap_or.result c.room-room.result (Err c.unwrap_or.result) c.self.view_is refl c.reserve.ensures.entries c.room-room.ensures.value cause refl
+
+pub returns-in_err-reply-clause-adds : goal.returns-in_err-reply-clause-adds
+returns-in_err-reply-clause-adds c =
+    let m = c.self.inside.machine in
+    let es = c.self.inside.journal.entries in
+    let w = here m es in
+    let refusal = c.in_err-reply.field-0.0 in
+    let step = c.in_err-reply.ensures.step in
+    let out = err_from_is_err_and c.from_residual.result c.from_residual.ensures.1 in
+    let told = out.1 ∙ ap Err out.2 in
+    stays c.args.worker c.args.self.now m c.step.new.self es c.reserve.new.self.entries c.args.call.now refusal c.room-room.result (answering answer_in c.from_residual.result) c.self.view_is step.0 c.reserve.ensures.entries c.room-room.ensures.value (step.1 w c.self.invariant.0.leads) (ap (answering answer_in) told)
+
+pub returns-clause-job : goal.returns-clause-job
+returns-clause-job c =
+    let m = c.self.inside.machine in
+    let es = c.self.inside.journal.entries in
+    let m' = c.step.new.self in
+    let entries = c.append.new.self.entries in
+    let reply = c.in_ok-reply.reply in
+    let opened = c.in_ok-reply.ensures.job (here m es) c.self.invariant.0.leads in
+    let leads = (done (goal.at.returns-clause-job c).After-append).0.leads in
+    let P : TheSession → Type 0 = λ s. Starts (service m' entries) (job_of (world_at s) c.args.call.now reply.answer) reply.job in
+    subst P c.self.view_is (starts m' entries (job_of (here m es) c.args.call.now reply.answer) reply.job opened leads)

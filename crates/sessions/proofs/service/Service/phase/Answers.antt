@@ -1,0 +1,12 @@
+use Rattle.std.proofs.Common.{◌≡◌, subst}
+use Rattle.world.specs.Phases.{name_of}
+use Rattle.sessions.specs.Journal.{TheSession, world_at}
+use Rattle.sessions.proofs.Steps.{here}
+use Rattle.sessions.proofs.service.Service.phase.Goals as goal
+
+pub returns : goal.returns
+returns c =
+    let m = c.self.inside.machine in
+    let es = c.self.inside.journal.entries in
+    let P : TheSession → Type 0 = λ s. c.phase.result ≡ name_of ((world_at s).phase c.args.p) in
+    subst P c.self.view_is (c.phase.ensures (here m es) c.self.invariant.0.leads)

@@ -1,0 +1,103 @@
+//! What is read of a session.
+
+ghost use Rattle.std.specs.Prelude.{◌≡◌, ◌≤◌, [], true, false, drop, length};
+ghost use Rattle.world.specs.Phases.{name_of, is_down};
+ghost use Rattle.world.specs.Bounds.{open_jobs};
+ghost use Rattle.world.specs.Logs.{state_of, length_of};
+ghost use Rattle.machine.specs.Saving.{IsSavedOf};
+ghost use Rattle.theorems.specs.Kept.{HasKept};
+ghost use Rattle.theorems.specs.Orphans.{NoOrphan, ShownBegin};
+ghost use Rattle.sessions.specs.Journal.{IsExact, IsLegal, is_exact, world_at};
+ghost use Rattle.sessions.specs.Service.{KeepsPromises};
+
+use crate::service::Service;
+use world::{Entry, Message, PhaseName};
+
+impl Service {
+    /// How many processes there are, 1 to 15.
+    pub fn count(&self) -> u8
+        ensures value { result ≡ length self.now.images }
+        ensures some { (1 ≤ result) × (result ≤ 15) }
+    {
+        self.machine.count()
+    }
+
+    /// The accepted calls with their answers, the first one first.
+    pub fn journal(&self) -> &[Entry]
+        ensures entries { result.now ≡ self.now.entries }
+        ensures bound { length self.now.entries ≤ 65536 }
+        ensures legal { IsLegal self.now }
+        ensures kept { HasKept (world_at self.now) }
+        ensures no_orphan { IsExact self.now → NoOrphan (world_at self.now) }
+        ensures output_once { IsExact self.now → ShownBegin (world_at self.now) }
+    {
+        self.journal.as_slice()
+    }
+
+    /// What its type keeps of it, whatever was called before. It does nothing.
+    pub fn promises(&self)
+        ensures { KeepsPromises self.now }
+    {
+        // For the proof: the contract of `journal` tells each of the promises.
+        let _entries = self.journal();
+    }
+
+    /// The state of a process, which is empty while the process is down.
+    pub fn state(&self, p: u8) -> &[u8]
+        requires { (1 ≤ p) × (p ≤ length self.now.images) }
+        ensures live { is_down ((world_at self.now).phase p) ≡ false → result.now ≡ state_of (world_at self.now) p }
+        ensures down { is_down ((world_at self.now).phase p) ≡ true → result.now ≡ [] }
+    {
+        self.machine.state(p)
+    }
+
+    /// How many messages its state has: while it is down, those of its checkpoint.
+    pub fn length(&self, p: u8) -> u32
+        requires { (1 ≤ p) × (p ≤ length self.now.images) }
+        ensures { result ≡ length_of (world_at self.now) p }
+    {
+        self.machine.length(p)
+    }
+
+    /// How many jobs are open.
+    pub fn open_jobs(&self) -> u32
+        ensures { result ≡ open_jobs (world_at self.now) }
+    {
+        self.machine.open_jobs()
+    }
+
+    /// The name of its phase.
+    pub fn phase(&self, p: u8) -> PhaseName
+        requires { (1 ≤ p) × (p ≤ length self.now.images) }
+        ensures { result ≡ name_of ((world_at self.now).phase p) }
+    {
+        self.machine.phase(p)
+    }
+
+    /// The outputs that the outside was shown, in order, without the first `since`: each once, and
+    /// none that its sender doesn't send, where failures came one at a time.
+    pub fn shown_since(&self, since: usize) -> &[Message]
+        ensures value { result.now ≡ drop since (world_at self.now).shown }
+        ensures no_orphan { IsExact self.now → NoOrphan (world_at self.now) }
+        ensures output_once { IsExact self.now → ShownBegin (world_at self.now) }
+    {
+        let shown = self.machine.shown();
+        &shown[since.min(shown.len())..]
+    }
+
+    /// The bytes of a process's latest checkpoint, in the second form (docs/FORMATS.md).
+    pub fn saved(&self, p: u8) -> &[u8]
+        requires { (1 ≤ p) × (p ≤ length self.now.images) }
+        ensures { IsSavedOf (world_at self.now) p result.now }
+    {
+        self.machine.saved(p)
+    }
+
+    /// Whether failures came one at a time: no process crashed while another wasn't up, and none
+    /// came back alone.
+    pub fn exact(&self) -> bool
+        ensures { result ≡ is_exact self.now }
+    {
+        self.exact
+    }
+}

@@ -1,0 +1,122 @@
+//! Sessions of one caller, and their calls.
+
+ghost use Rattle.std.specs.Prelude.{◌≡◌, ◌≤◌, IfOk, [], true, length, map};
+ghost use Rattle.std.specs.Arc.{arc_value};
+ghost use Rattle.world.specs.Useful.{may_call};
+ghost use Rattle.machine.specs.Simulation.{answering};
+ghost use Rattle.machine.specs.Stepping.{TakesNoResult, answer_in};
+ghost use Rattle.sessions.specs.Journal.{Takes, world_at};
+ghost use Rattle.sessions.specs.Driving.{StartsJob};
+ghost use Rattle.sessions.specs.Service.{OpensAlone, Owes, OwesAs, Returns, own_seat, seat_of};
+
+use crate::journal::Journal;
+use machine::{Finished, Machine, Reply};
+use replay::Done;
+use std::alloc::Global;
+use std::marker::Model;
+use std::sync::Arc;
+use verifier::Image;
+use world::{Call, Refusal};
+
+/// Processes 1 to n, with the journal of the calls that led to where they are. Its caller is
+/// nobody, who may make any call.
+#[derive(Drop)]
+pub struct Service {
+    pub(crate) machine: Machine,
+    pub(crate) journal: Journal,
+    pub(crate) exact: bool,
+}
+
+impl Model for Service {
+    ghost use Rattle.std.specs.Prelude.{◌≡◌, []};
+    ghost use Rattle.sessions.specs.Journal.{TheSession, is_exact_of};
+    ghost use Rattle.sessions.specs.Inside.{IsSession};
+
+    ghost Value = { TheSession };
+
+    ghost view = { λ s. record { images = s.machine.images; entries = s.journal.entries; seats = [] } };
+
+    ghost invariant = { λ s. IsSession s.machine s.journal.entries × (s.exact ≡ is_exact_of s.machine.images s.journal.entries) };
+}
+
+impl Service {
+    /// Processes 1 to n with these images, each up, with a state of zeros and in its first
+    /// incarnation, and an empty journal. It refuses no images or more than 15 (`NoSuchProcess`),
+    /// and want of memory.
+    pub fn open(alloc: Global, images: Vec<Arc<Image>>) -> Result<Service, Refusal>
+        ensures { OpensAlone (map arc_value images.items) result }
+    {
+        let machine = Machine::open(alloc, images)?;
+        let journal = Journal::new(alloc);
+        Ok(Service {
+            machine,
+            journal,
+            exact: true,
+        })
+    }
+
+    /// Makes a call, and answers what the journal keeps of it and the job that it started. What it
+    /// refuses, and in which order, docs/FORMATS.md says for each call ("Refusals of a session"). A
+    /// finish takes a result: it is `finish`.
+    ///
+    /// A `Recover` answers how many messages the process keeps. Where failures come one at a time,
+    /// that is the end of the longest unbroken run of messages that checkpoint and logs held with
+    /// their numbers; and whatever comes after, when it has as many messages again, its state is
+    /// the one that it had after them.
+    pub fn call(&mut self, call: &Call) -> Result<Reply, Refusal>
+        requires { TakesNoResult call.now }
+        ensures adds { Owes self.old self.new call.now (answering answer_in result) }
+        ensures job { IfOk result (StartsJob self.old self.new call.now) }
+        ensures exactly { IfOk result (λ reply. Returns self.old self.new call.now reply.answer) }
+    {
+        self.call_of(0, call)
+    }
+
+    /// Takes in the result of the open job of its process: the message is received, and the packet
+    /// that tells its number is put on the wire; or it is replayed. It refuses a result that isn't
+    /// the open job's (`StaleJob`), and want of memory. The result comes back with a refusal.
+    pub fn finish(&mut self, done: Done) -> Result<Finished, (Refusal, Done)>
+        ensures { Takes self.old self.new (own_seat self.old) (own_seat self.new) done result }
+    {
+        self.finish_of(0, done)
+    }
+
+    /// What `call` does, for this worker.
+    pub(crate) fn call_of(&mut self, worker: u8, call: &Call) -> Result<Reply, Refusal>
+        requires result { TakesNoResult call.now }
+        requires may { may_call (world_at self.old) worker call.now ≡ true }
+        ensures adds { OwesAs worker self.old self.new call.now (answering answer_in result) }
+        ensures job { IfOk result (StartsJob self.old self.new call.now) }
+        ensures exactly { IfOk result (λ reply. Returns self.old self.new call.now reply.answer) }
+        ensures bound { length self.new.entries ≤ 65536 }
+    {
+        let room = self.journal.room();
+        if !self.journal.reserve() {
+            let cause = self.machine.cause(room, call);
+            return Err(cause.unwrap_or(Refusal::Memory));
+        }
+        let single = self.machine.keeps_single(call);
+        let reply = self.machine.step(room, call)?;
+        self.exact = self.exact && single;
+        self.journal.append(worker, call, reply.answer);
+        Ok(reply)
+    }
+
+    /// What `finish` does, for this worker.
+    pub(crate) fn finish_of(&mut self, worker: u8, done: Done) -> Result<Finished, (Refusal, Done)>
+        ensures takes { Takes self.old self.new (seat_of worker self.old) (seat_of worker self.new) done result }
+        ensures bound { length self.new.entries ≤ 65536 }
+    {
+        if !self.journal.reserve() {
+            if self.machine.is_open(done.task()) {
+                return Err((Refusal::Memory, done));
+            }
+            return Err((Refusal::StaleJob, done));
+        }
+        let process = done.task().process();
+        let finished = self.machine.finish(done)?;
+        let call = Call::Finish { process };
+        self.journal.append(worker, &call, finished.answer());
+        Ok(finished)
+    }
+}
