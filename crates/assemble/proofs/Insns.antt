@@ -46,6 +46,7 @@ is_of (insn.StoreReg s dst src offset) = (((dst, offset), src), refl)
 is_of (insn.StoreImm s dst offset imm) = (((dst, offset), imm), refl)
 is_of (insn.Wide dst value) = ((dst, value), refl)
 
+-- an instruction with this mnemonic has the values beside it
 pub of_as : (m : Mnemonic) (i : Insn) → mnemonic_of i ≡ m → IsOf m i
 of_as m i is = subst (λ (k : Mnemonic). IsOf k i) is (is_of i)
 
@@ -61,6 +62,7 @@ module _ {V : Type 0} (m : Mnemonic) (text : List ℕ) (made : V → Insn) (writ
       h v.0 same_text
   refused_so Range h = (made h.0, (same h.0, ap (λ (x : List ℕ). 32 ∷ x) h.1 ∙ sym (opens h.0)), λ f. h.2 (fits h.0 f))
 
+  -- operands that are refused are refused with the mnemonic, for the same fault
   pub refused : (k : Mnemonic) → k ≡ m → (e y : Fault) (out : Result Insn Fault) → out ≡ Err y → y ≡ e → Reads (λ (v : V). text ≡ written v) F (Err e) → Reads (IsInsn k (32 ∷ text)) Fits out
   refused k km e y out is same_fault h =
       let P : Mnemonic → Result Insn Fault → Type 0 = λ n o. Reads (IsInsn n (32 ∷ text)) Fits o in

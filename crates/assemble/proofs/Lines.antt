@@ -42,16 +42,19 @@ unfolding numeral
 bits_are Bits16 = refl
 bits_are b = refl
 
+-- the word that is written of an instruction is that of its mnemonic
 pub word_is : (i : Insn) → word (mnemonic_of i) ≡ word_of i
 word_is (insn.MovSx x dst src) = extension_is x
 word_is (insn.End order b dst) = ap (λ (t : List ℕ). order_word order ++ t) (bits_are b)
 word_is insn.Exit = refl
 word_is i = refl
 
+-- a line is its word, and the operands behind it
 pub line_is : (i : Insn) → line_of i ≡ word_of i ++ tail (operands_of i)
 line_is insn.Exit = refl
 line_is i = refl
 
+-- the same with the mnemonic's word
 pub line_by : (i : Insn) → line_of i ≡ word (mnemonic_of i) ++ tail (operands_of i)
 line_by i = line_is i ∙ ap (λ (t : List ℕ). t ++ tail (operands_of i)) (sym (word_is i))
 
@@ -64,6 +67,7 @@ tail_behind : (i : Insn) → IsBehind (tail (operands_of i))
 tail_behind insn.Exit = tt
 tail_behind i = refl
 
+-- what `split_once` leaves behind a word is nothing, or a space and more
 pub rest_behind : (o : Option (Bor (List ℕ))) → IsBehind (behind o)
 rest_behind None = tt
 rest_behind (Some x) = refl
@@ -83,10 +87,12 @@ leading_step : (b : Bool) (c : ℕ) (n : ℕ) (cs : List ℕ) → take (cond (no
 leading_step true c n cs = refl
 leading_step false c n cs = let one : 1 + n ≡ suc n = omega arith in ap (λ (m : ℕ). take m (c ∷ cs)) one
 
+-- what is before the first space is the leading word
 pub leading_is : (t : List ℕ) → before_first (λ c. c == 32) t ≡ leading_word t
 leading_is [] = refl
 leading_is (c ∷ cs) = leading_step (c == 32) c (position_or_len (λ d. d == 32) cs) cs ∙ ap (λ (x : List ℕ). if c == 32 then [] else c ∷ x) (leading_is cs)
 
+-- a word without a space leads a line in which nothing or a space is behind it
 pub first_of : (w rest : List ℕ) → lacks 32 w → IsBehind rest → leading_word (w ++ rest) ≡ w
 first_of [] [] lw b = refl
 first_of [] (c ∷ cs) lw b = stop c (c ∷ leading_word cs) b
@@ -103,6 +109,7 @@ word_lacks_so (c ∷ cs) h = (λ e. absurd (omega (arith, h.0)), above_lacks 32 
 word_lacks : (i : Insn) → lacks 32 (word_of i)
 word_lacks i = subst (λ (t : List ℕ). lacks 32 t) (word_is i) (word_lacks_so (word (mnemonic_of i)) (each_word (mnemonic_of i)))
 
+-- the leading word of an instruction's line is its own
 pub leading_word_is : (i : Insn) → leading_word (line_of i) ≡ word_of i
 leading_word_is i = ap leading_word (line_is i) ∙ first_of (word_of i) (tail (operands_of i)) (word_lacks i) (tail_behind i)
 
@@ -210,6 +217,7 @@ sample_is m = refl
 
 -- a rule breaks first where the one before it doesn't break
 module _ (n : ℕ) (line : List ℕ) where
+  -- a line with an unknown word is no instruction's line
   pub word_shape : LineBreaks n rule.Word line → LineBreaks n rule.Shape line
   word_shape h i e = h i (sym (leading_word_is i) ∙ sym (leading_is (line_of i)) ∙ ap (before_first (λ c. c == 32)) (sym e))
 
@@ -231,6 +239,7 @@ module _ (line w : List ℕ) (o : Option (Bor (List ℕ))) (whole : line ≡ w +
   starts : before_first (λ c. c == 32) line ≡ w
   starts = leading_is line ∙ ap leading_word whole ∙ first_of w (behind o) (absent 32 w first) (rest_behind o)
 
+  -- a word that is no mnemonic's is the line's first fault
   pub no_word : ((m : Mnemonic) → w ≢ word m) → (n : ℕ) → LineBreaksFirst n rule.Word line
   no_word none n = stops _ _ _ (λ i e. none (mnemonic_of i) (sym starts ∙ sym e ∙ sym (word_is i)))
 
@@ -240,13 +249,16 @@ module _ (line w : List ℕ) (o : Option (Bor (List ℕ))) (whole : line ≡ w +
         let parts = both_parts w (behind o) i (absent 32 w first) (rest_behind o) (sym whole ∙ e) in
         (one_mnemonic (mnemonic_of i) m (word_is i ∙ sym parts.0 ∙ is), parts.1)
 
+    -- the mnemonic and what is behind it are the instruction's line
     pub has_line : (i : Insn) → IsInsn m (behind o) i → line ≡ line_of i
     has_line i h = whole ∙ (λ k. (is ∙ ap word (sym h.0) ∙ word_is i) k ++ h.1 k) ∙ sym (line_is i)
 
+    -- where what is behind it is of no instruction with the mnemonic, the shape is the first fault
     pub no_shape : ((i : Insn) → ¬ IsInsn m (behind o) i) → (n : ℕ) → LineBreaksFirst n rule.Shape line
     no_shape none n = first_shape n line
         (λ unknown. unknown (sample m) (sym (word_is (sample m)) ∙ ap word (sample_is m) ∙ sym is ∙ sym starts)) (λ i e. none i (insn_is i e))
 
+    -- where it is of one that doesn't fit, the range is
     pub no_range : (i : Insn) × IsInsn m (behind o) i × (¬ Fits i) → (n : ℕ) → LineBreaksFirst n rule.Range line
     no_range h n = first_range n line
         (λ shape. shape h.0 (has_line h.0 h.1)) (λ j fits e. h.2 (subst (λ (k : Insn). Fits k) (line_once j h.0 (sym e ∙ has_line h.0 h.1)) fits))

@@ -67,6 +67,7 @@ numeral_is : (n : ℕ) → numeral n ≡ numeral_within (suc n) n
 unfolding numeral
 numeral_is n = onto_is (suc n) n [] (omega arith) ∙ append-nil (numeral_within (suc n) n)
 
+-- below 2 ^ 64 a numeral is std's decimal
 pub numeral-decimal : (n : ℕ) → n < 2 ^ 64 → numeral n ≡ decimal n
 numeral-decimal n lt = numeral_is n ∙ decimal_from_appends numeral_within appends (suc n) n lt (omega (arith, length-decimal-le_succ n lt))
 
@@ -93,6 +94,7 @@ pub record Spells (n : ℕ) (ds : List ℕ) : Type 0 where
 digit_at : (d : ℕ) → d < 10 → digit_value (48 + d) ≡ d
 digit_at d lt = grind arith
 
+-- a digit is '0' and its value
 pub digit : (c : ℕ) → digit_value c < 10 → 48 + digit_value c ≡ c
 digit c lt = grind arith
 
@@ -132,15 +134,18 @@ spells_within (suc k) n lt = elim (cases_lt n 10) [
   | inr large ↦ spells_more n large (spells_within k (n / 10) (omega arith))
 ]
 
+-- a numeral has digits, some, without a leading zero, and their value is its number
 pub spells : (n : ℕ) → Spells n (numeral n)
 spells n = spells_within (suc n) n (omega arith)
 
 pub numeral_once : (m n : ℕ) → numeral m ≡ numeral n → m ≡ n
 numeral_once m n e = sym (spells m).value ∙ ap (digits_value 10) e ∙ (spells n).value
 
+-- a number above 0 is written without a leading zero
 pub positive : (n : ℕ) → IsPositive (numeral (suc n))
 positive n = let s = spells (suc n) in record { digits = (s.some, s.digits); first = s.first (omega arith) }
 
+-- a numeral is 0, or has no leading zero
 pub unsigned : (n : ℕ) → IsUnsigned (numeral n)
 unsigned zero = inl (one_digit 0 (omega arith))
 unsigned (suc n) = inr (positive n)
@@ -162,6 +167,7 @@ grows n (c ∷ cs) some = grows (n * 10 + digit_value c) cs (omega arith)
 first_digit : (c : ℕ) (cs : List ℕ) → IsPositive (c ∷ cs) → (digit_value c < 10) × (0 < digit_value c)
 first_digit c cs p = let is = digit c p.digits.1.0 in (p.digits.1.0, omega (arith, p.first))
 
+-- digits without a leading zero are the numeral of their value, which is above 0
 pub positive_is : (ds : List ℕ) → IsPositive ds → (numeral (digits_value 10 ds) ≡ ds) × (0 < digits_value 10 ds)
 positive_is [] p = absurd (omega (arith, p.digits.0))
 positive_is (c ∷ cs) p =
@@ -172,6 +178,7 @@ positive_is (c ∷ cs) p =
     let whole : digits_value 10 (c ∷ cs) ≡ digits_value_after 10 (digit_value c) cs = ap (λ m. digits_value_after 10 m cs) same in
     (ap numeral whole ∙ all, subst (λ (m : ℕ). 0 < m) (sym whole) (grows (digit_value c) cs d.1))
 
+-- what spells a number without a sign is its numeral
 pub unsigned_is : (ds : List ℕ) → IsUnsigned ds → numeral (digits_value 10 ds) ≡ ds
 unsigned_is ds (inl zero_is) = subst (λ (x : List ℕ). numeral (digits_value 10 x) ≡ x) (sym zero_is) (one_digit 0 (omega arith))
 unsigned_is ds (inr p) = (positive_is ds p).0
@@ -186,18 +193,22 @@ unsigned_some [] (inl e) = absurd cc
 unsigned_some [] (inr p) = absurd (omega (arith, p.digits.0))
 unsigned_some (c ∷ cs) h = inr h
 
+-- what is written of a number spells one
 pub number_spelled : (z : ℤ) → IsNumber (number z)
 number_spelled (pos n) = unsigned_some (numeral n) (unsigned n)
 number_spelled (negsuc n) = inl (refl, positive n)
 
+-- and so what is written of one behind its sign
 pub signed_spelled : (z : ℤ) → IsSigned (with_sign z)
 signed_spelled (pos n) = inl (refl, unsigned n)
 signed_spelled (negsuc n) = inr (refl, positive n)
 
+-- what spells a number without a sign has digits alone
 pub unsigned_digits : (ds : List ℕ) → IsUnsigned ds → IsNumeral 10 ds
 unsigned_digits ds (inl e) = subst (λ (x : List ℕ). IsNumeral 10 x) (sym e) (omega arith, (omega arith, tt))
 unsigned_digits ds (inr p) = p.digits
 
+-- what spells one begins with no byte below '0', so with no sign
 pub above : (c : ℕ) (cs : List ℕ) → IsUnsigned (c ∷ cs) → 48 ≤ c
 above c cs (inl e) = let is : c ≡ 48 = cc in omega arith
 above c cs (inr p) = omega (arith, digit c p.digits.1.0)
@@ -215,11 +226,13 @@ negative cs p =
     let both = negated (digits_value 10 cs) is.1 in
     (both.0 ∙ ap (λ (x : List ℕ). 45 ∷ x) is.0, both.1 ∙ ap (λ (x : List ℕ). 45 ∷ x) is.0)
 
+-- what spells a number is what is written of it
 pub number_is : (ds : List ℕ) → IsNumber ds → number (signed_digits_value 10 ds) ≡ ds
 number_is [] h = absurd h
 number_is (c ∷ cs) (inl h) = subst (λ (x : ℕ). number (signed_digits_value 10 (x ∷ cs)) ≡ x ∷ cs) (sym h.0) (negative cs h.1).0
 number_is (c ∷ cs) (inr h) = ap number (plain c cs (above c cs h)) ∙ unsigned_is (c ∷ cs) h
 
+-- what spells a number behind its sign is what is written of it
 pub signed_is : (ds : List ℕ) → IsSigned ds → with_sign (signed_digits_value 10 ds) ≡ ds
 signed_is [] h = absurd h
 signed_is (c ∷ cs) (inl h) = subst (λ (x : ℕ). with_sign (signed_digits_value 10 (x ∷ cs)) ≡ x ∷ cs) (sym h.0) (ap (λ (x : List ℕ). 43 ∷ x) (unsigned_is cs h.1))
@@ -257,6 +270,7 @@ digits_plain : (ds : List ℕ) → AllDigits 10 ds → IsPlain ds
 digits_plain [] h = tt
 digits_plain (c ∷ cs) h = let is = digit c h.0 in ((omega arith, omega arith, omega arith), digits_plain cs h.1)
 
+-- a numeral has such bytes alone
 pub numeral_plain : (n : ℕ) → IsPlain (numeral n)
 numeral_plain n = digits_plain (numeral n) (spells n).digits
 

@@ -37,6 +37,7 @@ name_is_by n le = elim (cases_lt n 10) [
       subst P is ten
 ]
 
+-- what is written of a register is its name in lines
 pub name_is : (r : Reg) → register_name r ≡ register r
 name_is r = name_is_by r.number r.in_range
 
@@ -50,13 +51,16 @@ lacks_append : (byte : ℕ) (a b : List ℕ) → lacks byte a → lacks byte b �
 lacks_append byte [] b la lb = lb
 lacks_append byte (c ∷ cs) b la lb = (la.0, lacks_append byte cs b la.1 lb)
 
+-- no comma, by which operands are split, is in a register
 pub register_lacks : (r : Reg) → lacks 44 (register r)
 register_lacks r = (λ e. absurd (omega arith), plain_lacks (numeral r.number) (numeral_plain r.number))
 
+-- nor in a number or a register
 pub source_lacks : (o : Operand) → lacks 44 (source o)
 source_lacks (operand.Imm n) = plain_lacks (number n) (number_plain n)
 source_lacks (operand.Reg r) = register_lacks r
 
+-- nor in an address
 pub address_lacks : (r : Reg) (z : ℤ) → lacks 44 (address r z)
 address_lacks r z = (
   λ e. absurd (omega arith),
@@ -80,6 +84,7 @@ module _ {A B : Type 0} (PA FitsA : A → Type 0) (PB FitsB : B → Type 0) (Who
   reads_all (Err Range) (Err Shape) h k = λ v e. k v.1 (apart v e).1
   reads_all (Err Range) (Err Range) h k = ((h.0, k.0), joined (h.0, k.0) h.1 k.1, λ fits. h.2 fits.0)
 
+  -- both are read, or refused for the lesser fault
   pub reads_both : (x : Result A Fault) (y : Result B Fault) (out : Result (A × B) Fault) → out ≡ both_of x y → Reads PA FitsA x → Reads PB FitsB y → Reads Whole FitsBoth out
   reads_both x y out e h k = subst (λ (o : Result (A × B) Fault). Reads Whole FitsBoth o) (sym e) (reads_all x y h k)
 
@@ -98,15 +103,18 @@ module _ {A B : Type 0} (f : A → List ℕ) (FitsA : A → Type 0) (g : B → L
   joined : (l r : List ℕ) → IsSplit 44 text l (32 ∷ r) → (v : A × B) → l ≡ f v.0 → r ≡ g v.1 → IsPair v
   joined l r cut v le re = cut.whole ∙ (λ i. le i ++ 44 ∷ 32 ∷ re i)
 
+  -- a text is read as two at its first comma, with a space behind it
   pub reads_pair : (l r : List ℕ) → IsSplit 44 text l (32 ∷ r) → (x : Result A Fault) (y : Result B Fault) (out : Result (A × B) Fault) → out ≡ both_of x y
       → Reads (λ a. l ≡ f a) FitsA x → Reads (λ b. r ≡ g b) FitsB y → Reads IsPair (λ v. FitsA v.0 × FitsB v.1) out
   reads_pair l r cut = reads_both (λ a. l ≡ f a) FitsA (λ b. r ≡ g b) FitsB IsPair (apart l r cut) (joined l r cut)
 
+  -- a text without that isn't of two
   pub no_pair : ((l r : List ℕ) → IsSplit 44 text l (32 ∷ r) → ⊥) → (v : A × B) → IsPair v → ⊥
   no_pair none v e = none (f v.0) (g v.1) (record { whole = e; first = contains 44 (f v.0) (fine v.0) })
 
 -- ---- an address
 
+-- texts that are equal with a last byte each are equal without it
 pub same_last : (a b : List ℕ) (x y : ℕ) → a ++ (x ∷ []) ≡ b ++ (y ∷ []) → a ≡ b
 same_last [] [] x y e = refl
 same_last [] (d ∷ ds) x y e = let rest : [] ≡ ds ++ (y ∷ []) = cc in absurd (omega (arith, ap length rest, length-append ds (y ∷ [])))
@@ -124,6 +132,7 @@ no_sign c [] x sign e n m = sign
 no_sign c (d ∷ ds) x (inl plus) e n m = n (sym (head_is d c ds x e) ∙ plus)
 no_sign c (d ∷ ds) x (inr minus) e n m = m (sym (head_is d c ds x e) ∙ minus)
 
+-- a text is cut before its first sign in one way, as an address is between register and offset
 pub sign_cut : (a b c d : List ℕ) → lacks 43 a → lacks 45 a → lacks 43 c → lacks 45 c → BeginsWithSign b → BeginsWithSign d → a ++ b ≡ c ++ d → (a ≡ c) × (b ≡ d)
 sign_cut [] b [] d pa ma pc mc sb sd e = (refl, e)
 sign_cut [] b (y ∷ ys) d pa ma pc mc sb sd e = absurd (no_sign y b (ys ++ d) sb e pc.0 mc.0)
@@ -138,9 +147,11 @@ digits_lack : (byte : ℕ) (ds : List ℕ) → byte < 48 → AllDigits 10 ds →
 digits_lack byte [] lt h = tt
 digits_lack byte (c ∷ cs) lt h = let is = digit c h.0 in (λ e. absurd (omega arith), digits_lack byte cs lt h.1)
 
+-- no byte below '0', so no sign, is in a register
 pub register_no_sign : (byte : ℕ) (r : Reg) → byte < 48 → lacks byte (register r)
 register_no_sign byte r lt = (λ e. absurd (omega arith), digits_lack byte (numeral r.number) lt (spells r.number).digits)
 
+-- an offset begins with its sign
 pub signed_begins : (z : ℤ) → BeginsWithSign (with_sign z)
 signed_begins (pos n) = inl refl
 signed_begins (negsuc n) = inr refl
@@ -170,15 +181,18 @@ module _ (text : List ℕ) where
   whole_of : (inner base off : List ℕ) → text ≡ 91 ∷ (inner ++ 93 ∷ []) → inner ≡ base ++ off → (v : Reg × ℤ) → base ≡ register v.0 → off ≡ with_sign v.1 → IsAddress v
   whole_of inner base off whole cut v be oe = whole ∙ (λ i. 91 ∷ ((cut ∙ (λ j. be j ++ oe j)) i ++ 93 ∷ [])) ∙ sym (regrouped v.0 v.1)
 
+  -- a text in brackets is read as a register up to the first sign, and an offset from there
   pub reads_address : (FitsA : Reg → Type 0) (FitsB : ℤ → Type 0) (inner base off : List ℕ) → text ≡ 91 ∷ (inner ++ 93 ∷ []) → inner ≡ base ++ off → LacksSign base → BeginsWithSign off
       → (x : Result Reg Fault) (y : Result ℤ Fault) (out : Result (Reg × ℤ) Fault) → out ≡ both_of x y
       → Reads (λ r. base ≡ register r) FitsA x → Reads (λ z. off ≡ with_sign z) FitsB y → Reads IsAddress (λ v. FitsA v.0 × FitsB v.1) out
   reads_address FitsA FitsB inner base off whole cut none sign =
       reads_both (λ r. base ≡ register r) FitsA (λ z. off ≡ with_sign z) FitsB IsAddress (parts inner base off whole cut none sign) (whole_of inner base off whole cut)
 
+  -- a text without brackets is no address
   pub no_brackets : ((x : List ℕ) → text ≢ 91 ∷ (x ++ 93 ∷ [])) → (v : Reg × ℤ) → IsAddress v → ⊥
   no_brackets none v e = none (register v.0 ++ with_sign v.1) (e ∙ regrouped v.0 v.1)
 
+  -- nor is one without a sign
   pub no_offset : (inner : List ℕ) → text ≡ 91 ∷ (inner ++ 93 ∷ []) → LacksSign inner → (v : Reg × ℤ) → IsAddress v → ⊥
   no_offset inner whole none v e =
       let is = inner_is inner whole v e in
@@ -192,9 +206,11 @@ module _ (text : List ℕ) where
 
 -- ---- a register or a number
 
+-- a number doesn't begin with 'r', as a register does
 pub number_first : (z : ℤ) (x : List ℕ) → number z ≡ 114 ∷ x → ⊥
 number_first z x e = let plain : IsPlain (114 ∷ x) = subst (λ (y : List ℕ). IsPlain y) e (number_plain z) in absurd (omega (arith, plain.0.2))
 
+-- what is no register, and refused as a number, is refused as an operand
 pub source_refused : (text : List ℕ) (fault : Fault) → ((r : Reg) → text ≢ register_name r) → Reads (λ z. text ≡ number z) (λ z. FitsSigned w32 z) (Err fault) → Reads (λ (o : Operand). text ≡ source o) OperandFits (Err fault)
 source_refused text Range none h = (operand.Imm h.0, h.1, h.2)
 source_refused text Shape none h = λ o e. refuse o e

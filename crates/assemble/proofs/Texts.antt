@@ -30,11 +30,13 @@ cut_yes c x y e = search (rules, nat_tests)
 cut_no : (c : ℕ) (x : List (List ℕ)) (y : List (List ℕ)) → (c ≡ 10 → ⊥) → cond (c == 10) x y ≡ y
 cut_no c x y e = search (rules, nat_tests)
 
+-- the first line ends at the first line feed
 pub lines_cut : (a b : List ℕ) → lacks 10 a → lines_of (a ++ 10 ∷ b) ≡ a ∷ lines_of b
 lines_cut [] b la = refl
 lines_cut (c ∷ cs) b la =
     cut_no c ([] ∷ lines_of (cs ++ 10 ∷ b)) (onto_first c (lines_of (cs ++ 10 ∷ b))) la.0 ∙ ap (λ (x : List (List ℕ)). onto_first c x) (lines_cut cs b la.1)
 
+-- a text without a line feed is one line
 pub lines_end : (a : List ℕ) → lacks 10 a → lines_of a ≡ a ∷ []
 lines_end [] la = refl
 lines_end (c ∷ cs) la = cut_no c ([] ∷ lines_of cs) (onto_first c (lines_of cs)) la.0 ∙ ap (λ (x : List (List ℕ)). onto_first c x) (lines_end cs la.1)
@@ -53,14 +55,17 @@ cond_append : (b : Bool) (l : List ℕ) (x y : List (List ℕ)) → cond b (l �
 cond_append true l x y = refl
 cond_append false l x y = refl
 
+-- the lines that speak in two lists, one after the other, are those of each
 pub spoken_append : (a b : List (List ℕ)) → spoken (a ++ b) ≡ spoken a ++ spoken b
 spoken_append [] b = refl
 spoken_append (l ∷ ls) b =
     ap (λ (x : List (List ℕ)). cond (not (is_silent l)) (l ∷ x) x) (spoken_append ls b) ∙ sym (cond_append (not (is_silent l)) l (spoken ls) (spoken b))
 
+-- an empty line or a comment doesn't speak
 pub spoken_silent : (l : List ℕ) (ls : List (List ℕ)) → is_silent l ≡ true → spoken (l ∷ ls) ≡ spoken ls
 spoken_silent l ls e = silent_step (is_silent l) l (spoken ls) e
 
+-- any other line does
 pub spoken_line : (l : List ℕ) (ls : List (List ℕ)) → is_silent l ≡ false → spoken (l ∷ ls) ≡ l ∷ spoken ls
 spoken_line l ls e = spoken_step (is_silent l) l (spoken ls) e
 
@@ -84,6 +89,7 @@ silent_more before line is h e = record {
   limit = h.limit;
 }
 
+-- the line of one instruction more, which there is room for
 pub insn_more : (before : List (List ℕ)) (line : List ℕ) (is : List Insn) (i : Insn) → AreLines before is → is_silent line ≡ false → Fits i → line ≡ line_of i → slots is + size_of i ≤ 1024 → AreLines (before ++ line ∷ []) (is ++ i ∷ [])
 insn_more before line is i h e fits written room = record {
   fits = all_append is (i ∷ []) h.fits (fits, tt);
@@ -91,6 +97,7 @@ insn_more before line is i h e fits written room = record {
   limit = omega (arith, slots-append is (i ∷ []), slots-cons i [], h.limit);
 }
 
+-- one line more is read, with its instruction
 pub read_more : (text : List ℕ) (here : Bor (List ℕ)) (line : List ℕ) (rest : Option (Bor (List ℕ))) (n : ℕ) (is : List Insn) (i : Insn) (so_far : HaveRead text (Some here) n is) → lines_of here.now ≡ line ∷ lines_left rest
     → is_silent line ≡ false → Fits i → line ≡ line_of i → slots is + size_of i ≤ 1024 → HaveRead text rest (n + 1) (is ++ i ∷ [])
 read_more text here line rest n is i h cut speaks fits written room = record {
@@ -102,6 +109,7 @@ read_more text here line rest n is i h cut speaks fits written room = record {
 
 -- ---- one list
 
+-- lines are those of one list of instructions
 pub one_list : (is js : List Insn) → map line_of is ≡ map line_of js → is ≡ js
 one_list [] [] e = refl
 one_list [] (j ∷ js) e = absurd cc
@@ -147,6 +155,7 @@ never lines before line after js is r whole fine speaks broken h =
     let first = slots-cons on.0 on.1 in
     fine_line (slots js) on.0 line r fits.0 on.3 (omega (arith, h.limit)) broken
 
+-- lines of a list of instructions have no fault
 pub no_fault : (text : List ℕ) (is : List Insn) (r : Rule) (n : ℕ) → AreLines (lines_of text) is → IsFault text r n → ⊥
 no_fault text is r n h f = never (lines_of text) f.before f.line f.after f.insns is r f.whole f.fine f.speaks f.broken h
 
@@ -168,6 +177,7 @@ places (w ∷ ws) (z ∷ zs) c d x y e =
       | inr (inr m) ↦ inr (inr (m.0, (λ k. first k ∷ m.1 k)))
     ]
 
+-- a text has one fault at most
 pub one_fault : (text : List ℕ) (q r : Rule) (m n : ℕ) → IsFault text q m → IsFault text r n → (q ≡ r) × (m ≡ n)
 one_fault text q r m n a b = elim (places a.before b.before a.after b.after a.line b.line (sym a.whole ∙ b.whole)) [
   | inl same ↦

@@ -91,6 +91,7 @@ none_found : (text : List ℕ) (xs : List Mnemonic) → AllByRecursion (λ m. te
 none_found text [] none m e = absurd cc
 none_found text (x ∷ xs) none m e = step x m xs text (same (word x) text) (λ _. none.0) refl (λ t. sym (same_true (word x) text t)) (none_found text xs none.1 m) e
 
+-- a text that is none of the words in the list is no mnemonic's
 pub every : (text : List ℕ) → AllByRecursion (λ m. text ≢ word m) ALL → (m : Mnemonic) → text ≢ word m
 every text none m e = none_found text ALL none m (ap (λ (t : List ℕ). find t ALL) e ∙ (found m).0)
 
@@ -117,5 +118,6 @@ is_word_so : (t : List ℕ) → is_word t ≡ true → IsWord t
 is_word_so [] e = absurd cc
 is_word_so (c ∷ cs) e = above_step 35 c cs (nat_lt 35 c) refl (above_all cs) e
 
+-- each mnemonic's word begins above '#', and has neither space nor line feed
 pub each_word : (m : Mnemonic) → IsWord (word m)
 each_word m = is_word_so (word m) (found m).1

@@ -108,11 +108,13 @@ text_more is n i d old new lt ei written e =
     e ∙ ap (λ (t : List ℕ). t ++ 10 ∷ []) (append_assoc old (word (mnemonic_of i)) (tail (operands_of i))) ∙ append_assoc old line (10 ∷ [])
     ∙ (λ k. written k ++ one k) ∙ flat_map_more (λ (j : Insn). line_of j ++ 10 ∷ []) [] (take n is) i ∙ ap text_of (sym more)
 
+-- where the instructions so far fit, and the next one does, so do those with it
 pub fits_more : (is : List Insn) (n : ℕ) (i d : Insn) → n < length is → i ≡ get_or is n d → AllByRecursion Fits (take n is) → Fits i → AllByRecursion Fits (take (n + 1) is)
 fits_more is n i d lt ei all fits =
     let more : take (n + 1) is ≡ take n is ++ i ∷ [] = take_more is n d lt ∙ ap (λ (j : Insn). take n is ++ j ∷ []) (sym ei) in
     subst (λ (js : List Insn). AllByRecursion Fits js) (sym more) (all_append (take n is) (i ∷ []) all (fits, tt))
 
+-- the text that is written for a list is its text
 pub read_back : (is : List Insn) → IsText (text_of is) is
 read_back [] = refl
 read_back (i ∷ is) =

@@ -34,11 +34,13 @@ no_bits n a b c Bits16 = a
 no_bits n a b c Bits32 = b
 no_bits n a b c Bits64 = c
 
+-- a slot whose byte swap has no width breaks the rule of widths
 pub no_width : (w : Word) (next : Option Word) → Widthless w → Breaks Width w next
 no_width w next (inl e, a, b, c) = ((Little, e), no_bits w.imm a b c)
 no_width w next (inr (inl e), a, b, c) = ((Big, e), no_bits w.imm a b c)
 no_width w next (inr (inr e), a, b, c) = ((Swap, e), no_bits w.imm a b c)
 
+-- and no other slot does
 pub sized : (w : Word) (next : Option Word) → (¬ Widthless w) → ¬ Breaks Width w next
 sized w next fine ((Little, e), none) = fine (inl e, none Bits16, none Bits32, none Bits64)
 sized w next fine ((Big, e), none) = fine (inr (inl e), none Bits16, none Bits32, none Bits64)
@@ -112,6 +114,7 @@ pub all_append : (is js : List Insn) → AllByRecursion Fits is → AllByRecursi
 all_append [] js fi fj = fj
 all_append (i ∷ is) js fi fj = (fi.0, all_append is js fi.1 fj)
 
+-- what is broken behind whole instructions is broken in all of the bytes, as many slots later
 pub broken_later : (bytes rest : List ℕ) (is : List Insn) (r : Rule) (slot : ℕ) → AllByRecursion Fits is → slot ≡ slots is → bytes ≡ encoding is ++ rest → IsBrokenAt rest r 0 → IsBrokenAt bytes r slot
 broken_later bytes rest is r slot fits slot_is so_far b =
     let words = flat_map word_bytes (b.word ∷ b.rest) in

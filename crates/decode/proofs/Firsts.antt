@@ -2,10 +2,12 @@
 use Rattle.std.proofs.Common.{◌≡◌, List, [], ◌∷◌, refl, sym, ap, subst, ◌∙◌, inl, inr}
 use Rattle.decode.specs.First.{IsFirst}
 
+-- a cause that holds is the first of those that it heads
 pub stops : {Q : Type 0} (P : Q → Type 0) (q : Q) (qs : List Q) → P q → IsFirst P (q ∷ qs) q
 unfolding IsFirst
 stops P q qs holds = inl (refl, holds)
 
+-- a cause that doesn't hold is passed over
 pub passes : {Q : Type 0} (q : Q) (P : Q → Type 0) (qs : List Q) (r : Q) → (¬ P q) → IsFirst P qs r → IsFirst P (q ∷ qs) r
 unfolding IsFirst
 passes q P qs r fine later = inr (fine, later)

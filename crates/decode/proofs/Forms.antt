@@ -41,6 +41,7 @@ and_both : (a b : Bool) → (a && b) ≡ true → (a ≡ true) × (b ≡ true)
 and_both true b e = (refl, e)
 and_both false b e = absurd cc
 
+-- a test that all numbers below k pass holds of each
 pub tried : (test : ℕ → Bool) (k : ℕ) → tries test k ≡ true → (n : ℕ) → n < k → test n ≡ true
 tried test zero e n lt = absurd (omega arith)
 tried test (suc k) e n lt =
@@ -49,6 +50,7 @@ tried test (suc k) e n lt =
 
 -- ---- registers
 
+-- registers with one number are one
 pub same_reg : (r s : Reg) → r.number ≡ s.number → r ≡ s
 same_reg r s e =
     let P : ℕ → Type 0 = λ m. (q : m ≤ 10) → r ≡ record { number = m; in_range = q } in
@@ -72,6 +74,7 @@ is_form_of n (Some f) = eqb (first_word (sample f)).opcode n
 all_forms : (n : ℕ) → n < 256 → is_form_of n (form_at n) ≡ true
 all_forms = tried (λ n. is_form_of n (form_at n)) 256 refl
 
+-- an opcode with a form is that of some instruction
 pub has_form : (n : ℕ) (f : Form) → n < 256 → form_at n ≡ Some f → (i : Insn) × ((first_word i).opcode ≡ n)
 has_form n f lt e =
     let t = all_forms n lt in
@@ -135,6 +138,7 @@ jump_64_register : (c : Condition) → form_at (jump_code c * 16 + 0x08 + jump_c
 jump_64_register condition.Equal = refl
 jump_64_register c = refl
 
+-- the form that is found by an instruction's opcode is its own
 pub is_formed : (i : Insn) → form_at (first_word i).opcode ≡ Some (form_of i)
 is_formed (insn.Alu op W32 dst (operand.Imm n)) = alu_32_imm op
 is_formed (insn.Alu op W64 dst (operand.Imm n)) = alu_64_imm op
@@ -160,9 +164,11 @@ is_formed (insn.StoreImm size.Word dst offset imm) = refl
 is_formed (insn.StoreImm size dst offset imm) = refl
 is_formed i = refl
 
+-- the same by an opcode that is known to be the instruction's
 pub formed_at : (i : Insn) (n : ℕ) → (first_word i).opcode ≡ n → form_at n ≡ Some (form_of i)
 formed_at i n same = subst (λ (m : ℕ). form_at m ≡ Some (form_of i)) same (is_formed i)
 
+-- no instruction has an opcode without a form
 pub no_form : (n : ℕ) → form_at n ≡ None → (i : Insn) → (first_word i).opcode ≡ n → ⊥
 no_form n e i same = let f = formed_at i n same in cc
 

@@ -37,6 +37,7 @@ use Rattle.decode.proofs.Forms.{form_of, is_formed, formed_at, reads_back}
 
 -- ---- one slot
 
+-- bytes begin with one slot only, and have one rest behind it
 pub word_once : (w v : Word) (a b : List ℕ) → IsWord w → IsWord v → word_bytes w ++ a ≡ word_bytes v ++ b → (w ≡ v) × (a ≡ b)
 word_once w v a b sw sv e =
     let opcode : w.opcode ≡ v.opcode = cc in
@@ -64,6 +65,7 @@ narrow : (bits : SwapBits) → swap_imm bits < 2 ^ 32
 narrow Bits16 = omega arith
 narrow bits = omega arith
 
+-- the numbers of registers in an instruction's first slot are at most 10
 pub registers_of : (i : Insn) → ((first_word i).dst ≤ 10) × ((first_word i).src ≤ 10)
 registers_of (Alu op width dst (operand.Imm n)) = (dst.in_range, omega arith)
 registers_of (Alu op width dst (operand.Reg src)) = (dst.in_range, src.in_range)
@@ -154,6 +156,7 @@ itself : (o : Option Word) → MatchOption o (Unit {0}) (λ s. o ≡ Some s)
 itself None = tt
 itself (Some s) = refl
 
+-- bytes begin with one instruction only, and have one rest behind it
 pub insn_once : (i j : Insn) (a b : List ℕ) → Fits i → Fits j → insn_bytes i ++ a ≡ insn_bytes j ++ b → (i ≡ j) × (a ≡ b)
 insn_once i j a b fi fj e =
     let regrouped : word_bytes (first_word i) ++ (second_bytes (second_word i) ++ a) ≡ word_bytes (first_word j) ++ (second_bytes (second_word j) ++ b)
@@ -169,6 +172,7 @@ insn_once i j a b fi fj e =
 abbrev Each : List Insn → Type 0
 Each is = AllByRecursion Fits is
 
+-- an encoding begins with the bytes of its first instruction
 pub starts : (i : Insn) (is : List Insn) → encoding (i ∷ is) ≡ insn_bytes i ++ encoding is
 starts i is = flat_map-cons insn_bytes i is
 
@@ -188,12 +192,14 @@ insn_len : (o : Option Word) (w : Word) → length (word_bytes w ++ second_bytes
 insn_len None w = refl
 insn_len (Some s) w = refl
 
+-- an encoding has whole slots of eight bytes
 pub whole_slots : (is : List Insn) → length (encoding is) % 8 ≡ 0
 whole_slots [] = refl
 whole_slots (i ∷ is) = joined (insn_bytes i) (encoding is) (encoding (i ∷ is)) (starts i is) (insn_len (second_word i) (first_word i)) (whole_slots is)
 
 -- ---- what is refused is no encoding
 
+-- where bytes are those of an instruction and more, their slots begin with its own
 pub begins_at : (i : Insn) (tail : List ℕ) (w : Word) (ws : List Word) → Fits i → AllByRecursion IsWord (w ∷ ws) → insn_bytes i ++ tail ≡ flat_map word_bytes (w ∷ ws) → Begins i w (slice_get ws 0)
 begins_at i tail w ws fits sizes e =
     let first = word_once (first_word i) w (second_bytes (second_word i) ++ tail) (flat_map word_bytes ws) (is_word i fits) sizes.0 (sym (append_assoc (word_bytes (first_word i)) (second_bytes (second_word i)) tail) ∙ e) in
@@ -254,6 +260,7 @@ whole_wide i next e follows none = absurd cc
 is_whole : (i : Insn) (next : Option Word) → MatchOption (second_word i) (Unit {0}) (λ s. next ≡ Some s) → Breaks Cut (first_word i) next → ⊥
 is_whole i next follows cut = whole_wide i next (is_wide i cut.0) follows cut.1
 
+-- the first slot of an instruction that fits breaks no rule
 pub is_fine : (i : Insn) (next : Option Word) (r : Rule) → Fits i → MatchOption (second_word i) (Unit {0}) (λ s. next ≡ Some s) → IsFirst (λ q. Breaks q (first_word i) next) order r → ⊥
 unfolding IsFirst
 is_fine i next r fits follows (inl opcode) = opcode.1 i refl
@@ -270,11 +277,13 @@ abbrev pub HeadBroken : Rule → List Word → Type 0
 HeadBroken r [] = ⊥
 HeadBroken r (w ∷ ws) = IsFirst (λ q. Breaks q w (slice_get ws 0)) order r
 
+-- slots that begin with an instruction are not broken at the first
 pub not_broken : (i : Insn) (tail : List ℕ) (r : Rule) (w : Word) (ws : List Word) → Fits i → AllByRecursion IsWord (w ∷ ws) → insn_bytes i ++ tail ≡ flat_map word_bytes (w ∷ ws) → HeadBroken r (w ∷ ws) → ⊥
 not_broken i tail r w ws fits sizes e broken =
     let begins = begins_at i tail w ws fits sizes e in
     is_fine i (slice_get ws 0) r fits begins.1 (subst (λ (v : Word). IsFirst (λ q. Breaks q v (slice_get ws 0)) order r) (sym begins.0) broken)
 
+-- where slots behind whole instructions are broken, all of it is no encoding
 pub never : (before is : List Insn) (r : Rule) (w : Word) (ws : List Word) → Each before → Each is → AllByRecursion IsWord (w ∷ ws) → encoding before ++ flat_map word_bytes (w ∷ ws) ≡ encoding is → HeadBroken r (w ∷ ws) → ⊥
 never [] [] r w ws fb fi sizes e broken = absurd cc
 never [] (i ∷ is) r w ws fb fi sizes e broken = not_broken i (encoding is) r w ws fi.0 sizes (sym (starts i is) ∙ sym e) broken
@@ -284,6 +293,7 @@ never (b ∷ bs) (i ∷ is) r w ws fb fi sizes e broken =
     let regrouped : insn_bytes b ++ (encoding bs ++ rest) ≡ insn_bytes i ++ encoding is = sym (append_assoc (insn_bytes b) (encoding bs) rest) ∙ ap (λ (x : List ℕ). x ++ rest) (sym (starts b bs)) ∙ e ∙ starts i is in
     never bs is r w ws fb.1 fi.1 sizes (insn_once b i (encoding bs ++ rest) (encoding is) fb.0 fi.0 regrouped).1 broken
 
+-- an encoding is read as its own instructions, and refused for want of memory alone
 pub only_these : (bytes : List ℕ) (r : Result (Vec Insn) DecodeError) (is : List Insn) → Each is → bytes ≡ encoding is
     → MatchResult r (λ v. Each v.items × (bytes ≡ encoding v.items)) (λ _. Unit {0}) → MatchResult r (λ _. Unit {0}) (IsRefusal bytes) → IfOk r (λ v. v.items ≡ is) × IfErr r (λ e. e ≡ Memory)
 only_these bytes (Ok v) is fits e found refused = (encoding_once v.items is found.0 fits (sym found.1 ∙ e), tt)

@@ -54,6 +54,7 @@ same_who w v a b c =
 same_effects : (e f : Emitted) → e.sends ≡ f.sends → e.outputs ≡ f.outputs → e ≡ f
 same_effects e f a b = ap (λ l. record { sends = l; outputs = e.outputs }) a ∙ ap (λ l. record { sends = f.sends; outputs = l }) b
 
+-- a record is that of one call's `Who` and effects only
 pub tells_one : (w v : Who) (e f : Emitted) (bytes : List ℕ) → Keeps w e bytes → Keeps v f bytes → AreWords e → AreWords f → (w ≡ v) × (e ≡ f)
 tells_one w v e f bytes a b p q =
     let a1 = a.few_sends in

@@ -43,6 +43,7 @@ pub xor-bit_xor : (n a b : ℕ) → a < 2 ^ n → b < 2 ^ n → bit_xor a b ≡ 
 xor-bit_xor n a b h k =
     sym (mod-eq_of_lt (xor_lt n a b h k)) ∙ sym (word_of_bits-same (λ i. (bit_at a i + bit_at b i) % 2) n (bit_xor a b) (bit_at_xor a b))
 
+-- whether two words have a common bit is the same by the machine's AND
 pub and-test : (n a b : ℕ) → a < 2 ^ n → not (nat_eq (bit_and a b) 0) ≡ not (nat_eq (computed And n a b) 0)
 and-test n a b h = ap (λ x. not (nat_eq x 0)) (and-bit_and n a b h)
 

@@ -15,6 +15,7 @@ floor-step a (suc q) (suc m) h l =
     subst (λ x. negsuc a <ℤ (x *ℤ pos (suc m))) (sym next) (below_product a (suc q * suc m) l)
 floor-step a (suc q) zero h l = absurd (omega arith)
 
+-- a number is less than the divisor times one more than the quotient
 pub div_euclid_above : (a : ℤ) (m : ℕ) → 0 < m → a <ℤ ((int_div_euclid a (pos m) +ℤ pos 1) *ℤ pos m)
 div_euclid_above (pos a) m h =
     let above : a < (a / m + 1) * m = omega (arith, lt-div-mul-add {a = a} {b = m} h) in omega (arith, ints, above)

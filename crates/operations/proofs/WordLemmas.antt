@@ -21,9 +21,11 @@ if-true t x y h = ap (λ b. if b then x else y) h
 if-false : (t : Bool) (x y : ℤ) → t ≡ false → (if t then x else y) ≡ y
 if-false t x y h = ap (λ b. if b then x else y) h
 
+-- a word whose highest bit is 0 is read as it is
 pub signed_of-low : (n a : ℕ) → a < 2 ^ (n - 1) → signed_of n a ≡ pos a
 signed_of-low n a h = let t : nat_lt a (2 ^ (n - 1)) ≡ true = grind (arith, nat_tests) in if-true (nat_lt a (2 ^ (n - 1))) (pos a) (negsuc (2 ^ n - suc a)) t
 
+-- a word whose highest bit is 1 is read as 2 ^ n less
 pub signed_of-high : (n a : ℕ) → 2 ^ (n - 1) ≤ a → signed_of n a ≡ negsuc (2 ^ n - suc a)
 signed_of-high n a h = let t : nat_lt a (2 ^ (n - 1)) ≡ false = grind (arith, nat_tests) in if-false (nat_lt a (2 ^ (n - 1))) (pos a) (negsuc (2 ^ n - suc a)) t
 
@@ -47,6 +49,7 @@ signed_of_fits_by k a false e some h =
 pub signed_of_fits : (k a : ℕ) → 0 < k → a < 2 ^ k → mag (signed_of k a) < 2 ^ (k - 1)
 signed_of_fits k a some h = signed_of_fits_by k a (nat_lt a (2 ^ (k - 1))) refl some h
 
+-- sign extension keeps the signed reading
 pub signed_of-extended_from : (k n a : ℕ) → 0 < k → k ≤ n → signed_of n (extended_from k n a) ≡ signed_of k (a % 2 ^ k)
 signed_of-extended_from k n a some wider =
     let wide : 2 ^ (k - 1) ≤ 2 ^ (n - 1) = pow_mono (omega arith) in

@@ -40,10 +40,12 @@ first_holds : (b : Bool) (rule : Rule) (rest : Option Rule) → cond b (Some rul
 first_holds true rule rest h = cc
 first_holds false rule rest h = (refl, h)
 
+-- where tests break no rule, none of them holds
 pub none_holds : (ts : Tests) → Passes ts → NoneHolds ts
 none_holds [] h = tt
 none_holds (t ∷ ts) h = let k = first_holds t.0 t.1 (first_broken ts) h in (k.0, none_holds ts k.1)
 
+-- and where none of them holds, they break no rule
 pub passes : (ts : Tests) → NoneHolds ts → Passes ts
 passes [] h = refl
 passes (t ∷ ts) h = ap (λ b. cond b (Some t.1) (first_broken ts)) h.0 ∙ passes ts h.1
@@ -86,6 +88,7 @@ one_part true b false d p q h = absurd (false≢true (p refl))
 one_part false b true d p q h = refl
 one_part false b false d p q h = q h
 
+-- where a rule asks for a thing and it holds, the rule is kept too where it asks for what follows from it
 pub kept : (a b : Bool) → (a ≡ true → b ≡ true) → not a ≡ false → not b ≡ false
 kept a b m h = ap not (m (not_false a h))
 
@@ -127,6 +130,7 @@ bytes_grow low low' len n le Num h = h
 bytes_grow low low' len n le Len h = h
 bytes_grow low low' len n le (Place r k) h = inside_grows (region_len low len r) (region_len low' len r) n k (region_grows low low' len r le) h
 
+-- what is known to be a number is one where more is known
 pub num_holds : (x y : Kind) → LeqKind x y → is_num y ≡ true → is_num x ≡ true
 num_holds = holds is_num is_num refl (λ k h. h) (λ h. refl)
 
@@ -159,6 +163,7 @@ pub record AllSet (f : List Kind) (a : Attributes) : Type 0 where
   pub base : has is_unset f (base_of a.access) ≡ false
   pub moved : has is_unset f (moved_of a.moved) ≡ false
 
+-- an instruction that reads no unset register has each register that it reads set
 pub all_set : (f : List Kind) (a : Attributes) → reads_unset f a ≡ false → AllSet f a
 all_set f a h =
     let one = or_parts (has is_unset f a.number) (list_any (has is_unset f) (a.operand ∷ a.copied ∷ base_of a.access ∷ moved_of a.moved ∷ [])) h in
@@ -316,11 +321,13 @@ after_kept i f g n le s = after_cases (λ h. LeqKinds (h f) (h g)) i (LeqKinds-h
 
 -- ---- the length that is known
 
+-- what a comparison shows makes the known length no less
 pub raised_grows : (low : ℕ) (o : Option ℤ) → low ≤ raised low o
 raised_grows low None = omega arith
 raised_grows low (Some (pos n)) = grind (arith, nat_tests)
 raised_grows low (Some (negsuc n)) = omega arith
 
+-- nor more than the longest message has
 pub raised_within : (low : ℕ) (o : Option ℤ) → low ≤ 256 → raised low o ≤ 256
 raised_within low None h = h
 raised_within low (Some (pos n)) h = grind (arith, nat_tests)

@@ -27,6 +27,7 @@ within_eleven f g n h r = ⊎_elim (h r) past (cases_lt r 11)
 pub join_same : (a b : Kind) → a ≡ b → IsJoin a b a
 join_same a b e = record { first = LeqKind-refl a; second = subst (λ x. LeqKind x a) e (LeqKind-refl a); least = λ x p q. p }
 
+-- of two kinds of numbers that differ, a number is what both say
 pub join_numbers : (a b : Kind) → a ≢ b → is_num a ≡ true → is_num b ≡ true → IsJoin a b Num
 join_numbers a b ne m n = record { first = m; second = n; least = least }
   where
@@ -36,6 +37,7 @@ join_numbers a b ne m n = record { first = m; second = n; least = least }
     least Len p q = absurd (ne (p ∙ sym q))
     least (Place r k) p q = absurd (ne (p ∙ sym q))
 
+-- kinds that differ and aren't both of numbers say nothing in common
 pub join_nothing : (a b : Kind) → a ≢ b → (is_num a ≡ true → is_num b ≡ true → ⊥) → IsJoin a b Unset
 join_nothing a b ne never = record { first = tt; second = tt; least = least }
   where
@@ -51,6 +53,7 @@ join_nothing a b ne never = record { first = tt; second = tt; least = least }
 abbrev pub Joined : List Kind → List Kind → List Kind → ℕ → Type 0
 Joined a b k i = (r : ℕ) → r < i → IsJoin (kind_at a r) (kind_at b r) (kind_at k r)
 
+-- one register more is joined
 pub joined_more : (a b k : List Kind) (i : ℕ) (x : Kind) → i < length k → IsJoin (kind_at a i) (kind_at b i) x → Joined a b k i → Joined a b (slice_set k i x) (i + 1)
 joined_more a b k i x lt j h r l = ⊎_elim here apart (cases_eq r i)
   where
@@ -62,12 +65,15 @@ joined_more a b k i x lt j h r l = ⊎_elim here apart (cases_eq r i)
     apart : r ≢ i → IsJoin (kind_at a r) (kind_at b r) (kind_at (slice_set k i x) r)
     apart q = subst (IsJoin (kind_at a r) (kind_at b r)) (sym (get_or-set_other k i r x Unset q)) (h r (omega arith))
 
+-- when all eleven are joined, the first list says what the joined one says
 pub joined_first : (a b k : List Kind) → length k ≡ 11 → Joined a b k 11 → LeqKinds a k
 joined_first a b k n j = within_eleven a k n (λ r l. (j r l).first)
 
+-- and so does the second
 pub joined_second : (a b k : List Kind) → length k ≡ 11 → Joined a b k 11 → LeqKinds b k
 joined_second a b k n j = within_eleven b k n (λ r l. (j r l).second)
 
+-- and what both lists say, the joined one says too
 pub joined_least : (a b k : List Kind) → length a ≡ 11 → length k ≡ 11 → Joined a b k 11 → (f : List Kind) → LeqKinds a f → LeqKinds b f → LeqKinds k f
 joined_least a b k m n j f p q r = ⊎_elim below past (cases_lt r 11)
   where

@@ -79,6 +79,7 @@ stays-all k (h ∷ hs) above =
     let e : nat_lt k h.rsn ≡ true = grind (arith, nat_tests) in
     rw e (ap (λ l. h ∷ l) (stays-all k hs (All-tail (λ (x : Held). k < x.rsn) h hs above)))
 
+-- where all that is held is above k, none of it leaves
 pub leaves-none : (k : ℕ) (hs : List Held) → All (λ (h : Held). k < h.rsn) hs → filter (λ (x : Held). nat_le x.rsn k) hs ≡ []
 leaves-none k [] above = refl
 leaves-none k (h ∷ hs) above =
@@ -86,6 +87,7 @@ leaves-none k (h ∷ hs) above =
     let e : nat_le h.rsn k ≡ false = grind (arith, nat_tests) in
     rw e (leaves-none k hs (All-tail (λ (x : Held). k < x.rsn) h hs above))
 
+-- and there is none that would
 pub any-none : (k : ℕ) (hs : List Held) → All (λ (h : Held). k < h.rsn) hs → list_any (λ (x : Held). nat_le x.rsn k) hs ≡ false
 any-none k [] above = refl
 any-none k (h ∷ hs) above =
@@ -107,6 +109,7 @@ or_false : (b : Bool) → (b || false) ≡ b
 or_false true = refl
 or_false false = refl
 
+-- one send more leaves
 pub onward-next : (k : ℕ) (start now next : TheGate) (any : Bool) → Onward k start now any → ReleasesNext true k now next → Onward k start next true
 onward-next k start now next any o (h, is, early, inside, counted) = record {
   stays = sym (ap (filter (λ (x : Held). nat_lt k x.rsn)) is ∙ stays-next k h next.waiting early) ∙ o.stays;
@@ -116,8 +119,10 @@ onward-next k start now next any o (h, is, early, inside, counted) = record {
   left = sym (ap (λ l. any || list_any (λ (x : Held). nat_le x.rsn k) l) is ∙ ap (λ b. any || b) (any-next k h next.waiting early) ∙ or_true any) ∙ o.left;
 }
 
+-- where none is left to leave, it is known whether any left
 pub any-end : (k : ℕ) (start now last : TheGate) (any : Bool) → Onward k start now any → ReleasesNext false k now last → any ≡ list_any (λ (x : Held). nat_le x.rsn k) start.waiting
 any-end k start now last any o (is, above) = sym (ap (λ b. any || b) (any-none k now.waiting above) ∙ or_false any) ∙ o.left
 
+-- and all that had to leave has left
 pub releases-end : (k : ℕ) (start now last : TheGate) (any : Bool) → Onward k start now any → ReleasesNext false k now last → Releases k start last
 releases-end k start now last any o (is, above) = rw is (sym (stays-all k now.waiting above) ∙ o.stays, λ d small. let none : count_to d (filter (λ (x : Held). nat_le x.rsn k) now.waiting) ≡ 0 = ap (count_to d) (leaves-none k now.waiting above) in omega (arith, none, o.counts d small))

@@ -23,6 +23,7 @@ StoresGrow =
     (state : ℕ) (f g : Frame) (k h a b : Kind) (o : ℤ) (n : ℕ) → IsFrame f → IsKind k → IsKind a → Leq f g → LeqKind k h → LeqKind a b → MayStore state g h b o n
     → MayStore state f k a o n × Leq (stored_frame f k a o n) (stored_frame g h b o n)
 
+-- bytes that lie inside from each of some distances do from each of fewer
 pub is_inside-grows : (len : ℕ) (s t : Reach) (o : ℤ) (n : ℕ) → WithinReach s t → is_inside len t o n ≡ true → is_inside len s o n ≡ true
 is_inside-grows len s t o n l e =
     let p = parts (int_le (pos 0) (t.lo +ℤ o)) (int_le (t.hi +ℤ o +ℤ pos n) (pos len)) e in
@@ -35,6 +36,7 @@ pub record Reaches (s : Reach) (o : ℤ) (n c : ℕ) : Type 0 where
   pub begins : pos (8 * (c - 11)) <ℤ (s.hi +ℤ o +ℤ pos n)
   pub ends : (s.lo +ℤ o) <ℤ pos (8 * (c - 11) + 8)
 
+-- a word of the stack that is found reached passes each of the four tests
 pub reaches : (s : Reach) (o : ℤ) (n c : ℕ) → is_reached s o n c ≡ true → Reaches s o n c
 reaches s o n c e =
     let one = parts (nat_lt 0 n) (nat_le 11 c && (int_lt (pos (8 * (c - 11))) (s.hi +ℤ o +ℤ pos n) && int_lt (s.lo +ℤ o) (pos (8 * (c - 11) + 8)))) e in
@@ -42,6 +44,7 @@ reaches s o n c e =
     let three = parts (int_lt (pos (8 * (c - 11))) (s.hi +ℤ o +ℤ pos n)) (int_lt (s.lo +ℤ o) (pos (8 * (c - 11) + 8))) two.1 in
     record { some = grind (arith, nat_tests, one.0); cell = grind (arith, nat_tests, two.0); begins = grind (arith, ints, three.0); ends = grind (arith, ints, three.1) }
 
+-- and one that passes the four is found reached
 pub reached_by : (s : Reach) (o : ℤ) (n c : ℕ) → Reaches s o n c → is_reached s o n c ≡ true
 reached_by s o n c r =
     both (nat_lt 0 n) _ (grind (arith, nat_tests, r.some)) (both (nat_le 11 c) _ (grind (arith, nat_tests, r.cell)) (both (int_lt (pos (8 * (c - 11))) (s.hi +ℤ o +ℤ pos n)) (int_lt (s.lo +ℤ o) (pos (8 * (c - 11) + 8))) (grind (arith, ints, r.begins)) (grind (arith, ints, r.ends))))
@@ -108,6 +111,7 @@ set-grows Unset (Place q t) l h = absurd l
 set-grows (Num s) (Place q t) l h = refl
 set-grows (Place r s) (Place q t) l h = refl
 
+-- what is known to be a number is one where more is known
 pub num-grows : (a b : Kind) → LeqKind a b → is_num b ≡ true → is_num a ≡ true
 num-grows a Unset l h = cc
 num-grows Unset (Num t) l h = absurd l
@@ -115,6 +119,7 @@ num-grows (Num s) (Num t) l h = refl
 num-grows (Place r s) (Num t) l h = absurd l
 num-grows a (Place q t) l h = cc
 
+-- where the words that an access reaches are numbers, they are where more is known, from fewer distances
 pub numbers-grow : (f g : Frame) (s t : Reach) (o : ℤ) (n : ℕ) → Leq f g → WithinReach s t → AreNumbers g t o n → AreNumbers f s o n
 numbers-grow f g s t o n l m h c r = num-grows (f c) (g c) (l c) (h c (is_reached-grows s t o n c m r))
 
@@ -156,6 +161,7 @@ loads-grow state f g (Place r s) (Place q t) o n i k l m h =
 
 -- ---- stores
 
+-- where frame and kind say more, the frame with the kind in a cell does
 pub with_kind-grows : (f g : Frame) (c : ℕ) (k h : Kind) → Leq f g → LeqKind k h → Leq (with_kind f c k) (with_kind g c h)
 with_kind-grows f g c k h l m d = by_test (d == c)
   where

@@ -216,6 +216,7 @@ shown-are (Some condition) n a b i j = by_case (nat_lt a.hi (2 ^ n) && nat_lt b.
 
 -- ---- frames
 
+-- a frame with another kind in a cell is a frame
 pub with_kind-is : (f : Frame) (c : ℕ) (k : Kind) → IsFrame f → IsKind k → IsFrame (with_kind f c k)
 with_kind-is f c k h i d = by_case (d == c)
   where

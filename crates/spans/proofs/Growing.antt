@@ -23,10 +23,12 @@ by_tests true false n x y m top h = top refl
 by_tests false true n x y m top h = absurd (false≢true (m refl))
 by_tests false false n x y m top h = within-refl (whole n)
 
+-- ends further apart give no narrower span, wrapped or not
 pub bounded-grows : (n lo hi lo' hi' : ℕ) → lo' ≤ lo → hi ≤ hi' → Within (bounded n lo hi) (bounded n lo' hi')
 bounded-grows n lo hi lo' hi' l h =
     by_tests (nat_lt hi (2 ^ n)) (nat_lt hi' (2 ^ n)) n (span lo hi) (span lo' hi') (λ e. grind (arith, nat_tests)) (λ e. (omega arith, grind (arith, nat_tests))) (λ e. (l, h))
 
+-- whether or not the result may have wrapped, its span is one of words of n bits
 pub bounded-in : (n lo hi : ℕ) → Within (bounded n lo hi) (whole n)
 bounded-in n lo hi = by_tests (nat_lt hi (2 ^ n)) false n (span lo hi) (whole n) (λ e. absurd (false≢true e)) (λ e. (omega arith, grind (arith, nat_tests))) (λ e. absurd (false≢true e))
 
@@ -55,6 +57,7 @@ quotients x x' y y' h k p = le-div (x / y) x' y' p (omega (arith, div-mul-le_sel
 pub powers : (i j : ℕ) → i ≤ j → 2 ^ i ≤ 2 ^ j
 powers i j h = pow-le-pow_right (omega arith) h
 
+-- a span that ends among the words of n bits is one of them
 pub in_whole : (n lo hi : ℕ) → hi < 2 ^ n → Within (span lo hi) (whole n)
 in_whole n lo hi h = (omega arith, omega arith)
 

@@ -26,12 +26,15 @@ pub by_test : (t : Bool) (n r : ℕ) (x : Span) → r < 2 ^ n → (t ≡ true �
 by_test true n r x b h = h refl
 by_test false n r x b h = (omega arith, omega arith)
 
+-- a result is in the span of it alone
 pub exactly : (r x : ℕ) → r ≡ x → Within (one r) (one x)
 exactly r x e = (omega arith, omega arith)
 
+-- a word of n bits is in the span of all of them
 pub any : (n r : ℕ) → r < 2 ^ n → Within (one r) (whole n)
 any n r h = (omega arith, omega arith)
 
+-- a result modulo 2 ^ n is in the span that `bounded` gives for it, wrapped or not
 pub bounded-holds : (n x : ℕ) → Within (one (x % 2 ^ n)) (bounded n x x)
 bounded-holds n x = by_test (nat_lt x (2 ^ n)) n (x % 2 ^ n) (span x x) (mod-lt x (pow_pos n)) (λ e. exactly (x % 2 ^ n) x (mod-eq_of_lt (grind (arith, nat_tests))))
 
@@ -56,6 +59,7 @@ ones-keeps f below (suc n) m x y h k l = by_case (nat_lt m (2 ^ n)) (λ e. ones-
 if-false : (t : Bool) (x y : ℕ) → t ≡ false → (if t then x else y) ≡ y
 if-false t x y h = ap (λ b. if b then x else y) h
 
+-- a difference of words that doesn't wrap
 pub difference : (n x y : ℕ) → x < 2 ^ n → y ≤ x → (x + (2 ^ n - y)) % 2 ^ n ≡ x - y
 difference n x y h l =
     let apart : x + (2 ^ n - y) ≡ x - y + 2 ^ n = omega arith in

@@ -14,9 +14,11 @@ joined_in Message s t = refl
 joined_in State s t = refl
 joined_in Stack s t = refl
 
+-- places of one region join to a place in it, with the reach that has the distances of both
 pub joined_same : (r q : Region) (s t : Reach) → r ≡ q → Place r (joined_reach s t) ≡ joined_kind (Place r s) (Place q t)
 joined_same r q s t e = joined_in r s t ∙ ap (λ x. joined_kind (Place r s) (Place x t)) e
 
+-- places of two regions have nothing in common
 pub joined_apart : (r q : Region) (s t : Reach) → r ≢ q → Unset ≡ joined_kind (Place r s) (Place q t)
 joined_apart Message Message s t e = absurd (e refl)
 joined_apart Message State s t e = refl
@@ -28,11 +30,13 @@ joined_apart Stack Message s t e = refl
 joined_apart Stack State s t e = refl
 joined_apart Stack Stack s t e = absurd (e refl)
 
+-- nor have a place and a cell of which nothing is known
 pub joined_unset : (r : Region) (s : Reach) → Unset ≡ joined_kind (Place r s) Unset
 joined_unset Message s = refl
 joined_unset State s = refl
 joined_unset Stack s = refl
 
+-- nor a place and a number
 pub joined_num : (r : Region) (s : Reach) (t : Span) → Unset ≡ joined_kind (Place r s) (Num t)
 joined_num Message s t = refl
 joined_num State s t = refl
@@ -51,6 +55,7 @@ within_cells f g n h c = ⊎_elim (h c) past (cases_lt c 75)
 abbrev pub Joined : List Kind → List Kind → List Kind → ℕ → Type 0
 Joined a b k i = (c : ℕ) → c < i → kind_at k c ≡ joined_kind (kind_at a c) (kind_at b c)
 
+-- one cell more is joined
 pub joined_more : (a b k : List Kind) (i : ℕ) (x : Kind) → i < length k → x ≡ joined_kind (kind_at a i) (kind_at b i) → Joined a b k i → Joined a b (slice_set k i x) (i + 1)
 joined_more a b k i x lt j h c l = ⊎_elim here apart (cases_eq c i)
   where
@@ -60,6 +65,7 @@ joined_more a b k i x lt j h c l = ⊎_elim here apart (cases_eq c i)
     apart : c ≢ i → kind_at (slice_set k i x) c ≡ joined_kind (kind_at a c) (kind_at b c)
     apart q = get_or-set_other k i c x Unset q ∙ h c (omega arith)
 
+-- when all 75 are joined, each cell has what both frames say of it
 pub joined_all : (a b k : List Kind) → length a ≡ 75 → length b ≡ 75 → length k ≡ 75 → Joined a b k 75 → (c : ℕ) → kind_at k c ≡ joined_kind (kind_at a c) (kind_at b c)
 joined_all a b k m n p j c = ⊎_elim (j c) past (cases_lt c 75)
   where

@@ -38,6 +38,7 @@ Refines v None = Unit {0}
 Refines None (Some h) = ⊥
 Refines (Some k) (Some h) = LeqKind k h
 
+-- a kind that says more than a span of numbers is a span within it
 pub num_shape : (a : Kind) (t : Span) → LeqKind a (Num t) → (s : Span) × (a ≡ Num s) × Within s t
 num_shape Unset t l = absurd l
 num_shape (Num s) t l = (s, refl, l)
@@ -54,6 +55,7 @@ pub low_span-grows : (width : Width) (s t : Span) → Within s t → Within (low
 low_span-grows W32 s t l = bounded-grows 32 s.lo s.hi t.lo t.hi l.0 l.1
 low_span-grows W64 s t l = l
 
+-- of a span of words, the span of their low bits has words of the width
 pub low_span-is : (width : Width) (s : Span) → IsSpan 64 s → IsSpan (bits_of width) (low_span width s)
 low_span-is W32 s i = by_test (nat_lt s.hi (2 ^ 32)) (λ e. grind (arith, nat_tests))
   where
@@ -155,6 +157,7 @@ computed-refines (Sets width) a b c d ia ib ic id l m = from_span-refines (low_s
 computed-refines (Computes op width) a b c d ia ib ic id l m =
     from_spans-refines (λ s t. result_span op (bits_of width) (low_span width s) (low_span width t)) (λ s t u v is it iu iv h k. result_span-grows op (bits_of width) (low_span width s) (low_span width t) (low_span width u) (low_span width v) (some_bits width) (low_span-is width s is) (low_span-is width t it) (low_span-is width u iu) (low_span-is width v iv) (low_span-grows width s u h) (low_span-grows width t v k)) a b c d ia ib ic id l m
 
+-- what a frame knows of an operand is a kind with a number or a place in it
 pub operand-is : (width : Width) (o : Operand) (f : Frame) → IsFrame f → IsKind (operand_kind width o f)
 operand-is W32 (operand.Imm z) f i = let h = mod-lt (word_of z) (pow_pos 32) in record { some = omega arith; words = omega (arith, h) }
 operand-is W64 (operand.Imm z) f i = record { some = omega arith; words = mod-lt (word_of z) (pow_pos 64) }
@@ -164,6 +167,7 @@ operand-grows : (width : Width) (o : Operand) (f g : Frame) → Leq f g → LeqK
 operand-grows width (operand.Imm z) f g l = (omega arith, omega arith)
 operand-grows width (operand.Reg r) f g l = l r.number
 
+-- the bits that are extended are no more than the width has
 pub extension-fits : (x : Extension) → extension_offset x ≤ bits_of (extension_width x)
 extension-fits W32From8 = omega arith
 extension-fits W32From16 = omega arith

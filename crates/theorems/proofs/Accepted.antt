@@ -17,6 +17,7 @@ abbrev pub AllFalse : List (Bool × ℕ) → Type 0
 AllFalse [] = Unit {0}
 AllFalse (c ∷ cs) = (c.0 ≡ false) × AllFalse cs
 
+-- of a call that isn't refused, the test of each cause is false
 pub clear : (cs : List (Bool × ℕ)) → least cs ≡ None → AllFalse cs
 clear [] e = tt
 clear (c ∷ cs) e = split c.0 refl e (clear cs)
@@ -25,6 +26,7 @@ clear (c ∷ cs) e = split c.0 refl e (clear cs)
     split true t e more = absurd (cc)
     split false t e more = (t, more e)
 
+-- what isn't refused as no such process is one of the processes
 pub inside-is : (w : World) (p : ℕ) → not (is_inside w p) ≡ false → (0 < p) × (p ≤ w.count)
 inside-is w p e = (grind (arith, nat_tests), grind (arith, nat_tests))
 
@@ -39,6 +41,7 @@ verdict-next n i e = split (i == suc n) refl e
         other true e = absurd (cc)
         other false e = absurd (cc)
 
+-- where a transmission isn't refused, its ends are there and differ, and the message is released
 pub transmits : (room : ℕ) (w : World) (p d i : ℕ) → refusal_of w room (Transmit p d i) ≡ None → (p ≤ w.count) × (d ≤ w.count) × (p ≢ d) × (i ≤ released_to w p d)
 transmits room w p d i free =
     let a = clear (causes w room (Transmit p d i)) free in
@@ -49,9 +52,11 @@ transmits room w p d i free =
     let u : nat_lt (released_to w p d) i ≡ false = a.1.1.1.0 in
     (not-below w.count p x, not-below w.count d y, different p d z, not-below (released_to w p d) i u)
 
+-- a process whose checkpoint isn't refused is up, and no job of it is open
 pub checkpoints : (room : ℕ) (w : World) (p : ℕ) → refusal_of w room (Checkpoint p) ≡ None → w.phase p ≡ Up
 checkpoints room w p free = let a = clear (causes w room (Checkpoint p)) free in up-phase (w.phase p) (not-false (is_up (w.phase p)) a.1.0) a.1.1.0
 
+-- where all processes but p are up, so is each number but p, those beyond the count too
 pub others-are : (w : World) (p : ℕ) → others_up w p ≡ true → Sound w → (q : ℕ) → q ≢ p → is_up (w.phase q) ≡ true
 others-are w p e s q ne = split (nat_le q w.count) refl
   where

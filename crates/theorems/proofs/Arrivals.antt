@@ -70,6 +70,7 @@ exact-show w key m is h =
     split k x (inl r) = h.shown k x r.1
     split k x (inr r) = let P : Message → Type 0 = λ y. Safe w 0 y in subst P r.1 is
 
+-- a process that is up, with no job open, may begin one on the next message of a sender
 pub moves-begin : (w : World) (d : ℕ) (m : Message) → 0 < d → d ≤ w.count → w.phase d ≡ Up → m.sender ≢ d → m.sender ≤ w.count → m.ssn ≡ suc (count_of m.sender (w.history d)) → Moves w d (Busy m)
 moves-begin w d m a b up ne from next =
     record { inside = a; below = b; was = rw up refl; now = refl; stays = λ _. refl; next = record { target = a; inside = b; other = ne; from = from; next = next }; replays = tt; recovering = λ e. absurd (cc); forth = rw up (omega arith) }

@@ -56,6 +56,7 @@ sound-commit w p m new busy h =
     sound-put (with-received w p m) new (Some (Number p m.sender m.ssn (length (w.history p) + 1) (w.incarnation p))) (record { past = omega arith; live = λ _. at-itself p (λ b. is_up (if b then Up else w.phase p) ≡ true) refl })
     (sound-received w p m busy h)
 
+-- a world grows by the message that is received
 pub grown-received : (w : World) (p : ℕ) (m : Message) → w.phase p ≡ Busy m → Sound w → Grown w (with-received w p m)
 grown-received w p m busy h =
     let live : is_down (w.phase p) ≡ false = rw busy refl in

@@ -37,6 +37,7 @@ use Rattle.theorems.proofs.PlanLemmas.{chosen-none, plan-is}
 use Rattle.theorems.proofs.Recoveries.{cut, carries-shortened, carries-revived, gathered, revives-replaying, revives-with, exact-recover}
 use Rattle.theorems.proofs.Accepted.{clear, inside-is, verdict-next, transmits, checkpoints, others-are}
 
+-- w is exact, and nothing that was secured in v is lost
 pub record Preserves (v w : World) : Type 0 where
   pub carries : Carries v w
   pub exact : Exact w

@@ -22,9 +22,11 @@ abbrev pub Told : World → ℕ → ℕ → Type 0
 Told w p q = (m : ℕ) (x : Message) → w.saved q < m → nth (w.history q) m ≡ Some x → x.sender ≡ p
     → w.numbers p q x.ssn ≡ Some m
 
+-- what holds of all packets and of a new one still holds of all when the new one is put on the wire
 pub put-wire : (P : Option Packet → Type 0) (wire : ℕ → Option Packet) (key : ℕ) (x : Option Packet) → ((j : ℕ) → P (wire j)) → P x → (j : ℕ) → P (put wire key x j)
 put-wire P wire key x all now = choose key (λ j b. P (if b then x else wire j)) now (λ j _. all j)
 
+-- a world stays sound on another wire, where each packet has its shape
 pub sound-wire : (w : World) (wire : ℕ → Option Packet) (n : ℕ) → ((key : ℕ) → PacketShape w (wire key)) → Sound w → Sound (record w { wire = wire; started = n })
 sound-wire w wire n packets h =
     record {
@@ -43,6 +45,7 @@ sound-wire w wire n packets h =
       shown = h.shown;
     }
 
+-- and exact, where each packet is true
 pub exact-wire : (w : World) (wire : ℕ → Option Packet) (n : ℕ) → ((key : ℕ) → PacketTrue w (wire key)) → Exact w → Exact (record w { wire = wire; started = n })
 exact-wire w wire n packets h =
     record { alone = h.alone; recorded = h.recorded; acknowledged = h.acknowledged; packets = packets; working = h.working; received = h.received; shown = h.shown; released = h.released }
@@ -97,6 +100,7 @@ sound-phase w p x m h =
       shown = h.shown;
     }
 
+-- a phase that moves takes no history, no acknowledgement and no number that is held
 pub grown-phase : (w : World) (p : ℕ) (x : Phase) → Moves w p x → Sound w → Grown w (record w { phase = put w.phase p x })
 grown-phase w p x m h =
     let down : (q : ℕ) → is_down (put w.phase p x q) ≡ is_down (w.phase q) = choose p (λ j b. is_down (if b then x else w.phase j) ≡ is_down (w.phase j)) (m.now ∙ sym m.was) (λ j _. refl) in
@@ -153,9 +157,11 @@ sound-beside w numbers released inputs feeds h =
       shown = h.shown;
     }
 
+-- a world is sound whatever p has released
 pub sound-released : (w : World) (p : ℕ) (f : ℕ → ℕ) → Sound w → Sound (record w { released = put w.released p f })
 sound-released w p f h = sound-beside w w.numbers (put w.released p f) w.inputs w.feeds h
 
+-- and exact, where messages that outlive a crash send all that p has released
 pub exact-released : (w : World) (p : ℕ) (f : ℕ → ℕ) → ((d : ℕ) → Covers w p d (f d)) → Exact w → Exact (record w { released = put w.released p f })
 exact-released w p f now h =
     record {

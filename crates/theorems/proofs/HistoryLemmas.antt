@@ -28,6 +28,7 @@ count-next h k x e =
     let same : (x.sender == x.sender) ≡ true = grind (arith, nat_tests) in
     rw (take-next h k x e) (let c : count_of x.sender (take k h ++ x ∷ []) ≡ count_of x.sender (take k h) + (if x.sender == x.sender then 1 else 0) = count-push x.sender (take k h) x in let d = rw same at c in omega arith)
 
+-- a history of p, one of n processes: each message is another's, and was its sender's next
 abbrev pub Ordered : ℕ → ℕ → List Message → Type 0
 Ordered n p h = (k : ℕ) (x : Message) → slice_get h k ≡ Some x → IsNext n p (take k h) x
 
@@ -83,6 +84,7 @@ some-found b (y ∷ h) (suc k) x e = split ((y.sender == x.sender) && (y.ssn == 
     split true more = (suc b, refl)
     split false more = more
 
+-- in such a history rsn_of finds each message at its own place
 pub placed : (n p : ℕ) (h : List Message) → Ordered n p h → (k : ℕ) (x : Message) → slice_get h k ≡ Some x → rsn_of h x.sender x.ssn ≡ Some (suc k)
 placed n p h o k x e =
     let f : (m : ℕ) × (rsn_from 0 x.sender x.ssn h ≡ Some m) = some-found 0 h k x e in

@@ -72,6 +72,7 @@ always-exact n f es i = (preserves-along 0 (opening n f) es i.legal i.single (op
 pub sound-single : (n : ℕ) (f : Handlers) (es : List Entry) → IsSingle n f es → Sound (world_of n f es)
 sound-single n f es i = always-sound n f es i.grows i.legal
 
+-- both parts of a legal journal are legal, the later one from the world that the first one leads to
 pub legal-append : (k : ℕ) (w : World) (es more : List Entry) → LegalFrom k w (es ++ more) → LegalFrom k w es × ((j : ℕ) × LegalFrom j (world_after w es) more)
 legal-append k w [] more l = (tt, (k, l))
 legal-append k w (e ∷ es) more l = let r = legal-append (suc k) (after w e.call e.answer) es more l.2 in ((l.0, l.1, r.0), r.1)

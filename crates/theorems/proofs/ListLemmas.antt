@@ -80,6 +80,7 @@ get-within [] k h = absurd (omega arith)
 get-within (x ∷ xs) zero h = (x, refl)
 get-within (x ∷ xs) (suc k) h = get-within xs k (omega arith)
 
+-- the element of number m, from 1, is the one at m - 1
 pub at-number : {X : Type 0} (xs : List X) (m : ℕ) (x : X) → nth xs m ≡ Some x → (k : ℕ) × (m ≡ suc k) × (slice_get xs k ≡ Some x)
 at-number xs zero x e = absurd (cc)
 at-number xs (suc k) x e = (k, refl, e)
@@ -93,6 +94,7 @@ pub nth-within : {X : Type 0} (xs : List X) (m : ℕ) (x : X) → nth xs m ≡ S
 nth-within xs zero x e = absurd (cc)
 nth-within xs (suc k) x e = let h : k < length xs = slice_get_within xs k x e in (omega arith, omega arith)
 
+-- each number from 1 to the length has an element
 pub nth-of : {X : Type 0} (xs : List X) (m : ℕ) → 0 < m → m ≤ length xs → (x : X) × (nth xs m ≡ Some x)
 nth-of xs zero a b = absurd (omega arith)
 nth-of xs (suc k) a b = get-within xs k (omega arith)

@@ -39,6 +39,7 @@ sends-prefix f g p h d j (suc k) l = split (nat_le j k) refl (sends-prefix f g p
     split true e less = begins-trans _ _ _ (less (grind (arith, nat_tests))) (sends-next f g p h d k)
     split false e less = let same : j ≡ suc k = grind (arith, nat_tests) in rw same (begins-self _)
 
+-- what the first j messages of a history send, more of them send too, with more behind it at most
 pub payloads-prefix : (w : World) → Grows w.handlers → (s : ℕ) (h : List Message) (d j k : ℕ) → j ≤ k → Begins (payloads w s (take j h) d) (payloads w s (take k h) d)
 payloads-prefix w g s h d j k l = split (s == 0)
   where
@@ -66,6 +67,7 @@ entry-when w s d i e = split (is_down (w.phase s)) refl e
     split true f e = absurd (cc)
     split false f e = record { live = f; above = grind (arith, nat_tests); within = grind (arith, nat_tests) }
 
+-- and each log entry passes it
 pub entry-test : (w : World) (s d i : ℕ) → IsEntry w s d i → is_entry w s d i ≡ true
 entry-test w s d i h = rw h.live (let a : w.trims s d < i = h.above in let b : i ≤ length (sent w s d) = h.within in grind (arith, nat_tests))
 

@@ -54,6 +54,7 @@ InBounds n history numbers incarnation wire =
       packets : (key : ℕ) → PacketInRange n history incarnation (wire key);
     }
 
+-- in this world no number is above what its receiver has
 abbrev pub Bounded : World → Type 0
 Bounded w = InBounds w.count w.history w.numbers w.incarnation w.wire
 

@@ -29,6 +29,7 @@ secured-standing w p u k c t = split (is_down (w.phase p)) refl
     split true e = secured-kept w p u k e c (t.down e)
     split false e = let l : u ≤ length (w.history p) = c.within in let f : k ≡ length (w.history p) = t.live e in omega arith
 
+-- a safe message is one that its sender's standing history sends
 pub is-sent : (w : World) → Sound w → (d : ℕ) (m : Message) → Safe w d m → IsSent w d m
 is-sent w s d m a k t = nth-prefix _ _ m.ssn m.payload (payloads-prefix w s.grows m.sender (w.history m.sender) d a.upto k (secured-standing w m.sender a.upto k a.secured t)) a.sends
 

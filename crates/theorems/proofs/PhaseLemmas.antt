@@ -30,6 +30,7 @@ up-length Down e h saved = absurd (cc)
 up-length (Replaying j working alone) e h saved = absurd (cc)
 up-length (Resync todo) e h saved = absurd (cc)
 
+-- who is up, and has no live job open, waits
 pub up-phase : (x : Phase) → is_up x ≡ true → is_busy x ≡ false → x ≡ Up
 up-phase Up e f = refl
 up-phase (Busy m) e f = absurd (cc)
@@ -44,6 +45,7 @@ down-phase Down e = refl
 down-phase (Replaying j working alone) e = absurd (cc)
 down-phase (Resync todo) e = absurd (cc)
 
+-- who has a peer to do restores numbers
 pub resync-phase : (x : Phase) (r : ℕ) → has (todo_of x) r ≡ true → (todo : List ℕ) × (x ≡ Resync todo)
 resync-phase Up r e = absurd (cc)
 resync-phase (Busy m) r e = absurd (cc)
@@ -51,30 +53,37 @@ resync-phase Down r e = absurd (cc)
 resync-phase (Replaying j working alone) r e = absurd (cc)
 resync-phase (Resync todo) r e = (todo, refl)
 
+-- a process that is done replaying, with these peers to do, isn't down
 pub with-down : (rs : List ℕ) → is_down (phase_with rs) ≡ false
 with-down [] = refl
 with-down (r ∷ rs) = refl
 
+-- nor does it replay after it came back alone
 pub with-alone : (rs : List ℕ) → is_alone (phase_with rs) ≡ false
 with-alone [] = refl
 with-alone (r ∷ rs) = refl
 
+-- nor work on a message that would have to be its sender's next
 pub with-next : (rs : List ℕ) (n p : ℕ) (h : List Message) → JobNext n p h (phase_with rs)
 with-next [] n p h = tt
 with-next (r ∷ rs) n p h = tt
 
+-- or safe
 pub with-safe : (rs : List ℕ) (w : World) (p : ℕ) → JobSafe w p (phase_with rs)
 with-safe [] w p = tt
 with-safe (r ∷ rs) w p = tt
 
+-- nor is anything left that it would have to replay
 pub with-replays : (rs : List ℕ) (saved n : ℕ) → Replays saved n (phase_with rs)
 with-replays [] saved n = tt
 with-replays (r ∷ rs) saved n = tt
 
+-- its state has its whole history
 pub with-length : (rs : List ℕ) (h : List Message) (saved : ℕ) → length_in h saved (phase_with rs) ≡ length h
 with-length [] h saved = refl
 with-length (r ∷ rs) h saved = refl
 
+-- and a peer that told it its numbers is none of these
 pub with-restored : (rs : List ℕ) (q : ℕ) → is_restored (phase_with rs) q ≡ true → has rs q ≡ false
 with-restored [] q e = refl
 with-restored (r ∷ rs) q e = split (has (r ∷ rs) q) refl e
@@ -90,6 +99,7 @@ recovering-down Down e = absurd (cc)
 recovering-down (Replaying j working alone) e = refl
 recovering-down (Resync todo) e = refl
 
+-- no process recovers and is up at once
 pub recovering-idle : (x : Phase) → is_recovering x ≡ true → is_up x ≡ true → ⊥
 recovering-idle Up e u = absurd (cc)
 recovering-idle (Busy m) e u = absurd (cc)
@@ -97,6 +107,7 @@ recovering-idle Down e u = absurd (cc)
 recovering-idle (Replaying j working alone) e u = absurd (cc)
 recovering-idle (Resync todo) e u = absurd (cc)
 
+-- a process that recovers has no more in its state than it received
 pub recovering-length : (x : Phase) (h : List Message) (saved : ℕ) → is_recovering x ≡ true → Replays saved (length h) x → length_in h saved x ≤ length h
 recovering-length Up h saved e r = absurd (cc)
 recovering-length (Busy m) h saved e r = absurd (cc)

@@ -18,6 +18,7 @@ use Rattle.theorems.proofs.ListLemmas.{take-next, take-length, at-number, nth-of
 use Rattle.theorems.proofs.HistoryLemmas.{Ordered, ordered-push}
 use Rattle.theorems.proofs.LogLemmas.{payloads-agree, entry-when, entry-test}
 
+-- what first_below finds is there, at a number below the bound
 pub first_below-at : {X : Type 0} (f : ℕ → Option X) (k : ℕ) (x : X) → first_below f k ≡ Some x → (j : ℕ) × (j < k) × (f j ≡ Some x)
 first_below-at f zero x e = absurd (cc)
 first_below-at {X} f (suc k) x e = split (first_below f k) refl e (first_below-at f k x)
@@ -26,6 +27,7 @@ first_below-at {X} f (suc k) x e = split (first_below f k) refl e (first_below-a
     split None g e more = (k, omega arith, e)
     split (Some y) g e more = let r = more (g ∙ e) in (r.0, let l : r.0 < k = r.1 in omega arith, r.2)
 
+-- and it finds something where there is something
 pub first_below-some : {X : Type 0} (f : ℕ → Option X) (k j : ℕ) (x : X) → j < k → f j ≡ Some x → (y : X) × (first_below f k ≡ Some y)
 first_below-some f zero j x l e = absurd (omega arith)
 first_below-some {X} f (suc k) j x l e = split (first_below f k) refl (first_below-some f k j x)
@@ -73,6 +75,7 @@ pub record Lies (w : World) (p m : ℕ) (x : Message) : Type 0 where
   pub of : x.ssn ≡ ssn
   pub text : nth (sent w by p) ssn ≡ Some x.payload
 
+-- what is found under a number is a log entry that has it
 pub found-lies : (w : World) (p m : ℕ) (x : Message) → found w p m ≡ Some x → Lies w p m x
 found-lies w p m x e =
     let a : (s : ℕ) × (s < suc w.count) × (first_below (logged_as w p m s) (suc (length (sent w s p))) ≡ Some x) = first_below-at (λ s. first_below (logged_as w p m s) (suc (length (sent w s p)))) (suc w.count) x e in
@@ -80,6 +83,7 @@ found-lies w p m x e =
     let l = logged_as-at w p m a.0 b.0 x b.2 in
     record { by = a.0; below = (let c : a.0 < suc w.count = a.1 in omega arith); ssn = b.0; number = l.1; entry = l.0; sender = l.2; of = l.3; text = l.4 }
 
+-- and a log entry that has the number is what logged_as gives for it
 pub logged_as-is : (w : World) (p m s i : ℕ) (x : Payload) → IsEntry w s p i → w.numbers s p i ≡ Some m → nth (sent w s p) i ≡ Some x → logged_as w p m s i ≡ Some (record { sender = s; ssn = i; payload = x })
 logged_as-is w p m s i x l n t =
     let a : is_entry w s p i ≡ true = entry-test w s p i l in

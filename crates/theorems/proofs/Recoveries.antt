@@ -64,9 +64,11 @@ pub up_to-stays : (k m : ℕ) (o : Option ℕ) → o ≡ Some m → m ≤ k → 
 up_to-stays k m o e l = let P : Option ℕ → Type 0 = λ z. up_to k z ≡ Some m in subst P (sym e) (rw (is_at_most m k l) refl)
 
 module _ (w : World) (p k : ℕ) (down : w.phase p ≡ Down) (after : w.saved p ≤ k) (within : k ≤ length (w.history p)) (held : (m : ℕ) → w.saved p < m → m ≤ k → Held w p m) (most : ¬ Held w p (suc k)) (s : Sound w) (h : Exact w) where
+  -- p keeps its first k messages, and senders forget its numbers above k
   abbrev pub shortened : World
   shortened = cut w p (take k (w.history p)) k
 
+  -- nothing of p beyond k is secured
   pub upto : (j : ℕ) → Secured w p j → j ≤ k
   upto j c = split (nat_le j k) refl
     where
@@ -152,6 +154,7 @@ module _ (w : World) (p k : ℕ) (down : w.phase p ≡ Down) (after : w.saved p 
       acknowledgement : (t r m n : ℕ) → IsPast w r n → PacketTrue w (Some (Acknowledgement t r m n)) → PacketTrue shortened (Some (Acknowledgement t r m n))
       acknowledgement t r m n f g e = let y = g e in record { message = y.message; at = names r m y.message (up-down _ (f.live e)) y.at; sender = y.sender; recorded = other-recorded r m (not-p r (up-down _ (f.live e))) y.recorded }
 
+-- p is down, all that it has is acknowledged, and it may come back in this phase
 pub record Revives (w : World) (p : ℕ) (x : Phase) : Type 0 where
   pub inside : 0 < p
   pub below : p ≤ w.count
@@ -182,6 +185,7 @@ sound-revived w p x m h =
     }
 
 module _ (w : World) (p : ℕ) (x : Phase) (m : Revives w p x) where
+  -- p is back in this phase
   abbrev pub revived : World
   revived = record w { phase = put w.phase p x }
 
@@ -229,6 +233,7 @@ module _ (w : World) (p : ℕ) (x : Phase) (m : Revives w p x) where
         released = λ q d. covers carries-revived q d (w.released q d) (h.released q d);
       }
 
+-- the messages of p's checkpoint and its plan, k together where there are so many
 abbrev pub gathered : World → ℕ → ℕ → List Message
 gathered w p k = gather w p (take (w.saved p) (w.history p)) (k - w.saved p)
 
@@ -251,10 +256,12 @@ keeps-all w p k e m a = at-itself p (λ b. m ≤ length (if b then gathered w p 
 pub kept-length : (w : World) (p k : ℕ) → length (gathered w p k) ≡ k → length ((keep w p k).history p) ≡ k
 kept-length w p k e = at-itself p (λ b. length (if b then gathered w p k else w.history p) ≡ k) e
 
+-- p may come back to replay, where k is more than its checkpoint covers
 pub revives-replaying : (w : World) (p k : ℕ) (alone : Bool) → 0 < p → p ≤ w.count → w.phase p ≡ Down → w.saved p < k → length (gathered w p k) ≡ k → Revives (keep w p k) p (Replaying 0 false alone)
 revives-replaying w p k alone a b down l e =
     record { inside = a; below = b; was = down; now = refl; next = tt; replays = rw (kept-length w p k e) (omega arith); all = keeps-all w p k e }
 
+-- and to restore its numbers from these peers, or be up where there is none
 pub revives-with : (w : World) (p k : ℕ) (rs : List ℕ) → 0 < p → p ≤ w.count → w.phase p ≡ Down → length (gathered w p k) ≡ k → Revives (keep w p k) p (phase_with rs)
 revives-with w p k rs a b down e =
     record { inside = a; below = b; was = down; now = with-down rs; next = with-next rs _ _ _; replays = with-replays rs _ _; all = keeps-all w p k e }

@@ -19,9 +19,11 @@ use Rattle.theorems.proofs.SecuredLemmas.{Carries, safe, job-safe, carries-grown
 use Rattle.theorems.proofs.Frames.{Told, true-by, sound-beside}
 use Rattle.theorems.proofs.Replays.{sound-ready, exact-ready}
 
+-- p's log has for its messages to r the numbers that r told it
 abbrev pub renumbered : World → ℕ → ℕ → World
 renumbered w p r = record w { numbers = put w.numbers p (put (w.numbers p) r (told w p r)) }
 
+-- leaving r out of the peers leaves out no other
 pub without-has : (ps : List ℕ) (r q : ℕ) → q ≢ r → has (without ps r) q ≡ false → has ps q ≡ false
 without-has [] r q ne e = refl
 without-has (x ∷ ps) r q ne e = split (x == r) refl e (without-has ps r q ne)

@@ -46,6 +46,7 @@ at-length Down h saved from k c e a = absurd a
 at-length (Replaying j working alone) h saved from k c e a = let s : saved ≡ from = a.0 in let t : j ≡ c = a.1 in omega arith
 at-length (Resync todo) h saved from k c e a = omega arith
 
+-- so its length is `from` and what it has replayed
 pub back-length : (w : World) (p from k c : ℕ) → Back w p from k c → length_of w p ≡ from + c
 back-length w p from k c h = at-length (w.phase p) (w.history p) (w.saved p) from k c h.whole h.at
 
@@ -64,6 +65,7 @@ at-with : (rs : List ℕ) (saved from k c : ℕ) → from + c ≡ k → At (phas
 at-with [] saved from k c e = e
 at-with (r ∷ rs) saved from k c e = e
 
+-- just after a recovery that keeps k, p has k messages and has replayed none
 pub back-opens : (w : World) (p k : ℕ) (alone : Bool) → w.saved p ≤ k → length (gathered w p k) ≡ k → Back (recover w p k alone) p (w.saved p) k 0
 back-opens w p k alone l e = split (nat_lt (w.saved p) k) refl
   where

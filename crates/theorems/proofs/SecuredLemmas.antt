@@ -18,11 +18,13 @@ pub record Carries (v w : World) : Type 0 where
   pub same : (p k : ℕ) → Secured v p k → take k (w.history p) ≡ take k (v.history p)
   pub payloads_grow : (s : ℕ) (h : List Message) (d : ℕ) → Begins (payloads v s h d) (payloads w s h d)
 
+-- a safe message stays safe
 pub safe : {v w : World} → Carries v w → (d : ℕ) (m : Message) → Safe v d m → Safe w d m
 safe {v} {w} c d m a =
     let e : take a.upto (w.history m.sender) ≡ take a.upto (v.history m.sender) = c.same m.sender a.upto a.secured in
     record { upto = a.upto; secured = c.secured m.sender a.upto a.secured; sends = rw e (nth-prefix _ _ m.ssn m.payload (c.payloads_grow m.sender (take a.upto (v.history m.sender)) d) a.sends) }
 
+-- and so does the message that a process works on
 pub job-safe : {v w : World} → Carries v w → (p : ℕ) (phase : Phase) → JobSafe v p phase → JobSafe w p phase
 job-safe c p Up h = tt
 job-safe c p (Busy m) h = safe c p m h
@@ -38,6 +40,7 @@ pub record Grown (v w : World) : Type 0 where
   pub held : (p : ℕ) → is_down (v.phase p) ≡ true → (v.saved p ≡ w.saved p) × ((m : ℕ) → v.saved p < m → m ≤ length (v.history p) → Held v p m → Held w p m)
   pub payloads_grow : (s : ℕ) (h : List Message) (d : ℕ) → Begins (payloads v s h d) (payloads w s h d)
 
+-- in a world that grew nothing that was secured is lost
 pub carries-grown : {v w : World} → Grown v w → Carries v w
 carries-grown {v} {w} g =
     record {
@@ -53,6 +56,7 @@ carries-grown {v} {w} g =
       payloads_grow = g.payloads_grow;
     }
 
+-- what secured messages send is still sent by secured ones
 pub covers : {v w : World} → Carries v w → (p d n : ℕ) → Covers v p d n → Covers w p d n
 covers {v} {w} c p d n a =
     let e : take a.upto (w.history p) ≡ take a.upto (v.history p) = c.same p a.upto a.secured in

@@ -41,6 +41,7 @@ split (x ∷ xs) (y ∷ ys) a b n e =
     let e0 = k.0 in
     (cc, k.1)
 
+-- bytes begin with one header only, and the rest behind it is one too
 pub header_once : (g h : FileHeader) (a b bytes : List ℕ) → HasHeader g a bytes → HasHeader h b bytes → (g ≡ h) × (a ≡ b)
 header_once g h a b bytes x y =
     let whole : header_bytes g ++ a ≡ header_bytes h ++ b = sym x.fields ∙ y.fields in
@@ -77,6 +78,7 @@ pub record Fields (h : FileHeader) (rest bytes : List ℕ) : Type 0 where
   pub code : drop 8 bytes ≡ rest
   pub size : length bytes ≡ 8 + length rest
 
+-- each field of a header is what is read at its place in the bytes
 pub fields_of : (h : FileHeader) (rest bytes : List ℕ) → HasHeader h rest bytes → Fields h rest bytes
 fields_of h rest bytes x =
     let k = header_fields h.magic h.state_len h.slots rest x.magic_len in
@@ -117,13 +119,16 @@ to_fields FileLength h rest bytes k b = λ e. b (omega (arith, e, k.size, k.coun
 pub too_short : (bytes : List ℕ) → length bytes < 8 → IsHeaderFault bytes TooShort
 too_short bytes short = firsts.stops (HasFault bytes) TooShort _ short
 
+-- where the first fault of a list is in the header, it is the first that the bytes have
 pub stops : (q : HeaderFault) (qs : List HeaderFault) (h : FileHeader) (rest bytes : List ℕ) → HasHeader h rest bytes → Breaks q h rest → IsFirst (HasFault bytes) (q ∷ qs) q
 stops q qs h rest bytes has broken = firsts.stops (HasFault bytes) q qs (of_fields q h rest bytes (fields_of h rest bytes has) broken)
 
+-- a fault that the header doesn't have is passed over
 pub passes : (q : HeaderFault) (qs : List HeaderFault) (fault : HeaderFault) (h : FileHeader) (rest bytes : List ℕ) → HasHeader h rest bytes → (¬ Breaks q h rest) → IsFirst (HasFault bytes) qs fault → IsFirst (HasFault bytes) (q ∷ qs) fault
 passes q qs fault h rest bytes has fine later =
     firsts.passes q (HasFault bytes) qs fault (λ f. fine (to_fields q h rest bytes (fields_of h rest bytes has) f)) later
 
+-- bytes with a whole header aren't too short, so the first of the other four faults is the header's
 pub starts_broken : (fault : HeaderFault) (h : FileHeader) (rest bytes : List ℕ) → HasHeader h rest bytes → IsFirst (HasFault bytes) (Magic ∷ StateLength ∷ SlotCount ∷ FileLength ∷ []) fault → IsHeaderFault bytes fault
 starts_broken fault h rest bytes has broken = passes TooShort _ fault h rest bytes has (λ b. b) broken
 
@@ -136,12 +141,14 @@ sound_breaks form SlotCount h rest s (inl b) = let k = s.some in omega arith
 sound_breaks form SlotCount h rest s (inr b) = let k = s.short in omega arith
 sound_breaks form FileLength h rest s b = b s.size
 
+-- bytes with a sound header have none of a header's faults
 pub sound_has : (form : ImageForm) (h : FileHeader) (rest bytes : List ℕ) → HasHeader h rest bytes → IsSound form h rest → (q : HeaderFault) → ¬ HasFault bytes q
 sound_has form h rest bytes has s q b = sound_breaks form q h rest s (to_fields q h rest bytes (fields_of h rest bytes has) b)
 
 faultless : (bytes : List ℕ) (fault : HeaderFault) → ((q : HeaderFault) → ¬ HasFault bytes q) → IsHeaderFault bytes fault → ⊥
 faultless bytes fault none first = none fault (firsts.first_holds (HasFault bytes) _ fault first)
 
+-- behind a sound header a fault of the code is one of the file
 pub code_fault : (form : ImageForm) (h : FileHeader) (rest bytes : List ℕ) (rule : Rule) (slot : ℕ) → HasHeader h rest bytes → IsSound form h rest → decoding.IsFault rest rule slot → IsCodeFault bytes rule slot
 code_fault form h rest bytes rule slot has s fault =
     (sound_has form h rest bytes has s, subst (λ (r : List ℕ). decoding.IsFault r rule slot) (sym (fields_of h rest bytes has).code) fault)
@@ -155,6 +162,7 @@ magic_length : (form : ImageForm) → length (magic form) ≡ 4
 magic_length Sbi1 = refl
 magic_length Sbi2 = refl
 
+-- a file is the header of its code, and the code's bytes behind it
 pub file_has : (form : ImageForm) (is : List Insn) (len : ℕ) (bytes : List ℕ) → IsFile form is len bytes → HasHeader (file_header form is len) (encoding is) bytes
 file_has form is len bytes f = record {
   magic_len = magic_length form;
@@ -163,6 +171,7 @@ file_has form is len bytes f = record {
   fields = f.bytes_are;
 }
 
+-- the header of a file has no fault
 pub file_sound : (form : ImageForm) (is : List Insn) (len : ℕ) (bytes : List ℕ) → IsFile form is len bytes → IsSound form (file_header form is len) (encoding is)
 file_sound form is len bytes f = record {
   magic_is = refl;
@@ -203,6 +212,7 @@ magic_once Sbi2 Sbi2 e = refl
 magic_once Sbi1 Sbi2 e = let k : 0x31 ≡ 0x32 = ap (λ l. get_or l 3 0) e in absurd (omega (arith, k))
 magic_once Sbi2 Sbi1 e = let k : 0x32 ≡ 0x31 = ap (λ l. get_or l 3 0) e in absurd (omega (arith, k))
 
+-- bytes are the file of one code, one state's length and one form at most
 pub file_once : (form form' : ImageForm) (is js : List Insn) (m n : ℕ) (bytes : List ℕ) → IsFile form is m bytes → IsFile form' js n bytes → (is ≡ js) × (m ≡ n) × (form ≡ form')
 file_once form form' is js m n bytes f g =
     let k = header_once (file_header form is m) (file_header form' js n) (encoding is) (encoding js) bytes (file_has form is m bytes f) (file_has form' js n bytes g) in
@@ -214,16 +224,19 @@ code_behind form is len front rest bytes f size e =
     let whole = length-append (magic form) (to_le_bytes w16 len ++ to_le_bytes w16 (slots is)) in
     (split front (header_bytes (file_header form is len)) rest (encoding is) (omega (arith, size, magic_length form)) (sym e ∙ f.bytes_are)).1
 
+-- the code of a file has at most 1,024 slots
 pub short_code : (form : ImageForm) (is : List Insn) (len : ℕ) (bytes : List ℕ) → IsFile form is len bytes → length (slots_of is) ≤ 1024
 short_code form is len bytes f = let k = f.short in omega (arith, length-slots_of is)
 
 -- ---- what a file of typable code is answered by
 
+-- an image of one code that bytes are the file of is one of every code that they are the file of
 pub same_image : (form form' : ImageForm) (is js : List Insn) (m n : ℕ) (bytes : List ℕ) (image : Typed) → IsFile form is m bytes → IsFile form' js n bytes → IsImageOf form is m image → IsImageOf form' js n image
 same_image form form' is js m n bytes image f g h =
     let k = file_once form form' is js m n bytes f g in
     subst (λ (q : ImageForm). IsImageOf q js n image) k.2 (subst (λ (x : ℕ). IsImageOf form js x image) k.1 (subst (λ (l : List Insn). IsImageOf form l m image) k.0 h))
 
+-- where one code that bytes are the file of has a fault, no code that they are the file of has a typing
 pub not_typable : (form form' : ImageForm) (is js : List Insn) (m n : ℕ) (bytes : List ℕ) (rule : rules.Rule) (slot : ℕ) → IsFile form is m bytes → IsFile form' js n bytes → IsFault form is m rule slot → (t : Table) → IsTyping form' (slots_of js) n t → ⊥
 not_typable form form' is js m n bytes rule slot f g h t typing =
     let k = file_once form form' is js m n bytes f g in

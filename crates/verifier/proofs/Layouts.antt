@@ -39,6 +39,7 @@ follows_two i rest w begin next (suc (suc s)) zero j h e lt = absurd (omega arit
 follows_two i rest w begin next (suc (suc s)) (suc zero) j h e lt = absurd (omega arith)
 follows_two i rest w begin next (suc (suc s)) (suc (suc n)) j h e lt = next s n j h (omega arith) (omega arith)
 
+-- in the slots of code, behind each instruction that isn't the last another begins
 pub follows : (code : List Insn) → Follows (slots_of code)
 follows [] = λ s n i h e lt. absurd (omega arith)
 follows (i ∷ is) = elim (one_or_two i is) [
@@ -46,9 +47,11 @@ follows (i ∷ is) = elim (one_or_two i is) [
   | inr two ↦ subst Follows (sym two.1) (follows_two i (slots_of is) two.0 (begin is) (follows is))
 ]
 
+-- where code has a slot, an instruction begins at the first
 pub first_begins : (code : List Insn) → 0 < length (slots_of code) → (j : Insn) × (insn_at (slots_of code) 0 ≡ Some j)
 first_begins code h = begin code 0 refl h
 
+-- the same of the slots of the first n instructions
 pub follows_taken : (code : List Insn) (slots : List (Option Insn)) (n : ℕ) → slots ≡ slots_of (take n code) → Follows slots
 follows_taken code slots n e = subst Follows (sym e) (follows (take n code))
 
@@ -59,18 +62,21 @@ laid_more code slots slots' n i d lt ei es e =
     let a : slots_of (take n code ++ i ∷ []) ≡ slots_of (take n code) ++ slots_of (i ∷ []) = slots_of-append (take n code) (i ∷ []) in
     e ∙ ap (λ x. x ++ slots_of (i ∷ [])) es ∙ sym a ∙ ap slots_of (sym t)
 
+-- a wide instruction is laid out as its slot and one at which none begins
 pub laid_wide : (i : Insn) → true ≡ (size_of i == 2) → Some i ∷ None ∷ [] ≡ slots_of (i ∷ [])
 laid_wide i w = elim (one_or_two i []) [
   | inl one ↦ absurd (false≢true (sym (w ∙ ap (λ n. n == 2) one.0)))
   | inr two ↦ sym two.1
 ]
 
+-- any other is laid out as one slot
 pub laid_narrow : (i : Insn) → false ≡ (size_of i == 2) → Some i ∷ [] ≡ slots_of (i ∷ [])
 laid_narrow i w = elim (one_or_two i []) [
   | inl one ↦ sym one.1
   | inr two ↦ absurd (false≢true (w ∙ ap (λ n. n == 2) two.0))
 ]
 
+-- `first_begins` of slots that are known to be the code's
 pub first_begins_at : (code : List Insn) (slots : List (Option Insn)) → slots ≡ slots_of code → 0 < length slots → (j : Insn) × (insn_at slots 0 ≡ Some j)
 first_begins_at code slots e n = subst (λ s. (j : Insn) × (insn_at s 0 ≡ Some j)) (sym e) (first_begins code (let k = ap length e in omega arith))
 

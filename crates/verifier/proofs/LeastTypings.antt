@@ -29,6 +29,7 @@ use Rattle.verifier.specs.Inside.Pass.{Follows, Merged, IsOpening}
 
 -- ---- frames and tables
 
+-- a slot's frame is the table's entry, and behind its end there is none
 pub frame_is : (t : Table) (s : ℕ) → frame_at t s ≡ get_or t s None
 frame_is [] s = refl
 frame_is (x ∷ t) zero = refl
@@ -40,9 +41,11 @@ same_some g h o a b = cc
 same_insn : (i j : Insn) (o : Option Insn) → o ≡ Some i → o ≡ Some j → i ≡ j
 same_insn i j o a b = cc
 
+-- what enters a table's frames enters those of a table that says no more
 pub enters_below : (a b : Table) (e : ℤ × Frame) → Below a b → Enters a e → Enters b e
 enters_below a b e le h = let k = le h.0 h.1 h.3 in (h.0, k.0, h.2, k.1, Leq-trans e.1 h.1 k.0 h.4 k.2)
 
+-- a frame that says more enters wherever one that says less does
 pub enters_weaker : (t : Table) (z : ℤ) (f g : Frame) → Leq f g → Enters t (z, g) → Enters t (z, f)
 enters_weaker t z f g le h = (h.0, h.1, h.2, h.3, Leq-trans f g h.1 le h.4)
 
@@ -71,9 +74,11 @@ Below-trans a b c x y s g e =
 pub none_both : (ts us : Tests) → first_broken ts ≡ None → first_broken us ≡ None → first_broken (ts ++ us) ≡ None
 none_both ts us x y = first_of_both ts us ∙ ap (λ o. option_or o (first_broken us)) x ∙ y
 
+-- a rule that the first tests break is the one that both lists break
 pub first_some : (ts us : Tests) (r : Rule) → first_broken ts ≡ Some r → first_broken (ts ++ us) ≡ Some r
 first_some ts us r x = first_of_both ts us ∙ ap (λ o. option_or o (first_broken us)) x
 
+-- where the first tests pass, it is the rule that the second ones break
 pub second_some : (ts us : Tests) (r : Rule) → first_broken ts ≡ None → first_broken us ≡ Some r → first_broken (ts ++ us) ≡ Some r
 second_some ts us r x y = first_of_both ts us ∙ ap (λ o. option_or o (first_broken us)) x ∙ y
 
@@ -86,6 +91,7 @@ kept_below form slots len s i f g n le h =
 
 -- ---- a frame is joined into a slot
 
+-- setting a slot to the least frame that says no more than what it had and what comes merges them
 pub merged_set : (old : Table) (to : ℕ) (f h : Frame) → to < length old → length h.kinds ≡ 11 → h.low ≤ 256 → Leq f h → ((g : Frame) → frame_at old to ≡ Some g → Leq g h) → ((k : Frame) → Leq f k → ((g : Frame) → frame_at old to ≡ Some g → Leq g k) → Leq h k) → Merged old to f (slice_set old to (Some h))
 merged_set old to f h lt w b c k l = record {
   size = length-set old to (Some h);
@@ -109,6 +115,7 @@ pub record Leads (slots : List (Option Insn)) (old : Table) (slot : ℕ) (es : L
   pub short : ((s : ℕ) (g : Frame) → frame_at old s ≡ Some g → g.low ≤ 256) → (s : ℕ) (g : Frame) → frame_at new s ≡ Some g → g.low ≤ 256
   pub begins : ((s : ℕ) (g : Frame) → frame_at old s ≡ Some g → (i : Insn) × (insn_at slots s ≡ Some i)) → (s : ℕ) (g : Frame) → frame_at new s ≡ Some g → (i : Insn) × (insn_at slots s ≡ Some i)
 
+-- an instruction that leaves on no way leads to no change of the table
 pub leads_none : (slots : List (Option Insn)) (old : Table) (slot : ℕ) → Leads slots old slot [] old
 leads_none slots old slot = record {
   same = λ s le. refl;
@@ -147,6 +154,7 @@ module _ (slots : List (Option Insn)) (old mid new : Table) (f : Frame) (slot to
       apart : s ≢ to → (h : Frame) × (frame_at t s ≡ Some h) × Leq g h
       apart q = below s g (sym (m.other s q) ∙ h)
 
+  -- one way more: its frame was merged at a later slot, where an instruction begins
   pub leads_more : Leads slots old slot ((z, f) ∷ es) new
   leads_more = record {
     same = λ s le. m.other s (omega arith) ∙ l.same s le;
@@ -169,6 +177,7 @@ module _ (slots : List (Option Insn)) (old mid new : Table) (f : Frame) (slot to
 
 -- ---- the pass
 
+-- what types the slots below n + 1 types those below n
 pub types_less : (form : ImageForm) (slots : List (Option Insn)) (len n : ℕ) (t : Table) → TypesBelow form slots len (n + 1) t → TypesBelow form slots len n t
 types_less form slots len n t h = record {
   start = h.start;
@@ -179,6 +188,7 @@ types_less form slots len n t h = record {
   leads = λ s g i lt. h.leads s g i (omega arith);
 }
 
+-- before any slot was looked at, the table with the entry's frame alone is the least typing
 pub least_opening : (form : ImageForm) (slots : List (Option Insn)) (len : ℕ) (table : Table) (i : Insn) → IsOpening form table → insn_at slots 0 ≡ Some i → IsLeast form slots len 0 table
 least_opening form slots len table i o b = record {
   types = record {
@@ -293,6 +303,7 @@ least_step form slots len n old new f i l there begin kept ld = record {
 
 -- ---- the end of the pass
 
+-- a typing of all slots is one of those below any n
 pub below_typing : (form : ImageForm) (slots : List (Option Insn)) (len n : ℕ) (t : Table) → IsTyping form slots len t → TypesBelow form slots len n t
 below_typing form slots len n t h = record {
   start = h.start;
@@ -312,6 +323,7 @@ no_typing form slots len rule s b t h =
     let e = b.breaks in
     cc
 
+-- code without a slot has no typing
 pub no_typing_empty : (form : ImageForm) (slots : List (Option Insn)) (len : ℕ) → slots ≡ [] → (t : Table) → IsTyping form slots len t → ⊥
 no_typing_empty form slots len e t h =
     let st = h.start in
@@ -319,9 +331,11 @@ no_typing_empty form slots len e t h =
     let x : insn_at [] st.0 ≡ Some b.0 = subst (λ l. insn_at l st.0 ≡ Some b.0) e b.1 in
     cc
 
+-- the refusal of no code, for slots that are known to be none
 pub refused_empty : (form : ImageForm) (slots : List (Option Insn)) (len : ℕ) (rule : Rule) (s : ℕ) → slots ≡ [] → IsRefused form [] len rule s → IsRefused form slots len rule s
 refused_empty form slots len rule s e h = subst (λ l. IsRefused form l len rule s) (sym e) h
 
+-- where there is a slot, the one that the pass stops at is the refusal
 pub refused : (form : ImageForm) (slots : List (Option Insn)) (len : ℕ) (rule : Rule) (s : ℕ) → 0 < length slots → StopsAt form slots len rule s → IsRefused form slots len rule s
 refused form [] len rule s lt b = absurd (omega arith)
 refused form (x ∷ xs) len rule s lt b = b
@@ -338,6 +352,7 @@ slot_is [] s d lt = absurd (omega arith)
 slot_is (x ∷ xs) zero d lt = refl
 slot_is (x ∷ xs) (suc s) d lt = slot_is xs s d (omega arith)
 
+-- what the list has at a slot of the code is the instruction that begins there
 pub insn_is : (slots : List (Option Insn)) (s : ℕ) (d : Option Insn) (o : Option Insn) → s < length slots → get_or slots s d ≡ o → insn_at slots s ≡ o
 insn_is slots s d o lt e = slot_is slots s d lt ∙ e
 
@@ -345,6 +360,7 @@ some_of : (o : Option Insn) → is_some o ≡ true → (i : Insn) × (o ≡ Some
 some_of None h = absurd (false≢true h)
 some_of (Some i) h = (i, refl)
 
+-- an instruction begins only at a slot of the code
 pub within_some : (slots : List (Option Insn)) (s : ℕ) → is_some (insn_at slots s) ≡ true → s < length slots
 within_some slots s h = let k = some_of (insn_at slots s) h in within slots s k.0 k.1
 
@@ -388,6 +404,7 @@ before_end : (n m : ℕ) → not (nat_lt n m) ≡ false → n < m
 before_end n m h = let k = not_false (nat_lt n m) h in grind (arith, nat_tests)
 
 module _ (form : ImageForm) (slots : List (Option Insn)) (len n : ℕ) (old : Table) (f : Frame) (i : Insn) (fl : Flow) (nx tk : Frame) (follows : Follows slots) (l : IsLeast form slots len n old) (there : frame_at old n ≡ Some f) (begin : insn_at slots n ≡ Some i) (flow : fl ≡ flow_of i) where
+  -- where the instruction of a frame breaks a rule of jumps, the pass stops at its slot
   pub breaks_flow : (rule : Rule) → first_broken (flow_tests slots n fl) ≡ Some rule → StopsAt form slots len rule n
   breaks_flow rule h = record {
     table = old;
@@ -403,6 +420,7 @@ module _ (form : ImageForm) (slots : List (Option Insn)) (len n : ℕ) (old : Ta
     kept' : first_broken (jump_tests slots n i) ≡ None
     kept' = subst (λ x. first_broken (flow_tests slots n x) ≡ None) flow kept
 
+    -- and where it breaks a local rule
     pub breaks_local : (rule : Rule) → first_broken (tests_of form len i f) ≡ Some rule → StopsAt form slots len rule n
     breaks_local rule h = record {
       table = old;
@@ -422,14 +440,17 @@ module _ (form : ImageForm) (slots : List (Option Insn)) (len n : ℕ) (old : Ta
           let three = subst (λ x. Leads slots old n (exits_by n x (next i f) (taken i f)) new) flow two in
           least_step form slots len n old new f i l there begin (none_both (jump_tests slots n i) (tests_of form len i f) kept' local) three
 
+      -- the table is least for one slot more: behind an instruction that ends, as it is
       pub step_ends : fl ≡ Ends → IsLeast form slots len (n + 1) old
       step_ends e = step_by old (subst (λ x. Leads slots old n (exits_by n x nx tk) old) (sym e) (leads_none slots old n))
 
+      -- behind a jump, with its frame merged at the target
       pub step_leaps : (d : ℤ) (to : ℕ) (new : Table) → fl ≡ Leaps d → pos (n + 1) +ℤ d ≡ pos to → n < to → is_some (insn_at slots to) ≡ true → Merged old to tk new → IsLeast form slots len (n + 1) new
       step_leaps d to new e z lt b m =
           let k = some_of (insn_at slots to) b in
           step_by new (subst (λ x. Leads slots old n (exits_by n x nx tk) new) (sym e) (leads_more slots old old new tk n to (pos (n + 1) +ℤ d) [] (leads_none slots old n) m z lt k.0 k.1))
 
+      -- behind most others, with it merged at the slot that follows
       pub step_falls : (k : ℕ) (new : Table) → fl ≡ Falls k → Merged old (n + k) nx new → IsLeast form slots len (n + 1) new
       step_falls k new e m =
           let ks = falls_size i k (sym e ∙ flow) in
@@ -438,6 +459,7 @@ module _ (form : ImageForm) (slots : List (Option Insn)) (len n : ℕ) (old : Ta
           let b = follows n (n + k) i begin (omega arith) (before_end (n + k) (length slots) h.0) in
           step_by new (subst (λ x. Leads slots old n (exits_by n x nx tk) new) (sym e) (leads_more slots old old new nx n (n + k) (pos (n + k)) [] (leads_none slots old n) m refl (omega arith) b.0 b.1))
 
+      -- behind a conditional jump, with a frame merged at each of both
       pub step_forks : (d : ℤ) (to : ℕ) (mid new : Table) → fl ≡ Forks d → pos (n + 1) +ℤ d ≡ pos to → n < to → is_some (insn_at slots to) ≡ true → Merged old (n + 1) nx mid → Merged mid to tk new → IsLeast form slots len (n + 1) new
       step_forks d to mid new e z lt b m m' =
           let ks = forks_size i d (sym e ∙ flow) in
@@ -449,6 +471,7 @@ module _ (form : ImageForm) (slots : List (Option Insn)) (len n : ℕ) (old : Ta
 
 -- ---- the table at first
 
+-- the table as the pass begins: the entry's frame at the first slot
 pub opening_one : (form : ImageForm) (f : Frame) (table : Table) → f ≡ entry_frame form → table ≡ Some f ∷ [] → IsOpening form table
 opening_one form f table k e = subst (IsOpening form) (sym e) (record { first = ap Some k; none = others })
   where
@@ -462,6 +485,7 @@ frame_past [] (suc s) = refl
 frame_past (x ∷ t) zero = refl
 frame_past (x ∷ t) (suc s) = frame_past t s
 
+-- one slot more without a frame
 pub opening_more : (form : ImageForm) (old table : Table) → IsOpening form old → table ≡ old ++ None ∷ [] → IsOpening form table
 opening_more form old table o e = subst (IsOpening form) (sym e) (record { first = frame_past old 0 ∙ o.first; none = λ s n. frame_past old s ∙ o.none s n })
 

@@ -26,6 +26,7 @@ pub record Keeps (form : ImageForm) (slots : List (Option Insn)) (len slot : ℕ
   pub flow : first_broken (jump_tests slots slot i) ≡ None
   pub local : first_broken (tests_of form len i f) ≡ None
 
+-- in typed code an instruction that is reached breaks no rule of jumps and no local rule
 pub kept : (form : ImageForm) (slots : List (Option Insn)) (len : ℕ) (table : Table) (slot : ℕ) (i : Insn) (g : Frame) → IsTyping form slots len table → frame_at table slot ≡ Some g → insn_at slots slot ≡ Some i → Keeps form slots len slot i g
 kept form slots len table slot i g t at n =
     let k = both_pass (jump_tests slots slot i) (tests_of form len i g) (typing_keeps form slots len table slot g i t at n) in
@@ -46,6 +47,7 @@ pub record Rules (form : ImageForm) (len : ℕ) (i : Insn) (f : Frame) : Type 0 
   pub given : misgives form len i f ≡ false
   pub ended : ends_without i f.kinds ≡ false
 
+-- an instruction that breaks no local rule passes the test of each
 pub rules_of : (form : ImageForm) (len : ℕ) (i : Insn) (f : Frame) → first_broken (tests_of form len i f) ≡ None → Rules form len i f
 rules_of form len i f h =
     let a = attributes_of i in
@@ -88,6 +90,7 @@ pub record Reaches (low len : ℕ) (kinds : List Kind) (a : Access) : Type 0 whe
   pub inside : IsInside low len (kind_at kinds a.base.number) a.offset a.bytes
   pub writable : a.stores ≡ true → IsWritable (kind_at kinds a.base.number)
 
+-- its load or store lies in its region, and writes only where it may
 pub access_rules : (form : ImageForm) (len : ℕ) (i : Insn) (f : Frame) (a : Access) → (attributes_of i).access ≡ Some a → first_broken (tests_of form len i f) ≡ None → Reaches f.low len f.kinds a
 access_rules form len i f a e h =
     let r = rules_of form len i f h in
