@@ -4,6 +4,7 @@ ghost use Rattle.std.specs.Prelude.{◌≡◌, [], length, ◌≤◌, Some};
 ghost use Rattle.helpers.specs.Helpers as rows;
 
 use crate::payload::{PAYLOAD_LIMIT, Payload};
+use arrayvec::ArrayVec;
 use std::marker::Model;
 
 /// How many sends, and how many outputs, one call of a handler can emit.
@@ -18,7 +19,7 @@ pub struct Who {
 }
 
 /// A message that a handler sends: the process that is to get it, and what it says.
-#[derive(Clone, Copy, Debug, PartialEq, Eq)]
+#[derive(Clone, Copy, Debug, Default, PartialEq, Eq)]
 pub struct Sent {
     pub dst: u8,
     pub payload: Payload,
@@ -30,21 +31,20 @@ pub struct Sent {
 /// between calls costs a call only what it emits.
 #[derive(Drop)]
 pub struct Effects {
-    sends: [Sent; LIMIT],
-    send_count: usize,
-    outputs: [Payload; LIMIT],
-    output_count: usize,
+    sends: ArrayVec<Sent, LIMIT>,
+    outputs: ArrayVec<Payload, LIMIT>,
 }
 
 impl Model for Effects {
-    ghost use Rattle.std.specs.Prelude.{◌≡◌, ◌≤◌, length, take};
+    ghost use Rattle.std.specs.Prelude.{◌≤◌};
+    ghost use Rattle.arrayvec.specs.ArrayVec.{array_vec_len};
     ghost use Rattle.helpers.specs.Effects.{Emitted};
 
     ghost Value = { Emitted };
 
-    ghost view = { λ e. record { sends = take e.send_count e.sends; outputs = take e.output_count e.outputs } };
+    ghost view = { λ e. record { sends = e.sends.items; outputs = e.outputs.items } };
 
-    ghost invariant = { λ e. (e.send_count ≤ 8) × (length e.sends ≡ 8) × (e.output_count ≤ 8) × (length e.outputs ≡ 8) };
+    ghost invariant = { λ e. (array_vec_len e.sends ≤ 8) × (array_vec_len e.outputs ≤ 8) };
 }
 
 impl Effects {
@@ -55,15 +55,9 @@ impl Effects {
         ensures sends { result.sends ≡ [] }
         ensures outputs { result.outputs ≡ [] }
     {
-        let nothing = Payload::new();
         Effects {
-            sends: [Sent {
-                dst: 0,
-                payload: nothing,
-            }; LIMIT],
-            send_count: 0,
-            outputs: [nothing; LIMIT],
-            output_count: 0,
+            sends: ArrayVec::new(),
+            outputs: ArrayVec::new(),
         }
     }
 
@@ -72,8 +66,8 @@ impl Effects {
         ensures sends { self.new.sends ≡ [] }
         ensures outputs { self.new.outputs ≡ [] }
     {
-        self.send_count = 0;
-        self.output_count = 0;
+        self.sends.clear();
+        self.outputs.clear();
     }
 
     /// The messages that were sent, at most 8.
@@ -81,7 +75,7 @@ impl Effects {
         ensures value { result.now ≡ self.now.sends }
         ensures bound { length result.now ≤ 8 }
     {
-        &self.sends[..self.send_count]
+        self.sends.as_slice()
     }
 
     /// The outputs that were given, at most 8.
@@ -89,7 +83,7 @@ impl Effects {
         ensures value { result.now ≡ self.now.outputs }
         ensures bound { length result.now ≤ 8 }
     {
-        &self.outputs[..self.output_count]
+        self.outputs.as_slice()
     }
 
     /// Helper 1: sends bytes to another process. The code is 0 where they were appended, 1 where
@@ -102,13 +96,14 @@ impl Effects {
         if is_no_peer(who, dst) {
             return 1;
         }
-        if self.send_count == LIMIT {
+        if self.sends.is_full() {
             return 2;
         }
-        let sent = &mut self.sends[self.send_count];
+        let place = self.sends.len();
+        self.sends.push(Sent::default());
+        let sent = &mut self.sends.as_mut_slice()[place];
         sent.dst = dst as u8;
         sent.payload.replace(payload);
-        self.send_count += 1;
         0
     }
 
@@ -119,11 +114,12 @@ impl Effects {
         ensures code { result ≡ (rows.output (Some payload.now) self.old).0 }
         ensures after { self.new ≡ (rows.output (Some payload.now) self.old).1 }
     {
-        if self.output_count == LIMIT {
+        if self.outputs.is_full() {
             return 2;
         }
-        self.outputs[self.output_count].replace(payload);
-        self.output_count += 1;
+        let place = self.outputs.len();
+        self.outputs.push(Payload::new());
+        self.outputs.as_mut_slice()[place].replace(payload);
         0
     }
 
@@ -139,7 +135,7 @@ impl Effects {
         }
         if is_no_peer(who, dst) {
             1
-        } else if self.send_count < LIMIT {
+        } else if !self.sends.is_full() {
             3
         } else {
             2
@@ -154,7 +150,7 @@ impl Effects {
         ensures after { self.new ≡ (rows.output (sized_payload bytes.now len) self.old).1 }
     {
         if len > PAYLOAD_LIMIT as u64 {
-            let is_full = self.output_count == LIMIT;
+            let is_full = self.outputs.is_full();
             return if is_full { 2 } else { 3 };
         }
         self.output(&bytes[..len as usize])
