@@ -1,0 +1,59 @@
+//! How much there can be at most, of what several crates speak of. The table of docs/FORMATS.md,
+//! "Limits", has the same numbers.
+//!
+//! Code and contracts cite these names. A limit that only one crate speaks of stands there.
+//!
+//! ```
+//! // a process has a number from 1 to limits::PROCESSES, and 0 is the outside, so a number of
+//! // either is below limits::PARTIES
+//! ```
+#![tactic(auto)]
+
+/// Processes of a session.
+pub const PROCESSES: usize = 15;
+
+/// Who sends and is sent to: the outside, 0, and the processes.
+pub const PARTIES: usize = 16;
+
+/// Bytes of a message's payload.
+pub const PAYLOAD_BYTES: usize = 256;
+
+/// Bytes of a process's state.
+pub const STATE_BYTES: usize = 1024;
+
+/// Bytes of the stack of one handler call.
+pub const STACK_BYTES: usize = 512;
+
+/// Slots of an image, of eight bytes each.
+pub const SLOTS: usize = 1024;
+
+/// Messages of one handler call, and outputs of one.
+pub const EFFECTS: usize = 8;
+
+/// Entries of a journal, one for each open job among them.
+pub const ENTRIES: usize = 65_536;
+
+/// Messages that a process receives: each is an entry of the journal.
+pub const RECEIPTS: usize = 65_536;
+
+/// Messages from one process to one destination: so many come of as many receipts.
+pub const SENDS: usize = 524_288;
+
+/// Packets on the wire, one for each open job of an arrived message among them. Their keys are
+/// below it.
+pub const PACKETS: usize = 4096;
+
+/// Workers of a run.
+pub const WORKERS: usize = 16;
+
+/// Seats of a session: one for nobody, worker 0, and one for each worker.
+pub const SEATS: usize = 17;
+
+// What one limit is of others.
+const _: () = prove!(PARTIES == PROCESSES + 1);
+
+const _: () = prove!(SEATS == WORKERS + 1);
+
+const _: () = prove!(RECEIPTS == ENTRIES);
+
+const _: () = prove!(SENDS == EFFECTS * RECEIPTS);
