@@ -4,13 +4,11 @@ ghost use Rattle.std.specs.Prelude.{◌≡◌, ◌+◌, ◌-◌, ◌<◌, ◌≤
 ghost use Rattle.std.specs.List.{filter, list_any, All};
 ghost use Rattle.rsn.specs.Receipts.{run_of};
 
+use limits::{PARTIES, SENDS};
 use rsn::Receipts;
 use std::alloc::{AllocError, Global};
 use std::collections::VecDeque;
 use std::marker::Model;
-
-/// How many sends to one destination a gate can hold, released ones among them.
-pub const LIMIT: u32 = 524_288;
 
 /// A send that waits: to whom, and its position.
 #[derive(Clone, Copy, Debug, PartialEq, Eq)]
@@ -24,7 +22,7 @@ pub struct Held {
 #[derive(Drop)]
 pub struct Gate {
     waiting: VecDeque<Held>,
-    released: [u32; 16],
+    released: [u32; PARTIES],
 }
 
 impl Model for Gate {
@@ -44,20 +42,20 @@ impl Gate {
 
     /// Nothing held and nothing released.
     pub fn new(alloc: Global) -> Gate
-        ensures { result ≡ record { waiting = []; released = replicate 16 0 } }
+        ensures { result ≡ record { waiting = []; released = replicate PARTIES 0 } }
     {
         Gate {
             waiting: VecDeque::new(alloc),
-            released: [0; 16],
+            released: [0; PARTIES],
         }
     }
 
     /// Holds a send to this destination, made while the process worked on the message with this
     /// number.
     pub fn hold(&mut self, dst: u8, rsn: u32) -> Result<(), AllocError>
-        requires dst { dst < 16 }
+        requires dst { dst < PARTIES }
         requires order { All (λ h. h.rsn ≤ rsn) self.old.waiting }
-        requires room { slice_index_or self.old.released dst 0 + count_to dst self.old.waiting < LIMIT }
+        requires room { slice_index_or self.old.released dst 0 + count_to dst self.old.waiting < SENDS }
         ensures ok { OnOk result (self.new ≡ record { waiting = self.old.waiting ++ (record { dst = dst; rsn = rsn }) ∷ []; released = self.old.released }) }
         ensures err { OnErr result (self.new ≡ self.old) }
     {
@@ -82,9 +80,9 @@ impl Gate {
     /// Counts the sends to a destination as released up to this many, as after a recovery. None
     /// waits.
     pub fn restore(&mut self, dst: u8, count: u32)
-        requires dst { dst < 16 }
+        requires dst { dst < PARTIES }
         requires none { self.old.waiting ≡ [] }
-        requires bound { count ≤ LIMIT }
+        requires bound { count ≤ SENDS }
         ensures { self.new ≡ record { waiting = []; released = slice_set self.old.released dst count } }
     {
         self.released[dst as usize] = count;
@@ -127,7 +125,7 @@ impl Gate {
 
     /// How many sends to this destination were released.
     pub fn released(&self, dst: u8) -> u32
-        requires { dst < 16 }
+        requires { dst < PARTIES }
         ensures { result ≡ slice_index_or self.now.released dst 0 }
     {
         self.released[dst as usize]

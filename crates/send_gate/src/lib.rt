@@ -16,4 +16,4 @@
 
 mod gate;
 
-pub use gate::{Gate, Held, LIMIT};
+pub use gate::{Gate, Held};
