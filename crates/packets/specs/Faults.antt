@@ -1,5 +1,6 @@
 -- The faults of bytes, each by itself, and the first of them
 use Rattle.std.specs.Prelude.{◌≡◌, ◌≢◌, ℕ, ◌-◌, ◌<◌, ◌≤◌, List, length, take, drop, slice_index, slice_range, true, ⊤, Result, Ok, Err}
+use Rattle.limits.specs.declared.TheConstants.{PROCESSES}
 use Rattle.byteorder.specs.Endian.{little_number}
 use Rattle.packets.specs.declared.kind.Kind as the_kind
 use Rattle.packets.specs.declared.packet.Body.{Body}
@@ -39,7 +40,7 @@ HasFault Short bytes = length bytes < 12
 HasFault Magic bytes = take 4 bytes ≢ magic
 HasFault Checksum bytes = little_number 4 (drop (length bytes - 4) bytes) ≢ crc32c (take (length bytes - 4) bytes)
 HasFault Kind bytes = (k : the_kind.Kind) → kind_number k ≢ slice_index bytes 4
-HasFault Count bytes = ¬ ((1 ≤ slice_index bytes 5) × (slice_index bytes 5 ≤ 15))
+HasFault Count bytes = ¬ ((1 ≤ slice_index bytes 5) × (slice_index bytes 5 ≤ PROCESSES))
 HasFault Ends bytes = ¬ ((slice_index bytes 6 ≤ slice_index bytes 5) × (slice_index bytes 7 ≤ slice_index bytes 5) × (slice_index bytes 6 ≢ slice_index bytes 7))
 HasFault Fields bytes = (b : Body) → ¬ Spells b bytes
 HasFault Range bytes = (b : Body) → Spells b bytes → in_range b ≢ true

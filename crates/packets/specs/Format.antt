@@ -1,6 +1,7 @@
 -- The bytes of a packet; numbers are little-endian.
 use Rattle.std.specs.Prelude.{◌≡◌, ◌≢◌, ℕ, ◌^◌, ◌<◌, ◌≤◌, List, [], ◌∷◌, ◌++◌, length, true}
 use Rattle.std.specs.List.{flat_map, AllByRecursion}
+use Rattle.limits.specs.declared.TheConstants.{PAYLOAD_BYTES, PROCESSES}
 use Rattle.byteorder.specs.Endian.{little_bytes}
 use Rattle.packets.specs.declared.page.Entry.{Entry}
 use Rattle.packets.specs.declared.page.Pair.{Pair}
@@ -71,7 +72,7 @@ IsLong n = n < 2 ^ 64
 
 -- 0 to 256 bytes
 abbrev pub IsPayload : List ℕ → Type 0
-IsPayload payload = length payload ≤ 256
+IsPayload payload = length payload ≤ PAYLOAD_BYTES
 
 -- an entry's numbers and its payload have room
 abbrev pub IsEntry : Entry → Type 0
@@ -99,7 +100,7 @@ HasRoom (Saved c) = IsLong c
 -- what can be sent
 pub record Fits (p : Packet) : Type 0 where
   pub some : 1 ≤ p.count
-  pub few : p.count ≤ 15
+  pub few : p.count ≤ PROCESSES
   pub from : p.from ≤ p.count
   pub to : p.to ≤ p.count
   pub apart : p.from ≢ p.to

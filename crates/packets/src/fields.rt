@@ -6,7 +6,8 @@ ghost use Rattle.packets.specs.Inside.Reading.{Gives, bytes_at, byte_at, number_
 use crate::fault::{PacketError, PacketFault};
 use crate::page::{Entry, Page, Pair};
 use byteorder::{ByteOrder, LittleEndian};
-use helpers::{PAYLOAD_LIMIT, Payload};
+use helpers::Payload;
+use limits::PAYLOAD_BYTES;
 use std::alloc::Global;
 
 /// So many bytes, and those after them.
@@ -52,10 +53,10 @@ pub fn u64_of(bytes: &[u8]) -> Result<(u64, &[u8]), PacketError>
 #[tactic(auto, unfolding(crate::specs::Inside::Reading::payload_at))]
 pub fn payload_of(bytes: &[u8]) -> Result<(&[u8], &[u8]), PacketError>
     ensures exact { Gives (λ x. (x.0.now, x.1.now)) result (payload_at bytes.now) }
-    ensures bound { IfOk result (λ x. length x.0.now ≤ 256) }
+    ensures bound { IfOk result (λ x. length x.0.now ≤ PAYLOAD_BYTES) }
 {
     let (len, rest) = u16_of(bytes)?;
-    if len as usize > PAYLOAD_LIMIT {
+    if len as usize > PAYLOAD_BYTES {
         return Err(PacketError::Fault(PacketFault::Fields));
     }
     bytes_of(len as usize, rest)
@@ -65,7 +66,7 @@ pub fn payload_of(bytes: &[u8]) -> Result<(&[u8], &[u8]), PacketError>
 #[tactic(auto, unfolding(crate::specs::Inside::Reading::entry_at))]
 fn entry_of(bytes: &[u8]) -> Result<(u64, u64, &[u8], &[u8]), PacketError>
     ensures exact { Gives (λ x. (record { number = x.0; ssn = x.1; payload = x.2.now }, x.3.now)) result (entry_at bytes.now) }
-    ensures bound { IfOk result (λ x. length x.2.now ≤ 256) }
+    ensures bound { IfOk result (λ x. length x.2.now ≤ PAYLOAD_BYTES) }
 {
     let (number, rest) = u64_of(bytes)?;
     let (ssn, rest) = u64_of(rest)?;

@@ -6,8 +6,8 @@ ghost use Rattle.packets.specs.Inside.Reading.{Gives, fields_at, head_at};
 use crate::checksum::crc32c;
 use crate::fault::{PacketError, PacketFault};
 use crate::kind::Kind;
-use crate::packet::COUNT_LIMIT;
 use byteorder::{ByteOrder, LittleEndian};
+use limits::PROCESSES;
 
 /// `SBP1`, the four bytes that a packet begins with.
 pub const MAGIC: [u8; 4] = [0x53, 0x42, 0x50, 0x31];
@@ -58,7 +58,7 @@ pub fn head_of(bytes: &[u8]) -> Result<Head, PacketError>
     let count = bytes[5];
     let from = bytes[6];
     let to = bytes[7];
-    if count < 1 || count > COUNT_LIMIT {
+    if count < 1 || count > PROCESSES as u8 {
         return Err(PacketError::Fault(PacketFault::Count));
     }
     if from > count || to > count || from == to {

@@ -32,7 +32,7 @@ pub use checksum::crc32c;
 pub use fault::{PacketError, PacketFault};
 pub use kind::Kind;
 pub use laws::{back_and_there, one_packet, there_and_back};
-pub use packet::{Body, COUNT_LIMIT, NUMBER_LIMIT, Packet};
+pub use packet::{Body, NUMBER_LIMIT, Packet};
 pub use page::{Entry, Flags, Page, Pair};
 pub use reading::decode;
 pub use writing::encode;

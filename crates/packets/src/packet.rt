@@ -8,9 +8,6 @@ use crate::kind::Kind;
 use crate::page::{Entry, Flags, Page, Pair};
 use helpers::Payload;
 
-/// The most processes that there can be.
-pub const COUNT_LIMIT: u8 = 15;
-
 /// Each number is below this.
 pub const NUMBER_LIMIT: u64 = 0x8000_0000_0000_0000;
 

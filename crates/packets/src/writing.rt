@@ -9,6 +9,7 @@ use crate::head::MAGIC;
 use crate::packet::{Body, Packet};
 use crate::page::{Entry, Pair};
 use byteorder::{ByteOrder, LittleEndian};
+use limits::PAYLOAD_BYTES;
 use std::alloc::{AllocError, Global};
 
 /// The bytes of a packet.
@@ -133,7 +134,7 @@ fn put_u64(out: &mut Vec<u8>, n: u64) -> Result<(), AllocError>
 
 /// Appends a payload behind its length.
 fn put_payload(out: &mut Vec<u8>, payload: &[u8]) -> Result<(), AllocError>
-    requires { length payload.now ≤ 256 }
+    requires { length payload.now ≤ PAYLOAD_BYTES }
     ensures { OnOk result (out.new.items ≡ out.old.items ++ payload_bytes payload.now) }
 {
     put_u16(out, payload.len() as u16)?;

@@ -1,6 +1,7 @@
 -- Reading a packet from left to right, with the first fault that is met. A field is a value and the bytes after it.
 use Rattle.std.specs.Prelude.{◌≡◌, ℕ, zero, suc, ◌-◌, List, [], ◌∷◌, length, take, drop, slice_index, Option, Some, None, Result, Ok, Err, not, nat_lt, nat_eq, ◌==◌, ◌||◌, if◌then◌else◌}
 use Rattle.std.specs.Cmp.Lexicographic.{pointwise}
+use Rattle.limits.specs.declared.TheConstants.{PAYLOAD_BYTES, PROCESSES}
 use Rattle.byteorder.specs.Endian.{little_number}
 use Rattle.packets.specs.declared.kind.Kind.{Kind}
 use Rattle.packets.specs.declared.kind.Kind.TheVariants as kinds
@@ -54,7 +55,7 @@ number_at n bytes = bytes_at n bytes >>= λ found. Ok (little_number n found.0, 
 
 -- a length, and as many bytes
 unfoldable pub payload_at : Reader (List ℕ)
-payload_at bytes = number_at 2 bytes >>= λ len. if nat_lt 256 len.0 then Err faults.Fields else bytes_at len.0 len.1
+payload_at bytes = number_at 2 bytes >>= λ len. if nat_lt PAYLOAD_BYTES len.0 then Err faults.Fields else bytes_at len.0 len.1
 
 -- one field behind the other
 abbrev pub both : {A B : Type 0} → Reader A → Reader B → Reader (A × B)
@@ -108,7 +109,7 @@ known (Some kind) = Ok kind
 -- kind, the number of processes, from and to
 abbrev pub head_in_range : Kind → ℕ → ℕ → ℕ → Result Head PacketFault
 head_in_range kind n from to =
-    if nat_lt n 1 || nat_lt 15 n then Err faults.Count else if nat_lt n from || (nat_lt n to || from == to) then Err faults.Ends else Ok (record { kind = kind; count = n; from = from; to = to })
+    if nat_lt n 1 || nat_lt PROCESSES n then Err faults.Count else if nat_lt n from || (nat_lt n to || from == to) then Err faults.Ends else Ok (record { kind = kind; count = n; from = from; to = to })
 
 unfoldable pub head_at : List ℕ → Result Head PacketFault
 head_at bytes = known (kind_at (slice_index bytes 4)) >>= λ kind. head_in_range kind (slice_index bytes 5) (slice_index bytes 6) (slice_index bytes 7)
