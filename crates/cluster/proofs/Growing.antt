@@ -1,0 +1,98 @@
+-- No step takes back an input, what was shown, or what a checkpoint covers
+use Rattle.std.proofs.Common.{◌≡◌, ℕ, zero, suc, ◌+◌, ◌-◌, ◌≤◌, List, [], ◌∷◌, ◌++◌, length, take, Bool, true, false, refl, sym, ap, ◌∙◌, subst, arith}
+use Rattle.std.specs.Prelude.{Option, Some, None, nat_lt, if◌then◌else◌}
+use Rattle.world.specs.declared.message.Message.{Message}
+use Rattle.world.specs.Plan.{if_next, pushed}
+use Rattle.theorems.specs.Growth.{Begins}
+use Rattle.theorems.proofs.Changes.{choose}
+use Rattle.theorems.proofs.ListLemmas.{take-all, take-push, take-take, take-length, begins-self, begins-trans, begins-take}
+use Rattle.cluster.specs.Cluster.{Cluster}
+use Rattle.cluster.specs.Rules.{Act, Input, Puts, Starts, Shows, Works, Replays, Records, Counts, Drops, Hears, Collects, Recovers, Obeys, Enters, Restores, Greets, Freezes, Keeps, Thaws, Dies, Opens, does, told_by, kept_by, taken_back, plan, message}
+
+-- the inputs of c begin those of v, and so do what it showed and what checkpoints cover in it
+abbrev pub Continues : Cluster → Cluster → Type 0
+Continues c v =
+    record {
+      inputs : (d : ℕ) → Begins (c.inputs d) (v.inputs d);
+      shown : Begins c.shown v.shown;
+      messages : (p : ℕ) → Begins (take (c.saved p) (c.history p)) (take (v.saved p) (v.history p));
+    }
+
+-- where no history, checkpoint and input changes
+pub still : (c : Cluster) → Continues c c
+still c = record { inputs = λ d. begins-self _; shown = begins-self _; messages = λ p. begins-self _ }
+
+-- what holds of both holds of either
+pub either-way : (b : Bool) (x y : Cluster) (P : Cluster → Type 0) → P x → P y → P (if b then x else y)
+either-way true x y P f g = f
+either-way false x y P f g = g
+
+take-begins : {X : Type 0} (k : ℕ) (xs : List X) → Begins (take k xs) xs
+take-begins zero [] = ([], refl)
+take-begins zero (x ∷ xs) = (x ∷ xs, refl)
+take-begins (suc k) [] = ([], refl)
+take-begins (suc k) (x ∷ xs) = let r = take-begins k xs in (r.0, ap (λ ys. x ∷ ys) r.1)
+
+pub same-begins : {X : Type 0} (xs ys : List X) → xs ≡ ys → Begins xs ys
+same-begins {X} xs ys e = let P : List X → Type 0 = λ zs. Begins xs zs in subst P e (begins-self xs)
+
+-- a plan begins with what it goes on from
+pub plan-begins : (f : ℕ → Option Message) (h : List Message) (k : ℕ) → Begins h (plan f h k)
+plan-begins f h zero = begins-self h
+plan-begins f h (suc k) = begins-trans _ _ _ (plan-begins f h k) (more (if_next (plan f h k) (f (suc (length (plan f h k))))))
+  where
+    more : (o : Option Message) → Begins (plan f h k) (pushed (plan f h k) o)
+    more None = begins-self _
+    more (Some x) = (x ∷ [], refl)
+
+-- a recovery keeps them
+pub kept-begins : (c : Cluster) (p k : ℕ) → c.saved p ≤ length (c.history p) → Begins (take (c.saved p) (c.history p)) (take (c.saved p) (kept_by c p k))
+kept-begins c p k within =
+    let long : length (take (c.saved p) (c.history p)) ≡ c.saved p = take-length (c.history p) (c.saved p) within in
+    same-begins _ _
+    (sym (begins-take (take (c.saved p) (c.history p)) (kept_by c p k) (plan-begins (told_by c p) (take (c.saved p) (c.history p)) (k - c.saved p)) (c.saved p) (omega arith)
+    ∙ take-take (c.history p) (c.saved p) (c.saved p) (omega arith)))
+
+-- a node that recovers keeps what its checkpoint covers
+pub takes-back : (c : Cluster) (p k : ℕ) → c.saved p ≤ length (c.history p) → Continues c (taken_back c p k)
+takes-back c p k within =
+    record {
+      inputs = λ d. begins-self _;
+      shown = begins-self _;
+      messages = choose p (λ q t. Begins (take (c.saved q) (c.history q)) (take (c.saved q) (if t then kept_by c p k else c.history q))) (kept-begins c p k within) (λ q _. begins-self _);
+    }
+
+-- no act takes back an input, or what a checkpoint covers
+pub does-continue : (c : Cluster) (a : Act) → ((p : ℕ) → c.saved p ≤ length (c.history p)) → Continues c (does c a)
+does-continue c (Input d x) within = record { inputs = choose d (λ j t. Begins (c.inputs j) (if t then c.inputs d ++ x ∷ [] else c.inputs j)) (x ∷ [], refl) (λ j _. begins-self _); shown = begins-self _; messages = λ p. begins-self _ }
+does-continue c (Puts p d x) within = still c
+does-continue c (Starts p d i ssn x) within = still c
+does-continue c (Shows p i ssn x) within = record { inputs = λ d. begins-self _; shown = (message p ssn x ∷ [], refl); messages = λ p. begins-self _ }
+does-continue c (Works p m) within =
+    record {
+      inputs = λ d. begins-self _;
+      shown = begins-self _;
+      messages = choose p (λ j t. Begins (take (c.saved j) (c.history j)) (take (c.saved j) (if t then c.history p ++ m ∷ [] else c.history j))) (same-begins _ _ (sym (take-push (c.history p) (m ∷ []) (c.saved p) (within p)))) (λ j _. begins-self _);
+    }
+does-continue c (Replays p j) within = either-way (nat_lt (c.saved p + suc j) (length (c.history p))) _ _ (Continues c) (still c) (still c)
+does-continue c (Records r s i ssn k) within = still c
+does-continue c (Counts s r i k) within = still c
+does-continue c (Drops d s n) within = still c
+does-continue c (Hears p q i k) within = still c
+does-continue c (Collects q p i j k u f) within = still c
+does-continue c (Recovers p k) within = either-way (nat_lt (c.saved p) k) _ _ (Continues c) (takes-back c p k (within p)) (takes-back c p k (within p))
+does-continue c (Obeys p q i k s) within = still c
+does-continue c (Enters q p i j n s u f) within = still c
+does-continue c (Restores q p i j n s f) within = still c
+does-continue c (Greets p i j n s f) within = still c
+does-continue c (Freezes p) within = still c
+does-continue c (Keeps p) within =
+    record {
+      inputs = λ d. begins-self _;
+      shown = begins-self _;
+      messages = choose p (λ j t. Begins (take (c.saved j) (c.history j)) (take (if t then length (c.history p) else c.saved j) (c.history j)))
+          (begins-trans _ _ _ (take-begins (c.saved p) (c.history p)) (same-begins _ _ (sym (take-all (c.history p))))) (λ j _. begins-self _);
+    }
+does-continue c (Thaws p) within = still c
+does-continue c (Dies p) within = still c
+does-continue c (Opens p n) within = still c

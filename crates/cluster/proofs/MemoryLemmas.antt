@@ -1,0 +1,194 @@
+-- What a node keeps of what it received came since its checkpoint, and its logs wait for their receivers
+use Rattle.std.proofs.Common.{◌≡◌, ℕ, zero, suc, ◌+◌, ◌-◌, ◌<◌, ◌≤◌, List, [], ◌∷◌, ◌++◌, length, take, drop, Bool, true, false, refl, subst, arith}
+use Rattle.std.specs.Prelude.{◌==◌, nat_lt, if◌then◌else◌}
+use Rattle.std.proofs.lemmas.Bool.Decides.{nat_tests}
+use Rattle.world.specs.declared.message.Message.{Message}
+use Rattle.world.specs.History.{count_of}
+use Rattle.world.specs.Phases.{Phase, Up, Busy, Down, Replaying, Resync, is_busy}
+use Rattle.world.specs.Logs.{payloads, sent, sent_in_all, covered, length_in}
+use Rattle.world.specs.Refusals.{one_if}
+use Rattle.theorems.specs.Orphans.{payloads_of}
+use Rattle.theorems.specs.Invariants.Sound.{Replays}
+use Rattle.theorems.proofs.ListLemmas.{take-all, begins-length}
+use Rattle.theorems.proofs.PhaseLemmas.{up-length}
+use Rattle.theorems.proofs.TidyLemmas.{sent-more}
+use Rattle.cluster.specs.Cluster.{Cluster, opening, seen, is_well, waiting, WINDOW}
+use Rattle.cluster.specs.Rules.{Act, Input, Puts, Starts, Shows, Works, Replays as ReplaysOne, Records, Counts, Drops, Hears, Collects, Recovers, Obeys, Enters, Restores, Greets, Freezes, Keeps, Thaws, Dies, Opens, May, does, kept_by, Run, after_run}
+use Rattle.cluster.specs.Memory.{receipts, how_many, is_of, counts, taken_since, unsaved, LogHas, ReceiptsAreNew, LogsWait, FewWait}
+use Rattle.cluster.specs.Inside.Agrees.{Beside, world, Agrees}
+use Rattle.cluster.proofs.Worlds.{Lawful}
+use Rattle.cluster.proofs.Facts.{well-is}
+use Rattle.cluster.proofs.Growing.{either-way}
+use Rattle.cluster.proofs.Moment.{kept-is}
+use Rattle.cluster.proofs.Promised.{output-once-node, received-once-node}
+use Rattle.cluster.proofs.Runs.{Holds, run-holds, step-holds, opens-holds}
+
+-- Receipts
+
+-- behind the first k of a history with one message more there is at most that one more
+many-push : (test : Message → Bool) (k : ℕ) (h : List Message) (m : Message) → how_many test (drop k (h ++ m ∷ [])) ≤ (if test m then 1 else 0) + how_many test (drop k h)
+many-push test zero [] m = omega arith
+many-push test zero (x ∷ h) m = let r : how_many test (drop 0 (h ++ m ∷ [])) ≤ (if test m then 1 else 0) + how_many test (drop 0 h) = many-push test zero h m in omega arith
+many-push test (suc k) [] m = nothing k
+  where
+    nothing : (k : ℕ) → how_many test (drop k []) ≤ (if test m then 1 else 0) + 0
+    nothing zero = omega arith
+    nothing (suc k) = omega arith
+many-push test (suc k) (x ∷ h) m = many-push test k h m
+
+-- and of a beginning of it, no more
+many-take : (test : Message → Bool) (k n : ℕ) (h : List Message) → how_many test (drop k (take n h)) ≤ how_many test (drop k h)
+many-take test zero zero [] = omega arith
+many-take test zero (suc n) [] = omega arith
+many-take test (suc k) zero [] = omega arith
+many-take test (suc k) (suc n) [] = omega arith
+many-take test zero zero (x ∷ h) = omega arith
+many-take test (suc k) zero (x ∷ h) = omega arith
+many-take test zero (suc n) (x ∷ h) = let r : how_many test (drop 0 (take n h)) ≤ how_many test (drop 0 h) = many-take test zero n h in omega arith
+many-take test (suc k) (suc n) (x ∷ h) = many-take test k n h
+
+-- behind all there is none
+many-none : (test : Message → Bool) (h : List Message) → how_many test (drop (length h) h) ≡ 0
+many-none test [] = refl
+many-none test (x ∷ h) = many-none test h
+
+module _ (test : Message → Bool) (p : ℕ) (c : Cluster) (b : Beside) (agrees : Agrees c b) (lawful : Lawful (world c b)) (k : ℕ) (h : how_many test (receipts c p) ≤ k) where
+  works : (q : ℕ) (m : Message) (t : Bool) → (p == q) ≡ t → how_many test (drop (c.saved p) (if t then c.history q ++ m ∷ [] else c.history p)) ≤ (if t then (if test m then 1 else 0) + k else k)
+  works q m false e = h
+  works q m true e =
+      let same : p ≡ q = grind (arith, nat_tests) in
+      let P : ℕ → Type 0 = λ j. how_many test (drop (c.saved p) (c.history j ++ m ∷ [])) ≤ (if test m then 1 else 0) + how_many test (receipts c p) in
+      let r : how_many test (drop (c.saved p) (c.history q ++ m ∷ [])) ≤ (if test m then 1 else 0) + how_many test (receipts c p) = subst P same (many-push test (c.saved p) (c.history p) m) in
+      omega arith
+
+  keeps : (q : ℕ) (t : Bool) → (p == q) ≡ t → how_many test (drop (if t then length (c.history q) else c.saved p) (c.history p)) ≤ (if t then 0 else k)
+  keeps q false e = h
+  keeps q true e =
+      let same : p ≡ q = grind (arith, nat_tests) in
+      let P : ℕ → Type 0 = λ j. how_many test (drop (length (c.history j)) (c.history p)) ≤ 0 in
+      let r : how_many test (drop (length (c.history p)) (c.history p)) ≡ 0 = many-none test (c.history p) in
+      subst P same (omega arith)
+
+  recovers : (q n : ℕ) → May c (Recovers q n) → (t : Bool) → (p == q) ≡ t → how_many test (drop (c.saved p) (if t then kept_by c q n else c.history p)) ≤ k
+  recovers q n may false e = h
+  recovers q n may true e =
+      let same : p ≡ q = grind (arith, nat_tests) in
+      let P : ℕ → Type 0 = λ j. how_many test (drop (c.saved p) (take n (c.history j))) ≤ k in
+      let r : how_many test (drop (c.saved p) (take n (c.history p))) ≤ how_many test (receipts c p) = many-take test (c.saved p) n (c.history p) in
+      rw (kept-is c b q n agrees lawful may) (subst P same (omega arith))
+
+  -- each step keeps at most what it may
+  receipts-step : (a : Act) → May c a → how_many test (receipts (does c a) p) ≤ counts test p a k
+  receipts-step (Input d x) may = h
+  receipts-step (Puts q d x) may = h
+  receipts-step (Starts q d i ssn x) may = h
+  receipts-step (Shows q i ssn x) may = h
+  receipts-step (Works q m) may = works q m (p == q) refl
+  receipts-step (ReplaysOne q j) may = either-way (nat_lt (c.saved q + suc j) (length (c.history q))) _ _ (λ v. how_many test (receipts v p) ≤ k) h h
+  receipts-step (Records r s i ssn m) may = h
+  receipts-step (Counts s r i m) may = h
+  receipts-step (Drops d s n) may = h
+  receipts-step (Hears q r i m) may = h
+  receipts-step (Collects q r i j m u f) may = h
+  receipts-step (Recovers q n) may = either-way (nat_lt (c.saved q) n) _ _ (λ v. how_many test (receipts v p) ≤ k) (recovers q n may (p == q) refl) (recovers q n may (p == q) refl)
+  receipts-step (Obeys q r i m s) may = h
+  receipts-step (Enters q r i j n s u f) may = h
+  receipts-step (Restores q r i j n s f) may = h
+  receipts-step (Greets q i j n s f) may = h
+  receipts-step (Freezes q) may = h
+  receipts-step (Keeps q) may = keeps q (p == q) refl
+  receipts-step (Thaws q) may = h
+  receipts-step (Dies q) may = h
+  receipts-step (Opens q n) may = h
+
+-- and so each run
+receipts-run : (test : Message → Bool) (p : ℕ) (c : Cluster) (acts : List Act) → c.count ≤ 15 → Holds c → Run c acts → (k : ℕ) → how_many test (receipts c p) ≤ k → how_many test (receipts (after_run c acts) p) ≤ taken_since test p k acts
+receipts-run test p c [] n h r k l = l
+receipts-run test p c (a ∷ acts) n h r k l = let s = step-holds c a n h r.0 in receipts-run test p (does c a) acts s.1 s.0 r.1 (counts test p a k) (receipts-step test p c h.beside h.agrees h.lawful k l a r.0)
+
+pub receipts-are-new : ReceiptsAreNew
+receipts-are-new n f acts p test l g r = receipts-run test p (opening n f) acts l (opens-holds n f g) r 0 (omega arith)
+
+-- Logs
+
+-- as many payloads as messages
+pub count-payloads : (p : ℕ) (h : List Message) → length (payloads_of p h) ≡ count_of p h
+count-payloads p [] = refl
+count-payloads p (m ∷ h) = split (m.sender == p) (count-payloads p h)
+  where
+    split : (b : Bool) → length (payloads_of p h) ≡ count_of p h → length (if b then m.payload ∷ payloads_of p h else payloads_of p h) ≡ (if b then 1 else 0) + count_of p h
+    split true e = omega arith
+    split false e = omega arith
+
+-- the messages of a sender among the first k, and those behind them
+count-parts : (s k : ℕ) (h : List Message) → count_of s h ≡ count_of s (take k h) + how_many (is_of s) (drop k h)
+count-parts s zero [] = refl
+count-parts s (suc k) [] = refl
+count-parts s zero (m ∷ h) = let r : count_of s h ≡ count_of s (take 0 h) + how_many (is_of s) (drop 0 h) = count-parts s zero h in let z : count_of s (take 0 h) ≡ 0 = none h in omega arith
+  where
+    none : (h : List Message) → count_of s (take 0 h) ≡ 0
+    none [] = refl
+    none (x ∷ h) = refl
+count-parts s (suc k) (m ∷ h) = let r : count_of s h ≡ count_of s (take k h) + how_many (is_of s) (drop k h) = count-parts s k h in omega arith
+
+-- a node has no more of its history in its state than all
+within-history : (x : Phase) (h : List Message) (saved : ℕ) → saved ≤ length h → Replays saved (length h) x → length_in h saved x ≤ length h
+within-history Up h saved l r = omega arith
+within-history (Busy m) h saved l r = omega arith
+within-history Down h saved l r = l
+within-history (Replaying j working alone) h saved l r = omega arith
+within-history (Resync todo) h saved l r = omega arith
+
+module _ (c : Cluster) (b : Beside) (agrees : Agrees c b) (lawful : Lawful (world c b)) where
+  -- what anyone took was sent
+  pub taken-sent : (p d : ℕ) → count_of p (if d == 0 then c.shown else c.history d) ≤ sent_in_all (seen c) p d
+  taken-sent p d = split (d == 0) refl
+    where
+      split : (t : Bool) → (d == 0) ≡ t → count_of p (if t then c.shown else c.history d) ≤ sent_in_all (seen c) p d
+      split true e =
+          let z : 0 ≡ d = grind (arith, nat_tests) in
+          let P : ℕ → Type 0 = λ j. count_of p c.shown ≤ sent_in_all (seen c) p j in
+          let l : length (payloads_of p c.shown) ≤ sent_in_all (seen c) p 0 = begins-length _ _ (output-once-node c b agrees lawful p) in
+          let q : length (payloads_of p c.shown) ≡ count_of p c.shown = count-payloads p c.shown in
+          subst P z (omega arith)
+      split false e =
+          let l : length (payloads_of p (c.history d)) ≤ sent_in_all (seen c) p d = begins-length _ _ ((received-once-node c b agrees lawful).order p d) in
+          let q : length (payloads_of p (c.history d)) ≡ count_of p (c.history d) = count-payloads p (c.history d) in
+          omega arith
+
+  -- what anyone took it has for good, or took since its checkpoint
+  pub taken-parts : (p d : ℕ) → count_of p (if d == 0 then c.shown else c.history d) ≡ covered (seen c) p d + unsaved c p d
+  taken-parts p d = split (d == 0)
+    where
+      split : (t : Bool) → count_of p (if t then c.shown else c.history d) ≡ count_of p (if t then c.shown else take (c.saved d) (c.history d)) + (if t then 0 else how_many (is_of p) (receipts c d))
+      split true = omega arith
+      split false = count-parts p (c.saved d) (c.history d)
+
+  -- one that is up has sent all that its history sends
+  pub well-sent : (p d : ℕ) → is_well c p ≡ true → length (sent (seen c) p d) ≡ sent_in_all (seen c) p d
+  well-sent p d w =
+      let n : length_in (c.history p) (c.saved p) (c.phase p) ≡ length (c.history p) = up-length (c.phase p) (well-is c p w).2 (c.history p) (c.saved p) in
+      rw n (rw (take-all (c.history p)) refl)
+
+  log-has : (p d : ℕ) → LogHas c p d
+  log-has p d =
+      let trimmed : c.trims p d ≤ covered (seen c) p d = agrees.trimmed.trimmed p d in
+      let parts : count_of p (if d == 0 then c.shown else c.history d) ≡ covered (seen c) p d + unsaved c p d = taken-parts p d in
+      let all : count_of p (if d == 0 then c.shown else c.history d) ≤ sent_in_all (seen c) p d = taken-sent p d in
+      let few : length (sent (seen c) p d) ≤ sent_in_all (seen c) p d = so-far in
+      record { most = omega arith; whole = λ w. let e : length (sent (seen c) p d) ≡ sent_in_all (seen c) p d = well-sent p d w in omega arith }
+    where
+      so-far : length (sent (seen c) p d) ≤ sent_in_all (seen c) p d
+      so-far =
+          let l : length_in (c.history p) (c.saved p) (c.phase p) ≤ length (c.history p) = within-history (c.phase p) (c.history p) (c.saved p) (lawful.sound.saved p) (lawful.sound.replays p) in
+          let P : List Message → Type 0 = λ h. length (sent (seen c) p d) ≤ length (payloads (seen c) p h d) in
+          subst P (take-all (c.history p)) (sent-more (seen c) lawful.sound.grows p (c.history p) d _ _ l)
+
+  few-wait : (p : ℕ) → (0 < p) × (p ≤ c.count) → waiting c p ≤ WINDOW
+  few-wait p i = let l : waiting c p + one_if (is_busy (c.phase p)) ≤ WINDOW = agrees.wired.window p i in omega arith
+
+pub logs-wait : LogsWait
+logs-wait n f acts p d l g r = let h = run-holds n f acts l g r in log-has _ h.beside h.agrees h.lawful p d
+
+pub few-numbers-wait : FewWait
+few-numbers-wait n f acts p l g r i = let h = run-holds n f acts l g r in few-wait _ h.beside h.agrees h.lawful p i
