@@ -1,0 +1,144 @@
+-- The whole rules: nodes that meet while they come back say so, and each node tells whether it is exact
+use Rattle.std.specs.Prelude.{◌≡◌, ◌⊎◌, ℕ, ◌≤◌, List, [], ◌∷◌, Some, None, Bool, true, false, not, ◌&&◌}
+use Rattle.world.specs.Handlers.{Handlers}
+use Rattle.world.specs.World.{put}
+use Rattle.theorems.specs.Growth.{Grows}
+use Rattle.cluster.specs.Parcels.{Body, Told, Restored, Parcel, parcel}
+use Rattle.cluster.specs.Cluster.{Cluster, opening}
+use Rattle.cluster.specs.Rules.{Act, Puts, Hears, Collects, Enters, Restores, Greets, Opens, May, does, put2, Run, after_run}
+use Rattle.cluster.specs.Promises.{NoOrphanNode, OutputOnce, ReceivedOnce}
+use Rattle.durable.specs.Meeting.{Deed, Acts, Meets, Loses, Leaves, Might, goes, Deeds, after_deeds}
+
+-- a packet of Told or Restored says two things more: whether its teller is exact, and whether what it had is lost
+pub record Flagged : Type 0 where
+  pub packet : Parcel
+  pub exact : Bool
+  pub lost : Bool
+
+abbrev pub flagged : Parcel → Bool → Bool → Flagged
+flagged x exact lost = record { packet = x; exact = exact; lost = lost }
+
+-- these packets said this
+abbrev pub Said : Flagged → List Flagged → Type 0
+Said x [] = ⊥
+Said x (y ∷ ys) = (x ≡ y) ⊎ Said x ys
+
+-- a cluster, and what its nodes know of meetings
+pub record Telling : Type 0 where
+  pub cluster : Cluster
+  -- in memory: whether it is exact, as far as it knows; and by peer, whether that one told that what it had is lost
+  pub exact : ℕ → Bool
+  pub lost : ℕ → ℕ → Bool
+  -- what packets said that were ever put out
+  pub said : List Flagged
+
+abbrev pub starts : ℕ → Handlers → Telling
+starts n f = record { cluster = opening n f; exact = λ _. true; lost = λ _ _. false; said = [] }
+
+-- what may happen
+pub data Step : Type 0 where
+  -- an act of nodes that don't meet. If it is that a packet of Told or Restored is taken, that one says whether its teller is exact, and
+  -- whether what it had is lost
+  Takes : Bool → Bool → Act → Step
+  -- q, p, incarnation, number: q, which comes back itself, hears a newer Ask of p, and isn't exact any more
+  Meeting : ℕ → ℕ → ℕ → ℕ → Step
+  -- q, p, incarnations of p and of q, number: q comes back itself, and tells p that what it had for it is lost
+  Losing : ℕ → ℕ → ℕ → ℕ → ℕ → Step
+  -- p, q: p doesn't wait for what q has of it, since q told it so
+  Leaving : ℕ → ℕ → Step
+
+-- the packet that an act takes said this
+abbrev pub Says : Telling → Bool → Bool → Act → Type 0
+Says s exact lost (Collects q p i j k u f) = Said (flagged (parcel q p (Told i j k u f)) exact lost) s.said
+Says s exact lost (Enters q p i j n r u f) = Said (flagged (parcel q p (Restored i j n r (Some u) f)) exact lost) s.said
+Says s exact lost (Restores q p i j n r f) = Said (flagged (parcel q p (Restored i j n r None f)) exact lost) s.said
+Says s exact lost (Greets p i j n r f) = Said (flagged (parcel 0 p (Restored i j n r None f)) exact lost) s.said
+Says s exact lost a = Unit {0}
+
+-- the conditions of each
+abbrev pub MayStep : Telling → Step → Type 0
+MayStep s (Takes exact lost a) = May s.cluster a × Says s exact lost a
+MayStep s (Meeting q p i k) = Might s.cluster (Meets q p i k)
+MayStep s (Losing q p i j k) = Might s.cluster (Loses q p i j k)
+MayStep s (Leaving p q) = Might s.cluster (Leaves p q) × (s.lost p q ≡ true)
+
+-- who is exact after an act. A node that is opened again has forgotten that it wasn't
+abbrev pub exact_after : (ℕ → Bool) → Bool → Bool → Act → ℕ → Bool
+exact_after f exact lost (Collects q p i j k u g) = put f p (f p && (exact && not lost))
+exact_after f exact lost (Enters q p i j n r u g) = put f p (f p && exact)
+exact_after f exact lost (Restores q p i j n r g) = put f p (f p && exact)
+exact_after f exact lost (Greets p i j n r g) = put f p (f p && exact)
+exact_after f exact lost (Opens p n) = put f p true
+exact_after f exact lost a = f
+
+-- and of whom it was told that what he had is lost. One that asks anew has been told nothing
+abbrev pub lost_after : (ℕ → ℕ → Bool) → Bool → Act → ℕ → ℕ → Bool
+lost_after f lost (Collects q p i j k u g) = put2 f p q lost
+lost_after f lost (Hears p q i k) = put2 f q p false
+lost_after f lost (Opens p n) = put f p (λ _. false)
+lost_after f lost a = f
+
+-- what is said by a packet that is put out
+abbrev pub also_said : Telling → ℕ → ℕ → Body → List Flagged
+also_said s p d (Told i j k u f) = flagged (parcel p d (Told i j k u f)) (s.exact p) false ∷ s.said
+also_said s p d (Restored i j n r u f) = flagged (parcel p d (Restored i j n r u f)) (s.exact p) false ∷ s.said
+also_said s p d x = s.said
+
+abbrev pub said_after : Telling → Act → List Flagged
+said_after s (Puts p d x) = also_said s p d x
+said_after s a = s.said
+
+-- what each leaves
+abbrev pub step : Telling → Step → Telling
+step s (Takes exact lost a) = record { cluster = does s.cluster a; exact = exact_after s.exact exact lost a; lost = lost_after s.lost lost a; said = said_after s a }
+step s (Meeting q p i k) = record s { cluster = goes s.cluster (Meets q p i k); exact = put s.exact q false }
+step s (Losing q p i j k) = record s { cluster = goes s.cluster (Loses q p i j k); said = flagged (parcel q p (Told i j k None (λ _. None))) false true ∷ s.said }
+step s (Leaving p q) = record s { cluster = goes s.cluster (Leaves p q) }
+
+-- a run: one step after another, each as it may be
+abbrev pub Steps : Telling → List Step → Type 0
+Steps s [] = Unit {0}
+Steps s (x ∷ xs) = MayStep s x × Steps (step s x) xs
+
+abbrev pub after_steps : Telling → List Step → Telling
+after_steps s [] = s
+after_steps s (x ∷ xs) = after_steps (step s x) xs
+
+-- along it no node was ever not exact
+abbrev pub AlwaysExact : Telling → List Step → Type 0
+AlwaysExact s [] = (p : ℕ) → s.exact p ≡ true
+AlwaysExact s (x ∷ xs) = ((p : ℕ) → s.exact p ≡ true) × AlwaysExact (step s x) xs
+
+-- the acts of a run in which nodes don't meet
+abbrev pub acts_of : List Step → List Act
+acts_of [] = []
+acts_of (Takes exact lost a ∷ xs) = a ∷ acts_of xs
+acts_of (Meeting q p i k ∷ xs) = acts_of xs
+acts_of (Losing q p i j k ∷ xs) = acts_of xs
+acts_of (Leaving p q ∷ xs) = acts_of xs
+
+-- and the deeds of any
+abbrev pub deeds_of : List Step → List Deed
+deeds_of [] = []
+deeds_of (Takes exact lost a ∷ xs) = Acts a ∷ deeds_of xs
+deeds_of (Meeting q p i k ∷ xs) = Meets q p i k ∷ deeds_of xs
+deeds_of (Losing q p i j k ∷ xs) = Loses q p i j k ∷ deeds_of xs
+deeds_of (Leaving p q ∷ xs) = Leaves p q ∷ deeds_of xs
+
+-- each run is one of deeds of nodes none of which is durable: so it keeps what these keep whatever fails
+abbrev pub StepsAreDeeds : Type 0
+StepsAreDeeds = (n : ℕ) (f : Handlers) (xs : List Step) → Steps (starts n f) xs
+    → Deeds (λ _. false) (opening n f) (deeds_of xs) × (after_deeds (λ _. false) (opening n f) (deeds_of xs) ≡ (after_steps (starts n f) xs).cluster)
+
+-- these acts are a run of nodes that don't meet, and lead where the steps lead, but for packets that say that something is lost
+abbrev pub IsRunOf : ℕ → Handlers → List Act → Cluster → Type 0
+IsRunOf n f acts c = record { run : Run (opening n f) acts; same : after_run (opening n f) acts ≡ record c { parcels = (after_run (opening n f) acts).parcels } }
+
+-- so is each run in which no node was ever not exact, of nodes none of which is durable
+abbrev pub ExactRunsDontMeet : Type 0
+ExactRunsDontMeet = (n : ℕ) (f : Handlers) (xs : List Step) → Steps (starts n f) xs → AlwaysExact (starts n f) xs → IsRunOf n f (acts_of xs) (after_steps (starts n f) xs).cluster
+
+-- and so it is promised what these are promised
+abbrev pub ExactRunsKeep : Type 0
+ExactRunsKeep = (n : ℕ) (f : Handlers) (xs : List Step) → n ≤ 15 → Grows f → Steps (starts n f) xs → AlwaysExact (starts n f) xs
+    → NoOrphanNode (after_steps (starts n f) xs).cluster × OutputOnce (after_steps (starts n f) xs).cluster × ReceivedOnce (after_steps (starts n f) xs).cluster
