@@ -9,10 +9,13 @@ pub record GoesOn (before after : TheSeat) : Type 0 where
   pub worker : after.worker ≡ before.worker
   pub answered : before.answered ≤ after.answered
 
--- a worker's share: its seat, gone on. Its end is the budget's only where that many calls of it were accepted
+-- a worker's share: its seat, gone on. Its end is the budget's only where that many calls of it were accepted. A turn that is begun is
+-- made whole, so there may be two calls more; none is begun where the budget is none
 pub record IsServed {L : Type 0} (budget : ℕ) (seat : TheSeat) (share : Share L) : Type 0 where
   pub seat_is : GoesOn seat share.seat
   pub spent : share.end ≡ Budget → seat.answered + budget ≤ share.seat.answered
+  pub most : share.seat.answered ≤ seat.answered + budget + 2
+  pub none : budget ≡ 0 → share.seat.answered ≡ seat.answered
 
 -- a share of each of these seats, in their order
 abbrev pub AreServed : {L : Type 0} → ℕ → List TheSeat → List (Share L) → Type 0

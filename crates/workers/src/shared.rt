@@ -1,6 +1,6 @@
 //! What workers share.
 
-ghost use Rattle.std.specs.Prelude.{◌≡◌, true, length, drop};
+ghost use Rattle.std.specs.Prelude.{◌≡◌, ◌+◌, ◌≤◌, true, length, drop};
 ghost use Rattle.sessions.specs.Journal.{TheSession, world_at};
 ghost use Rattle.workers.specs.Continues.{Begins, Continues, are_allowed};
 ghost use Rattle.workers.specs.Shares.{GoesOn};
@@ -26,11 +26,13 @@ pub trait Shared<L: Ledger> {
         doubled: &mut u32,
     ) -> Result<Turn, Refusal>
         ensures seat { GoesOn seat.old seat.new }
+        ensures most { seat.new.answered ≤ seat.old.answered + 2 }
         ensures session { Continues (session self.old) (session self.new) };
 
     /// Takes in the result of a job that a seat started.
     fn take_result(&mut self, seat: &mut Seat<L>, done: Done) -> Result<(), Refusal>
         ensures seat { GoesOn seat.old seat.new }
+        ensures most { seat.new.answered ≤ seat.old.answered + 1 }
         ensures session { Continues (session self.old) (session self.new) };
 }
 

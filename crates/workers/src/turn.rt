@@ -1,6 +1,6 @@
 //! A turn under the lock.
 
-ghost use Rattle.std.specs.Prelude.{◌≡◌};
+ghost use Rattle.std.specs.Prelude.{◌≡◌, ◌+◌, ◌≤◌};
 ghost use Rattle.workers.specs.Continues.{Continues};
 ghost use Rattle.workers.specs.Shares.{GoesOn};
 
@@ -31,6 +31,7 @@ fn take_feed<L: Ledger>(
     doubled: &mut u32,
 ) -> Result<(), Refusal>
     ensures seat { GoesOn seat.old seat.new }
+    ensures most { seat.new.answered ≤ seat.old.answered + 1 }
     ensures session { Continues session.old session.new }
 {
     let Some(feed) = feed else {
@@ -55,6 +56,7 @@ pub(crate) fn take_turn<L: Ledger>(
     doubled: &mut u32,
 ) -> Result<Turn, Refusal>
     ensures seat { GoesOn seat.old seat.new }
+    ensures most { seat.new.answered ≤ seat.old.answered + 2 }
     ensures session { Continues session.old session.new }
 {
     take_feed(session, seat, feed, doubled)?;
@@ -76,6 +78,7 @@ pub(crate) fn finish_job<L: Ledger>(
     done: Done,
 ) -> Result<(), Refusal>
     ensures seat { GoesOn seat.old seat.new }
+    ensures most { seat.new.answered ≤ seat.old.answered + 1 }
     ensures session { Continues session.old session.new }
 {
     match session.finish(seat, done) {

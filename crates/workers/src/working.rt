@@ -120,7 +120,8 @@ fn turn<L: Ledger, S: Shared<L>, R: Wait, G: Turnstile>(
     feed: Option<Feed>,
     doubled: &mut u32,
 ) -> Result<Turn, Refusal>
-    ensures { GoesOn seat.old seat.new }
+    ensures seat { GoesOn seat.old seat.new }
+    ensures most { seat.new.answered ≤ seat.old.answered + 3 }
 {
     let taken = session.lock(rt).take_turn(seat, feed, doubled)?;
     let Turn::Started(job) = taken else {
@@ -138,7 +139,8 @@ fn carry_out<L: Ledger, S: Shared<L>, R: Wait, G: Turnstile>(
     turnstile: &G,
     job: Job,
 ) -> Result<(), Refusal>
-    ensures { GoesOn seat.old seat.new }
+    ensures seat { GoesOn seat.old seat.new }
+    ensures most { seat.new.answered ≤ seat.old.answered + 1 }
 {
     let serial = job.task().serial();
     let done = turnstile.run(job);

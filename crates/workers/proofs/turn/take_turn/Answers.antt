@@ -1,4 +1,6 @@
+use Rattle.std.proofs.Common.{ap, arith}
 use Rattle.sessions.specs.Journal.{room_at, world_at}
+use Rattle.sessions.specs.Seats.{TheSeat}
 use Rattle.sessions.proofs.Driven.{may-pick}
 use Rattle.workers.specs.Continues.{Continues}
 use Rattle.workers.proofs.Continuing.{continues-one, continues-then}
@@ -12,3 +14,6 @@ returns-clause-session g c =
     let may = may-pick (world_at fed) (room_at fed) 1 call c.in-Some.ensures.some in
     let one : Continues fed c.make.new.self = continues-one fed c.make.new.self c.take_feed.new.seat c.make.new.by call made.0 made.1 may in
     continues-then c.args.session.now fed c.make.new.self c.in_ok-take_feed.ensures.session one
+
+pub returns-clause-most : goal.returns-clause-most
+returns-clause-most g c = omega (arith, ap (λ (s : TheSeat). s.answered) c.in_ok-started.ensures.makes.1.2, c.in_ok-take_feed.ensures.most)
