@@ -1,4 +1,4 @@
-//! Images of which a bit is changed.
+//! Images of which a byte is changed, and beginnings of them.
 
 ghost use Rattle.std.specs.Prelude.{◌≡◌, length};
 ghost use Rattle.interp.specs.Configuration.{IsLong};
@@ -75,14 +75,15 @@ impl Digest {
     }
 }
 
-/// The digest of what becomes of a file with each of its bits changed, the lowest bit of a byte first.
-fn changed_bits(alloc: Global, file: &[u8]) -> Result<u64, Fail> {
+/// The digest of what becomes of a file with each of its bytes changed to each other value, whose
+/// difference from the old one ascends.
+fn changed_bytes(alloc: Global, file: &[u8]) -> Result<u64, Fail> {
     let mut digest = Digest(0);
     let mut changed = Vec::from_slice(alloc, file)?;
     for (place, byte) in file.iter().enumerate() {
-        for bit in [1, 2, 4, 8, 16, 32, 64, 128] {
+        for difference in 1..=u8::MAX {
             if let Some(here) = changed.get_mut(place) {
-                *here = *byte ^ bit;
+                *here = *byte ^ difference;
             }
             digest.take_file(alloc, &changed)?;
         }
@@ -93,16 +94,35 @@ fn changed_bits(alloc: Global, file: &[u8]) -> Result<u64, Fail> {
     Ok(digest.0)
 }
 
+/// The digest of what becomes of each beginning of a file.
+fn beginnings(alloc: Global, file: &[u8]) -> Result<u64, Fail> {
+    let mut digest = Digest(0);
+    for size in 0..file.len() {
+        digest.take_file(alloc, &file[..size])?;
+    }
+    Ok(digest.0)
+}
+
 // The digests are those of a slow verifier and interpreter that share no code with these.
 #[test]
-fn a_bit_is_changed(rt: HostRuntime) -> Result<(), Fail> {
+fn a_byte_is_changed(rt: HostRuntime) -> Result<(), Fail> {
     assert_eq!(rt;
-        changed_bits(rt.alloc(), &FIRST_FORM)?,
-        0xc6a5_8c45_f348_6749
+        changed_bytes(rt.alloc(), &FIRST_FORM)?,
+        0x5b46_eb05_63a0_2abe
     );
     assert_eq!(rt;
-        changed_bits(rt.alloc(), &SECOND_FORM)?,
-        0x7037_c024_fbd5_416a
+        changed_bytes(rt.alloc(), &SECOND_FORM)?,
+        0x724b_ed0a_63f7_704f
+    );
+    Ok(())
+}
+
+#[test]
+fn a_file_is_cut_off(rt: HostRuntime) -> Result<(), Fail> {
+    assert_eq!(rt; beginnings(rt.alloc(), &FIRST_FORM)?, 0xc80a_e947_4105_7ee0);
+    assert_eq!(rt;
+        beginnings(rt.alloc(), &SECOND_FORM)?,
+        0xc271_ec65_a143_77e0
     );
     Ok(())
 }
