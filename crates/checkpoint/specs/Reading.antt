@@ -1,8 +1,9 @@
 -- Reading a checkpoint from left to right, with the first fault that is met. A field is a value and the bytes after it.
-use Rattle.std.specs.Prelude.{◌≡◌, ℕ, zero, suc, ◌-◌, List, [], ◌∷◌, length, take, drop, Result, Ok, Err, nat_lt, nat_eq, ◌==◌, ◌||◌, if◌then◌else◌}
+use Rattle.std.specs.Prelude.{◌≡◌, ℕ, zero, suc, ◌+◌, ◌-◌, List, [], ◌∷◌, length, take, drop, Result, Ok, Err, nat_lt, nat_eq, ◌==◌, ◌||◌, if◌then◌else◌}
 use Rattle.std.specs.Int.{Width, w16, w32, byte_len, from_le_bytes}
 use Rattle.std.specs.List.{list_all, insert}
 use Rattle.std.specs.Cmp.Lexicographic.{pointwise}
+use Rattle.limits.specs.declared.TheConstants.{PAYLOAD_BYTES, PROCESSES, RECEIPTS, SENDS, STATE_BYTES}
 use Rattle.checkpoint.specs.declared.form.Form.{Form}
 use Rattle.checkpoint.specs.declared.form.Form.TheVariants.{First, Second}
 use Rattle.checkpoint.specs.declared.fault.SavedFault.{SavedFault}
@@ -65,7 +66,7 @@ senders_at me count received bytes = do
 unfoldable pub payload_at : Form → List ℕ → Result (List ℕ × List ℕ) SavedFault
 payload_at First bytes = bytes_at 64 bytes
 payload_at Second bytes = do
-  len ← number_at w16 0 256 bytes
+  len ← number_at w16 0 PAYLOAD_BYTES bytes
   bytes_at len.0 len.1
 
 -- so many fields of a kind
@@ -79,8 +80,8 @@ times field (suc n) bytes = do
 -- what is kept for one destination
 unfoldable pub kept_at : Form → List ℕ → Result (TheKept × List ℕ) SavedFault
 kept_at form bytes = do
-  first ← number_at w32 1 524289 bytes
-  count ← number_at w32 0 (524289 - first.0) first.1
+  first ← number_at w32 1 (SENDS + 1) bytes
+  count ← number_at w32 0 (SENDS + 1 - first.0) first.1
   payloads ← times (payload_at form) count.0 count.1
   Ok (record { first = first.0; payloads = payloads.0 }, payloads.1)
 
@@ -90,10 +91,10 @@ kept_at form bytes = do
 unfoldable pub head_at : List ℕ → Result (Head × List ℕ) SavedFault
 head_at bytes = do
   form ← form_at bytes
-  state ← number_at w16 0 1024 form.1
-  count ← byte_at 1 15 state.1
+  state ← number_at w16 0 STATE_BYTES form.1
+  count ← byte_at 1 PROCESSES state.1
   me ← byte_at 1 count.0 count.1
-  received ← number_at w32 0 65536 me.1
+  received ← number_at w32 0 RECEIPTS me.1
   Ok (record { form = form.0; state = state.0; count = count.0; me = me.0; received = received.0 }, received.1)
 
 -- the state, the receipts, and what is kept for each number but the own one, for which it is nothing

@@ -1,6 +1,7 @@
 -- What clauses see of a saved process
 use Rattle.std.specs.Prelude.{◌≡◌, ℕ, ◌+◌, ◌≤◌, List, [], length, map, replicate, slice_index_or, Bool, true, not, ◌==◌, ◌&&◌, nat_le, None}
 use Rattle.std.specs.List.{AllByRecursion, list_all}
+use Rattle.limits.specs.declared.TheConstants.{PAYLOAD_BYTES, PROCESSES, RECEIPTS, SENDS, STATE_BYTES}
 use Rattle.rsn.specs.Receipts.{Received}
 use Rattle.sender_log.specs.Queue.{TheQueue}
 use Rattle.sender_log.specs.Log.{TheLog}
@@ -31,12 +32,12 @@ pub record TheSaved : Type 0 where
 -- how many bytes a payload of a form can have
 abbrev pub PayloadFits : Form → List ℕ → Type 0
 PayloadFits First payload = length payload ≡ 64
-PayloadFits Second payload = length payload ≤ 256
+PayloadFits Second payload = length payload ≤ PAYLOAD_BYTES
 
--- SSNs are at most 524,288
+-- SSNs are at most SENDS
 pub record KeptFits (form : Form) (kept : TheKept) : Type 0 where
   pub least : 1 ≤ kept.first
-  pub bound : kept.first + length kept.payloads ≤ 524289
+  pub bound : kept.first + length kept.payloads ≤ SENDS + 1
   pub payloads : AllByRecursion (PayloadFits form) kept.payloads
 
 -- 0, the outside, and each other process can send
@@ -46,11 +47,11 @@ is_sender me count s = nat_le s count && not (s == me)
 -- what can be saved in a form
 pub record Fits (form : Form) (s : TheSaved) : Type 0 where
   pub some : 1 ≤ s.count
-  pub few : s.count ≤ 15
+  pub few : s.count ≤ PROCESSES
   pub least : 1 ≤ s.me
   pub own : s.me ≤ s.count
-  pub state : length s.state ≤ 1024
-  pub received : length s.senders ≤ 65536
+  pub state : length s.state ≤ STATE_BYTES
+  pub received : length s.senders ≤ RECEIPTS
   pub senders : list_all (is_sender s.me s.count) s.senders ≡ true
   pub queues : length s.queues ≡ s.count + 1
   pub nothing : slice_index_or s.queues s.me nothing_kept ≡ nothing_kept

@@ -9,9 +9,8 @@ ghost use Rattle.checkpoint.specs.Reading.{Gives, bytes_at, byte_at, number_at, 
 
 use crate::fault::{SavedError, SavedFault};
 use crate::form::Form;
-use crate::saved::{COUNT_LIMIT, RECEIPT_LIMIT, STATE_LIMIT};
 use byteorder::{ByteOrder, LittleEndian};
-use helpers::PAYLOAD_LIMIT;
+use limits::{PAYLOAD_BYTES, PROCESSES, RECEIPTS, STATE_BYTES};
 use std::alloc::Global;
 
 /// The first fields of a checkpoint.
@@ -104,10 +103,10 @@ pub fn head_of(bytes: &[u8]) -> Result<(Head, &[u8]), SavedError>
     ensures fits { IfOk result (λ x. HeadFits x.0) }
 {
     let (form, rest) = form_of(bytes)?;
-    let (state, rest) = u16_of(0, STATE_LIMIT, rest)?;
-    let (count, rest) = byte_of(1, COUNT_LIMIT, rest)?;
+    let (state, rest) = u16_of(0, STATE_BYTES as u16, rest)?;
+    let (count, rest) = byte_of(1, PROCESSES as u8, rest)?;
     let (me, rest) = byte_of(1, count, rest)?;
-    let (received, rest) = u32_of(0, RECEIPT_LIMIT, rest)?;
+    let (received, rest) = u32_of(0, RECEIPTS as u32, rest)?;
     let head = Head {
         form,
         state,
@@ -145,12 +144,12 @@ fn are_senders(head: Head, senders: &[u8]) -> bool
 #[tactic(auto, unfolding(crate::specs::Reading::payload_at))]
 pub fn payload_of(form: Form, bytes: &[u8]) -> Result<(&[u8], &[u8]), SavedError>
     ensures exact { Gives (λ x. (x.0.now, x.1.now)) result (payload_at form bytes.now) }
-    ensures bound { IfOk result (λ x. length x.0.now ≤ 256) }
+    ensures bound { IfOk result (λ x. length x.0.now ≤ PAYLOAD_BYTES) }
 {
     match form {
         Form::First => bytes_of(FIRST_PAYLOAD, bytes),
         Form::Second => {
-            let (len, rest) = u16_of(0, PAYLOAD_LIMIT as u16, bytes)?;
+            let (len, rest) = u16_of(0, PAYLOAD_BYTES as u16, bytes)?;
             bytes_of(len as usize, rest)
         }
     }

@@ -37,6 +37,6 @@ pub use fault::{SavedError, SavedFault};
 pub use laws::{one_checkpoint, there_and_back, too_long, too_short};
 pub use migrating::migrate;
 pub use reading::decode;
-pub use saved::{COUNT_LIMIT, RECEIPT_LIMIT, STATE_LIMIT, Saved};
+pub use saved::Saved;
 pub use stored::Stored;
 pub use writing::encode;

@@ -7,6 +7,7 @@ ghost use Rattle.checkpoint.specs.Saved.{PayloadFits};
 ghost use Rattle.checkpoint.specs.Format.{payload_bytes};
 
 use crate::writing::put_payload;
+use limits::PAYLOAD_BYTES;
 use std::alloc::{AllocError, Global};
 use std::marker::Model;
 
@@ -51,7 +52,7 @@ impl Payloads {
 
     /// Appends a payload. A refusal changes nothing.
     pub fn push(&mut self, payload: &[u8]) -> Result<(), AllocError>
-        requires short { length payload.now ≤ 256 }
+        requires short { length payload.now ≤ PAYLOAD_BYTES }
         requires few { length self.old < 4294967295 }
         ensures ok { OnOk result (self.new ≡ self.old ++ payload.now ∷ []) }
         ensures err { OnErr result (self.new ≡ self.old) }

@@ -15,7 +15,7 @@ use crate::form::Form;
 use crate::kept::Kept;
 use crate::payloads::Payloads;
 use crate::saved::Saved;
-use sender_log::LIMIT;
+use limits::SENDS;
 use std::alloc::Global;
 
 /// The saved process of a checkpoint, in either form. The first fault is named, in the order of
@@ -89,8 +89,8 @@ fn kept_of(alloc: Global, form: Form, bytes: &[u8]) -> Result<(Kept, &[u8]), Sav
     ensures exact { Gives (λ x. (x.0, x.1.now)) result (kept_at form bytes.now) }
     ensures fits { IfOk result (λ x. KeptFits Second x.0) }
 {
-    let (first, rest) = u32_of(1, LIMIT + 1, bytes)?;
-    let (count, rest) = u32_of(0, LIMIT + 1 - first, rest)?;
+    let (first, rest) = u32_of(1, SENDS as u32 + 1, bytes)?;
+    let (count, rest) = u32_of(0, SENDS as u32 + 1 - first, rest)?;
     let (payloads, rest) = payloads_of(alloc, form, count, rest)?;
     Ok((Kept::new(first, payloads), rest))
 }

@@ -7,19 +7,11 @@ ghost use Rattle.checkpoint.specs.Saved.{nothing_kept, KeptFits, Fits, is_sender
 ghost use Rattle.sender_log.specs.Log.{queue_of};
 
 use crate::kept::Kept;
+use limits::{PROCESSES, RECEIPTS, STATE_BYTES};
 use rsn::Receipts;
 use sender_log::Log;
 use std::alloc::{AllocError, Global};
 use std::marker::Model;
-
-/// The most bytes of a state.
-pub const STATE_LIMIT: u16 = 1024;
-
-/// The most processes that there can be.
-pub const COUNT_LIMIT: u8 = 15;
-
-/// The most messages that can have been received.
-pub const RECEIPT_LIMIT: u32 = 65_536;
 
 /// A process as it was when it was saved.
 #[derive(Drop)]
@@ -54,8 +46,8 @@ impl Saved {
         log: &Log,
     ) -> Result<Saved, AllocError>
         requires own { (1 ≤ me) × (me ≤ n) }
-        requires count { n ≤ 15 }
-        requires state { length state.now ≤ 1024 }
+        requires count { n ≤ PROCESSES }
+        requires state { length state.now ≤ STATE_BYTES }
         requires senders { list_all (is_sender me n) receipts.now.senders ≡ true }
         requires owner { log.now.owner ≡ me }
         requires queues { length log.now.queues ≡ n + 1 }
@@ -163,7 +155,7 @@ impl Saved {
 /// The senders of all messages that were received.
 fn senders_of(alloc: Global, receipts: &Receipts) -> Result<Vec<u8>, AllocError>
     ensures items { IfOk result (λ v. v.items ≡ receipts.now.senders) }
-    ensures bound { length receipts.now.senders ≤ 65536 }
+    ensures bound { length receipts.now.senders ≤ RECEIPTS }
 {
     let count = receipts.length();
     let mut senders = Vec::with_capacity(alloc, count as usize)?;
@@ -175,7 +167,7 @@ fn senders_of(alloc: Global, receipts: &Receipts) -> Result<Vec<u8>, AllocError>
 
 /// What a log keeps for 0, 1, .. n.
 fn queues_of(alloc: Global, n: u8, log: &Log) -> Result<Vec<Kept>, AllocError>
-    requires count { n ≤ 15 }
+    requires count { n ≤ PROCESSES }
     requires queues { length log.now.queues ≡ n + 1 }
     ensures items { IfOk result (λ v. v.items ≡ map kept_of log.now.queues) }
     ensures own { kept_of (queue_of log.now.owner log.now) ≡ nothing_kept }

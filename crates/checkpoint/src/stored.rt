@@ -9,6 +9,7 @@ use crate::fault::SavedError;
 use crate::reading::decode;
 use crate::saved::Saved;
 use crate::writing::encode;
+use limits::RECEIPTS;
 use rsn::Receipts;
 use sender_log::Log;
 use std::alloc::{AllocError, Global};
@@ -69,7 +70,7 @@ impl Stored {
     /// How many messages had been received, 0 to 65,536.
     pub fn length(&self) -> u32
         ensures value { result ≡ length self.now.senders }
-        ensures bound { result ≤ 65536 }
+        ensures bound { result ≤ RECEIPTS }
     {
         self.received
     }

@@ -10,6 +10,7 @@ use crate::form::Form;
 use crate::kept::Kept;
 use crate::saved::Saved;
 use byteorder::{ByteOrder, LittleEndian};
+use limits::PAYLOAD_BYTES;
 use std::alloc::{AllocError, Global};
 
 /// The checkpoint of a saved process, in the second form.
@@ -60,7 +61,7 @@ fn put_kept(out: &mut Vec<u8>, kept: &Kept) -> Result<(), AllocError>
 
 /// Appends a payload behind its length. What was there before stays, also at a refusal.
 pub fn put_payload(out: &mut Vec<u8>, payload: &[u8]) -> Result<(), AllocError>
-    requires { length payload.now ≤ 256 }
+    requires { length payload.now ≤ PAYLOAD_BYTES }
     ensures ok { OnOk result (out.new.items ≡ out.old.items ++ payload_bytes Second payload.now) }
     ensures err { OnErr result (take (length out.old.items) out.new.items ≡ out.old.items) }
 {

@@ -1,12 +1,13 @@
 -- The ranges of a file's head.
 use Rattle.std.specs.Prelude.{◌≤◌}
+use Rattle.limits.specs.declared.TheConstants.{PROCESSES, RECEIPTS, STATE_BYTES}
 use Rattle.checkpoint.specs.declared.fields.Head.{Head}
 
 -- the ranges of the first fields of a file
 pub record HeadFits (head : Head) : Type 0 where
-  pub state : head.state ≤ 1024
+  pub state : head.state ≤ STATE_BYTES
   pub some : 1 ≤ head.count
-  pub few : head.count ≤ 15
+  pub few : head.count ≤ PROCESSES
   pub least : 1 ≤ head.me
   pub own : head.me ≤ head.count
-  pub received : head.received ≤ 65536
+  pub received : head.received ≤ RECEIPTS
