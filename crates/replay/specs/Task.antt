@@ -1,5 +1,6 @@
 -- All that a handler call takes, and its answer
 use Rattle.std.specs.Prelude.{◌≡◌, ◌≢◌, ◌≤◌, ℕ, List, [], length, Option, Some, None}
+use Rattle.limits.specs.declared.TheConstants.{PROCESSES}
 use Rattle.helpers.specs.declared.effects.Who.{Who}
 use Rattle.verifier.specs.Typed.{Typed}
 use Rattle.interp.specs.HandlerCall.{Handled, IsHandled, handled_by}
@@ -21,7 +22,7 @@ pub record MayCall (image : Typed) (state : List ℕ) (who : Who) : Type 0 where
   pub state_len : length state ≡ image.len
   pub inside : 1 ≤ who.me
   pub within : who.me ≤ who.count
-  pub few : who.count ≤ 15
+  pub few : who.count ≤ PROCESSES
   pub sender : who.from ≤ who.count
   pub other : who.from ≢ who.me
 

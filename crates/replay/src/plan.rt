@@ -1,9 +1,10 @@
 //! What a recovery replays.
 
-ghost use Rattle.std.specs.Prelude.{◌≡◌, ◌==◌, ◌≤◌, ◌+◌, Some, length};
+ghost use Rattle.std.specs.Prelude.{◌≡◌, ◌==◌, ◌≤◌, ◌+◌, ◌*◌, Some, length};
 ghost use Rattle.replay.specs.Plan.{ThePlan, next_of};
 
 use crate::done::Done;
+use limits::{PARTIES, RECEIPTS, SENDS};
 use std::marker::Model;
 use world::Message;
 
@@ -18,20 +19,21 @@ pub struct Plan {
 }
 
 impl Model for Plan {
-    ghost use Rattle.std.specs.Prelude.{◌≤◌, length};
+    ghost use Rattle.std.specs.Prelude.{◌*◌, ◌≤◌, length};
+    ghost use Rattle.limits.specs.declared.TheConstants.{PARTIES, RECEIPTS, SENDS};
     ghost use Rattle.replay.specs.Plan.{ThePlan};
 
     ghost Value = { ThePlan };
 
     ghost view = { λ p. record { before = p.before; messages = p.messages.items; replayed = p.replayed; probes = p.probes } };
 
-    ghost invariant = { λ p. record { before : p.before ≤ 65536; few : length p.messages.items ≤ 8388608; within : p.replayed ≤ length p.messages.items } };
+    ghost invariant = { λ p. record { before : p.before ≤ RECEIPTS; few : length p.messages.items ≤ PARTIES * SENDS; within : p.replayed ≤ length p.messages.items } };
 }
 
 impl Plan {
     pub(crate) fn new(before: u32, messages: Vec<Message>, probes: u32) -> Plan
-        requires before { before ≤ 65536 }
-        requires few { length messages.items ≤ 8388608 }
+        requires before { before ≤ RECEIPTS }
+        requires few { length messages.items ≤ PARTIES * SENDS }
         ensures { result ≡ record { before = before; messages = messages.items; replayed = 0; probes = probes } }
     {
         Plan {

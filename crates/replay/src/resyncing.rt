@@ -5,6 +5,7 @@ ghost use Rattle.rsn.specs.Receipts.{numbers_of};
 ghost use Rattle.sender_log.specs.Log.{queue_of, with_queue};
 ghost use Rattle.sender_log.specs.Queue.{is_logged, known, number_of, renumbered};
 
+use limits::PARTIES;
 use rsn::Receipts;
 use sender_log::Log;
 use std::alloc::AllocError;
@@ -13,7 +14,7 @@ use std::alloc::AllocError;
 /// received it, by the peer's receipts, and no number where the peer has not. Answers how many got
 /// one. A refusal changes nothing.
 pub fn resync(log: &mut Log, peer: u8, me: u8, receipts: &Receipts) -> Result<u32, AllocError>
-    requires { me < 16 }
+    requires { me < PARTIES }
     ensures count { IfOk result (λ n. n ≡ known (queue_of peer log.new).numbers) }
     ensures numbers { OnOk result ((i : ℕ) → is_logged i (queue_of peer log.old) ≡ true → number_of i (queue_of peer log.new) ≡ slice_get (numbers_of me receipts.now) (i - 1)) }
     ensures ok { OnOk result (log.new ≡ with_queue peer (renumbered (numbers_of me receipts.now) (queue_of peer log.old)) log.old) }
