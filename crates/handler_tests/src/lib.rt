@@ -15,6 +15,8 @@ mod decoding;
 #[cfg(test)]
 mod emitting;
 #[cfg(test)]
+mod greatest;
+#[cfg(test)]
 mod typing;
 #[cfg(test)]
 mod verifying;
