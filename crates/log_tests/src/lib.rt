@@ -4,9 +4,9 @@
 #![tactic(auto)]
 
 #[cfg(test)]
-mod holding;
+mod greatest;
 #[cfg(test)]
-mod limits;
+mod holding;
 #[cfg(test)]
 mod logging;
 #[cfg(test)]

@@ -3,7 +3,7 @@
 
 ghost use Rattle.machine.specs.Stepping.{TakesNoResult};
 
-mod limits;
+mod greatest;
 
 use helpers::Payload;
 use sessions::Service;

@@ -2,8 +2,8 @@ ghost use Rattle.std.specs.Prelude.{◌≡◌};
 
 mod crashing;
 mod driven;
+mod greatest;
 mod lengths;
-mod limits;
 mod messages;
 mod reading;
 mod recovering;
