@@ -1,4 +1,4 @@
-//! Tests of `native`: the machine code of the examples, byte for byte as examples/native keeps it, and that each operation has code.
+//! Tests of `native`: the machine code of the examples, byte for byte as examples/native keeps it, that each operation has code, and the code of the longest images.
 //!
 //! They stand in a crate of their own, as in `handler_tests`.
 #![tactic(auto)]
@@ -7,3 +7,5 @@
 mod compiling;
 #[cfg(test)]
 mod each_operation;
+#[cfg(test)]
+mod greatest;
