@@ -5,8 +5,8 @@ ghost use Rattle.std.specs.Prelude.{◌≡◌, ◌+◌, ◌<◌, ◌≤◌, slic
 ghost use Rattle.std.specs.List.{All};
 ghost use Rattle.send_gate.specs.Gate.{count_to};
 
-use checkpoint::{Saved, decode, encode};
-use replay::{collect, resync};
+use checkpoint::{Saved, Stored, decode, encode, migrate, there_and_back};
+use replay::{collect, collect_from, resync};
 use rsn::{Judgement, Receipts};
 use send_gate::Gate;
 use sender_log::Log;
@@ -123,6 +123,20 @@ fn a_plan_has_65_536_messages(rt: HostRuntime) -> Result<(), Fail> {
     Ok(())
 }
 
+/// One that comes back alone asks its own log and the outside's, which lie apart.
+#[test]
+fn a_plan_from_logs_that_lie_apart(rt: HostRuntime) -> Result<(), Fail> {
+    let outside = Log::new(rt.alloc(), 0, 2)?;
+    let mut own = sent(rt.alloc(), 1, 2, MOST_RECEIVED)?;
+    for rsn in 1..=MOST_RECEIVED {
+        own.record(2, rsn, rsn)?;
+    }
+    let receipts = Receipts::new(rt.alloc(), &[])?;
+    let plan = collect_from(rt.alloc(), &[&outside, &own], 2, &receipts)?;
+    assert_eq!(rt; plan.len(), MOST_RECEIVED);
+    Ok(())
+}
+
 #[test]
 fn a_peer_tells_65_536_numbers(rt: HostRuntime) -> Result<(), Fail> {
     let mut log = sent(rt.alloc(), 1, 2, MOST_RECEIVED)?;
@@ -132,24 +146,24 @@ fn a_peer_tells_65_536_numbers(rt: HostRuntime) -> Result<(), Fail> {
     Ok(())
 }
 
-/// The checkpoint of a process without a state, alone in its session, that keeps as many empty
-/// payloads for the outside as there can be.
-fn fullest(alloc: Global) -> Result<Vec<u8>, Fail> {
-    let mut bytes = Vec::from_slice(alloc, &[0x53, 0x42, 0x43, 0x32, 0, 0, 1, 1, 0, 0, 0, 0])?;
+/// The checkpoint of a process without a state, alone in its session, that keeps as many payloads
+/// for the outside as there can be, each of these bytes.
+fn fullest(alloc: Global, form: u8, payload: &[u8]) -> Result<Vec<u8>, Fail> {
+    let mut bytes = Vec::from_slice(alloc, &[0x53, 0x42, 0x43, form, 0, 0, 1, 1, 0, 0, 0, 0])?;
     bytes.extend_from_slice(&[1, 0, 0, 0, 0, 0, 8, 0])?;
     for _ in 0..MOST_SENT {
-        bytes.extend_from_slice(&[0, 0])?;
+        bytes.extend_from_slice(payload)?;
     }
     Ok(bytes)
 }
 
-#[test]
-fn a_checkpoint_keeps_524_288_messages(rt: HostRuntime) -> Result<(), Fail> {
-    let alloc = rt.alloc();
-    let bytes = fullest(alloc)?;
-    let saved = decode(alloc, &bytes)?;
+/// Whether a checkpoint in the second form is the same, and its log as long as it can be, however it
+/// is kept.
+fn is_kept(alloc: Global, bytes: &[u8]) -> Result<bool, Fail> {
+    let saved = there_and_back(alloc, &decode(alloc, bytes)?)?;
+    let stored = Stored::of(alloc, &saved)?;
     let (receipts, log) = saved.restore(alloc)?;
-    assert_eq!(rt; log.last(0), MOST_SENT);
+    let (_, other) = stored.restore(alloc)?;
     let again = Saved::of(
         alloc,
         saved.me(),
@@ -158,7 +172,30 @@ fn a_checkpoint_keeps_524_288_messages(rt: HostRuntime) -> Result<(), Fail> {
         &receipts,
         &log,
     )?;
-    assert!(rt; encode(alloc, &again)?.as_slice() == bytes.as_slice());
+    Ok(
+        log.last(0) == MOST_SENT
+            && other.last(0) == MOST_SENT
+            && stored.bytes() == bytes
+            && encode(alloc, &again)?.as_slice() == bytes,
+    )
+}
+
+#[test]
+fn a_checkpoint_keeps_524_288_messages(rt: HostRuntime) -> Result<(), Fail> {
+    let bytes = fullest(rt.alloc(), 0x32, &[0, 0])?;
+    assert!(rt; is_kept(rt.alloc(), &bytes)?);
+    Ok(())
+}
+
+/// Of the first form, with payloads of 64 bytes, in which it has no lengths.
+#[test]
+fn a_checkpoint_of_the_first_form_keeps_524_288_messages(rt: HostRuntime) -> Result<(), Fail> {
+    let mut sized = [7; 66];
+    sized[..2].copy_from_slice(&[64, 0]);
+    let first = fullest(rt.alloc(), 0x31, &sized[2..])?;
+    let second = fullest(rt.alloc(), 0x32, &sized)?;
+    assert_eq!(rt; first.len(), 33_554_452);
+    assert!(rt; migrate(rt.alloc(), &first)?.as_slice() == second.as_slice());
     Ok(())
 }
 
