@@ -1,13 +1,14 @@
--- The whole rules: nodes that meet while they come back say so, and each node tells whether it is exact
+-- The whole rules: nodes may be durable, those that meet while they come back say so, and each tells whether it is exact
 use Rattle.std.specs.Prelude.{◌≡◌, ◌⊎◌, ℕ, ◌≤◌, List, [], ◌∷◌, Some, None, Bool, true, false, not, ◌&&◌}
 use Rattle.world.specs.Handlers.{Handlers}
+use Rattle.world.specs.Phases.{is_up}
 use Rattle.world.specs.World.{put}
 use Rattle.theorems.specs.Growth.{Grows}
 use Rattle.cluster.specs.Parcels.{Body, Told, Restored, Parcel, parcel}
 use Rattle.cluster.specs.Cluster.{Cluster, opening}
-use Rattle.cluster.specs.Rules.{Act, Puts, Hears, Collects, Enters, Restores, Greets, Opens, May, does, put2, Run, after_run}
+use Rattle.cluster.specs.Rules.{Act, Puts, Hears, Collects, Enters, Restores, Greets, Opens, May, put2, Run, after_run}
 use Rattle.cluster.specs.Promises.{NoOrphanNode, OutputOnce, ReceivedOnce}
-use Rattle.durable.specs.Meeting.{Deed, Acts, Meets, Loses, Leaves, Might, goes, Deeds, after_deeds}
+use Rattle.durable.specs.Meeting.{Deed, Acts, Meets, Loses, Leaves, Might, steps, Deeds, after_deeds}
 
 -- a packet of Told or Restored says two things more: whether its teller is exact, and whether what it had is lost
 pub record Flagged : Type 0 where
@@ -23,8 +24,10 @@ abbrev pub Said : Flagged → List Flagged → Type 0
 Said x [] = ⊥
 Said x (y ∷ ys) = (x ≡ y) ⊎ Said x ys
 
--- a cluster, and what its nodes know of meetings
+-- a cluster of which some nodes are durable, and what its nodes know of meetings
 pub record Telling : Type 0 where
+  -- which nodes are durable: as they were opened, for good
+  pub durable : ℕ → Bool
   pub cluster : Cluster
   -- in memory: whether it is exact, as far as it knows; and by peer, whether that one told that what it had is lost
   pub exact : ℕ → Bool
@@ -32,8 +35,8 @@ pub record Telling : Type 0 where
   -- what packets said that were ever put out
   pub said : List Flagged
 
-abbrev pub starts : ℕ → Handlers → Telling
-starts n f = record { cluster = opening n f; exact = λ _. true; lost = λ _ _. false; said = [] }
+abbrev pub starts : ℕ → Handlers → (ℕ → Bool) → Telling
+starts n f durable = record { durable = durable; cluster = opening n f; exact = λ _. true; lost = λ _ _. false; said = [] }
 
 -- what may happen
 pub data Step : Type 0 where
@@ -88,12 +91,12 @@ abbrev pub said_after : Telling → Act → List Flagged
 said_after s (Puts p d x) = also_said s p d x
 said_after s a = s.said
 
--- what each leaves
+-- what each leaves: of a durable node only what its durable checkpoint sends is released
 abbrev pub step : Telling → Step → Telling
-step s (Takes exact lost a) = record { cluster = does s.cluster a; exact = exact_after s.exact exact lost a; lost = lost_after s.lost lost a; said = said_after s a }
-step s (Meeting q p i k) = record s { cluster = goes s.cluster (Meets q p i k); exact = put s.exact q false }
-step s (Losing q p i j k) = record s { cluster = goes s.cluster (Loses q p i j k); said = flagged (parcel q p (Told i j k None (λ _. None))) false true ∷ s.said }
-step s (Leaving p q) = record s { cluster = goes s.cluster (Leaves p q) }
+step s (Takes exact lost a) = record { durable = s.durable; cluster = steps s.durable s.cluster (Acts a); exact = exact_after s.exact exact lost a; lost = lost_after s.lost lost a; said = said_after s a }
+step s (Meeting q p i k) = record s { cluster = steps s.durable s.cluster (Meets q p i k); exact = put s.exact q false }
+step s (Losing q p i j k) = record s { cluster = steps s.durable s.cluster (Loses q p i j k); said = flagged (parcel q p (Told i j k None (λ _. None))) false true ∷ s.said }
+step s (Leaving p q) = record s { cluster = steps s.durable s.cluster (Leaves p q) }
 
 -- a run: one step after another, each as it may be
 abbrev pub Steps : Telling → List Step → Type 0
@@ -125,20 +128,28 @@ deeds_of (Meeting q p i k ∷ xs) = Meets q p i k ∷ deeds_of xs
 deeds_of (Losing q p i j k ∷ xs) = Loses q p i j k ∷ deeds_of xs
 deeds_of (Leaving p q ∷ xs) = Leaves p q ∷ deeds_of xs
 
--- each run is one of deeds of nodes none of which is durable: so it keeps what these keep whatever fails
+-- each run is one of such deeds: so it keeps what these keep whatever fails
 abbrev pub StepsAreDeeds : Type 0
-StepsAreDeeds = (n : ℕ) (f : Handlers) (xs : List Step) → Steps (starts n f) xs
-    → Deeds (λ _. false) (opening n f) (deeds_of xs) × (after_deeds (λ _. false) (opening n f) (deeds_of xs) ≡ (after_steps (starts n f) xs).cluster)
+StepsAreDeeds = (n : ℕ) (f : Handlers) (durable : ℕ → Bool) (xs : List Step) → Steps (starts n f durable) xs
+    → Deeds durable (opening n f) (deeds_of xs) × (after_deeds durable (opening n f) (deeds_of xs) ≡ (after_steps (starts n f durable) xs).cluster)
 
--- these acts are a run of nodes that don't meet, and lead where the steps lead, but for packets that say that something is lost
-abbrev pub IsRunOf : ℕ → Handlers → List Act → Cluster → Type 0
-IsRunOf n f acts c = record { run : Run (opening n f) acts; same : after_run (opening n f) acts ≡ record c { parcels = (after_run (opening n f) acts).parcels } }
+-- these acts are a run of nodes that don't meet, and lead where the steps lead, but for packets that say that something is lost, and for
+-- what durable nodes release: of one that is up it may be less
+abbrev pub IsRunOf : ℕ → Handlers → (ℕ → Bool) → List Act → Cluster → Type 0
+IsRunOf n f durable acts c =
+    record {
+      run : Run (opening n f) acts;
+      same : after_run (opening n f) acts ≡ record c { parcels = (after_run (opening n f) acts).parcels; released = (after_run (opening n f) acts).released };
+      released : (p : ℕ) → durable p ≡ false → c.released p ≡ (after_run (opening n f) acts).released p;
+      less : (p d : ℕ) → is_up (c.phase p) ≡ true → c.released p d ≤ (after_run (opening n f) acts).released p d;
+    }
 
--- so is each run in which no node was ever not exact, of nodes none of which is durable
+-- so is each run in which no node was ever not exact. If there are durable nodes, handlers take nothing back
 abbrev pub ExactRunsDontMeet : Type 0
-ExactRunsDontMeet = (n : ℕ) (f : Handlers) (xs : List Step) → Steps (starts n f) xs → AlwaysExact (starts n f) xs → IsRunOf n f (acts_of xs) (after_steps (starts n f) xs).cluster
+ExactRunsDontMeet = (n : ℕ) (f : Handlers) (durable : ℕ → Bool) (xs : List Step) → ((p : ℕ) → durable p ≡ true → Grows f) → Steps (starts n f durable) xs → AlwaysExact (starts n f durable) xs
+    → IsRunOf n f durable (acts_of xs) (after_steps (starts n f durable) xs).cluster
 
 -- and so it is promised what these are promised
 abbrev pub ExactRunsKeep : Type 0
-ExactRunsKeep = (n : ℕ) (f : Handlers) (xs : List Step) → n ≤ 15 → Grows f → Steps (starts n f) xs → AlwaysExact (starts n f) xs
-    → NoOrphanNode (after_steps (starts n f) xs).cluster × OutputOnce (after_steps (starts n f) xs).cluster × ReceivedOnce (after_steps (starts n f) xs).cluster
+ExactRunsKeep = (n : ℕ) (f : Handlers) (durable : ℕ → Bool) (xs : List Step) → n ≤ 15 → Grows f → Steps (starts n f durable) xs → AlwaysExact (starts n f durable) xs
+    → NoOrphanNode (after_steps (starts n f durable) xs).cluster × OutputOnce (after_steps (starts n f durable) xs).cluster × ReceivedOnce (after_steps (starts n f durable) xs).cluster
