@@ -80,6 +80,7 @@ static inline size_t sblog_report_size(const uint8_t *report) {
 enum sblog_session_code {
     SBLOG_SESSION_DONE = 0,
     SBLOG_SESSION_NO_PROCESS = 1, /* there is no such process; to open one, 1 to 15 files */
+    SBLOG_SESSION_FULL = 12,      /* the journal is full; of drive, its end stopped it */
     SBLOG_SESSION_MEMORY = 15,    /* memory ran out */
     SBLOG_SESSION_HANDLE = 16,    /* the handle is closed; to open one, it is open */
     SBLOG_SESSION_FILE = 17,      /* a file is none of an image, or the lengths don't fit */
@@ -178,9 +179,20 @@ uint32_t sblog_session_open(const uint8_t *files, size_t files_len, const uint32
                             size_t count, sblog_session *handle);
 uint32_t sblog_session_close(sblog_session *handle);
 
+/* Leaves three places of the journal for its message, or is refused (12). */
 uint32_t sblog_session_input(sblog_session *handle, uint8_t to, uint32_t feed,
                              const uint8_t *payload, size_t payload_len, uint32_t *ssn);
+/* Writes how many calls were accepted, also where the journal's end stopped it (12). */
 uint32_t sblog_session_drive(sblog_session *handle, uint32_t budget, uint32_t *accepted);
+
+/* For a schedule of the program's own: packets go by keys, below 4,096. from and to are 0 for the outside. */
+uint32_t sblog_session_transmit(sblog_session *handle, uint8_t from, uint8_t to, uint32_t ssn,
+                                uint32_t *packet);
+uint32_t sblog_session_copy(sblog_session *handle, uint32_t packet, uint32_t *copy);
+uint32_t sblog_session_lose(sblog_session *handle, uint32_t packet);
+/* Calls the handler where the packet starts a job. Writes the last entry of the journal then. */
+uint32_t sblog_session_arrive(sblog_session *handle, uint32_t packet, sblog_entry *entry);
+
 uint32_t sblog_session_checkpoint(sblog_session *handle, uint8_t process, uint32_t *covered);
 uint32_t sblog_session_trim(sblog_session *handle, uint8_t to, uint32_t *dropped);
 uint32_t sblog_session_crash(sblog_session *handle, uint8_t process, uint32_t *incarnation);
@@ -198,6 +210,8 @@ uint32_t sblog_session_shown(sblog_session *handle, size_t place, uint8_t *sende
 uint32_t sblog_session_exact(sblog_session *handle, uint32_t *exact);
 uint32_t sblog_session_trace(sblog_session *handle, uint8_t *out, size_t out_len, size_t *size);
 
+/* How many places the journal has left; a call takes one, and where it starts a job, two. */
+uint32_t sblog_session_room(sblog_session *handle, size_t *places);
 uint32_t sblog_session_journal(sblog_session *handle, size_t *count);
 uint32_t sblog_session_entry(sblog_session *handle, size_t place, sblog_entry *entry);
 uint32_t sblog_session_entries(sblog_session *handle, size_t from, sblog_entry *out,

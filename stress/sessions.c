@@ -5,11 +5,11 @@
 
    The words name three image files: of process 1, which passes on what it gets to process 2, which shows
    it to the outside, and of process 3. A call that is refused has to leave its arguments as they were, and
-   the session as the readings tell it before and after; the same call is made again then. A drive that was
-   cut off may have made calls, and have left a job open: the process crashes then and comes back, the list
-   is gone on with, and made a second time from its beginning, of which the end has to be the same. What is
-   printed is that of the last time, and its trace; and lines that begin with note: tell what was refused, and
-   what a refused drive left. The program ends with status 1 where something is wrong, or where memory is
+   the session as the readings tell it before and after; the same call is made again then. A drive or an
+   arrival that was cut off may have made calls, and have left a job open: the process crashes then and comes
+   back, the list is gone on with, and made a second time from its beginning, of which the end has to be the
+   same. What is printed is that of the last time, and its trace; and lines that begin with note: tell what was
+   refused, and what a refused drive or arrival left. The program ends with status 1 where something is wrong, or where memory is
    refused twice. It takes no memory itself, and closes what it opens. */
 #include <fcntl.h>
 #include <stdio.h>
@@ -19,7 +19,7 @@
 
 #include "sblog.h"
 
-enum { PROCESSES = 3, MANY = 1 << 16, BUDGET = 1000, UNWRITTEN = 0x5a, FEED_TAKEN = 14 };
+enum { PROCESSES = 3, MANY = 1 << 16, BUDGET = 1000, UNWRITTEN = 0x5a, NO_PACKET = 4, FEED_TAKEN = 14 };
 
 static uint8_t files[PROCESSES * (8 + 8 * 1024)];
 static uint32_t lengths[PROCESSES];
@@ -31,6 +31,7 @@ static struct {
     uint32_t number, other;
     uint8_t sender;
     size_t size;
+    sblog_entry entry;
     uint8_t bytes[1 << 14];
 } out, unwritten;
 
@@ -67,6 +68,24 @@ static uint32_t input(uint32_t to, uint32_t feed) {
 static uint32_t drive(uint32_t budget, uint32_t b) {
     (void)b;
     return sblog_session_drive(&session, budget, &out.number);
+}
+
+/* From the outside. */
+static uint32_t transmit(uint32_t to, uint32_t ssn) { return sblog_session_transmit(&session, 0, to, ssn, &out.number); }
+
+static uint32_t copy(uint32_t packet, uint32_t b) {
+    (void)b;
+    return sblog_session_copy(&session, packet, &out.number);
+}
+
+static uint32_t lose(uint32_t packet, uint32_t b) {
+    (void)b;
+    return sblog_session_lose(&session, packet);
+}
+
+static uint32_t arrive(uint32_t packet, uint32_t b) {
+    (void)b;
+    return sblog_session_arrive(&session, packet, &out.entry);
 }
 
 static uint32_t checkpoint(uint32_t process, uint32_t b) {
@@ -111,6 +130,11 @@ static uint32_t exact(uint32_t at, uint32_t room) {
     return sblog_session_exact(&session, &out.number);
 }
 
+static uint32_t places(uint32_t at, uint32_t room) {
+    (void)at, (void)room;
+    return sblog_session_room(&session, &out.size);
+}
+
 static uint32_t trace(uint32_t at, uint32_t room) {
     (void)at;
     return sblog_session_trace(&session, room_of(room), room, &out.size);
@@ -130,6 +154,7 @@ static const struct reading {
     {"shown", shown, MANY, false, true},
     {"exact", exact, 0, false, true},
     {"saved", saved, PROCESSES + 1, false, false},
+    {"room", places, 0, false, false},
     {"trace", trace, 0, true, false},
 };
 
@@ -167,6 +192,13 @@ static const struct step {
     {"trim", trim, 2, 0, true, 0},
     {"crash", crash, 3, 0, true, 0},
     {"recover", recover, 3, 0, true, 0},
+    {"drive", drive, BUDGET, 0, true, 0},
+    {"input", input, 3, 6, true, 0},
+    {"transmit", transmit, 3, 3, true, 0},
+    {"copy", copy, 0, 0, true, 0},
+    {"lose", lose, 1, 0, true, 0},
+    {"arrive", arrive, 0, 0, true, 0}, /* starts a job, so it is the last one before a drive */
+    {"arrive", arrive, 9, 0, true, NO_PACKET},
     {"drive", drive, BUDGET, 0, true, 0},
     {"input", input, 3, 4, true, FEED_TAKEN},
     {"close", close_session, 0, 0, false, 0},
@@ -259,7 +291,7 @@ static uint64_t sum(const uint8_t *bytes, size_t len) {
 
 /* ---- Refused calls ---- */
 
-/* What came of a drive that was refused, for those who count it. */
+/* What came of a drive or an arrival that was refused, for those who count it. */
 static bool is_whole, is_cut;
 static uint32_t left_open;
 
@@ -267,14 +299,14 @@ static void must(const char *name, exported *call, uint32_t a) {
     if (made(name, call, a, 0, true) != SBLOG_SESSION_DONE) fail(name, "is refused behind a drive that was cut off");
 }
 
-/* Goes on behind a drive that was cut off: its entries stand behind those before. A process whose job is
-   left open does nothing more, until it crashes and comes back. */
+/* Goes on behind a drive or an arrival that was cut off: its entries stand behind those before. A process
+   whose job is left open does nothing more, until it crashes and comes back. */
 static void go_on(const struct step *step) {
     const uint8_t *now = told.bytes + told.trace, *old = before.bytes + before.trace;
     size_t old_len = before.len - before.trace;
     if (told.len - told.trace <= old_len) fail(step->name, "has changed the session, and made no call");
     if (memcmp(now, old, old_len)) fail(step->name, "has changed the journal");
-    must(step->name, step->make, step->a);
+    if (step->make == drive) must(step->name, step->make, step->a);
     must("drive", drive, BUDGET);
     for (uint32_t process = 1; process <= PROCESSES; process++) {
         made("standing", standing, process, 0, false);
@@ -286,6 +318,9 @@ static void go_on(const struct step *step) {
     }
 }
 
+/* Whether a call can be cut off: it makes more than one of the session's. */
+static bool cuts(const struct step *step) { return step->make == drive || step->make == arrive; }
+
 /* Makes a call, again where memory was refused, when the session tells what it told before. */
 static uint32_t take(const struct step *step) {
     uint32_t code = made(step->name, step->make, step->a, step->b, step->asks);
@@ -293,10 +328,10 @@ static uint32_t take(const struct step *step) {
     before = told;
     tell();
     if (told.len == before.len && !memcmp(told.bytes, before.bytes, told.len)) {
-        is_whole = step->make == drive;
+        is_whole = cuts(step);
         return made(step->name, step->make, step->a, step->b, step->asks);
     }
-    if (step->make != drive) fail(step->name, "is refused, and has changed the session");
+    if (!cuts(step)) fail(step->name, "is refused, and has changed the session");
     is_cut = true;
     go_on(step);
     return SBLOG_SESSION_DONE;
@@ -331,7 +366,7 @@ static void play_again(void) {
     cut = last;
     play();
     if (cut.end != last.end || memcmp(cut.bytes, last.bytes, last.end))
-        fail("a drive", "is cut off, and all ends otherwise");
+        fail("a drive or an arrival", "is cut off, and all ends otherwise");
 }
 
 static int read_files(char **paths) {
@@ -355,8 +390,8 @@ int main(int count, char **words) {
     fwrite(lines, 1, lines_len, stdout);
     fwrite(last.bytes + last.trace, 1, last.len - last.trace, stdout);
     if (refused) printf("note: %s is refused\n", refused);
-    if (is_whole) puts("note: a refused drive had made no call");
-    if (is_cut) puts("note: a refused drive had made calls");
+    if (is_whole) puts("note: a refused drive or arrival had made no call");
+    if (is_cut) puts("note: a refused drive or arrival had made calls");
     if (left_open == SBLOG_SESSION_BUSY) puts("note: it left a process busy");
     if (left_open == SBLOG_SESSION_REPLAYING) puts("note: it left a process replaying");
     return 0;

@@ -1,7 +1,10 @@
 /* A counter that outlives its process. Commands come line by line: "add NUMBER" adds it and answers
    the total, any other prints what was done so far. The argument says after how many commands the
    process is lost, again and again: never without one. It is back before the next command, and
-   whoever types doesn't notice. */
+   whoever types doesn't notice.
+
+   The process is one of the session's, in this program's memory, and its loss is a call here. When this
+   program ends or is killed, the session goes with it: the next run counts from 0. */
 #include "sblog.h"
 
 #include <stdio.h>

@@ -9,7 +9,7 @@ use Rattle.std_heap.proofs.Global.TheLaws as heap
 use Rattle.sessions.specs.contracts.service.Service as Service
 use Rattle.sessions.proofs.service.Service.TheLaws as service
 use Rattle.embed_session.specs.contracts.parts.Parts as Parts
-use Rattle.embed_session.specs.contracts.loose.Loose as Loose
+use Rattle.embed_session.specs.contracts.loose.LooseService as LooseService
 
 abbrev pub E : Bx
 E = record { row = Service.the_row; laws = service.the_row_laws; al = record { row = Heap.the_row; laws = heap.the_row_laws; g = ghosts; d = dict; drops = impl [] tnil dnil } }
@@ -18,4 +18,4 @@ abbrev pub FromParts : Slot 0
 FromParts = plain (λ _. Parts.the_row Service.the_row Heap.the_row ghosts)
 
 abbrev pub FromLoose : Slot 0
-FromLoose = plain (λ _. Loose.the_row)
+FromLoose = plain (λ _. LooseService.the_row)

@@ -1,3 +1,5 @@
 mod AsBox
 mod Written
 mod ReadBack
+mod CallLemmas
+mod PlaceLemmas

@@ -1,21 +1,25 @@
 //! Calls of the session of a handle.
 
 ghost use Rattle.std.specs.Prelude.{◌≡◌, ◌≤◌, MatchResult, length};
-ghost use Rattle.machine.specs.Stepping.{TakesNoResult};
+ghost use Rattle.machine.specs.Stepping.{IsJobless};
 ghost use Rattle.embed_session.specs.Session.{number_of, IsCalled, IsClosed, IsDriven, IsHandedBack, IsHandedIn, IsUncalled, IsUndriven, WasClosed};
+ghost use Rattle.embed_session.specs.Inside.Calling.{HasKey};
 
 use crate::fault::Fault;
-use crate::handle::Handle;
+use crate::handle::SessionHandle;
+use crate::places::{is_stopped, refusal_of_input};
 use helpers::Payload;
 use std::alloc::Global;
-use world::{Answer, Call};
+use world::{Answer, Call, Refusal};
 
 /// The number that an answer tells, 0 where it tells none.
 fn number_of(answer: &Answer) -> u32
+    requires { HasKey answer.now }
     ensures { result ≡ number_of answer.now }
 {
     match *answer {
         Answer::Logged(ssn) => ssn,
+        Answer::Placed(key) => key as u32,
         Answer::Saved(length) => length,
         Answer::Trimmed(count) => count,
         Answer::Crashed(incarnation) => incarnation,
@@ -28,11 +32,11 @@ fn number_of(answer: &Answer) -> u32
 /// Makes a call, and writes the number that its answer tells.
 pub(crate) fn call(
     alloc: Global,
-    handle: &mut Handle,
+    handle: &mut SessionHandle,
     call: Call,
     number: &mut u32,
 ) -> Result<(), Fault>
-    requires { TakesNoResult call }
+    requires { IsJobless call }
     ensures { MatchResult result (λ _. IsCalled call handle.old.session.value handle.new.session.value number.new) (λ why. IsUncalled call handle.old.session.value handle.new.session.value why × (number.new ≡ number.old)) }
 {
     let Some(mut service) = handle.take(alloc) else {
@@ -50,37 +54,44 @@ pub(crate) fn call(
     }
 }
 
-/// Drives the session, and writes how many calls were accepted.
+/// Drives the session, and writes how many calls were accepted, also where the journal's end stopped
+/// it (`JournalFull`).
 pub(crate) fn drive(
     alloc: Global,
-    handle: &mut Handle,
+    handle: &mut SessionHandle,
     budget: u32,
     accepted: &mut u32,
 ) -> Result<(), Fault>
-    ensures { MatchResult result (λ _. IsDriven budget handle.old.session.value handle.new.session.value accepted.new) (λ why. IsUndriven budget handle.old.session.value handle.new.session.value why × (accepted.new ≡ accepted.old)) }
+    ensures { MatchResult result (λ _. IsDriven budget handle.old.session.value handle.new.session.value accepted.new) (IsUndriven budget handle.old.session.value handle.new.session.value accepted.old accepted.new) }
 {
     let Some(mut service) = handle.take(alloc) else {
         return Err(Fault::Handle);
     };
     let driven = service.drive(budget);
+    let stopped = is_stopped(&service);
     service.promises();
     handle.put(service);
-    match driven {
-        Ok(count) => {
-            *accepted = count;
-            Ok(())
-        }
-        Err(refusal) => Err(Fault::Session(refusal)),
+    let Ok(count) = driven else {
+        return Err(Fault::Session(Refusal::Memory));
+    };
+    *accepted = count;
+    if count >= budget {
+        return Ok(());
     }
+    if stopped {
+        return Err(Fault::Session(Refusal::JournalFull));
+    }
+    Ok(())
 }
 
 /// The most bytes of a payload.
 const LONGEST: usize = 256;
 
-/// Hands a payload in for a process, under a feed number, and writes the message's number.
+/// Hands a payload in for a process, under a feed number, and writes the message's number. Places of
+/// the journal are kept for it to be put on the wire, to arrive and to be received.
 pub(crate) fn input(
     alloc: Global,
-    handle: &mut Handle,
+    handle: &mut SessionHandle,
     to: u8,
     feed: u32,
     payload: &[u8],
@@ -92,11 +103,19 @@ pub(crate) fn input(
         return Err(Fault::Payload);
     }
     let payload = Payload::from_slice(payload);
+    let Some(service) = handle.take(alloc) else {
+        return Err(Fault::Handle);
+    };
+    let refusal = refusal_of_input(&service, to);
+    handle.put(service);
+    if let Some(refusal) = refusal {
+        return Err(Fault::Session(refusal));
+    }
     call(alloc, handle, Call::Input { to, feed, payload }, ssn)
 }
 
 /// Closes a handle, and gives the memory of its session back.
-pub(crate) fn close(alloc: Global, handle: &mut Handle) -> Result<(), Fault>
+pub(crate) fn close(alloc: Global, handle: &mut SessionHandle) -> Result<(), Fault>
     ensures { MatchResult result (λ _. IsClosed handle.old.session.value handle.new.session.value) (WasClosed handle.old.session.value handle.new.session.value) }
 {
     match handle.take(alloc) {

@@ -6,12 +6,14 @@ ghost use Rattle.embed_session.specs.declared.fault.Fault.TheVariants.{Handle as
 ghost use Rattle.embed_session.specs.Session.{Answers, IsCalled, IsClosed, IsDriven, IsHandedBack, IsHandedIn, IsUncalled, IsUndriven, WasClosed};
 ghost use Rattle.embed_session.specs.Opening.{IsOpened, IsUnopened};
 ghost use Rattle.embed_session.specs.Entries.{AreWritten, IsEntryAt, IsNoEntry};
+ghost use Rattle.embed_session.specs.Places.{places_left};
+ghost use Rattle.embed_session.specs.Schedule.{IsReceived, IsUnreceived};
 ghost use Rattle.embed_session.specs.Reading.{IsReadOf, IsSaved, IsShown, IsStanding, IsState, IsTraced, IsUnreadOf, IsUnshown, IsUntold, IsUntraced, OfPromised, exact_number};
 
 use crate::entry::Record;
 use crate::fault::code;
-use crate::handle::Handle;
-use crate::{calling, journal, opening, reading};
+use crate::handle::SessionHandle;
+use crate::{calling, journal, opening, places, reading, schedule};
 use std::alloc::Global;
 use world::Call;
 
@@ -22,7 +24,7 @@ pub extern "C" fn sblog_session_open(
     alloc: Global,
     files: &[u8],
     lengths: &[u32],
-    handle: &mut Handle,
+    handle: &mut SessionHandle,
 ) -> u32
     ensures { Answers result (IsOpened files.now lengths.now handle.old.session.value handle.new.session.value) (λ why. IsUnopened files.now lengths.now handle.old.session.value why × (handle.new.session.value ≡ handle.old.session.value)) }
 {
@@ -31,18 +33,19 @@ pub extern "C" fn sblog_session_open(
 
 /// Closes a handle, and gives the memory of its session back.
 #[unsafe(no_mangle)]
-pub extern "C" fn sblog_session_close(alloc: Global, handle: &mut Handle) -> u32
+pub extern "C" fn sblog_session_close(alloc: Global, handle: &mut SessionHandle) -> u32
     ensures { Answers result (IsClosed handle.old.session.value handle.new.session.value) (WasClosed handle.old.session.value handle.new.session.value) }
 {
     code(calling::close(alloc, handle))
 }
 
 /// Hands a payload of at most 256 bytes in for a process, under a feed number that is taken once, and
-/// writes the message's number.
+/// writes the message's number. It leaves three places in the journal for its message, or is refused
+/// (12).
 #[unsafe(no_mangle)]
 pub extern "C" fn sblog_session_input(
     alloc: Global,
-    handle: &mut Handle,
+    handle: &mut SessionHandle,
     to: u8,
     feed: u32,
     payload: &[u8],
@@ -53,24 +56,80 @@ pub extern "C" fn sblog_session_input(
     code(calling::input(alloc, handle, to, feed, payload, ssn))
 }
 
-/// Makes useful calls, until there is none or `budget` were accepted, and writes how many were.
+/// Makes useful calls, until there is none or `budget` were accepted, and writes how many were. Where
+/// only the journal's end is in the way of more, it answers 12, and writes how many were too.
 #[unsafe(no_mangle)]
 pub extern "C" fn sblog_session_drive(
     alloc: Global,
-    handle: &mut Handle,
+    handle: &mut SessionHandle,
     budget: u32,
     accepted: &mut u32,
 ) -> u32
-    ensures { Answers result (IsDriven budget handle.old.session.value handle.new.session.value accepted.new) (λ why. IsUndriven budget handle.old.session.value handle.new.session.value why × (accepted.new ≡ accepted.old)) }
+    ensures { Answers result (IsDriven budget handle.old.session.value handle.new.session.value accepted.new) (IsUndriven budget handle.old.session.value handle.new.session.value accepted.old accepted.new) }
 {
     code(calling::drive(alloc, handle, budget, accepted))
+}
+
+/// Puts a logged message on the wire, from a process, or the outside (0), to another of these, by its
+/// number. Writes the key of the packet, below 4,096.
+#[unsafe(no_mangle)]
+pub extern "C" fn sblog_session_transmit(
+    alloc: Global,
+    handle: &mut SessionHandle,
+    from: u8,
+    to: u8,
+    ssn: u32,
+    packet: &mut u32,
+) -> u32
+    ensures { Answers result (IsCalled (Call.Transmit from to ssn) handle.old.session.value handle.new.session.value packet.new) (λ why. IsUncalled (Call.Transmit from to ssn) handle.old.session.value handle.new.session.value why × (packet.new ≡ packet.old)) }
+{
+    let call = Call::Transmit { from, to, ssn };
+    code(calling::call(alloc, handle, call, packet))
+}
+
+/// Puts the packet of a key on the wire a second time, and writes the key of the copy.
+#[unsafe(no_mangle)]
+pub extern "C" fn sblog_session_copy(
+    alloc: Global,
+    handle: &mut SessionHandle,
+    packet: u32,
+    copy: &mut u32,
+) -> u32
+    ensures { Answers result (IsCalled (Call.Copy packet) handle.old.session.value handle.new.session.value copy.new) (λ why. IsUncalled (Call.Copy packet) handle.old.session.value handle.new.session.value why × (copy.new ≡ copy.old)) }
+{
+    let key = packet as usize;
+    code(calling::call(alloc, handle, Call::Copy { key }, copy))
+}
+
+/// Loses the packet of a key.
+#[unsafe(no_mangle)]
+pub extern "C" fn sblog_session_lose(alloc: Global, handle: &mut SessionHandle, packet: u32) -> u32
+    ensures { Answers result (IsCalled (Call.Lose packet) handle.old.session.value handle.new.session.value 0) (IsUncalled (Call.Lose packet) handle.old.session.value handle.new.session.value) }
+{
+    let key = packet as usize;
+    let mut number = 0;
+    code(calling::call(alloc, handle, Call::Lose { key }, &mut number))
+}
+
+/// Has the packet of a key arrive. Where it starts a job, the handler is called, and its result comes
+/// back. Writes the entry of that, or of the arrival where there is no job.
+#[unsafe(no_mangle)]
+pub extern "C" fn sblog_session_arrive(
+    alloc: Global,
+    handle: &mut SessionHandle,
+    packet: u32,
+    entry: &mut Record,
+) -> u32
+    ensures { Answers result (IsReceived packet handle.old.session.value handle.new.session.value entry.new) (λ why. IsUnreceived packet handle.old.session.value handle.new.session.value why × (entry.new ≡ entry.old)) }
+{
+    code(schedule::arrive(alloc, handle, packet as usize, entry))
 }
 
 /// Saves a process, and writes how many messages its checkpoint covers.
 #[unsafe(no_mangle)]
 pub extern "C" fn sblog_session_checkpoint(
     alloc: Global,
-    handle: &mut Handle,
+    handle: &mut SessionHandle,
     process: u8,
     covered: &mut u32,
 ) -> u32
@@ -85,7 +144,7 @@ pub extern "C" fn sblog_session_checkpoint(
 #[unsafe(no_mangle)]
 pub extern "C" fn sblog_session_trim(
     alloc: Global,
-    handle: &mut Handle,
+    handle: &mut SessionHandle,
     to: u8,
     dropped: &mut u32,
 ) -> u32
@@ -99,7 +158,7 @@ pub extern "C" fn sblog_session_trim(
 #[unsafe(no_mangle)]
 pub extern "C" fn sblog_session_crash(
     alloc: Global,
-    handle: &mut Handle,
+    handle: &mut SessionHandle,
     process: u8,
     incarnation: &mut u32,
 ) -> u32
@@ -113,7 +172,7 @@ pub extern "C" fn sblog_session_crash(
 #[unsafe(no_mangle)]
 pub extern "C" fn sblog_session_recover(
     alloc: Global,
-    handle: &mut Handle,
+    handle: &mut SessionHandle,
     process: u8,
     kept: &mut u32,
 ) -> u32
@@ -128,7 +187,7 @@ pub extern "C" fn sblog_session_recover(
 #[unsafe(no_mangle)]
 pub extern "C" fn sblog_session_recover_alone(
     alloc: Global,
-    handle: &mut Handle,
+    handle: &mut SessionHandle,
     process: u8,
     kept: &mut u32,
 ) -> u32
@@ -142,7 +201,7 @@ pub extern "C" fn sblog_session_recover_alone(
 #[unsafe(no_mangle)]
 pub extern "C" fn sblog_session_standing(
     alloc: Global,
-    handle: &mut Handle,
+    handle: &mut SessionHandle,
     process: u8,
     length: &mut u32,
     phase: &mut u32,
@@ -156,7 +215,7 @@ pub extern "C" fn sblog_session_standing(
 #[unsafe(no_mangle)]
 pub extern "C" fn sblog_session_state(
     alloc: Global,
-    handle: &mut Handle,
+    handle: &mut SessionHandle,
     process: u8,
     out: &mut [u8],
     size: &mut usize,
@@ -170,7 +229,7 @@ pub extern "C" fn sblog_session_state(
 #[unsafe(no_mangle)]
 pub extern "C" fn sblog_session_saved(
     alloc: Global,
-    handle: &mut Handle,
+    handle: &mut SessionHandle,
     process: u8,
     out: &mut [u8],
     size: &mut usize,
@@ -185,7 +244,7 @@ pub extern "C" fn sblog_session_saved(
 #[unsafe(no_mangle)]
 pub extern "C" fn sblog_session_shown(
     alloc: Global,
-    handle: &mut Handle,
+    handle: &mut SessionHandle,
     place: usize,
     sender: &mut u8,
     ssn: &mut u32,
@@ -199,7 +258,11 @@ pub extern "C" fn sblog_session_shown(
 
 /// Writes 1 where failures came one at a time, else 0.
 #[unsafe(no_mangle)]
-pub extern "C" fn sblog_session_exact(alloc: Global, handle: &mut Handle, answer: &mut u32) -> u32
+pub extern "C" fn sblog_session_exact(
+    alloc: Global,
+    handle: &mut SessionHandle,
+    answer: &mut u32,
+) -> u32
     ensures { Answers result (OfPromised handle.old.session.value (λ s. answer.new ≡ exact_number s) × (handle.new.session.value ≡ handle.old.session.value)) (λ why. (why ≡ Closed) × (handle.old.session.value ≡ None) × (handle.new.session.value ≡ handle.old.session.value) × (answer.new ≡ answer.old)) }
 {
     code(reading::exact(alloc, handle, answer))
@@ -209,7 +272,7 @@ pub extern "C" fn sblog_session_exact(alloc: Global, handle: &mut Handle, answer
 #[unsafe(no_mangle)]
 pub extern "C" fn sblog_session_trace(
     alloc: Global,
-    handle: &mut Handle,
+    handle: &mut SessionHandle,
     out: &mut [u8],
     size: &mut usize,
 ) -> u32
@@ -218,11 +281,24 @@ pub extern "C" fn sblog_session_trace(
     code(reading::trace(alloc, handle, out, size))
 }
 
+/// Writes how many places the journal has left, without those that open jobs hold. A call takes one,
+/// and where it starts a job, two.
+#[unsafe(no_mangle)]
+pub extern "C" fn sblog_session_room(
+    alloc: Global,
+    handle: &mut SessionHandle,
+    places: &mut usize,
+) -> u32
+    ensures { Answers result (OfPromised handle.old.session.value (λ s. places.new ≡ places_left s) × (handle.new.session.value ≡ handle.old.session.value)) (λ why. (why ≡ Closed) × (handle.old.session.value ≡ None) × (handle.new.session.value ≡ handle.old.session.value) × (places.new ≡ places.old)) }
+{
+    code(places::room(alloc, handle, places))
+}
+
 /// Writes how many entries the journal has.
 #[unsafe(no_mangle)]
 pub extern "C" fn sblog_session_journal(
     alloc: Global,
-    handle: &mut Handle,
+    handle: &mut SessionHandle,
     count: &mut usize,
 ) -> u32
     ensures { Answers result (OfPromised handle.old.session.value (λ s. count.new ≡ length s.entries) × (handle.new.session.value ≡ handle.old.session.value)) (λ why. (why ≡ Closed) × (handle.old.session.value ≡ None) × (handle.new.session.value ≡ handle.old.session.value) × (count.new ≡ count.old)) }
@@ -234,7 +310,7 @@ pub extern "C" fn sblog_session_journal(
 #[unsafe(no_mangle)]
 pub extern "C" fn sblog_session_entry(
     alloc: Global,
-    handle: &mut Handle,
+    handle: &mut SessionHandle,
     place: usize,
     entry: &mut Record,
 ) -> u32
@@ -248,7 +324,7 @@ pub extern "C" fn sblog_session_entry(
 #[unsafe(no_mangle)]
 pub extern "C" fn sblog_session_entries(
     alloc: Global,
-    handle: &mut Handle,
+    handle: &mut SessionHandle,
     from: usize,
     out: &mut [Record],
     count: &mut usize,

@@ -3,7 +3,7 @@
 ghost use Rattle.std.specs.Prelude.{◌≡◌, IfNone, IfSome, Some, None, false, is_some};
 ghost use Rattle.std.specs.Ptr.{null_ptr};
 
-use crate::loose::Loose;
+use crate::loose::LooseService;
 use crate::parts::Parts;
 use sessions::Service;
 use std::alloc::Global;
@@ -12,21 +12,21 @@ use std::mem::replace;
 /// A session, or none where it is closed. A program makes it of zeros, and leaves its bytes alone.
 #[repr(C)]
 #[derive(Drop)]
-pub struct Handle {
-    pub session: Loose,
+pub struct SessionHandle {
+    pub session: LooseService,
     held: bool,
     ghost held_is: { held ≡ is_some session.value },
 }
 
-impl Handle {
+impl SessionHandle {
     /// A handle without a session, as zeros are: null, and a mark of 0.
     #[inline(always)]
-    pub(crate) fn closed(alloc: Global) -> Handle
+    pub(crate) fn closed(alloc: Global) -> SessionHandle
         ensures closed { result.session.value ≡ None }
         ensures zeros { (result.session.at ≡ null_ptr) × (result.held ≡ false) }
     {
-        Handle {
-            session: Loose::empty(alloc),
+        SessionHandle {
+            session: LooseService::empty(alloc),
             held: false,
         }
     }
@@ -41,7 +41,7 @@ impl Handle {
         if !self.held {
             return None;
         }
-        let Handle { session, held: _ } = replace(self, Handle::closed(alloc));
+        let SessionHandle { session, held: _ } = replace(self, SessionHandle::closed(alloc));
         Some(session.into_parts().into_box())
     }
 
@@ -50,8 +50,8 @@ impl Handle {
     pub(crate) fn put(&mut self, service: Box<Service>)
         ensures { self.new.session.value ≡ Some service.value }
     {
-        *self = Handle {
-            session: Loose::of(Parts::of(service)),
+        *self = SessionHandle {
+            session: LooseService::of(Parts::of(service)),
             held: true,
         };
     }

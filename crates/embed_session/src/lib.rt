@@ -30,7 +30,9 @@ mod loose;
 mod opening;
 mod output;
 mod parts;
+mod places;
 mod reading;
+mod schedule;
 #[cfg(test)]
 mod tests;
 

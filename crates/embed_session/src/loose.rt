@@ -14,33 +14,33 @@ use std::ptr::null_mut;
 /// A service, or nothing.
 #[repr(C)]
 #[derive(Drop)]
-pub struct Loose {
+pub struct LooseService {
     at: *mut u8,
     alloc: Global,
     pub ghost value: { Option TheSession },
 }
 
-impl Model for Loose {
+impl Model for LooseService {
     ghost also_owns = { λ l. held l.alloc l.at l.value };
 }
 
-impl Loose {
+impl LooseService {
     /// Nothing, at null.
-    pub(crate) fn empty(alloc: Global) -> Loose
+    pub(crate) fn empty(alloc: Global) -> LooseService
         ensures { (result.value ≡ None) × (result.at ≡ null_ptr) }
     {
-        Loose {
+        LooseService {
             at: null_mut(),
             alloc,
         }
     }
 
     /// The service of a box.
-    pub(crate) fn of(parts: Parts<Service, Global>) -> Loose
+    pub(crate) fn of(parts: Parts<Service, Global>) -> LooseService
         ensures { result.value ≡ Some parts.value }
     {
         let Parts { ptr, alloc } = parts;
-        Loose {
+        LooseService {
             at: ptr as *mut u8,
             alloc,
         }
@@ -52,7 +52,7 @@ impl Loose {
         requires { self.value ≡ Some v }
         ensures { result.value ≡ v }
     {
-        let Loose { at, alloc } = self;
+        let LooseService { at, alloc } = self;
         Parts {
             ptr: at as *mut Service,
             alloc,

@@ -6,7 +6,7 @@ ghost use Rattle.embed_session.specs.Inside.Loading.{AreMore, IsUnread};
 ghost use Rattle.embed_session.specs.Opening.{IsImageIn, IsMisfit, IsOpened, IsRefused, IsUnopened};
 
 use crate::fault::Fault;
-use crate::handle::Handle;
+use crate::handle::SessionHandle;
 use sessions::Service;
 use std::alloc::Global;
 use std::sync::Arc;
@@ -65,7 +65,7 @@ pub(crate) fn open(
     alloc: Global,
     files: &[u8],
     lengths: &[u32],
-    handle: &mut Handle,
+    handle: &mut SessionHandle,
 ) -> Result<(), Fault>
     ensures { MatchResult result (λ _. IsOpened files.now lengths.now handle.old.session.value handle.new.session.value) (λ why. IsUnopened files.now lengths.now handle.old.session.value why × (handle.new.session.value ≡ handle.old.session.value)) }
 {

@@ -3,7 +3,7 @@
 
 use crate::entry::Record;
 use crate::exports::*;
-use crate::handle::Handle;
+use crate::handle::SessionHandle;
 use std::alloc::Global;
 use std::test::Fail;
 
@@ -34,6 +34,14 @@ enum Act {
     Crash(u8),
     Recover(u8),
     Alone(u8),
+    Transmit(u8, u8, u32),
+    Copy(u32),
+    Lose(u32),
+    /// A hundred times the number of the call whose entry is written, and that of its answer.
+    Arrive(u32),
+    Room,
+    /// Trims for the outside until so many places are left.
+    Fill(usize),
     /// How many messages the state has, and the phase a hundred times.
     Standing(u8),
     /// A buffer of so many bytes is given for what follows.
@@ -50,7 +58,7 @@ enum Act {
 }
 
 /// What a call answers: its code, and the number or the size that it writes, 99 where it writes none.
-fn answer(alloc: Global, handle: &mut Handle, act: Act, out: &mut [u8; 64]) -> (u32, usize) {
+fn answer(alloc: Global, handle: &mut SessionHandle, act: Act, out: &mut [u8; 64]) -> (u32, usize) {
     let mut number = 99;
     let code = match act {
         Act::Open(files, lengths) => sblog_session_open(alloc, files, lengths, handle),
@@ -73,13 +81,35 @@ fn answer(alloc: Global, handle: &mut Handle, act: Act, out: &mut [u8; 64]) -> (
             number = number.wrapping_add(phase.wrapping_mul(100));
             code
         }
+        Act::Transmit(from, to, ssn) => {
+            sblog_session_transmit(alloc, handle, from, to, ssn, &mut number)
+        }
+        Act::Copy(packet) => sblog_session_copy(alloc, handle, packet, &mut number),
+        Act::Lose(packet) => sblog_session_lose(alloc, handle, packet),
+        Act::Fill(left) => return fill(alloc, handle, left),
         reads => return read(alloc, handle, reads, out),
     };
     (code, number as usize)
 }
 
+/// Trims for the outside until so many places are left: the last code, and how many are.
+fn fill(alloc: Global, handle: &mut SessionHandle, left: usize) -> (u32, usize) {
+    let (mut places, mut number) = (0, 0);
+    for _ in 0..70_000 {
+        let code = sblog_session_room(alloc, handle, &mut places);
+        if code != 0 || places <= left {
+            return (code, places);
+        }
+        let code = sblog_session_trim(alloc, handle, 0, &mut number);
+        if code != 0 {
+            return (code, places);
+        }
+    }
+    (99, places)
+}
+
 /// The same of a call that writes into a buffer.
-fn read(alloc: Global, handle: &mut Handle, act: Act, out: &mut [u8; 64]) -> (u32, usize) {
+fn read(alloc: Global, handle: &mut SessionHandle, act: Act, out: &mut [u8; 64]) -> (u32, usize) {
     let mut size = 99;
     let (mut sender, mut ssn) = (0, 0);
     let code = match act {
@@ -94,6 +124,7 @@ fn read(alloc: Global, handle: &mut Handle, act: Act, out: &mut [u8; 64]) -> (u3
             sblog_session_shown(alloc, handle, place, &mut sender, &mut ssn, out, &mut size)
         }
         Act::Trace(room) => sblog_session_trace(alloc, handle, front(out, room), &mut size),
+        Act::Room => sblog_session_room(alloc, handle, &mut size),
         Act::Journal => sblog_session_journal(alloc, handle, &mut size),
         Act::Entries(from, room) => {
             let mut records = [BLANK; 4];
@@ -103,6 +134,12 @@ fn read(alloc: Global, handle: &mut Handle, act: Act, out: &mut [u8; 64]) -> (u3
         Act::Entry(place) => {
             let mut record = BLANK;
             let code = sblog_session_entry(alloc, handle, place, &mut record);
+            size = record.call as usize * 100 + record.answer as usize;
+            code
+        }
+        Act::Arrive(packet) => {
+            let mut record = BLANK;
+            let code = sblog_session_arrive(alloc, handle, packet, &mut record);
             size = record.call as usize * 100 + record.answer as usize;
             code
         }
@@ -129,7 +166,7 @@ fn front(out: &mut [u8; 64], room: usize) -> &mut [u8] {
 
 /// The place of the first call of a list, from 0, whose answer is another one.
 fn first_wrong(alloc: Global, calls: &[(Act, u32, usize)]) -> Option<usize> {
-    let mut handle = Handle::closed(alloc);
+    let mut handle = SessionHandle::closed(alloc);
     let mut out = [0; 64];
     for (place, (act, code, number)) in calls.iter().enumerate() {
         if answer(alloc, &mut handle, *act, &mut out) != (*code, *number) {
@@ -236,6 +273,78 @@ const STUCK: &[(Act, u32, usize)] = &[
     (Act::Exact, 0, 0),
 ];
 
+/// A message by a schedule of the program's own: one packet of it is lost, the copies of others come
+/// twice, and one comes to a process that is down.
+const SCHEDULED: &[(Act, u32, usize)] = &[
+    (Act::Open(&RELAY_AND_ECHO, &[40, 24]), 0, 99),
+    (Act::Room, 0, 65_536),
+    (Act::Input(1, 1, 1), 0, 1),
+    (Act::Room, 0, 65_535),
+    (Act::Transmit(0, 1, 1), 0, 0),
+    (Act::Copy(0), 0, 1),
+    (Act::Lose(0), 0, 99),
+    (Act::Lose(0), 4, 99),
+    (Act::Transmit(0, 1, 2), 6, 99),
+    (Act::Transmit(1, 1, 1), 5, 99),
+    (Act::Arrive(1), 0, 613),
+    (Act::Arrive(9), 4, 99),
+    (Act::Arrive(4_294_967_295), 4, 99),
+    (Act::Arrive(1), 0, 505),
+    (Act::Arrive(1), 0, 506),
+    (Act::Transmit(1, 2, 1), 0, 1),
+    (Act::Copy(1), 0, 0),
+    (Act::Copy(7), 4, 99),
+    (Act::Arrive(1), 0, 613),
+    (Act::Arrive(0), 0, 508),
+    (Act::Arrive(0), 0, 505),
+    (Act::Arrive(1), 0, 505),
+    (Act::Arrive(0), 0, 506),
+    (Act::Arrive(1), 0, 506),
+    (Act::Transmit(2, 0, 1), 0, 1),
+    (Act::Copy(1), 0, 0),
+    (Act::Arrive(1), 0, 507),
+    (Act::Arrive(0), 0, 509),
+    (Act::Crash(2), 0, 2),
+    (Act::Transmit(1, 2, 1), 0, 0),
+    (Act::Arrive(0), 0, 512),
+    (Act::Transmit(2, 0, 1), 2, 99),
+    (Act::Journal, 0, 24),
+    (Act::Room, 0, 65_512),
+    (Act::Exact, 0, 1),
+];
+
+/// The journal's end: an input that finds its last four places is received, and only the packet that
+/// tells its number stays on the wire.
+const ENDING: &[(Act, u32, usize)] = &[
+    (Act::Open(&ADDER, &[56]), 0, 99),
+    (Act::Fill(4), 0, 4),
+    (Act::Input(1, 1, 8), 0, 1),
+    (Act::Room, 0, 3),
+    (Act::Input(1, 1, 8), 12, 99),
+    (Act::Input(2, 2, 8), 1, 99),
+    (Act::Drive(2), 0, 3),
+    (Act::Standing(1), 0, 1),
+    (Act::Drive(0), 0, 0),
+    (Act::Drive(1), 12, 0),
+    (Act::Crash(1), 12, 99),
+    (Act::Room, 0, 0),
+    (Act::Journal, 0, 65_536),
+    (Act::Close, 0, 99),
+    (Act::Open(&ADDER, &[56]), 0, 99),
+    (Act::Fill(5), 0, 5),
+    (Act::Input(1, 1, 8), 0, 1),
+    (Act::Fill(2), 0, 2),
+    (Act::Drive(9), 12, 1),
+    (Act::Arrive(0), 12, 99),
+    (Act::Lose(0), 0, 99),
+    (Act::Drive(9), 12, 0),
+    (Act::Close, 0, 99),
+    (Act::Open(&ADDER, &[56]), 0, 99),
+    (Act::Fill(0), 0, 0),
+    (Act::Drive(9), 0, 0),
+    (Act::Input(1, 1, 8), 12, 99),
+];
+
 /// Files that open none, and each call on a closed handle.
 const CLOSED: &[(Act, u32, usize)] = &[
     (Act::Open(&[], &[]), 1, 99),
@@ -253,6 +362,11 @@ const CLOSED: &[(Act, u32, usize)] = &[
     (Act::Crash(1), 16, 99),
     (Act::Recover(1), 16, 99),
     (Act::Alone(1), 16, 99),
+    (Act::Transmit(0, 1, 1), 16, 99),
+    (Act::Copy(0), 16, 99),
+    (Act::Lose(0), 16, 99),
+    (Act::Arrive(0), 16, 99),
+    (Act::Room, 16, 99),
     (Act::Standing(1), 16, 99),
     (Act::State(1, 64), 16, 99),
     (Act::Saved(1, 64), 16, 99),
@@ -270,6 +384,8 @@ fn codes_and_numbers(rt: HostRuntime) -> Result<(), Fail> {
     assert_eq!(rt; first_wrong(alloc, ADDING), None);
     assert_eq!(rt; first_wrong(alloc, RELAYING), None);
     assert_eq!(rt; first_wrong(alloc, STUCK), None);
+    assert_eq!(rt; first_wrong(alloc, SCHEDULED), None);
+    assert_eq!(rt; first_wrong(alloc, ENDING), None);
     assert_eq!(rt; first_wrong(alloc, CLOSED), None);
     Ok(())
 }
@@ -277,7 +393,7 @@ fn codes_and_numbers(rt: HostRuntime) -> Result<(), Fail> {
 #[test]
 fn bytes(rt: HostRuntime) -> Result<(), Fail> {
     let alloc = rt.alloc();
-    let mut handle = Handle::closed(alloc);
+    let mut handle = SessionHandle::closed(alloc);
     let mut out = [0; 64];
     for act in [
         Act::Open(&RELAY_AND_ECHO, &[40, 24]),
@@ -307,7 +423,7 @@ fn has_numbers(record: &Record, call: &[u64], answer: &[u64]) -> bool {
 #[test]
 fn records(rt: HostRuntime) -> Result<(), Fail> {
     let alloc = rt.alloc();
-    let mut handle = Handle::closed(alloc);
+    let mut handle = SessionHandle::closed(alloc);
     let mut out = [0; 64];
     for act in [
         Act::Open(&ADDER, &[56]),

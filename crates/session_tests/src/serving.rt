@@ -65,6 +65,8 @@ enum Step {
     IsAt(u8, PhaseName, u32, &'static [u8]),
     /// Without the first of these numbers, so many outputs were shown.
     Shows(usize, usize),
+    /// A useful call is left that an empty journal would take, or not.
+    Waits(bool),
     /// The checkpoint of a process has so many bytes.
     Saves(u8, usize),
     /// The journal has so many entries, of failures that came one at a time or not.
@@ -144,6 +146,7 @@ fn holds(service: &mut Service, step: Step) -> bool {
         Step::Drives(budget, count) => matches!(service.drive(budget), Ok(n) if n == count),
         Step::IsAt(p, phase, length, state) => is_at(service, p, phase, length, state),
         Step::Shows(since, count) => service.shown_since(since).len() == count,
+        Step::Waits(expected) => service.outstanding().is_some() == expected,
         Step::Saves(p, size) => saves(service, p, size),
         Step::Ends(entries, exact) => {
             service.journal().len() == entries && service.exact() == exact

@@ -1,5 +1,5 @@
 -- The places of the journal that open jobs hold
-use Rattle.std.proofs.Common.{◌≡◌, ℕ, zero, suc, ◌+◌, ◌-◌, ◌<◌, ◌≤◌, List, [], ◌∷◌, length, Bool, true, false, refl, sym, ap, ◌∙◌, subst, arith}
+use Rattle.std.proofs.Common.{◌≡◌, ℕ, suc, ◌+◌, ◌-◌, ◌<◌, ◌≤◌, List, [], ◌∷◌, length, Bool, true, false, refl, sym, ap, ◌∙◌, subst, arith}
 use Rattle.std.specs.Prelude.{if◌then◌else◌, ◌==◌, ◌&&◌, not, nat_lt, Option, Some, None}
 use Rattle.std.proofs.lemmas.Bool.Decides.{nat_tests}
 use Rattle.world.specs.declared.packet.Packet.{Packet}
@@ -9,11 +9,10 @@ use Rattle.world.specs.declared.call.Call.TheVariants.{Input, Transmit, Copy, Lo
 use Rattle.world.specs.declared.answer.Answer.{Answer}
 use Rattle.world.specs.declared.answer.Answer.TheVariants as answers
 use Rattle.world.specs.declared.answer.Answer.TheVariants.{Placed, Lost, Started, Duplicate, Shown, Numbered, Acknowledged, Kept}
-use Rattle.world.specs.History.{Payload}
-use Rattle.world.specs.Phases.{Phase, Up, Busy, Down, Replaying, Resync, is_up, is_working, todo_of, without}
+use Rattle.world.specs.Phases.{Phase, Up, Busy, Down, Replaying, Resync, is_working, todo_of, without}
 use Rattle.world.specs.World.{World, put, is_inside}
 use Rattle.world.specs.Bounds.{count_below, open_jobs}
-use Rattle.world.specs.Calls.{after, arrive, commit, finish, replay, recover, keep, ready, peers, phase_with, with_open_job}
+use Rattle.world.specs.Calls.{after, arrive, finish, recover, keep, ready, peers, phase_with, with_open_job}
 use Rattle.world.specs.Answers.{MayAnswer, Finishes, Keeps, Receives}
 use Rattle.world.specs.Refusals.{least, refusal_of, causes, starts, one_if}
 use Rattle.world.proofs.Counts.{count_below-same, count_below-put}

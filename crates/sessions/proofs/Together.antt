@@ -1,5 +1,5 @@
 -- Calls of a service as those of a session, whose callers share it
-use Rattle.std.proofs.Common.{◌≡◌, ℕ, ◌+◌, ◌-◌, ◌≤◌, ◌++◌, ◌∷◌, [], List, length, length-append, refl, ap, ◌∙◌, arith}
+use Rattle.std.proofs.Common.{◌≡◌, ℕ, ◌+◌, ◌-◌, ◌≤◌, ◌∷◌, [], List, length, length-append, refl, ap, ◌∙◌, arith}
 use Rattle.std.specs.Prelude.{Option, Result, Ok, Err}
 use Rattle.replay.specs.Task.{TheTask}
 use Rattle.world.specs.declared.call.Call.{Call}

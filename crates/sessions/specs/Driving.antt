@@ -8,6 +8,7 @@ use Rattle.world.specs.declared.refusal.Refusal.{Refusal}
 use Rattle.world.specs.declared.refusal.Refusal.TheVariants.{Memory}
 use Rattle.world.specs.World.{World}
 use Rattle.world.specs.Calls.{after}
+use Rattle.world.specs.Bounds.{LIMIT}
 use Rattle.replay.specs.Task.{TheTask}
 use Rattle.machine.specs.Arrival.{IsOpen}
 use Rattle.machine.specs.Picking.{IsPick}
@@ -36,6 +37,10 @@ pub record Advances (budget : ℕ) (old new : TheSession) (by by' : TheSeat) (n 
 -- no call can be picked
 abbrev pub IsQuiet : TheSession → Type 0
 IsQuiet s = (call : Call) → ¬ IsPick (world_at s) (room_at s) call
+
+-- no call could be picked in an empty journal either: nothing is left to do
+abbrev pub IsDone : TheSession → Type 0
+IsDone s = (call : Call) → ¬ IsPick (world_at s) LIMIT call
 
 -- the job of this process was started and is open, or there is none
 abbrev pub Starts : TheSession → Option ℕ → Option TheTask → Type 0

@@ -2,14 +2,18 @@
 
 ghost use Rattle.std.specs.Prelude.{◌≡◌, ℕ, ◌<◌, ◌≤◌, IfErr, IfNone, IfOk, IfSome, None, Option};
 ghost use Rattle.world.specs.declared.refusal.Refusal.TheVariants.{Memory};
+ghost use Rattle.world.specs.Bounds.{LIMIT};
 ghost use Rattle.machine.specs.Picking.{IsPick, IsMove};
 ghost use Rattle.machine.specs.Stepping.{TakesNoResult};
 ghost use Rattle.sessions.specs.Journal.{world_at, room_at};
-ghost use Rattle.sessions.specs.Driving.{Advances, Driven, IsQuiet};
+ghost use Rattle.sessions.specs.Driving.{Advances, Driven, IsDone, IsQuiet};
 ghost use Rattle.sessions.specs.Service.{own_seat, seat_of};
 
 use crate::service::Service;
 use world::{Call, Refusal};
+
+/// How much an empty journal takes.
+const ALL_ROOM: u32 = 65_536;
 
 impl Service {
     /// A useful call that isn't refused for another cause than want of memory, and `None` only where
@@ -21,6 +25,17 @@ impl Service {
         ensures result { IfSome result TakesNoResult }
     {
         self.machine.pick(self.journal.room())
+    }
+
+    /// A useful call that isn't refused for another cause than a full journal or want of memory, and
+    /// `None` only where there is none. Where `pick` has none, only the journal's end is in its way.
+    /// Takes no memory.
+    pub fn outstanding(&self) -> Option<Call>
+        ensures some { IfSome result (λ call. IsPick (world_at self.now) LIMIT call) }
+        ensures none { IfNone result (IsDone self.now) }
+        ensures moves { IfSome result IsMove }
+    {
+        self.machine.pick(ALL_ROOM)
     }
 
     /// Picks calls and makes them, until no call can be picked or `budget` calls were accepted, and

@@ -27,6 +27,7 @@ const JOURNAL: &[Step] = &[
     Step::Refuses(Act::RecoverAlone(1), 10),
     Step::Refuses(Act::Resync(1, 1), 5),
     Step::Drives(100, 0),
+    Step::Waits(true),
     Step::IsAt(1, PhaseName::Up, 0, &[0; 8]),
     Step::Shows(0, 0),
     Step::Saves(1, 28),
@@ -43,6 +44,7 @@ const DOWN: &[Step] = &[
     Step::Refuses(Act::RecoverAlone(1), 12),
     Step::Refuses(Act::Crash(1), 2),
     Step::IsAt(1, PhaseName::Down, 0, &[]),
+    Step::Waits(false),
     Step::Ends(65_536, true),
 ];
 
@@ -54,6 +56,7 @@ const RESTORING: &[Step] = &[
     Step::Ends(65_536, true),
     Step::Refuses(Act::Resync(1, 2), 12),
     Step::IsAt(1, PhaseName::Resync, 0, &[0; 8]),
+    Step::Waits(true),
     Step::Ends(65_536, true),
 ];
 
@@ -67,6 +70,7 @@ const DRIVEN: &[Step] = &[
     Step::Ends(65_536, true),
     Step::IsAt(1, PhaseName::Up, 1, &[5, 0, 0, 0, 0, 0, 0, 0]),
     Step::Drives(100, 0),
+    Step::Waits(false),
 ];
 
 /// 4,096 packets are the most.

@@ -1,5 +1,5 @@
-use Rattle.std.proofs.Common.{◌≡◌, ℕ, sym, subst, ◌∙◌, ap}
-use Rattle.std.specs.Prelude.{None, Option, Some}
+use Rattle.std.proofs.Common.{ℕ, sym, subst}
+use Rattle.std.specs.Prelude.{Option}
 use Rattle.replay.specs.Task.{TheTask}
 use Rattle.machine.specs.Arrival.{IsOpen}
 use Rattle.machine.specs.Stepping.{job_of}

@@ -1,11 +1,10 @@
-use Rattle.std.proofs.Common.{◌∙◌, ap, arith, subst}
-use Rattle.std.specs.Prelude.{Err, Ok}
-use Rattle.std.proofs.lemmas.Result.{err_from_is_err_and}
+use Rattle.std.proofs.Common.{arith, subst}
+use Rattle.std.specs.Prelude.{Ok}
 use Rattle.world.specs.declared.call.Call.TheVariants.{Finish}
 use Rattle.machine.specs.Arrival.{finished_of}
 use Rattle.sessions.specs.Journal.{Takes}
 use Rattle.sessions.specs.Service.{seat_of}
-use Rattle.sessions.proofs.Together.{grew, leaves, takes}
+use Rattle.sessions.proofs.Together.{grew, takes}
 use Rattle.sessions.proofs.session.Session.finish.Goals as goal
 
 pub answer-requires : goal.answer-requires

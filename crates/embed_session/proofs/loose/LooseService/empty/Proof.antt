@@ -34,10 +34,10 @@ use Rattle.std_alloc.proofs.ResultValues.{and_tt}
 use Rattle.core.proofs.alloc.Calls.{handle_tells}
 use Rattle.std_alloc.proofs.BoxSteps.Form.{P, owning}
 use Rattle.embed_session.proofs.AsBox.{E}
-use Rattle.embed_session.specs.contracts.loose.Loose.empty as F
-use Rattle.embed_session.specs.contracts.loose.Loose.empty.Key.{name as #self}
-use Rattle.embed_session.proofs.loose.Loose.empty.Statement as stated
-use Rattle.embed_session.proofs.loose.Loose.empty.Code as code
+use Rattle.embed_session.specs.contracts.loose.LooseService.empty as F
+use Rattle.embed_session.specs.contracts.loose.LooseService.empty.Key.{name as #self}
+use Rattle.embed_session.proofs.loose.LooseService.empty.Statement as stated
+use Rattle.embed_session.proofs.loose.LooseService.empty.Code as code
 
 abbrev From : denote.Signature.Slot 0
 From = plain (λ _. Heap.the_row)

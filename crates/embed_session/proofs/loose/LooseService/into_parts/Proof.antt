@@ -26,11 +26,11 @@ use denote.Triple.Walked.{says, Stays, stay_dropped, walk_of, ends_at, Goes-drop
 use Rattle.std_alloc.proofs.BoxSteps.Form.{X, D, B, word, box_typed}
 use Rattle.std_alloc.proofs.BoxSteps.Steps.{box_out, box_in}
 use Rattle.embed_session.proofs.AsBox.{E, FromLoose as From}
-use Rattle.embed_session.specs.contracts.loose.Loose as Loose
-use Rattle.embed_session.specs.contracts.loose.Loose.into_parts as F
-use Rattle.embed_session.specs.contracts.loose.Loose.into_parts.Key.{name as #self}
-use Rattle.embed_session.proofs.loose.Loose.into_parts.Statement as stated
-use Rattle.embed_session.proofs.loose.Loose.into_parts.Code as code
+use Rattle.embed_session.specs.contracts.loose.LooseService as LooseService
+use Rattle.embed_session.specs.contracts.loose.LooseService.into_parts as F
+use Rattle.embed_session.specs.contracts.loose.LooseService.into_parts.Key.{name as #self}
+use Rattle.embed_session.proofs.loose.LooseService.into_parts.Statement as stated
+use Rattle.embed_session.proofs.loose.LooseService.into_parts.Code as code
 
 abbrev stayed : Stays (F.ended).signature.params (F.ended).kept
 stayed = (stay_dropped From yes, tt)
@@ -45,7 +45,7 @@ module _ {M : Type 1} {𝓤 : Ura M} (𝓛 : Logic 𝓤) (at_mem : Memory → SP
       let v : D E = record { ptr = z.0.3.0.at; alloc = z.0.3.0.alloc; value = z.1 } in
       let To = type_at (F.signature).result tt in
       let made : To.Denot = record { ptr = v.ptr; alloc = v.alloc; value = v.value } in
-      let From' : Option (X E) → Fml = λ x. (Loose.the_row).own_val (record { at = v.ptr; alloc = v.alloc; value = x }) z.0.4.0 in
+      let From' : Option (X E) → Fml = λ x. (LooseService.the_row).own_val (record { at = v.ptr; alloc = v.alloc; value = x }) z.0.4.0 in
       qed 𝓛 ((‵ ftrue ⊛ ‵ (fsep (From' z.0.3.0.value) ftrue)) ∷ raw (fact 𝓤 (z.0.3.0.value ≡ Some z.1)) ∷ []) ∵ move ! (1 ∷ []) $ heard ! (z.0.3.0.value ≡ Some z.1) (λ is. split ! $ drop ! $ fsplit ! $ rewrite ! 0 (λ x. ‵ (From' x)) is refl $ use1 𝓛 (‵ ((B E).own_val v z.0.4.0)) (id⊢ 𝓤 _) $
       box_out E ! v z.0.4.0 (λ b o hv e ws fa. box_in E ! v b o v.value e refl $ use1 𝓛 (‵ (To.own_val made (word E hv b o ∷ []))) (id⊢ 𝓤 _) $ move ! (1 ∷ 2 ∷ []) $ drop ! $ drop ! $
       let w = word E hv b o in

@@ -26,10 +26,10 @@ use denote.Triple.Walked.{says, Stays, stay_dropped, walk_of, ends_at, Goes-drop
 use Rattle.std_alloc.proofs.BoxSteps.Form.{D, B, word, box_typed}
 use Rattle.std_alloc.proofs.BoxSteps.Steps.{box_out, box_in}
 use Rattle.embed_session.proofs.AsBox.{E, FromParts as From}
-use Rattle.embed_session.specs.contracts.loose.Loose.of as F
-use Rattle.embed_session.specs.contracts.loose.Loose.of.Key.{name as #self}
-use Rattle.embed_session.proofs.loose.Loose.of.Statement as stated
-use Rattle.embed_session.proofs.loose.Loose.of.Code as code
+use Rattle.embed_session.specs.contracts.loose.LooseService.of as F
+use Rattle.embed_session.specs.contracts.loose.LooseService.of.Key.{name as #self}
+use Rattle.embed_session.proofs.loose.LooseService.of.Statement as stated
+use Rattle.embed_session.proofs.loose.LooseService.of.Code as code
 
 abbrev stayed : Stays (F.ended).signature.params (F.ended).kept
 stayed = (stay_dropped From yes, tt)

@@ -1,0 +1,61 @@
+//! Packets that a program has arrive, by a schedule of its own.
+
+ghost use Rattle.std.specs.Prelude.{◌≡◌, MatchResult};
+ghost use Rattle.sessions.specs.Service.{KeepsPromises};
+ghost use Rattle.embed_session.specs.Schedule.{Arrives, IsReceived, IsUnarrived, IsUnreceived};
+
+use crate::entry::Record;
+use crate::fault::Fault;
+use crate::handle::SessionHandle;
+use sessions::Service;
+use std::alloc::Global;
+use world::{Call, Entry, Refusal};
+
+/// Has a packet arrive, and runs the job that it starts: the entry of the arrival, or that of the
+/// job's result. Where memory runs out for a result, its job stays open.
+fn receive(service: &mut Service, key: usize) -> Result<Entry, Refusal>
+    ensures { MatchResult result (Arrives key service.old service.new) (IsUnarrived key service.old service.new) }
+{
+    let call = Call::Arrive { key };
+    let reply = service.call(&call)?;
+    let Some(job) = reply.job else {
+        return Ok(Entry {
+            worker: 0,
+            call,
+            answer: reply.answer,
+        });
+    };
+    let process = job.task().process();
+    let Ok(finished) = service.finish(job.run()) else {
+        return Err(Refusal::Memory);
+    };
+    Ok(Entry {
+        worker: 0,
+        call: Call::Finish { process },
+        answer: finished.answer(),
+    })
+}
+
+/// Has a packet arrive, runs the job that it starts, and writes the record of the last entry.
+pub(crate) fn arrive(
+    alloc: Global,
+    handle: &mut SessionHandle,
+    key: usize,
+    out: &mut Record,
+) -> Result<(), Fault>
+    ensures { MatchResult result (λ _. IsReceived key handle.old.session.value handle.new.session.value out.new) (λ why. IsUnreceived key handle.old.session.value handle.new.session.value why × (out.new ≡ out.old)) }
+{
+    let Some(mut service) = handle.take(alloc) else {
+        return Err(Fault::Handle);
+    };
+    let received = receive(&mut service, key);
+    service.promises();
+    handle.put(service);
+    match received {
+        Ok(entry) => {
+            *out = Record::of(&entry);
+            Ok(())
+        }
+        Err(refusal) => Err(Fault::Session(refusal)),
+    }
+}
