@@ -16,13 +16,13 @@ const ECHO: [u8; 24] = [
 ];
 
 /// Adds the first word of a message to the first word of its state.
-const ADDER: [u8; 56] = [
+pub(crate) const ADDER: [u8; 56] = [
     0x53, 0x42, 0x49, 0x31, 0x08, 0x00, 0x06, 0x00, 0x79, 0x13, 0, 0, 0, 0, 0, 0, 0x79, 0x24, 0, 0,
     0, 0, 0, 0, 0x0f, 0x34, 0, 0, 0, 0, 0, 0, 0x7b, 0x42, 0, 0, 0, 0, 0, 0, 0xb7, 0, 0, 0, 0, 0, 0,
     0, 0x95, 0, 0, 0, 0, 0, 0, 0,
 ];
 
 /// The image of a file.
-fn image(alloc: Global, file: &[u8]) -> Result<Arc<Image>, Fail> {
+pub(crate) fn image(alloc: Global, file: &[u8]) -> Result<Arc<Image>, Fail> {
     Ok(Arc::new(alloc, load(alloc, file)?)?)
 }

@@ -1,5 +1,5 @@
 -- Orders that were carried out, from what a session's calls ensure.
-use Rattle.std.proofs.Common.{◌≡◌, ◌∙◌, ℕ, List, [], ◌∷◌, ◌++◌, ◌≤◌, Option, Some, None, Result, Ok, Err, refl, sym, ap, subst, ◌⊎◌}
+use Rattle.std.proofs.Common.{◌≡◌, ◌∙◌, ℕ, List, [], ◌∷◌, ◌++◌, ◌≤◌, Option, Some, None, Result, Ok, Err, refl, sym, ap, subst, inl, ◌⊎◌}
 use Rattle.std.specs.Prelude.{slice_set}
 use Rattle.std.specs.Result.{result_and}
 use Rattle.replay.specs.Task.{TheTask}
@@ -9,15 +9,15 @@ use Rattle.world.specs.declared.refusal.Refusal.{Refusal}
 use Rattle.world.specs.declared.refusal.Refusal.TheVariants as refusals
 use Rattle.world.specs.Legal.{WStep}
 use Rattle.world.specs.Refusals.{cause_of}
-use Rattle.machine.specs.Arrival.{IsOpen}
+use Rattle.machine.specs.Arrival.{IsOpen, Told}
 use Rattle.machine.specs.Picking.{IsPick}
 use Rattle.machine.specs.Stepping.{job_of}
 use Rattle.sessions.specs.Journal as journal
-use Rattle.sessions.specs.Journal.{IsOpenAt, TheSession, entry}
+use Rattle.sessions.specs.Journal.{IsOpenAt, Takes, TheSession, entry}
 use Rattle.sessions.specs.Driving.{Driven}
 use Rattle.sessions.specs.Service.{own_seat, Owes}
-use Rattle.runner.specs.Orders.{HoldsJob, AcceptsCall, IsDriven, MakesCall, Position, with_entry}
-use Rattle.runner.specs.Inside.{ComesTo}
+use Rattle.runner.specs.Orders.{HoldsJob, AcceptsCall, BringsBack, IsDriven, MakesCall, Position, with_entry}
+use Rattle.runner.specs.Inside.{ComesTo, NoNumber, OnMemory}
 
 -- where a session stands, with these jobs held and so many messages handed in
 abbrev pub at : TheSession → List (Option TheTask) → ℕ → Position
@@ -49,6 +49,20 @@ begun old new c a task held n owes job is_open =
     ap (λ s. at s (slice_set held task.who.me (Some task)) n) owes.1 in
     (a, is-accepted old new c a held n owes, subst P (sym job) (task, refl, opens, holds))
 
+-- want of memory has no number
+unnumbered : (r : Refusal) (n : ℕ) → r ≡ refusals.Memory → cause_of r ≡ Some n → ⊥
+unnumbered r n is told = let none : None ≡ Some n = ap cause_of (sym is) ∙ told in cc
+
+-- a call that finds no memory
+pub call-unnumbered : (old new : TheSession) (c : Call) (r : Refusal) (held : List (Option TheTask)) (n : ℕ) → Owes old new c (Err r) → r ≡ refusals.Memory
+    → NoNumber (MakesCall (at old held n) c)
+call-unnumbered old new c r held n owes is = λ m next made. unnumbered r m is (sym owes.2 ∙ made.1)
+
+-- a result that finds none
+pub result-unnumbered : (old new : TheSession) (task : TheTask) (r : Refusal × TheTask) (held : List (Option TheTask)) (n : ℕ) → Takes old new (own_seat old) (own_seat new) task (Err r)
+    → r.0 ≡ refusals.Memory → NoNumber (BringsBack (at old held n) (Some task))
+result-unnumbered old new task r held n takes is = λ m next back. back.2 (subst (λ (x : Refusal). Told x (IsOpen old.images task (journal.world_at old))) is takes.3)
+
 -- a drive
 pub driven : {U : Type 0} (u : U) (budget : ℕ) (old new : TheSession) (r : Result ℕ Refusal) (held : List (Option TheTask)) (n : ℕ)
     → Driven budget old new (own_seat old) (own_seat new) r → ComesTo (λ refused. IsDriven budget (at old held n) (at new held n) × (refused ≡ None)) (result_and r (Ok u))
@@ -56,7 +70,9 @@ driven u budget old new (Ok k) held n made =
     let ran = made.0 in
     let Q : ℕ → Type 0 = λ l. (budget ≤ l) ⊎ ((c : Call) → ¬ IsPick (journal.world_at new) (journal.room_at new) c) in
     (record { added = ran.added; new_is = ap (λ s. at s held n) ran.entries; run = ran.run; ended = subst Q (sym ran.as_many) made.1 }, refl)
-driven u budget old new (Err r) held n made = λ m told. absurd (memory r m made.0 told)
-  where
-    memory : (r : Refusal) (m : ℕ) → r ≡ refusals.Memory → cause_of r ≡ Some m → ⊥
-    memory r m is told = let none : None ≡ Some m = ap cause_of (sym is) ∙ told in cc
+driven u budget old new (Err r) held n made = λ m told. absurd (unnumbered r m made.0 told)
+
+-- what holds where memory runs out, or something else
+pub or_else : {X : Type 0} (P Q : Type 0) (r : Result X Refusal) → OnMemory P r → OnMemory (P ⊎ Q) r
+or_else P Q (Ok x) holds = tt
+or_else P Q (Err r) holds = λ is. inl (holds is)

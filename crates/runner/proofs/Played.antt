@@ -1,5 +1,6 @@
 -- Orders that were carried out one after the other.
-use Rattle.std.proofs.Common.{◌≡◌, ◌∙◌, ℕ, List, [], ◌∷◌, ◌++◌, append_assoc, length, take, Option, Some, None, refl, sym, ap, subst, arith}
+use Rattle.std.proofs.Common.{◌≡◌, ◌∙◌, ℕ, List, [], ◌∷◌, ◌++◌, append_assoc, length, take, Option, Some, None, Result, Ok, Err, refl, sym, ap, subst, inl, inr, arith}
+use Rattle.std.specs.Result.{OnErr}
 use Rattle.std.proofs.lemmas.List.{append-nil, take_all}
 use Rattle.verifier.specs.Typed.{Typed}
 use Rattle.world.specs.declared.call.Call.{Call}
@@ -15,8 +16,8 @@ use Rattle.scenario.specs.declared.order.Order.TheVariants as order
 use Rattle.scenario.specs.declared.scenario.Step.{Step}
 use Rattle.runner.specs.Orders.{CarriesOut, BringsBack, HoldsJob, MakesCall, Position, beginning, held_for, with_entry, without_job, world_at}
 use Rattle.runner.specs.Results.{results_text}
-use Rattle.runner.specs.Inside.{ArePlayed, IsPlayed}
-use Rattle.runner.specs.Run.{AreCarriedOut, IsCut, IsRun, RunsThrough, refused_text}
+use Rattle.runner.specs.Inside.{ArePlayed, ArePlayedTo, IsPlayed}
+use Rattle.runner.specs.Run.{AreCarriedOut, CutsOff, IsCut, IsRun, RunsThrough, refused_text}
 
 -- an order keeps the images
 
@@ -72,6 +73,11 @@ runs-more at mid next (first ∷ steps) step lines r leads does = (
   ap (λ ls. ls ++ refused_text step.line r) leads.5 ∙ append_assoc (refused_text first.line leads.1) leads.2 (refused_text step.line r),
 )
 
+-- a fact that holds, where something has failed
+pub on_err : {T E P : Type 0} (r : Result T E) → P → OnErr r P
+on_err (Ok x) holds = tt
+on_err (Err e) holds = holds
+
 -- where no order is made, nothing is told
 pub played-none : (at : Position) (old : List ℕ) → ArePlayed [] at at old old
 played-none at old = ([], (refl, refl), sym (append-nil old))
@@ -114,17 +120,26 @@ played-run names images end steps old mid new played legal text =
     }
 
 -- and the first of them alone
-pub played-cut : (images : List Typed) (end : Position) (steps : List Step) (count : ℕ) (old new : List ℕ)
-    → ArePlayed (take count steps) (beginning images) end old new → IsCut images steps old new
-played-cut images end steps count old new played =
-    record { count = count; lines = played.0; end = end; leads = played.1; text = played.2 }
+played-cut : (images : List Typed) (end : Position) (steps : List Step) (count : ℕ) (old new : List ℕ)
+    → ArePlayed (take count steps) (beginning images) end old new → CutsOff steps count end → IsCut images steps old new
+played-cut images end steps count old new played stops =
+    record { count = count; lines = played.0; end = end; leads = played.1; stops = stops; text = played.2 }
+
+-- none of them
+pub cut-none : (images : List Typed) (steps : List Step) (old new : List ℕ) → new ≡ old → IsCut images steps old new
+cut-none images steps old new same =
+    subst (IsCut images steps old) (sym same) (played-cut images (beginning images) steps 0 old old (played-none (beginning images) old) (inl refl))
+
+-- those before one that finds no memory
+pub played-to : (images : List Typed) (steps : List Step) (old new : List ℕ) → ArePlayedTo steps (beginning images) old new → IsCut images steps old new
+played-to images steps old new to = played-cut images to.end steps to.count old new to.played (inr (inl (to.step, to.next, to.finds)))
 
 -- and all of them, to the end
 pub played-all : (images : List Typed) (end : Position) (steps : List Step) (old new : List ℕ)
     → ArePlayed steps (beginning images) end old new → IsCut images steps old new
 played-all images end steps old new played =
     let whole : take (length steps) steps ≡ steps = take_all (length steps) steps (omega arith) in
-    played-cut images end steps (length steps) old new (subst (λ (xs : List Step). ArePlayed xs (beginning images) end old new) (sym whole) played)
+    played-cut images end steps (length steps) old new (subst (λ (xs : List Step). ArePlayed xs (beginning images) end old new) (sym whole) played) (inr (inr refl))
 
 -- a refusal with another cause than want of memory has its number
 pub cause-number : (r : Refusal) → (r ≡ refusals.Memory → ⊥) → cause_of r ≡ Some (number_of r)

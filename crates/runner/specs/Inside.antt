@@ -1,16 +1,18 @@
 -- What the functions of this crate say to one another of a run.
-use Rattle.std.specs.Prelude.{◌≡◌, ◌≢◌, ◌+◌, ◌++◌, ℕ, List, [], ◌∷◌, length, Option, Some, None, Result, Ok, Err}
+use Rattle.std.specs.Prelude.{◌≡◌, ◌≢◌, ◌+◌, ◌++◌, ℕ, List, [], ◌∷◌, length, slice_get, take, Option, Some, None, Result, Ok, Err}
 use Rattle.world.specs.declared.message.Feed.{Feed}
 use Rattle.world.specs.declared.refusal.Refusal.{Refusal}
 use Rattle.world.specs.declared.refusal.Refusal.TheVariants.{Memory}
 use Rattle.world.specs.Refusals.{cause_of}
+use Rattle.sessions.specs.Seats.{TheSeat}
 use Rattle.sessions.specs.declared.share.Share.{Share}
 use Rattle.sessions.specs.declared.share.End.TheVariants.{Refused}
 use Rattle.scenario.specs.declared.order.Order.{Order}
 use Rattle.scenario.specs.declared.order.Order.TheVariants.{Input, Bytes}
 use Rattle.scenario.specs.declared.scenario.Step.{Step}
+use Rattle.runner.specs.declared.ended.Ended.{Ended}
 use Rattle.runner.specs.declared.player.Player.{Player}
-use Rattle.runner.specs.Orders.{CarriesOut, Position}
+use Rattle.runner.specs.Orders.{CarriesOut, FindsNoMemory, Position}
 use Rattle.runner.specs.Run.{RunsThrough, refused_text}
 use Rattle.runner.specs.Word.{message_word}
 
@@ -23,6 +25,15 @@ abbrev pub ComesTo : {X : Type 0} → (Option ℕ → Type 0) → Result X Refus
 ComesTo does (Ok x) = does None
 ComesTo does (Err r) = (n : ℕ) → cause_of r ≡ Some n → does (Some n)
 
+-- where memory runs out, this holds
+abbrev pub OnMemory : {X : Type 0} → Type 0 → Result X Refusal → Type 0
+OnMemory P (Ok x) = Unit {0}
+OnMemory P (Err r) = r ≡ Memory → P
+
+-- no number refuses what is done
+abbrev pub NoNumber : (Position → Option ℕ → Type 0) → Type 0
+NoNumber does = (n : ℕ) (next : Position) → ¬ does next (Some n)
+
 -- the order of a step is carried out, and its line written if it was refused
 abbrev pub IsPlayed : Step → Position → Position → List ℕ → List ℕ → Type 0
 IsPlayed step here next old new = (refused : Option ℕ) × CarriesOut here step.order next refused × (new ≡ old ++ refused_text step.line refused)
@@ -31,11 +42,29 @@ IsPlayed step here next old new = (refused : Option ℕ) × CarriesOut here step
 abbrev pub ArePlayed : List Step → Position → Position → List ℕ → List ℕ → Type 0
 ArePlayed steps here end old new = (lines : List ℕ) × RunsThrough here steps lines end × (new ≡ old ++ lines)
 
+-- the first of these steps are made, and the next one finds no memory
+pub record ArePlayedTo (steps : List Step) (here : Position) (old new : List ℕ) : Type 0 where
+  pub count : ℕ
+  pub end : Position
+  pub played : ArePlayed (take count steps) here end old new
+  pub step : Step
+  pub next : slice_get steps count ≡ Some step
+  pub finds : FindsNoMemory end step.order
+
 -- ---- workers
 
 -- memory didn't run out for a worker
 abbrev pub HasMemory : {L : Type 0} → Share L → Type 0
 HasMemory share = share.end ≢ Refused Memory
+
+-- how the worker of a share ended
+abbrev pub ended_of : {L : Type 0} → Share L → Ended
+ended_of share = record { worker = share.seat.worker; answered = share.seat.answered; end = share.end }
+
+-- these seats weren't answered yet, and the first has this worker and each other one the next
+abbrev pub AreFresh : ℕ → List TheSeat → Type 0
+AreFresh worker [] = Unit {0}
+AreFresh worker (s ∷ ss) = (s ≡ record { worker = worker; answered = 0 }) × AreFresh (worker + 1) ss
 
 -- the message that an order hands in, with this number
 abbrev pub feed_of : ℕ → Order → Option Feed

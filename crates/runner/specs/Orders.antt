@@ -1,5 +1,5 @@
 -- What it is to carry out an order of a scenario (docs/FORMATS.md, "Carrying out").
-use Rattle.std.specs.Prelude.{◌≡◌, ◌≤◌, ◌+◌, ◌-◌, ◌⊎◌, ℕ, List, [], ◌∷◌, ◌++◌, length, replicate, Option, Some, None, slice_index_or, slice_set}
+use Rattle.std.specs.Prelude.{◌≡◌, ◌≤◌, ◌+◌, ◌-◌, ◌^◌, ◌⊎◌, ℕ, List, [], ◌∷◌, ◌++◌, length, replicate, Option, Some, None, slice_index_or, slice_set}
 use Rattle.verifier.specs.Typed.{Typed}
 use Rattle.replay.specs.Task.{TheTask}
 use Rattle.world.specs.declared.call.Call.{Call}
@@ -112,3 +112,13 @@ CarriesOut old (order.RecoverAlone p) new refused = MakesCall old (call.RecoverA
 CarriesOut old (order.ReplayBegin p) new refused = MakesCall old (call.ReplayBegin p) new refused
 CarriesOut old (order.Resync p peer) new refused = MakesCall old (call.Resync p peer) new refused
 CarriesOut old (order.Drive budget) new refused = IsDriven budget old new × (refused ≡ None)
+
+-- an order hands in a message, and all feed numbers below 2^32 are used
+abbrev pub HasNoFeed : Position → Order → Type 0
+HasNoFeed here (order.Input to word) = 2 ^ 32 ≤ here.inputs + 1
+HasNoFeed here (order.Bytes to payload) = 2 ^ 32 ≤ here.inputs + 1
+HasNoFeed here order = ⊥
+
+-- an order finds no memory: no number refuses it here, or it finds no feed number
+abbrev pub FindsNoMemory : Position → Order → Type 0
+FindsNoMemory here order = ((n : ℕ) (next : Position) → ¬ CarriesOut here order next (Some n)) ⊎ HasNoFeed here order

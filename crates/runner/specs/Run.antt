@@ -1,11 +1,11 @@
 -- What a run of a scenario writes (docs/FORMATS.md, "Carrying out").
-use Rattle.std.specs.Prelude.{◌≡◌, ℕ, List, [], ◌∷◌, ◌++◌, codes, decimal, length, take, Option, Some, None}
+use Rattle.std.specs.Prelude.{◌≡◌, ◌⊎◌, ℕ, List, [], ◌∷◌, ◌++◌, codes, decimal, length, slice_get, take, Option, Some, None}
 use Rattle.verifier.specs.Typed.{Typed}
 use Rattle.world.specs.declared.entry.Entry.{Entry}
 use Rattle.world.specs.Fold.{handlers_of}
 use Rattle.world.specs.Legal.{Legal}
 use Rattle.scenario.specs.declared.scenario.Step.{Step}
-use Rattle.runner.specs.Orders.{CarriesOut, Position, beginning}
+use Rattle.runner.specs.Orders.{CarriesOut, FindsNoMemory, Position, beginning}
 use Rattle.runner.specs.Results.{results_text}
 
 -- the line of an order that is refused with this number, if it is, and stands in this line of the scenario
@@ -38,10 +38,17 @@ pub record IsRun (names : List (List ℕ)) (images : List Typed) (steps : List S
   pub carried : AreCarriedOut images steps lines entries
   pub text : new ≡ old ++ (lines ++ results_text names images entries)
 
+-- where a run stops for want of memory: before the first order, at one that finds none, or behind all of them. An order that a number
+-- refuses is none of these
+abbrev pub CutsOff : List Step → ℕ → Position → Type 0
+CutsOff steps count here =
+    (count ≡ 0) ⊎ (((step : Step) × (slice_get steps count ≡ Some step) × FindsNoMemory here step.order) ⊎ (count ≡ length steps))
+
 -- so many of the first orders are carried out, and behind the old text stand the refused lines alone
 pub record IsCut (images : List Typed) (steps : List Step) (old new : List ℕ) : Type 0 where
   pub count : ℕ
   pub lines : List ℕ
   pub end : Position
   pub leads : RunsThrough (beginning images) (take count steps) lines end
+  pub stops : CutsOff steps count end
   pub text : new ≡ old ++ lines

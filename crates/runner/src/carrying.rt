@@ -1,9 +1,9 @@
 //! Carrying out orders.
 
-ghost use Rattle.std.specs.Prelude.{◌≡◌};
+ghost use Rattle.std.specs.Prelude.{◌≡◌, ◌⊎◌, ◌≤◌, ◌+◌, ◌^◌};
 ghost use Rattle.machine.specs.Stepping.{TakesNoResult};
-ghost use Rattle.runner.specs.Orders.{CarriesOut, BringsBack, HandsIn, IsDriven, MakesCall, held_for, without_job};
-ghost use Rattle.runner.specs.Inside.{ComesTo, position_of};
+ghost use Rattle.runner.specs.Orders.{CarriesOut, BringsBack, FindsNoMemory, HandsIn, IsDriven, MakesCall, held_for, without_job};
+ghost use Rattle.runner.specs.Inside.{ComesTo, NoNumber, OnMemory, position_of};
 
 use crate::player::Player;
 use crate::word::payload_of;
@@ -13,9 +13,11 @@ use world::{Call, Refusal};
 
 impl Player {
     /// Carries out an order as nobody. A refused order leaves all as it is, but that it has used
-    /// its feed number, or that a held job is dropped. Behind want of memory the run is to end.
+    /// its feed number, or that a held job is dropped. Want of memory is told only where no number
+    /// refuses the order; behind it the run is to end.
     pub(crate) fn carry_out(&mut self, order: &Order) -> Result<(), Refusal>
-        ensures { ComesTo (CarriesOut (position_of self.old) order.now (position_of self.new)) result }
+        ensures done { ComesTo (CarriesOut (position_of self.old) order.now (position_of self.new)) result }
+        ensures memory { OnMemory (FindsNoMemory (position_of self.old) order.now) result }
     {
         match *order {
             Order::Input { to, word } => self.hand_in(to, payload_of(word)),
@@ -39,7 +41,8 @@ impl Player {
     // Hands in a message, with the next feed number. There are fewer than 2^32 of them: one more
     // finds no memory.
     fn hand_in(&mut self, to: u8, payload: Payload) -> Result<(), Refusal>
-        ensures { ComesTo (HandsIn (position_of self.old) to payload (position_of self.new)) result }
+        ensures done { ComesTo (HandsIn (position_of self.old) to payload (position_of self.new)) result }
+        ensures memory { OnMemory (NoNumber (HandsIn (position_of self.old) to payload) ⊎ (2 ^ 32 ≤ self.old.inputs + 1)) result }
     {
         let Some(feed) = self.inputs.checked_add(1) else {
             return Err(Refusal::Memory);
@@ -51,7 +54,8 @@ impl Player {
     // Makes a call, and holds the job that it starts.
     fn make(&mut self, call: &Call) -> Result<(), Refusal>
         requires { TakesNoResult call.now }
-        ensures { ComesTo (MakesCall (position_of self.old) call.now (position_of self.new)) result }
+        ensures done { ComesTo (MakesCall (position_of self.old) call.now (position_of self.new)) result }
+        ensures memory { OnMemory (NoNumber (MakesCall (position_of self.old) call.now)) result }
     {
         let reply = self.session.call(call)?;
         if let Some(job) = reply.job {
@@ -62,7 +66,8 @@ impl Player {
 
     // Runs the held job of a process, and brings its result back.
     fn finish(&mut self, process: u8) -> Result<(), Refusal>
-        ensures { ComesTo (BringsBack (without_job (position_of self.old) process) (held_for (position_of self.old) process) (position_of self.new)) result }
+        ensures done { ComesTo (BringsBack (without_job (position_of self.old) process) (held_for (position_of self.old) process) (position_of self.new)) result }
+        ensures memory { OnMemory (NoNumber (BringsBack (without_job (position_of self.old) process) (held_for (position_of self.old) process))) result }
     {
         let Some(job) = self.take(process) else {
             return Err(Refusal::StaleJob);

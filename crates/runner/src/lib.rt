@@ -7,10 +7,13 @@
 //! `specs/Results.antt`, which follows from the names, the images and the journal alone.
 //!
 //! [`live`] has workers do it, who are fed with the messages of a scenario. Its promise: what is written is the trace and the
-//! report of a legal journal of the images that were given; where memory runs out, nothing is.
+//! report of a legal journal of the images that were given, whose entries are calls that workers may make; as many workers as
+//! were asked for ended, each within its budget, and the journal has as many entries as their calls were accepted; where
+//! memory runs out, nothing is written.
 #![tactic(auto)]
 
 mod carrying;
+mod ended;
 mod feeds;
 mod held;
 mod living;
@@ -20,6 +23,7 @@ mod results;
 mod running;
 mod word;
 
+pub use ended::Ended;
 pub use living::live;
 pub use results::push_results;
 pub use running::{journal_of, run};

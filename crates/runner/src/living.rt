@@ -1,16 +1,20 @@
 //! Runs by workers.
 
-ghost use Rattle.std.specs.Prelude.{◌≡◌, ◌↔◌, ◌≤◌, ◌++◌, All, IfOk, IsTrue, OnErr, OnOk, [], length, map, string_bytes};
+ghost use Rattle.std.specs.Prelude.{◌≡◌, ◌↔◌, ◌≤◌, ◌+◌, ◌++◌, All, IfOk, IsTrue, OnErr, OnOk, [], length, map, string_bytes};
 ghost use Rattle.std.specs.Arc.{arc_value};
 ghost use Rattle.machine.specs.Opening.{AreFew};
 ghost use Rattle.scenario.specs.Process.{names_of};
 ghost use Rattle.sessions.specs.Journal.{IsLegal};
-ghost use Rattle.sessions.specs.Seats.{new_seats};
-ghost use Rattle.workers.specs.Running.{CanRun};
+ghost use Rattle.sessions.specs.Seats.{answered_by, new_seats};
+ghost use Rattle.sessions.specs.Shares.{answers_of};
+ghost use Rattle.workers.specs.Continues.{Continues};
+ghost use Rattle.workers.specs.Running.{CanRun, manned};
+ghost use Rattle.workers.specs.Shares.{AreServed};
 ghost use Rattle.runner.specs.Inside.{HasMemory};
 ghost use Rattle.runner.specs.Live.{IsLive};
 ghost use Rattle.runner.specs.Results.{results_text};
 
+use crate::ended::{Ended, ends_of};
 use crate::feeds::feeds_of;
 use crate::opening::want_of_memory;
 use crate::results::push_results;
@@ -78,8 +82,10 @@ fn served<L: Ledger + Send + Sync, R: Threads + Wait + Sync>(
 ) -> Result<Closed<L>, AllocError>
     requires parts { L.parts ≡ 17 }
     requires can { CanRun workers session }
-    ensures images { IfOk result (λ c. c.session.images ≡ session.images) }
     ensures legal { IfOk result (λ c. IsLegal c.session) }
+    ensures continues { IfOk result (λ c. Continues session c.session) }
+    ensures served { IfOk result (λ c. AreServed budget (manned workers session.seats) c.shares.items) }
+    ensures grew { IfOk result (λ c. length c.session.entries + answered_by (manned workers session.seats) ≡ length session.entries + answers_of c.shares.items) }
 {
     let (error, _session) = match run(rt, alloc, workers, session, feeds, budget, &Open) {
         Ok(closed) => return Ok(closed),
@@ -101,26 +107,28 @@ fn live_in<L: Ledger + Send + Sync, R: Threads + Wait + Sync>(
     workers: u8,
     budget: u32,
     out: &mut String,
-) -> Result<(), AllocError>
+) -> Result<Vec<Ended>, AllocError>
     requires name { blank.name ≡ L.name }
     requires parts { (blank.parts ≡ L.parts) × (blank.parts ≡ 17) }
     requires few { AreFew (map arc_value images.items) }
     requires named { length scenario.now.processes.entries ≡ length images.items }
     requires workers { (1 ≤ workers) × (workers ≤ 16) }
-    ensures written { OnOk result (IsLive (names_of scenario.now.processes) (map arc_value images.items) (string_bytes out.old) (string_bytes out.new)) }
+    ensures written { IfOk result (λ ended. IsLive (names_of scenario.now.processes) (map arc_value images.items) workers budget ended.items (string_bytes out.old) (string_bytes out.new)) }
     ensures unchanged { OnErr result (string_bytes out.new ≡ string_bytes out.old) }
 {
     let feeds = feeds_of(alloc, scenario.steps.as_slice())?;
     let session: Session<L> = opened(alloc, blank, images)?;
     let closed = served(rt, alloc, session, feeds.as_slice(), workers, budget)?;
+    let ended = ends_of(alloc, closed.shares.as_slice())?;
     push_closed(alloc, out, &scenario.processes, &closed)?;
-    Ok(())
+    Ok(ended)
 }
 
 /// Runs so many workers, 1 to 16, on a session of these images, 1 to 15, as many as the scenario has
 /// processes. They are fed with the messages of its lines, numbered from 1; each ends where it made as
 /// many calls as the budget, and up to two more. It writes the trace and the report (docs/FORMATS.md)
-/// of the session that they leave. Where memory runs out, also for one of them, nothing is written.
+/// of the session that they leave, and answers how each ended, in the order of their numbers. Where
+/// memory runs out, also for one of them, nothing is written.
 pub fn live<R: Threads + Wait + Sync>(
     rt: &R,
     alloc: Global,
@@ -129,11 +137,11 @@ pub fn live<R: Threads + Wait + Sync>(
     workers: u8,
     budget: u32,
     out: &mut String,
-) -> Result<(), AllocError>
+) -> Result<Vec<Ended>, AllocError>
     requires few { AreFew (map arc_value images.items) }
     requires named { length scenario.now.processes.entries ≡ length images.items }
     requires workers { (1 ≤ workers) × (workers ≤ 16) }
-    ensures written { OnOk result (IsLive (names_of scenario.now.processes) (map arc_value images.items) (string_bytes out.old) (string_bytes out.new)) }
+    ensures written { IfOk result (λ ended. IsLive (names_of scenario.now.processes) (map arc_value images.items) workers budget ended.items (string_bytes out.old) (string_bytes out.new)) }
     ensures unchanged { OnErr result (string_bytes out.new ≡ string_bytes out.old) }
 {
     let blank = Blank::new(17);

@@ -1,54 +1,95 @@
 //! Runs of a scenario.
 
-ghost use Rattle.std.specs.Prelude.{◌≡◌, ◌≢◌, ◌++◌, ℕ, IfErr, IfOk, OnErr, OnOk, Some, length, map, string_bytes, take};
+ghost use Rattle.std.specs.Prelude.{◌≡◌, ◌≢◌, ◌≤◌, ◌+◌, ◌*◌, ◌++◌, ℕ, IfErr, IfOk, OnErr, OnOk, Some, length, map, string_bytes, string_capacity, string_len};
 ghost use Rattle.std.specs.Arc.{arc_value};
 ghost use Rattle.machine.specs.Opening.{AreFew};
 ghost use Rattle.scenario.specs.Process.{names_of};
-ghost use Rattle.runner.specs.Orders.{Position, beginning};
-ghost use Rattle.runner.specs.Inside.{ArePlayed, IsPlayed, position_of};
+ghost use Rattle.runner.specs.Orders.{FindsNoMemory, beginning};
+ghost use Rattle.runner.specs.Inside.{ArePlayed, ArePlayedTo, IsPlayed, position_of};
 ghost use Rattle.runner.specs.Run.{IsCut, IsJournal, IsRun, refused_text};
 
 use crate::player::Player;
 use crate::results::push_results;
+use itoa::Buffer;
 use scenario::{Scenario, Step};
 use std::alloc::{AllocError, Global};
 use std::sync::Arc;
 use verifier::Image;
 use world::{Entry, Refusal};
 
-/// Writes that the order of a line was refused, with the refusal's number. Where memory runs out,
-/// nothing is written.
-fn push_refused(alloc: Global, out: &mut String, line: usize, number: u8) -> Result<(), AllocError>
-    ensures written { OnOk result (string_bytes out.new ≡ string_bytes out.old ++ refused_text line (Some number)) }
-    ensures unchanged { OnErr result (string_bytes out.new ≡ string_bytes out.old) }
+/// How many bytes the line of a refused order has at most: 20 digits of its line, and 3 of a number.
+const LINE_BYTES: usize = 38;
+
+/// Makes room for a line of each of so many orders. Where there is none, nothing has changed.
+fn make_room(out: &mut String, orders: usize) -> Result<(), AllocError>
+    ensures bytes { string_bytes out.new ≡ string_bytes out.old }
+    ensures room { OnOk result (string_len out.new + 38 * orders ≤ string_capacity out.new) }
 {
-    let text = format!(in alloc; "line {line} refused {number}\n")?;
-    out.push_str(text.as_str())
+    let Some(bytes) = orders.checked_mul(LINE_BYTES) else {
+        return Err(AllocError);
+    };
+    out.reserve(bytes)
+}
+
+// Puts a text behind one that has room for it.
+fn push_reserved(out: &mut String, text: &str)
+    requires { string_len out.old + length text.now ≤ string_capacity out.old }
+    ensures bytes { string_bytes out.new ≡ string_bytes out.old ++ text.now }
+    ensures len { string_len out.new ≡ string_len out.old + length text.now }
+    ensures capacity { string_capacity out.old ≤ string_capacity out.new }
+{
+    match out.push_str(text) {
+        Ok(()) => (),
+        Err(_) => unreachable!(),
+    }
+}
+
+/// Writes that the order of a line was refused, with the refusal's number, where there is room.
+fn push_refused(out: &mut String, line: usize, number: u8)
+    requires { string_len out.old + 38 ≤ string_capacity out.old }
+    ensures written { string_bytes out.new ≡ string_bytes out.old ++ refused_text line (Some number) }
+    ensures len { string_len out.new ≤ string_len out.old + 38 }
+    ensures capacity { string_capacity out.old ≤ string_capacity out.new }
+{
+    let mut digits = Buffer::new();
+    push_reserved(out, "line ");
+    push_reserved(out, digits.format(line));
+    push_reserved(out, " refused ");
+    push_reserved(out, digits.format(number));
+    push_reserved(out, "\n");
 }
 
 impl Player {
     // Carries out the order of a step, and writes its line where it is refused. It ends the run
-    // where memory runs out, and then writes nothing.
-    fn obey(&mut self, alloc: Global, step: &Step, out: &mut String) -> Result<(), AllocError>
+    // where the order finds no memory, and then writes nothing.
+    fn obey(&mut self, step: &Step, out: &mut String) -> Result<(), AllocError>
+        requires { string_len out.old + 38 ≤ string_capacity out.old }
         ensures done { OnOk result (IsPlayed step.now (position_of self.old) (position_of self.new) (string_bytes out.old) (string_bytes out.new)) }
+        ensures memory { OnErr result (FindsNoMemory (position_of self.old) step.now.order) }
         ensures unchanged { OnErr result (string_bytes out.new ≡ string_bytes out.old) }
+        ensures len { string_len out.new ≤ string_len out.old + 38 }
+        ensures capacity { string_capacity out.old ≤ string_capacity out.new }
     {
         let Err(refusal) = self.carry_out(&step.order) else {
             return Ok(());
         };
         match refusal {
             Refusal::Memory => Err(AllocError),
-            other => push_refused(alloc, out, step.line, other.number()),
+            other => {
+                push_refused(out, step.line, other.number());
+                Ok(())
+            }
         }
     }
 
     // Carries out the orders of all steps, one after the other.
-    fn play(&mut self, alloc: Global, steps: &[Step], out: &mut String) -> Result<(), AllocError>
+    fn play(&mut self, steps: &[Step], out: &mut String) -> Result<(), AllocError>
+        requires { string_len out.old + 38 * length steps.now ≤ string_capacity out.old }
         ensures done { OnOk result (ArePlayed steps.now (position_of self.old) (position_of self.new) (string_bytes out.old) (string_bytes out.new)) }
-        ensures short { OnErr result ((k : ℕ) × (here : Position) × ArePlayed (take k steps.now) (position_of self.old) here (string_bytes out.old) (string_bytes out.new)) }
+        ensures short { OnErr result (ArePlayedTo steps.now (position_of self.old) (string_bytes out.old) (string_bytes out.new)) }
     {
         for step in steps {
-            self.obey(alloc, step, out)?;
+            self.obey(step, out)?;
         }
         Ok(())
     }
@@ -66,14 +107,16 @@ fn played(
     ensures short { OnErr result (IsCut (map arc_value images.items) steps.now (string_bytes out.old) (string_bytes out.new)) }
 {
     let mut player = Player::open(alloc, images)?;
-    player.play(alloc, steps, out)?;
+    make_room(out, steps.len())?;
+    player.play(steps, out)?;
     Ok(player)
 }
 
 /// Carries out the orders of a scenario as nobody, in a session of these images, 1 to 15, as many
 /// as it has processes (docs/FORMATS.md, "Carrying out"). It writes the line of each order that was
 /// refused, and behind them the trace and the report. Where memory runs out, which counts for a
-/// message above 2^32 too, what it wrote are lines of refused orders alone.
+/// message above 2^32 too, what it wrote are lines of refused orders alone: room for these is made
+/// before the first order, so an order that a number refuses never ends the run.
 pub fn run(
     alloc: Global,
     scenario: &Scenario,

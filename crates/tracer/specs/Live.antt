@@ -1,6 +1,7 @@
 -- The command `live` (docs/FORMATS.md, "Commands").
 use Rattle.std.specs.Prelude.{ℕ, List, []}
 use Rattle.runner.specs.Live.{IsLive}
+use Rattle.runner.specs.declared.ended.Ended.{Ended}
 use Rattle.verifier.specs.Typed.{Typed}
 use Rattle.scenario.specs.Process.{names_of}
 use Rattle.scenario.specs.declared.order.Allowed.TheVariants.{Inputs}
@@ -8,9 +9,10 @@ use Rattle.scenario.specs.declared.scenario.Scenario.{Scenario}
 use Rattle.tracer.specs.Files.{Content}
 use Rattle.tracer.specs.Stage.{IsStaged}
 
--- the bytes are a scenario of inputs, and workers leave this text of it with the images of its processes
-pub record IsLiveText (content : Content) (bytes text : List ℕ) : Type 0 where
+-- the bytes are a scenario of inputs, and so many workers, each with this budget, leave this text of it with the images of its processes
+pub record IsLiveText (content : Content) (workers budget : ℕ) (bytes text : List ℕ) : Type 0 where
   pub scenario : Scenario
   pub images : List Typed
   pub staged : IsStaged content Inputs bytes scenario images
-  pub live : IsLive (names_of scenario.processes) images [] text
+  pub ended : List Ended
+  pub live : IsLive (names_of scenario.processes) images workers budget ended [] text

@@ -25,7 +25,7 @@ path_of (Dis image) = image
 -- the order prints this text where that file has these bytes
 abbrev pub IsReport : Content → Order → List ℕ → List ℕ → Type 0
 IsReport content (Run scenario) bytes text = IsRunText content bytes text
-IsReport content (Live scenario workers budget) bytes text = IsLiveText content bytes text
+IsReport content (Live scenario workers budget) bytes text = IsLiveText content workers budget bytes text
 IsReport content (Draw scenario picture) bytes text = ((file : List ℕ) × IsDrawn content bytes file) × (text ≡ [])
 IsReport content (Check image) bytes text = (count : ℕ) × IsAccepted bytes count × (text ≡ accepted_text count)
 IsReport content (Asm source image state form) bytes text = ((file : List ℕ) × IsAssembled bytes state form file) × (text ≡ [])

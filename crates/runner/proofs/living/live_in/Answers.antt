@@ -5,7 +5,8 @@ use Rattle.sessions.specs.Journal.{TheSession}
 use Rattle.sessions.specs.Seats.{IsWhole}
 use Rattle.scenario.specs.Process.{names_of}
 use Rattle.workers.specs.Running.{CanRun}
-use Rattle.runner.proofs.LiveLemmas.{live_by, whole_new}
+use Rattle.runner.specs.Inside.{ended_of}
+use Rattle.runner.proofs.LiveLemmas.{Leave, live_by, whole_new}
 use Rattle.runner.proofs.living.live_in.Goals as goal
 
 pub served-requires-clause-can : goal.served-requires-clause-can
@@ -19,11 +20,19 @@ served-requires-clause-can g c =
 
 pub push_closed-requires : goal.push_closed-requires
 push_closed-requires g c =
-    let images = c.in_ok-closed.ensures.images ∙ ap (λ (s : TheSession). s.images) c.in_ok-session.ensures in
+    let images = c.in_ok-closed.ensures.continues.images ∙ ap (λ (s : TheSession). s.images) c.in_ok-session.ensures in
     c.requires.named ∙ sym (length-map c.args.images.items arc_value) ∙ sym (ap length images)
 
 pub returns-clause-written : goal.returns-clause-written
 returns-clause-written g c =
-    let images = c.in_ok-closed.ensures.images ∙ ap (λ (s : TheSession). s.images) c.in_ok-session.ensures in
-    live_by (names_of c.args.scenario.now.processes) (map arc_value c.args.images.items) c.in_ok-closed.closed.session.images c.in_ok-closed.closed.session.entries
-    (string_bytes c.args.out.now) (string_bytes c.push_closed.new.out) images c.in_ok-closed.ensures.legal c.in_ok-push_closed.ensures.written
+    let opened = c.in_ok-session.session in
+    let closed = c.in_ok-closed.closed.session in
+    let shares = c.in_ok-closed.closed.shares.items in
+    let leave : Leave c.args.workers c.args.budget opened closed shares = record {
+      served = c.in_ok-closed.ensures.served;
+      continues = c.in_ok-closed.ensures.continues;
+      grew = c.in_ok-closed.ensures.grew;
+    } in
+    live_by (names_of c.args.scenario.now.processes) (map arc_value c.args.images.items) c.args.workers c.args.budget opened closed shares c.in_ok-ended.ended.items
+    (string_bytes c.args.out.now) (string_bytes c.push_closed.new.out) c.requires.workers.1 c.in_ok-session.ensures leave c.in_ok-closed.ensures.legal
+    c.in_ok-push_closed.ensures.served (c.in_ok-ended.ensures ∙ ap (map ended_of) c.as_slice-3.ensures.value) c.in_ok-push_closed.ensures.written

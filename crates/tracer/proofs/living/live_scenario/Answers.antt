@@ -30,5 +30,6 @@ returns-clause-report g c = λ known there.
       scenario = s;
       images = images;
       staged = staged (g.F.Files.content c.args.files.now) Inputs c.args.path.now known s images c.in_ok-scenario.ensures.staged there;
-      live = subst (λ (old : List ℕ). IsLive (names_of s.processes) images old (string_bytes c.live.new.out)) c.requires.empty c.in_ok-live.ensures.written;
+      ended = c.in_ok-live.field-0.items;
+      live = subst (λ (old : List ℕ). IsLive (names_of s.processes) images c.args.workers c.args.budget c.in_ok-live.field-0.items old (string_bytes c.live.new.out)) c.requires.empty c.in_ok-live.ensures.written;
     }

@@ -5,11 +5,11 @@ use Rattle.sessions.specs.Driving.{Starts}
 use Rattle.sessions.specs.Journal.{world_at}
 use Rattle.runner.specs.Inside.{position_of}
 use Rattle.runner.specs.Orders.{MakesCall}
-use Rattle.runner.proofs.Carried.{begun, quiet}
+use Rattle.runner.proofs.Carried.{begun}
 use Rattle.runner.proofs.player.Player.make.Goals as goal
 
-pub returns-in-Some : goal.returns-in-Some
-returns-in-Some c =
+pub returns-in-Some-clause-done : goal.returns-in-Some-clause-done
+returns-in-Some-clause-done c =
     let s = c.args.self.now in
     let call = c.args.call.now in
     let reply = c.in_ok-reply.reply in
