@@ -1,20 +1,21 @@
 -- An acknowledgement comes
 use Rattle.std.proofs.Common.{◌≡◌, ◌≢◌, ℕ, zero, suc, ◌+◌, ◌-◌, ◌<◌, ◌≤◌, List, [], ◌∷◌, length, Bool, true, false, refl, sym, ap, ◌∙◌, subst, arith}
-use Rattle.std.specs.Prelude.{not, slice_index_or, slice_set, ◌==◌, if◌then◌else◌}
+use Rattle.std.specs.Prelude.{take, max, not, slice_index_or, slice_set, ◌==◌, if◌then◌else◌}
 use Rattle.std.proofs.lemmas.Bool.Decides.{nat_tests}
 use Rattle.std.proofs.lemmas.List.{get_or-set_same, get_or-set_other, length-set}
 use Rattle.rsn.specs.Receipts.{Received, acknowledged}
 use Rattle.world.specs.declared.message.Message.{Message}
 use Rattle.world.specs.World.{put}
+use Rattle.world.specs.Logs.{run_to, payloads}
 use Rattle.world.specs.Bounds.{count_below}
 use Rattle.theorems.proofs.Changes.{at-itself}
 use Rattle.cluster.specs.Parcels.{Acknowledgement, In, parcel}
-use Rattle.cluster.specs.Cluster.{Cluster, waiting}
+use Rattle.cluster.specs.Cluster.{Cluster, seen, waiting}
 use Rattle.cluster.specs.Rules.{Act, Counts, May, does}
-use Rattle.node.specs.Node.{TheNode, counted}
-use Rattle.node.specs.Stands.{Stands, HasReceived, Goes, Receives}
+use Rattle.node.specs.Node.{TheNode, counted, log_at}
+use Rattle.node.specs.Stands.{Stands, HasReceived, IsShut, sent_by, Goes, Receives}
 use Rattle.node.proofs.Putting.{stands-takes}
-use Rattle.node.proofs.Working.{long}
+use Rattle.node.proofs.Commits.{long}
 
 -- where one that passed passes no longer
 count-same : (f g : ℕ → Bool) (n : ℕ) → ((j : ℕ) → j < n → g j ≡ f j) → count_below g n ≡ count_below f n
@@ -106,6 +107,20 @@ module _ (n : TheNode) (c : Cluster) (q i k : ℕ) (s : Stands n c n.me) (given 
       let e : waiting c' n.me ≡ count_below g (length h) = ap (λ (a : ℕ → Bool). count_below (λ j. not (a (suc j))) (length h)) acknowledged-is in
       omega (arith, e, less, was)
 
+  released-is : (d : ℕ) → c'.released n.me d ≡ max (c.released n.me d) (sent_by c.handlers n.me h d (run_to (put (c.acknowledged n.me) (n.base + k) true) (length h)))
+  released-is d =
+      let inner : (n.me == 0) ≡ false = (let z : 0 < n.me = s.inside.0 in grind (arith, nat_tests)) in
+      let new : ℕ → ℕ = λ e. max (c.released n.me e) (length (payloads (seen c) n.me (take (run_to (put (c.acknowledged n.me) (n.base + k) true) (length h)) h) e)) in
+      at-itself n.me (λ t. (if t then new else c.released n.me) d ≡ max (c.released n.me d) (sent_by c.handlers n.me h d (run_to (put (c.acknowledged n.me) (n.base + k) true) (length h)))) (rw inner refl)
+
+  gates : (d : ℕ) → d ≤ c.count → d ≢ n.me → IsShut (log_at n.logs d) (length h) (c'.released n.me d) (sent_by c.handlers n.me h d)
+  gates d l o =
+      let g = s.gates d l o in
+      record { within = g.within; waits = λ j m. (let w = g.waits j m in omega (arith, w, released-is d)) }
+
+  free : (d : ℕ) → sent_by c.handlers n.me h d (run_to (c'.acknowledged n.me) (length h)) ≤ c'.released n.me d
+  free d = rw (released-is d) (subst (λ (a : ℕ → Bool). sent_by c.handlers n.me h d (run_to a (length h)) ≤ max (c.released n.me d) (sent_by c.handlers n.me h d (run_to (put (c.acknowledged n.me) (n.base + k) true) (length h)))) (sym acknowledged-is) (omega arith))
+
   stands-counted : Stands (counted k n) c' n.me
   stands-counted =
       record {
@@ -122,6 +137,8 @@ module _ (n : TheNode) (c : Cluster) (q i k : ℕ) (s : Stands n c n.me) (given 
         received = subst (HasReceived n.count n.base n.covered (acknowledged k n.receipts) h) (sym acknowledged-is) (received-counted n.count n.base n.covered n.receipts h (c.acknowledged n.me) k some within s.received);
         waits = fewer;
         logs = s.logs;
+        gates = gates;
+        free = free;
         heard = s.heard;
         out = s.out;
       }

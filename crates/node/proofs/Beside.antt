@@ -81,6 +81,8 @@ stands-same n c d p e s =
       received = rw (sym e.history, sym e.acknowledged) s.received;
       waits = rw (sym e.history, sym e.acknowledged) s.waits;
       logs = λ k l o. rw (sym e.handlers, sym e.history, sym (e.trims k), sym (e.numbers k)) (s.logs k (subst (λ m. k ≤ m) (sym e.count) l) o);
+      gates = λ k l o. rw (sym e.handlers, sym e.history, sym e.released) (s.gates k (subst (λ m. k ≤ m) (sym e.count) l) o);
+      free = λ k. rw (sym e.handlers, sym e.history, sym e.released, sym e.acknowledged) (s.free k);
       heard = λ q l. rw (sym (e.heard q)) (s.heard q (subst (λ m. q ≤ m) (sym e.count) l));
       out = all-more (PutOut c.count c.parcels p) (PutOut d.count d.parcels p) n.out (λ o. put-still c d p o e.count (λ b i. e.parcels _ i)) s.out;
     }

@@ -1,13 +1,137 @@
--- A packet is handed to a node
-use Rattle.std.proofs.Common.{◌≡◌, subst}
-use Rattle.std.specs.Prelude.{Some, ℕ}
+-- A packet is handed to a node, and a handler has run
+use Rattle.std.proofs.Common.{◌≡◌, ◌≢◌, ℕ, ◌+◌, ◌-◌, ◌<◌, ◌≤◌, List, length, Bool, true, false, refl, subst, arith}
+use Rattle.std.specs.Prelude.{Option, Some, None, is_some, slice_get, slice_index_or, not, ◌&&◌, ◌||◌, ◌==◌, nat_lt, nat_le}
+use Rattle.std.proofs.lemmas.Bool.Decides.{nat_tests}
+use Rattle.rsn.specs.Receipts.{numbers_of}
+use Rattle.rsn.specs.declared.receipts.TheConstants.{LIMIT}
+use Rattle.theorems.proofs.Tests.{both, neither, not-false}
 use Rattle.packets.specs.declared.packet.Packet.{Packet}
-use Rattle.cluster.specs.Parcels.{Body, In, parcel}
-use Rattle.node.specs.Node.{TheNode}
-use Rattle.node.specs.Stands.{IsHanded, Receives, body_of}
+use Rattle.packets.specs.declared.packet.Body as bodies
+use Rattle.packets.specs.declared.packet.Body.TheVariants as packets
+use Rattle.cluster.specs.Parcels.{Body, Delivery, Number, Acknowledgement, Saved, In, parcel}
+use Rattle.node.specs.declared.node.TheConstants.{WINDOW, MOST_RECEIVED}
+use Rattle.node.specs.declared.job.OpenJob.{OpenJob}
+use Rattle.node.specs.declared.job.Given.{Given}
+use Rattle.node.specs.Queue.{is_kept}
+use Rattle.node.specs.Node.{TheNode, Within, MaySend, OfPeer, log_at, posts, tells, numbered, counted, covered_of}
+use Rattle.node.specs.Sending.{released}
+use Rattle.node.specs.Calls.{delivered, takes_more, recorded_by, acknowledged_by, did_work, told, is_for, handed}
+use Rattle.node.specs.Stands.{Owes, Receives, Handles, IsHanded, body_of}
+use Rattle.node.proofs.Views.{none-is}
+use Rattle.node.proofs.Putting.{stays}
+use Rattle.node.proofs.Steps.{owes-then, by-if}
+use Rattle.node.proofs.Arrivals.{says-saved, tells-number, starts}
+use Rattle.node.proofs.Recording.{says-acknowledgement}
+use Rattle.node.proofs.Acknowledging.{counts}
+use Rattle.node.proofs.Dropping.{drops}
+use Rattle.node.proofs.Sendings.{releasing}
+use Rattle.node.proofs.Commits.{goes-worked}
 
--- what is owed for what a packet says is owed for the packet
-pub is-handed : (x : Packet) (old new : TheNode) (body : Body) → x.to ≡ old.me → body_of x.body ≡ Some body → Receives x.from body old new → IsHanded x old new
-is-handed x old new body to says owed c s put =
-    let P : ℕ → Type 0 = λ d. In (parcel x.from d body) c.parcels in
-    owed c s (subst P to (put body says))
+-- a packet that changes nothing
+pub ignores : (given : Body) (from : ℕ) (n : TheNode) → Receives from given n n
+ignores given from n c s g = stays n c s
+
+module _ (from life ssn : ℕ) (x : List ℕ) (n : TheNode) (low : from ≤ n.count) (other : from ≢ n.me) where
+  abbrev P : TheNode → Type 0
+  P new = Receives from (Delivery life ssn x) n new
+
+  abbrev place : ℕ
+  place = ssn - covered_of from n - 1
+
+  abbrev known : ℕ
+  known = length (numbers_of from n.receipts)
+
+  abbrev opened : TheNode
+  opened = record n { working = Some (record { sender = from; ssn = ssn; payload = x }) }
+
+  tells-it : covered_of from n < ssn → place < known → P (tells from ssn n)
+  tells-it above inside c s given = tells-number n from ssn low other above inside c s tt
+
+  opens-job : (is_some n.working ≡ false) × (not (life == slice_index_or n.heard from 0) ≡ false) → covered_of from n < ssn → ((place == known) ≡ true) × (takes_more n ≡ true) → P opened
+  opens-job idle above next =
+      let here : (life == slice_index_or n.heard from 0) ≡ true = not-false (life == slice_index_or n.heard from 0) idle.1 in
+      let heard : life ≡ slice_index_or n.heard from 0 = grind (arith, nat_tests) in
+      let is : place ≡ known = (let t = next.0 in grind (arith, nat_tests)) in
+      let a = both (nat_lt n.waiting WINDOW && nat_lt (length n.receipts.senders) LIMIT) (nat_lt (n.base + length n.receipts.senders) MOST_RECEIVED) next.1 in
+      let b = both (nat_lt n.waiting WINDOW) (nat_lt (length n.receipts.senders) LIMIT) a.0 in
+      let room : n.waiting < 256 = (let t = b.0 in grind (arith, nat_tests)) in
+      starts n from life ssn x low other (none-is n.working idle.0) heard above is room
+
+  delivers-to : P (delivered from life ssn x n)
+  delivers-to =
+      by-if P (is_some n.working || not (life == slice_index_or n.heard from 0)) n _ (λ e. ignores (Delivery life ssn x) from n)
+      (λ e. by-if P (nat_le ssn (covered_of from n)) (posts from (packets.Saved (covered_of from n)) n) _ (λ f. says-saved n from (covered_of from n) (Delivery life ssn x) low other refl)
+      (λ f. by-if P (nat_lt place known) (tells from ssn n) _ (λ g. tells-it (grind (arith, nat_tests)) (grind (arith, nat_tests)))
+      (λ g. by-if P ((place == known) && takes_more n) opened n (λ h. opens-job (neither (is_some n.working) (not (life == slice_index_or n.heard from 0)) e) (grind (arith, nat_tests)) (both (place == known) (takes_more n) h))
+      (λ h. ignores (Delivery life ssn x) from n))))
+
+records : (from life ssn k : ℕ) (n : TheNode) → Within n → from ≤ n.count → from ≢ n.me → Receives from (Number life ssn k) n (recorded_by from life ssn k n)
+records from life ssn k n w low other =
+    by-if (λ new. Receives from (Number life ssn k) n new) ((life == slice_index_or n.heard from 0) && is_kept ssn (log_at n.logs from)) (posts from (packets.Acknowledgement life k) (numbered from ssn k n)) n
+    (λ e. let t = both (life == slice_index_or n.heard from 0) (is_kept ssn (log_at n.logs from)) e in
+    let here = t.0 in
+    let heard : life ≡ slice_index_or n.heard from 0 = grind (arith, nat_tests) in
+    says-acknowledgement n from life ssn k low other heard (omega (arith, w.logs_wide, low)) t.1)
+    (λ e. ignores (Number life ssn k) from n)
+
+off : (b : Bool) → not b ≡ true → b ≡ false
+off true e = absurd (cc)
+off false e = refl
+
+module _ (from life k : ℕ) (n : TheNode) (w : Within n) where
+  abbrev fits : Bool
+  fits = (life == n.life) && nat_lt n.base k && nat_le k (n.base + length n.receipts.senders)
+
+  abbrev fresh : Bool
+  fresh = not (slice_index_or n.receipts.acknowledged (k - n.base - 1) false)
+
+  counts-it : (fits ≡ true) × (fresh ≡ true) → Receives from (Acknowledgement life k) n (released (counted (k - n.base) n))
+  counts-it t =
+      let a = both ((life == n.life) && nat_lt n.base k) (nat_le k (n.base + length n.receipts.senders)) t.0 in
+      let b = both (life == n.life) (nat_lt n.base k) a.0 in
+      let is : life ≡ n.life = (let u = b.0 in grind (arith, nat_tests)) in
+      let above : n.base < k = (let u = b.1 in grind (arith, nat_tests)) in
+      let within : k ≤ n.base + length n.receipts.senders = (let u = a.1 in grind (arith, nat_tests)) in
+      owes-then (λ c. In (parcel from n.me (Acknowledgement life k)) c.parcels) n (counted (k - n.base) n) (released (counted (k - n.base) n))
+      (counts n from life k (k - n.base) is (omega (arith, above)) (omega (arith, above)) (omega (arith, within, above)) (off (slice_index_or n.receipts.acknowledged (k - n.base - 1) false) t.1))
+      (releasing (counted (k - n.base) n) w.logs_wide)
+
+  acknowledges : Receives from (Acknowledgement life k) n (acknowledged_by life k n)
+  acknowledges =
+      by-if (λ new. Receives from (Acknowledgement life k) n new) (fits && fresh) (released (counted (k - n.base) n)) n (λ e. counts-it (both fits fresh e)) (λ e. ignores (Acknowledgement life k) from n)
+
+-- each body
+told-so : (from to : ℕ) (b : bodies.Body) (n : TheNode) → Within n → from ≤ n.count → from ≢ n.me → to ≡ n.me → Owes (λ c. (y : Body) → body_of b ≡ Some y → In (parcel from to y) c.parcels) n (told from b n)
+told-so from to (packets.Delivery i ssn x) n w low other me c s put = delivers-to from i ssn x n low other c s (subst (λ d. In (parcel from d (Delivery i ssn x)) c.parcels) me (put (Delivery i ssn x) refl))
+told-so from to (packets.Number i ssn k) n w low other me c s put = records from i ssn k n w low other c s (subst (λ d. In (parcel from d (Number i ssn k)) c.parcels) me (put (Number i ssn k) refl))
+told-so from to (packets.Acknowledgement i k) n w low other me c s put = acknowledges from i k n w c s (subst (λ d. In (parcel from d (Acknowledgement i k)) c.parcels) me (put (Acknowledgement i k) refl))
+told-so from to (packets.Saved k) n w low other me c s put = drops n from k low other (omega (arith, w.logs_wide, low)) c s (subst (λ d. In (parcel from d (Saved k)) c.parcels) me (put (Saved k) refl))
+told-so from to (packets.Ask i k) n w low other me c s put = stays n c s
+told-so from to (packets.Told i j k flags entries) n w low other me c s put = stays n c s
+told-so from to (packets.Resume i k a) n w low other me c s put = stays n c s
+told-so from to (packets.Restored i j k a flags pairs) n w low other me c s put = stays n c s
+
+-- a packet is handed to a node
+pub handed-so : (x : Packet) (n : TheNode) → Within n → IsHanded x n (handed x n)
+handed-so x n w =
+    by-if (λ new. IsHanded x n new) (is_for n x) (told x.from x.body n) n (λ e. here (both ((x.count == n.count) && (x.to == n.me) && nat_le x.from n.count) (not (x.from == n.me)) e)) (λ e c s put. stays n c s)
+  where
+    here : (((x.count == n.count) && (x.to == n.me) && nat_le x.from n.count) ≡ true) × (not (x.from == n.me) ≡ true) → IsHanded x n (told x.from x.body n)
+    here t =
+        let a = both ((x.count == n.count) && (x.to == n.me)) (nat_le x.from n.count) t.0 in
+        let b = both (x.count == n.count) (x.to == n.me) a.0 in
+        let me : x.to ≡ n.me = (let u = b.1 in grind (arith, nat_tests)) in
+        let low : x.from ≤ n.count = (let u = a.1 in grind (arith, nat_tests)) in
+        let other : x.from ≢ n.me = (let u = t.1 in grind (arith, nat_tests)) in
+        told-so x.from x.to x.body n w low other me
+
+-- a handler has run
+pub worked-so : (n : TheNode) (state : List ℕ) (given : List Given) → Within n → MaySend n given → Owes (Handles state given n) n (did_work state given n.working n)
+worked-so n state given w may = by_job n.working refl w.own
+  where
+    inside : (i : ℕ) (g : Given) → slice_get given i ≡ Some g → g.to < length n.logs
+    inside i g e = let m = may.others i g e in omega (arith, m.0, w.logs_wide)
+
+    by_job : (o : Option OpenJob) → n.working ≡ o → OfPeer n.me n.count o → Owes (Handles state given n) n (did_work state given o n)
+    by_job None busy peer c s h = stays n c s
+    by_job (Some j) busy peer c s h = goes-worked n c j state given s busy inside (h j busy) peer

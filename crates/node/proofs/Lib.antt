@@ -3,11 +3,14 @@ pub mod Numbers
 pub mod Logs
 pub mod Views
 pub mod Putting
-pub mod Receiving
-pub mod Working
+pub mod Steps
+pub mod Arrivals
+pub mod Commits
 pub mod Recording
 pub mod Beside
 pub mod Acknowledging
+pub mod Dropping
+pub mod Sendings
 pub mod Opening
 pub mod Handing
 pub mod Outside

@@ -1,6 +1,9 @@
 -- Lists
 use Rattle.std.proofs.Common.{◌≡◌, ℕ, suc, ◌+◌, List, [], ◌∷◌, ◌++◌, length, subst, arith}
-use Rattle.std.specs.Prelude.{Some, slice_get}
+use Rattle.std.specs.Prelude.{Some, slice_get, Bool, true, false, nat_lt, if◌then◌else◌}
+use Rattle.packets.specs.declared.packet.Packet.{Packet}
+use Rattle.node.specs.declared.outbox.TheConstants.{OUTBOX}
+use Rattle.node.specs.Outbox.{pushed}
 use Rattle.world.specs.declared.message.Message.{Message}
 use Rattle.world.specs.History.{count_of}
 use Rattle.node.specs.Stands.{Each}
@@ -13,6 +16,14 @@ all-more P Q (x ∷ xs) f h = (f x h.0, all-more P Q xs f h.1)
 pub all-push : {X : Type 0} (P : X → Type 0) (xs : List X) (x : X) → Each P xs → P x → Each P (xs ++ x ∷ [])
 all-push P [] x h e = (e, tt)
 all-push P (y ∷ xs) x h e = (h.0, all-push P xs x h.1 e)
+
+-- a packet more, where there is room
+pub all-pushed : (P : Packet → Type 0) (xs : List Packet) (x : Packet) → Each P xs → P x → Each P (pushed x xs)
+all-pushed P xs x h e = by_room (nat_lt (length xs) OUTBOX)
+  where
+    by_room : (b : Bool) → Each P (if b then xs ++ x ∷ [] else xs)
+    by_room true = all-push P xs x h e
+    by_room false = h
 
 pub count-append : (s : ℕ) (g h : List Message) → count_of s (g ++ h) ≡ count_of s g + count_of s h
 count-append s [] h = omega arith

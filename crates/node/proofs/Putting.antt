@@ -11,7 +11,7 @@ use Rattle.packets.specs.declared.packet.Body as bodies
 use Rattle.packets.specs.declared.packet.Packet.{Packet}
 use Rattle.node.specs.Node.{TheNode, posts, packet_of}
 use Rattle.node.specs.Stands.{Stands, Goes, PutOut, WasSaid, phase_of, body_of, actor}
-use Rattle.node.proofs.Lists.{all-more, all-push}
+use Rattle.node.proofs.Lists.{all-more, all-pushed}
 
 up-with : (o : Option OpenJob) → is_up (phase_of o) ≡ true
 up-with None = refl
@@ -52,8 +52,10 @@ stands-posted n c p to x b says s =
       received = s.received;
       waits = s.waits;
       logs = s.logs;
+      gates = s.gates;
+      free = s.free;
       heard = s.heard;
-      out = all-push (PutOut c.count (parcel p to b ∷ c.parcels) p) n.out (packet_of n to x)
+      out = all-pushed (PutOut c.count (parcel p to b ∷ c.parcels) p) n.out (packet_of n to x)
           (all-more (PutOut c.count c.parcels p) (PutOut c.count (parcel p to b ∷ c.parcels) p) n.out (λ o. put-still c (does c (Puts p to b)) p o refl (λ y i. inr i)) s.out)
           (record { count_is = s.count; from = s.me; said = rw says (inl refl) });
     }

@@ -14,10 +14,11 @@ use Rattle.cluster.specs.Parcels.{Number, In, parcel}
 use Rattle.cluster.specs.Cluster.{Cluster, seen}
 use Rattle.cluster.specs.Rules.{Act, Records, May, does}
 use Rattle.packets.specs.declared.packet.Body.TheVariants as packets
-use Rattle.node.specs.Queue.{TheQueue, no_queue, recorded, is_kept}
+use Rattle.node.specs.Queue.{TheQueue, recorded, is_kept}
 use Rattle.node.specs.Node.{TheNode, posts, packet_of, log_at, numbered}
-use Rattle.node.specs.Stands.{Stands, KeepsOf, Goes, Receives, PutOut}
-use Rattle.node.proofs.Lists.{all-more, all-push}
+use Rattle.node.specs.Stands.{Stands, KeepsOf, IsShut, sent_by, Goes, Receives, PutOut}
+use Rattle.node.proofs.Logs.{changed-at}
+use Rattle.node.proofs.Lists.{all-more, all-pushed}
 use Rattle.node.proofs.Putting.{stands-takes, is-up, put-still}
 
 -- what it sent, as the rules tell it
@@ -89,18 +90,23 @@ module _ (n : TheNode) (c : Cluster) (r i ssn k : ℕ) (s : Stands n c n.me) (lo
   may = (given, stands-takes n c n.me s, heard ∙ sym (s.heard r low), entry-is n c n.me r ssn s low other kept)
 
   logs : (d : ℕ) → d ≤ c.count → d ≢ n.me → KeepsOf (log_at (slice_set n.logs r (recorded ssn k (log_at n.logs r))) d) (c.trims n.me d) (c.handlers.sends n.me (c.history n.me) d) (c'.numbers n.me d)
-  logs d l o = at-itself n.me (λ t. KeepsOf (log_at (slice_set n.logs r (recorded ssn k (log_at n.logs r))) d) (c.trims n.me d) (c.handlers.sends n.me (c.history n.me) d) (if t && (d == r) then put (c.numbers n.me r) ssn (Some k) else c.numbers n.me d)) (split (d == r) refl)
+  logs d l o = at-itself n.me (λ t. KeepsOf (log_at (slice_set n.logs r (recorded ssn k (log_at n.logs r))) d) (c.trims n.me d) (c.handlers.sends n.me (c.history n.me) d) (if t && (d == r) then put (c.numbers n.me r) ssn (Some k) else c.numbers n.me d))
+      (changed-at (λ q. KeepsOf q (c.trims n.me d) (c.handlers.sends n.me (c.history n.me) d) (if d == r then put (c.numbers n.me r) ssn (Some k) else c.numbers n.me d)) n.logs r (recorded ssn k (log_at n.logs r)) d wide here there)
     where
-      split : (b : Bool) → (d == r) ≡ b → KeepsOf (log_at (slice_set n.logs r (recorded ssn k (log_at n.logs r))) d) (c.trims n.me d) (c.handlers.sends n.me (c.history n.me) d) (if b then put (c.numbers n.me r) ssn (Some k) else c.numbers n.me d)
-      split true e =
-          let same : r ≡ d = grind (arith, nat_tests) in
-          let P : ℕ → Type 0 = λ z. KeepsOf (log_at (slice_set n.logs r (recorded ssn k (log_at n.logs r))) z) (c.trims n.me z) (c.handlers.sends n.me (c.history n.me) z) (put (c.numbers n.me r) ssn (Some k)) in
-          let at : log_at (slice_set n.logs r (recorded ssn k (log_at n.logs r))) r ≡ recorded ssn k (log_at n.logs r) = get_or-set_same n.logs r (recorded ssn k (log_at n.logs r)) no_queue wide in
-          subst P same (subst (λ q. KeepsOf q (c.trims n.me r) (c.handlers.sends n.me (c.history n.me) r) (put (c.numbers n.me r) ssn (Some k))) (sym at) (kept-numbered (log_at n.logs r) (c.trims n.me r) (c.handlers.sends n.me (c.history n.me) r) (c.numbers n.me r) ssn k kept (s.logs r low other)))
-      split false e =
-          let apart : d ≢ r = grind (arith, nat_tests) in
-          let at : log_at (slice_set n.logs r (recorded ssn k (log_at n.logs r))) d ≡ log_at n.logs d = get_or-set_other n.logs r d (recorded ssn k (log_at n.logs r)) no_queue apart in
-          subst (λ q. KeepsOf q (c.trims n.me d) (c.handlers.sends n.me (c.history n.me) d) (c.numbers n.me d)) (sym at) (s.logs d l o)
+      here : d ≡ r → KeepsOf (recorded ssn k (log_at n.logs r)) (c.trims n.me d) (c.handlers.sends n.me (c.history n.me) d) (if d == r then put (c.numbers n.me r) ssn (Some k) else c.numbers n.me d)
+      here same =
+          let e : (d == r) ≡ true = grind (arith, nat_tests) in
+          let P : ℕ → Type 0 = λ z. KeepsOf (recorded ssn k (log_at n.logs r)) (c.trims n.me z) (c.handlers.sends n.me (c.history n.me) z) (put (c.numbers n.me r) ssn (Some k)) in
+          rw e (subst P (sym same) (kept-numbered (log_at n.logs r) (c.trims n.me r) (c.handlers.sends n.me (c.history n.me) r) (c.numbers n.me r) ssn k kept (s.logs r low other)))
+
+      there : d ≢ r → KeepsOf (log_at n.logs d) (c.trims n.me d) (c.handlers.sends n.me (c.history n.me) d) (if d == r then put (c.numbers n.me r) ssn (Some k) else c.numbers n.me d)
+      there apart = let e : (d == r) ≡ false = grind (arith, nat_tests) in rw e (s.logs d l o)
+
+  gates : (d : ℕ) → d ≤ c.count → d ≢ n.me → IsShut (log_at (slice_set n.logs r (recorded ssn k (log_at n.logs r))) d) (length (c.history n.me)) (c.released n.me d) (sent_by c.handlers n.me (c.history n.me) d)
+  gates d l o = changed-at (λ q. IsShut q (length (c.history n.me)) (c.released n.me d) (sent_by c.handlers n.me (c.history n.me) d)) n.logs r (recorded ssn k (log_at n.logs r)) d wide
+      (λ same. let P : ℕ → Type 0 = λ z. IsShut (recorded ssn k (log_at n.logs z)) (length (c.history n.me)) (c.released n.me d) (sent_by c.handlers n.me (c.history n.me) d) in
+      let g = s.gates d l o in subst P same (record { within = g.within; waits = g.waits }))
+      (λ apart. s.gates d l o)
 
   stands-recorded : Stands (posts r (packets.Acknowledgement i k) (numbered r ssn k n)) c' n.me
   stands-recorded =
@@ -118,8 +124,10 @@ module _ (n : TheNode) (c : Cluster) (r i ssn k : ℕ) (s : Stands n c n.me) (lo
         received = s.received;
         waits = s.waits;
         logs = logs;
+        gates = gates;
+        free = s.free;
         heard = s.heard;
-        out = all-push (PutOut c.count c'.parcels n.me) n.out (packet_of n r (packets.Acknowledgement i k))
+        out = all-pushed (PutOut c.count c'.parcels n.me) n.out (packet_of n r (packets.Acknowledgement i k))
             (all-more (PutOut c.count c.parcels n.me) (PutOut c.count c'.parcels n.me) n.out (λ o. put-still c c' n.me o refl (λ b z. inr z)) s.out)
             (record { count_is = s.count; from = refl; said = inl refl });
       }

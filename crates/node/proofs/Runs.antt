@@ -8,16 +8,17 @@ use Rattle.theorems.specs.Growth.{Grows}
 use Rattle.packets.specs.declared.packet.Packet.{Packet}
 use Rattle.cluster.specs.Parcels.{Body, Parcel, In, parcel}
 use Rattle.cluster.specs.Cluster.{Cluster, opening}
-use Rattle.cluster.specs.Rules.{Act, Input, Puts, Starts, Shows, Works, Replays, Records, Counts, Drops, Hears, Collects, Recovers, Obeys, Enters, Restores, Greets, Freezes, Keeps, Thaws, Dies, Opens, does, Run, after_run}
+use Rattle.cluster.specs.Rules.{Act, Input, Puts, Starts, Shows, Works, Replays, Records, Counts, Drops, Hears, Collects, Recovers, Obeys, Enters, Restores, Greets, Freezes, Keeps, Thaws, Dies, Opens, Run, after_run}
 use Rattle.cluster.proofs.Settings.{does-count, does-handlers}
 use Rattle.cluster.proofs.Runs.{run-handlers}
 use Rattle.cluster.proofs.Promised.{nodes-keep}
 use Rattle.node.specs.Node.{TheNode}
-use Rattle.node.specs.Stands.{Stands, Goes, PutOut, WasSaid, Owes, Handles, Answers, actor, body_of, job_of, payloads_to}
+use Rattle.node.specs.Stands.{Stands, Goes, PutOut, WasSaid, Handles, Answers, actor, body_of, job_of, payloads_to}
 use Rattle.node.specs.Beside.{AllStand}
-use Rattle.node.specs.Runs.{Answer, Answering, state_from, sends_from, handlers_of, System, new_system, Call, Gave, Handed, Worked, Acted, IsGateway, IsAnswer, DoesIt, with_said, after_call, Calls, after_calls, CallsRun}
+use Rattle.node.specs.Runs.{Answer, Answering, state_from, sends_from, handlers_of, System, new_system, Call, Gave, Handed, Worked, Ticked, Acted, IsGateway, IsAnswer, DoesIt, with_said, after_call, Calls, after_calls, CallsRun}
 use Rattle.node.proofs.Beside.{all-stand, stands-still}
 use Rattle.node.proofs.Opening.{stands-opened}
+use Rattle.node.proofs.Steps.{run-on, owes-at}
 use Rattle.node.proofs.Outside.{SameOutside, outside-self, outside-still, may-too, outside-too}
 
 -- one message more is answered in the state that the others left
@@ -38,11 +39,6 @@ sends-more f p s (x ∷ h) m d =
 -- such handlers take nothing back
 grows : (f : Answering) (len : ℕ → ℕ) → Grows (handlers_of f len)
 grows f len p h m d = (payloads_to d (f p (state_from f p (replicate (len p) 0) h) m).given, sym (sends-more f p (replicate (len p) 0) h m d))
-
--- a run goes on
-run-on : (c : Cluster) (acts more : List Act) → Run c acts → Run (after_run c acts) more → Run c (acts ++ more) × (after_run c (acts ++ more) ≡ after_run (after_run c acts) more)
-run-on c [] more r q = (q, refl)
-run-on c (a ∷ acts) more r q = let t = run-on (does c a) acts more r.1 q in ((r.0, t.0), t.1)
 
 -- a cluster in which all nodes of a system stand, and whose gateway has what that of the system has
 record Holds (f : Handlers) (s : System) (c : Cluster) : Type 0 where
@@ -72,11 +68,6 @@ node-goes f s c p new some h g =
 -- a node of the system stands, and owes by its own number
 stands-at : (f : Handlers) (s : System) (c : Cluster) (p : ℕ) → 0 < p → p ≤ s.outside.count → Holds f s c → Stands (s.nodes p) c p
 stands-at f s c p some low h = h.stand p some (subst (λ k. p ≤ k) h.outside.count low)
-
-owes-at : (given : Cluster → Type 0) (old new : TheNode) (c : Cluster) (p : ℕ) → Owes given old new → Stands old c p → given c → Goes p new c
-owes-at given old new c p owed s g =
-    let me : old.me ≡ p = s.me in
-    subst (λ k. Goes k new c) me (owed c (subst (Stands old c) (sym me) s) g)
 
 said-in : (ps qs : List Parcel) (p d : ℕ) (o : Option Body) (b : Body) → ((x : Parcel) → In x ps → In x qs) → WasSaid ps p d o → o ≡ Some b → In (parcel p d b) qs
 said-in ps qs p d None b more w e = absurd w
@@ -171,6 +162,9 @@ call-goes f len s c (Handed p x new) h m =
 call-goes f len s c (Worked p a new) h m =
     let at : Stands (s.nodes p) c p = stands-at (handlers_of f len) s c p m.0 m.1 h in
     node-goes (handlers_of f len) s c p new m.0 h (owes-at (Handles a.state a.given (s.nodes p)) (s.nodes p) new c p m.3 at (answers f len (s.nodes p) c p a h.handlers at m.2))
+call-goes f len s c (Ticked p new) h m =
+    let at : Stands (s.nodes p) c p = stands-at (handlers_of f len) s c p m.0 m.1 h in
+    node-goes (handlers_of f len) s c p new m.0 h (owes-at (λ d. Unit {0}) (s.nodes p) new c p m.2 at tt)
 call-goes f len s c (Acted a) h m =
     record {
       acts = a ∷ [];

@@ -1,16 +1,44 @@
--- A node as clauses see it, from its fields
-use Rattle.std.proofs.Common.{◌≡◌, Result, Ok, Err, OnOk, Option, Some, None, is_some, false, refl}
-use Rattle.node.specs.declared.node.Node.TheInside.{Inside}
+-- Options, and what waits to be taken
+use Rattle.std.proofs.Common.{◌≡◌, List, [], ◌∷◌, Option, Some, None, Result, Ok, Err, OnOk, is_some, false, refl, ap, subst, ◌∙◌}
+use Rattle.packets.specs.declared.packet.Packet.{Packet}
+use Rattle.cluster.specs.Cluster.{Cluster}
+use Rattle.node.specs.Outbox.{Pops}
 use Rattle.node.specs.Node.{TheNode}
+use Rattle.node.specs.Stands.{Each, Stands, PutOut, Takes}
+
+pub none-is : {X : Type 0} (o : Option X) → is_some o ≡ false → o ≡ None
+none-is None e = refl
+none-is (Some x) e = absurd (cc)
 
 pub on-ok : {X E : Type 0} (r : Result X E) (P Q : Type 0) → (P → Q) → OnOk r P → OnOk r Q
 on-ok (Ok x) P Q f h = f h
 on-ok (Err e) P Q f h = tt
 
--- a node as clauses see it: no capacities
-abbrev pub view : Inside → TheNode
-view n = record { me = n.me; count = n.count; life = n.life; state = n.state.items; base = n.base; covered = n.covered.items; receipts = n.receipts; logs = n.logs.items; waiting = n.waiting; heard = n.heard.items; working = n.working; out = n.out.items }
-
-pub none-is : {X : Type 0} (o : Option X) → is_some o ≡ false → o ≡ None
-none-is None e = refl
-none-is (Some x) e = absurd (cc)
+-- the first packet that waits leaves
+pub takes-so : (o : Option Packet) (n : TheNode) (rest : List Packet) → Pops o n.out rest → Takes o n (record n { out = rest })
+takes-so None n rest e = (e.0, ap (λ xs. record n { out = xs }) e.1 ∙ ap (λ xs. record n { out = xs }) (let back : [] ≡ n.out = (cc) in back))
+takes-so (Some x) n rest e = (ap (λ xs. record n { out = xs }) e, λ c s. taken c s (subst (Each (PutOut c.count c.parcels n.me)) e s.out))
+  where
+    taken : (c : Cluster) → Stands n c n.me → Each (PutOut c.count c.parcels n.me) (x ∷ rest) → PutOut c.count c.parcels n.me x × Stands (record n { out = rest }) c n.me
+    taken c s out = (
+      out.0,
+      record {
+        me = s.me;
+        count = s.count;
+        inside = s.inside;
+        live = s.live;
+        greeted = s.greeted;
+        phase = s.phase;
+        works = s.works;
+        life = s.life;
+        state = s.state;
+        saved = s.saved;
+        received = s.received;
+        waits = s.waits;
+        logs = s.logs;
+        gates = s.gates;
+        free = s.free;
+        heard = s.heard;
+        out = out.1;
+      },
+    )

@@ -1,27 +1,30 @@
 -- What the calls make of a node
-use Rattle.std.specs.Prelude.{ℕ, ◌+◌, ◌-◌, List, length, Option, Some, None, is_some, Bool, false, not, ◌&&◌, ◌||◌, ◌==◌, nat_lt, nat_le, if◌then◌else◌, slice_index_or}
+use Rattle.std.specs.Prelude.{ℕ, ◌+◌, ◌-◌, List, length, Option, Some, None, is_some, Bool, false, not, ◌&&◌, ◌||◌, ◌==◌, nat_lt, nat_le, if◌then◌else◌, slice_index_or, slice_set}
 use Rattle.rsn.specs.Receipts.{numbers_of}
 use Rattle.rsn.specs.declared.receipts.TheConstants.{LIMIT}
 use Rattle.packets.specs.declared.packet.Body.{Body}
 use Rattle.packets.specs.declared.packet.Body.TheVariants.{Delivery, Number, Acknowledgement, Saved}
 use Rattle.packets.specs.declared.packet.Packet.{Packet}
-use Rattle.node.specs.declared.node.TheConstants.{WINDOW}
+use Rattle.node.specs.declared.node.TheConstants.{WINDOW, MOST_RECEIVED}
 use Rattle.node.specs.declared.job.OpenJob.{OpenJob}
 use Rattle.node.specs.declared.job.Given.{Given}
-use Rattle.node.specs.Queue.{is_kept}
-use Rattle.node.specs.Node.{TheNode, log_at, posts, worked, number_of, numbered, counted}
+use Rattle.node.specs.Queue.{is_kept, dropped_to}
+use Rattle.node.specs.Node.{TheNode, log_at, posts, worked, number_of, numbered, counted, tells, covered_of}
+use Rattle.node.specs.Sending.{released}
+
+-- whether there is room for one message more
+abbrev pub takes_more : TheNode → Bool
+takes_more n = nat_lt n.waiting WINDOW && nat_lt (length n.receipts.senders) LIMIT && nat_lt (n.base + length n.receipts.senders) MOST_RECEIVED
 
 -- a message of a sender comes: it is dropped, answered where it was received before, or a job is open
 abbrev pub delivered : ℕ → ℕ → ℕ → List ℕ → TheNode → TheNode
 delivered from life ssn x n =
-    let covered = slice_index_or n.covered from 0 in
-    let numbers = numbers_of from n.receipts in
-    let place = ssn - covered - 1 in
+    let place = ssn - covered_of from n - 1 in
+    let known = length (numbers_of from n.receipts) in
     if is_some n.working || not (life == slice_index_or n.heard from 0) then n
-    else if nat_le ssn covered then posts from (Saved covered) n
-    else if nat_lt place (length numbers) then posts from (Number n.life ssn (n.base + slice_index_or numbers place 0)) n
-    else if (place == length numbers) && nat_lt n.waiting WINDOW && nat_lt (length n.receipts.senders) LIMIT
-    then record n { working = Some (record { sender = from; ssn = ssn; payload = x }) }
+    else if nat_le ssn (covered_of from n) then posts from (Saved (covered_of from n)) n
+    else if nat_lt place known then tells from ssn n
+    else if (place == known) && takes_more n then record n { working = Some (record { sender = from; ssn = ssn; payload = x }) }
     else n
 
 -- a number comes: where it is of an entry, and of the incarnation that was heard of, it is recorded and acknowledged
@@ -29,15 +32,20 @@ abbrev pub recorded_by : ℕ → ℕ → ℕ → ℕ → TheNode → TheNode
 recorded_by from life ssn k n =
     if (life == slice_index_or n.heard from 0) && is_kept ssn (log_at n.logs from) then posts from (Acknowledgement life k) (numbered from ssn k n) else n
 
--- an acknowledgement comes: where it is of this life, and of a number behind the checkpoint, that counts as acknowledged
+-- an acknowledgement comes: where it is of this life, and of a number behind the checkpoint, that counts as acknowledged, and what it let go
+-- is released
 abbrev pub acknowledged_by : ℕ → ℕ → TheNode → TheNode
 acknowledged_by life k n =
     if (life == n.life) && nat_lt n.base k && nat_le k (n.base + length n.receipts.senders) && not (slice_index_or n.receipts.acknowledged (k - n.base - 1) false)
-    then counted (k - n.base) n
+    then released (counted (k - n.base) n)
     else n
 
+-- a receiver says that so many messages to it are covered for good: the log drops them
+abbrev pub dropped_by : ℕ → ℕ → TheNode → TheNode
+dropped_by from k n = record n { logs = slice_set n.logs from (dropped_to k (log_at n.logs from)) }
+
 -- the handler ran
-abbrev pub did_work : List ℕ → Option Given → Option OpenJob → TheNode → TheNode
+abbrev pub did_work : List ℕ → List Given → Option OpenJob → TheNode → TheNode
 did_work state given None n = n
 did_work state given (Some j) n = posts j.sender (number_of j n) (worked j state given n)
 
@@ -46,6 +54,7 @@ abbrev pub told : ℕ → Body → TheNode → TheNode
 told from (Delivery i ssn x) n = delivered from i ssn x n
 told from (Number i ssn k) n = recorded_by from i ssn k n
 told from (Acknowledgement i k) n = acknowledged_by i k n
+told from (Saved k) n = dropped_by from k n
 told from body n = n
 
 -- a packet is of another node of this cluster to this one

@@ -1,12 +1,15 @@
 -- What clauses see of a node
-use Rattle.std.specs.Prelude.{◌≡◌, ◌≢◌, ℕ, suc, ◌+◌, ◌-◌, ◌<◌, ◌≤◌, List, [], ◌∷◌, ◌++◌, length, ◌^◌, Option, Some, None, is_some, true, slice_index_or, slice_set, replicate}
-use Rattle.rsn.specs.Receipts.{Received, accepted, acknowledged}
+use Rattle.std.specs.Prelude.{◌≡◌, ◌≢◌, ℕ, suc, ◌+◌, ◌-◌, ◌*◌, ◌<◌, ◌≤◌, List, [], ◌∷◌, length, Option, Some, None, is_some, true, slice_get, slice_index_or, slice_set, replicate}
+use Rattle.rsn.specs.Receipts.{Received, accepted, acknowledged, numbers_of}
+use Rattle.rsn.specs.declared.receipts.TheConstants.{LIMIT}
 use Rattle.packets.specs.declared.packet.Body.{Body}
 use Rattle.packets.specs.declared.packet.Body.TheVariants.{Number}
 use Rattle.packets.specs.declared.packet.Packet.{Packet}
 use Rattle.node.specs.Queue.{TheQueue, no_queue, appended, recorded}
+use Rattle.node.specs.Outbox.{pushed}
 use Rattle.node.specs.declared.job.OpenJob.{OpenJob}
 use Rattle.node.specs.declared.job.Given.{Given}
+use Rattle.node.specs.declared.node.TheConstants.{MOST_GIVEN, MOST_RECEIVED}
 
 -- the job is on a message of another
 abbrev pub OfPeer : ℕ → ℕ → Option OpenJob → Type 0
@@ -34,7 +37,7 @@ pub record TheNode : Type 0 where
 abbrev pub log_at : List TheQueue → ℕ → TheQueue
 log_at logs d = slice_index_or logs d no_queue
 
--- what the node's own numbers keep, whatever the cluster is: no more than one message to each for each that was received
+-- what the node's own numbers keep, whatever the cluster is: no more than eight messages to each for each that was received
 pub record IsWithin (me count base : ℕ) (covered heard : List ℕ) (receipts : Received) (logs : List TheQueue) (working : Option OpenJob) (waiting : ℕ) : Type 0 where
   pub inside : 1 ≤ me
   pub within : me ≤ count
@@ -42,38 +45,59 @@ pub record IsWithin (me count base : ℕ) (covered heard : List ℕ) (receipts :
   pub wide : length covered ≡ suc count
   pub heard_wide : length heard ≡ suc count
   pub logs_wide : length logs ≡ suc count
-  pub young : base ≤ 2 ^ 60
-  pub bound : length receipts.senders ≤ 65536
-  pub room : is_some working ≡ true → length receipts.senders < 65536
+  pub counts : (q : ℕ) → slice_index_or covered q 0 ≤ base
+  pub young : base + length receipts.senders ≤ MOST_RECEIVED
+  pub bound : length receipts.senders ≤ LIMIT
+  pub room : is_some working ≡ true → (length receipts.senders < LIMIT) × (base + length receipts.senders < MOST_RECEIVED)
   pub waits : waiting ≤ length receipts.senders
   pub own : OfPeer me count working
-  pub short : (d : ℕ) → (log_at logs d).dropped + length (log_at logs d).payloads ≤ base + length receipts.senders
+  pub short : (d : ℕ) → (log_at logs d).dropped + length (log_at logs d).payloads ≤ MOST_GIVEN * (base + length receipts.senders)
+
+-- this node's numbers do
+abbrev pub Within : TheNode → Type 0
+Within n = IsWithin n.me n.count n.base n.covered n.heard n.receipts n.logs n.working n.waiting
+
+-- how many messages of a peer its checkpoint covers
+abbrev pub covered_of : ℕ → TheNode → ℕ
+covered_of q n = slice_index_or n.covered q 0
 
 -- a packet of the node's
 abbrev pub packet_of : TheNode → ℕ → Body → Packet
 packet_of n to body = record { count = n.count; from = n.me; to = to; body = body }
 
--- one more packet waits to be taken
+-- one more packet waits to be taken, where there is room
 abbrev pub posts : ℕ → Body → TheNode → TheNode
-posts to body n = record n { out = n.out ++ packet_of n to body ∷ [] }
+posts to body n = record n { out = pushed (packet_of n to body) n.out }
 
--- what the handler gives may be sent
-abbrev pub MaySend : TheNode → Option Given → Type 0
-MaySend n None = Unit {0}
-MaySend n (Some s) = (s.to ≤ n.count) × (s.to ≢ n.me)
+-- what a handler gives may be sent: it isn't much, and each is to another
+pub record MaySend (n : TheNode) (given : List Given) : Type 0 where
+  pub few : length given ≤ MOST_GIVEN
+  pub others : (i : ℕ) (s : Given) → slice_get given i ≡ Some s → (s.to ≤ n.count) × (s.to ≢ n.me)
 
--- it is logged
-abbrev pub given_to : Option Given → List TheQueue → List TheQueue
-given_to None logs = logs
-given_to (Some s) logs = slice_set logs s.to (appended s.payload (log_at logs s.to))
+-- one message is logged, which waits for the number k
+abbrev pub logged : ℕ → Given → List TheQueue → List TheQueue
+logged k s logs = slice_set logs s.to (appended s.payload k (log_at logs s.to))
+
+-- these are, one after another
+abbrev pub given_to : ℕ → List Given → List TheQueue → List TheQueue
+given_to k [] logs = logs
+given_to k (s ∷ given) logs = given_to k given (logged k s logs)
+
+-- the number that the message of a job gets
+abbrev pub next_number : TheNode → ℕ
+next_number n = n.base + (length n.receipts.senders + 1)
 
 -- the handler ran on the message of this job
-abbrev pub worked : OpenJob → List ℕ → Option Given → TheNode → TheNode
-worked j state given n = record n { state = state; receipts = accepted j.sender n.receipts; logs = given_to given n.logs; waiting = n.waiting + 1; working = None }
+abbrev pub worked : OpenJob → List ℕ → List Given → TheNode → TheNode
+worked j state given n = record n { state = state; receipts = accepted j.sender n.receipts; logs = given_to (next_number n) given n.logs; waiting = n.waiting + 1; working = None }
 
 -- what the sender is told then
 abbrev pub number_of : OpenJob → TheNode → Body
-number_of j n = Number n.life j.ssn (n.base + (length n.receipts.senders + 1))
+number_of j n = Number n.life j.ssn (next_number n)
+
+-- a sender is told the number of a message of its that is behind the checkpoint
+abbrev pub tells : ℕ → ℕ → TheNode → TheNode
+tells to ssn n = posts to (Number n.life ssn (n.base + slice_index_or (numbers_of to n.receipts) (ssn - covered_of to n - 1) 0)) n
 
 -- the message to d with this SSN gets a number
 abbrev pub numbered : ℕ → ℕ → ℕ → TheNode → TheNode

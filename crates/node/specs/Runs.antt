@@ -12,13 +12,13 @@ use Rattle.cluster.specs.Promises.{NoOrphanNode, OutputOnce, ReceivedOnce}
 use Rattle.node.specs.declared.job.OpenJob.{OpenJob}
 use Rattle.node.specs.declared.job.Given.{Given}
 use Rattle.node.specs.Node.{TheNode, new_node}
-use Rattle.node.specs.Stands.{PutOut, Owes, Handles, Takes, IsHanded, body_of, job_of, payloads_to}
+use Rattle.node.specs.Stands.{PutOut, Owes, Acts, Handles, Takes, IsHanded, body_of, job_of, payloads_to}
 use Rattle.node.specs.Beside.{AllStand}
 
--- the state that a handler leaves, and the message that it gives
+-- the state that a handler leaves, and the messages that it gives
 pub record Answer : Type 0 where
   pub state : List ℕ
-  pub given : Option Given
+  pub given : List Given
 
 -- what the handler of each process answers to a message, in a state
 abbrev pub Answering : Type 0
@@ -55,6 +55,8 @@ pub data Call : Type 0 where
   Handed : ℕ → Packet → TheNode → Call
   -- its handler answered
   Worked : ℕ → Answer → TheNode → Call
+  -- it sent again what isn't answered
+  Ticked : ℕ → TheNode → Call
   Acted : Act → Call
 
 -- the gateway acts: it is handed an input, puts out a message or an answer, shows a message, or takes what came
@@ -75,11 +77,12 @@ abbrev pub IsAnswer : Answering → ℕ → TheNode → Answer → Type 0
 IsAnswer f p n a = (j : OpenJob) → n.working ≡ Some j → a ≡ f p n.state (job_of j)
 
 -- each call does what the contract of its function says: `take`; `receive`, handed a packet that a node or the gateway put out, whenever,
--- or again; and `work`, with the handler's answer. The gateway does what it may by what it sees
+-- or again; `work`, with the handler's answer; and `tick`. The gateway does what it may by what it sees
 abbrev pub DoesIt : Answering → System → Call → Type 0
 DoesIt f s (Gave p x new) = (0 < p) × (p ≤ s.outside.count) × Takes (Some x) (s.nodes p) new
 DoesIt f s (Handed p x new) = (0 < p) × (p ≤ s.outside.count) × PutOut s.outside.count s.outside.parcels x.from x × IsHanded x (s.nodes p) new
 DoesIt f s (Worked p a new) = (0 < p) × (p ≤ s.outside.count) × IsAnswer f p (s.nodes p) a × Owes (Handles a.state a.given (s.nodes p)) (s.nodes p) new
+DoesIt f s (Ticked p new) = (0 < p) × (p ≤ s.outside.count) × Acts (s.nodes p) new
 DoesIt f s (Acted act) = IsGateway act × May s.outside act
 
 -- what a packet says is among the parcels
@@ -91,6 +94,7 @@ abbrev pub after_call : System → Call → System
 after_call s (Gave p x new) = record { nodes = put s.nodes p new; outside = record s.outside { parcels = with_said x (body_of x.body) s.outside.parcels } }
 after_call s (Handed p x new) = record s { nodes = put s.nodes p new }
 after_call s (Worked p a new) = record s { nodes = put s.nodes p new }
+after_call s (Ticked p new) = record s { nodes = put s.nodes p new }
 after_call s (Acted act) = record s { outside = does s.outside act }
 
 -- calls one after another

@@ -1,11 +1,12 @@
 -- Which clusters a node stands in, and what a call owes
-use Rattle.std.specs.Prelude.{◌≡◌, ◌≢◌, ℕ, suc, ◌+◌, ◌<◌, ◌≤◌, List, [], ◌∷◌, ◌++◌, length, map, Option, Some, None, Bool, true, false, slice_index_or, replicate, ◌==◌, if◌then◌else◌}
+use Rattle.std.specs.Prelude.{◌≡◌, ◌≢◌, ℕ, suc, ◌+◌, ◌<◌, ◌≤◌, max, List, [], ◌∷◌, ◌++◌, length, map, take, Option, Some, None, Bool, true, false, slice_index_or, replicate, ◌==◌, if◌then◌else◌}
 use Rattle.rsn.specs.Receipts.{Received}
 use Rattle.world.specs.declared.message.Message.{Message}
 use Rattle.world.specs.History.{Payload, count_of}
 use Rattle.world.specs.Phases.{Phase, Up, Busy}
 use Rattle.world.specs.Handlers.{Handlers}
 use Rattle.world.specs.World.{put}
+use Rattle.world.specs.Logs.{run_to}
 use Rattle.cluster.specs.Parcels.{Body, Delivery, Number, Acknowledgement, Ask, Resume, Saved, Parcel, parcel, In}
 use Rattle.cluster.specs.Cluster.{Cluster, Live, waiting}
 use Rattle.cluster.specs.Rules.{Act, Input, Puts, Starts, Shows, Works, Replays, Records, Counts, Drops, Hears, Collects, Recovers, Obeys, Enters, Restores, Greets, Freezes, Keeps, Thaws, Dies, Opens, Run, after_run, IsNode, message}
@@ -14,7 +15,7 @@ use Rattle.packets.specs.declared.packet.Body.TheVariants as packets
 use Rattle.packets.specs.declared.packet.Packet.{Packet}
 use Rattle.node.specs.declared.job.OpenJob.{OpenJob}
 use Rattle.node.specs.declared.job.Given.{Given}
-use Rattle.node.specs.Queue.{TheQueue}
+use Rattle.node.specs.Queue.{TheQueue, leading}
 use Rattle.node.specs.Node.{TheNode, log_at}
 
 -- it holds of each
@@ -87,6 +88,15 @@ pub record KeepsOf (q : TheQueue) (dropped : ℕ) (payloads : List Payload) (num
   pub numbers_are : (i : ℕ) → i < length q.payloads → slice_index_or q.numbers i None ≡ numbers (suc (q.dropped + i))
   pub beyond : (i : ℕ) → q.dropped + length q.payloads < i → numbers i ≡ None
 
+-- how many messages the first k of a history send to d
+abbrev pub sent_by : Handlers → ℕ → List Message → ℕ → ℕ → ℕ
+sent_by f p h d k = length (f.sends p (take k h) d)
+
+-- a queue has released no more than the first k of n messages let go, where these are acknowledged, nor will it
+pub record IsShut (q : TheQueue) (n released : ℕ) (sent : ℕ → ℕ) : Type 0 where
+  pub within : q.released + length q.held ≤ q.dropped + length q.payloads
+  pub waits : (k : ℕ) → k ≤ n → q.released + leading k q.held ≤ max released (sent k)
+
 -- what a node holds is what the cluster has of the process p. It says nothing of others
 pub record Stands (n : TheNode) (c : Cluster) (p : ℕ) : Type 0 where
   pub me : n.me ≡ p
@@ -102,6 +112,9 @@ pub record Stands (n : TheNode) (c : Cluster) (p : ℕ) : Type 0 where
   pub received : HasReceived n.count n.base n.covered n.receipts (c.history p) (c.acknowledged p)
   pub waits : waiting c p ≡ n.waiting
   pub logs : (d : ℕ) → d ≤ c.count → d ≢ p → KeepsOf (log_at n.logs d) (c.trims p d) (c.handlers.sends p (c.history p) d) (c.numbers p d)
+  pub gates : (d : ℕ) → d ≤ c.count → d ≢ p → IsShut (log_at n.logs d) (length (c.history p)) (c.released p d) (sent_by c.handlers p (c.history p) d)
+  -- what the acknowledged numbers let go is released
+  pub free : (d : ℕ) → sent_by c.handlers p (c.history p) d (run_to (c.acknowledged p) (length (c.history p))) ≤ c.released p d
   pub heard : (q : ℕ) → q ≤ c.count → c.heard p q ≡ slice_index_or n.heard q 0
   -- what waits to be taken was put out
   pub out : Each (PutOut c.count c.parcels p) n.out
@@ -145,18 +158,22 @@ Owes given old new = (c : Cluster) → Stands old c old.me → given c → Goes 
 abbrev pub Receives : ℕ → Body → TheNode → TheNode → Type 0
 Receives from body old new = Owes (λ c. In (parcel from old.me body) c.parcels) old new
 
+-- what one owes that is told nothing
+abbrev pub Acts : TheNode → TheNode → Type 0
+Acts old new = Owes (λ c. Unit {0}) old new
+
 -- the payloads of what a handler gives
-abbrev pub payloads_to : ℕ → Option Given → List Payload
-payloads_to d None = []
-payloads_to d (Some s) = if d == s.to then s.payload ∷ [] else []
+abbrev pub payloads_to : ℕ → List Given → List Payload
+payloads_to d [] = []
+payloads_to d (s ∷ given) = (if d == s.to then s.payload ∷ [] else []) ++ payloads_to d given
 
 -- the handler of p leaves this state on its next message, and gives this
-pub record Answers (c : Cluster) (p : ℕ) (m : Message) (state : List ℕ) (given : Option Given) : Type 0 where
+pub record Answers (c : Cluster) (p : ℕ) (m : Message) (state : List ℕ) (given : List Given) : Type 0 where
   pub state_is : c.handlers.state p (c.history p ++ m ∷ []) ≡ state
   pub sends_are : (d : ℕ) → c.handlers.sends p (c.history p ++ m ∷ []) d ≡ c.handlers.sends p (c.history p) d ++ payloads_to d given
 
 -- it does so on the message that the node works on
-abbrev pub Handles : List ℕ → Option Given → TheNode → Cluster → Type 0
+abbrev pub Handles : List ℕ → List Given → TheNode → Cluster → Type 0
 Handles state given n c = (j : OpenJob) → n.working ≡ Some j → Answers c n.me (job_of j) state given
 
 -- handlers that begin with a state of zeros, and have sent nothing then
@@ -168,7 +185,7 @@ pub record BeginsWith (f : Handlers) (p len : ℕ) : Type 0 where
 abbrev pub IsHanded : Packet → TheNode → TheNode → Type 0
 IsHanded x old new = Owes (λ c. (b : Body) → body_of x.body ≡ Some b → In (parcel x.from x.to b) c.parcels) old new
 
--- what take owes: a packet that waited, which was put out; the node is without it
+-- what take owes: the packet that waited first, which was put out; the node is without it
 abbrev pub Takes : Option Packet → TheNode → TheNode → Type 0
 Takes None old new = (old.out ≡ []) × (new ≡ old)
-Takes (Some x) old new = (old ≡ record new { out = new.out ++ x ∷ [] }) × ((c : Cluster) → Stands old c old.me → PutOut c.count c.parcels old.me x × Stands new c old.me)
+Takes (Some x) old new = (old ≡ record new { out = x ∷ new.out }) × ((c : Cluster) → Stands old c old.me → PutOut c.count c.parcels old.me x × Stands new c old.me)

@@ -1,20 +1,19 @@
 //! A node: one process of a cluster, as a value that its host calls.
 //!
 //! A [`Node`] knows no clock, socket, file or thread. Its host hands it the packets that came
-//! ([`Node::receive`]), sends those that it gives ([`Node::take`]), and runs its handler
-//! ([`Node::work`]).
+//! ([`Node::receive`]), sends those that it gives ([`Node::take`]), runs its handler
+//! ([`Node::work`]), and now and then lets it send again what isn't answered ([`Node::tick`]).
 //!
 //! The promise: each call is none, one or more acts of the node's process that the rules of crate
 //! `cluster` allow, and what the node then holds is what the cluster has of that process. Acts of
 //! one node leave what the others stand for. So calls of nodes, in any order and with packets that
 //! come late, twice or never, are a run of a cluster, of which the promises of `cluster` hold.
 //!
-//! A node never comes back here: what releases its messages, its checkpoint and its recovery aren't
-//! in this crate yet.
+//! A node never comes back here: its checkpoint and its recovery aren't in this crate yet.
 //!
 //! ```text
 //! let mut node = Node::open(alloc, 1, 2, 8)?;
-//! node.receive(&packet)?;
+//! node.receive(&packet);
 //! while let Some(packet) = node.take() {
 //!     send(packet);
 //! }
@@ -24,8 +23,13 @@
 mod job;
 mod laws;
 mod node;
+mod outbox;
 mod queue;
+mod receiving;
+mod sending;
+mod working;
 
 pub use job::{Given, OpenJob};
 pub use laws::{calls_run, nodes_run, others_stand};
-pub use node::{Node, WINDOW};
+pub use node::{MOST_GIVEN, MOST_RECEIVED, Node, TICK, WINDOW};
+pub use outbox::OUTBOX;

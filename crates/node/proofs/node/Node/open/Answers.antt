@@ -12,5 +12,5 @@ returns-clause-stands c f begins =
     let heard : c.resize-3.new.self.items ≡ replicate wide 1 = first_of (search rules, grind (arith, common_steps)) in
     let logs : c.loop-made.logs.items ≡ replicate wide no_queue = first_of (search rules, grind (arith, common_steps)) in
     let receipts : c.in_ok-receipts.receipts ≡ record { senders = []; acknowledged = [] } = search rules in
-    let out : c.new-3.result.items ≡ [] = search rules in
+    let out : c.in_ok-out.out ≡ [] = search rules in
     rw (state, covered, heard, logs, receipts, out) (stands-opened c.args.me c.args.count c.args.state_len f c.requires.own.0 c.requires.own.1 begins)

@@ -14,8 +14,8 @@ use Rattle.cluster.specs.Parcels.{Body, Delivery, Number, Saved}
 use Rattle.cluster.specs.Cluster.{Cluster, seen, waiting, WINDOW}
 use Rattle.cluster.specs.Rules.{Act, Starts, message}
 use Rattle.packets.specs.declared.packet.Body.TheVariants as packets
-use Rattle.node.specs.Node.{TheNode, posts}
-use Rattle.node.specs.Stands.{Stands, HasReceived, Receives}
+use Rattle.node.specs.Node.{TheNode, posts, tells, covered_of}
+use Rattle.node.specs.Stands.{Stands, HasReceived, Receives, Acts}
 use Rattle.node.proofs.Lists.{count-append, get-behind}
 use Rattle.node.proofs.Putting.{stands-takes, stands-well, posted}
 use Rattle.node.proofs.Numbers.{length-numbers, rsn_from-numbers}
@@ -47,10 +47,9 @@ says-saved n from k body low other is c s g =
     posted n c from (packets.Saved k) (Saved k) refl s low other (stands-well n c n.me s, is ∙ covers n c n.me from s low s.inside.0)
 
 -- it is one behind: its number is known
-pub says-number : (n : TheNode) (from ssn k : ℕ) (body : Body) → from ≤ n.count → from ≢ n.me → slice_index_or n.covered from 0 < ssn
-    → ssn - slice_index_or n.covered from 0 - 1 < length (numbers_of from n.receipts) → k ≡ n.base + slice_index_or (numbers_of from n.receipts) (ssn - slice_index_or n.covered from 0 - 1) 0
-    → Receives from body n (posts from (packets.Number n.life ssn k) n)
-says-number n from ssn k body low other above known is c s g =
+says-number : (n : TheNode) (from ssn k : ℕ) → from ≤ n.count → from ≢ n.me → covered_of from n < ssn → ssn - covered_of from n - 1 < length (numbers_of from n.receipts)
+    → k ≡ n.base + slice_index_or (numbers_of from n.receipts) (ssn - covered_of from n - 1) 0 → Acts n (posts from (packets.Number n.life ssn k) n)
+says-number n from ssn k low other above known is c s g =
     posted n c from (packets.Number n.life ssn k) (Number n.life ssn k) refl s low other (stands-well n c n.me s, sym s.life, names)
   where
     r : HasReceived n.count n.base n.covered n.receipts (c.history n.me) (c.acknowledged n.me)
@@ -68,6 +67,9 @@ says-number n from ssn k body low other above known is c s g =
         let number : k ≡ suc (length r.before + f.0) = omega (arith, is, same, f.1, r.many) in
         let at : nth (c.history n.me) (suc (length r.before + f.0)) ≡ Some f.2 = ap (λ h. slice_get h (length r.before + f.0)) (sym r.joined) ∙ get-behind r.before r.behind f.0 f.2 f.3 in
         record { message = f.2; at = ap (nth (c.history n.me)) number ∙ at; sender = f.4; ssn = f.5 }
+
+pub tells-number : (n : TheNode) (from ssn : ℕ) → from ≤ n.count → from ≢ n.me → covered_of from n < ssn → ssn - covered_of from n - 1 < length (numbers_of from n.receipts) → Acts n (tells from ssn n)
+tells-number n from ssn low other above known = says-number n from ssn (n.base + slice_index_or (numbers_of from n.receipts) (ssn - covered_of from n - 1) 0) low other above known refl
 
 -- it is the next of its sender: a job is open
 pub starts : (n : TheNode) (from i ssn : ℕ) (x : Payload) → from ≤ n.count → from ≢ n.me → n.working ≡ None → i ≡ slice_index_or n.heard from 0 → slice_index_or n.covered from 0 < ssn
@@ -93,6 +95,8 @@ starts n from i ssn x low other idle incarnation above next room c s given =
         received = s.received;
         waits = s.waits;
         logs = s.logs;
+        gates = s.gates;
+        free = s.free;
         heard = s.heard;
         out = s.out;
       };

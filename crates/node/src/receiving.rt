@@ -1,0 +1,162 @@
+//! What a node does with a packet.
+
+ghost use Rattle.std.specs.Prelude.{◌≡◌, ◌≢◌, ◌≤◌, ◌<◌, ◌+◌, ◌-◌, length};
+ghost use Rattle.rsn.specs.Receipts.{numbers_of};
+ghost use Rattle.node.specs.Node.{tells, counted, covered_of};
+ghost use Rattle.node.specs.Calls.{delivered, recorded_by, acknowledged_by, dropped_by, handed, takes_more};
+ghost use Rattle.node.specs.Stands.{IsHanded};
+
+use crate::job::OpenJob;
+use crate::node::{MOST_RECEIVED, Node, WINDOW};
+use helpers::Payload;
+use packets::{Body, Packet};
+
+impl Node {
+    /// A packet came. One that isn't of another node of this cluster to this one is dropped.
+    pub fn receive(&mut self, packet: &Packet)
+        ensures value { self.new ≡ handed packet.now self.old }
+        ensures acts { IsHanded packet.now self.old self.new }
+    {
+        // For the proof: reading a field tells the invariant.
+        let _me = self.me;
+        self.hand(packet);
+    }
+
+    fn hand(&mut self, packet: &Packet)
+        ensures { self.new ≡ handed packet.now self.old }
+    {
+        let from = packet.from;
+        if packet.count != self.count
+            || packet.to != self.me
+            || from > self.count
+            || from == self.me
+        {
+            return;
+        }
+        match &packet.body {
+            Body::Delivery {
+                incarnation,
+                ssn,
+                payload,
+            } => self.receive_delivery(from, *incarnation, *ssn, *payload),
+            Body::Number {
+                incarnation,
+                ssn,
+                number,
+            } => self.receive_number(from, *incarnation, *ssn, *number),
+            Body::Acknowledgement {
+                incarnation,
+                number,
+            } => self.receive_acknowledgement(*incarnation, *number),
+            Body::Saved { covered } => self.receive_saved(from, *covered),
+            _ => {}
+        }
+    }
+
+    /// A message of `from`, in its incarnation `life`, came.
+    fn receive_delivery(&mut self, from: u8, life: u64, ssn: u64, payload: Payload)
+        requires { (from ≤ self.old.count) × (from ≢ self.old.me) }
+        ensures { self.new ≡ delivered from life ssn payload self.old }
+    {
+        if self.working.is_some() || life != self.heard[from as usize] {
+            return;
+        }
+        let covered = self.covered[from as usize];
+        if ssn <= covered {
+            return self.put(from, Body::Saved { covered });
+        }
+        let place = ssn - covered - 1;
+        let known = self.receipts.numbers(from).len() as u64;
+        if place < known {
+            return self.tell(from, ssn);
+        }
+        if place == known && self.takes_more() {
+            self.working = Some(OpenJob {
+                sender: from,
+                ssn,
+                payload,
+            });
+        }
+    }
+
+    /// Whether there is room for one message more.
+    fn takes_more(&self) -> bool
+        ensures { result ≡ takes_more self.now }
+    {
+        let behind = self.receipts.length();
+        self.waiting < WINDOW
+            && behind < rsn::LIMIT as u32
+            && self.base + u64::from(behind) < MOST_RECEIVED
+    }
+
+    /// Tells a sender the number of a message of its, which is behind the checkpoint.
+    pub(crate) fn tell(&mut self, to: u8, ssn: u64)
+        requires to { to ≤ self.old.count }
+        requires above { covered_of to self.old < ssn }
+        requires known { ssn - covered_of to self.old - 1 < length (numbers_of to self.old.receipts) }
+        ensures { self.new ≡ tells to ssn self.old }
+    {
+        let place = ssn - self.covered[to as usize] - 1;
+        let number = self.base + u64::from(self.receipts.numbers(to)[place as usize]);
+        let incarnation = self.life;
+        self.put(
+            to,
+            Body::Number {
+                incarnation,
+                ssn,
+                number,
+            },
+        );
+    }
+
+    /// A number came: `from`, in its incarnation `life`, received this message of the node's under it.
+    fn receive_number(&mut self, from: u8, life: u64, ssn: u64, rsn: u64)
+        requires { (from ≤ self.old.count) × (from ≢ self.old.me) }
+        ensures { self.new ≡ recorded_by from life ssn rsn self.old }
+    {
+        if life != self.heard[from as usize] || !self.logs[from as usize].is_kept(ssn) {
+            return;
+        }
+        self.logs[from as usize].record(ssn, rsn);
+        self.put(
+            from,
+            Body::Acknowledgement {
+                incarnation: life,
+                number: rsn,
+            },
+        );
+    }
+
+    /// An acknowledgement came: the number `rsn` is in the log of its sender. What waited for it is
+    /// released.
+    fn receive_acknowledgement(&mut self, life: u64, rsn: u64)
+        ensures { self.new ≡ acknowledged_by life rsn self.old }
+    {
+        let last = self.base + u64::from(self.receipts.length());
+        if life != self.life || rsn <= self.base || last < rsn {
+            return;
+        }
+        let behind = (rsn - self.base) as u32;
+        if !self.receipts.is_acknowledged(behind) {
+            self.acknowledge(behind);
+            self.release();
+        }
+    }
+
+    /// The number that is so far behind the checkpoint is acknowledged.
+    fn acknowledge(&mut self, behind: u32)
+        requires { (1 ≤ behind) × (behind ≤ length self.old.receipts.senders) }
+        ensures { self.new ≡ counted behind self.old }
+    {
+        self.receipts.acknowledge(behind);
+        self.waiting = self.waiting.saturating_sub(1);
+    }
+
+    /// The first messages to `from` are covered for good: the log drops them.
+    fn receive_saved(&mut self, from: u8, covered: u64)
+        requires { from ≤ self.old.count }
+        ensures { self.new ≡ dropped_by from covered self.old }
+    {
+        self.logs[from as usize].drop_to(covered);
+    }
+}

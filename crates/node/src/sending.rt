@@ -1,0 +1,193 @@
+//! What a node sends, and sends again.
+
+ghost use Rattle.std.specs.Prelude.{◌≡◌, ◌≤◌, ◌<◌, ◌+◌, ◌^◌, length, true};
+ghost use Rattle.rsn.specs.Receipts.{numbers_of, acknowledged_of, run_of};
+ghost use Rattle.node.specs.Node.{log_at, covered_of};
+ghost use Rattle.node.specs.Queue.{is_kept, number_of};
+ghost use Rattle.node.specs.Sending.{delivers, first_to_send, many_to_send, sends_on, unlocked, released_to, released, resent, renumbered, is_told_at, ticked};
+ghost use Rattle.node.specs.Stands.{Acts};
+
+use crate::node::{MOST_RECEIVED, Node, TICK};
+use packets::Body;
+
+impl Node {
+    /// What isn't answered yet is sent again: for each peer the first messages that are released and
+    /// have no number, and the first of its numbers that aren't acknowledged.
+    pub fn tick(&mut self)
+        ensures value { self.new ≡ ticked self.old }
+        ensures acts { Acts self.old self.new }
+    {
+        // For the proof: reading a field tells the invariant.
+        let _me = self.me;
+        self.send_again();
+    }
+
+    fn send_again(&mut self)
+        ensures { self.new ≡ ticked self.old }
+    {
+        let me = self.me();
+        for to in 0..self.count() + 1 {
+            if to != me {
+                self.resend(to);
+                self.renumber(to);
+            }
+        }
+    }
+
+    /// What the acknowledged numbers let go is released, and the first of it is sent.
+    pub(crate) fn release(&mut self)
+        ensures { self.new ≡ released self.old }
+    {
+        let me = self.me();
+        for to in 0..self.count() + 1 {
+            if to != me {
+                self.release_to(to);
+            }
+        }
+    }
+
+    fn release_to(&mut self, to: u8)
+        requires { to ≤ self.old.count }
+        ensures { self.new ≡ released_to to self.old }
+    {
+        let above = self.unlock(to);
+        self.send(to, above);
+    }
+
+    /// What the acknowledged numbers let go to a destination is released. Answers how many were
+    /// before.
+    fn unlock(&mut self, to: u8) -> u64
+        requires { to ≤ self.old.count }
+        ensures before { result ≡ (log_at self.old.logs to).released }
+        ensures after { self.new ≡ unlocked to self.old }
+    {
+        let run = self.base + u64::from(self.receipts.run_length());
+        let before = self.logs[to as usize].released();
+        self.logs[to as usize].release(run);
+        before
+    }
+
+    /// The first messages behind this SSN are sent, as far as they are released.
+    fn send(&mut self, to: u8, above: u64)
+        requires { to ≤ self.old.count }
+        ensures { self.new ≡ sends_on to above self.old }
+    {
+        let (first, many) = self.to_be_sent(to, above);
+        for sent in 0..many {
+            self.deliver(to, first + sent + 1);
+        }
+    }
+
+    /// Behind which message they begin, and how many there are.
+    fn to_be_sent(&self, to: u8, above: u64) -> (u64, u64)
+        requires { to ≤ self.now.count }
+        ensures first { result.0 ≡ first_to_send above (log_at self.now.logs to) }
+        ensures many { result.1 ≡ many_to_send above (log_at self.now.logs to) }
+        ensures sent { (log_at self.now.logs to).released ≤ (log_at self.now.logs to).dropped + length (log_at self.now.logs to).payloads }
+        ensures small { (log_at self.now.logs to).dropped + length (log_at self.now.logs to).payloads < 2 ^ 63 }
+    {
+        let queue = &self.logs[to as usize];
+        let first = queue.dropped().max(above);
+        let many = queue.released().saturating_sub(first).min(TICK);
+        (first, many)
+    }
+
+    /// A message that is kept is sent.
+    fn deliver(&mut self, to: u8, ssn: u64)
+        requires to { to ≤ self.old.count }
+        requires kept { is_kept ssn (log_at self.old.logs to) ≡ true }
+        ensures { self.new ≡ delivers to ssn self.old }
+    {
+        let payload = self.logs[to as usize].payload(ssn);
+        let incarnation = self.life;
+        self.put(
+            to,
+            Body::Delivery {
+                incarnation,
+                ssn,
+                payload,
+            },
+        );
+    }
+
+    /// The first messages that are released and have no number are sent again.
+    fn resend(&mut self, to: u8)
+        requires { to ≤ self.old.count }
+        ensures { self.new ≡ resent to self.old }
+    {
+        let (first, last) = self.released_span(to);
+        let mut left = TICK;
+        for before in first..last {
+            if left == 0 {
+                return;
+            }
+            if self.number_of(to, before + 1).is_none() {
+                self.deliver(to, before + 1);
+                left -= 1;
+            }
+        }
+    }
+
+    /// How many were dropped, and how many released.
+    fn released_span(&self, to: u8) -> (u64, u64)
+        requires { to ≤ self.now.count }
+        ensures dropped { result.0 ≡ (log_at self.now.logs to).dropped }
+        ensures released { result.1 ≡ (log_at self.now.logs to).released }
+        ensures sent { (log_at self.now.logs to).released ≤ (log_at self.now.logs to).dropped + length (log_at self.now.logs to).payloads }
+        ensures small { (log_at self.now.logs to).dropped + length (log_at self.now.logs to).payloads < 2 ^ 63 }
+    {
+        let queue = &self.logs[to as usize];
+        (queue.dropped(), queue.released())
+    }
+
+    /// The number of a message that is kept, where it's known.
+    fn number_of(&self, to: u8, ssn: u64) -> Option<u64>
+        requires to { to ≤ self.now.count }
+        requires kept { is_kept ssn (log_at self.now.logs to) ≡ true }
+        ensures { result ≡ number_of ssn (log_at self.now.logs to) }
+    {
+        self.logs[to as usize].number(ssn)
+    }
+
+    /// The first of a peer's numbers that aren't acknowledged are told again.
+    fn renumber(&mut self, to: u8)
+        requires { to ≤ self.old.count }
+        ensures { self.new ≡ renumbered to self.old }
+    {
+        let (first, last, covered) = self.told_span(to);
+        let mut left = TICK;
+        for place in first..last {
+            if left == 0 {
+                return;
+            }
+            if !self.is_told_at(to, place) {
+                self.tell(to, covered + u64::from(place) + 1);
+                left -= 1;
+            }
+        }
+    }
+
+    /// How many of a peer's messages are acknowledged without a gap, how many there are, and how many
+    /// the checkpoint covers.
+    fn told_span(&self, to: u8) -> (u32, u32, u64)
+        requires { to ≤ self.now.count }
+        ensures first { result.0 ≡ run_of (acknowledged_of to self.now.receipts) }
+        ensures last { result.1 ≡ length (numbers_of to self.now.receipts) }
+        ensures covered { result.2 ≡ covered_of to self.now }
+        ensures small { (result.2 ≤ MOST_RECEIVED) × (result.1 ≤ 65536) }
+    {
+        let first = self.receipts.run_length_of(to);
+        let last = self.receipts.numbers(to).len() as u32;
+        (first, last, self.covered[to as usize])
+    }
+
+    /// Whether the number of a peer's message is acknowledged.
+    fn is_told_at(&self, to: u8, place: u32) -> bool
+        requires to { to ≤ self.now.count }
+        requires known { place < length (numbers_of to self.now.receipts) }
+        ensures { result ≡ is_told_at to place self.now }
+    {
+        let number = self.receipts.numbers(to)[place as usize];
+        self.receipts.is_acknowledged(number)
+    }
+}
