@@ -94,14 +94,16 @@ end_from budget worker [] [] fresh_all served memory = tt
 end_from budget worker [] (h ∷ hs) fresh_all served memory = absurd served
 end_from budget worker (s ∷ ss) [] fresh_all served memory = absurd served
 end_from budget worker (s ∷ ss) (h ∷ hs) fresh_all served memory =
-    let none : s.answered ≡ 0 = ap (λ (x : TheSeat). x.answered) fresh_all.0 in
-    (record {
-      number = served.0.seat_is.worker ∙ ap (λ (x : TheSeat). x.worker) fresh_all.0;
-      spent = λ by. omega (arith, none, served.0.spent by);
-      most = omega (arith, none, served.0.most);
-      none = λ zero. served.0.none zero ∙ none;
-      memory = memory 0 h (omega arith);
-    }, end_from budget (worker + 1) ss hs fresh_all.1 served.1 (λ k d within. memory (suc k) d (omega (arith, within))))
+    let none : s.answered ≡ 0 = ap (λ (x : TheSeat). x.answered) fresh_all.0 in (
+      record {
+        number = served.0.seat_is.worker ∙ ap (λ (x : TheSeat). x.worker) fresh_all.0;
+        spent = λ by. omega (arith, none, served.0.spent by);
+        most = omega (arith, none, served.0.most);
+        none = λ zero. served.0.none zero ∙ none;
+        memory = memory 0 h (omega arith);
+      },
+      end_from budget (worker + 1) ss hs fresh_all.1 served.1 (λ k d within. memory (suc k) d (omega (arith, within))),
+    )
 
 ends_answered : {L : Type 0} → (hs : List (Share L)) → answers_of (map ended_of hs) ≡ shared.answers_of hs
 ends_answered [] = refl
