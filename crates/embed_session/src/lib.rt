@@ -8,7 +8,8 @@
 //!
 //! The promise: each function that makes a call of the session owes what that call owes, word for
 //! word; each that reads gives what the session's contract says; and any code but 0 leaves the
-//! session as it was, but for a drive that ran out of memory. A record of an entry says all of it
+//! session as it was, but for a drive that ran out of memory or came to the journal's end, and for an
+//! arrival that ran out of memory for the result of its job. A record of an entry says all of it
 //! ([`one_entry`]).
 //!
 //! ```c
