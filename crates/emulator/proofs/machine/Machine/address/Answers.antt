@@ -1,0 +1,16 @@
+use Rattle.std.proofs.Common.{◌≡◌, ◌∙◌, refl, ap, subst}
+use Rattle.x86.specs.Machine as x86
+use Rattle.x86.specs.Machine.{with_word}
+use Rattle.emulator.specs.Emulation.{Does, state_of, value_of}
+use Rattle.emulator.proofs.machine.Machine.address.Goals as goal
+
+pub returns-in_default : goal.returns-in_default
+returns-in_default c =
+    rw (c.value.ensures (λ v. x86.put (state_of c.args.self.now) c.args.to (x86.behind v (x86.extended c.args.disp))), c.in_default.is) (refl, refl)
+
+pub returns : goal.returns
+returns c =
+    let at : value_of c.behind.result ≡ x86.behind (value_of c.in-Some.value) (x86.extended c.args.disp) =
+    c.behind.ensures ∙ ap (x86.behind (value_of c.in-Some.value)) c.extended.ensures in
+    rw (c.value.ensures (λ v. x86.put (state_of c.args.self.now) c.args.to (x86.behind v (x86.extended c.args.disp))), c.in-Some.is)
+    (subst (λ v. Does (x86.put (state_of c.args.self.now) c.args.to v) c.args.self.now c.put.new.self c.put.result) at c.put.ensures)
