@@ -1,23 +1,23 @@
 -- How a node that collects comes back whose peers are all up
-use Rattle.std.proofs.Common.{◌≡◌, ◌≢◌, inl, ℕ, zero, suc, ◌+◌, ◌-◌, ◌<◌, ◌≤◌, List, [], ◌∷◌, ◌++◌, length, take, Bool, true, false, refl, sym, ap, ◌∙◌, subst, arith, length-append}
+use Rattle.std.proofs.Common.{◌≡◌, ◌≢◌, inl, ℕ, zero, suc, ◌<◌, ◌≤◌, List, length, take, Bool, true, false, refl, sym, ap, ◌∙◌, subst, arith}
 use Rattle.std.specs.Prelude.{Option, Some, None, ◌&&◌, ◌==◌, nat_lt, if◌then◌else◌}
 use Rattle.std.proofs.lemmas.Bool.Decides.{nat_tests}
 use Rattle.world.specs.declared.message.Message.{Message}
 use Rattle.world.specs.Phases.{Replaying}
 use Rattle.world.specs.World.{put}
-use Rattle.world.specs.Plan.{if_next, pushed}
 use Rattle.world.specs.Calls.{phase_with, peers}
 use Rattle.theorems.proofs.Changes.{elsewhere, at-itself}
 use Rattle.theorems.proofs.Tests.{not-below}
 use Rattle.theorems.proofs.ListLemmas.{none-some, nth-within, take-length}
-use Rattle.theorems.proofs.PlanLemmas.{first_below-at, if_next-some}
+use Rattle.theorems.proofs.PlanLemmas.{first_below-at}
 use Rattle.cluster.specs.Parcels.{Ask, Told, Parcel, reaches}
 use Rattle.cluster.specs.Cluster.{Live, Collecting, Collected, Cluster, seen}
-use Rattle.cluster.specs.Rules.{Act, Puts, Hears, Collects, Recovers, IsNode, Asks, IsAll, May, does, entry_of, entry_in, told_by, plan, kept_by, taken_back, goes_on, put2}
+use Rattle.cluster.specs.Rules.{Act, Puts, Hears, Collects, Recovers, IsNode, Asks, IsAll, May, does, entry_of, entry_in, told_by, taken_back, goes_on, put2}
 use Rattle.cluster.specs.Inside.Agrees.{CollectedAs}
 use Rattle.cluster.proofs.Facts.{runs-live}
 use Rattle.durable.specs.Return.{CanReach, AllUp}
 use Rattle.durable.proofs.Sane.{Sane, sane-step}
+use Rattle.durable.proofs.Stops.{Stops, stops}
 use Rattle.durable.proofs.Returning.{first, waits-takes, waits-well, Others, turned, restores, replays}
 
 module _ (p : ℕ) (c : Cluster) (s : Sane c) (node : IsNode c p) (o : Others p c) (coll : c.stage p ≡ Collecting) where
@@ -51,36 +51,10 @@ module _ (p : ℕ) (c : Cluster) (s : Sane c) (node : IsNode c p) (o : Others p 
     had = take (c.saved p) (c.history p)
 
     abbrev Ends : ℕ → Type 0
-    Ends k = (c.saved p ≤ k) × (length (kept_by c p k) ≡ k) × (if_next (kept_by c p k) (told_by c p (suc k)) ≡ None)
-
-    -- here, or further on
-    here-or : (j : ℕ) → length (plan (told_by c p) had j) ≡ c.saved p + j
-        → ((x : Message) → if_next (plan (told_by c p) had j) (told_by c p (suc (c.saved p + j))) ≡ Some x → length (plan (told_by c p) had (suc j)) ≡ c.saved p + suc j → (k : ℕ) × Ends k) → (k : ℕ) × Ends k
-    here-or j long more = split (if_next (plan (told_by c p) had j) (told_by c p (suc (c.saved p + j)))) refl
-      where
-        split : (t : Option Message) → if_next (plan (told_by c p) had j) (told_by c p (suc (c.saved p + j))) ≡ t → (k : ℕ) × Ends k
-        split None e =
-            let minus : (c.saved p + j) - c.saved p ≡ j = omega arith in
-            let P : ℕ → Type 0 = λ i. length (plan (told_by c p) had i) ≡ c.saved p + j in
-            let Q : ℕ → Type 0 = λ i. if_next (plan (told_by c p) had i) (told_by c p (suc (c.saved p + j))) ≡ None in
-            (c.saved p + j, ((omega arith), subst P (sym minus) long, subst Q (sym minus) e))
-        split (Some x) e =
-            let P : ℕ → Type 0 = λ i. if_next (plan (told_by c p) had j) (told_by c p (suc i)) ≡ Some x in
-            let next : if_next (plan (told_by c p) had j) (told_by c p (suc (length (plan (told_by c p) had j)))) ≡ Some x = subst P (sym long) e in
-            let longer : length (plan (told_by c p) had j ++ x ∷ []) ≡ length (plan (told_by c p) had j) + 1 = length-append _ _ in
-            more x e (ap (λ t. length (pushed (plan (told_by c p) had j) t)) next ∙ (omega arith))
-
-    find : (n j : ℕ) → c.saved p + j + n ≡ length (c.history p) → length (plan (told_by c p) had j) ≡ c.saved p + j → (k : ℕ) × Ends k
-    find zero j e long = here-or j long (λ x t _.
-        let same : c.saved p + j ≡ length (c.history p) = omega arith in
-        let P : ℕ → Type 0 = λ i. told_by c p (suc i) ≡ None in
-        absurd (none-some x (told_by c p (suc (c.saved p + j))) (subst P (sym same) next-none) (if_next-some _ _ x t)))
-    find (suc n) j e long = here-or j long (λ x t more. find n (suc j) (omega arith) more)
+    Ends k = Stops (told_by c p) had (c.saved p) (take-length (c.history p) (c.saved p) within) k
 
     ends : (k : ℕ) × Ends k
-    ends =
-        let l : c.saved p ≤ length (c.history p) = within in
-        find (length (c.history p) - c.saved p) 0 (omega arith) (let m : length (take (c.saved p) (c.history p)) ≡ c.saved p = take-length (c.history p) (c.saved p) l in omega arith)
+    ends = stops (told_by c p) had (c.saved p) (take-length (c.history p) (c.saved p) within) (length (c.history p)) within next-none
 
     -- so it recovers, and comes back
     pub recovers : CanReach c AllUp

@@ -79,13 +79,13 @@ with-todo [] = refl
 with-todo (p ∷ ps) = refl
 
 -- p turns to a phase in which it restores from other nodes
-todo-turn : (c : Cluster) (p : ℕ) (x : Phase) → ((q : ℕ) → has (todo_of x) q ≡ true → IsNode c q × (q ≢ p)) → Todo c → (j q : ℕ) → has (todo_of (put c.phase p x j)) q ≡ true → IsNode c q × (q ≢ j)
+pub todo-turn : (c : Cluster) (p : ℕ) (x : Phase) → ((q : ℕ) → has (todo_of x) q ≡ true → IsNode c q × (q ≢ p)) → Todo c → (j q : ℕ) → has (todo_of (put c.phase p x j)) q ≡ true → IsNode c q × (q ≢ j)
 todo-turn c p x t h = choose p (λ j b. (q : ℕ) → has (todo_of (if b then x else c.phase j)) q ≡ true → IsNode c q × (q ≢ j)) t (λ j _. h j)
 
-todo-with : (c : Cluster) (p : ℕ) (ps : List ℕ) → ((q : ℕ) → has ps q ≡ true → IsNode c q × (q ≢ p)) → (q : ℕ) → has (todo_of (phase_with ps)) q ≡ true → IsNode c q × (q ≢ p)
+pub todo-with : (c : Cluster) (p : ℕ) (ps : List ℕ) → ((q : ℕ) → has ps q ≡ true → IsNode c q × (q ≢ p)) → (q : ℕ) → has (todo_of (phase_with ps)) q ≡ true → IsNode c q × (q ≢ p)
 todo-with c p ps t q e = t q (sym (ap (λ xs. has xs q) (with-todo ps)) ∙ e)
 
-peers-nodes : (c : Cluster) (p q : ℕ) → has (peers (seen c) p false) q ≡ true → IsNode c q × (q ≢ p)
+pub peers-nodes : (c : Cluster) (p q : ℕ) → has (peers (seen c) p false) q ≡ true → IsNode c q × (q ≢ p)
 peers-nodes c p q e =
     let t = those-has (λ a. not (a == p) && (not false || is_up (c.phase a))) c.count q e in
     ((t.1, t.2), other (q == p) refl (both (not (q == p)) true t.0).0)
@@ -97,7 +97,7 @@ peers-nodes c p q e =
 no-todo : (c : Cluster) (p q : ℕ) (x : Phase) → todo_of x ≡ [] → has (todo_of x) q ≡ true → IsNode c q × (q ≢ p)
 no-todo c p q x e t = absurd (let z : false ≡ true = sym (ap (λ xs. has xs q) e) ∙ t in cc)
 
-todo-step : (c : Cluster) (a : Act) → May c a → Todo c → Todo (does c a)
+pub todo-step : (c : Cluster) (a : Act) → May c a → Todo c → Todo (does c a)
 todo-step c (Input d x) may h = h
 todo-step c (Puts p d x) may h = h
 todo-step c (Starts p d i ssn x) may h = todo-turn c d (Busy (message p ssn x)) (λ q e. no-todo c d q (Busy (message p ssn x)) refl e) h
