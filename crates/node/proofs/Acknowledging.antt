@@ -72,7 +72,7 @@ received-counted count base covered r h a k some within s =
     past j l true e = absurd (let f : j ≡ base + k = grind (arith, nat_tests) in omega (arith, f, l, within, long count base covered r h a s))
     past j l false e = s.above j l
 
-module _ (n : TheNode) (c : Cluster) (q i k : ℕ) (s : Stands n c n.me) (given : In (parcel q n.me (Acknowledgement i (n.base + k))) c.parcels) (life : i ≡ n.life) (some : 0 < k) (within : k ≤ length n.receipts.senders) (fresh : slice_index_or n.receipts.acknowledged (k - 1) false ≡ false) where
+module _ (n : TheNode) (c : Cluster) (q i k : ℕ) (s : Stands n c n.me) (given : In (parcel q n.me (Acknowledgement i (n.base + k))) c.parcels) (life : i ≡ n.life) (some : 0 < k) (within : k ≤ length n.receipts.senders) (fresh : slice_index_or n.receipts.acknowledged (k - 1) false ≡ false) (live : n.frozen ≡ false) where
   abbrev act : Act
   act = Counts q n.me i (n.base + k)
 
@@ -89,7 +89,7 @@ module _ (n : TheNode) (c : Cluster) (q i k : ℕ) (s : Stands n c n.me) (given 
   not-yet = let e : suc (n.base + (k - 1)) ≡ n.base + k = omega (arith, some) in ap (c.acknowledged n.me) (sym e) ∙ sym (s.received.acknowledged_is (k - 1) (omega (arith, some, within))) ∙ fresh
 
   may : May c act
-  may = (given, s.inside, stands-takes n c n.me s, life ∙ sym s.life, omega (arith, many, within), not-yet)
+  may = (given, s.inside, stands-takes n c n.me live s, life ∙ sym s.life, omega (arith, many, within), not-yet)
 
   acknowledged-is : c'.acknowledged n.me ≡ put (c.acknowledged n.me) (n.base + k) true
   acknowledged-is = at-itself n.me (λ t. (if t then put (c.acknowledged n.me) (n.base + k) true else c.acknowledged n.me) ≡ put (c.acknowledged n.me) (n.base + k) true) refl
@@ -127,7 +127,7 @@ module _ (n : TheNode) (c : Cluster) (q i k : ℕ) (s : Stands n c n.me) (given 
         me = refl;
         count = s.count;
         inside = s.inside;
-        live = s.live;
+        stage = s.stage;
         greeted = s.greeted;
         phase = s.phase;
         works = s.works;
@@ -147,7 +147,7 @@ module _ (n : TheNode) (c : Cluster) (q i k : ℕ) (s : Stands n c n.me) (given 
   goes-counted = record { acts = act ∷ []; run = (may, tt); by = (refl, tt); stands = stands-counted }
 
 -- an acknowledgement of the present life, for a number that isn't acknowledged yet, is counted
-pub counts : (n : TheNode) (q i m k : ℕ) → i ≡ n.life → m ≡ n.base + k → 0 < k → k ≤ length n.receipts.senders → slice_index_or n.receipts.acknowledged (k - 1) false ≡ false → Receives q (Acknowledgement i m) n (counted k n)
-counts n q i m k life is some within fresh c s given =
+pub counts : (n : TheNode) (q i m k : ℕ) → n.frozen ≡ false → i ≡ n.life → m ≡ n.base + k → 0 < k → k ≤ length n.receipts.senders → slice_index_or n.receipts.acknowledged (k - 1) false ≡ false → Receives q (Acknowledgement i m) n (counted k n)
+counts n q i m k live life is some within fresh c s given =
     let P : ℕ → Type 0 = λ z. In (parcel q n.me (Acknowledgement i z)) c.parcels in
-    goes-counted n c q i k s (subst P is given) life some within fresh
+    goes-counted n c q i k s (subst P is given) life some within fresh live

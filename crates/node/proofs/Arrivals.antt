@@ -21,7 +21,7 @@ use Rattle.node.proofs.Putting.{stands-takes, stands-well, posted}
 use Rattle.node.proofs.Numbers.{length-numbers, rsn_from-numbers}
 
 -- the messages of q that it received: those that its checkpoint covers, and those behind
-counted : (n : TheNode) (c : Cluster) (p q : ℕ) (s : Stands n c p) → q ≤ n.count → slice_index_or n.covered q 0 + length (numbers_of q n.receipts) ≡ count_of q (c.history p)
+pub counted : (n : TheNode) (c : Cluster) (p q : ℕ) (s : Stands n c p) → q ≤ n.count → slice_index_or n.covered q 0 + length (numbers_of q n.receipts) ≡ count_of q (c.history p)
 counted n c p q s low =
     let r = s.received in
     let a : length (numbers_from q 0 n.receipts.senders) ≡ count_of q r.behind = ap (λ xs. length (numbers_from q 0 xs)) r.senders ∙ length-numbers q 0 r.behind in
@@ -41,10 +41,14 @@ covers n c p q s low positive =
     let e : take (c.saved p) (c.history p) ≡ r.before = ap (λ k. take k (c.history p)) many ∙ ap (take (length r.before)) (sym r.joined) ∙ first-part r.before r.behind in
     r.covered_is q low ∙ ap (count_of q) (sym e) ∙ rw inner refl
 
+-- what the checkpoint covers of a peer it may tell it
+pub says-covered : (n : TheNode) (to : ℕ) → to ≤ n.count → to ≢ n.me → Acts n (posts to (packets.Saved (covered_of to n)) n)
+says-covered n to low other c s g =
+    posted n c to (packets.Saved (covered_of to n)) (Saved (covered_of to n)) refl s low other (stands-well n c n.me s, covers n c n.me to s low s.inside.0)
+
 -- the sender's message is one that the checkpoint covers
-pub says-saved : (n : TheNode) (from k : ℕ) (body : Body) → from ≤ n.count → from ≢ n.me → k ≡ slice_index_or n.covered from 0 → Receives from body n (posts from (packets.Saved k) n)
-says-saved n from k body low other is c s g =
-    posted n c from (packets.Saved k) (Saved k) refl s low other (stands-well n c n.me s, is ∙ covers n c n.me from s low s.inside.0)
+pub says-saved : (n : TheNode) (from : ℕ) (body : Body) → from ≤ n.count → from ≢ n.me → Receives from body n (posts from (packets.Saved (covered_of from n)) n)
+says-saved n from body low other c s g = says-covered n from low other c s tt
 
 -- it is one behind: its number is known
 says-number : (n : TheNode) (from ssn k : ℕ) → from ≤ n.count → from ≢ n.me → covered_of from n < ssn → ssn - covered_of from n - 1 < length (numbers_of from n.receipts)
@@ -72,20 +76,20 @@ pub tells-number : (n : TheNode) (from ssn : ℕ) → from ≤ n.count → from 
 tells-number n from ssn low other above known = says-number n from ssn (n.base + slice_index_or (numbers_of from n.receipts) (ssn - covered_of from n - 1) 0) low other above known refl
 
 -- it is the next of its sender: a job is open
-pub starts : (n : TheNode) (from i ssn : ℕ) (x : Payload) → from ≤ n.count → from ≢ n.me → n.working ≡ None → i ≡ slice_index_or n.heard from 0 → slice_index_or n.covered from 0 < ssn
+pub starts : (n : TheNode) (from i ssn : ℕ) (x : Payload) → n.frozen ≡ false → from ≤ n.count → from ≢ n.me → n.working ≡ None → i ≡ slice_index_or n.heard from 0 → slice_index_or n.covered from 0 < ssn
     → ssn - slice_index_or n.covered from 0 - 1 ≡ length (numbers_of from n.receipts) → n.waiting < 256
     → Receives from (Delivery i ssn x) n (record n { working = Some (record { sender = from; ssn = ssn; payload = x }) })
 unfolding WINDOW
-starts n from i ssn x low other idle incarnation above next room c s given =
+starts n from i ssn x live low other idle incarnation above next room c s given =
     record {
       acts = act ∷ [];
-      run = ((given, s.inside, stands-takes n c n.me s, up, incarnation ∙ sym (s.heard from within), is-next, few), tt);
+      run = ((given, s.inside, stands-takes n c n.me live s, up, incarnation ∙ sym (s.heard from within), is-next, few), tt);
       by = (refl, tt);
       stands = record {
         me = s.me;
         count = s.count;
         inside = s.inside;
-        live = s.live;
+        stage = s.stage;
         greeted = s.greeted;
         phase = at-itself n.me (λ t. (if t then Busy (message from ssn x) else c.phase n.me) ≡ Busy (message from ssn x)) refl;
         works = is-next;

@@ -169,7 +169,7 @@ shut-next q n released sent more same all s =
         let is : more k ≡ q.dropped + length q.payloads = ap more last ∙ all in
         omega (arith, is, leading-bound k q.held, s.within)
 
-module _ (n : TheNode) (c : Cluster) (j : OpenJob) (state : List ℕ) (given : List Given) (s : Stands n c n.me) (busy : n.working ≡ Some j) (inside : (i : ℕ) (g : Given) → slice_get given i ≡ Some g → g.to < length n.logs) (answers : Answers c n.me (job_of j) state given) where
+module _ (n : TheNode) (c : Cluster) (j : OpenJob) (state : List ℕ) (given : List Given) (s : Stands n c n.me) (busy : n.working ≡ Some j) (live : n.frozen ≡ false) (inside : (i : ℕ) (g : Given) → slice_get given i ≡ Some g → g.to < length n.logs) (answers : Answers c n.me (job_of j) state given) where
   abbrev act : Act
   act = Works n.me (job_of j)
 
@@ -186,7 +186,7 @@ module _ (n : TheNode) (c : Cluster) (j : OpenJob) (state : List ℕ) (given : L
   next = subst (IsNextAfter (c.history n.me)) busy s.works
 
   may : May c act
-  may = (s.inside, stands-takes n c n.me s, s.phase ∙ rw busy refl)
+  may = (s.inside, stands-takes n c n.me live s, s.phase ∙ rw busy refl)
 
   still : not (c.acknowledged n.me (suc (length (c.history n.me)))) ≡ true
   still = let e : c.acknowledged n.me (suc (length (c.history n.me))) ≡ false = s.received.above (suc (length (c.history n.me))) (omega arith) in rw e refl
@@ -231,7 +231,7 @@ module _ (n : TheNode) (c : Cluster) (j : OpenJob) (state : List ℕ) (given : L
         me = refl;
         count = s.count;
         inside = s.inside;
-        live = s.live;
+        stage = s.stage;
         greeted = s.greeted;
         phase = at-itself n.me (λ t. (if t then Up else c.phase n.me) ≡ Up) refl;
         works = tt;

@@ -42,7 +42,7 @@ shut-dropped q k n released sent some s =
     let fewer : length (drop k q.payloads) ≡ length q.payloads - k = length-drop k q.payloads in
     record { within = omega (arith, fewer, some, s.within); waits = s.waits }
 
-module _ (n : TheNode) (c : Cluster) (r k : ℕ) (s : Stands n c n.me) (low : r ≤ c.count) (other : r ≢ n.me) (given : In (parcel r n.me (Saved k)) c.parcels) (wide : r < length n.logs) where
+module _ (n : TheNode) (c : Cluster) (r k : ℕ) (s : Stands n c n.me) (low : r ≤ c.count) (other : r ≢ n.me) (given : In (parcel r n.me (Saved k)) c.parcels) (wide : r < length n.logs) (live : n.frozen ≡ false) where
   abbrev act : Act
   act = Drops r n.me k
 
@@ -56,7 +56,7 @@ module _ (n : TheNode) (c : Cluster) (r k : ℕ) (s : Stands n c n.me) (low : r 
   many = min (k - q.dropped) (length q.payloads)
 
   may : May c act
-  may = (given, stands-takes n c n.me s)
+  may = (given, stands-takes n c n.me live s)
 
   few : many ≤ length q.payloads
   few = omega arith
@@ -98,7 +98,7 @@ module _ (n : TheNode) (c : Cluster) (r k : ℕ) (s : Stands n c n.me) (low : r 
           me = refl;
           count = s.count;
           inside = s.inside;
-          live = s.live;
+          stage = s.stage;
           greeted = s.greeted;
           phase = s.phase;
           works = s.works;
@@ -116,5 +116,5 @@ module _ (n : TheNode) (c : Cluster) (r k : ℕ) (s : Stands n c n.me) (low : r 
       }
 
 -- the log drops what its receiver covers
-pub drops : (n : TheNode) (r k : ℕ) → r ≤ n.count → r ≢ n.me → r < length n.logs → Receives r (Saved k) n (dropped_by r k n)
-drops n r k low other wide c s given = goes-dropped n c r k s (omega (arith, low, s.count)) other given wide
+pub drops : (n : TheNode) (r k : ℕ) → n.frozen ≡ false → r ≤ n.count → r ≢ n.me → r < length n.logs → Receives r (Saved k) n (dropped_by r k n)
+drops n r k live low other wide c s given = goes-dropped n c r k s (omega (arith, low, s.count)) other given wide live

@@ -1,5 +1,5 @@
 -- A packet is handed to a node, and a handler has run
-use Rattle.std.proofs.Common.{◌≡◌, ◌≢◌, ℕ, ◌+◌, ◌-◌, ◌<◌, ◌≤◌, List, length, Bool, true, false, refl, subst, arith}
+use Rattle.std.proofs.Common.{◌≡◌, ◌≢◌, ℕ, ◌+◌, ◌-◌, ◌<◌, ◌≤◌, List, length, Bool, true, false, refl, ap, subst, arith}
 use Rattle.std.specs.Prelude.{Option, Some, None, is_some, slice_get, slice_index_or, not, ◌&&◌, ◌||◌, ◌==◌, nat_lt, nat_le}
 use Rattle.std.proofs.lemmas.Bool.Decides.{nat_tests}
 use Rattle.rsn.specs.Receipts.{numbers_of}
@@ -31,7 +31,7 @@ use Rattle.node.proofs.Commits.{goes-worked}
 pub ignores : (given : Body) (from : ℕ) (n : TheNode) → Receives from given n n
 ignores given from n c s g = stays n c s
 
-module _ (from life ssn : ℕ) (x : List ℕ) (n : TheNode) (low : from ≤ n.count) (other : from ≢ n.me) where
+module _ (from life ssn : ℕ) (x : List ℕ) (n : TheNode) (live : n.frozen ≡ false) (low : from ≤ n.count) (other : from ≢ n.me) where
   abbrev P : TheNode → Type 0
   P new = Receives from (Delivery life ssn x) n new
 
@@ -55,30 +55,30 @@ module _ (from life ssn : ℕ) (x : List ℕ) (n : TheNode) (low : from ≤ n.co
       let a = both (nat_lt n.waiting WINDOW && nat_lt (length n.receipts.senders) LIMIT) (nat_lt (n.base + length n.receipts.senders) MOST_RECEIVED) next.1 in
       let b = both (nat_lt n.waiting WINDOW) (nat_lt (length n.receipts.senders) LIMIT) a.0 in
       let room : n.waiting < 256 = (let t = b.0 in grind (arith, nat_tests)) in
-      starts n from life ssn x low other (none-is n.working idle.0) heard above is room
+      starts n from life ssn x live low other (none-is n.working idle.0) heard above is room
 
   delivers-to : P (delivered from life ssn x n)
   delivers-to =
       by-if P (is_some n.working || not (life == slice_index_or n.heard from 0)) n _ (λ e. ignores (Delivery life ssn x) from n)
-      (λ e. by-if P (nat_le ssn (covered_of from n)) (posts from (packets.Saved (covered_of from n)) n) _ (λ f. says-saved n from (covered_of from n) (Delivery life ssn x) low other refl)
+      (λ e. by-if P (nat_le ssn (covered_of from n)) (posts from (packets.Saved (covered_of from n)) n) _ (λ f. says-saved n from (Delivery life ssn x) low other)
       (λ f. by-if P (nat_lt place known) (tells from ssn n) _ (λ g. tells-it (grind (arith, nat_tests)) (grind (arith, nat_tests)))
       (λ g. by-if P ((place == known) && takes_more n) opened n (λ h. opens-job (neither (is_some n.working) (not (life == slice_index_or n.heard from 0)) e) (grind (arith, nat_tests)) (both (place == known) (takes_more n) h))
       (λ h. ignores (Delivery life ssn x) from n))))
 
-records : (from life ssn k : ℕ) (n : TheNode) → Within n → from ≤ n.count → from ≢ n.me → Receives from (Number life ssn k) n (recorded_by from life ssn k n)
-records from life ssn k n w low other =
+records : (from life ssn k : ℕ) (n : TheNode) → Within n → n.frozen ≡ false → from ≤ n.count → from ≢ n.me → Receives from (Number life ssn k) n (recorded_by from life ssn k n)
+records from life ssn k n w live low other =
     by-if (λ new. Receives from (Number life ssn k) n new) ((life == slice_index_or n.heard from 0) && is_kept ssn (log_at n.logs from)) (posts from (packets.Acknowledgement life k) (numbered from ssn k n)) n
     (λ e. let t = both (life == slice_index_or n.heard from 0) (is_kept ssn (log_at n.logs from)) e in
     let here = t.0 in
     let heard : life ≡ slice_index_or n.heard from 0 = grind (arith, nat_tests) in
-    says-acknowledgement n from life ssn k low other heard (omega (arith, w.logs_wide, low)) t.1)
+    says-acknowledgement n from life ssn k live low other heard (omega (arith, w.logs_wide, low)) t.1)
     (λ e. ignores (Number life ssn k) from n)
 
-off : (b : Bool) → not b ≡ true → b ≡ false
+pub off : (b : Bool) → not b ≡ true → b ≡ false
 off true e = absurd (cc)
 off false e = refl
 
-module _ (from life k : ℕ) (n : TheNode) (w : Within n) where
+module _ (from life k : ℕ) (n : TheNode) (w : Within n) (live : n.frozen ≡ false) where
   abbrev fits : Bool
   fits = (life == n.life) && nat_lt n.base k && nat_le k (n.base + length n.receipts.senders)
 
@@ -93,7 +93,7 @@ module _ (from life k : ℕ) (n : TheNode) (w : Within n) where
       let above : n.base < k = (let u = b.1 in grind (arith, nat_tests)) in
       let within : k ≤ n.base + length n.receipts.senders = (let u = a.1 in grind (arith, nat_tests)) in
       owes-then (λ c. In (parcel from n.me (Acknowledgement life k)) c.parcels) n (counted (k - n.base) n) (released (counted (k - n.base) n))
-      (counts n from life k (k - n.base) is (omega (arith, above)) (omega (arith, above)) (omega (arith, within, above)) (off (slice_index_or n.receipts.acknowledged (k - n.base - 1) false) t.1))
+      (counts n from life k (k - n.base) live is (omega (arith, above)) (omega (arith, above)) (omega (arith, within, above)) (off (slice_index_or n.receipts.acknowledged (k - n.base - 1) false) t.1))
       (releasing (counted (k - n.base) n) w.logs_wide)
 
   acknowledges : Receives from (Acknowledgement life k) n (acknowledged_by life k n)
@@ -101,29 +101,30 @@ module _ (from life k : ℕ) (n : TheNode) (w : Within n) where
       by-if (λ new. Receives from (Acknowledgement life k) n new) (fits && fresh) (released (counted (k - n.base) n)) n (λ e. counts-it (both fits fresh e)) (λ e. ignores (Acknowledgement life k) from n)
 
 -- each body
-told-so : (from to : ℕ) (b : bodies.Body) (n : TheNode) → Within n → from ≤ n.count → from ≢ n.me → to ≡ n.me → Owes (λ c. (y : Body) → body_of b ≡ Some y → In (parcel from to y) c.parcels) n (told from b n)
-told-so from to (packets.Delivery i ssn x) n w low other me c s put = delivers-to from i ssn x n low other c s (subst (λ d. In (parcel from d (Delivery i ssn x)) c.parcels) me (put (Delivery i ssn x) refl))
-told-so from to (packets.Number i ssn k) n w low other me c s put = records from i ssn k n w low other c s (subst (λ d. In (parcel from d (Number i ssn k)) c.parcels) me (put (Number i ssn k) refl))
-told-so from to (packets.Acknowledgement i k) n w low other me c s put = acknowledges from i k n w c s (subst (λ d. In (parcel from d (Acknowledgement i k)) c.parcels) me (put (Acknowledgement i k) refl))
-told-so from to (packets.Saved k) n w low other me c s put = drops n from k low other (omega (arith, w.logs_wide, low)) c s (subst (λ d. In (parcel from d (Saved k)) c.parcels) me (put (Saved k) refl))
-told-so from to (packets.Ask i k) n w low other me c s put = stays n c s
-told-so from to (packets.Told i j k flags entries) n w low other me c s put = stays n c s
-told-so from to (packets.Resume i k a) n w low other me c s put = stays n c s
-told-so from to (packets.Restored i j k a flags pairs) n w low other me c s put = stays n c s
+told-so : (from to : ℕ) (b : bodies.Body) (n : TheNode) → Within n → n.frozen ≡ false → from ≤ n.count → from ≢ n.me → to ≡ n.me → Owes (λ c. (y : Body) → body_of b ≡ Some y → In (parcel from to y) c.parcels) n (told from b n)
+told-so from to (packets.Delivery i ssn x) n w live low other me c s put = delivers-to from i ssn x n live low other c s (subst (λ d. In (parcel from d (Delivery i ssn x)) c.parcels) me (put (Delivery i ssn x) refl))
+told-so from to (packets.Number i ssn k) n w live low other me c s put = records from i ssn k n w live low other c s (subst (λ d. In (parcel from d (Number i ssn k)) c.parcels) me (put (Number i ssn k) refl))
+told-so from to (packets.Acknowledgement i k) n w live low other me c s put = acknowledges from i k n w live c s (subst (λ d. In (parcel from d (Acknowledgement i k)) c.parcels) me (put (Acknowledgement i k) refl))
+told-so from to (packets.Saved k) n w live low other me c s put = drops n from k live low other (omega (arith, w.logs_wide, low)) c s (subst (λ d. In (parcel from d (Saved k)) c.parcels) me (put (Saved k) refl))
+told-so from to (packets.Ask i k) n w live low other me c s put = stays n c s
+told-so from to (packets.Told i j k flags entries) n w live low other me c s put = stays n c s
+told-so from to (packets.Resume i k a) n w live low other me c s put = stays n c s
+told-so from to (packets.Restored i j k a flags pairs) n w live low other me c s put = stays n c s
 
 -- a packet is handed to a node
 pub handed-so : (x : Packet) (n : TheNode) → Within n → IsHanded x n (handed x n)
 handed-so x n w =
-    by-if (λ new. IsHanded x n new) (is_for n x) (told x.from x.body n) n (λ e. here (both ((x.count == n.count) && (x.to == n.me) && nat_le x.from n.count) (not (x.from == n.me)) e)) (λ e c s put. stays n c s)
+    by-if (λ new. IsHanded x n new) (is_for n x) (told x.from x.body n) n (λ e. here (both (not n.frozen && (x.count == n.count) && (x.to == n.me) && nat_le x.from n.count) (not (x.from == n.me)) e)) (λ e c s put. stays n c s)
   where
-    here : (((x.count == n.count) && (x.to == n.me) && nat_le x.from n.count) ≡ true) × (not (x.from == n.me) ≡ true) → IsHanded x n (told x.from x.body n)
+    here : ((not n.frozen && (x.count == n.count) && (x.to == n.me) && nat_le x.from n.count) ≡ true) × (not (x.from == n.me) ≡ true) → IsHanded x n (told x.from x.body n)
     here t =
-        let a = both ((x.count == n.count) && (x.to == n.me)) (nat_le x.from n.count) t.0 in
-        let b = both (x.count == n.count) (x.to == n.me) a.0 in
+        let a = both (not n.frozen && (x.count == n.count) && (x.to == n.me)) (nat_le x.from n.count) t.0 in
+        let b = both (not n.frozen && (x.count == n.count)) (x.to == n.me) a.0 in
+        let live : n.frozen ≡ false = off n.frozen (both (not n.frozen) (x.count == n.count) b.0).0 in
         let me : x.to ≡ n.me = (let u = b.1 in grind (arith, nat_tests)) in
         let low : x.from ≤ n.count = (let u = a.1 in grind (arith, nat_tests)) in
         let other : x.from ≢ n.me = (let u = t.1 in grind (arith, nat_tests)) in
-        told-so x.from x.to x.body n w low other me
+        told-so x.from x.to x.body n w live low other me
 
 -- a handler has run
 pub worked-so : (n : TheNode) (state : List ℕ) (given : List Given) → Within n → MaySend n given → Owes (Handles state given n) n (did_work state given n.working n)
@@ -132,6 +133,10 @@ worked-so n state given w may = by_job n.working refl w.own
     inside : (i : ℕ) (g : Given) → slice_get given i ≡ Some g → g.to < length n.logs
     inside i g e = let m = may.others i g e in omega (arith, m.0, w.logs_wide)
 
+    awake : (b : Bool) (j : OpenJob) → n.working ≡ Some j → (b ≡ true → is_some n.working ≡ false) → b ≡ false
+    awake false j busy rests = refl
+    awake true j busy rests = absurd (let e : is_some n.working ≡ false = rests refl in let f : is_some n.working ≡ true = ap is_some busy in cc)
+
     by_job : (o : Option OpenJob) → n.working ≡ o → OfPeer n.me n.count o → Owes (Handles state given n) n (did_work state given o n)
     by_job None busy peer c s h = stays n c s
-    by_job (Some j) busy peer c s h = goes-worked n c j state given s busy inside (h j busy) peer
+    by_job (Some j) busy peer c s h = goes-worked n c j state given s busy (awake n.frozen j busy w.rests) inside (h j busy) peer

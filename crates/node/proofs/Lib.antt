@@ -13,5 +13,6 @@ pub mod Dropping
 pub mod Sendings
 pub mod Opening
 pub mod Handing
+pub mod Freezing
 pub mod Outside
 pub mod Runs

@@ -1,16 +1,15 @@
 -- A node puts a packet out
-use Rattle.std.proofs.Common.{◌≡◌, ◌≢◌, inl, inr, ℕ, ◌≤◌, [], ◌∷◌, true, refl, sym, ap, ◌∙◌, arith}
+use Rattle.std.proofs.Common.{◌≡◌, ◌≢◌, inl, inr, ℕ, ◌≤◌, [], ◌∷◌, Bool, true, false, refl, sym, ap, ◌∙◌, arith}
 use Rattle.std.specs.Prelude.{Option, Some, None}
 use Rattle.world.specs.Phases.{is_up}
 use Rattle.cluster.specs.Parcels.{Body, parcel, In}
-use Rattle.cluster.specs.Cluster.{Cluster, is_well, takes}
+use Rattle.cluster.specs.Cluster.{Cluster, runs, is_well, takes}
 use Rattle.cluster.specs.Rules.{Act, Puts, May, MayPut, does}
-use Rattle.cluster.proofs.Facts.{takes-well}
 use Rattle.node.specs.declared.job.OpenJob.{OpenJob}
 use Rattle.packets.specs.declared.packet.Body as bodies
 use Rattle.packets.specs.declared.packet.Packet.{Packet}
 use Rattle.node.specs.Node.{TheNode, posts, packet_of}
-use Rattle.node.specs.Stands.{Stands, Goes, PutOut, WasSaid, phase_of, body_of, actor}
+use Rattle.node.specs.Stands.{Stands, Goes, PutOut, WasSaid, phase_of, stage_of, body_of, actor}
 use Rattle.node.proofs.Lists.{all-more, all-pushed}
 
 up-with : (o : Option OpenJob) → is_up (phase_of o) ≡ true
@@ -20,11 +19,16 @@ up-with (Some j) = refl
 pub is-up : (n : TheNode) (c : Cluster) (p : ℕ) → Stands n c p → is_up (c.phase p) ≡ true
 is-up n c p s = ap is_up s.phase ∙ up-with n.working
 
-pub stands-takes : (n : TheNode) (c : Cluster) (p : ℕ) → Stands n c p → takes c p ≡ true
-stands-takes n c p s = rw (s.live, s.greeted, is-up n c p s) refl
+pub stands-takes : (n : TheNode) (c : Cluster) (p : ℕ) → n.frozen ≡ false → Stands n c p → takes c p ≡ true
+stands-takes n c p live s = rw (s.stage, live, s.greeted, is-up n c p s) refl
+
+-- also while it waits for its checkpoint it is up
+runs-with : (b : Bool) → runs (stage_of b) ≡ true
+runs-with true = refl
+runs-with false = refl
 
 pub stands-well : (n : TheNode) (c : Cluster) (p : ℕ) → Stands n c p → is_well c p ≡ true
-stands-well n c p s = takes-well c p (stands-takes n c p s)
+stands-well n c p s = rw (s.stage, runs-with n.frozen, s.greeted, is-up n c p s) refl
 
 -- what was said is still said when more was put out
 said-still : (c d : Cluster) (p to : ℕ) (b : Option Body) → ((b : Body) → In (parcel p to b) c.parcels → In (parcel p to b) d.parcels) → WasSaid c.parcels p to b → WasSaid d.parcels p to b
@@ -42,7 +46,7 @@ stands-posted n c p to x b says s =
       me = s.me;
       count = s.count;
       inside = s.inside;
-      live = s.live;
+      stage = s.stage;
       greeted = s.greeted;
       phase = s.phase;
       works = s.works;

@@ -29,6 +29,12 @@ sent-is n c p d s =
     let e : take (length_of (seen c) p) (c.history p) ≡ c.history p = ap (λ k. take k (c.history p)) many ∙ take_all (length (c.history p)) (c.history p) (omega arith) in
     rw inner (ap (λ h. c.handlers.sends p h d) e)
 
+-- how much it sent
+pub sent-size : (n : TheNode) (c : Cluster) (p d : ℕ) → Stands n c p → d ≤ c.count → d ≢ p → length (c.handlers.sends p (c.history p) d) ≡ (log_at n.logs d).dropped + length (log_at n.logs d).payloads
+sent-size n c p d s low other =
+    let k = s.logs d low other in
+    ap length (sym k.joined) ∙ length-append k.before (log_at n.logs d).payloads ∙ ap (λ z. z + length (log_at n.logs d).payloads) k.many
+
 up-lives : (f : Phase) → is_up f ≡ true → is_down f ≡ false
 up-lives Up e = refl
 up-lives (Busy m) e = refl
@@ -79,7 +85,7 @@ kept-numbered q dropped xs numbers ssn k kept s =
     past i l true e = absurd (let f : i ≡ ssn = grind (arith, nat_tests) in omega (arith, within))
     past i l false e = s.beyond i l
 
-module _ (n : TheNode) (c : Cluster) (r i ssn k : ℕ) (s : Stands n c n.me) (low : r ≤ c.count) (other : r ≢ n.me) (given : In (parcel r n.me (Number i ssn k)) c.parcels) (heard : i ≡ slice_index_or n.heard r 0) (wide : r < length n.logs) (kept : is_kept ssn (log_at n.logs r) ≡ true) where
+module _ (n : TheNode) (c : Cluster) (r i ssn k : ℕ) (s : Stands n c n.me) (low : r ≤ c.count) (other : r ≢ n.me) (given : In (parcel r n.me (Number i ssn k)) c.parcels) (heard : i ≡ slice_index_or n.heard r 0) (wide : r < length n.logs) (live : n.frozen ≡ false) (kept : is_kept ssn (log_at n.logs r) ≡ true) where
   abbrev act : Act
   act = Records r n.me i ssn k
 
@@ -87,7 +93,7 @@ module _ (n : TheNode) (c : Cluster) (r i ssn k : ℕ) (s : Stands n c n.me) (lo
   c' = does c act
 
   may : May c act
-  may = (given, stands-takes n c n.me s, heard ∙ sym (s.heard r low), entry-is n c n.me r ssn s low other kept)
+  may = (given, stands-takes n c n.me live s, heard ∙ sym (s.heard r low), entry-is n c n.me r ssn s low other kept)
 
   logs : (d : ℕ) → d ≤ c.count → d ≢ n.me → KeepsOf (log_at (slice_set n.logs r (recorded ssn k (log_at n.logs r))) d) (c.trims n.me d) (c.handlers.sends n.me (c.history n.me) d) (c'.numbers n.me d)
   logs d l o = at-itself n.me (λ t. KeepsOf (log_at (slice_set n.logs r (recorded ssn k (log_at n.logs r))) d) (c.trims n.me d) (c.handlers.sends n.me (c.history n.me) d) (if t && (d == r) then put (c.numbers n.me r) ssn (Some k) else c.numbers n.me d))
@@ -114,7 +120,7 @@ module _ (n : TheNode) (c : Cluster) (r i ssn k : ℕ) (s : Stands n c n.me) (lo
         me = refl;
         count = s.count;
         inside = s.inside;
-        live = s.live;
+        stage = s.stage;
         greeted = s.greeted;
         phase = s.phase;
         works = s.works;
@@ -136,6 +142,6 @@ module _ (n : TheNode) (c : Cluster) (r i ssn k : ℕ) (s : Stands n c n.me) (lo
   goes-recorded = record { acts = act ∷ []; run = (may, tt); by = (refl, tt); stands = stands-recorded }
 
 -- a number for a message that is still logged is noted, and its acknowledgement is put out
-pub says-acknowledgement : (n : TheNode) (r i ssn k : ℕ) → r ≤ n.count → r ≢ n.me → i ≡ slice_index_or n.heard r 0 → r < length n.logs → is_kept ssn (log_at n.logs r) ≡ true
+pub says-acknowledgement : (n : TheNode) (r i ssn k : ℕ) → n.frozen ≡ false → r ≤ n.count → r ≢ n.me → i ≡ slice_index_or n.heard r 0 → r < length n.logs → is_kept ssn (log_at n.logs r) ≡ true
     → Receives r (Number i ssn k) n (posts r (packets.Acknowledgement i k) (numbered r ssn k n))
-says-acknowledgement n r i ssn k low other heard wide kept c s given = goes-recorded n c r i ssn k s (omega (arith, low, s.count)) other given heard wide kept
+says-acknowledgement n r i ssn k live low other heard wide kept c s given = goes-recorded n c r i ssn k s (omega (arith, low, s.count)) other given heard wide live kept

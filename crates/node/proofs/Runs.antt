@@ -13,9 +13,9 @@ use Rattle.cluster.proofs.Settings.{does-count, does-handlers}
 use Rattle.cluster.proofs.Runs.{run-handlers}
 use Rattle.cluster.proofs.Promised.{nodes-keep}
 use Rattle.node.specs.Node.{TheNode}
-use Rattle.node.specs.Stands.{Stands, Goes, PutOut, WasSaid, Handles, Answers, actor, body_of, job_of, payloads_to}
+use Rattle.node.specs.Stands.{Stands, Goes, PutOut, WasSaid, Acts, Handles, Answers, actor, body_of, job_of, payloads_to}
 use Rattle.node.specs.Beside.{AllStand}
-use Rattle.node.specs.Runs.{Answer, Answering, state_from, sends_from, handlers_of, System, new_system, Call, Gave, Handed, Worked, Ticked, Acted, IsGateway, IsAnswer, DoesIt, with_said, after_call, Calls, after_calls, CallsRun}
+use Rattle.node.specs.Runs.{Answer, Answering, state_from, sends_from, handlers_of, System, new_system, Call, Gave, Handed, Worked, Ticked, Froze, Thawed, Acted, IsGateway, IsAnswer, DoesIt, with_said, after_call, Calls, after_calls, CallsRun}
 use Rattle.node.proofs.Beside.{all-stand, stands-still}
 use Rattle.node.proofs.Opening.{stands-opened}
 use Rattle.node.proofs.Steps.{run-on, owes-at}
@@ -122,6 +122,12 @@ of-gateway (Thaws q) o = absurd o
 of-gateway (Dies q) o = absurd o
 of-gateway (Opens q n) o = absurd o
 
+-- a node acts, and is told nothing
+acts-on : (f : Answering) (len : ℕ → ℕ) (s : System) (c : Cluster) (p : ℕ) (new : TheNode) → Holds (handlers_of f len) s c → 0 < p → p ≤ s.outside.count → Acts (s.nodes p) new → Onward (handlers_of f len) c (record s { nodes = put s.nodes p new })
+acts-on f len s c p new h some low owed =
+    let at : Stands (s.nodes p) c p = stands-at (handlers_of f len) s c p some low h in
+    node-goes (handlers_of f len) s c p new some h (owes-at (λ d. Unit {0}) (s.nodes p) new c p owed at tt)
+
 -- each call
 call-goes : (f : Answering) (len : ℕ → ℕ) (s : System) (c : Cluster) (k : Call) → Holds (handlers_of f len) s c → DoesIt f s k → Onward (handlers_of f len) c (after_call s k)
 call-goes f len s c (Gave p x new) h m =
@@ -162,9 +168,9 @@ call-goes f len s c (Handed p x new) h m =
 call-goes f len s c (Worked p a new) h m =
     let at : Stands (s.nodes p) c p = stands-at (handlers_of f len) s c p m.0 m.1 h in
     node-goes (handlers_of f len) s c p new m.0 h (owes-at (Handles a.state a.given (s.nodes p)) (s.nodes p) new c p m.3 at (answers f len (s.nodes p) c p a h.handlers at m.2))
-call-goes f len s c (Ticked p new) h m =
-    let at : Stands (s.nodes p) c p = stands-at (handlers_of f len) s c p m.0 m.1 h in
-    node-goes (handlers_of f len) s c p new m.0 h (owes-at (λ d. Unit {0}) (s.nodes p) new c p m.2 at tt)
+call-goes f len s c (Ticked p new) h m = acts-on f len s c p new h m.0 m.1 m.2
+call-goes f len s c (Froze p new) h m = acts-on f len s c p new h m.0 m.1 m.2
+call-goes f len s c (Thawed p new) h m = acts-on f len s c p new h m.0 m.1 m.2
 call-goes f len s c (Acted a) h m =
     record {
       acts = a ∷ [];

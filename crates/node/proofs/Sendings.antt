@@ -103,7 +103,7 @@ unlocks n to wide c s u =
         me = refl;
         count = s.count;
         inside = s.inside;
-        live = s.live;
+        stage = s.stage;
         greeted = s.greeted;
         phase = s.phase;
         works = s.works;
@@ -317,7 +317,7 @@ ticking-below n (suc d) low = by-if (Acts n) (d == n.me) (ticked_below n.me d n)
     (renumbering (resent d m) d (omega (arith, low, k.count, o.count)) (λ f. apart (f ∙ o.me ∙ k.me)))))
 
 pub ticking : (n : TheNode) → Acts n (ticked n)
-ticking n = ticking-below n (n.count + 1) (omega arith)
+ticking n = by-if (Acts n) n.frozen n (ticked_below n.me (n.count + 1) n) (λ e. acts-self n) (λ e. ticking-below n (n.count + 1) (omega arith))
 
 -- What the loops of a tick go through
 

@@ -26,7 +26,7 @@ takes-so (Some x) n rest e = (ap (λ xs. record n { out = xs }) e, λ c s. taken
         me = s.me;
         count = s.count;
         inside = s.inside;
-        live = s.live;
+        stage = s.stage;
         greeted = s.greeted;
         phase = s.phase;
         works = s.works;

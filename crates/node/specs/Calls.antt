@@ -57,9 +57,9 @@ told from (Acknowledgement i k) n = acknowledged_by i k n
 told from (Saved k) n = dropped_by from k n
 told from body n = n
 
--- a packet is of another node of this cluster to this one
+-- a packet is of another node of this cluster to this one, which takes what arrives
 abbrev pub is_for : TheNode → Packet → Bool
-is_for n x = (x.count == n.count) && (x.to == n.me) && nat_le x.from n.count && not (x.from == n.me)
+is_for n x = not n.frozen && (x.count == n.count) && (x.to == n.me) && nat_le x.from n.count && not (x.from == n.me)
 
 -- a packet comes
 abbrev pub handed : Packet → TheNode → TheNode

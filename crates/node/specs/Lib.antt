@@ -2,6 +2,7 @@ pub mod Queue
 pub mod Outbox
 pub mod Node
 pub mod Sending
+pub mod Saving
 pub mod Calls
 pub mod Stands
 pub mod Beside

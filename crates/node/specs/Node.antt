@@ -1,5 +1,5 @@
 -- What clauses see of a node
-use Rattle.std.specs.Prelude.{◌≡◌, ◌≢◌, ℕ, suc, ◌+◌, ◌-◌, ◌*◌, ◌<◌, ◌≤◌, List, [], ◌∷◌, length, Option, Some, None, is_some, true, slice_get, slice_index_or, slice_set, replicate}
+use Rattle.std.specs.Prelude.{◌≡◌, ◌≢◌, ℕ, suc, ◌+◌, ◌-◌, ◌*◌, ◌<◌, ◌≤◌, List, [], ◌∷◌, length, Option, Some, None, is_some, Bool, true, false, slice_get, slice_index_or, slice_set, replicate}
 use Rattle.rsn.specs.Receipts.{Received, accepted, acknowledged, numbers_of}
 use Rattle.rsn.specs.declared.receipts.TheConstants.{LIMIT}
 use Rattle.packets.specs.declared.packet.Body.{Body}
@@ -18,7 +18,8 @@ OfPeer me count (Some j) = (j.sender ≤ count) × (j.sender ≢ me)
 
 -- its number, and how many processes there are; its incarnation; its state; how many messages its checkpoint covers, and how many of
 -- these are of each sender; what it received behind these; by destination the messages that it keeps; how many of its numbers aren't
--- acknowledged; by peer the greatest incarnation that it heard of; the open job; the packets to be taken
+-- acknowledged; by peer the greatest incarnation that it heard of; the open job; whether it waits until its checkpoint is durable; the packets
+-- to be taken
 pub record TheNode : Type 0 where
   pub me : ℕ
   pub count : ℕ
@@ -31,14 +32,16 @@ pub record TheNode : Type 0 where
   pub waiting : ℕ
   pub heard : List ℕ
   pub working : Option OpenJob
+  pub frozen : Bool
   pub out : List Packet
 
 -- the messages to a destination that it keeps
 abbrev pub log_at : List TheQueue → ℕ → TheQueue
 log_at logs d = slice_index_or logs d no_queue
 
--- what the node's own numbers keep, whatever the cluster is: no more than eight messages to each for each that was received
-pub record IsWithin (me count base : ℕ) (covered heard : List ℕ) (receipts : Received) (logs : List TheQueue) (working : Option OpenJob) (waiting : ℕ) : Type 0 where
+-- what the node's own numbers keep, whatever the cluster is: no more than eight messages to each for each that was received; and no job is
+-- open while it is frozen
+pub record IsWithin (me count base : ℕ) (covered heard : List ℕ) (receipts : Received) (logs : List TheQueue) (working : Option OpenJob) (frozen : Bool) (waiting : ℕ) : Type 0 where
   pub inside : 1 ≤ me
   pub within : me ≤ count
   pub few : count ≤ 15
@@ -51,11 +54,12 @@ pub record IsWithin (me count base : ℕ) (covered heard : List ℕ) (receipts :
   pub room : is_some working ≡ true → (length receipts.senders < LIMIT) × (base + length receipts.senders < MOST_RECEIVED)
   pub waits : waiting ≤ length receipts.senders
   pub own : OfPeer me count working
+  pub rests : frozen ≡ true → is_some working ≡ false
   pub short : (d : ℕ) → (log_at logs d).dropped + length (log_at logs d).payloads ≤ MOST_GIVEN * (base + length receipts.senders)
 
 -- this node's numbers do
 abbrev pub Within : TheNode → Type 0
-Within n = IsWithin n.me n.count n.base n.covered n.heard n.receipts n.logs n.working n.waiting
+Within n = IsWithin n.me n.count n.base n.covered n.heard n.receipts n.logs n.working n.frozen n.waiting
 
 -- how many messages of a peer its checkpoint covers
 abbrev pub covered_of : ℕ → TheNode → ℕ
@@ -122,5 +126,6 @@ new_node me count len =
       waiting = 0;
       heard = replicate (count + 1) 1;
       working = None;
+      frozen = false;
       out = [];
     }

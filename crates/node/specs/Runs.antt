@@ -57,6 +57,10 @@ pub data Call : Type 0 where
   Worked : ℕ → Answer → TheNode → Call
   -- it sent again what isn't answered
   Ticked : ℕ → TheNode → Call
+  -- it made a checkpoint
+  Froze : ℕ → TheNode → Call
+  -- its checkpoint is durable
+  Thawed : ℕ → TheNode → Call
   Acted : Act → Call
 
 -- the gateway acts: it is handed an input, puts out a message or an answer, shows a message, or takes what came
@@ -77,12 +81,14 @@ abbrev pub IsAnswer : Answering → ℕ → TheNode → Answer → Type 0
 IsAnswer f p n a = (j : OpenJob) → n.working ≡ Some j → a ≡ f p n.state (job_of j)
 
 -- each call does what the contract of its function says: `take`; `receive`, handed a packet that a node or the gateway put out, whenever,
--- or again; `work`, with the handler's answer; and `tick`. The gateway does what it may by what it sees
+-- or again; `work`, with the handler's answer; `tick`; `checkpoint`; and `saved`. The gateway does what it may by what it sees
 abbrev pub DoesIt : Answering → System → Call → Type 0
 DoesIt f s (Gave p x new) = (0 < p) × (p ≤ s.outside.count) × Takes (Some x) (s.nodes p) new
 DoesIt f s (Handed p x new) = (0 < p) × (p ≤ s.outside.count) × PutOut s.outside.count s.outside.parcels x.from x × IsHanded x (s.nodes p) new
 DoesIt f s (Worked p a new) = (0 < p) × (p ≤ s.outside.count) × IsAnswer f p (s.nodes p) a × Owes (Handles a.state a.given (s.nodes p)) (s.nodes p) new
 DoesIt f s (Ticked p new) = (0 < p) × (p ≤ s.outside.count) × Acts (s.nodes p) new
+DoesIt f s (Froze p new) = (0 < p) × (p ≤ s.outside.count) × Acts (s.nodes p) new
+DoesIt f s (Thawed p new) = (0 < p) × (p ≤ s.outside.count) × Acts (s.nodes p) new
 DoesIt f s (Acted act) = IsGateway act × May s.outside act
 
 -- what a packet says is among the parcels
@@ -95,6 +101,8 @@ after_call s (Gave p x new) = record { nodes = put s.nodes p new; outside = reco
 after_call s (Handed p x new) = record s { nodes = put s.nodes p new }
 after_call s (Worked p a new) = record s { nodes = put s.nodes p new }
 after_call s (Ticked p new) = record s { nodes = put s.nodes p new }
+after_call s (Froze p new) = record s { nodes = put s.nodes p new }
+after_call s (Thawed p new) = record s { nodes = put s.nodes p new }
 after_call s (Acted act) = record s { outside = does s.outside act }
 
 -- calls one after another

@@ -77,5 +77,6 @@ abbrev pub ticked_below : ℕ → ℕ → TheNode → TheNode
 ticked_below me zero n = n
 ticked_below me (suc d) n = if d == me then ticked_below me d n else renumbered d (resent d (ticked_below me d n))
 
+-- a node that waits until its checkpoint is durable sends nothing
 abbrev pub ticked : TheNode → TheNode
-ticked n = ticked_below n.me (n.count + 1) n
+ticked n = if n.frozen then n else ticked_below n.me (n.count + 1) n

@@ -8,7 +8,7 @@ use Rattle.world.specs.Handlers.{Handlers}
 use Rattle.world.specs.World.{put}
 use Rattle.world.specs.Logs.{run_to}
 use Rattle.cluster.specs.Parcels.{Body, Delivery, Number, Acknowledgement, Ask, Resume, Saved, Parcel, parcel, In}
-use Rattle.cluster.specs.Cluster.{Cluster, Live, waiting}
+use Rattle.cluster.specs.Cluster.{Cluster, Stage, Live, Frozen, waiting}
 use Rattle.cluster.specs.Rules.{Act, Input, Puts, Starts, Shows, Works, Replays, Records, Counts, Drops, Hears, Collects, Recovers, Obeys, Enters, Restores, Greets, Freezes, Keeps, Thaws, Dies, Opens, Run, after_run, IsNode, message}
 use Rattle.packets.specs.declared.packet.Body as bodies
 use Rattle.packets.specs.declared.packet.Body.TheVariants as packets
@@ -53,6 +53,11 @@ job_of j = message j.sender j.ssn j.payload
 abbrev pub phase_of : Option OpenJob → Phase
 phase_of None = Up
 phase_of (Some j) = Busy (job_of j)
+
+-- whether it takes what arrives, or waits until its checkpoint is durable
+abbrev pub stage_of : Bool → Stage
+stage_of false = Live
+stage_of true = Frozen
 
 -- each message is the next of its sender, where so many of each came before
 abbrev pub InOrderFrom : (ℕ → ℕ) → List Message → Type 0
@@ -102,7 +107,7 @@ pub record Stands (n : TheNode) (c : Cluster) (p : ℕ) : Type 0 where
   pub me : n.me ≡ p
   pub count : n.count ≡ c.count
   pub inside : IsNode c p
-  pub live : c.stage p ≡ Live
+  pub stage : c.stage p ≡ stage_of n.frozen
   pub greeted : c.greeted p ≡ true
   pub phase : c.phase p ≡ phase_of n.working
   pub works : IsNextAfter (c.history p) n.working

@@ -2,14 +2,15 @@
 //!
 //! A [`Node`] knows no clock, socket, file or thread. Its host hands it the packets that came
 //! ([`Node::receive`]), sends those that it gives ([`Node::take`]), runs its handler
-//! ([`Node::work`]), and now and then lets it send again what isn't answered ([`Node::tick`]).
+//! ([`Node::work`]), now and then lets it send again what isn't answered ([`Node::tick`]), and keeps
+//! its checkpoints: [`Node::checkpoint`] makes one, [`Node::saved`] says that it is durable.
 //!
 //! The promise: each call is none, one or more acts of the node's process that the rules of crate
 //! `cluster` allow, and what the node then holds is what the cluster has of that process. Acts of
 //! one node leave what the others stand for. So calls of nodes, in any order and with packets that
 //! come late, twice or never, are a run of a cluster, of which the promises of `cluster` hold.
 //!
-//! A node never comes back here: its checkpoint and its recovery aren't in this crate yet.
+//! A node never comes back here: the bytes of a checkpoint and recovery aren't in this crate yet.
 //!
 //! ```text
 //! let mut node = Node::open(alloc, 1, 2, 8)?;
@@ -26,6 +27,7 @@ mod node;
 mod outbox;
 mod queue;
 mod receiving;
+mod saving;
 mod sending;
 mod working;
 

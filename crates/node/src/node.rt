@@ -45,6 +45,8 @@ pub struct Node {
     /// By peer the greatest incarnation that it heard of.
     pub(crate) heard: Vec<u64>,
     pub(crate) working: Option<OpenJob>,
+    /// It waits until its checkpoint is durable, and takes, does and sends nothing until then.
+    pub(crate) frozen: bool,
     pub(crate) out: Outbox,
 }
 
@@ -53,9 +55,9 @@ impl Model for Node {
 
     ghost Value = { TheNode };
 
-    ghost view = { λ n. record { me = n.me; count = n.count; life = n.life; state = n.state.items; base = n.base; covered = n.covered.items; receipts = n.receipts; logs = n.logs.items; waiting = n.waiting; heard = n.heard.items; working = n.working; out = n.out } };
+    ghost view = { λ n. record { me = n.me; count = n.count; life = n.life; state = n.state.items; base = n.base; covered = n.covered.items; receipts = n.receipts; logs = n.logs.items; waiting = n.waiting; heard = n.heard.items; working = n.working; frozen = n.frozen; out = n.out } };
 
-    ghost invariant = { λ n. IsWithin n.me n.count n.base n.covered.items n.heard.items n.receipts n.logs.items n.working n.waiting };
+    ghost invariant = { λ n. IsWithin n.me n.count n.base n.covered.items n.heard.items n.receipts n.logs.items n.working n.frozen n.waiting };
 }
 
 impl Node {
@@ -91,6 +93,7 @@ impl Node {
             logs,
             heard,
             working: None,
+            frozen: false,
             out,
         })
     }

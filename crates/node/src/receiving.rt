@@ -1,6 +1,6 @@
 //! What a node does with a packet.
 
-ghost use Rattle.std.specs.Prelude.{◌≡◌, ◌≢◌, ◌≤◌, ◌<◌, ◌+◌, ◌-◌, length};
+ghost use Rattle.std.specs.Prelude.{◌≡◌, ◌≢◌, ◌≤◌, ◌<◌, ◌+◌, ◌-◌, length, false};
 ghost use Rattle.rsn.specs.Receipts.{numbers_of};
 ghost use Rattle.node.specs.Node.{tells, counted, covered_of};
 ghost use Rattle.node.specs.Calls.{delivered, recorded_by, acknowledged_by, dropped_by, handed, takes_more};
@@ -12,7 +12,8 @@ use helpers::Payload;
 use packets::{Body, Packet};
 
 impl Node {
-    /// A packet came. One that isn't of another node of this cluster to this one is dropped.
+    /// A packet came. One that isn't of another node of this cluster to this one is dropped, and so is
+    /// any while the node waits until its checkpoint is durable.
     pub fn receive(&mut self, packet: &Packet)
         ensures value { self.new ≡ handed packet.now self.old }
         ensures acts { IsHanded packet.now self.old self.new }
@@ -26,7 +27,8 @@ impl Node {
         ensures { self.new ≡ handed packet.now self.old }
     {
         let from = packet.from;
-        if packet.count != self.count
+        if self.frozen
+            || packet.count != self.count
             || packet.to != self.me
             || from > self.count
             || from == self.me
@@ -55,7 +57,8 @@ impl Node {
 
     /// A message of `from`, in its incarnation `life`, came.
     fn receive_delivery(&mut self, from: u8, life: u64, ssn: u64, payload: Payload)
-        requires { (from ≤ self.old.count) × (from ≢ self.old.me) }
+        requires peer { (from ≤ self.old.count) × (from ≢ self.old.me) }
+        requires live { self.old.frozen ≡ false }
         ensures { self.new ≡ delivered from life ssn payload self.old }
     {
         if self.working.is_some() || life != self.heard[from as usize] {

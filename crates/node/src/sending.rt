@@ -12,7 +12,8 @@ use packets::Body;
 
 impl Node {
     /// What isn't answered yet is sent again: for each peer the first messages that are released and
-    /// have no number, and the first of its numbers that aren't acknowledged.
+    /// have no number, and the first of its numbers that aren't acknowledged. Nothing is while the node
+    /// waits until its checkpoint is durable.
     pub fn tick(&mut self)
         ensures value { self.new ≡ ticked self.old }
         ensures acts { Acts self.old self.new }
@@ -25,6 +26,9 @@ impl Node {
     fn send_again(&mut self)
         ensures { self.new ≡ ticked self.old }
     {
+        if self.frozen {
+            return;
+        }
         let me = self.me();
         for to in 0..self.count() + 1 {
             if to != me {

@@ -1,4 +1,4 @@
-use Rattle.std.proofs.Common.{rules, ◌≡◌, ◌<◌, ◌+◌, ℕ, suc, List, length, ap, ◌∙◌, arith}
+use Rattle.std.proofs.Common.{rules, ◌≡◌, ◌<◌, ◌+◌, ℕ, suc, List, length, refl, ap, ◌∙◌, arith}
 use Rattle.std.specs.Prelude.{Some, is_some, slice_get}
 use Rattle.std.proofs.lemmas.Grind.{common_steps}
 use Rattle.rsn.specs.Receipts.{Received, accepted}
@@ -42,6 +42,7 @@ invariant_of-self-2 c =
       room = λ e. absurd (cc);
       waits = omega (arith, one, i.waits);
       own = tt;
+      rests = λ e. refl;
       short = λ d.
           let a = given-room number given old.logs.items d inside in
           let dropped = ap (λ (l : List TheQueue). (log_at l d).dropped) logs in
