@@ -8,6 +8,8 @@
 #[cfg(test)]
 mod greatest;
 #[cfg(test)]
+mod keeping;
+#[cfg(test)]
 mod refusals;
 #[cfg(test)]
 mod spelling;

@@ -111,6 +111,14 @@ bytes_again n text rest len =
     let long : ltb (length (text ++ rest)) n ≡ false = le-ltb _ _ (omega (arith, length-append text rest, len)) in
     rw (long, take_at text rest n len, drop_at text rest n len) refl
 
+-- so many bytes are read just as they stand
+pub bytes_codec : (n : ℕ) → Codec (List ℕ) (λ text. length text ≡ n) (λ text. text) (bytes_at n)
+bytes_codec n = record {
+  takes = λ bytes x fits e. (let t = bytes_takes n bytes x fits e in record { fits = t.2; parts = t.0; rest = t.1 });
+  again = λ text rest len. bytes_again n text rest len;
+  fails = bytes_fails n;
+}
+
 -- a byte is read just as it stands
 pub byte_codec : Codec ℕ (λ b. b < 256) (λ b. b ∷ []) byte_at
 byte_codec = record {
@@ -132,10 +140,10 @@ byte_codec = record {
 -- ---- numbers
 
 -- bytes are those of their number
-abbrev Back : ℕ → Type 0
+abbrev pub Back : ℕ → Type 0
 Back n = (bytes : List ℕ) → length bytes ≡ n → IsBytes bytes → little_bytes n (little_number n bytes) ≡ bytes
 
-back_2 : Back 2
+pub back_2 : Back 2
 back_2 bytes len fits = let same : little_number 2 bytes ≡ from_le_bytes w16 bytes = omega arith in le_bytes_2 bytes (little_number 2 bytes) len fits same
 
 -- four bytes are those of their number
@@ -149,7 +157,7 @@ back_8 bytes len fits = let same : little_number 8 bytes ≡ from_le_bytes w64 b
 pub number_again : (n x : ℕ) → x < 256 ^ n → little_number n (little_bytes n x) ≡ x
 number_again n x lt = ap (λ (bytes : List ℕ). little_number n bytes) (sym (append-nil (little_bytes n x))) ∙ little_number-reads_back n x [] lt
 
-number_codec : (n : ℕ) → Back n → Codec ℕ (λ x. x < 256 ^ n) (λ x. little_bytes n x) (number_at n)
+pub number_codec : (n : ℕ) → Back n → Codec ℕ (λ x. x < 256 ^ n) (λ x. little_bytes n x) (number_at n)
 unfolding number_at
 number_codec n back = record {
   takes = λ bytes x fits e.
@@ -202,7 +210,7 @@ both_codec A B P Q s t r q one two = record {
 }
 
 -- the same values in another form
-mapped_codec : (A B : Type 0) (P : A → Type 0) (s : A → List ℕ) (r : Reader A) (f : A → B) (g : B → A) → ((a : A) → g (f a) ≡ a) → ((b : B) → f (g b) ≡ b) → Codec A P s r
+pub mapped_codec : (A B : Type 0) (P : A → Type 0) (s : A → List ℕ) (r : Reader A) (f : A → B) (g : B → A) → ((a : A) → g (f a) ≡ a) → ((b : B) → f (g b) ≡ b) → Codec A P s r
     → Codec B (λ b. P (g b)) (λ b. s (g b)) (λ bytes. r bytes >>= λ x. Ok (f x.0, x.1))
 mapped_codec A B P s r f g gf fg one = record {
   takes = λ bytes x fits e.
@@ -307,27 +315,40 @@ times_fails A P s r one (suc n) bytes f e =
       ]
     ]
 
--- a count, and as many things, where one is read just as it is spelled
-pub page_codec : (A : Type 0) (P : A → Type 0) (s : A → List ℕ) (r : Reader A) → Codec A P s r → Codec (List A) (λ xs. IsPage P xs) (λ xs. page_bytes s xs) (page_at r)
-unfolding page_at
-page_codec A P s r one = record {
+-- so many things, where one is read just as it is spelled
+pub times_codec : (n : ℕ) (A : Type 0) (P : A → Type 0) (s : A → List ℕ) (r : Reader A) → Codec A P s r → Codec (List A) (λ xs. (length xs ≡ n) × AllByRecursion P xs) (λ xs. flat_map s xs) (times r n)
+times_codec n A P s r one = record {
+  takes = times_takes A P s r one n;
+  again = λ xs rest h. subst (λ (m : ℕ). times r m (flat_map s xs ++ rest) ≡ Ok (xs, rest)) h.0 (times_again A P s r one xs rest h.1);
+  fails = times_fails A P s r one n;
+}
+
+-- a count of some width, and as many things
+pub counted_codec : (w : ℕ) (count : ℕ → List ℕ) → Codec ℕ (λ n. n < 256 ^ w) count (number_at w) → (A : Type 0) (P : A → Type 0) (s : A → List ℕ) (r : Reader A) → Codec A P s r
+    → Codec (List A) (λ xs. (length xs < 256 ^ w) × AllByRecursion P xs) (λ xs. count (length xs) ++ flat_map s xs) (λ bytes. number_at w bytes >>= λ n. times r n.0 n.1)
+counted_codec w count number A P s r one = record {
   takes = λ bytes x fits e.
-      let a = bind_ok (number_at 2 bytes) (λ count. times r count.0 count.1) x e in
-      let ta = short_codec.takes bytes a.0 fits a.1 in
+      let a = bind_ok (number_at w bytes) (λ n. times r n.0 n.1) x e in
+      let ta = number.takes bytes a.0 fits a.1 in
       let tb = times_takes A P s r one a.0.0 a.0.1 x ta.rest a.2 in
       record {
-        fits = (omega (arith, tb.fits.0, ta.fits), tb.fits.1);
-        parts = ta.parts ∙ ap (λ (text : List ℕ). short_bytes a.0.0 ++ text) tb.parts ∙ sym (append_assoc (short_bytes a.0.0) (flat_map s x.0) x.1) ∙ ap (λ (n : ℕ). (short_bytes n ++ flat_map s x.0) ++ x.1) (sym tb.fits.0);
+        fits = (subst (λ (n : ℕ). n < 256 ^ w) (sym tb.fits.0) ta.fits, tb.fits.1);
+        parts = ta.parts ∙ ap (λ (text : List ℕ). count a.0.0 ++ text) tb.parts ∙ sym (append_assoc (count a.0.0) (flat_map s x.0) x.1) ∙ ap (λ (n : ℕ). (count n ++ flat_map s x.0) ++ x.1) (sym tb.fits.0);
         rest = tb.rest;
       };
   again = λ xs rest h.
-      ap (page_at r) (append_assoc (short_bytes (length xs)) (flat_map s xs) rest) ∙ rw (short_codec.again (length xs) (flat_map s xs ++ rest) h.0) (times_again A P s r one xs rest h.1);
+      ap (λ (bytes : List ℕ). number_at w bytes >>= λ n. times r n.0 n.1) (append_assoc (count (length xs)) (flat_map s xs) rest) ∙ rw (number.again (length xs) (flat_map s xs ++ rest) h.0) (times_again A P s r one xs rest h.1);
   fails = λ bytes f e.
-      elim (bind_err (number_at 2 bytes) (λ count. times r count.0 count.1) f e) [
-        | inl h ↦ short_codec.fails bytes f h
+      elim (bind_err (number_at w bytes) (λ n. times r n.0 n.1) f e) [
+        | inl h ↦ number.fails bytes f h
         | inr h ↦ times_fails A P s r one h.0.0 h.0.1 f h.2
       ];
 }
+
+-- a count, and as many things
+pub page_codec : (A : Type 0) (P : A → Type 0) (s : A → List ℕ) (r : Reader A) → Codec A P s r → Codec (List A) (λ xs. IsPage P xs) (λ xs. page_bytes s xs) (page_at r)
+unfolding page_at
+page_codec A P s r one = counted_codec 2 (λ n. short_bytes n) short_codec A P s r one
 
 -- ---- all of the bytes
 

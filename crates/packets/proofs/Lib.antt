@@ -3,3 +3,5 @@ pub mod Counted
 pub mod Codecs
 pub mod BodyLemmas
 pub mod WholeLemmas
+pub mod KeptCodecs
+pub mod KeptLemmas

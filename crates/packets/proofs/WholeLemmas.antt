@@ -117,11 +117,11 @@ record Sealed (bytes fields : List ℕ) : Type 0 where
   summed : little_number 4 (drop (length bytes - 4) bytes) ≡ crc32c (take (length bytes - 4) bytes)
   fields_are : fields ≡ fields_of bytes
 
-turned : (b : Bool) → not b ≡ false → b ≡ true
+pub turned : (b : Bool) → not b ≡ false → b ≡ true
 turned true e = refl
 turned false e = absurd cc
 
-turned_back : (b : Bool) → not b ≡ true → b ≡ false
+pub turned_back : (b : Bool) → not b ≡ true → b ≡ false
 turned_back true e = absurd cc
 turned_back false e = refl
 
@@ -162,12 +162,12 @@ sealed_refused bytes f e =
 
 -- ---- the head
 
-neither : (a b : Bool) → (a || b) ≡ false → (a ≡ false) × (b ≡ false)
+pub neither : (a b : Bool) → (a || b) ≡ false → (a ≡ false) × (b ≡ false)
 neither false false e = (refl, refl)
 neither false true e = absurd cc
 neither true b e = absurd cc
 
-either : (a b : Bool) → (a || b) ≡ true → (a ≡ true) ⊎ (b ≡ true)
+pub either : (a b : Bool) → (a || b) ≡ true → (a ≡ true) ⊎ (b ≡ true)
 either true b e = inl refl
 either false b e = inr e
 
@@ -230,7 +230,7 @@ ends_wrong n from to e ok =
       ]
     ]
 
-count_wrong : (n : ℕ) → (nat_lt n 1 || nat_lt 15 n) ≡ true → ¬ ((1 ≤ n) × (n ≤ 15))
+pub count_wrong : (n : ℕ) → (nat_lt n 1 || nat_lt 15 n) ≡ true → ¬ ((1 ≤ n) × (n ≤ 15))
 count_wrong n e ok =
     elim (either (nat_lt n 1) (nat_lt 15 n) e) [
       | inl h ↦ let lt : n < 1 = ltb-true _ _ h in omega (arith, lt, ok.0)
@@ -311,7 +311,7 @@ refused bytes f fits e =
 
 -- ---- what is read is written so
 
-eight : (bytes : List ℕ) (m : ℕ) → 8 ≤ length bytes → take (suc (suc (suc (suc (suc (suc (suc (suc m)))))))) bytes
+pub eight : (bytes : List ℕ) (m : ℕ) → 8 ≤ length bytes → take (suc (suc (suc (suc (suc (suc (suc (suc m)))))))) bytes
     ≡ take 4 bytes ++ (slice_index bytes 4 ∷ slice_index bytes 5 ∷ slice_index bytes 6 ∷ slice_index bytes 7 ∷ take m (drop 8 bytes))
 eight [] m le = absurd (omega arith)
 eight (a ∷ []) m le = absurd (omega arith)
@@ -341,10 +341,10 @@ text_of bytes h b long magical t is =
     ap (λ (n : ℕ). take n bytes) cut ∙ eight bytes m (omega (arith, long))
     ∙ rw (magical, ← is.kind, ← t.count_is, ← t.from_is, ← t.to_is) (ap (λ (x : List ℕ). magic ++ (kind_number (kind_of b) ∷ h.count ∷ h.from ∷ h.to ∷ x)) is.fields)
 
-split_as : (n : ℕ) (bytes front back : List ℕ) → take n bytes ≡ front → drop n bytes ≡ back → bytes ≡ front ++ back
+pub split_as : (n : ℕ) (bytes front back : List ℕ) → take n bytes ≡ front → drop n bytes ≡ back → bytes ≡ front ++ back
 split_as n bytes front back a b = sym (take-append-drop n bytes) ∙ rw (a, b) refl
 
-last_of : (bytes text : List ℕ) → IsBytes bytes → 12 ≤ length bytes → little_number 4 (drop (length bytes - 4) bytes) ≡ crc32c (take (length bytes - 4) bytes) → take (length bytes - 4) bytes ≡ text
+pub last_of : (bytes text : List ℕ) → IsBytes bytes → 12 ≤ length bytes → little_number 4 (drop (length bytes - 4) bytes) ≡ crc32c (take (length bytes - 4) bytes) → take (length bytes - 4) bytes ≡ text
     → drop (length bytes - 4) bytes ≡ checksum_bytes text
 unfolding checksum_bytes
 last_of bytes text fits long summed front =
@@ -376,7 +376,7 @@ found bytes p fits e =
 
 -- ---- what is written so is read
 
-crc_fits : (bytes : List ℕ) → crc32c bytes < 256 ^ 4
+pub crc_fits : (bytes : List ℕ) → crc32c bytes < 256 ^ 4
 unfolding crc32c
 crc_fits bytes = omega arith
 

@@ -11,7 +11,7 @@ use limits::PAYLOAD_BYTES;
 use std::alloc::Global;
 
 /// So many bytes, and those after them.
-fn bytes_of(len: usize, bytes: &[u8]) -> Result<(&[u8], &[u8]), PacketError>
+pub fn bytes_of(len: usize, bytes: &[u8]) -> Result<(&[u8], &[u8]), PacketError>
     ensures exact { Gives (λ x. (x.0.now, x.1.now)) result (bytes_at len bytes.now) }
     ensures len { IfOk result (λ x. length x.0.now ≡ len) }
 {
@@ -38,6 +38,15 @@ fn u16_of(bytes: &[u8]) -> Result<(u16, &[u8]), PacketError>
 {
     let (front, rest) = bytes_of(2, bytes)?;
     Ok((LittleEndian::read_u16(front), rest))
+}
+
+/// A number of four bytes.
+#[tactic(auto, unfolding(crate::specs::Inside::Reading::number_at))]
+pub fn u32_of(bytes: &[u8]) -> Result<(u32, &[u8]), PacketError>
+    ensures { Gives (λ x. (x.0, x.1.now)) result (number_at 4 bytes.now) }
+{
+    let (front, rest) = bytes_of(4, bytes)?;
+    Ok((LittleEndian::read_u32(front), rest))
 }
 
 /// A number of eight bytes.

@@ -4,8 +4,14 @@ ghost use Rattle.std.specs.Prelude.{◌≡◌, IfOk};
 ghost use Rattle.packets.specs.Format.{Fits};
 ghost use Rattle.packets.specs.Faults.{Reads};
 ghost use Rattle.packets.specs.Laws.{IsOnePacket};
+ghost use Rattle.packets.specs.Kept.{KeptFits};
+ghost use Rattle.packets.specs.KeptFaults.{ReadsKept, IsOneKept};
 
 use crate::fault::PacketError;
+use crate::kept::Kept;
+use crate::kept_fault::KeptError;
+use crate::kept_reading::decode_kept;
+use crate::kept_writing::encode_kept;
 use crate::packet::Packet;
 use crate::reading::decode;
 use crate::writing::encode;
@@ -31,4 +37,26 @@ pub fn back_and_there(alloc: Global, bytes: &[u8]) -> Result<Vec<u8>, PacketErro
 {
     let packet = decode(alloc, bytes)?;
     Ok(encode(alloc, &packet)?)
+}
+
+/// Bytes are kept of one process in one state, if they are kept of one.
+pub fn one_kept()
+    ensures { IsOneKept }
+{}
+
+/// What is written of a process is read back, unless memory runs out.
+pub fn kept_again(alloc: Global, kept: &Kept) -> Result<Kept, KeptError>
+    requires { KeptFits kept.now }
+    ensures { ReadsKept result kept.now }
+{
+    let bytes = encode_kept(alloc, kept)?;
+    decode_kept(alloc, &bytes)
+}
+
+/// What is read of a process is written again as the same bytes, unless memory runs out.
+pub fn same_bytes_again(alloc: Global, bytes: &[u8]) -> Result<Vec<u8>, KeptError>
+    ensures { IfOk result (λ v. v.items ≡ bytes.now) }
+{
+    let kept = decode_kept(alloc, bytes)?;
+    Ok(encode_kept(alloc, &kept)?)
 }

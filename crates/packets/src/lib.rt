@@ -1,4 +1,4 @@
-//! What nodes tell each other: the eight packets, and their bytes.
+//! What nodes tell each other and what they keep: eight packets, kept state and logs, and their bytes.
 //!
 //! A [`Packet`] is from one node of a cluster to another one: process 1 to `count`, or 0, the
 //! gateway. Its [`Body`] is one of eight. [`encode`] writes it as `SBP1`: magic, kind, ends, the
@@ -14,12 +14,21 @@
 //! let bytes = encode(alloc, &packet)?;
 //! let again = decode(alloc, &bytes)?;
 //! ```
+//!
+//! What a process keeps durably is a [`Kept`]: its state, how many messages it received of each peer,
+//! and those that it sent and still keeps. [`encode_kept`] writes it as `SBN1`, [`decode_kept`] reads
+//! it, and the same holds of these bytes.
 #![tactic(auto)]
 
 mod checksum;
 mod fault;
 mod fields;
 mod head;
+mod kept;
+mod kept_fault;
+mod kept_fields;
+mod kept_reading;
+mod kept_writing;
 mod kind;
 mod laws;
 mod packet;
@@ -30,8 +39,14 @@ mod writing;
 
 pub use checksum::crc32c;
 pub use fault::{PacketError, PacketFault};
+pub use kept::{Kept, KeptLog};
+pub use kept_fault::{KeptError, KeptFault};
+pub use kept_reading::decode_kept;
+pub use kept_writing::encode_kept;
 pub use kind::Kind;
-pub use laws::{back_and_there, one_packet, there_and_back};
+pub use laws::{
+    back_and_there, kept_again, one_kept, one_packet, same_bytes_again, there_and_back,
+};
 pub use packet::{Body, NUMBER_LIMIT, Packet};
 pub use page::{Entry, Flags, Page, Pair};
 pub use reading::decode;

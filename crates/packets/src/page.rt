@@ -1,4 +1,4 @@
-//! What a page tells of a log.
+//! What a page tells of a log, and other lists.
 
 use helpers::Payload;
 use std::alloc::{AllocError, Global};
@@ -19,7 +19,7 @@ pub struct Pair {
     pub number: u64,
 }
 
-/// As many entries or pairs as fit a packet, in order.
+/// Things in order: as many entries or pairs as fit a packet, or what is kept of a process.
 #[derive(Drop)]
 pub struct Page<T> {
     items: Vec<T>,
@@ -64,6 +64,19 @@ impl<T: Drop> Page<T> {
             Ok(()) => Ok(()),
             Err(_) => Err(AllocError),
         }
+    }
+}
+
+impl Page<u8> {
+    ghost use Rattle.std.specs.Prelude.{◌≡◌, IfOk};
+
+    /// The same bytes.
+    pub fn copied(alloc: Global, bytes: &[u8]) -> Result<Page<u8>, AllocError>
+        ensures { IfOk result (λ p. p ≡ bytes.now) }
+    {
+        Ok(Page {
+            items: Vec::from_slice(alloc, bytes)?,
+        })
     }
 }
 

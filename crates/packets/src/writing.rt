@@ -104,7 +104,7 @@ fn put_body(out: &mut Vec<u8>, body: &Body) -> Result<(), AllocError>
 
 /// Appends a number of two bytes.
 #[tactic(auto, unfolding(crate::specs::Format::short_bytes))]
-fn put_u16(out: &mut Vec<u8>, n: u16) -> Result<(), AllocError>
+pub fn put_u16(out: &mut Vec<u8>, n: u16) -> Result<(), AllocError>
     ensures { OnOk result (out.new.items ≡ out.old.items ++ short_bytes n) }
 {
     let mut bytes = [0; 2];
@@ -114,7 +114,7 @@ fn put_u16(out: &mut Vec<u8>, n: u16) -> Result<(), AllocError>
 
 /// Appends the checksum of what is there.
 #[tactic(auto, unfolding(crate::specs::Format::checksum_bytes))]
-fn put_checksum(out: &mut Vec<u8>) -> Result<(), AllocError>
+pub fn put_checksum(out: &mut Vec<u8>) -> Result<(), AllocError>
     ensures { OnOk result (out.new.items ≡ out.old.items ++ checksum_bytes out.old.items) }
 {
     let mut bytes = [0; 4];
@@ -124,7 +124,7 @@ fn put_checksum(out: &mut Vec<u8>) -> Result<(), AllocError>
 
 /// Appends a number of eight bytes.
 #[tactic(auto, unfolding(crate::specs::Format::long_bytes))]
-fn put_u64(out: &mut Vec<u8>, n: u64) -> Result<(), AllocError>
+pub fn put_u64(out: &mut Vec<u8>, n: u64) -> Result<(), AllocError>
     ensures { OnOk result (out.new.items ≡ out.old.items ++ long_bytes n) }
 {
     let mut bytes = [0; 8];
@@ -133,7 +133,7 @@ fn put_u64(out: &mut Vec<u8>, n: u64) -> Result<(), AllocError>
 }
 
 /// Appends a payload behind its length.
-fn put_payload(out: &mut Vec<u8>, payload: &[u8]) -> Result<(), AllocError>
+pub fn put_payload(out: &mut Vec<u8>, payload: &[u8]) -> Result<(), AllocError>
     requires { length payload.now ≤ PAYLOAD_BYTES }
     ensures { OnOk result (out.new.items ≡ out.old.items ++ payload_bytes payload.now) }
 {

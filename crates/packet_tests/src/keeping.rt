@@ -1,0 +1,73 @@
+use packets::{KeptError, crc32c, decode_kept, same_bytes_again};
+use std::alloc::Global;
+use std::test::Fail;
+
+/// Process 1 of 2, in the state 7, 1: it received one message of the gateway and two of process 2, and
+/// keeps no messages to the gateway from the 4th on, and two to process 2 from the 2nd on.
+const KEPT: [u8; 68] = [
+    0x53, 0x42, 0x4e, 0x31, 0x01, 0x02, 0x02, 0x00, 0x03, 0x00, 0x00, 0x00, 0x00, 0x00, 0x00, 0x00,
+    0x01, 0x00, 0x00, 0x00, 0x00, 0x00, 0x00, 0x00, 0x02, 0x00, 0x00, 0x00, 0x00, 0x00, 0x00, 0x00,
+    0x07, 0x01, 0x04, 0x00, 0x00, 0x00, 0x00, 0x00, 0x00, 0x00, 0x00, 0x00, 0x00, 0x00, 0x02, 0x00,
+    0x00, 0x00, 0x00, 0x00, 0x00, 0x00, 0x02, 0x00, 0x00, 0x00, 0x00, 0x00, 0x02, 0x00, 0x68, 0x69,
+    0xdb, 0x5c, 0x13, 0x99,
+];
+
+/// The number of the refusal, 0 where the bytes are read, 9 for want of memory.
+fn refusal(alloc: Global, bytes: &[u8]) -> u8 {
+    match decode_kept(alloc, bytes) {
+        Ok(_) => 0,
+        Err(KeptError::Fault(fault)) => fault.number(),
+        Err(KeptError::Memory) => 9,
+    }
+}
+
+/// The refusal of these bytes with one changed, and their checksum.
+fn refusal_with(alloc: Global, place: usize, byte: u8) -> Result<u8, Fail> {
+    let mut bytes = Vec::from_slice(alloc, &KEPT[..64])?;
+    if let Some(there) = bytes.get_mut(place) {
+        *there = byte;
+    }
+    let checksum = crc32c(&bytes);
+    bytes.extend_from_slice(&checksum.to_le_bytes())?;
+    Ok(refusal(alloc, &bytes))
+}
+
+#[test]
+fn what_is_kept_is_spelled(rt: HostRuntime) -> Result<(), Fail> {
+    let alloc = rt.alloc();
+    assert_eq!(rt; same_bytes_again(alloc, &KEPT)?.as_slice(), KEPT.as_slice());
+    Ok(())
+}
+
+#[test]
+fn kept_bytes_are_read(rt: HostRuntime) -> Result<(), Fail> {
+    let alloc = rt.alloc();
+    let kept = decode_kept(alloc, &KEPT)?;
+    assert_eq!(rt; kept.length, 3);
+    assert!(rt; kept.counts.as_slice() == [1, 2].as_slice());
+    assert!(rt; kept.state.as_slice() == [7, 1].as_slice());
+    assert_eq!(rt; kept.logs.as_slice().len(), 2);
+    Ok(())
+}
+
+#[test]
+fn kept_bytes_are_refused(rt: HostRuntime) -> Result<(), Fail> {
+    let alloc = rt.alloc();
+    assert_eq!(rt; refusal(alloc, &KEPT[..19]), 1);
+    assert_eq!(rt; refusal_with(alloc, 3, 0x32)?, 2);
+    assert_eq!(rt; refusal(alloc, &KEPT[..67]), 3);
+    assert_eq!(rt; refusal_with(alloc, 5, 16)?, 4);
+    assert_eq!(rt; refusal_with(alloc, 4, 3)?, 5);
+    Ok(())
+}
+
+#[test]
+fn kept_fields_are_refused(rt: HostRuntime) -> Result<(), Fail> {
+    let alloc = rt.alloc();
+    assert_eq!(rt; refusal_with(alloc, 7, 5)?, 6);
+    assert_eq!(rt; refusal_with(alloc, 6, 1)?, 7);
+    assert_eq!(rt; refusal_with(alloc, 54, 1)?, 7);
+    assert_eq!(rt; refusal_with(alloc, 24, 3)?, 8);
+    assert_eq!(rt; refusal_with(alloc, 46, 0)?, 8);
+    Ok(())
+}

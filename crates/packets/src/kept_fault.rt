@@ -1,0 +1,84 @@
+//! Why bytes are not what is kept of a process.
+
+ghost use Rattle.std.specs.Prelude.{◌≡◌};
+ghost use Rattle.packets.specs.declared.kept_fault.KeptError.TheVariants.{Memory};
+
+use std::alloc::{AllocError, AllocFailed};
+use thiserror::Error;
+
+/// The first fault of bytes that are not what is kept of a process, in the order of their numbers.
+#[derive(Clone, Copy, Debug, PartialEq, Eq, Error)]
+pub enum KeptFault {
+    /// 1: fewer than 20 bytes.
+    #[error("fewer than 20 bytes")]
+    Short,
+    /// 2: the first four bytes are not the magic.
+    #[error("nothing that is kept of a process")]
+    Magic,
+    /// 3: the last four bytes are not the checksum of the others.
+    #[error("the checksum is wrong")]
+    Checksum,
+    /// 4: the number of processes is out of its range.
+    #[error("the number of processes is out of range")]
+    Count,
+    /// 5: the process is none of these.
+    #[error("the process is none of these")]
+    Own,
+    /// 6: the state is too long.
+    #[error("the state is too long")]
+    State,
+    /// 7: what follows ends early or too late, or a payload is too long.
+    #[error("the fields do not take just the bytes that are there")]
+    Fields,
+    /// 8: a number is out of its range, or the counts are not those of all that was received.
+    #[error("a field is out of range")]
+    Range,
+}
+
+impl KeptFault {
+    ghost use Rattle.std.specs.Prelude.{◌≡◌};
+    ghost use Rattle.packets.specs.KeptFaults.{kept_fault_number};
+
+    /// Its number, 1 to 8.
+    pub fn number(self) -> u8
+        ensures { result ≡ kept_fault_number self }
+    {
+        match self {
+            KeptFault::Short => 1,
+            KeptFault::Magic => 2,
+            KeptFault::Checksum => 3,
+            KeptFault::Count => 4,
+            KeptFault::Own => 5,
+            KeptFault::State => 6,
+            KeptFault::Fields => 7,
+            KeptFault::Range => 8,
+        }
+    }
+}
+
+/// Why what is kept of a process was not read.
+#[derive(Debug, Drop, PartialEq, Eq, Error)]
+pub enum KeptError {
+    /// Memory ran out.
+    #[error("out of memory")]
+    Memory,
+    /// The bytes are not what is kept of a process.
+    #[error("kept bytes: {0}")]
+    Fault(KeptFault),
+}
+
+impl From<AllocError> for KeptError {
+    ghost from_gives = { λ _ e. e ≡ Memory };
+
+    fn from(_e: AllocError) -> KeptError {
+        KeptError::Memory
+    }
+}
+
+impl<T: Drop> From<AllocFailed<T>> for KeptError {
+    ghost from_gives = { λ _ e. e ≡ Memory };
+
+    fn from(_e: AllocFailed<T>) -> KeptError {
+        KeptError::Memory
+    }
+}
