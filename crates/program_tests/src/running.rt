@@ -1,5 +1,7 @@
 //! Runs and their reports, worked out by hand.
 
+ghost use Rattle.std.specs.Prelude.{◌≡◌, IfOk, length};
+
 mod lives;
 mod reports;
 mod runs;
@@ -25,4 +27,15 @@ pub(crate) const ADDER: [u8; 56] = [
 /// The image of a file.
 pub(crate) fn image(alloc: Global, file: &[u8]) -> Result<Arc<Image>, Fail> {
     Ok(Arc::new(alloc, load(alloc, file)?)?)
+}
+
+/// As many adders.
+pub(crate) fn adders(alloc: Global, count: usize) -> Result<Vec<Arc<Image>>, Fail>
+    ensures { IfOk result (λ v. length v.items ≡ count) }
+{
+    let mut images = Vec::new(alloc);
+    for _ in 0..count {
+        images.push(image(alloc, &ADDER)?)?;
+    }
+    Ok(images)
 }

@@ -4,6 +4,7 @@ use super::folder::Folder;
 use super::{ADDER, carried};
 use std::alloc::{AllocError, Global};
 use std::process::Abort;
+use std::str;
 use std::sync::Wait;
 use std::test::Fail;
 use std::thread::Threads;
@@ -194,6 +195,24 @@ fn at_most_1024_slots(rt: HostRuntime) -> Result<(), Fail> {
         ends(&rt, "check i", &mut files, 3, "load refused 5\n", &file)?;
     }
     Ok(())
+}
+
+// As many of the longest lines as an image has slots, there and back.
+#[test]
+fn a_thousand_of_the_longest_lines(rt: HostRuntime) -> Result<(), Fail> {
+    let alloc = rt.alloc();
+    let mut text: Vec<u8> = Vec::new(alloc);
+    let mut file: Vec<u8> = Vec::from_slice(alloc, b"SBI1\x00\x04\x00\x04")?;
+    for _ in 0..1024 {
+        text.extend_from_slice(b"jsgt32 r10, -2147483648, -32768\n")?;
+        file.extend_from_slice(b"\x66\x0a\x00\x80\x00\x00\x00\x80")?;
+    }
+    let lines = str::from_utf8(&text).unwrap_or("");
+    let mut files = folder(alloc, &text, b"old")?;
+    ends(&rt, "asm s i --state 1024", &mut files, 0, "", &file)?;
+    ends(&rt, "dis i", &mut files, 0, lines, &file)?;
+    let backward = "verify refused V1 at slot 0\n";
+    ends(&rt, "check i", &mut files, 3, backward, &file)
 }
 
 #[test]

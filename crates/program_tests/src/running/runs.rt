@@ -1,14 +1,10 @@
 //! Scenarios, and what their runs write.
 
-ghost use Rattle.std.specs.Prelude.{◌≡◌, IfOk, length};
-
-use super::{ADDER, image};
+use super::adders;
 use runner::{journal_of, run};
 use scenario::{Allowed, parse, trace_text};
 use std::alloc::Global;
-use std::sync::Arc;
 use std::test::Fail;
-use verifier::Image;
 
 /// A message is received, its process crashes, and it is replayed.
 const CRASH: [&str; 2] = [
@@ -158,17 +154,6 @@ process b down 0 -
 not exact
 ",
 ];
-
-/// As many adders.
-fn adders(alloc: Global, count: usize) -> Result<Vec<Arc<Image>>, Fail>
-    ensures { IfOk result (λ v. length v.items ≡ count) }
-{
-    let mut images = Vec::new(alloc);
-    for _ in 0..count {
-        images.push(image(alloc, &ADDER)?)?;
-    }
-    Ok(images)
-}
 
 /// Whether the run of a scenario of adders writes this, and its journal has this trace.
 fn writes(alloc: Global, case: &[&str; 2]) -> Result<bool, Fail> {
