@@ -1,5 +1,5 @@
 -- The fields of what is kept are read just where they are spelled
-use Rattle.std.proofs.Common.{◌≡◌, ℕ, ◌<◌, ◌^◌, List, [], ◌∷◌, ◌++◌, length, Result, Ok, Err, refl, sym, ap, subst, ◌∙◌}
+use Rattle.std.proofs.Common.{◌≡◌, ℕ, ◌<◌, ◌^◌, List, ◌++◌, length, Result, Ok, refl, sym, ap, subst, ◌∙◌}
 use Rattle.std.specs.List.{flat_map, AllByRecursion}
 use Rattle.packets.specs.declared.kept.Kept.{Kept}
 use Rattle.packets.specs.declared.kept.KeptLog.{KeptLog}

@@ -1,5 +1,5 @@
 -- The laws of kept bytes: what is read is written so, what is written so is read, and a refusal is the first fault
-use Rattle.std.proofs.Common.{◌≡◌, ℕ, zero, suc, ◌+◌, ◌-◌, ◌^◌, ◌<◌, ◌≤◌, Bool, true, false, cond, eqb, List, [], ◌∷◌, ◌++◌, length, take, drop, Result, Ok, Err, refl, sym, ap, subst, ◌∙◌, arith, inl, inr, ◌⊎◌}
+use Rattle.std.proofs.Common.{◌≡◌, ℕ, zero, suc, ◌+◌, ◌-◌, ◌<◌, ◌≤◌, Bool, true, false, cond, eqb, List, [], ◌∷◌, ◌++◌, length, take, drop, Result, Ok, Err, refl, sym, ap, subst, ◌∙◌, arith, inl, inr, ◌⊎◌}
 use Rattle.std.specs.Prelude.{◌≢◌, not, ◌||◌, nat_lt, nat_eq, IfOk, IfErr, slice_index}
 use Rattle.std.specs.List.{flat_map}
 use Rattle.std.specs.Cmp.Lexicographic.{pointwise, same_text, other_text}
@@ -19,7 +19,7 @@ use Rattle.packets.specs.Format.{short_bytes, long_bytes, checksum_bytes}
 use Rattle.packets.specs.Faults.{fields_of}
 use Rattle.packets.specs.Kept.{kept_magic, log_bytes, kept_fields, kept_unsealed, kept_bytes, kept_in_range, KeptFits, IsKept}
 use Rattle.packets.specs.KeptFaults.{kept_fault_number, state_length, SpellsKept, HasKeptFault, IsFirstKept, IsKeptReason, ReadsKept, IsOneKept}
-use Rattle.packets.specs.Inside.KeptReading.{and_then, GivesKept, kept_at, read_kept, kept_fields_at, kept_head_in_range, kept_head_at, kept_reading}
+use Rattle.packets.specs.Inside.KeptReading.{and_then, GivesKept, kept_at, read_kept, kept_fields_at, kept_head_at, kept_reading}
 use Rattle.packets.proofs.Codecs.{IsBytes, IsBytes-drop, IsBytes-take, back_2, number_again}
 use Rattle.packets.proofs.WholeLemmas.{turned, turned_back, neither, either, count_wrong, eight, split_as, last_of, crc_fits}
 use Rattle.packets.proofs.KeptCodecs.{IsKeptBody, kept_found, kept_again_at}

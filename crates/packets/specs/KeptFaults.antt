@@ -1,5 +1,5 @@
 -- The faults of kept bytes, each by itself, and the first of them
-use Rattle.std.specs.Prelude.{◌≡◌, ◌≢◌, ℕ, ◌-◌, ◌<◌, ◌≤◌, List, length, take, drop, slice_index, slice_range, true, ⊤, Result, Ok, Err}
+use Rattle.std.specs.Prelude.{◌≡◌, ◌≢◌, ℕ, ◌-◌, ◌<◌, ◌≤◌, List, length, take, drop, slice_index, true, ⊤, Result, Ok, Err}
 use Rattle.limits.specs.declared.TheConstants.{PROCESSES, STATE_BYTES}
 use Rattle.byteorder.specs.Endian.{little_number}
 use Rattle.packets.specs.declared.kept.Kept.{Kept}
