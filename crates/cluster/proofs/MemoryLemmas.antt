@@ -1,5 +1,5 @@
 -- What a node keeps of what it received came since its checkpoint, and its logs wait for their receivers
-use Rattle.std.proofs.Common.{◌≡◌, ℕ, zero, suc, ◌+◌, ◌-◌, ◌<◌, ◌≤◌, List, [], ◌∷◌, ◌++◌, length, take, drop, Bool, true, false, refl, subst, arith}
+use Rattle.std.proofs.Common.{◌≡◌, ℕ, zero, suc, ◌+◌, ◌<◌, ◌≤◌, List, [], ◌∷◌, ◌++◌, length, take, drop, Bool, true, false, refl, subst, arith}
 use Rattle.std.specs.Prelude.{◌==◌, nat_lt, if◌then◌else◌}
 use Rattle.std.proofs.lemmas.Bool.Decides.{nat_tests}
 use Rattle.world.specs.declared.message.Message.{Message}
@@ -37,7 +37,7 @@ many-push test (suc k) [] m = nothing k
 many-push test (suc k) (x ∷ h) m = many-push test k h m
 
 -- and of a beginning of it, no more
-many-take : (test : Message → Bool) (k n : ℕ) (h : List Message) → how_many test (drop k (take n h)) ≤ how_many test (drop k h)
+pub many-take : (test : Message → Bool) (k n : ℕ) (h : List Message) → how_many test (drop k (take n h)) ≤ how_many test (drop k h)
 many-take test zero zero [] = omega arith
 many-take test zero (suc n) [] = omega arith
 many-take test (suc k) zero [] = omega arith
@@ -78,7 +78,7 @@ module _ (test : Message → Bool) (p : ℕ) (c : Cluster) (b : Beside) (agrees 
       rw (kept-is c b q n agrees lawful may) (subst P same (omega arith))
 
   -- each step keeps at most what it may
-  receipts-step : (a : Act) → May c a → how_many test (receipts (does c a) p) ≤ counts test p a k
+  pub receipts-step : (a : Act) → May c a → how_many test (receipts (does c a) p) ≤ counts test p a k
   receipts-step (Input d x) may = h
   receipts-step (Puts q d x) may = h
   receipts-step (Starts q d i ssn x) may = h

@@ -1,11 +1,13 @@
 -- How much a node keeps in memory, and by what that grows
-use Rattle.std.specs.Prelude.{◌≡◌, ℕ, ◌+◌, ◌-◌, ◌≤◌, List, [], ◌∷◌, ◌++◌, length, Bool, true, ◌==◌, if◌then◌else◌, drop}
+use Rattle.std.specs.Prelude.{◌≡◌, ℕ, ◌+◌, ◌-◌, ◌≤◌, List, [], ◌∷◌, ◌++◌, length, Option, Some, None, is_some, Bool, true, false, ◌&&◌, ◌==◌, if◌then◌else◌, drop}
 use Rattle.world.specs.declared.message.Message.{Message}
 use Rattle.world.specs.History.{count_of}
 use Rattle.world.specs.Handlers.{Handlers}
 use Rattle.world.specs.Logs.{sent, sent_in_all, covered}
+use Rattle.world.specs.Bounds.{count_below}
 use Rattle.theorems.specs.Growth.{Grows}
-use Rattle.cluster.specs.Cluster.{Cluster, opening, seen, is_well, waiting, WINDOW}
+use Rattle.cluster.specs.Parcels.{reaches}
+use Rattle.cluster.specs.Cluster.{Collecting, Collected, Cluster, opening, seen, is_well, waiting, WINDOW}
 use Rattle.cluster.specs.Rules.{Act, Works, Keeps, Drops, IsNode, Run, after_run}
 
 -- the receipts that p keeps: of what it received, the messages behind its durable checkpoint
@@ -56,6 +58,11 @@ LogHas c p d =
       whole : is_well c p ≡ true → entries c p d ≡ untold c p d + (unsaved c p d + untaken c p d);
     }
 
+-- whether a node that collects has a message under the number m of what a peer told: its pages have one, as far as they go
+abbrev pub holds : Option Collected → ℕ → Bool
+holds None m = false
+holds (Some t) m = reaches t.upto m && is_some (t.entries m)
+
 -- In each run of n nodes
 
 -- what p keeps of the messages that it received, of any kind, came since its last durable checkpoint
@@ -75,3 +82,9 @@ ToldIsDropped = (n : ℕ) (f : Handlers) (acts more : List Act) (p d k : ℕ) �
 -- no more numbers than the window has wait for their acknowledgement
 abbrev pub FewWait : Type 0
 FewWait = (n : ℕ) (f : Handlers) (acts : List Act) (p : ℕ) → n ≤ 15 → Grows f → Run (opening n f) acts → IsNode (after_run (opening n f) acts) p → waiting (after_run (opening n f) acts) p ≤ WINDOW
+
+-- and while p collects, it holds of each peer no more messages than it took of that one since its last durable checkpoint, however it
+-- died since and whatever pages came
+abbrev pub ToldIsNew : Type 0
+ToldIsNew = (n : ℕ) (f : Handlers) (acts : List Act) (p q k : ℕ) → n ≤ 15 → Grows f → Run (opening n f) acts → IsNode (after_run (opening n f) acts) p → (after_run (opening n f) acts).stage p ≡ Collecting
+    → count_below (holds ((after_run (opening n f) acts).told p q)) k ≤ taken_since (is_of q) p 0 acts

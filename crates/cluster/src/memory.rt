@@ -1,6 +1,6 @@
 //! How much a node keeps in memory.
 
-ghost use Rattle.cluster.specs.Memory.{FewWait, LogsWait, ReceiptsAreNew, ToldIsDropped};
+ghost use Rattle.cluster.specs.Memory.{FewWait, LogsWait, ReceiptsAreNew, ToldIsDropped, ToldIsNew};
 
 /// What a node keeps of the messages that it received came since its last durable checkpoint.
 pub fn receipts_are_new()
@@ -22,4 +22,10 @@ pub fn told_is_dropped()
 /// The numbers that wait for their acknowledgement are no more than the window has.
 pub fn few_wait()
     ensures { FewWait }
+{}
+
+/// While a node collects, it holds of what a peer told it at most as many messages as it took of
+/// that peer since its last durable checkpoint.
+pub fn told_is_new()
+    ensures { ToldIsNew }
 {}

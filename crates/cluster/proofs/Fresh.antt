@@ -1,0 +1,486 @@
+-- What a node that collects is told bears numbers that it gave since its checkpoint
+use Rattle.std.proofs.Common.{◌≡◌, ◌≢◌, ◌⊎◌, inl, inr, ℕ, zero, suc, ◌+◌, ◌<◌, ◌≤◌, List, [], ◌∷◌, ◌++◌, length, take, drop, Bool, true, false, refl, sym, ap, ◌∙◌, subst, arith}
+use Rattle.std.specs.Prelude.{Option, Some, None, is_some, ◌&&◌, ◌==◌, nat_lt, nat_le, if◌then◌else◌}
+use Rattle.std.proofs.lemmas.Bool.Decides.{nat_tests}
+use Rattle.world.specs.declared.message.Message.{Message}
+use Rattle.world.specs.History.{nth, rsn_of}
+use Rattle.world.specs.Phases.{Up, is_up, todo_of, has}
+use Rattle.world.specs.World.{put}
+use Rattle.world.specs.Logs.{sent}
+use Rattle.world.specs.Bounds.{count_below}
+use Rattle.world.specs.Plan.{logged_as}
+use Rattle.world.specs.Calls.{up_to}
+use Rattle.theorems.specs.Invariants.Exact.{Names}
+use Rattle.theorems.proofs.Changes.{choose}
+use Rattle.theorems.proofs.HistoryLemmas.{names-found}
+use Rattle.theorems.proofs.ListLemmas.{take-next, take-take, take-length, nth-take, nth-within}
+use Rattle.theorems.proofs.PhaseLemmas.{resync-phase}
+use Rattle.theorems.proofs.PlanLemmas.{first_below-at, logged_as-at}
+use Rattle.theorems.proofs.Recoveries.{up_to-is}
+use Rattle.theorems.proofs.Tests.{both}
+use Rattle.cluster.specs.Parcels.{Body, Told, Restored, Parcel, parcel, In, reaches}
+use Rattle.cluster.specs.Cluster.{Stage, Live, Frozen, Dead, Collecting, Collected, Cluster, opening, seen, runs, is_well}
+use Rattle.cluster.specs.Rules.{Act, Input, Puts, Starts, Shows, Works, Replays, Records, Counts, Drops, Hears, Collects, Recovers, Obeys, Enters, Restores, Greets, Freezes, Keeps, Thaws, Dies, Opens, MayPut, May, does, Asks, entry_of, entry_in, with_page, entered, taken_back, kept_by, put2, Run, after_run}
+use Rattle.cluster.specs.Memory.{receipts, how_many, is_of, counts, taken_since, holds, ToldIsNew}
+use Rattle.cluster.specs.Inside.Agrees.{Beside, world, restored_so_far, is_back, Agrees}
+use Rattle.cluster.proofs.Worlds.{Lawful}
+use Rattle.cluster.proofs.Facts.{choose2, takes-is, is-well, well-back, back-answered, true-not-false, not-well-collecting}
+use Rattle.cluster.proofs.Growing.{either-way}
+use Rattle.cluster.proofs.Moment.{kept-is}
+use Rattle.cluster.proofs.Records.{names}
+use Rattle.cluster.proofs.MemoryLemmas.{many-take, receipts-step}
+use Rattle.cluster.proofs.Settings.{does-count}
+use Rattle.cluster.proofs.Runs.{Holds, opens-holds, step-holds, run-count}
+
+-- Counting
+
+-- one message more behind the first k, if it passes the test
+many-more : (test : Message → Bool) (k : ℕ) (h : List Message) (m : Message) → k ≤ length h → test m ≡ true → suc (how_many test (drop k h)) ≤ how_many test (drop k (h ++ m ∷ []))
+many-more test zero [] m l e = rw e (omega arith)
+many-more test zero (x ∷ h) m l e = let r : suc (how_many test (drop 0 h)) ≤ how_many test (drop 0 (h ++ m ∷ [])) = many-more test zero h m (omega arith) e in omega arith
+many-more test (suc k) [] m l e = absurd (omega arith)
+many-more test (suc k) (x ∷ h) m l e = many-more test k h m (omega arith) e
+
+-- numbers above s, each of a message of h that passes the test
+module _ (test : Message → Bool) (s : ℕ) (h : List Message) (f : ℕ → Bool) (is : (m : ℕ) → f m ≡ true → (s < m) × (x : Message) × (nth h m ≡ Some x) × (test x ≡ true)) where
+  -- up to k there are no more of them than such messages
+  few-up-to : (k : ℕ) → count_below f (suc k) ≤ how_many test (drop s (take k h))
+  few-up-to zero = split (f 0) refl
+    where
+      split : (t : Bool) → f 0 ≡ t → (if t then 1 else 0) + 0 ≤ how_many test (drop s (take 0 h))
+      split true e = absurd (let l : s < 0 = (is 0 e).0 in omega arith)
+      split false e = omega arith
+  few-up-to (suc k) = split (f (suc k)) refl (few-up-to k)
+    where
+      split : (t : Bool) → f (suc k) ≡ t → count_below f (suc k) ≤ how_many test (drop s (take k h)) → (if t then 1 else 0) + count_below f (suc k) ≤ how_many test (drop s (take (suc k) h))
+      split true e r =
+          let t = is (suc k) e in
+          let low : s < suc k = t.0 in
+          let high : suc k ≤ length h = (nth-within h (suc k) t.1 t.2).1 in
+          let long : length (take k h) ≡ k = take-length h k (omega arith) in
+          let more : suc (how_many test (drop s (take k h))) ≤ how_many test (drop s (take k h ++ t.1 ∷ [])) = many-more test s (take k h) t.1 (omega arith) t.3 in
+          rw (take-next h k t.1 t.2) (omega arith)
+      split false e r =
+          let more : how_many test (drop s (take k (take (suc k) h))) ≤ how_many test (drop s (take (suc k) h)) = many-take test s k (take (suc k) h) in
+          let same : take k (take (suc k) h) ≡ take k h = take-take h k (suc k) (omega arith) in
+          let P : List Message → Type 0 = λ z. how_many test (drop s z) ≤ how_many test (drop s (take (suc k) h)) in
+          let less : how_many test (drop s (take k h)) ≤ how_many test (drop s (take (suc k) h)) = subst P same more in
+          omega arith
+
+  few-numbers : (k : ℕ) → count_below f k ≤ how_many test (drop s h)
+  few-numbers zero = omega arith
+  few-numbers (suc k) =
+      let a : count_below f (suc k) ≤ how_many test (drop s (take k h)) = few-up-to k in
+      let b : how_many test (drop s (take k h)) ≤ how_many test (drop s h) = many-take test s k h in
+      omega arith
+
+-- What is told
+
+-- what a peer q told, to one whose checkpoint covers so many: numbers of these messages of q behind those
+abbrev IsOf : ℕ → List Message → ℕ → Option Collected → Type 0
+IsOf saved took q None = Unit {0}
+IsOf saved took q (Some t) = record { past : (v : ℕ) → t.upto ≡ Some v → saved < v; names : (m : ℕ) (x : Message) → reaches t.upto m ≡ true → t.entries m ≡ Some x → (saved < m) × Names took m q x.ssn }
+
+-- whether it is what is told to one that collects
+abbrev is_told : Body → Bool
+is_told (Told i j k u f) = true
+is_told x = false
+
+module _ (p : ℕ) where
+  -- p has no others than these messages; each number that a log has for p behind its checkpoint is of one of them; and so is each
+  -- that was told to p, which collects, or that it has collected
+  abbrev pub Of : Cluster → ℕ → List Message → Type 0
+  Of c saved took =
+      record {
+        begins : (m : ℕ) (x : Message) → nth (c.history p) m ≡ Some x → nth took m ≡ Some x;
+        numbers : (q ssn m : ℕ) → q ≤ c.count → q ≢ p → c.numbers q p ssn ≡ Some m → saved < m → Names took m q ssn;
+        told : (q i j k : ℕ) (u : Option ℕ) (f : ℕ → Option Message) → In (parcel q p (Told i j k u f)) c.parcels → c.stage p ≡ Collecting → i ≡ c.stored p
+            → ((v : ℕ) → u ≡ Some v → k < v) × ((m : ℕ) (x : Message) → k < m → reaches u m ≡ true → f m ≡ Some x → saved < m → Names took m q x.ssn);
+        collected : (q : ℕ) → c.stage p ≡ Collecting → IsOf saved took q (c.told p q);
+      }
+
+  -- there are such messages, and behind its checkpoint p has taken no fewer since
+  abbrev pub Fresh : Cluster → ((Message → Bool) → ℕ) → Type 0
+  Fresh c k =
+      record {
+        took : List Message;
+        of : Of c (c.saved p) took;
+        few : (test : Message → Bool) → how_many test (drop (c.saved p) took) ≤ k test;
+        new : (test : Message → Bool) → how_many test (receipts c p) ≤ k test;
+        frozen : (q : ℕ) → c.stage q ≡ Frozen → c.greeted q ≡ true;
+      }
+
+  names-more : (c : Cluster) (saved : ℕ) (took : List Message) → Of c saved took → (m q ssn : ℕ) → Names (c.history p) m q ssn → Names took m q ssn
+  names-more c saved took h m q ssn n = record { message = n.message; at = h.begins m n.message n.at; sender = n.sender; ssn = n.ssn }
+
+  module _ (c : Cluster) (b : Beside) (agrees : Agrees c b) (lawful : Lawful (world c b)) where
+    -- where p is up, these are the messages that it received
+    of-well : p ≤ c.count → is_well c p ≡ true → Of c (c.saved p) (c.history p)
+    of-well pa well =
+        record {
+          begins = λ m x e. e;
+          numbers = λ q ssn m qa ne e low. elim (agrees.numbered.logged q p ssn m qa pa ne e) [
+            | inl y ↦ lawful.exact.recorded q p ssn m y
+            | inr (inl y) ↦ absurd (true-not-false (back-answered c p q (well-back c p well)) y.0)
+            | inr (inr (inl y)) ↦ absurd (omega arith)
+            | inr (inr (inr y)) ↦ so-far q ssn m (sym (agrees.numbered.partly q p ssn y) ∙ e)
+          ];
+          told = λ q i j k u f a s e. absurd (collecting s);
+          collected = λ q s. absurd (collecting s);
+        }
+      where
+        collecting : c.stage p ≡ Collecting → ⊥
+        collecting s = true-not-false well (not-well-collecting c b agrees p s)
+
+        so-far : (q ssn m : ℕ) → restored_so_far c q p ssn ≡ Some m → Names (c.history p) m q ssn
+        so-far q ssn m = split (nat_lt 0 ssn && nat_le ssn (c.restoring q p))
+          where
+            split : (t : Bool) → (if t then rsn_of (c.history p) q ssn else None) ≡ Some m → Names (c.history p) m q ssn
+            split true g = names-found (c.history p) q ssn m g
+            split false g = absurd (cc)
+
+    module _ (took : List Message) (h : Of c (c.saved p) took) where
+      -- other numbers in logs: each was there, or names what p received
+      numbered : (numbers : ℕ → ℕ → ℕ → Option ℕ) → ((q ssn m : ℕ) → numbers q p ssn ≡ Some m → (c.numbers q p ssn ≡ Some m) ⊎ Names (c.history p) m q ssn) → (q ssn m : ℕ) → q ≤ c.count → q ≢ p → numbers q p ssn ≡ Some m → c.saved p < m → Names took m q ssn
+      numbered numbers old q ssn m qa ne e low = elim (old q ssn m e) [ inl y ↦ h.numbers q ssn m qa ne y low | inr y ↦ names-more c (c.saved p) took h m q ssn y ]
+
+      -- a page that is put out
+      puts : (r d : ℕ) (x : Body) → May c (Puts r d x) → Of (does c (Puts r d x)) (c.saved p) took
+      puts r d x may =
+          record {
+            begins = h.begins;
+            numbers = h.numbers;
+            told = λ q i j k u f a s e. elim a [ inl y ↦ page q i j k u f y | inr y ↦ h.told q i j k u f y s e ];
+            collected = h.collected;
+          }
+        where
+          page : (q i j k : ℕ) (u : Option ℕ) (f : ℕ → Option Message) → parcel q p (Told i j k u f) ≡ parcel r d x → ((v : ℕ) → u ≡ Some v → k < v) × ((m : ℕ) (y : Message) → k < m → reaches u m ≡ true → f m ≡ Some y → c.saved p < m → Names took m q y.ssn)
+          page q i j k u f y =
+              let P : Parcel → Type 0 = λ z. (z.from ≤ c.count) × (z.to ≤ c.count) × (z.from ≢ z.to) × MayPut c z.from z.to z.body in
+              let t : (q ≤ c.count) × (p ≤ c.count) × (q ≢ p) × MayPut c q p (Told i j k u f) = subst P (sym y) may in
+              (t.3.3, λ m z above far g low. entry m q z t.0 t.2 low (sym (t.3.4 m above far) ∙ g))
+            where
+              entry : (m q : ℕ) (z : Message) → q ≤ c.count → q ≢ p → c.saved p < m → entry_of c q p m ≡ Some z → Names took m q z.ssn
+              entry m q z qa ne low g =
+                  let r = first_below-at (logged_as (seen c) p m q) (suc (length (sent (seen c) q p))) z g in
+                  let t = logged_as-at (seen c) p m q r.0 z r.2 in
+                  let P : ℕ → Type 0 = λ i. Names took m q i in
+                  subst P (sym t.3) (h.numbers q r.0 m qa ne t.1 low)
+
+      -- p is in another stage, and doesn't collect
+      restages : (r : ℕ) (x : Stage) → (x ≡ Collecting → ⊥) → Of (record c { stage = put c.stage r x }) (c.saved p) took
+      restages r x other =
+          let back : put c.stage r x p ≡ Collecting → c.stage p ≡ Collecting = choose r (λ j t. (if t then x else c.stage j) ≡ Collecting → c.stage j ≡ Collecting) (λ e. absurd (other e)) (λ j _ e. e) p in
+          record { begins = h.begins; numbers = h.numbers; told = λ q i j k u f a s e. h.told q i j k u f a (back s) e; collected = λ q s. h.collected q (back s) }
+
+      records : (r s i ssn k : ℕ) → May c (Records r s i ssn k) → Of (does c (Records r s i ssn k)) (c.saved p) took
+      records r s i ssn k may =
+          record {
+            begins = h.begins;
+            numbers = numbered (does c (Records r s i ssn k)).numbers (λ x j m e. choose2 s r (λ y z t. (if t then put (c.numbers s r) ssn (Some k) else c.numbers y z) j ≡ Some m → (c.numbers y z j ≡ Some m) ⊎ Names (c.history z) m y j)
+                (λ f. choose ssn (λ n t. (if t then Some k else c.numbers s r n) ≡ Some m → (c.numbers s r n ≡ Some m) ⊎ Names (c.history r) m s n)
+                (λ g. let same : k ≡ m = cc in let P : ℕ → Type 0 = λ n. Names (c.history r) n s ssn in inr (subst P same (names c b r s i ssn k agrees lawful may))) (λ n _ g. inl g) j f)
+                (λ y z _ f. inl f) x p e);
+            told = λ q i' j k' u f a t e. elim a [ inl y ↦ absurd (let z : true ≡ false = ap (λ (x : Parcel). is_told x.body) y in cc) | inr y ↦ h.told q i' j k' u f y t e ];
+            collected = h.collected;
+          }
+
+      -- what one told is forgotten
+      hears : (u v i k : ℕ) → Of (does c (Hears u v i k)) (c.saved p) took
+      hears u v i k =
+          record { begins = h.begins; numbers = h.numbers; told = h.told; collected = λ q s. forgets q ((p == v) && (q == u)) (h.collected q s) }
+        where
+          forgets : (q : ℕ) (t : Bool) → IsOf (c.saved p) took q (c.told p q) → IsOf (c.saved p) took q (if t then None else c.told p q)
+          forgets q true y = tt
+          forgets q false y = y
+
+      -- one page more
+      page-of : (q k : ℕ) (u : Option ℕ) (f : ℕ → Option Message) (o : Option Collected) → Asks (c.saved p) o k → IsOf (c.saved p) took q o → ((v : ℕ) → u ≡ Some v → k < v)
+          → ((m : ℕ) (x : Message) → k < m → reaches u m ≡ true → f m ≡ Some x → c.saved p < m → Names took m q x.ssn) → IsOf (c.saved p) took q (Some (with_page o k u f))
+      page-of q k u f o asks old ahead is = record { past = λ v e. let l : c.saved p ≤ k = low o asks old in let a : k < v = ahead v e in omega arith; names = λ m x far e. split (nat_le m k) m refl x far e }
+        where
+          low : (o : Option Collected) → Asks (c.saved p) o k → IsOf (c.saved p) took q o → c.saved p ≤ k
+          low None asks old = omega arith
+          low (Some t) asks old = let l : c.saved p < k = old.past k asks in omega arith
+
+          before : (o : Option Collected) → Asks (c.saved p) o k → IsOf (c.saved p) took q o → (m : ℕ) (x : Message) → nat_le m k ≡ true → entry_in o m ≡ Some x → (c.saved p < m) × Names took m q x.ssn
+          before None asks old m x l e = absurd (cc)
+          before (Some t) asks old m x l e = old.names m x (rw asks l) e
+
+          split : (t : Bool) → (m : ℕ) → nat_le m k ≡ t → (x : Message) → reaches u m ≡ true → (if t then entry_in o m else f m) ≡ Some x → (c.saved p < m) × Names took m q x.ssn
+          split true m l x far e = before o asks old m x l e
+          split false m l x far e = let a : k < m = grind (arith, nat_tests) in let z : c.saved p ≤ k = low o asks old in (omega arith, is m x a far e (omega arith))
+
+      collects : (r v i j k : ℕ) (u : Option ℕ) (f : ℕ → Option Message) → May c (Collects r v i j k u f) → Of (does c (Collects r v i j k u f)) (c.saved p) took
+      collects r v i j k u f may =
+          record { begins = h.begins; numbers = h.numbers; told = h.told; collected = λ q s. split q (p == v) refl (q == r) refl s }
+        where
+          split : (q : ℕ) (t : Bool) → (p == v) ≡ t → (w : Bool) → (q == r) ≡ w → c.stage p ≡ Collecting → IsOf (c.saved p) took q (if t && w then Some (with_page (c.told v r) k u f) else c.told p q)
+          split q false e w g s = h.collected q s
+          split q true e false g s = h.collected q s
+          split q true e true g s =
+              let same : v ≡ p = grind (arith, nat_tests) in
+              let here : r ≡ q = grind (arith, nat_tests) in
+              let P : ℕ → ℕ → Type 0 = λ x y. In (parcel y x (Told i j k u f)) c.parcels × (i ≡ c.stored x) × Asks (c.saved x) (c.told x y) k in
+              let Q : ℕ → Type 0 = λ x. P x r in
+              let R : ℕ → Type 0 = λ y. P p y in
+              let t : P p q = subst R here (subst Q same (may.0, may.2, may.4)) in
+              let m = h.told q i j k u f t.0 s t.1 in
+              let S : ℕ → ℕ → Type 0 = λ x y. IsOf (c.saved p) took q (Some (with_page (c.told x y) k u f)) in
+              let U : ℕ → Type 0 = λ x. S x r in
+              let V : ℕ → Type 0 = λ y. S p y in
+              subst U (sym same) (subst V (sym here) (page-of q k u f (c.told p q) t.2 (h.collected q s) m.0 m.1))
+
+      -- p keeps the first of what it had
+      recovers : (r n : ℕ) → May c (Recovers r n) → Of (taken_back c r n) (c.saved p) took
+      recovers r n may =
+          record {
+            begins = λ m x e. h.begins m x (kept (p == r) refl m x e);
+            numbers = λ q ssn m qa ne e low. h.numbers q ssn m qa ne (choose r (λ j t. (if t then (λ (a i : ℕ). None) else c.numbers j) p ssn ≡ Some m → c.numbers j p ssn ≡ Some m) (λ f. absurd (cc)) (λ j _ f. f) q e) low;
+            told = λ q i j k u f a s e. h.told q i j k u f a (back s) e;
+            collected = λ q s. again (p == r) q s;
+          }
+        where
+          back : put c.stage r Live p ≡ Collecting → c.stage p ≡ Collecting
+          back = choose r (λ j t. (if t then Live else c.stage j) ≡ Collecting → c.stage j ≡ Collecting) (λ e. absurd (cc)) (λ j _ e. e) p
+
+          kept : (t : Bool) → (p == r) ≡ t → (m : ℕ) (x : Message) → nth (if t then kept_by c r n else c.history p) m ≡ Some x → nth (c.history p) m ≡ Some x
+          kept false e m x f = f
+          kept true e m x f =
+              let same : r ≡ p = grind (arith, nat_tests) in
+              let P : List Message → Type 0 = λ z. nth z m ≡ Some x in
+              let Q : ℕ → Type 0 = λ j. nth (c.history j) m ≡ Some x in
+              subst Q same (nth-take (c.history r) n m x (subst P (kept-is c b r n agrees lawful may) f))
+
+          again : (t : Bool) (q : ℕ) → (if t then Live else c.stage p) ≡ Collecting → IsOf (c.saved p) took q ((if t then (λ (i : ℕ). None) else c.told p) q)
+          again true q s = tt
+          again false q s = h.collected q s
+
+      -- numbers above k are forgotten
+      obeys : (u v i k s : ℕ) → Of (does c (Obeys u v i k s)) (c.saved p) took
+      obeys u v i k s =
+          record {
+            begins = h.begins;
+            numbers = numbered (does c (Obeys u v i k s)).numbers (λ x j m e. choose2 v u (λ y z t. (if t then (λ n. up_to k (c.numbers v u n)) else c.numbers y z) j ≡ Some m → (c.numbers y z j ≡ Some m) ⊎ Names (c.history z) m y j)
+                (λ f. inl (up_to-is k m (c.numbers v u j) f).0) (λ y z _ f. inl f) x p e);
+            told = h.told;
+            collected = h.collected;
+          }
+
+      -- a page of numbers arrives: those under which q has the messages of r
+      enters : (q r i j n s : ℕ) (u : Option ℕ) (f : ℕ → Option ℕ) → In (parcel q r (Restored i j n s u f)) c.parcels → i ≡ c.life r → has (todo_of (c.phase r)) q ≡ true → Of (record c { numbers = put2 c.numbers r q (entered c r q s u f) }) (c.saved p) took
+      enters q r i j n s u f a now has_ =
+          record {
+            begins = h.begins;
+            numbers = numbered (put2 c.numbers r q (entered c r q s u f)) (λ x y m e. choose2 r q (λ z w t. (if t then entered c r q s u f else c.numbers z w) y ≡ Some m → (c.numbers z w y ≡ Some m) ⊎ Names (c.history w) m z y)
+                (entry y m (nat_lt s y) refl (reaches u y) refl) (λ z w _ g. inl g) x p e);
+            told = h.told;
+            collected = h.collected;
+          }
+        where
+          unback : is_back c r ≡ false
+          unback = rw (resync-phase (c.phase r) q has_).1 refl
+
+          entry : (y m : ℕ) (t : Bool) → nat_lt s y ≡ t → (w : Bool) → reaches u y ≡ w → (if t && w then f y else c.numbers r q y) ≡ Some m → (c.numbers r q y ≡ Some m) ⊎ Names (c.history q) m r y
+          entry y m false e w g o = inl o
+          entry y m true e false g o = inl o
+          entry y m true e true g o = inr (names-found (c.history q) r y m (sym (((agrees.parcels q r (Restored i j n s u f) a).3.now now unback).2 y (grind (arith, nat_tests)) g) ∙ o))
+
+      -- what was told before p was opened is to an earlier incarnation
+      opens : (r n : ℕ) → Of (does c (Opens r n)) (c.saved p) took
+      opens r n =
+          record {
+            begins = h.begins;
+            numbers = h.numbers;
+            told = λ q i j k u f a s e. later q i j k u f a (p == r) refl s e;
+            collected = λ q s. new (p == r) q s;
+          }
+        where
+          later : (q i j k : ℕ) (u : Option ℕ) (f : ℕ → Option Message) → In (parcel q p (Told i j k u f)) c.parcels → (t : Bool) → (p == r) ≡ t → (if t then Collecting else c.stage p) ≡ Collecting → i ≡ (if t then suc (n + c.stored r) else c.stored p)
+              → ((v : ℕ) → u ≡ Some v → k < v) × ((m : ℕ) (x : Message) → k < m → reaches u m ≡ true → f m ≡ Some x → c.saved p < m → Names took m q x.ssn)
+          later q i j k u f a false e s g = h.told q i j k u f a s g
+          later q i j k u f a true e s g =
+              let same : p ≡ r = grind (arith, nat_tests) in
+              let l : i ≤ c.stored p = (agrees.parcels q p (Told i j k u f) a).3.past in
+              let P : ℕ → Type 0 = λ x. i ≤ c.stored x in
+              let m : i ≤ c.stored r = subst P same l in
+              absurd (omega arith)
+
+          new : (t : Bool) (q : ℕ) → (if t then Collecting else c.stage p) ≡ Collecting → IsOf (c.saved p) took q ((if t then (λ (i : ℕ). None) else c.told p) q)
+          new true q s = tt
+          new false q s = h.collected q s
+
+      -- another works, or has a durable checkpoint
+      works : (r : ℕ) (m : Message) → (p == r) ≡ false → Of (does c (Works r m)) (c.saved p) took
+      works r m e = let P : List Message → Type 0 = λ z. (m : ℕ) (x : Message) → nth z m ≡ Some x → nth took m ≡ Some x in record { begins = subst P (unput r (c.history r ++ m ∷ []) e) h.begins; numbers = h.numbers; told = h.told; collected = h.collected }
+        where
+          unput : (r : ℕ) (x : List Message) → (p == r) ≡ false → c.history p ≡ put c.history r x p
+          unput r x e = rw e refl
+
+      keeps : (r : ℕ) → (p == r) ≡ false → Of (does c (Keeps r)) ((does c (Keeps r)).saved p) took
+      keeps r e = let P : ℕ → Type 0 = λ z. Of (does c (Keeps r)) z took in let same : c.saved p ≡ put c.saved r (length (c.history r)) p = rw e refl in subst P same record { begins = h.begins; numbers = h.numbers; told = h.told; collected = h.collected }
+
+    -- whether the act is that p takes a message, or that a checkpoint of p becomes durable: then p is up
+    abbrev renews : Act → Bool
+    renews (Works q m) = p == q
+    renews (Keeps q) = p == q
+    renews a = false
+
+    -- all others leave such messages
+    of-step : (took : List Message) → Of c (c.saved p) took → (a : Act) → May c a → renews a ≡ false → Of (does c a) ((does c a).saved p) took
+    of-step took h (Input d x) may e = h
+    of-step took h (Puts r d x) may e = puts took h r d x may
+    of-step took h (Starts q d i ssn x) may e = h
+    of-step took h (Shows q i ssn x) may e = h
+    of-step took h (Works r m) may e = works took h r m e
+    of-step took h (Replays r j) may e = either-way (nat_lt (c.saved r + suc j) (length (c.history r))) _ _ (λ v. Of v (v.saved p) took) h h
+    of-step took h (Records r s i ssn k) may e = records took h r s i ssn k may
+    of-step took h (Counts s r i k) may e = h
+    of-step took h (Drops d s n) may e = h
+    of-step took h (Hears u v i k) may e = hears took h u v i k
+    of-step took h (Collects r v i j k u f) may e = collects took h r v i j k u f may
+    of-step took h (Recovers r n) may e = either-way (nat_lt (c.saved r) n) _ _ (λ v. Of v (v.saved p) took) (recovers took h r n may) (recovers took h r n may)
+    of-step took h (Obeys u v i k s) may e = obeys took h u v i k s
+    of-step took h (Enters q r i j n s u f) may e = enters took h q r i j n s (Some u) f may.0 may.3 may.4
+    of-step took h (Restores q r i j n s f) may e = enters took h q r i j n s None f may.0 may.3 may.4
+    of-step took h (Greets r i j n s f) may e = h
+    of-step took h (Freezes r) may e = restages took h r Frozen (λ y. cc)
+    of-step took h (Keeps r) may e = keeps took h r e
+    of-step took h (Thaws r) may e = restages took h r Live (λ y. cc)
+    of-step took h (Dies r) may e = restages took h r Dead (λ y. cc)
+    of-step took h (Opens r n) may e = opens took h r n
+
+    few-step : (took : List Message) (k : (Message → Bool) → ℕ) → ((test : Message → Bool) → how_many test (drop (c.saved p) took) ≤ k test) → (a : Act) → renews a ≡ false → (test : Message → Bool) → how_many test (drop ((does c a).saved p) took) ≤ counts test p a (k test)
+    few-step took k h (Input d x) e test = h test
+    few-step took k h (Puts r d x) e test = h test
+    few-step took k h (Starts q d i ssn x) e test = h test
+    few-step took k h (Shows q i ssn x) e test = h test
+    few-step took k h (Works r m) e test = rw e (h test)
+    few-step took k h (Replays r j) e test = either-way (nat_lt (c.saved r + suc j) (length (c.history r))) _ _ (λ v. how_many test (drop (v.saved p) took) ≤ k test) (h test) (h test)
+    few-step took k h (Records r s i ssn m) e test = h test
+    few-step took k h (Counts s r i m) e test = h test
+    few-step took k h (Drops d s n) e test = h test
+    few-step took k h (Hears u v i m) e test = h test
+    few-step took k h (Collects r v i j m u f) e test = h test
+    few-step took k h (Recovers r n) e test = either-way (nat_lt (c.saved r) n) _ _ (λ v. how_many test (drop (v.saved p) took) ≤ k test) (h test) (h test)
+    few-step took k h (Obeys u v i m s) e test = h test
+    few-step took k h (Enters q r i j n s u f) e test = h test
+    few-step took k h (Restores q r i j n s f) e test = h test
+    few-step took k h (Greets r i j n s f) e test = h test
+    few-step took k h (Freezes r) e test = h test
+    few-step took k h (Keeps r) e test = rw e (h test)
+    few-step took k h (Thaws r) e test = h test
+    few-step took k h (Dies r) e test = h test
+    few-step took k h (Opens r n) e test = h test
+
+    -- one that is frozen was up
+    frozen-step : ((q : ℕ) → c.stage q ≡ Frozen → c.greeted q ≡ true) → (a : Act) → May c a → (q : ℕ) → (does c a).stage q ≡ Frozen → (does c a).greeted q ≡ true
+    frozen-step h (Input d x) may = h
+    frozen-step h (Puts r d x) may = h
+    frozen-step h (Starts q d i ssn x) may = h
+    frozen-step h (Shows q i ssn x) may = h
+    frozen-step h (Works r m) may = h
+    frozen-step h (Replays r j) may = either-way (nat_lt (c.saved r + suc j) (length (c.history r))) _ _ (λ v. (q : ℕ) → v.stage q ≡ Frozen → v.greeted q ≡ true) h h
+    frozen-step h (Records r s i ssn k) may = h
+    frozen-step h (Counts s r i k) may = h
+    frozen-step h (Drops d s n) may = h
+    frozen-step h (Hears u v i k) may = h
+    frozen-step h (Collects r v i j k u f) may = h
+    frozen-step h (Recovers r n) may =
+        let lives : (q : ℕ) → (taken_back c r n).stage q ≡ Frozen → (taken_back c r n).greeted q ≡ true = choose r (λ j t. (if t then Live else c.stage j) ≡ Frozen → (if t then false else c.greeted j) ≡ true) (λ e. absurd (cc)) (λ j _. h j) in
+        either-way (nat_lt (c.saved r) n) _ _ (λ v. (q : ℕ) → v.stage q ≡ Frozen → v.greeted q ≡ true) lives lives
+    frozen-step h (Obeys u v i k s) may = h
+    frozen-step h (Enters q r i j n s u f) may = h
+    frozen-step h (Restores q r i j n s f) may = h
+    frozen-step h (Greets r i j n s f) may = choose r (λ j t. c.stage j ≡ Frozen → (if t then true else c.greeted j) ≡ true) (λ _. refl) (λ j _. h j)
+    frozen-step h (Freezes r) may = choose r (λ j t. (if t then Frozen else c.stage j) ≡ Frozen → c.greeted j ≡ true) (λ _. (takes-is c r may.1).1) (λ j _. h j)
+    frozen-step h (Keeps r) may = h
+    frozen-step h (Thaws r) may = choose r (λ j t. (if t then Live else c.stage j) ≡ Frozen → c.greeted j ≡ true) (λ e. absurd (cc)) (λ j _. h j)
+    frozen-step h (Dies r) may = choose r (λ j t. (if t then Dead else c.stage j) ≡ Frozen → c.greeted j ≡ true) (λ e. absurd (cc)) (λ j _. h j)
+    frozen-step h (Opens r n) may = choose r (λ j t. (if t then Collecting else c.stage j) ≡ Frozen → c.greeted j ≡ true) (λ e. absurd (cc)) (λ j _. h j)
+
+    renews-well : ((q : ℕ) → c.stage q ≡ Frozen → c.greeted q ≡ true) → (a : Act) → May c a → renews a ≡ true → is_well (does c a) p ≡ true
+    renews-well frozen (Works r m) may e =
+        let same : r ≡ p = grind (arith, nat_tests) in
+        let t = takes-is c r may.1 in
+        let P : ℕ → Type 0 = λ j. (runs (c.stage j) ≡ true) × (c.greeted j ≡ true) in
+        let w : (runs (c.stage p) ≡ true) × (c.greeted p ≡ true) = subst P same (ap runs t.0, t.1) in
+        is-well (does c (Works r m)) p w.0 w.1 (let Q : Bool → Type 0 = λ z. is_up (if z then Up else c.phase p) ≡ true in subst Q (sym e) refl)
+    renews-well frozen (Keeps r) may e =
+        let same : r ≡ p = grind (arith, nat_tests) in
+        let P : ℕ → Type 0 = λ j. c.stage j ≡ Frozen in
+        let at : c.stage p ≡ Frozen = subst P same may.1 in
+        is-well (does c (Keeps r)) p (ap runs at) (frozen p at) (ap is_up (agrees.stages.frozen p at))
+    renews-well frozen (Input d x) may e = absurd (cc)
+    renews-well frozen (Puts r d x) may e = absurd (cc)
+    renews-well frozen (Starts q d i ssn x) may e = absurd (cc)
+    renews-well frozen (Shows q i ssn x) may e = absurd (cc)
+    renews-well frozen (Replays r j) may e = absurd (cc)
+    renews-well frozen (Records r s i ssn k) may e = absurd (cc)
+    renews-well frozen (Counts s r i k) may e = absurd (cc)
+    renews-well frozen (Drops d s n) may e = absurd (cc)
+    renews-well frozen (Hears u v i k) may e = absurd (cc)
+    renews-well frozen (Collects r v i j k u f) may e = absurd (cc)
+    renews-well frozen (Recovers r n) may e = absurd (cc)
+    renews-well frozen (Obeys u v i k s) may e = absurd (cc)
+    renews-well frozen (Enters q r i j n s u f) may e = absurd (cc)
+    renews-well frozen (Restores q r i j n s f) may e = absurd (cc)
+    renews-well frozen (Greets r i j n s f) may e = absurd (cc)
+    renews-well frozen (Freezes r) may e = absurd (cc)
+    renews-well frozen (Thaws r) may e = absurd (cc)
+    renews-well frozen (Dies r) may e = absurd (cc)
+    renews-well frozen (Opens r n) may e = absurd (cc)
+
+  fresh-step : (c : Cluster) (h : Holds c) (a : Act) (may : May c a) (v : Holds (does c a)) → p ≤ (does c a).count → (k : (Message → Bool) → ℕ) → Fresh c k → Fresh (does c a) (λ test. counts test p a (k test))
+  fresh-step c h a may v pa k f = split (renews c h.beside h.agrees h.lawful a) refl
+    where
+      new : (test : Message → Bool) → how_many test (receipts (does c a) p) ≤ counts test p a (k test)
+      new test = receipts-step test p c h.beside h.agrees h.lawful (k test) (f.new test) a may
+
+      split : (t : Bool) → renews c h.beside h.agrees h.lawful a ≡ t → Fresh (does c a) (λ test. counts test p a (k test))
+      split true e =
+          let well : is_well (does c a) p ≡ true = renews-well c h.beside h.agrees h.lawful f.frozen a may e in
+          record { took = (does c a).history p; of = of-well (does c a) v.beside v.agrees v.lawful pa well; few = new; new = new; frozen = frozen-step c h.beside h.agrees h.lawful f.frozen a may }
+      split false e =
+          record {
+            took = f.took;
+            of = of-step c h.beside h.agrees h.lawful f.took f.of a may e;
+            few = few-step c h.beside h.agrees h.lawful f.took k f.few a e;
+            new = new;
+            frozen = frozen-step c h.beside h.agrees h.lawful f.frozen a may;
+          }
+
+  fresh-run : (c : Cluster) (acts : List Act) → c.count ≤ 15 → p ≤ c.count → Holds c → Run c acts → (k : (Message → Bool) → ℕ) → Fresh c k → Fresh (after_run c acts) (λ test. taken_since test p (k test) acts)
+  fresh-run c [] n pa h r k f = f
+  fresh-run c (a ∷ acts) n pa h r k f =
+      let s = step-holds c a n h r.0 in
+      let e : (does c a).count ≡ c.count = does-count c a in
+      fresh-run (does c a) acts s.1 (omega arith) s.0 r.1 (λ test. counts test p a (k test)) (fresh-step c h a r.0 s.0 (omega arith) k f)
+
+-- so of each peer it holds no more than it took of that one
+few-held : (c : Cluster) (p q k : ℕ) (took : List Message) → IsOf (c.saved p) took q (c.told p q) → count_below (holds (c.told p q)) k ≤ how_many (is_of q) (drop (c.saved p) took)
+few-held c p q k took is = few-numbers (is_of q) (c.saved p) took (holds (c.told p q)) (each (c.told p q) is) k
+  where
+    each : (o : Option Collected) → IsOf (c.saved p) took q o → (m : ℕ) → holds o m ≡ true → (c.saved p < m) × (x : Message) × (nth took m ≡ Some x) × (is_of q x ≡ true)
+    each None is m e = absurd (cc)
+    each (Some t) is m e = let y = both (reaches t.upto m) (is_some (t.entries m)) e in entry (t.entries m) refl y.1 y.0
+      where
+        entry : (o : Option Message) → t.entries m ≡ o → is_some o ≡ true → reaches t.upto m ≡ true → (c.saved p < m) × (x : Message) × (nth took m ≡ Some x) × (is_of q x ≡ true)
+        entry None g s far = absurd (cc)
+        entry (Some x) g s far = let n = is.names m x far g in let z : n.1.message.sender ≡ q = n.1.sender in (n.0, n.1.message, n.1.at, grind (arith, nat_tests))
+
+pub told-is-new : ToldIsNew
+told-is-new n f acts p q k l g r node at =
+    let e : (after_run (opening n f) acts).count ≡ n = run-count (opening n f) acts in
+    let pa : p ≤ (after_run (opening n f) acts).count = node.1 in
+    let start : Fresh p (opening n f) (λ test. 0) = record {
+      took = [];
+      of = record { begins = λ m x y. y; numbers = λ q ssn m _ _ y _. absurd (cc); told = λ q i j m u h a s y. absurd a; collected = λ q s. tt };
+      few = λ test. omega arith;
+      new = λ test. omega arith;
+      frozen = λ q y. absurd (cc);
+    } in
+    let t : Fresh p (after_run (opening n f) acts) (λ test. taken_since test p 0 acts) = fresh-run p (opening n f) acts l (omega arith) (opens-holds n f g) r (λ test. 0) start in
+    let a : count_below (holds ((after_run (opening n f) acts).told p q)) k ≤ how_many (is_of q) (drop ((after_run (opening n f) acts).saved p) t.took) = few-held (after_run (opening n f) acts) p q k t.took (t.of.collected q at) in
+    let z : how_many (is_of q) (drop ((after_run (opening n f) acts).saved p) t.took) ≤ taken_since (is_of q) p 0 acts = t.few (is_of q) in
+    omega arith
