@@ -1,7 +1,7 @@
-//! Pages with as many entries and pairs as two bytes count. Their checksums are those of `crc32c` in
-//! `model/nodes/packets.py`.
+//! Pages with as many entries and pairs as two bytes count, and kept bytes of as many payloads. Their
+//! checksums are those of `crc32c` in `model/nodes/packets.py`.
 
-use packets::{Body, back_and_there, decode};
+use packets::{Body, back_and_there, decode, decode_kept, same_bytes_again};
 use std::alloc::Global;
 use std::test::Fail;
 
@@ -61,6 +61,66 @@ fn a_page_of_65_535_pairs(rt: HostRuntime) -> Result<(), Fail> {
     match &decode(alloc, &bytes)?.body {
         Body::Restored { pairs, .. } => assert_eq!(rt; pairs.as_slice().len(), 65_535),
         _ => assert!(rt; false),
+    }
+    Ok(())
+}
+
+/// What process 15 of 15 keeps, up to what it received of each peer: a state of 1,024 bytes, and 15
+/// times 2^32 messages.
+const KEPT: [u8; 16] = [
+    0x53, 0x42, 0x4e, 0x31, 15, 15, 0x00, 0x04, 0, 0, 0, 0, 15, 0, 0, 0,
+];
+
+/// A fifteenth of these messages.
+const OF_A_PEER: u64 = 4_294_967_296;
+
+/// How many payloads are kept for the gateway, which four bytes count.
+const PAYLOADS: u32 = 65_536;
+
+/// The last SSN.
+const LAST: u64 = 9_223_372_036_854_775_807;
+
+const KEPT_CHECKSUM: [u8; 4] = [0xf8, 0x2c, 0x66, 0x34];
+
+/// The bytes of all that is kept: for the gateway payloads of 256 bytes from the first SSN on, for the
+/// others none, up to the last SSN.
+fn all_kept(alloc: Global) -> Result<Vec<u8>, Fail> {
+    let mut bytes = Vec::from_slice(alloc, &KEPT)?;
+    for _ in 0..15 {
+        bytes.extend_from_slice(&OF_A_PEER.to_le_bytes())?;
+    }
+    bytes.extend_from_slice(&[7; 1024])?;
+    bytes.extend_from_slice(&1u64.to_le_bytes())?;
+    bytes.extend_from_slice(&PAYLOADS.to_le_bytes())?;
+    for _ in 0..PAYLOADS {
+        bytes.extend_from_slice(&[0, 1])?;
+        bytes.extend_from_slice(&[9; 256])?;
+    }
+    for _ in 0..14 {
+        bytes.extend_from_slice(&LAST.to_le_bytes())?;
+        bytes.extend_from_slice(&0u32.to_le_bytes())?;
+    }
+    bytes.extend_from_slice(&KEPT_CHECKSUM)?;
+    Ok(bytes)
+}
+
+#[test]
+fn all_of_65_536_payloads_is_kept(rt: HostRuntime) -> Result<(), Fail> {
+    let alloc = rt.alloc();
+    let bytes = all_kept(alloc)?;
+    assert_eq!(rt; bytes.len(), 16_909_632);
+    assert!(rt; same_bytes_again(alloc, &bytes)?.as_slice() == bytes.as_slice());
+    let kept = decode_kept(alloc, &bytes)?;
+    assert_eq!(rt;
+        (kept.length, kept.state.as_slice().len()),
+        (64_424_509_440, 1024)
+    );
+    match kept.logs.as_slice() {
+        [gateway, others @ ..] => {
+            assert_eq!(rt; gateway.payloads.as_slice().len(), 65_536);
+            assert_eq!(rt; others.len(), 14);
+        }
+        [] => assert!(rt; false),
     }
     Ok(())
 }
