@@ -57,13 +57,14 @@ fn kind_left(study: &Study, reg: Reg, from: usize, to: usize) -> Option<Kind>
     ensures each { (k : Kind) → Passes study.now reg.number from to k → result ≡ Some k }
 {
     let insn = study.insn_at(from)?;
+    // Hardly any slot leads to this one: so that comes before what its instruction leaves is found.
+    if !leads(flow_from(&insn), from, to) {
+        return None;
+    }
     let frame = study.frame_at(from)?;
     let Ok(left) = transfer(study.form, &insn, &frame, study.state_len) else {
         return None;
     };
-    if !leads(flow_from(&insn), from, to) {
-        return None;
-    }
     Some(left.next.kind(reg))
 }
 
