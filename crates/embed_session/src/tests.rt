@@ -1,6 +1,8 @@
 //! Each exported function on its happy path, and each code. What is expected was worked out by
 //! `model/sessions.py`, the codes by docs/EMBEDDING.md.
 
+mod greatest;
+
 use crate::entry::Record;
 use crate::exports::*;
 use crate::handle::SessionHandle;
@@ -167,9 +169,18 @@ fn front(out: &mut [u8; 64], room: usize) -> &mut [u8] {
 /// The place of the first call of a list, from 0, whose answer is another one.
 fn first_wrong(alloc: Global, calls: &[(Act, u32, usize)]) -> Option<usize> {
     let mut handle = SessionHandle::closed(alloc);
+    first_wrong_of(alloc, &mut handle, calls)
+}
+
+/// The same of a list of calls through this handle.
+fn first_wrong_of(
+    alloc: Global,
+    handle: &mut SessionHandle,
+    calls: &[(Act, u32, usize)],
+) -> Option<usize> {
     let mut out = [0; 64];
     for (place, (act, code, number)) in calls.iter().enumerate() {
-        if answer(alloc, &mut handle, *act, &mut out) != (*code, *number) {
+        if answer(alloc, handle, *act, &mut out) != (*code, *number) {
             return Some(place);
         }
     }
