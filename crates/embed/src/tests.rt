@@ -1,5 +1,7 @@
 //! Images worked out by hand, and what their calls leave.
 
+mod greatest;
+
 use crate::calling::{call, call_many, check};
 use crate::handler::Handler;
 use crate::refusal::Refusal;
