@@ -5,11 +5,14 @@ ghost use Rattle.tracer.specs.Files.{up_to};
 ghost use Rattle.tracer.specs.declared.files.Failure.TheVariants.{InputOutput, Memory};
 
 use std::alloc::Global;
+use thiserror::Error;
 
 /// Why a file was not read or written, or a stream not written.
-#[derive(Clone, Copy, Debug, PartialEq, Eq)]
+#[derive(Clone, Copy, Debug, PartialEq, Eq, Error)]
 pub enum Failure {
+    #[error("out of memory")]
     Memory,
+    #[error("input or output")]
     InputOutput,
 }
 
