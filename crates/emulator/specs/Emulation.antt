@@ -48,6 +48,10 @@ abbrev pub if_some : {A : Type 0} → Option A → (A → Outcome) → Outcome
 if_some None go = x86.Stuck
 if_some (Some a) go = go a
 
+-- to reach these bytes is to go on at the block and the index that are answered, where there is an answer
+abbrev pub Finds : ((x86.Block → ℕ → Outcome) → Outcome) → Option (Block × ℕ) → Type 0
+Finds reach found = (go : x86.Block → ℕ → Outcome) → reach go ≡ if_some found (λ p. go (block_of p.0) p.1)
+
 -- what a conditional jump finds, None where nothing is said of the flags
 abbrev pub asks_of : Condition → Flags → Option Bool
 asks_of x (flags.Known c z s o) = Some (x86.asks x c z s o)

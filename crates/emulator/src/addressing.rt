@@ -1,12 +1,12 @@
 //! Loads, stores and addresses.
 
-ghost use Rattle.std.specs.Prelude.{◌≡◌, ◌+◌, ◌≤◌, ℕ, length, IfSome};
+ghost use Rattle.std.specs.Prelude.{◌≡◌, ◌+◌, ◌≤◌, length, IfSome};
 ghost use Rattle.decode.specs.Encoding.{bytes_in, loaded};
 ghost use Rattle.operations.specs.Bytes.{le_bytes, overwritten};
 ghost use Rattle.x86.specs.Machine as x86;
-ghost use Rattle.x86.specs.Machine.{Outcome, with_value};
+ghost use Rattle.x86.specs.Machine.{with_value};
 ghost use Rattle.x86.specs.declared.instruction.Instr.TheVariants as instr;
-ghost use Rattle.emulator.specs.Emulation.{Does, block_of, if_some, state_of, value_of};
+ghost use Rattle.emulator.specs.Emulation.{Does, Finds, block_of, state_of, value_of};
 
 use crate::machine::{Block, Machine, Next, Value};
 use crate::memory::{length_of, read, read_signed, write};
@@ -36,7 +36,7 @@ impl Machine {
 
     // where so many bytes at an address lie
     fn reach(&self, value: Value, bytes: usize) -> Option<(Block, usize)>
-        ensures way { (go : x86.Block → ℕ → Outcome) → x86.reach (state_of self.now) (value_of value) bytes go ≡ if_some result (λ p. go (block_of p.0) p.1) }
+        ensures way { Finds (x86.reach (state_of self.now) (value_of value) bytes) result }
         ensures inside { IfSome result (λ p. p.1 + bytes ≤ length (x86.block (state_of self.now) (block_of p.0))) }
     {
         let Value::At(block, offset) = value else {
@@ -52,7 +52,7 @@ impl Machine {
 
     // where so many bytes behind a register lie
     fn reach_from(&self, base: u8, disp: u64, bytes: usize) -> Option<(Block, usize)>
-        ensures way { (go : x86.Block → ℕ → Outcome) → with_value (state_of self.now) base (λ v. x86.reach (state_of self.now) (x86.behind v (x86.extended disp)) bytes go) ≡ if_some result (λ p. go (block_of p.0) p.1) }
+        ensures way { Finds (λ go. with_value (state_of self.now) base (λ v. x86.reach (state_of self.now) (x86.behind v (x86.extended disp)) bytes go)) result }
         ensures inside { IfSome result (λ p. p.1 + bytes ≤ length (x86.block (state_of self.now) (block_of p.0))) }
     {
         let Some(value) = self.value(base) else {

@@ -1,5 +1,6 @@
 -- A call and a record, written down by the C calling convention and as C lays a struct out, and what a record tells.
 use Rattle.std.specs.Prelude.{◌≡◌, ℕ, ◌-◌, ◌*◌, ◌^◌, ◌<◌, ◌≤◌, Some, slice_get, List, [], ◌∷◌, ◌++◌, length, replicate}
+use Rattle.limits.specs.declared.TheConstants.{PAYLOAD_BYTES}
 use Rattle.helpers.specs.declared.effects.Who.{Who}
 use Rattle.helpers.specs.declared.effects.Sent.{Sent}
 use Rattle.helpers.specs.Effects.{Emitted}
@@ -18,7 +19,7 @@ words (n ∷ ns) = le_bytes 8 n ++ words ns
 
 -- struct { uint64_t dst, length; uint8_t payload[256]; }
 abbrev pub place : ℕ → List ℕ → List ℕ
-place dst payload = words (dst ∷ length payload ∷ []) ++ (payload ++ replicate (256 - length payload) 0)
+place dst payload = words (dst ∷ length payload ∷ []) ++ (payload ++ replicate (PAYLOAD_BYTES - length payload) 0)
 
 -- two sends, to 2 and to 3, and an output
 abbrev pub effects : Emitted
@@ -61,4 +62,4 @@ called m mem = record {
 
 -- whatever the array's bytes are, this is a call
 abbrev pub CanBeCalled : Type 0
-CanBeCalled = (m : ℕ) (mem : List ℕ) → m ≤ 256 → AreBytes mem → IsCalled who m (called m mem)
+CanBeCalled = (m : ℕ) (mem : List ℕ) → m ≤ PAYLOAD_BYTES → AreBytes mem → IsCalled who m (called m mem)

@@ -209,6 +209,7 @@ fn compute_code(op: AluOp, width: Width, to: u8, operand: Operand) -> Body
         AluOp::Rsh => shift_code(Shift::Right, width, to, operand),
         AluOp::Arsh => shift_code(Shift::RightSigned, width, to, operand),
         _ => {
+            // Its clause says that the operand's number has 32 bits.
             let _short = alu_code(Alu::Add, width, to, operand);
             Body::Refused
         }
@@ -271,6 +272,20 @@ fn extend_code(extension: Extension, dst: Reg, src: Reg) -> Body
         from: gpr(src),
     };
     by_word(dst, by_word(src, Body::One(extend)))
+}
+
+fn negate_code(width: Width, dst: Reg) -> Body
+    ensures { result ≡ codes.body_of (Task.Negate width dst) }
+{
+    let to = gpr(dst);
+    by_word(dst, Body::One(Instr::Neg { width, to }))
+}
+
+fn wide_code(dst: Reg, value: u64) -> Body
+    ensures { result ≡ codes.body_of (Task.Wide dst value) }
+{
+    let to = gpr(dst);
+    by_word(dst, Body::One(Instr::MovWide { to, imm: value }))
 }
 
 fn load_code(size: Size, dst: Reg, at: u16) -> Body
@@ -350,22 +365,17 @@ pub(crate) fn body_of(task: Task) -> Body
             dst,
             src,
         } => extend_code(extension, dst, src),
-        Task::Negate { width, dst } => {
-            let to = gpr(dst);
-            by_word(dst, Body::One(Instr::Neg { width, to }))
-        }
+        Task::Negate { width, dst } => negate_code(width, dst),
         Task::Reorder { order, bits, dst } => by_word(dst, reorder_code(order, bits, gpr(dst))),
         Task::Load { size, dst, at } => load_code(size, dst, at),
         Task::LoadSx { size, dst, at } => load_sx_code(size, dst, at),
         Task::Store { size, src, at } => store_code(size, src, at),
         Task::StoreImm { size, at, imm } => store_imm_code(size, at, imm),
-        Task::Wide { dst, value } => {
-            let to = gpr(dst);
-            by_word(dst, Body::One(Instr::MovWide { to, imm: value }))
-        }
+        Task::Wide { dst, value } => wide_code(dst, value),
         Task::Me => told_code(24),
         Task::From => told_code(32),
         Task::Branch { operand, .. } => {
+            // The same.
             let _short = alu_code(Alu::Add, Width::W64, 0, operand);
             Body::Refused
         }

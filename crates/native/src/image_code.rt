@@ -7,6 +7,7 @@ ghost use Rattle.native.specs.Laid.{Lays};
 use crate::slot_code::{at, emit, emit_entry};
 use crate::task::{Task, task_of};
 use dense::Op;
+use limits::SLOTS;
 use std::alloc::{AllocError, Global};
 use verifier::Image;
 
@@ -79,7 +80,7 @@ fn places_of(
     let mut places = Vec::new(alloc);
     let mut code = Vec::new(alloc);
     emit_entry(&mut code)?;
-    for slot in 0..ops.len().min(1024) {
+    for slot in 0..ops.len().min(SLOTS) {
         places.push(code.len() as u64)?;
         if let Some(task) = task_of(ops[slot], pool) {
             emit(alloc, &mut code, pends, far.as_slice(), slot, task)?;
@@ -99,7 +100,7 @@ fn emit_slot(
     slot: usize,
     op: Op,
 ) -> Result<bool, AllocError>
-    requires few { slot < 1024 }
+    requires few { slot < SLOTS }
     requires place { slice_index places.now slot ≡ length code.old.items }
     ensures { IfOk result (λ yes. IsTrue yes → Lays pool.now pends.now places.now slot op code.old.items code.new.items) }
 {
@@ -118,6 +119,7 @@ fn emit_slot(
 pub fn compile(alloc: Global, image: &Image) -> Result<Option<Vec<u8>>, AllocError>
     ensures { IfOk result (λ o. IfSome o (λ code. IsNative image.now.form image.now.slots image.now.len code.items)) }
 {
+    // Its clauses say what an image is: a typing, its slots and its bounds.
     let _begin = image.begin();
     let (ops, pool) = image.operations();
     let pends = pends_of(alloc, ops, pool)?;
@@ -133,7 +135,7 @@ pub fn compile(alloc: Global, image: &Image) -> Result<Option<Vec<u8>>, AllocErr
         return Ok(None);
     }
     let count = ops.len();
-    if count > 1024 {
+    if count > SLOTS {
         return Ok(None);
     }
     for slot in 0..count {

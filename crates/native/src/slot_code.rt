@@ -2,7 +2,7 @@
 
 ghost use Rattle.std.specs.Prelude.{◌≡◌, ◌<◌, ◌≤◌, ◌+◌, ◌^◌, [], ◌++◌, List, length, slice_index, IsTrue, IfSome, IfOk, OnOk};
 ghost use Rattle.x86.specs.declared.instruction.Instr as machine;
-ghost use Rattle.native.specs.Code.{codes, flushed, leaving, entering, taken, IsBody, IsCall, IsQuotient, IsSigned, IsDone, Counts, Reaches, Plain, Forks, Jumps, Ends, Serves};
+ghost use Rattle.native.specs.Code.{Emits, codes, flushed, leaving, entering, taken, IsBody, IsCall, IsQuotient, IsSigned, IsDone, Counts, Reaches, Plain, Forks, Jumps, Ends, Serves};
 ghost use Rattle.native.specs.Code as specs;
 
 use crate::body::{Body, body_of, gpr};
@@ -12,6 +12,7 @@ use crate::quotient::{Ways, divisor_code, write_quotient, write_signed};
 use crate::sequence::write_all;
 use crate::task::Task;
 use decode::{AluOp, Condition, Operand, Reg, Size, Width};
+use limits::SLOTS;
 use std::alloc::{AllocError, Global};
 use x86::Instr;
 
@@ -67,7 +68,7 @@ fn flush(code: &mut Vec<u8>, k: u64) -> Result<(), AllocError>
 
 // The instructions of a task without jumps. `false`: there are none.
 fn emit_body(code: &mut Vec<u8>, body: Body) -> Result<bool, AllocError>
-    ensures { IfOk result (λ yes. IsTrue yes → (is : List machine.Instr) × IsBody body is × (code.new.items ≡ code.old.items ++ codes is)) }
+    ensures { IfOk result (Emits (IsBody body) code.old.items code.new.items) }
 {
     match body {
         Body::Refused => Ok(false),
@@ -93,7 +94,7 @@ fn emit_helper(
     helper: Helper,
     at: u16,
 ) -> Result<bool, AllocError>
-    ensures { IfOk result (λ yes. IsTrue yes → (is : List machine.Instr) × IsCall (specs.tests_of helper) (specs.good_of helper at) (specs.end_of helper) is × (code.new.items ≡ code.old.items ++ codes is)) }
+    ensures { IfOk result (Emits (IsCall (specs.tests_of helper) (specs.good_of helper at) (specs.end_of helper)) code.old.items code.new.items) }
 {
     let mut good = Vec::new(alloc);
     write_good(&mut good, helper, at as u64)?;
@@ -117,7 +118,7 @@ fn emit_quotient(
     none: Instr,
     size: u64,
 ) -> Result<bool, AllocError>
-    ensures { IfOk result (λ yes. IsTrue yes → (is : List machine.Instr) × IsQuotient width dst.number operand from none size is × (code.new.items ≡ code.old.items ++ codes is)) }
+    ensures { IfOk result (Emits (IsQuotient width dst.number operand from none size) code.old.items code.new.items) }
 {
     if dst.number >= 10 {
         return Ok(false);
@@ -138,7 +139,7 @@ fn emit_signed(
     from: u8,
     ways: Ways,
 ) -> Result<bool, AllocError>
-    ensures { IfOk result (λ yes. IsTrue yes → (is : List machine.Instr) × IsSigned width dst.number operand from ways.minus ways.minus_size ways.none ways.none_size is × (code.new.items ≡ code.old.items ++ codes is)) }
+    ensures { IfOk result (Emits (IsSigned width dst.number operand from ways.minus ways.minus_size ways.none ways.none_size) code.old.items code.new.items) }
 {
     if dst.number >= 10 {
         return Ok(false);
@@ -157,7 +158,7 @@ fn emit_sdiv(
     dst: Reg,
     operand: Operand,
 ) -> Result<bool, AllocError>
-    ensures { IfOk result (λ yes. IsTrue yes → (is : List machine.Instr) × IsDone (Task.Compute AluOp.Sdiv width dst operand) is × (code.new.items ≡ code.old.items ++ codes is)) }
+    ensures { IfOk result (Emits (IsDone (Task.Compute AluOp.Sdiv width dst operand)) code.old.items code.new.items) }
 {
     let to = gpr(dst);
     let ways = Ways {
@@ -176,7 +177,7 @@ fn emit_smod(
     dst: Reg,
     operand: Operand,
 ) -> Result<bool, AllocError>
-    ensures { IfOk result (λ yes. IsTrue yes → (is : List machine.Instr) × IsDone (Task.Compute AluOp.Smod width dst operand) is × (code.new.items ≡ code.old.items ++ codes is)) }
+    ensures { IfOk result (Emits (IsDone (Task.Compute AluOp.Smod width dst operand)) code.old.items code.new.items) }
 {
     let to = gpr(dst);
     let ways = Ways {
@@ -200,7 +201,7 @@ fn emit_compute(
     dst: Reg,
     operand: Operand,
 ) -> Result<bool, AllocError>
-    ensures { IfOk result (λ yes. IsTrue yes → (is : List machine.Instr) × IsDone (Task.Compute op width dst operand) is × (code.new.items ≡ code.old.items ++ codes is)) }
+    ensures { IfOk result (Emits (IsDone (Task.Compute op width dst operand)) code.old.items code.new.items) }
 {
     let to = gpr(dst);
     let zero = Instr::MovImm { to, imm: 0 };
@@ -229,7 +230,7 @@ fn emit_compute(
 
 // What a task that always goes on does. `false`: it can't be written.
 fn emit_done(alloc: Global, code: &mut Vec<u8>, task: Task) -> Result<bool, AllocError>
-    ensures { IfOk result (λ yes. IsTrue yes → (is : List machine.Instr) × IsDone task is × (code.new.items ≡ code.old.items ++ codes is)) }
+    ensures { IfOk result (Emits (IsDone task) code.old.items code.new.items) }
 {
     match task {
         Task::Send { at } => emit_helper(alloc, code, Helper::Send, at),
@@ -269,8 +270,8 @@ fn emit_plain(
     slot: usize,
     task: Task,
 ) -> Result<bool, AllocError>
-    requires { slot < 1024 }
-    ensures { IfOk result (λ yes. IsTrue yes → (is : List machine.Instr) × Plain pends.now places.now slot (length code.old.items) task is × (code.new.items ≡ code.old.items ++ codes is)) }
+    requires { slot < SLOTS }
+    ensures { IfOk result (Emits (Plain pends.now places.now slot (length code.old.items) task) code.old.items code.new.items) }
 {
     let next = slot + taken(task);
     let Some(k) = count(pends, slot, next) else {
@@ -281,12 +282,14 @@ fn emit_plain(
     if behind != place {
         return Ok(false);
     }
+    // Its clause says that the task's number has 32 bits.
     let _short = body_of(task);
     let done = emit_done(alloc, code, task)?;
     if !done {
         return Ok(false);
     }
     flush(code, k)?;
+    // A vector's length is below 2 to the 64th.
     let _fits = code.len();
     Ok(true)
 }
@@ -303,8 +306,8 @@ fn emit_branch(
     operand: Operand,
     to: u16,
 ) -> Result<bool, AllocError>
-    requires { slot < 1024 }
-    ensures { IfOk result (λ yes. IsTrue yes → (is : List machine.Instr) × Forks pends.now places.now slot (length code.old.items) condition width dst.number operand to is × (code.new.items ≡ code.old.items ++ codes is)) }
+    requires { slot < SLOTS }
+    ensures { IfOk result (Emits (Forks pends.now places.now slot (length code.old.items) condition width dst.number operand to) code.old.items code.new.items) }
 {
     let Some(compare) = compare_code(condition, width, dst, operand) else {
         return Ok(false);
@@ -337,7 +340,7 @@ fn emit_leap(
     slot: usize,
     to: u16,
 ) -> Result<bool, AllocError>
-    ensures { IfOk result (λ yes. IsTrue yes → (is : List machine.Instr) × Jumps pends.now places.now slot (length code.old.items) to is × (code.new.items ≡ code.old.items ++ codes is)) }
+    ensures { IfOk result (Emits (Jumps pends.now places.now slot (length code.old.items) to) code.old.items code.new.items) }
 {
     let Some(k) = count(pends, slot, to as usize) else {
         return Ok(false);
@@ -355,7 +358,7 @@ fn emit_leap(
 
 /// The end.
 fn emit_exit(code: &mut Vec<u8>, pends: &[u64], slot: usize) -> Result<bool, AllocError>
-    ensures { IfOk result (λ yes. IsTrue yes → (is : List machine.Instr) × Ends pends.now slot is × (code.new.items ≡ code.old.items ++ codes is)) }
+    ensures { IfOk result (Emits (Ends pends.now slot) code.old.items code.new.items) }
 {
     let Some(k) = at(pends, slot).checked_add(1) else {
         return Ok(false);
@@ -425,8 +428,8 @@ pub(crate) fn emit(
     slot: usize,
     task: Task,
 ) -> Result<bool, AllocError>
-    requires { slot < 1024 }
-    ensures { IfOk result (λ yes. IsTrue yes → (is : List machine.Instr) × Serves pends.now places.now slot (length code.old.items) task is × (code.new.items ≡ code.old.items ++ codes is)) }
+    requires { slot < SLOTS }
+    ensures { IfOk result (Emits (Serves pends.now places.now slot (length code.old.items) task) code.old.items code.new.items) }
 {
     match task {
         Task::Branch {
