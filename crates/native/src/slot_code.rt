@@ -1,6 +1,6 @@
 //! The code of each slot.
 
-ghost use Rattle.std.specs.Prelude.{◌≡◌, ◌<◌, ◌≤◌, ◌+◌, ◌^◌, [], ◌++◌, List, length, slice_index, IsTrue, IfSome, IfOk, OnOk};
+ghost use Rattle.std.specs.Prelude.{◌≡◌, ◌<◌, ◌≤◌, ◌+◌, ◌^◌, [], ◌++◌, length, slice_index, IfSome, IfOk, OnOk};
 ghost use Rattle.x86.specs.declared.instruction.Instr as machine;
 ghost use Rattle.native.specs.Code.{Emits, codes, flushed, leaving, entering, taken, IsBody, IsCall, IsQuotient, IsSigned, IsDone, Counts, Reaches, Plain, Forks, Jumps, Ends, Serves};
 ghost use Rattle.native.specs.Code as specs;
