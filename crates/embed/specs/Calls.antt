@@ -1,6 +1,7 @@
 -- Calls of the handler of a file.
 use Rattle.std.specs.Prelude.{◌≡◌, ◌≢◌, ℕ, ◌+◌, ◌≤◌, List, [], ◌∷◌, Option, length, take, drop}
 use Rattle.std.specs.List.{flat_map}
+use Rattle.limits.specs.declared.TheConstants.{PROCESSES}
 use Rattle.decode.specs.declared.insn.Insn.{Insn}
 use Rattle.decode.specs.Slots.{slots_of}
 use Rattle.helpers.specs.declared.effects.Who.{Who}
@@ -9,6 +10,8 @@ use Rattle.regtypes.specs.Typing.{Table, IsTyping}
 use Rattle.verifier.specs.ImageFile.{IsFile}
 use Rattle.interp.specs.HandlerCall.{Handled, IsHandled}
 use Rattle.operations.specs.Bytes.{overwritten}
+use Rattle.embed.specs.declared.report.TheConstants.{REPORT_LIMIT}
+use Rattle.embed.specs.declared.calling.TheConstants.{MESSAGE}
 use Rattle.embed.specs.Layout.{report_bytes}
 
 -- the file of code that has a typing: the files that are accepted
@@ -21,9 +24,13 @@ pub record IsTypableFile (form : ImageForm) (code : List Insn) (len : ℕ) (file
 pub record IsSeat (who : Who) : Type 0 where
   pub some : 1 ≤ who.me
   pub last : who.me ≤ who.count
-  pub few : who.count ≤ 15
+  pub few : who.count ≤ PROCESSES
   pub sender : who.from ≤ who.count
   pub other : who.me ≢ who.from
+
+-- who is called, from the numbers that C gives
+abbrev pub caller : ℕ → ℕ → ℕ → Who
+caller me from count = record { me = me; from = from; count = count }
 
 -- the bytes that one call reports
 abbrev pub report_of : Handled → List ℕ
@@ -36,13 +43,13 @@ pub record IsReported (form : ImageForm) (slots : List (Option Insn)) (who : Who
   pub state_is : after ≡ handled.state
   pub out_is : written ≡ overwritten out at (report_of handled)
   pub end_is : end ≡ at + length (report_of handled)
-  pub size : length (report_of handled) ≤ 1064
+  pub size : length (report_of handled) ≤ REPORT_LIMIT
 
 -- calls one after another, by one message of 64 bytes each: a call gets the state that the one before left
 abbrev pub AreHandled : ImageForm → List (Option Insn) → Who → List ℕ → List ℕ → List Handled → List ℕ → Type 0
 AreHandled form slots who state messages [] last = (messages ≡ []) × (last ≡ state)
 AreHandled form slots who state messages (h ∷ hs) last =
-    IsHandled form slots who state (take 64 messages) h × AreHandled form slots who h.state (drop 64 messages) hs last
+    IsHandled form slots who state (take MESSAGE messages) h × AreHandled form slots who h.state (drop MESSAGE messages) hs last
 
 -- such calls, and their reports written one behind the other from the front
 pub record AreReported (form : ImageForm) (slots : List (Option Insn)) (who : Who) (state messages after out written : List ℕ) : Type 0 where

@@ -12,8 +12,10 @@ use Rattle.verifier.specs.declared.fault.ImageError.TheVariants as error
 use Rattle.verifier.specs.FaultNumbers.{header_fault_number}
 use Rattle.verifier.specs.ImageFile.{IsRefusal}
 use Rattle.operations.specs.Bytes.{overwritten}
+use Rattle.embed.specs.declared.calling.TheConstants.{MESSAGE}
 use Rattle.embed.specs.declared.refusal.Refusal.{Refusal}
 use Rattle.embed.specs.declared.refusal.Refusal.TheVariants.{Image, State, Message, Who as NotSeat, Room, Form, Handle}
+use Rattle.embed.specs.declared.report.TheConstants.{FAULT_SIZE, REPORT_LIMIT}
 use Rattle.embed.specs.Layout.{fault_bytes}
 use Rattle.embed.specs.Calls.{IsTypableFile, IsSeat, IsReported, AreReported}
 
@@ -62,17 +64,17 @@ pub record IsChecked (file out written : List ℕ) : Type 0 where
   pub code : List Insn
   pub len : ℕ
   pub file_is : IsTypableFile form code len file
-  pub room : 16 ≤ length out
+  pub room : FAULT_SIZE ≤ length out
   pub same : written ≡ out
 
 -- why a file is refused, and what is written of it: the room is judged before the file
 abbrev pub IsUnchecked : List ℕ → List ℕ → List ℕ → Refusal → Type 0
 IsUnchecked file out written (Image e) =
-    (16 ≤ length out) × IsRefusal file e × (written ≡ overwritten out 0 (fault_bytes (refused_rule e) (refused_slot e)))
+    (FAULT_SIZE ≤ length out) × IsRefusal file e × (written ≡ overwritten out 0 (fault_bytes (refused_rule e) (refused_slot e)))
 IsUnchecked file out written State = ⊥
 IsUnchecked file out written Message = ⊥
 IsUnchecked file out written NotSeat = ⊥
-IsUnchecked file out written Room = (length out < 16) × (written ≡ out)
+IsUnchecked file out written Room = (length out < FAULT_SIZE) × (written ≡ out)
 IsUnchecked file out written Form = ⊥
 IsUnchecked file out written Handle = ⊥
 
@@ -149,21 +151,33 @@ FailsFirst file state who whole room (t ∷ ts) why =
 -- one call, its report written from the front
 abbrev pub IsCalled : List ℕ → Who → List ℕ → List ℕ → List ℕ → List ℕ → List ℕ → Type 0
 IsCalled file who state message after out written =
-    IsDone file state who (length message ≡ 64) (1064 ≤ length out)
+    IsDone file state who (length message ≡ MESSAGE) (REPORT_LIMIT ≤ length out)
     (λ code. (end : ℕ) × IsReported Sbi1 (slots_of code) who state message after out 0 written end)
 
 -- why such a call is refused
 abbrev pub IsCallRefusal : List ℕ → Who → List ℕ → List ℕ → List ℕ → Refusal → Type 0
 IsCallRefusal file who state message out why =
-    FailsFirst file state who (length message ≡ 64) (1064 ≤ length out) order why
+    FailsFirst file state who (length message ≡ MESSAGE) (REPORT_LIMIT ≤ length out) order why
 
 -- calls one after another, with room for as long a report of each
 abbrev pub AreCalled : List ℕ → Who → List ℕ → List ℕ → List ℕ → List ℕ → List ℕ → Type 0
 AreCalled file who state messages after out written =
-    IsDone file state who (length messages % 64 ≡ 0) (1064 * (length messages / 64) ≤ length out)
+    IsDone file state who (length messages % MESSAGE ≡ 0) (REPORT_LIMIT * (length messages / MESSAGE) ≤ length out)
     (λ code. AreReported Sbi1 (slots_of code) who state messages after out written)
 
 -- why such calls are refused
 abbrev pub AreCallsRefused : List ℕ → Who → List ℕ → List ℕ → List ℕ → Refusal → Type 0
 AreCallsRefused file who state messages out why =
-    FailsFirst file state who (length messages % 64 ≡ 0) (1064 * (length messages / 64) ≤ length out) order why
+    FailsFirst file state who (length messages % MESSAGE ≡ 0) (REPORT_LIMIT * (length messages / MESSAGE) ≤ length out) order why
+
+-- what a code says of one call. A refusal changes nothing
+abbrev pub AnswersCall : ℕ → List ℕ → Who → List ℕ → List ℕ → List ℕ → List ℕ → List ℕ → Type 0
+AnswersCall code file who state message after out written =
+    Answers code (IsCalled file who state message after out written)
+    (λ why. IsCallRefusal file who state message out why × (after ≡ state) × (written ≡ out))
+
+-- the same of calls one after another
+abbrev pub AnswersCalls : ℕ → List ℕ → Who → List ℕ → List ℕ → List ℕ → List ℕ → List ℕ → Type 0
+AnswersCalls code file who state messages after out written =
+    Answers code (AreCalled file who state messages after out written)
+    (λ why. AreCallsRefused file who state messages out why × (after ≡ state) × (written ≡ out))

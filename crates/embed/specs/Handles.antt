@@ -11,8 +11,10 @@ use Rattle.helpers.specs.declared.effects.Who.{Who}
 use Rattle.regtypes.specs.declared.image_form.ImageForm.TheVariants.{Sbi1}
 use Rattle.verifier.specs.Typed.{Typed}
 use Rattle.embed.specs.contracts.handler.Handler.{the_row}
+use Rattle.embed.specs.declared.calling.TheConstants.{MESSAGE}
 use Rattle.embed.specs.declared.refusal.Refusal.{Refusal}
 use Rattle.embed.specs.declared.refusal.Refusal.TheVariants.{State, Message, Who as NotSeat, Room, Form, Handle}
+use Rattle.embed.specs.declared.report.TheConstants.{REPORT_LIMIT}
 use Rattle.embed.specs.Calls.{IsTypableFile, IsSeat, AreReported}
 use Rattle.embed.specs.Exports.{Answers, IsFileRefusal, AreCalled, AreCallsRefused}
 
@@ -48,8 +50,8 @@ state_len_of (Some image) = image.len
 -- calls one after another by the messages, with room for as long a report of each, are done on a state of the image's length
 pub record AreDone (image : Typed) (who : Who) (state messages after out written : List ℕ) : Type 0 where
   pub seat : IsSeat who
-  pub messages_are : length messages % 64 ≡ 0
-  pub reports_fit : 1064 * (length messages / 64) ≤ length out
+  pub messages_are : length messages % MESSAGE ≡ 0
+  pub reports_fit : REPORT_LIMIT * (length messages / MESSAGE) ≤ length out
   pub form_is : image.form ≡ Sbi1
   pub state_fits : length state ≡ image.len
   pub called : AreReported Sbi1 image.slots who state messages after out written
@@ -62,8 +64,8 @@ Unless passes refusal others why = ((why ≡ refusal) × (¬ passes)) ⊎ (passe
 abbrev pub AreUndone : Typed → Who → List ℕ → List ℕ → List ℕ → Refusal → Type 0
 AreUndone image who state messages out =
     Unless (IsSeat who) NotSeat
-    (Unless (length messages % 64 ≡ 0) Message
-    (Unless (1064 * (length messages / 64) ≤ length out) Room
+    (Unless (length messages % MESSAGE ≡ 0) Message
+    (Unless (REPORT_LIMIT * (length messages / MESSAGE) ≤ length out) Room
     (Unless (image.form ≡ Sbi1) Form
     (Unless (length state ≡ image.len) State
     (λ why. ⊥)))))

@@ -15,6 +15,7 @@ use crate::refusal::{Refusal, refused_rule, refused_slot};
 use crate::report::{FAULT_SIZE, REPORT_LIMIT, put_fault, put_report};
 use helpers::{Effects, Who};
 use interp::{call_flat, fill, refill, take};
+use limits::PROCESSES;
 use regtypes::ImageForm;
 use std::alloc::Global;
 use verifier::{Image, load};
@@ -45,7 +46,7 @@ pub fn is_seat(who: Who) -> bool
 {
     1 <= who.me
         && who.me <= who.count
-        && who.count <= 15
+        && usize::from(who.count) <= PROCESSES
         && who.from <= who.count
         && who.me != who.from
 }
@@ -83,12 +84,12 @@ fn call_once(
     at: usize,
 ) -> usize
     requires form { image.now.form ≡ Sbi1 }
-    requires holds { Holds 64 image.now.len (entry_in image.now.form 64 image.now.len mem.old) mem.old }
+    requires holds { Holds MESSAGE image.now.len (entry_in image.now.form MESSAGE image.now.len mem.old) mem.old }
     requires room { at + REPORT_LIMIT ≤ length out.old }
     ensures reported { IsReported image.now.form image.now.slots who
-        (part 64 image.now.len region.State mem.old) (part 64 image.now.len region.Message mem.old)
-        (part 64 image.now.len region.State mem.new) out.old at out.new result }
-    ensures spent { IsSpent 64 image.now.len image.now.low mem.new }
+        (part MESSAGE image.now.len region.State mem.old) (part MESSAGE image.now.len region.Message mem.old)
+        (part MESSAGE image.now.len region.State mem.new) out.old at out.new result }
+    ensures spent { IsSpent MESSAGE image.now.len image.now.low mem.new }
 {
     effects.clear();
     let end = call_flat(image, mem, MESSAGE, who, effects);
@@ -98,9 +99,9 @@ fn call_once(
 /// The 64 bytes of a message from a place on.
 #[inline(always)]
 fn message_at(messages: &[u8], at: usize) -> &[u8]
-    requires { at + 64 ≤ length messages.now }
-    ensures value { result.now ≡ slice_range messages.now at (at + 64) }
-    ensures size { length result.now ≡ 64 }
+    requires { at + MESSAGE ≤ length messages.now }
+    ensures value { result.now ≡ slice_range messages.now at (at + MESSAGE) }
+    ensures size { length result.now ≡ MESSAGE }
 {
     &messages[at..at + MESSAGE]
 }
@@ -108,10 +109,11 @@ fn message_at(messages: &[u8], at: usize) -> &[u8]
 /// Lays the state into an array in which no call is under way.
 fn lay(image: &Image, mem: &mut [u8; 1792], state: &[u8])
     requires state { length state.now ≡ image.now.len }
-    requires spent { IsSpent 64 image.now.len image.now.low mem.old }
-    ensures state { part 64 image.now.len region.State mem.new ≡ state.now }
-    ensures spent { IsSpent 64 image.now.len image.now.low mem.new }
+    requires spent { IsSpent MESSAGE image.now.len image.now.low mem.old }
+    ensures state { part MESSAGE image.now.len region.State mem.new ≡ state.now }
+    ensures spent { IsSpent MESSAGE image.now.len image.now.low mem.new }
 {
+    // Their clauses say that the state and the stack lie in the array.
     let _low = image.low();
     let _len = image.state_len();
     put(mem, 256, state);
@@ -129,13 +131,14 @@ pub fn call_each(
     out: &mut [u8],
 )
     requires form { image.now.form ≡ Sbi1 }
-    requires spent { IsSpent 64 image.now.len image.now.low mem.old }
+    requires spent { IsSpent MESSAGE image.now.len image.now.low mem.old }
     requires state { length state.old ≡ image.now.len }
-    requires whole { length messages.now % 64 ≡ 0 }
-    requires room { 1064 * (length messages.now / 64) ≤ length out.old }
+    requires whole { length messages.now % MESSAGE ≡ 0 }
+    requires room { REPORT_LIMIT * (length messages.now / MESSAGE) ≤ length out.old }
     ensures reported { AreReported image.now.form image.now.slots who state.old messages.now state.new out.old out.new }
-    ensures spent { IsSpent 64 image.now.len image.now.low mem.new }
+    ensures spent { IsSpent MESSAGE image.now.len image.now.low mem.new }
 {
+    // Its clause says that the state lies in the array.
     let _len = image.state_len();
     lay(image, mem, state);
     let mut end = 0;
@@ -170,6 +173,7 @@ pub fn call(
         return Err(Refusal::Room);
     }
     let image = open(alloc, file, state)?;
+    // Its clause says that the state lies in the array.
     let _len = image.state_len();
     let message = message_at(message, 0);
     let mut mem = [0; 1792];

@@ -1,9 +1,8 @@
 //! What C calls. A code of 0 says that it is done, any other is the number of a refusal, and what
 //! either says of file, state and buffers stands in the contracts.
 
-ghost use Rattle.std.specs.Prelude.{◌≡◌, ◌≢◌};
-ghost use Rattle.helpers.specs.declared.effects.Who.{Who as Caller};
-ghost use Rattle.embed.specs.Exports.{Answers, IsChecked, IsUnchecked, IsCalled, IsCallRefusal, AreCalled, AreCallsRefused};
+ghost use Rattle.embed.specs.Calls.{caller};
+ghost use Rattle.embed.specs.Exports.{Answers, AnswersCall, AnswersCalls, IsChecked, IsUnchecked};
 
 use crate::calling;
 use helpers::Who;
@@ -34,7 +33,7 @@ pub extern "C" fn sblog_call(
     count: u8,
     out: &mut [u8],
 ) -> u32
-    ensures { let who : Caller = record { me = me; from = from; count = count } in Answers result (IsCalled file.now who state.old message.now state.new out.old out.new) (λ why. IsCallRefusal file.now who state.old message.now out.old why × (state.new ≡ state.old) × (out.new ≡ out.old)) }
+    ensures { AnswersCall result file.now (caller me from count) state.old message.now state.new out.old out.new }
 {
     match calling::call(alloc, file, state, message, Who { me, from, count }, out) {
         Ok(()) => 0,
@@ -56,7 +55,7 @@ pub extern "C" fn sblog_call_many(
     count: u8,
     out: &mut [u8],
 ) -> u32
-    ensures { let who : Caller = record { me = me; from = from; count = count } in Answers result (AreCalled file.now who state.old messages.now state.new out.old out.new) (λ why. AreCallsRefused file.now who state.old messages.now out.old why × (state.new ≡ state.old) × (out.new ≡ out.old)) }
+    ensures { AnswersCalls result file.now (caller me from count) state.old messages.now state.new out.old out.new }
 {
     match calling::call_many(alloc, file, state, messages, Who { me, from, count }, out) {
         Ok(()) => 0,

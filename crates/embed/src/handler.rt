@@ -1,6 +1,7 @@
 //! Handlers that are kept from call to call.
 
-use crate::calling::call_each;
+use crate::calling::{MESSAGE, call_each};
+use crate::report::REPORT_LIMIT;
 use helpers::{Effects, Who};
 use regtypes::ImageForm;
 use std::marker::Model;
@@ -18,12 +19,13 @@ pub struct Handler {
 impl Model for Handler {
     ghost use Rattle.verifier.specs.Typed.{Typed};
     ghost use Rattle.interp.specs.Flat.{IsSpent};
+    ghost use Rattle.embed.specs.declared.calling.TheConstants.{MESSAGE};
 
     ghost Value = { Typed };
 
     ghost view = { λ h. h.image };
 
-    ghost invariant = { λ h. IsSpent 64 h.image.len h.image.low h.mem };
+    ghost invariant = { λ h. IsSpent MESSAGE h.image.len h.image.low h.mem };
 }
 
 impl Handler {
@@ -35,6 +37,7 @@ impl Handler {
     pub fn new(image: Image) -> Handler
         ensures { result ≡ image }
     {
+        // Their clauses say that the state and the stack lie in the array.
         let _low = image.low();
         let _len = image.state_len();
         Handler {
@@ -62,8 +65,8 @@ impl Handler {
     pub fn call_each(&mut self, state: &mut [u8], messages: &[u8], who: Who, out: &mut [u8])
         requires form { self.old.form ≡ Sbi1 }
         requires state { length state.old ≡ self.old.len }
-        requires whole { length messages.now % 64 ≡ 0 }
-        requires room { 1064 * (length messages.now / 64) ≤ length out.old }
+        requires whole { length messages.now % MESSAGE ≡ 0 }
+        requires room { REPORT_LIMIT * (length messages.now / MESSAGE) ≤ length out.old }
         ensures reported { AreReported Sbi1 self.old.slots who state.old messages.now state.new out.old out.new }
         ensures same { self.new ≡ self.old }
     {

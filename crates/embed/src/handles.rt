@@ -3,8 +3,8 @@
 
 ghost use Rattle.std.specs.Prelude.{◌≡◌, Option};
 ghost use Rattle.std.specs.Borrow.{sem};
-ghost use Rattle.helpers.specs.declared.effects.Who.{Who as Caller};
 ghost use Rattle.verifier.specs.Typed.{Typed};
+ghost use Rattle.embed.specs.Calls.{caller};
 ghost use Rattle.embed.specs.Handles.{owns_image, state_len_of, Opens, Runs};
 
 use crate::handler::Handler;
@@ -60,7 +60,7 @@ pub unsafe extern "C" fn sblog_run(
 ) -> u32
     ghost held: { Option Typed }
     requires* { sem 𝓛 (owns_image handle held) }
-    ensures* { let who : Caller = record { me = me; from = from; count = count } in sem 𝓛 (owns_image handle held) ∗ ⌜ Runs result held who state.old messages.now state.new out.old out.new ⌝ }
+    ensures* { sem 𝓛 (owns_image handle held) ∗ ⌜ Runs result held (caller me from count) state.old messages.now state.new out.old out.new ⌝ }
 {
     if handle.is_null() {
         return NULL;

@@ -1,7 +1,7 @@
 //! Calls of images that were opened.
 
 ghost use Rattle.std.specs.Prelude.{◌≡◌, Some, IfOk, IfErr, OnErr};
-ghost use Rattle.helpers.specs.declared.effects.Who.{Who as Caller};
+ghost use Rattle.embed.specs.Calls.{caller};
 ghost use Rattle.embed.specs.Handles.{AreDone, AreUndone, Runs, AreDoneAsByFile, AreRefusedAsByFile};
 
 use crate::calling::{MESSAGE, is_seat};
@@ -55,7 +55,7 @@ pub fn run(
     out: &mut [u8],
 ) -> u32
     ensures same { handler.new ≡ handler.old }
-    ensures answer { let who : Caller = record { me = me; from = from; count = count } in Runs result (Some handler.old) who state.old messages.now state.new out.old out.new }
+    ensures answer { Runs result (Some handler.old) (caller me from count) state.old messages.now state.new out.old out.new }
 {
     match call_all(handler, state, messages, Who { me, from, count }, out) {
         Ok(()) => 0,

@@ -98,44 +98,14 @@ fn two_calls(rt: HostRuntime) -> Result<(), Fail> {
 
 #[test]
 fn no_call(rt: HostRuntime) -> Result<(), Fail> {
-    let mut state = [0u8; 9];
+    let alloc = rt.alloc();
     let message = [0u8; 64];
     let mut out = [7u8; REPORT_LIMIT];
-    let nobody = Who {
-        me: 1,
-        from: 1,
-        count: 2,
-    };
-    assert_eq!(rt;
-        number_of(call(rt.alloc(), &ADDER, &mut state, &message, CALLED, &mut out)),
-        5
-    );
-    assert_eq!(rt;
-        number_of(call(
-            rt.alloc(),
-            &ADDER,
-            &mut state,
-            &message[1..],
-            CALLED,
-            &mut out
-        )),
-        6
-    );
-    assert_eq!(rt;
-        number_of(call(rt.alloc(), &ADDER, &mut state, &message, nobody, &mut out)),
-        7
-    );
-    assert_eq!(rt;
-        number_of(call(
-            rt.alloc(),
-            &ADDER,
-            &mut state,
-            &message,
-            CALLED,
-            &mut out[1..]
-        )),
-        8
-    );
+    let nobody = Who { from: 1, ..CALLED };
+    assert_eq!(rt; code_of(alloc, &ADDER, &message, CALLED, &mut out), 5);
+    assert_eq!(rt; code_of(alloc, &ADDER, &message[1..], CALLED, &mut out), 6);
+    assert_eq!(rt; code_of(alloc, &ADDER, &message, nobody, &mut out), 7);
+    assert_eq!(rt; code_of(alloc, &ADDER, &message, CALLED, &mut out[1..]), 8);
     assert_eq!(rt; out[0], 7);
     Ok(())
 }
