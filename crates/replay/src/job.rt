@@ -78,11 +78,10 @@ impl Job {
     {
         let Job { task, mut next } = self;
         let mut effects = Effects::new();
-        let message = task.message();
         let end = call(
             task.image(),
             next.as_mut_slice(),
-            seen(task.image(), &message.payload),
+            seen(task.image(), task.payload()),
             task.who(),
             &mut effects,
         );

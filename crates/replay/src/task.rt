@@ -4,7 +4,7 @@ ghost use Rattle.std.specs.Prelude.{◌≡◌, IfOk};
 ghost use Rattle.std.specs.Arc.{arc_value};
 ghost use Rattle.replay.specs.Task.{TheTask, MayCall};
 
-use helpers::Who;
+use helpers::{Payload, Who};
 use std::alloc::{AllocError, Global};
 use std::marker::Model;
 use std::sync::Arc;
@@ -28,12 +28,13 @@ pub struct Task {
     ticket: Ticket,
     image: Arc<Image>,
     state: Vec<u8>,
-    message: Message,
+    message: Box<Message>,
     who: Who,
 }
 
 impl Model for Task {
     ghost use Rattle.std.specs.Arc.{arc_value};
+    ghost use Rattle.std.specs.Box.{box_value};
     ghost use Rattle.replay.specs.Task.{TheTask, MayCall};
 
     ghost Value = { TheTask };
@@ -44,7 +45,7 @@ impl Model for Task {
       rsn = t.ticket.rsn;
       image = arc_value t.image;
       state = t.state.items;
-      message = t.message;
+      message = box_value t.message;
       who = t.who;
     } };
 
@@ -73,6 +74,7 @@ impl Task {
         ensures { IfOk result (λ t. t ≡ record { serial = ticket.serial; incarnation = ticket.incarnation; rsn = ticket.rsn; image = arc_value image; state = state.now; message = message; who = who }) }
     {
         let state = copied(alloc, state)?;
+        let message = Box::new(alloc, message)?;
         Ok(Task {
             ticket,
             image,
@@ -128,7 +130,14 @@ impl Task {
     pub fn message(&self) -> Message
         ensures { result ≡ self.now.message }
     {
-        self.message
+        *self.message
+    }
+
+    // What it says, where it lies.
+    pub(crate) fn payload(&self) -> &Payload
+        ensures { result.now ≡ self.now.message.payload }
+    {
+        &self.message.payload
     }
 
     /// Who is called, by whose message, among how many.
