@@ -27,6 +27,30 @@ static UNSET_AT_EXIT: &str = "form 1, 8 bytes of state
 verify refused V10 at slot 0
 ";
 
+static OTHER_LENGTH: &str = "load refused 5
+a: not as long as its header says: 8 bytes, and 8 for each slot
+";
+
+static NO_HEADER: &str = "load refused 1
+a: fewer than the 8 bytes of a header
+";
+
+static NO_IMAGE: &str = "load refused 2
+a: not an image file (assembler text? sblog asm writes images)
+";
+
+static UNUSED_FIELD: &str = "decode refused 3 at slot 0
+a: a field that the instruction doesn't use isn't zero
+";
+
+static NOT_ACCEPTED: &str = "verify refused V10 at slot 0
+a: sblog explain shows why
+";
+
+static NO_FILE: &str = "input or output
+b: no such file or folder
+";
+
 /// What a command line comes to, with streams that have nothing yet.
 #[derive(Drop)]
 struct Ended {
@@ -87,18 +111,18 @@ fn statuses_and_lines(rt: HostRuntime) -> Result<(), Fail> {
     let exit_alone = b"SBI1\x08\x00\x01\x00\x95\x00\x00\x00\x00\x00\x00\x00".as_slice();
     let cases = [
         ("check a", adder, 0, "accepted 6 instructions\n"),
-        ("check a", cut, 3, "load refused 5\n"),
-        ("check a", none, 3, "load refused 1\n"),
-        ("check a", magic, 3, "load refused 2\n"),
-        ("check a", bad_field, 3, "decode refused 3 at slot 0\n"),
-        ("check a", exit_alone, 3, "verify refused V10 at slot 0\n"),
-        ("check b", adder, 6, "input or output\n"),
+        ("check a", cut, 3, OTHER_LENGTH),
+        ("check a", none, 3, NO_HEADER),
+        ("check a", magic, 3, NO_IMAGE),
+        ("check a", bad_field, 3, UNUSED_FIELD),
+        ("check a", exit_alone, 3, NOT_ACCEPTED),
+        ("check b", adder, 6, NO_FILE),
         ("explain a", exit_alone, 0, UNSET_AT_EXIT),
-        ("explain a", cut, 3, "load refused 5\n"),
-        ("explain a", none, 3, "load refused 1\n"),
-        ("explain a", magic, 3, "load refused 2\n"),
-        ("explain a", bad_field, 3, "decode refused 3 at slot 0\n"),
-        ("explain b", adder, 6, "input or output\n"),
+        ("explain a", cut, 3, OTHER_LENGTH),
+        ("explain a", none, 3, NO_HEADER),
+        ("explain a", magic, 3, NO_IMAGE),
+        ("explain a", bad_field, 3, UNUSED_FIELD),
+        ("explain b", adder, 6, NO_FILE),
     ];
     for (line, bytes, want, text) in cases {
         let mut files = Folder::new(rt.alloc(), [("a", bytes)].as_slice())?;

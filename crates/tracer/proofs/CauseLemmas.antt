@@ -1,6 +1,6 @@
 -- What words come to a fault.
-use Rattle.std.proofs.Common.{◌≡◌, ◌⊎◌, ◌||◌, ℕ, Bool, true, false, IfErr, List, Some, Result, Ok, Err, take, refl, sym, subst, inl, inr}
-use Rattle.std.specs.Prelude.{[]}
+use Rattle.std.proofs.Common.{◌≡◌, ◌⊎◌, ◌||◌, ℕ, Bool, true, false, IfErr, List, Some, Result, Ok, Err, take, refl, sym, subst, inl, inr, true≢false}
+use Rattle.std.specs.Prelude.{◌≢◌, []}
 use Rattle.std.specs.Result.{IsErrAnd}
 use Rattle.assemble.specs.declared.fault.AsmError.{AsmError}
 use Rattle.assemble.specs.declared.fault.AsmError.TheVariants as text
@@ -68,6 +68,23 @@ second : (a b : Bool) → b ≡ true → (a || b) ≡ true
 second true b is = refl
 second false b is = is
 
+first : (a b : Bool) → a ≡ true → (a || b) ≡ true
+first true b is = refl
+first false b is = absurd (true≢false (sym is))
+
+-- what words come to stays where a stream may have failed too
+pub cause_beside : (words : List (List ℕ)) (content : Content) (one : Sameness) (failed stream : Bool) (f : Fault)
+    → IsCause words content one failed f → IsCause words content one (failed || stream) f
+cause_beside words content one failed stream (Usage usage) cause = cause
+cause_beside words content one failed stream (Header h) cause = cause
+cause_beside words content one failed stream (Decode rule slot) cause = cause
+cause_beside words content one failed stream (Verify rule slot) cause = cause
+cause_beside words content one failed stream (Assemble rule line) cause = cause
+cause_beside words content one failed stream (Scenario line said) cause = cause
+cause_beside words content one failed stream Memory cause = tt
+cause_beside words content one failed stream InputOutput (order, asked, inl is) = (order, asked, inl (first failed stream is))
+cause_beside words content one failed stream InputOutput (order, asked, inr why) = (order, asked, inr why)
+
 -- a stream that failed is the cause of its fault
 pub stream_cause : (words : List (List ℕ)) (content : Content) (one : Sameness) (failed stream : Bool) (order : Order) (f : Fault)
     → AsksFor words order → stream ≡ true → (f ≡ Memory) ⊎ (f ≡ InputOutput) → IsCause words content one (failed || stream) f
@@ -78,9 +95,9 @@ stream_cause words content one failed stream order f asked is (inr output) =
 -- ---- what is read from a file
 
 -- memory, or a file that is not read or written
-pub plain_of : (failed : Bool) (e : Failure) (f : Fault) → (e ≡ failure.InputOutput → failed ≡ true) → f ≡ fault_of_failure e → IsPlainFault failed f
+pub plain_of : (failed : Bool) (e : Failure) (f : Fault) → (e ≢ failure.Memory → failed ≡ true) → f ≡ fault_of_failure e → IsPlainFault failed f
 plain_of failed failure.Memory f told is = inl is
-plain_of failed failure.InputOutput f told is = inr (is, told refl)
+plain_of failed (failure.InputOutput reason) f told is = inr (is, told (λ same. cc))
 
 -- an image that is refused by the bytes that were read of it
 pub image_refused : (content : Content) (failed : Bool) (path bytes : List ℕ) (e : ImageError) (f : Fault)

@@ -55,7 +55,7 @@ fault_of_refusal refusal.Memory = Memory
 -- the fault of a file or stream: it can't be read or written, or want of memory
 abbrev pub fault_of_failure : Failure → Fault
 fault_of_failure failure.Memory = Memory
-fault_of_failure failure.InputOutput = InputOutput
+fault_of_failure (failure.InputOutput reason) = InputOutput
 
 -- the fault of an image file: that of its header, of its code's bytes or of its typing, or want of memory
 abbrev pub fault_of_image : ImageError → Fault

@@ -11,4 +11,5 @@ pub mod Pack
 pub mod Program
 pub mod Report
 pub mod Run
+pub mod Said
 pub mod Stage

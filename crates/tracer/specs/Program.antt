@@ -13,11 +13,12 @@ use Rattle.tracer.specs.Asm.{IsAssembled, IsUnassembled}
 use Rattle.tracer.specs.Check.{IsImageFault}
 use Rattle.tracer.specs.Dis.{IsUnlisted}
 use Rattle.tracer.specs.Draw.{IsDrawn}
-use Rattle.tracer.specs.Fault.{fault_text, status_of}
+use Rattle.tracer.specs.Fault.{status_of}
 use Rattle.tracer.specs.Files.{Content}
 use Rattle.tracer.specs.Pack.{IsPacked, IsUnpacked}
 use Rattle.tracer.specs.Report.{IsReport, path_of}
 use Rattle.tracer.specs.Run.{IsCutText}
+use Rattle.tracer.specs.Said.{IsToldAs}
 use Rattle.tracer.specs.Stage.{IsUnstaged}
 use Rattle.tracer.specs.declared.fault.Fault.{Fault}
 use Rattle.tracer.specs.declared.fault.Fault.TheVariants.{Usage, Memory, InputOutput}
@@ -124,10 +125,10 @@ pub record IsCutShort (words : List (List ℕ)) (content : Content) (out out' : 
   pub short : IsShort content order text
   pub printed : Appends out out' text
 
--- the fault was told with its status; or the stream for faults has failed, and left a status of its own
-abbrev pub Tells : Fault → Bool → Option (List ℕ) → Option (List ℕ) → ℕ → Type 0
-Tells f failed err err' status =
-    ((status ≡ status_of f) × Appends err err' (fault_text f)) ⊎ ((failed ≡ true) × ((status ≡ 5) ⊎ (status ≡ 6)))
+-- the fault was told in this text, with its status; or the stream for faults has failed, and left a status of its own
+abbrev pub Tells : Fault → List ℕ → Bool → Option (List ℕ) → Option (List ℕ) → ℕ → Type 0
+Tells f text failed err err' status =
+    ((status ≡ status_of f) × Appends err err' text) ⊎ ((failed ≡ true) × ((status ≡ 5) ⊎ (status ≡ 6)))
 
 -- the words come to a fault, which was told; `failed` says whether a file or the stream for reports has failed, `deaf` whether
 -- that for faults has
@@ -135,4 +136,6 @@ pub record IsTold (words : List (List ℕ)) (content : Content) (one : Sameness)
     : Type 0 where
   pub fault : Fault
   pub cause : IsCause words content one failed fault
-  pub told : Tells fault deaf err err' status
+  pub text : List ℕ
+  pub said : IsToldAs fault text
+  pub told : Tells fault text deaf err err' status

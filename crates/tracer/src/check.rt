@@ -7,6 +7,7 @@ ghost use Rattle.tracer.specs.Program.{FaultOf};
 
 use crate::fault::Fault;
 use crate::files::Files;
+use crate::site::Site;
 use std::alloc::Global;
 use std::fmt;
 use verifier::{Image, load};
@@ -31,24 +32,34 @@ impl fmt::Display for Accepted {
 }
 
 /// The image of a file.
-pub fn load_image<F: Files>(alloc: Global, path: &str, files: &mut F) -> Result<Image, Fault>
+pub fn load_image<F: Files>(
+    alloc: Global,
+    path: &str,
+    files: &mut F,
+    site: &mut Site,
+) -> Result<Image, Fault>
     ensures loaded { IfOk result (IsLoaded (F.content files.old) path.now) }
     ensures same { F.content files.new ≡ F.content files.old }
     ensures fault { IfErr result (LoadFault (F.content files.old) (F.failed files.new) path.now) }
 {
-    let bytes = files.read(alloc, path, Some(IMAGE_LIMIT))?;
+    let bytes = site.read(alloc, path, Some(IMAGE_LIMIT), files)?;
     let image = load(alloc, bytes.as_slice())?;
     Ok(image)
 }
 
 /// Verifies the image of a file.
-pub fn check<F: Files>(alloc: Global, path: &str, files: &mut F) -> Result<Accepted, Fault>
+pub fn check<F: Files>(
+    alloc: Global,
+    path: &str,
+    files: &mut F,
+    site: &mut Site,
+) -> Result<Accepted, Fault>
     ensures accepted { IfOk result (λ a. (bytes : List ℕ) → F.content files.old path.now ≡ Some bytes
         → IsAccepted bytes a.count) }
     ensures same { F.content files.new ≡ F.content files.old }
     ensures fault { IfErr result (FaultOf (F.content files.old) (F.failed files.new) path.now IsImageFault) }
 {
-    let image = load_image(alloc, path, files)?;
+    let image = load_image(alloc, path, files, site)?;
     let count = image.count();
     Ok(Accepted { count })
 }

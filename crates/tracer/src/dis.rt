@@ -7,18 +7,24 @@ ghost use Rattle.tracer.specs.Program.{FaultOf};
 use crate::check::IMAGE_LIMIT;
 use crate::fault::Fault;
 use crate::files::Files;
+use crate::site::Site;
 use assemble::disassemble;
 use std::alloc::Global;
 use verifier::parts;
 
 /// The assembler text of the image of a file. Its code is not verified.
-pub fn dis<F: Files>(alloc: Global, path: &str, files: &mut F) -> Result<String, Fault>
+pub fn dis<F: Files>(
+    alloc: Global,
+    path: &str,
+    files: &mut F,
+    site: &mut Site,
+) -> Result<String, Fault>
     ensures listing { IfOk result (λ t. (bytes : List ℕ) → F.content files.old path.now ≡ Some bytes
         → IsListing bytes (string_bytes t)) }
     ensures same { F.content files.new ≡ F.content files.old }
     ensures fault { IfErr result (FaultOf (F.content files.old) (F.failed files.new) path.now IsUnlisted) }
 {
-    let bytes = files.read(alloc, path, Some(IMAGE_LIMIT))?;
+    let bytes = site.read(alloc, path, Some(IMAGE_LIMIT), files)?;
     let (code, _state, _form) = parts(alloc, bytes.as_slice())?;
     let text = disassemble(alloc, code.as_slice())?;
     Ok(text)

@@ -9,6 +9,7 @@ ghost use Rattle.tracer.specs.Program.{IsAnswer, Leaves, SparesImages};
 use crate::fault::Fault;
 use crate::files::Files;
 use crate::own_input::{spare, spare_images};
+use crate::site::Site;
 use crate::staging::{Staged, stage};
 use diagram::draw;
 use runner::journal_of;
@@ -22,6 +23,7 @@ fn picture_of<F: Files>(
     path: &str,
     place: &str,
     files: &mut F,
+    site: &mut Site,
 ) -> Result<String, Fault>
     ensures drawn { IfOk result (λ t. (bytes : List ℕ) → F.content files.old path.now ≡ Some bytes
         → IsDrawn (F.content files.old) bytes (string_bytes t)) }
@@ -29,7 +31,7 @@ fn picture_of<F: Files>(
     ensures same { F.content files.new ≡ F.content files.old }
     ensures fault { IfErr result (IsWriteFault F.may_be_one (F.content files.old) (F.failed files.new) (Draw path.now place.now)) }
 {
-    let Staged { scenario, images } = stage(alloc, path, Allowed::All, files)?;
+    let Staged { scenario, images } = stage(alloc, path, Allowed::All, files, site)?;
     spare_images(alloc, &scenario.processes, place, files)?;
     let entries = journal_of(alloc, &scenario, images)?;
     let text = draw(alloc, &scenario.processes, entries.as_slice())?;
@@ -42,6 +44,7 @@ pub fn draw_scenario<F: Files>(
     path: &str,
     picture: &str,
     files: &mut F,
+    site: &mut Site,
 ) -> Result<(), Fault>
     ensures report { OnOk result (IsAnswer (F.content files.old) (Draw path.now picture.now) []) }
     ensures left { OnOk result (Leaves (Draw path.now picture.now) (F.content files.old) (F.content files.new)) }
@@ -49,7 +52,7 @@ pub fn draw_scenario<F: Files>(
     ensures kept { OnErr result (F.content files.new ≡ F.content files.old) }
 {
     spare(alloc, path, picture, files)?;
-    let text = picture_of(alloc, path, picture, files)?;
-    files.write(picture, text.as_str().as_bytes())?;
+    let text = picture_of(alloc, path, picture, files, site)?;
+    site.write(picture, text.as_str().as_bytes(), files)?;
     Ok(())
 }

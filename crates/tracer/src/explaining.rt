@@ -8,17 +8,23 @@ ghost use Rattle.tracer.specs.Program.{FaultOf};
 use crate::check::IMAGE_LIMIT;
 use crate::fault::Fault;
 use crate::files::Files;
+use crate::site::Site;
 use explain::explain;
 use std::alloc::Global;
 
 /// The listing of the image of a file, whether or not its code is accepted.
-pub fn explain_image<F: Files>(alloc: Global, path: &str, files: &mut F) -> Result<String, Fault>
+pub fn explain_image<F: Files>(
+    alloc: Global,
+    path: &str,
+    files: &mut F,
+    site: &mut Site,
+) -> Result<String, Fault>
     ensures listing { IfOk result (λ t. (bytes : List ℕ) → F.content files.old path.now ≡ Some bytes
         → IsExplained bytes (string_bytes t)) }
     ensures same { F.content files.new ≡ F.content files.old }
     ensures fault { IfErr result (FaultOf (F.content files.old) (F.failed files.new) path.now IsUnlisted) }
 {
-    let bytes = files.read(alloc, path, Some(IMAGE_LIMIT))?;
+    let bytes = site.read(alloc, path, Some(IMAGE_LIMIT), files)?;
     let text = explain(alloc, bytes.as_slice())?;
     Ok(text)
 }

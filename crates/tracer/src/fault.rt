@@ -3,9 +3,12 @@
 ghost use Rattle.std.specs.Prelude.{◌≡◌, Some};
 ghost use Rattle.tracer.specs.Fault.{fault_of_code, fault_of_failure, fault_of_image, fault_of_refusal, fault_of_text, fault_text, status_of};
 ghost use Rattle.tracer.specs.Program.{Tells};
+ghost use Rattle.tracer.specs.Said.{told_text};
 ghost use Rattle.tracer.specs.declared.fault.Fault.TheVariants.{Memory};
 
 use crate::files::Failure;
+use crate::said::Told;
+use crate::site::Site;
 use crate::stream::Stream;
 use assemble::AsmError;
 use cli::{Refusal, Usage};
@@ -15,7 +18,7 @@ use std::fmt;
 use verifier::{HeaderFault, ImageError};
 
 /// Why a command line was not carried out. It prints as its line on standard error, or as the text
-/// on usage, with the line's end.
+/// on usage, with the line's end; what is said of the file stands below.
 #[derive(Debug, Drop)]
 pub enum Fault {
     /// The words ask for nothing, or for help.
@@ -53,9 +56,19 @@ impl Fault {
 
     /// Writes the fault to `err` and answers the exit status: of the fault, or of the failed write.
     pub fn tell<E: Stream>(&self, err: &mut E) -> u8
-        ensures { Tells self.now (E.failed err.new) (E.contents err.old) (E.contents err.new) result }
+        ensures { Tells self.now (fault_text self.now) (E.failed err.new) (E.contents err.old) (E.contents err.new) result }
     {
         match err.print(self) {
+            Ok(()) => self.status(),
+            Err(e) => Fault::from(e).status(),
+        }
+    }
+
+    /// The same of a fault that was found at a file, of which a line below says what is wrong.
+    pub fn tell_at<E: Stream>(&self, site: &Site, err: &mut E) -> u8
+        ensures { Tells self.now (told_text site.now self.now) (E.failed err.new) (E.contents err.old) (E.contents err.new) result }
+    {
+        match err.print(Told { fault: self, site }) {
             Ok(()) => self.status(),
             Err(e) => Fault::from(e).status(),
         }
@@ -127,7 +140,7 @@ impl From<Failure> for Fault {
     fn from(e: Failure) -> Fault {
         match e {
             Failure::Memory => Fault::Memory,
-            Failure::InputOutput => Fault::InputOutput,
+            Failure::InputOutput(_) => Fault::InputOutput,
         }
     }
 }

@@ -2,9 +2,9 @@
 
 ghost use Rattle.std.specs.Prelude.{◌≡◌, ◌≢◌, ℕ, Bool, true, List, Option, None, Some, IfErr, IfOk, OnErr, OnOk};
 ghost use Rattle.tracer.specs.Files.{up_to};
-ghost use Rattle.tracer.specs.declared.files.Failure.TheVariants.{InputOutput, Memory};
+ghost use Rattle.tracer.specs.declared.files.Failure.TheVariants.{Memory};
 
-use std::alloc::Global;
+use std::alloc::{AllocError, Global};
 use thiserror::Error;
 
 /// Why a file was not read or written, or a stream not written.
@@ -13,7 +13,27 @@ pub enum Failure {
     #[error("out of memory")]
     Memory,
     #[error("input or output")]
-    InputOutput,
+    InputOutput(Reason),
+}
+
+/// Why input or output failed, as far as it is told.
+#[derive(Clone, Copy, Debug, PartialEq, Eq)]
+pub enum Reason {
+    /// Nothing is there, or no folder on the way to it.
+    Missing,
+    /// It isn't allowed.
+    Denied,
+    /// A folder is there.
+    Folder,
+    Other,
+}
+
+impl From<AllocError> for Failure {
+    ghost from_gives = { λ _ e. e ≡ Memory };
+
+    fn from(_e: AllocError) -> Failure {
+        Failure::Memory
+    }
 }
 
 /// Files that can be read, and replaced whole.
@@ -39,7 +59,7 @@ pub trait Files {
             → v.items ≡ up_to limit bytes) }
         ensures same { content self.new ≡ content self.old }
         ensures sound { OnOk result (failed self.new ≡ failed self.old) }
-        ensures fault { IfErr result (λ e. e ≡ InputOutput → failed self.new ≡ true) };
+        ensures fault { IfErr result (λ e. e ≢ Memory → failed self.new ≡ true) };
 
     /// Makes a file of these bytes, or puts them in place of those of the file that is there, which
     /// stays as it is where that fails.
@@ -49,5 +69,5 @@ pub trait Files {
         ensures others { OnOk result ((other : List ℕ) → other ≢ path.now
             → content self.new other ≡ content self.old other) }
         ensures same { OnErr result (content self.new ≡ content self.old) }
-        ensures fault { IfErr result (λ e. e ≡ InputOutput → failed self.new ≡ true) };
+        ensures fault { IfErr result (λ e. e ≢ Memory → failed self.new ≡ true) };
 }

@@ -30,12 +30,14 @@ mod own_input;
 mod pack;
 mod playing;
 mod program;
+mod said;
+mod site;
 mod staging;
 mod stream;
 
 pub use check::Accepted;
 pub use cli::Usage;
 pub use fault::Fault;
-pub use files::{Failure, Files};
+pub use files::{Failure, Files, Reason};
 pub use program::sblog;
 pub use stream::{Stream, Written};

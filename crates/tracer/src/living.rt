@@ -6,6 +6,7 @@ ghost use Rattle.tracer.specs.Program.{IsAnswer, IsFault};
 
 use crate::fault::Fault;
 use crate::files::Files;
+use crate::site::Site;
 use crate::staging::{Staged, stage};
 use runner::live;
 use scenario::Allowed;
@@ -22,6 +23,7 @@ pub fn live_scenario<R: Threads + Wait + Sync, F: Files>(
     workers: u8,
     budget: u32,
     files: &mut F,
+    site: &mut Site,
     text: &mut String,
 ) -> Result<(), Fault>
     requires workers { (1 ≤ workers) × (workers ≤ 16) }
@@ -31,7 +33,7 @@ pub fn live_scenario<R: Threads + Wait + Sync, F: Files>(
     ensures fault { IfErr result (IsFault (F.content files.old) (F.failed files.new) (Live path.now workers budget)) }
     ensures none { OnErr result (string_bytes text.new ≡ []) }
 {
-    let Staged { scenario, images } = stage(alloc, path, Allowed::Inputs, files)?;
+    let Staged { scenario, images } = stage(alloc, path, Allowed::Inputs, files, site)?;
     live(rt, alloc, &scenario, images, workers, budget, text)?;
     Ok(())
 }

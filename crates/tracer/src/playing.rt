@@ -7,6 +7,7 @@ ghost use Rattle.tracer.specs.declared.fault.Fault.TheVariants.{Memory};
 
 use crate::fault::Fault;
 use crate::files::Files;
+use crate::site::Site;
 use crate::staging::{Staged, stage};
 use runner::run;
 use scenario::Allowed;
@@ -18,6 +19,7 @@ pub fn run_scenario<F: Files>(
     alloc: Global,
     path: &str,
     files: &mut F,
+    site: &mut Site,
     text: &mut String,
 ) -> Result<(), Fault>
     requires { string_bytes text.old ≡ [] }
@@ -27,7 +29,7 @@ pub fn run_scenario<F: Files>(
     ensures short { IfErr result (λ f. (string_bytes text.new ≡ [])
         ⊎ ((f ≡ Memory) × IsShort (F.content files.old) (Run path.now) (string_bytes text.new))) }
 {
-    let Staged { scenario, images } = stage(alloc, path, Allowed::All, files)?;
+    let Staged { scenario, images } = stage(alloc, path, Allowed::All, files, site)?;
     run(alloc, &scenario, images, text)?;
     Ok(())
 }

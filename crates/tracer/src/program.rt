@@ -18,6 +18,7 @@ use crate::living::live_scenario;
 use crate::own_input::spare;
 use crate::pack::{CODE_LIMIT, pack};
 use crate::playing::run_scenario;
+use crate::site::Site;
 use crate::stream::Stream;
 use cli::{Request, parse_words};
 use regtypes::ImageForm;
@@ -34,6 +35,7 @@ fn write_image<F: Files>(
     state: u16,
     form: ImageForm,
     files: &mut F,
+    site: &mut Site,
 ) -> Result<(), Fault>
     requires { state ≤ 1024 }
     ensures report { OnOk result (IsAnswer (F.content files.old) (Asm source.now image.now state form) []) }
@@ -43,9 +45,9 @@ fn write_image<F: Files>(
     ensures kept { OnErr result (F.content files.new ≡ F.content files.old) }
 {
     spare(alloc, source, image, files)?;
-    let text = files.read(alloc, source, Some(SOURCE_LIMIT))?;
+    let text = site.read(alloc, source, Some(SOURCE_LIMIT), files)?;
     let bytes = asm(alloc, text.as_slice(), state, form)?;
-    files.write(image, bytes.as_slice())?;
+    site.write(image, bytes.as_slice(), files)?;
     Ok(())
 }
 
@@ -57,6 +59,7 @@ fn write_packed<F: Files>(
     state: u16,
     form: ImageForm,
     files: &mut F,
+    site: &mut Site,
 ) -> Result<(), Fault>
     requires { state ≤ 1024 }
     ensures report { OnOk result (IsAnswer (F.content files.old) (Pack code.now image.now state form) []) }
@@ -66,9 +69,9 @@ fn write_packed<F: Files>(
     ensures kept { OnErr result (F.content files.new ≡ F.content files.old) }
 {
     spare(alloc, code, image, files)?;
-    let words = files.read(alloc, code, Some(CODE_LIMIT))?;
+    let words = site.read(alloc, code, Some(CODE_LIMIT), files)?;
     let bytes = pack(alloc, words.as_slice(), state, form)?;
-    files.write(image, bytes.as_slice())?;
+    site.write(image, bytes.as_slice(), files)?;
     Ok(())
 }
 
@@ -78,6 +81,7 @@ fn answer<R: Threads + Wait + Sync, F: Files>(
     alloc: Global,
     request: Request<'_>,
     files: &mut F,
+    site: &mut Site,
     text: &mut String,
 ) -> Result<(), Fault>
     requires range { IsInRange (order_of request) }
@@ -92,15 +96,15 @@ fn answer<R: Threads + Wait + Sync, F: Files>(
     ensures either { (F.content files.new ≡ F.content files.old) ⊎ (string_bytes text.new ≡ []) }
 {
     match request {
-        Request::Run { scenario } => run_scenario(alloc, scenario, files, text),
+        Request::Run { scenario } => run_scenario(alloc, scenario, files, site, text),
         Request::Live {
             scenario,
             workers,
             budget,
-        } => live_scenario(rt, alloc, scenario, workers, budget, files, text),
-        Request::Draw { scenario, picture } => draw_scenario(alloc, scenario, picture, files),
+        } => live_scenario(rt, alloc, scenario, workers, budget, files, site, text),
+        Request::Draw { scenario, picture } => draw_scenario(alloc, scenario, picture, files, site),
         Request::Check { image } => {
-            let accepted = check(alloc, image, files)?;
+            let accepted = check(alloc, image, files, site)?;
             *text = accepted.to_string(alloc)?;
             Ok(())
         }
@@ -109,9 +113,9 @@ fn answer<R: Threads + Wait + Sync, F: Files>(
             image,
             state,
             form,
-        } => write_image(alloc, source, image, state, form, files),
+        } => write_image(alloc, source, image, state, form, files, site),
         Request::Explain { image } => {
-            *text = explain_image(alloc, image, files)?;
+            *text = explain_image(alloc, image, files, site)?;
             Ok(())
         }
         Request::Pack {
@@ -119,9 +123,9 @@ fn answer<R: Threads + Wait + Sync, F: Files>(
             image,
             state,
             form,
-        } => write_packed(alloc, code, image, state, form, files),
+        } => write_packed(alloc, code, image, state, form, files, site),
         Request::Dis { image } => {
-            *text = dis(alloc, image, files)?;
+            *text = dis(alloc, image, files, site)?;
             Ok(())
         }
     }
@@ -133,6 +137,7 @@ fn carry_out<R: Threads + Wait + Sync, S: AsStr, F: Files>(
     alloc: Global,
     words: &[S],
     files: &mut F,
+    site: &mut Site,
     text: &mut String,
 ) -> Result<(), Fault>
     requires { string_bytes text.old ≡ [] }
@@ -145,7 +150,7 @@ fn carry_out<R: Threads + Wait + Sync, S: AsStr, F: Files>(
     ensures either { (F.content files.new ≡ F.content files.old) ⊎ (string_bytes text.new ≡ []) }
 {
     let request = parse_words(alloc, words)?;
-    answer(rt, alloc, request, files, text)
+    answer(rt, alloc, request, files, site, text)
 }
 
 /// Prints a text, if it is not empty.
@@ -166,7 +171,7 @@ fn show<O: Stream>(text: &str, out: &mut O) -> Result<(), Fault>
 /// 0; 2 for usage; 3 for an image or a text that is refused; 4 for a scenario that is; 5 for want of
 /// memory; 6 for input or output.
 ///
-/// A report goes to `out`, a fault to `err`, as whole lines.
+/// A report goes to `out`, a fault to `err`, as whole lines: that of the fault, and below it what is said of it.
 pub fn sblog<R: Threads + Wait + Sync, S: AsStr, F: Files, O: Stream, E: Stream>(
     rt: &R,
     alloc: Global,
@@ -189,13 +194,14 @@ pub fn sblog<R: Threads + Wait + Sync, S: AsStr, F: Files, O: Stream, E: Stream>
     ensures status { (result ≡ 0) ⊎ ((2 ≤ result) × (result ≤ 6)) }
 {
     let mut text = String::new(alloc);
-    match carry_out(rt, alloc, words, files, &mut text) {
+    let mut site = Site::new(alloc);
+    match carry_out(rt, alloc, words, files, &mut site, &mut text) {
         Ok(()) => match show(text.as_str(), out) {
             Ok(()) => 0,
             Err(fault) => fault.tell(err),
         },
         Err(fault) => match show(text.as_str(), out) {
-            Ok(()) => fault.tell(err),
+            Ok(()) => fault.tell_at(&site, err),
             Err(failure) => failure.tell(err),
         },
     }

@@ -10,6 +10,7 @@ ghost use Rattle.tracer.specs.Stage.{AreLoaded, IsUnstaged};
 use crate::check::load_image;
 use crate::fault::Fault;
 use crate::files::Files;
+use crate::site::Site;
 use indexmap::IndexMap;
 use scenario::{Allowed, Process, Scenario, ScenarioError, mistake_of, parse};
 use std::alloc::{AllocError, Global};
@@ -29,13 +30,14 @@ fn read<F: Files>(
     path: &str,
     allowed: Allowed,
     files: &mut F,
+    site: &mut Site,
 ) -> Result<Scenario, Fault>
     ensures read { IfOk result (IsReadAs (F.content files.old) allowed path.now) }
     ensures same { F.content files.new ≡ F.content files.old }
     ensures fault { IfErr result (FaultOf (F.content files.old) (F.failed files.new) path.now
         (IsUnstaged (F.content files.old) allowed)) }
 {
-    let bytes = files.read(alloc, path, None)?;
+    let bytes = site.read(alloc, path, None, files)?;
     let Ok(text) = str::from_utf8(bytes.as_slice()) else {
         return Err(Fault::InputOutput);
     };
@@ -71,6 +73,7 @@ fn load_images<F: Files>(
     alloc: Global,
     processes: &IndexMap<String, Process>,
     files: &mut F,
+    site: &mut Site,
 ) -> Result<Vec<Arc<Image>>, Fault>
     ensures loaded { IfOk result (λ v. AreLoaded (F.content files.old) processes.now.entries (map arc_value v.items)) }
     ensures same { F.content files.new ≡ F.content files.old }
@@ -78,10 +81,11 @@ fn load_images<F: Files>(
 {
     let mut images = Vec::new(alloc);
     for index in 0..processes.len() {
-        let Some((_name, process)) = processes.get_index(index) else {
+        let Some((name, process)) = processes.get_index(index) else {
             unreachable!();
         };
-        let image = load_image(alloc, process.path.as_str(), files)?;
+        site.enter(alloc, name.as_str())?;
+        let image = load_image(alloc, process.path.as_str(), files, site)?;
         images.push(Arc::new(alloc, image)?)?;
     }
     Ok(images)
@@ -93,13 +97,14 @@ pub fn stage<F: Files>(
     path: &str,
     allowed: Allowed,
     files: &mut F,
+    site: &mut Site,
 ) -> Result<Staged, Fault>
     ensures staged { IfOk result (λ s. IsStagedAs (F.content files.old) allowed path.now s.scenario (map arc_value s.images.items)) }
     ensures same { F.content files.new ≡ F.content files.old }
     ensures fault { IfErr result (FaultOf (F.content files.old) (F.failed files.new) path.now
         (IsUnstaged (F.content files.old) allowed)) }
 {
-    let scenario = read(alloc, path, allowed, files)?;
-    let images = load_images(alloc, &scenario.processes, files)?;
+    let scenario = read(alloc, path, allowed, files, site)?;
+    let images = load_images(alloc, &scenario.processes, files, site)?;
     Ok(Staged { scenario, images })
 }

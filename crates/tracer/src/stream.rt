@@ -3,7 +3,7 @@
 ghost use Rattle.std.specs.Prelude.{◌≡◌, ℕ, Bool, true, List, Option, None, IfSome, OnErr, OnOk};
 ghost use Rattle.std.specs.Io.KnownBytes.{Appends};
 
-use crate::files::Failure;
+use crate::files::{Failure, Reason};
 use std::fmt::Display;
 use std::io;
 use std::io::Write;
@@ -58,10 +58,14 @@ impl<W: Write> Stream for Written<'_, W> {
 impl From<io::Error> for Failure {
     /// Want of memory in a writer is want of memory.
     fn from(e: io::Error) -> Failure {
-        if e.kind() == io::ErrorKind::OutOfMemory {
-            Failure::Memory
-        } else {
-            Failure::InputOutput
+        match e.kind() {
+            io::ErrorKind::OutOfMemory => Failure::Memory,
+            io::ErrorKind::NotFound | io::ErrorKind::NotADirectory => {
+                Failure::InputOutput(Reason::Missing)
+            }
+            io::ErrorKind::PermissionDenied => Failure::InputOutput(Reason::Denied),
+            io::ErrorKind::IsADirectory => Failure::InputOutput(Reason::Folder),
+            _ => Failure::InputOutput(Reason::Other),
         }
     }
 }

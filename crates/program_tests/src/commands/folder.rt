@@ -9,7 +9,7 @@ ghost use Rattle.tracer.specs.declared.files.Failure.TheVariants.{Memory};
 
 use std::alloc::{AllocError, Global};
 use std::collections::BTreeMap;
-use tracer::{Failure, Files};
+use tracer::{Failure, Files, Reason};
 
 /// Files in memory, by their names. No file is made: what isn't there is neither read nor written.
 #[derive(Drop)]
@@ -96,7 +96,7 @@ impl Files for Folder {
             Some(bytes) => some_of(alloc, bytes.as_slice(), limit),
             None => {
                 self.failed = true;
-                Err(Failure::InputOutput)
+                Err(Failure::InputOutput(Reason::Missing))
             }
         }
     }
@@ -104,7 +104,7 @@ impl Files for Folder {
     fn write(&mut self, path: &str, bytes: &[u8]) -> Result<(), Failure> {
         if !self.files.contains_key(path) {
             self.failed = true;
-            return Err(Failure::InputOutput);
+            return Err(Failure::InputOutput(Reason::Missing));
         }
         match put(self.alloc, &mut self.files, path, bytes) {
             Ok(()) => Ok(()),

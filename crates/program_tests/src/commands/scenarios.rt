@@ -190,6 +190,14 @@ fn what_is_shown(rt: HostRuntime) -> Result<(), Fail> {
     Ok(())
 }
 
+/// What is told where nothing is at the path `folder`.
+const NO_FOLDER: &str = "input or output\nfolder: no such file or folder\n";
+
+/// What is told of the image that is cut off.
+const CUT: &str = "load refused 5
+process a, cut.sbi: not as long as its header says: 8 bytes, and 8 for each slot
+";
+
 /// What is told where OUT is a file that is read.
 const OWN_INPUT: &str = "error: OUT is a file that is read\n";
 
@@ -200,8 +208,8 @@ fn pictures(rt: HostRuntime) -> Result<(), Fail> {
     let named = "<text class='name' x='12' y='156'>1 a</text>";
     let cases = [
         ("draw s out", 0, "", [sized, named]),
-        ("draw s folder", 6, "input or output\n", ["old", "old"]),
-        ("draw folder out", 6, "input or output\n", ["old", "old"]),
+        ("draw s folder", 6, NO_FOLDER, ["old", "old"]),
+        ("draw folder out", 6, NO_FOLDER, ["old", "old"]),
         ("draw s s", 2, OWN_INPUT, ["old", "old"]),
         ("draw s adder.sbi", 2, OWN_INPUT, ["old", "old"]),
     ];
@@ -234,7 +242,7 @@ fn pictures(rt: HostRuntime) -> Result<(), Fail> {
 }
 
 /// A line, the scenario, the status, and what is told.
-const REFUSED: [(&str, &[u8], u8, &str); 14] = [
+const REFUSED: [(&str, &[u8], u8, &str); 15] = [
     (
         "run s",
         b"",
@@ -273,21 +281,33 @@ const REFUSED: [(&str, &[u8], u8, &str); 14] = [
         4,
         "scenario refused at line 2\nline 2: no line begins with fly: process, input, bytes, transmit, copy, lose, arrive, finish, checkpoint, trim, crash, recover, alone, replay, resync and drive do\n",
     ),
-    ("run s", b"process a missing.sbi\n", 6, "input or output\n"),
-    ("run s", b"process a cut.sbi\n", 3, "load refused 5\n"),
+    (
+        "run s",
+        b"process a missing.sbi\n",
+        6,
+        "input or output\nprocess a, missing.sbi: no such file or folder\n",
+    ),
+    ("run s", b"process a cut.sbi\n", 3, CUT),
     (
         "run s",
         b"process a cut.sbi\nprocess b missing.sbi\n",
         3,
-        "load refused 5\n",
+        CUT,
+    ),
+    // The process that is named is the first whose image is refused, also where others have the same.
+    (
+        "draw s out",
+        b"process a adder.sbi\nprocess b s\nprocess c s\n",
+        3,
+        "load refused 2\nprocess b, s: not an image file (assembler text? sblog asm writes images)\n",
     ),
     (
         "run s",
         b"process a adder.sbi\n# \xff\n",
         6,
-        "input or output\n",
+        "input or output\ns: not UTF-8, so no text\n",
     ),
-    ("run folder", b"", 6, "input or output\n"),
+    ("run folder", b"", 6, NO_FOLDER),
     (
         "live s --workers 4 --budget 9",
         b"process a missing.sbi\ninput a 1\ncrash a\n",
@@ -298,7 +318,7 @@ const REFUSED: [(&str, &[u8], u8, &str); 14] = [
         "live s --workers 4 --budget 9",
         b"process a cut.sbi\n",
         3,
-        "load refused 5\n",
+        CUT,
     ),
     (
         "draw s out",

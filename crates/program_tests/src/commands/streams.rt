@@ -38,10 +38,17 @@ fn short_and_failing_streams(rt: HostRuntime) -> Result<(), Fail> {
         ("check a", 5, 100, 6, "accep", "input or output\n"),
         ("check a", 0, 100, 6, "", "input or output\n"),
         ("check a", 0, 3, 6, "", "inp"),
-        ("check b", 100, 100, 6, "", "input or output\n"),
+        (
+            "check b",
+            100,
+            100,
+            6,
+            "",
+            "input or output\nb: no such file or folder\n",
+        ),
         ("check b", 100, 0, 6, "", ""),
         ("fly", 100, 7, 6, "", "error: "),
-        ("asm b a --state 8", 0, 100, 6, "", "input or output\n"),
+        ("asm b a --state 8", 0, 20, 6, "", "input or output\nb: n"),
     ];
     for (line, room, space, want, shown, told) in cases {
         let words: Vec<&str> = line.split_whitespace().collect(alloc)?;

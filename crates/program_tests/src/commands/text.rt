@@ -17,6 +17,18 @@ fn folder(alloc: Global, text: &[u8], image: &[u8]) -> Result<Folder, AllocError
 static ADDER_TEXT: &str = "ldxdw r3, [r1+0]\nldxdw r4, [r2+0]\nadd r4, r3\nstxdw [r2+0], r4\n\
     mov r0, 0\nexit\n";
 
+static SLOTS: &str = "load refused 4
+s: an image has 1 to 1,024 slots, and its text at most 1,048,576 bytes
+";
+
+static NO_OPCODE: &str = "decode refused 2 at slot 0
+s: no instruction has this opcode
+";
+
+static NO_FILE: &str = "input or output
+x: no such file or folder
+";
+
 /// Carries out one line, and tests its status and what it shows and leaves at `i`.
 fn ends<R: Threads + Wait + Sync + Abort + AllocGlobal>(
     rt: &R,
@@ -76,18 +88,12 @@ fn packed_code(rt: HostRuntime) -> Result<(), Fail> {
             "--state 8",
             &ADDER[8..55],
             3,
-            "decode refused 1 at slot 0\n",
+            "decode refused 1 at slot 0\ns: the code isn't whole slots, of 8 bytes each\n",
             b"old",
         ),
-        ("--state 8", b"", 3, "load refused 4\n", b"old"),
-        ("--state 8", many.as_slice(), 3, "load refused 4\n", b"old"),
-        (
-            "--state 8",
-            &adder[..8],
-            3,
-            "decode refused 2 at slot 0\n",
-            b"old",
-        ),
+        ("--state 8", b"", 3, SLOTS, b"old"),
+        ("--state 8", many.as_slice(), 3, SLOTS, b"old"),
+        ("--state 8", &adder[..8], 3, NO_OPCODE, b"old"),
     ];
     for (options, text, status, shown, left) in cases {
         let mut files = folder(alloc, text, b"old")?;
@@ -119,15 +125,12 @@ fn long_sources(rt: HostRuntime) -> Result<(), Fail> {
     let exit = b"SBI1\x00\x00\x01\x00\x95\x00\x00\x00\x00\x00\x00\x00".as_slice();
     let mut files = folder(alloc, &text, b"old")?;
     ends(&rt, "asm s i --state 0", &mut files, 0, "", exit)?;
-    let refused = "load refused 4\n";
+    let refused = SLOTS;
     let mut files = folder(alloc, &code, b"old")?;
     ends(&rt, "pack s i --state 0", &mut files, 3, refused, b"old")?;
     code.pop();
-    let (fault, mut files) = (
-        "decode refused 2 at slot 0\n",
-        folder(alloc, &code, b"old")?,
-    );
-    ends(&rt, "pack s i --state 0", &mut files, 3, fault, b"old")?;
+    let mut files = folder(alloc, &code, b"old")?;
+    ends(&rt, "pack s i --state 0", &mut files, 3, NO_OPCODE, b"old")?;
     for (end, told) in [(b"\n".as_slice(), refused), (b"\xff\nfly\n", refused)] {
         let mut longer = text.clone()?;
         longer.extend_from_slice(end)?;
@@ -135,7 +138,7 @@ fn long_sources(rt: HostRuntime) -> Result<(), Fail> {
         ends(&rt, "asm s i --state 0", &mut files, 3, told, b"old")?;
     }
     let (unknown, mut early): (&str, Vec<u8>) = (
-        "asm refused 1 at line 1\n",
+        "asm refused 1 at line 1\ns: no instruction has the line's first word\n",
         Vec::from_slice(alloc, b"fly\n")?,
     );
     early.extend_from_slice(&text)?;
@@ -146,21 +149,33 @@ fn long_sources(rt: HostRuntime) -> Result<(), Fail> {
 #[test]
 fn refused_texts_write_nothing(rt: HostRuntime) -> Result<(), Fail> {
     let cases = [
-        (b"foo\n".as_slice(), 3, "asm refused 1 at line 1\n"),
-        (b"mov r11, 0".as_slice(), 3, "asm refused 2 at line 1\n"),
+        (
+            b"foo\n".as_slice(),
+            3,
+            "asm refused 1 at line 1\ns: no instruction has the line's first word\n",
+        ),
+        (
+            b"mov r11, 0".as_slice(),
+            3,
+            "asm refused 2 at line 1\ns: the operands aren't those of the line's first word\n",
+        ),
         (
             b"mov r0, 2147483648".as_slice(),
             3,
-            "asm refused 3 at line 1\n",
+            "asm refused 3 at line 1\ns: a number is out of its range\n",
         ),
         (
             b"# two\n\nexit\nexit 1\n".as_slice(),
             3,
-            "asm refused 2 at line 4\n",
+            "asm refused 2 at line 4\ns: the operands aren't those of the line's first word\n",
         ),
-        (b"".as_slice(), 3, "load refused 4\n"),
-        (b"# nothing\n\n".as_slice(), 3, "load refused 4\n"),
-        (b"# \xff\nexit\n".as_slice(), 6, "input or output\n"),
+        (b"".as_slice(), 3, SLOTS),
+        (b"# nothing\n\n".as_slice(), 3, SLOTS),
+        (
+            b"# \xff\nexit\n".as_slice(),
+            6,
+            "input or output\ns: not UTF-8, so no text\n",
+        ),
     ];
     for (text, status, shown) in cases {
         let mut files = folder(rt.alloc(), text, b"old")?;
@@ -184,15 +199,17 @@ fn at_most_1024_slots(rt: HostRuntime) -> Result<(), Fail> {
     let mut files = folder(alloc, &text, b"old")?;
     ends(&rt, "asm s i --state 1024", &mut files, 0, "", &file)?;
     let mut files = folder(alloc, &longer, &file)?;
-    let refused = "asm refused 4 at line 1025\n";
+    let refused = "asm refused 4 at line 1025\ns: with this line there are more than 1,024 slots\n";
     ends(&rt, "asm s i --state 0", &mut files, 3, refused, &file)?;
     // Nothing follows the largest image, also behind as many bytes as are read of one.
-    let unset = "verify refused V10 at slot 0\n";
+    let unset = "verify refused V10 at slot 0\ni: sblog explain shows why\n";
     ends(&rt, "check i", &mut files, 3, unset, &file)?;
     for rest in [b"\x95".as_slice(), b"\x00\x00\x00\x00\x00\x00\x00"] {
         file.extend_from_slice(rest)?;
         let mut files = folder(alloc, b"", &file)?;
-        ends(&rt, "check i", &mut files, 3, "load refused 5\n", &file)?;
+        let longer =
+            "load refused 5\ni: not as long as its header says: 8 bytes, and 8 for each slot\n";
+        ends(&rt, "check i", &mut files, 3, longer, &file)?;
     }
     Ok(())
 }
@@ -211,7 +228,7 @@ fn a_thousand_of_the_longest_lines(rt: HostRuntime) -> Result<(), Fail> {
     let mut files = folder(alloc, &text, b"old")?;
     ends(&rt, "asm s i --state 1024", &mut files, 0, "", &file)?;
     ends(&rt, "dis i", &mut files, 0, lines, &file)?;
-    let backward = "verify refused V1 at slot 0\n";
+    let backward = "verify refused V1 at slot 0\ni: sblog explain shows why\n";
     ends(&rt, "check i", &mut files, 3, backward, &file)
 }
 
@@ -220,7 +237,7 @@ fn paths_and_images(rt: HostRuntime) -> Result<(), Fail> {
     let exit = b"SBI1\x08\x00\x01\x00\x95\x00\x00\x00\x00\x00\x00\x00".as_slice();
     let mut files = folder(rt.alloc(), b"exit", exit)?;
     ends(&rt, "dis i", &mut files, 0, "exit\n", exit)?;
-    ends(&rt, "dis x", &mut files, 6, "input or output\n", exit)?;
+    ends(&rt, "dis x", &mut files, 6, NO_FILE, exit)?;
     let own = "error: OUT is a file that is read\n";
     for line in [
         "asm i i --state 8",
@@ -229,23 +246,16 @@ fn paths_and_images(rt: HostRuntime) -> Result<(), Fail> {
     ] {
         ends(&rt, line, &mut files, 2, own, exit)?;
     }
+    ends(&rt, "asm x i --state 8", &mut files, 6, NO_FILE, exit)?;
+    ends(&rt, "asm s x --state 8", &mut files, 6, NO_FILE, exit)?;
     ends(
         &rt,
-        "asm x i --state 8",
+        "dis s",
         &mut files,
-        6,
-        "input or output\n",
+        3,
+        "load refused 1\ns: fewer than the 8 bytes of a header\n",
         exit,
     )?;
-    ends(
-        &rt,
-        "asm s x --state 8",
-        &mut files,
-        6,
-        "input or output\n",
-        exit,
-    )?;
-    ends(&rt, "dis s", &mut files, 3, "load refused 1\n", exit)?;
     let bad_field = b"SBI1\x08\x00\x01\x00\x0f\x34\x00\x00\x01\x00\x00\x00";
     let mut files = folder(rt.alloc(), bad_field, exit)?;
     ends(
@@ -253,7 +263,7 @@ fn paths_and_images(rt: HostRuntime) -> Result<(), Fail> {
         "dis s",
         &mut files,
         3,
-        "decode refused 3 at slot 0\n",
+        "decode refused 3 at slot 0\ns: a field that the instruction doesn't use isn't zero\n",
         exit,
     )
 }

@@ -8,7 +8,7 @@ use Rattle.tracer.proofs.dis.dis.Goals as goal
 pub returns-in_err-code-clause-fault : goal.returns-in_err-code-clause-fault
 returns-in_err-code-clause-fault g c =
     becomes c.from_residual-in_err-code.result _ _ c.from_residual-in_err-code.ensures.1
-    (λ f is. listing_fault (g.F.Files.content c.args.files.now) (g.F.Files.failed c.read.new.self) c.args.path.now c.as_slice.result.now c.in_err-code.field-0.0 f
+    (λ f is. listing_fault (g.F.Files.content c.args.files.now) (g.F.Files.failed c.read.new.files) c.args.path.now c.as_slice.result.now c.in_err-code.field-0.0 f
     (λ known there. c.as_slice.ensures.value ∙ c.in_ok-bytes.ensures.bytes known there) c.in_err-code.ensures.refused is)
 
 pub returns-clause-listing : goal.returns-clause-listing

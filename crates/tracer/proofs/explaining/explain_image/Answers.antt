@@ -7,7 +7,7 @@ use Rattle.tracer.proofs.explaining.explain_image.Goals as goal
 pub returns-in_err-text-clause-fault : goal.returns-in_err-text-clause-fault
 returns-in_err-text-clause-fault g c =
     becomes c.from_residual-in_err-text.result _ _ c.from_residual-in_err-text.ensures.1
-    (λ f is. listing_fault (g.F.Files.content c.args.files.now) (g.F.Files.failed c.read.new.self) c.args.path.now c.as_slice.result.now c.in_err-text.field-0.0 f
+    (λ f is. listing_fault (g.F.Files.content c.args.files.now) (g.F.Files.failed c.read.new.files) c.args.path.now c.as_slice.result.now c.in_err-text.field-0.0 f
     (λ known there. c.as_slice.ensures.value ∙ c.in_ok-bytes.ensures.bytes known there) c.in_err-text.ensures.refused is)
 
 pub returns-clause-listing : goal.returns-clause-listing

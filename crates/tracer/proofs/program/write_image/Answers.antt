@@ -8,21 +8,21 @@ use Rattle.tracer.proofs.program.write_image.Goals as goal
 pub returns-in_err-text-clause-fault : goal.returns-in_err-text-clause-fault
 returns-in_err-text-clause-fault g c =
     becomes c.from_residual-in_err-text.result _ _ c.from_residual-in_err-text.ensures.1
-    (λ f is. inl (plain_fault (g.F.Files.content c.args.files.now) (g.F.Files.failed c.read.new.self) c.args.source.now IsUnassembled f
-    (plain_of (g.F.Files.failed c.read.new.self) c.in_err-text.field-0.0 f c.in_err-text.ensures.fault is)))
+    (λ f is. inl (plain_fault (g.F.Files.content c.args.files.now) (g.F.Files.failed c.read.new.files) c.args.source.now IsUnassembled f
+    (plain_of (g.F.Files.failed c.read.new.files) c.in_err-text.field-0.0 f c.in_err-text.ensures.fault is)))
 
 pub returns-in_err-bytes-clause-fault : goal.returns-in_err-bytes-clause-fault
 returns-in_err-bytes-clause-fault g c =
     becomes c.from_residual-in_err-bytes.result _ _ c.from_residual-in_err-bytes.ensures.1
-    (λ f is. inl (subst (FaultOf (g.F.Files.content c.args.files.now) (g.F.Files.failed c.read.new.self) c.args.source.now IsUnassembled) (sym is)
-    (reading_fault (g.F.Files.content c.args.files.now) (g.F.Files.failed c.read.new.self) c.args.source.now IsUnassembled c.in_err-bytes.field-0.0
+    (λ f is. inl (subst (FaultOf (g.F.Files.content c.args.files.now) (g.F.Files.failed c.read.new.files) c.args.source.now IsUnassembled) (sym is)
+    (reading_fault (g.F.Files.content c.args.files.now) (g.F.Files.failed c.read.new.files) c.args.source.now IsUnassembled c.in_err-bytes.field-0.0
     c.in_err-bytes.ensures.kind (λ known there. c.in_err-bytes.ensures.refused known (c.as_slice.ensures.value ∙ c.in_ok-text.ensures.bytes known there)))))
 
 pub returns-in_err-write-clause-fault : goal.returns-in_err-write-clause-fault
 returns-in_err-write-clause-fault g c =
     becomes c.from_residual-in_err-write.result _ _ c.from_residual-in_err-write.ensures.1
-    (λ f is. inl (plain_fault (g.F.Files.content c.args.files.now) (g.F.Files.failed c.write.new.self) c.args.source.now IsUnassembled f
-    (plain_of (g.F.Files.failed c.write.new.self) c.in_err-write.field-0.0 f c.in_err-write.ensures.fault is)))
+    (λ f is. inl (plain_fault (g.F.Files.content c.args.files.now) (g.F.Files.failed c.write.new.files) c.args.source.now IsUnassembled f
+    (plain_of (g.F.Files.failed c.write.new.files) c.in_err-write.field-0.0 f c.in_err-write.ensures.fault is)))
 
 pub returns-clause-report : goal.returns-clause-report
 returns-clause-report g c = λ known there.

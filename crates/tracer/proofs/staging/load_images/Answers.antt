@@ -14,25 +14,25 @@ returns-in_err-image-clause-fault g c =
     let content = g.F.Files.content c.args.files.now in
     let failed = g.F.Files.failed c.load_image.new.files in
     let es = c.args.processes.now.entries in
-    let at : slice_get es c.loop-index.index ≡ Some (c.in-Some._name.now, c.in-Some.process.now) =
+    let at : slice_get es c.loop-index.index ≡ Some (c.in-Some.name.now, c.in-Some.process.now) =
     sym c.get_index.ensures.entry ∙ ap (option_map deref_pair) c.in-Some.is in
-    becomes c.from_residual.result _ _ c.from_residual.ensures.1
-    (λ f is. images_fault content failed es c.loop-index.index _ (c.in-Some._name.now, c.in-Some.process.now) f at c.loop-index.invariant.0
-    (subst (λ p. LoadFault content failed p f) c.as_str.ensures.value
-    (subst (λ k. LoadFault k failed c.as_str.result.now f) c.loop-index.invariant.1
-    (subst (LoadFault (g.F.Files.content c.loop-index.files) failed c.as_str.result.now) (sym is) c.in_err-image.ensures.fault))))
+    becomes c.from_residual-in_err-image.result _ _ c.from_residual-in_err-image.ensures.1
+    (λ f is. images_fault content failed es c.loop-index.index _ (c.in-Some.name.now, c.in-Some.process.now) f at c.loop-index.invariant.0
+    (subst (λ p. LoadFault content failed p f) c.as_str-in-loop-index.ensures.value
+    (subst (λ k. LoadFault k failed c.as_str-in-loop-index.result.now f) c.loop-index.invariant.1
+    (subst (LoadFault (g.F.Files.content c.loop-index.files) failed c.as_str-in-loop-index.result.now) (sym is) c.in_err-image.ensures.fault))))
 
 pub loop-index-preserved : goal.loop-index-preserved
 loop-index-preserved g c =
     let content = g.F.Files.content c.args.files.now in
     let es = c.args.processes.now.entries in
     let image = c.in_ok-image.image in
-    let at : slice_get es c.loop-index.index ≡ Some (c.in-Some._name.now, c.in-Some.process.now) =
+    let at : slice_get es c.loop-index.index ≡ Some (c.in-Some.name.now, c.in-Some.process.now) =
     sym c.get_index.ensures.entry ∙ ap (option_map deref_pair) c.in-Some.is in
     let loaded : IsLoaded content (string_bytes c.in-Some.process.now.path) image =
-    subst (λ p. IsLoaded content p image) c.as_str.ensures.value
-    (subst (λ k. IsLoaded k c.as_str.result.now image) c.loop-index.invariant.1 c.in_ok-image.ensures.loaded) in (
-      loaded_more content es c.loop-index.index _ _ (c.in-Some._name.now, c.in-Some.process.now) image at c.loop-index.invariant.0 loaded
+    subst (λ p. IsLoaded content p image) c.as_str-in-loop-index.ensures.value
+    (subst (λ k. IsLoaded k c.as_str-in-loop-index.result.now image) c.loop-index.invariant.1 c.in_ok-image.ensures.loaded) in (
+      loaded_more content es c.loop-index.index _ _ (c.in-Some.name.now, c.in-Some.process.now) image at c.loop-index.invariant.0 loaded
           (pushed arc_value c.loop-index.images.items c.push.new.self.items c.in_ok-new.field-0 image c.in_ok-push.ensures.items c.in_ok-new.ensures.ok),
       c.in_ok-image.ensures.same ∙ c.loop-index.invariant.1,
     )
