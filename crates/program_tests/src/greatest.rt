@@ -236,6 +236,31 @@ fn images_of_1_024_slots_are_listed(rt: HostRuntime) -> Result<(), Fail> {
     Ok(())
 }
 
+/// What is said of the last of 1,023 `ja +0` and `exit`: each register but r1, r2 and r10 is unset at each
+/// slot, so that why is looked for back through all of them.
+const NEVER: &str = "1023: exit
+    r0 unset: never set on a way that leads here
+    refused by V10: r0 is to be a number at the end
+    to do: put a number in r0 before exit, as by mov r0, 0
+verify refused V10 at slot 1023
+";
+
+#[test]
+fn a_reason_lies_1_024_slots_back(rt: HostRuntime) -> Result<(), Fail> {
+    let alloc = rt.alloc();
+    let mut file = Vec::from_slice(alloc, &[0x53, 0x42, 0x49, 0x31, 0, 0, 0, 4])?;
+    let mut want = String::from_str(alloc, "form 1, 0 bytes of state\n")?;
+    for slot in 0..1_023u64 {
+        file.extend_from_slice(&[0x05, 0, 0, 0, 0, 0, 0, 0])?;
+        want.push_str(format!(in alloc; "{slot}: ja +0\n")?.as_str())?;
+    }
+    file.extend_from_slice(&[0x95, 0, 0, 0, 0, 0, 0, 0])?;
+    want.push_str(NEVER)?;
+    let text = explain(alloc, &file)?;
+    assert!(rt; text.as_str() == want.as_str());
+    Ok(())
+}
+
 /// The most bytes of a word that Linux hands to a program.
 const WORD_BYTES: u32 = 131_071;
 

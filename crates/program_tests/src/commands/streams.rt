@@ -5,7 +5,7 @@ use super::folder::Folder;
 use std::io;
 use std::io::Write;
 use std::test::Fail;
-use tracer::{Written, sblog};
+use tracer::{Failure, Reason, Written, sblog};
 
 /// A writer that takes two bytes at a time, and fails when it has so many.
 #[derive(Drop)]
@@ -79,6 +79,18 @@ fn short_and_failing_streams(rt: HostRuntime) -> Result<(), Fail> {
             err.bytes.as_slice() == told.as_bytes(),
             "at {line}, {room}, {space}"
         );
+    }
+    Ok(())
+}
+
+#[test]
+fn failures_shown(rt: HostRuntime) -> Result<(), Fail> {
+    let texts = [
+        (Failure::Memory, "out of memory"),
+        (Failure::InputOutput(Reason::Other), "input or output"),
+    ];
+    for (failure, text) in texts {
+        assert_eq!(rt; format!(in rt.alloc(); "{failure}")?.as_str(), text);
     }
     Ok(())
 }
