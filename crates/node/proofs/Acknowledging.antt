@@ -140,6 +140,7 @@ module _ (n : TheNode) (c : Cluster) (q i k : ℕ) (s : Stands n c n.me) (given 
         gates = gates;
         free = free;
         heard = s.heard;
+        resumed = s.resumed;
         out = s.out;
       }
 

@@ -102,6 +102,7 @@ starts n from i ssn x live low other idle incarnation above next room c s given 
         gates = s.gates;
         free = s.free;
         heard = s.heard;
+        resumed = s.resumed;
         out = s.out;
       };
     }

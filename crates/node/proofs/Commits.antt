@@ -245,6 +245,7 @@ module _ (n : TheNode) (c : Cluster) (j : OpenJob) (state : List ℕ) (given : L
             (subst (λ z. IsShut (log_at (given_to (next_number n) given n.logs) d) z (c.released n.me d) (sent_by c.handlers n.me more d)) (sym (length-push (c.history n.me) (job_of j))) (gates-worked d l o));
         free = λ d. subst (λ h. sent_by c.handlers n.me h d (run_to (c.acknowledged n.me) (length h)) ≤ c.released n.me d) (sym history-is) (free-worked d);
         heard = s.heard;
+        resumed = s.resumed;
         out = s.out;
       }
 

@@ -111,6 +111,7 @@ module _ (n : TheNode) (c : Cluster) (r k : ℕ) (s : Stands n c n.me) (low : r 
           gates = gates;
           free = s.free;
           heard = s.heard;
+          resumed = s.resumed;
           out = s.out;
         };
       }

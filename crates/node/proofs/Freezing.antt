@@ -60,6 +60,7 @@ freezes n = by-if (Acts n) (may_freeze n) (record n { frozen = true }) n (λ e. 
             gates = s.gates;
             free = s.free;
             heard = s.heard;
+            resumed = s.resumed;
             out = s.out;
           };
         }
@@ -199,6 +200,7 @@ module _ (n : TheNode) (c : Cluster) (s : Stands n c n.me) (wait : n.frozen ≡ 
           gates = gates;
           free = free;
           heard = s.heard;
+          resumed = s.resumed;
           out = s.out;
         };
       }

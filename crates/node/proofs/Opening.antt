@@ -1,6 +1,6 @@
 -- A node at the opening
 use Rattle.std.proofs.Common.{◌≡◌, ℕ, ◌+◌, ◌≤◌, [], refl, sym, ap, length, subst, arith}
-use Rattle.std.specs.Prelude.{None}
+use Rattle.std.specs.Prelude.{None, true}
 use Rattle.std.proofs.lemmas.List.{get_or-replicate}
 use Rattle.world.specs.Handlers.{Handlers}
 use Rattle.cluster.specs.Cluster.{opening}
@@ -47,5 +47,6 @@ stands-opened me count len f some low begins =
       gates = λ d l o. subst (λ q. IsShut q 0 0 (sent_by f me [] d)) (sym (get_or-replicate (count + 1) d no_queue no_queue (omega (arith, l)))) (record { within = omega arith; waits = λ k m. omega arith });
       free = λ d. (let e : sent_by f me [] d 0 ≡ 0 = ap length (begins.sends_are d) in omega (arith, e));
       heard = λ q l. sym (get_or-replicate (count + 1) q 1 0 (omega (arith, l)));
+      resumed = λ q l. sym (get_or-replicate (count + 1) q true true (omega (arith, l)));
       out = tt;
     }

@@ -59,6 +59,7 @@ stands-posted n c p to x b says s =
       gates = s.gates;
       free = s.free;
       heard = s.heard;
+      resumed = s.resumed;
       out = all-pushed (PutOut c.count (parcel p to b ∷ c.parcels) p) n.out (packet_of n to x)
           (all-more (PutOut c.count c.parcels p) (PutOut c.count (parcel p to b ∷ c.parcels) p) n.out (λ o. put-still c (does c (Puts p to b)) p o refl (λ y i. inr i)) s.out)
           (record { count_is = s.count; from = s.me; said = rw says (inl refl) });

@@ -133,6 +133,7 @@ module _ (n : TheNode) (c : Cluster) (r i ssn k : ℕ) (s : Stands n c n.me) (lo
         gates = gates;
         free = s.free;
         heard = s.heard;
+        resumed = s.resumed;
         out = all-pushed (PutOut c.count c'.parcels n.me) n.out (packet_of n r (packets.Acknowledgement i k))
             (all-more (PutOut c.count c.parcels n.me) (PutOut c.count c'.parcels n.me) n.out (λ o. put-still c c' n.me o refl (λ b z. inr z)) s.out)
             (record { count_is = s.count; from = refl; said = inl refl });

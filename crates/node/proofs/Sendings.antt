@@ -125,6 +125,7 @@ unlocks n to wide c s u =
             (λ apart. s.gates d l o);
         free = s.free;
         heard = s.heard;
+        resumed = s.resumed;
         out = s.out;
       };
     }

@@ -39,6 +39,7 @@ takes-so (Some x) n rest e = (ap (λ xs. record n { out = xs }) e, λ c s. taken
         gates = s.gates;
         free = s.free;
         heard = s.heard;
+        resumed = s.resumed;
         out = out.1;
       },
     )

@@ -18,8 +18,8 @@ OfPeer me count (Some j) = (j.sender ≤ count) × (j.sender ≢ me)
 
 -- its number, and how many processes there are; its incarnation; its state; how many messages its checkpoint covers, and how many of
 -- these are of each sender; what it received behind these; by destination the messages that it keeps; how many of its numbers aren't
--- acknowledged; by peer the greatest incarnation that it heard of; the open job; whether it waits until its checkpoint is durable; the packets
--- to be taken
+-- acknowledged; by peer the greatest incarnation that it heard of, and whether it obeyed the Resume of that one; the open job; whether it
+-- waits until its checkpoint is durable; the packets to be taken
 pub record TheNode : Type 0 where
   pub me : ℕ
   pub count : ℕ
@@ -31,6 +31,7 @@ pub record TheNode : Type 0 where
   pub logs : List TheQueue
   pub waiting : ℕ
   pub heard : List ℕ
+  pub resumed : List Bool
   pub working : Option OpenJob
   pub frozen : Bool
   pub out : List Packet
@@ -41,12 +42,13 @@ log_at logs d = slice_index_or logs d no_queue
 
 -- what the node's own numbers keep, whatever the cluster is: no more than eight messages to each for each that was received; and no job is
 -- open while it is frozen
-pub record IsWithin (me count base : ℕ) (covered heard : List ℕ) (receipts : Received) (logs : List TheQueue) (working : Option OpenJob) (frozen : Bool) (waiting : ℕ) : Type 0 where
+pub record IsWithin (me count base : ℕ) (covered heard : List ℕ) (resumed : List Bool) (receipts : Received) (logs : List TheQueue) (working : Option OpenJob) (frozen : Bool) (waiting : ℕ) : Type 0 where
   pub inside : 1 ≤ me
   pub within : me ≤ count
   pub few : count ≤ 15
   pub wide : length covered ≡ suc count
   pub heard_wide : length heard ≡ suc count
+  pub resumed_wide : length resumed ≡ suc count
   pub logs_wide : length logs ≡ suc count
   pub counts : (q : ℕ) → slice_index_or covered q 0 ≤ base
   pub young : base + length receipts.senders ≤ MOST_RECEIVED
@@ -59,7 +61,7 @@ pub record IsWithin (me count base : ℕ) (covered heard : List ℕ) (receipts :
 
 -- this node's numbers do
 abbrev pub Within : TheNode → Type 0
-Within n = IsWithin n.me n.count n.base n.covered n.heard n.receipts n.logs n.working n.frozen n.waiting
+Within n = IsWithin n.me n.count n.base n.covered n.heard n.resumed n.receipts n.logs n.working n.frozen n.waiting
 
 -- how many messages of a peer its checkpoint covers
 abbrev pub covered_of : ℕ → TheNode → ℕ
@@ -125,6 +127,7 @@ new_node me count len =
       logs = replicate (count + 1) no_queue;
       waiting = 0;
       heard = replicate (count + 1) 1;
+      resumed = replicate (count + 1) true;
       working = None;
       frozen = false;
       out = [];

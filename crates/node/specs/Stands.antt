@@ -121,6 +121,7 @@ pub record Stands (n : TheNode) (c : Cluster) (p : ℕ) : Type 0 where
   -- what the acknowledged numbers let go is released
   pub free : (d : ℕ) → sent_by c.handlers p (c.history p) d (run_to (c.acknowledged p) (length (c.history p))) ≤ c.released p d
   pub heard : (q : ℕ) → q ≤ c.count → c.heard p q ≡ slice_index_or n.heard q 0
+  pub resumed : (q : ℕ) → q ≤ c.count → c.resumed p q ≡ slice_index_or n.resumed q true
   -- what waits to be taken was put out
   pub out : Each (PutOut c.count c.parcels p) n.out
 

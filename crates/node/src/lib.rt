@@ -34,4 +34,5 @@ mod working;
 pub use job::{Given, OpenJob};
 pub use laws::{calls_run, nodes_run, others_stand};
 pub use node::{MOST_GIVEN, MOST_RECEIVED, Node, TICK, WINDOW};
-pub use outbox::OUTBOX;
+pub use outbox::{OUTBOX, Outbox};
+pub use queue::Queue;

@@ -44,6 +44,8 @@ pub struct Node {
     pub(crate) logs: Vec<Queue>,
     /// By peer the greatest incarnation that it heard of.
     pub(crate) heard: Vec<u64>,
+    /// By peer whether it obeyed the Resume of that incarnation.
+    pub(crate) resumed: Vec<bool>,
     pub(crate) working: Option<OpenJob>,
     /// It waits until its checkpoint is durable, and takes, does and sends nothing until then.
     pub(crate) frozen: bool,
@@ -55,9 +57,9 @@ impl Model for Node {
 
     ghost Value = { TheNode };
 
-    ghost view = { λ n. record { me = n.me; count = n.count; life = n.life; state = n.state.items; base = n.base; covered = n.covered.items; receipts = n.receipts; logs = n.logs.items; waiting = n.waiting; heard = n.heard.items; working = n.working; frozen = n.frozen; out = n.out } };
+    ghost view = { λ n. record { me = n.me; count = n.count; life = n.life; state = n.state.items; base = n.base; covered = n.covered.items; receipts = n.receipts; logs = n.logs.items; waiting = n.waiting; heard = n.heard.items; resumed = n.resumed.items; working = n.working; frozen = n.frozen; out = n.out } };
 
-    ghost invariant = { λ n. IsWithin n.me n.count n.base n.covered.items n.heard.items n.receipts n.logs.items n.working n.frozen n.waiting };
+    ghost invariant = { λ n. IsWithin n.me n.count n.base n.covered.items n.heard.items n.resumed.items n.receipts n.logs.items n.working n.frozen n.waiting };
 }
 
 impl Node {
@@ -75,6 +77,8 @@ impl Node {
         covered.resize(wide, 0)?;
         let mut heard = Vec::new(alloc);
         heard.resize(wide, 1)?;
+        let mut resumed = Vec::new(alloc);
+        resumed.resize(wide, true)?;
         let mut logs = Vec::new(alloc);
         for made in 0..wide {
             logs.push(Queue::new(alloc))?;
@@ -92,6 +96,7 @@ impl Node {
             waiting: 0,
             logs,
             heard,
+            resumed,
             working: None,
             frozen: false,
             out,

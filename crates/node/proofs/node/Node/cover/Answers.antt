@@ -23,6 +23,7 @@ invariant_of-self c =
       few = i.few;
       wide = ap length counts ∙ counts-length 0 old.receipts old.covered.items ∙ i.wide;
       heard_wide = i.heard_wide;
+      resumed_wide = i.resumed_wide;
       logs_wide = i.logs_wide;
       counts = λ q. omega (arith, ap (λ ks. slice_index_or ks q 0) counts, counts-within old.base old.covered.items old.receipts q i.counts, many);
       young = omega (arith, none, many, i.young);

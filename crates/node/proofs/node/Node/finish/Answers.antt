@@ -35,6 +35,7 @@ invariant_of-self-2 c =
       few = i.few;
       wide = i.wide;
       heard_wide = i.heard_wide;
+      resumed_wide = i.resumed_wide;
       logs_wide = many ∙ i.logs_wide;
       counts = i.counts;
       young = omega (arith, one, room.1);
