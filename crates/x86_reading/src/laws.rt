@@ -1,0 +1,13 @@
+//! What is read in the bytes of instructions.
+
+ghost use Rattle.x86_reading.specs.Reading.{ReadsBack, TellOne};
+
+/// From the bytes of an instruction the instruction is read, and what stands behind is left.
+pub fn bytes_are_read_back()
+    ensures { ReadsBack }
+{}
+
+/// No bytes begin with those of two instructions.
+pub fn bytes_tell_one_instruction()
+    ensures { TellOne }
+{}
