@@ -46,6 +46,7 @@ received-counted count base covered r h a k some within s =
       before = s.before;
       behind = s.behind;
       joined = s.joined;
+      ordered = s.ordered;
       many = s.many;
       covered_is = s.covered_is;
       senders = s.senders;

@@ -33,7 +33,7 @@ first-part : {X : Type 0} (xs ys : List X) → take (length xs) (xs ++ ys) ≡ x
 first-part [] ys = refl
 first-part (x ∷ xs) ys = ap (λ l. x ∷ l) (first-part xs ys)
 
-covers : (n : TheNode) (c : Cluster) (p q : ℕ) (s : Stands n c p) → q ≤ n.count → 0 < p → slice_index_or n.covered q 0 ≡ covered (seen c) q p
+pub covers : (n : TheNode) (c : Cluster) (p q : ℕ) (s : Stands n c p) → q ≤ n.count → 0 < p → slice_index_or n.covered q 0 ≡ covered (seen c) q p
 covers n c p q s low positive =
     let r = s.received in
     let inner : (p == 0) ≡ false = grind (arith, nat_tests) in

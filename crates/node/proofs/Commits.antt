@@ -64,6 +64,7 @@ received-more count base covered r h a m s next =
       before = s.before;
       behind = s.behind ++ m ∷ [];
       joined = append-append s.before s.behind (m ∷ []) ∙ ap (λ l. l ++ m ∷ []) s.joined;
+      ordered = s.ordered;
       many = s.many;
       covered_is = s.covered_is;
       senders = ap (λ l. l ++ m.sender ∷ []) s.senders ∙ sym (map-push s.behind m);

@@ -6,6 +6,7 @@ use Rattle.std.proofs.lemmas.List.{take_all, get_or_past, append-nil, length-app
 use Rattle.rsn.specs.Receipts.{Received, numbers_of}
 use Rattle.rsn.proofs.ReceiptLemmas.{numbers_from-bound}
 use Rattle.world.specs.declared.message.Message.{Message}
+use Rattle.world.specs.History.{count_of}
 use Rattle.world.specs.Phases.{Up}
 use Rattle.world.specs.Bounds.{count_below}
 use Rattle.world.specs.Logs.{run_to, payloads}
@@ -18,10 +19,11 @@ use Rattle.node.specs.declared.job.OpenJob.{OpenJob}
 use Rattle.node.specs.Node.{TheNode, Within, log_at, covered_of}
 use Rattle.node.specs.Sending.{released}
 use Rattle.node.specs.Saving.{may_freeze, froze, counts_from, thawed, says_covered, says_below, thaws, saved}
-use Rattle.node.specs.Stands.{Stands, HasReceived, IsShut, sent_by, Goes, Acts, phase_of}
+use Rattle.node.specs.Stands.{Stands, HasReceived, IsShut, sent_by, Goes, Acts, phase_of, InOrderFrom}
 use Rattle.node.proofs.Logs.{leading-bound}
 use Rattle.node.proofs.Putting.{stands-takes}
 use Rattle.node.proofs.Steps.{acts-self, acts-then, by-if}
+use Rattle.node.proofs.Numbers.{InOrderFrom-same, InOrderFrom-joined}
 use Rattle.node.proofs.Arrivals.{counted, says-covered}
 use Rattle.node.proofs.Recording.{sent-size}
 use Rattle.node.proofs.Commits.{long}
@@ -150,6 +152,7 @@ module _ (n : TheNode) (c : Cluster) (s : Stands n c n.me) (wait : n.frozen ≡ 
         before = h;
         behind = [];
         joined = append-nil h;
+        ordered = (let r = s.received in subst (InOrderFrom (λ q. 0)) r.joined (InOrderFrom-joined (λ q. 0) r.before r.behind r.ordered (InOrderFrom-same (λ q. count_of q r.before) (λ q. 0 + count_of q r.before) r.behind (λ q. let e : count_of q r.before ≡ 0 + count_of q r.before = omega arith in e) r.in_order)));
         many = many;
         covered_is = λ q l. counts-at 0 q n.receipts n.covered (omega (arith, l, wide)) ∙ ap (λ z. slice_index_or n.covered q 0 + length (numbers_of z n.receipts)) (let e : 0 + q ≡ q = omega arith in e) ∙ counted n c n.me q s l;
         senders = refl;

@@ -8,7 +8,8 @@ use Rattle.theorems.proofs.Tests.{both, neither, not-false}
 use Rattle.packets.specs.declared.packet.Packet.{Packet}
 use Rattle.packets.specs.declared.packet.Body as bodies
 use Rattle.packets.specs.declared.packet.Body.TheVariants as packets
-use Rattle.cluster.specs.Parcels.{Body, Delivery, Number, Acknowledgement, Saved, In, parcel}
+use Rattle.cluster.specs.Parcels.{Body, Delivery, Number, Acknowledgement, Ask, Resume, Saved, In, parcel}
+use Rattle.cluster.specs.Cluster.{Cluster}
 use Rattle.node.specs.declared.node.TheConstants.{WINDOW, MOST_RECEIVED}
 use Rattle.node.specs.declared.job.OpenJob.{OpenJob}
 use Rattle.node.specs.declared.job.Given.{Given}
@@ -16,7 +17,8 @@ use Rattle.node.specs.Queue.{is_kept}
 use Rattle.node.specs.Node.{TheNode, Within, MaySend, OfPeer, log_at, posts, tells, numbered, counted, covered_of}
 use Rattle.node.specs.Sending.{released}
 use Rattle.node.specs.Calls.{delivered, takes_more, recorded_by, acknowledged_by, did_work, told, is_for, handed}
-use Rattle.node.specs.Stands.{Owes, Receives, Handles, IsHanded, body_of}
+use Rattle.node.specs.Says.{WasSaid}
+use Rattle.node.specs.Stands.{Owes, Receives, Handles, IsHanded}
 use Rattle.node.proofs.Views.{none-is}
 use Rattle.node.proofs.Putting.{stays}
 use Rattle.node.proofs.Steps.{owes-then, by-if}
@@ -26,6 +28,7 @@ use Rattle.node.proofs.Acknowledging.{counts}
 use Rattle.node.proofs.Dropping.{drops}
 use Rattle.node.proofs.Sendings.{releasing}
 use Rattle.node.proofs.Commits.{goes-worked}
+use Rattle.node.proofs.Answering.{asks, resumes}
 
 -- a packet that changes nothing
 pub ignores : (given : Body) (from : ℕ) (n : TheNode) → Receives from given n n
@@ -100,15 +103,21 @@ module _ (from life k : ℕ) (n : TheNode) (w : Within n) (live : n.frozen ≡ f
   acknowledges =
       by-if (λ new. Receives from (Acknowledgement life k) n new) (fits && fresh) (released (counted (k - n.base) n)) n (λ e. counts-it (both fits fresh e)) (λ e. ignores (Acknowledgement life k) from n)
 
+-- what a packet to the node says that is no page
+said-me : (c : Cluster) (from to me : ℕ) (b y : Body) → to ≡ me → Some b ≡ Some y → In (parcel from to y) c.parcels → In (parcel from me b) c.parcels
+said-me c from to me b y is e i =
+    let same : y ≡ b = (cc) in
+    subst (λ d. In (parcel from d b) c.parcels) is (subst (λ z. In (parcel from to z) c.parcels) same i)
+
 -- each body
-told-so : (from to : ℕ) (b : bodies.Body) (n : TheNode) → Within n → n.frozen ≡ false → from ≤ n.count → from ≢ n.me → to ≡ n.me → Owes (λ c. (y : Body) → body_of b ≡ Some y → In (parcel from to y) c.parcels) n (told from b n)
-told-so from to (packets.Delivery i ssn x) n w live low other me c s put = delivers-to from i ssn x n live low other c s (subst (λ d. In (parcel from d (Delivery i ssn x)) c.parcels) me (put (Delivery i ssn x) refl))
-told-so from to (packets.Number i ssn k) n w live low other me c s put = records from i ssn k n w live low other c s (subst (λ d. In (parcel from d (Number i ssn k)) c.parcels) me (put (Number i ssn k) refl))
-told-so from to (packets.Acknowledgement i k) n w live low other me c s put = acknowledges from i k n w live c s (subst (λ d. In (parcel from d (Acknowledgement i k)) c.parcels) me (put (Acknowledgement i k) refl))
-told-so from to (packets.Saved k) n w live low other me c s put = drops n from k live low other (omega (arith, w.logs_wide, low)) c s (subst (λ d. In (parcel from d (Saved k)) c.parcels) me (put (Saved k) refl))
-told-so from to (packets.Ask i k) n w live low other me c s put = stays n c s
+told-so : (from to : ℕ) (b : bodies.Body) (n : TheNode) → Within n → n.frozen ≡ false → from ≤ n.count → from ≢ n.me → to ≡ n.me → Owes (λ c. WasSaid c.parcels from to b) n (told from b n)
+told-so from to (packets.Delivery i ssn x) n w live low other me c s put = delivers-to from i ssn x n live low other c s (said-me c from to n.me (Delivery i ssn x) put.0 me put.1 put.2)
+told-so from to (packets.Number i ssn k) n w live low other me c s put = records from i ssn k n w live low other c s (said-me c from to n.me (Number i ssn k) put.0 me put.1 put.2)
+told-so from to (packets.Acknowledgement i k) n w live low other me c s put = acknowledges from i k n w live c s (said-me c from to n.me (Acknowledgement i k) put.0 me put.1 put.2)
+told-so from to (packets.Saved k) n w live low other me c s put = drops n from k live low other (omega (arith, w.logs_wide, low)) c s (said-me c from to n.me (Saved k) put.0 me put.1 put.2)
+told-so from to (packets.Ask i k) n w live low other me c s put = asks n from i k w live low other c s (said-me c from to n.me (Ask i k) put.0 me put.1 put.2)
 told-so from to (packets.Told i j k flags entries) n w live low other me c s put = stays n c s
-told-so from to (packets.Resume i k a) n w live low other me c s put = stays n c s
+told-so from to (packets.Resume i k a) n w live low other me c s put = resumes n from i k a w live low other c s (said-me c from to n.me (Resume i k a) put.0 me put.1 put.2)
 told-so from to (packets.Restored i j k a flags pairs) n w live low other me c s put = stays n c s
 
 -- a packet is handed to a node

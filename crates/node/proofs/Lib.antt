@@ -12,6 +12,10 @@ pub mod Acknowledging
 pub mod Dropping
 pub mod Sendings
 pub mod Opening
+pub mod PageLemmas
+pub mod Telling
+pub mod Restoring
+pub mod Answering
 pub mod Handing
 pub mod Freezing
 pub mod Outside

@@ -25,6 +25,7 @@ stands-opened me count len f some low begins =
         before = [];
         behind = [];
         joined = refl;
+        ordered = tt;
         many = refl;
         covered_is = λ q l. get_or-replicate (count + 1) q 0 0 (omega (arith, l));
         senders = refl;

@@ -36,40 +36,39 @@ outside-self c = record { count = refl; handlers = refl; stage = refl; greeted =
 
 -- what acts of nodes leave of the gateway, besides what they leave of each other
 record Left (c d : Cluster) : Type 0 where
-  resumed : (k : ℕ) → c.resumed 0 k ≡ d.resumed 0 k
   inputs : (k : ℕ) → c.inputs k ≡ d.inputs k
   shown : c.shown ≡ d.shown
 
 left : (c : Cluster) (a : Act) → (0 == actor a) ≡ false → Left c (does c a)
 left c (Input d x) e = absurd (cc)
-left c (Puts q d x) e = record { resumed = λ k. refl; inputs = λ k. refl; shown = refl }
-left c (Starts q d i ssn x) e = record { resumed = λ k. refl; inputs = λ k. refl; shown = refl }
+left c (Puts q d x) e = record { inputs = λ k. refl; shown = refl }
+left c (Starts q d i ssn x) e = record { inputs = λ k. refl; shown = refl }
 left c (Shows q i ssn x) e = absurd (cc)
-left c (Works q m) e = record { resumed = λ k. refl; inputs = λ k. refl; shown = refl }
+left c (Works q m) e = record { inputs = λ k. refl; shown = refl }
 left c (Replays q j) e = by_end (nat_lt (c.saved q + suc j) (length (c.history q)))
   where
     by_end : (b : Bool) → Left c (if b then record c { phase = put c.phase q (Replaying (suc j) false false) } else goes_on c q (peers (seen c) q false))
-    by_end true = record { resumed = λ k. refl; inputs = λ k. refl; shown = refl }
-    by_end false = record { resumed = λ k. refl; inputs = λ k. refl; shown = refl }
-left c (Records r s i ssn k) e = record { resumed = λ k. refl; inputs = λ k. refl; shown = refl }
-left c (Counts s r i k) e = record { resumed = λ k. refl; inputs = λ k. refl; shown = refl }
-left c (Drops d s n) e = record { resumed = λ k. refl; inputs = λ k. refl; shown = refl }
-left c (Hears r q i k) e = record { resumed = λ k. rw e refl; inputs = λ k. refl; shown = refl }
-left c (Collects r q i j k u f) e = record { resumed = λ k. refl; inputs = λ k. refl; shown = refl }
+    by_end true = record { inputs = λ k. refl; shown = refl }
+    by_end false = record { inputs = λ k. refl; shown = refl }
+left c (Records r s i ssn k) e = record { inputs = λ k. refl; shown = refl }
+left c (Counts s r i k) e = record { inputs = λ k. refl; shown = refl }
+left c (Drops d s n) e = record { inputs = λ k. refl; shown = refl }
+left c (Hears r q i k) e = record { inputs = λ k. refl; shown = refl }
+left c (Collects r q i j k u f) e = record { inputs = λ k. refl; shown = refl }
 left c (Recovers q k) e = by_end (nat_lt (c.saved q) k)
   where
     by_end : (b : Bool) → Left c (if b then record (taken_back c q k) { phase = put c.phase q (Replaying 0 false false) } else goes_on (taken_back c q k) q (peers (seen c) q false))
-    by_end true = record { resumed = λ k. rw e refl; inputs = λ k. refl; shown = refl }
-    by_end false = record { resumed = λ k. rw e refl; inputs = λ k. refl; shown = refl }
-left c (Obeys r q i k s) e = record { resumed = λ k. rw e refl; inputs = λ k. refl; shown = refl }
-left c (Enters r q i j n s u f) e = record { resumed = λ k. refl; inputs = λ k. refl; shown = refl }
-left c (Restores r q i j n s f) e = record { resumed = λ k. refl; inputs = λ k. refl; shown = refl }
-left c (Greets q i j n s f) e = record { resumed = λ k. refl; inputs = λ k. refl; shown = refl }
-left c (Freezes q) e = record { resumed = λ k. refl; inputs = λ k. refl; shown = refl }
-left c (Keeps q) e = record { resumed = λ k. refl; inputs = λ k. refl; shown = refl }
-left c (Thaws q) e = record { resumed = λ k. refl; inputs = λ k. refl; shown = refl }
-left c (Dies q) e = record { resumed = λ k. refl; inputs = λ k. refl; shown = refl }
-left c (Opens q n) e = record { resumed = λ k. rw e refl; inputs = λ k. refl; shown = refl }
+    by_end true = record { inputs = λ k. refl; shown = refl }
+    by_end false = record { inputs = λ k. refl; shown = refl }
+left c (Obeys r q i k s) e = record { inputs = λ k. refl; shown = refl }
+left c (Enters r q i j n s u f) e = record { inputs = λ k. refl; shown = refl }
+left c (Restores r q i j n s f) e = record { inputs = λ k. refl; shown = refl }
+left c (Greets q i j n s f) e = record { inputs = λ k. refl; shown = refl }
+left c (Freezes q) e = record { inputs = λ k. refl; shown = refl }
+left c (Keeps q) e = record { inputs = λ k. refl; shown = refl }
+left c (Thaws q) e = record { inputs = λ k. refl; shown = refl }
+left c (Dies q) e = record { inputs = λ k. refl; shown = refl }
+left c (Opens q n) e = record { inputs = λ k. refl; shown = refl }
 
 -- a node acts
 outside-act : (g c : Cluster) (a : Act) → (0 == actor a) ≡ false → SameOutside g c → SameOutside g (does c a)
@@ -87,7 +86,7 @@ outside-act g c a other e =
       trims = λ k. e.trims k ∙ s.trims k;
       numbers = λ k. e.numbers k ∙ s.numbers k;
       heard = λ k. e.heard k ∙ s.heard k;
-      resumed = λ k. e.resumed k ∙ l.resumed k;
+      resumed = λ k. e.resumed k ∙ s.resumed k;
       inputs = λ k. e.inputs k ∙ l.inputs k;
       shown = e.shown ∙ l.shown;
       parcels = λ x i. s.parcels x (e.parcels x i);

@@ -9,7 +9,8 @@ use Rattle.node.specs.declared.job.OpenJob.{OpenJob}
 use Rattle.packets.specs.declared.packet.Body as bodies
 use Rattle.packets.specs.declared.packet.Packet.{Packet}
 use Rattle.node.specs.Node.{TheNode, posts, packet_of}
-use Rattle.node.specs.Stands.{Stands, Goes, PutOut, WasSaid, phase_of, stage_of, body_of, actor}
+use Rattle.node.specs.Says.{Says}
+use Rattle.node.specs.Stands.{Stands, Goes, PutOut, phase_of, stage_of, actor}
 use Rattle.node.proofs.Lists.{all-more, all-pushed}
 
 up-with : (o : Option OpenJob) → is_up (phase_of o) ≡ true
@@ -30,17 +31,12 @@ runs-with false = refl
 pub stands-well : (n : TheNode) (c : Cluster) (p : ℕ) → Stands n c p → is_well c p ≡ true
 stands-well n c p s = rw (s.stage, runs-with n.frozen, s.greeted, is-up n c p s) refl
 
--- what was said is still said when more was put out
-said-still : (c d : Cluster) (p to : ℕ) (b : Option Body) → ((b : Body) → In (parcel p to b) c.parcels → In (parcel p to b) d.parcels) → WasSaid c.parcels p to b → WasSaid d.parcels p to b
-said-still c d p to None more s = s
-said-still c d p to (Some b) more s = more b s
-
 -- a packet that was put out still is among more parcels
 pub put-still : (c d : Cluster) (p : ℕ) (x : Packet) → c.count ≡ d.count → ((b : Body) → In (parcel p x.to b) c.parcels → In (parcel p x.to b) d.parcels) → PutOut c.count c.parcels p x → PutOut d.count d.parcels p x
-put-still c d p x same more s = record { count_is = s.count_is ∙ same; from = s.from; said = said-still c d p x.to (body_of x.body) more s.said }
+put-still c d p x same more s = record { count_is = s.count_is ∙ same; from = s.from; said = (s.said.0, s.said.1, more s.said.0 s.said.2) }
 
 -- it stands in the cluster in which the packet is put out
-pub stands-posted : (n : TheNode) (c : Cluster) (p to : ℕ) (x : bodies.Body) (b : Body) → body_of x ≡ Some b → Stands n c p → Stands (posts to x n) (does c (Puts p to b)) p
+pub stands-posted : (n : TheNode) (c : Cluster) (p to : ℕ) (x : bodies.Body) (b : Body) → Says p x b → Stands n c p → Stands (posts to x n) (does c (Puts p to b)) p
 stands-posted n c p to x b says s =
     record {
       me = s.me;
@@ -62,11 +58,11 @@ stands-posted n c p to x b says s =
       resumed = s.resumed;
       out = all-pushed (PutOut c.count (parcel p to b ∷ c.parcels) p) n.out (packet_of n to x)
           (all-more (PutOut c.count c.parcels p) (PutOut c.count (parcel p to b ∷ c.parcels) p) n.out (λ o. put-still c (does c (Puts p to b)) p o refl (λ y i. inr i)) s.out)
-          (record { count_is = s.count; from = s.me; said = rw says (inl refl) });
+          (record { count_is = s.count; from = s.me; said = (b, says, inl refl) });
     }
 
 -- to put out what the cluster lets it
-pub posted : (n : TheNode) (c : Cluster) (to : ℕ) (x : bodies.Body) (b : Body) → body_of x ≡ Some b → Stands n c n.me → to ≤ n.count → to ≢ n.me → MayPut c n.me to b → Goes n.me (posts to x n) c
+pub posted : (n : TheNode) (c : Cluster) (to : ℕ) (x : bodies.Body) (b : Body) → Says n.me x b → Stands n c n.me → to ≤ n.count → to ≢ n.me → MayPut c n.me to b → Goes n.me (posts to x n) c
 posted n c to x b says s low other may =
     let within : to ≤ c.count = omega (arith, low, s.count) in
     record {

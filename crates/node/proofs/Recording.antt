@@ -10,7 +10,7 @@ use Rattle.world.specs.Logs.{sent, length_of, is_entry}
 use Rattle.theorems.proofs.Changes.{at-itself}
 use Rattle.theorems.proofs.PhaseLemmas.{up-length}
 use Rattle.theorems.proofs.Tests.{both}
-use Rattle.cluster.specs.Parcels.{Number, In, parcel}
+use Rattle.cluster.specs.Parcels.{Number, Acknowledgement, In, parcel}
 use Rattle.cluster.specs.Cluster.{Cluster, seen}
 use Rattle.cluster.specs.Rules.{Act, Records, May, does}
 use Rattle.packets.specs.declared.packet.Body.TheVariants as packets
@@ -136,7 +136,7 @@ module _ (n : TheNode) (c : Cluster) (r i ssn k : ℕ) (s : Stands n c n.me) (lo
         resumed = s.resumed;
         out = all-pushed (PutOut c.count c'.parcels n.me) n.out (packet_of n r (packets.Acknowledgement i k))
             (all-more (PutOut c.count c.parcels n.me) (PutOut c.count c'.parcels n.me) n.out (λ o. put-still c c' n.me o refl (λ b z. inr z)) s.out)
-            (record { count_is = s.count; from = refl; said = inl refl });
+            (record { count_is = s.count; from = refl; said = (Acknowledgement i k, refl, inl refl) });
       }
 
   goes-recorded : Goes n.me (posts r (packets.Acknowledgement i k) (numbered r ssn k n)) c

@@ -1,22 +1,28 @@
 -- Calls of nodes, one after another
-use Rattle.std.proofs.Common.{◌≡◌, inl, inr, ℕ, zero, suc, ◌≤◌, ◌<◌, List, [], ◌∷◌, ◌++◌, refl, sym, ap, ◌∙◌, subst, arith, append_assoc}
-use Rattle.std.specs.Prelude.{Option, Some, None, replicate}
+use Rattle.std.proofs.Common.{◌≡◌, inl, inr, ℕ, zero, suc, ◌≤◌, ◌<◌, List, [], ◌∷◌, ◌++◌, false, refl, sym, ap, ◌∙◌, subst, arith, append_assoc}
+use Rattle.std.specs.Prelude.{Option, Some, None, replicate, ◌==◌}
+use Rattle.std.proofs.lemmas.Bool.Decides.{nat_tests}
 use Rattle.world.specs.declared.message.Message.{Message}
 use Rattle.world.specs.Handlers.{Handlers}
 use Rattle.world.specs.World.{put}
 use Rattle.theorems.specs.Growth.{Grows}
 use Rattle.packets.specs.declared.packet.Packet.{Packet}
+use Rattle.packets.specs.declared.packet.Body as bodies
+use Rattle.packets.specs.declared.packet.Body.TheVariants as packets
 use Rattle.cluster.specs.Parcels.{Body, Parcel, In, parcel}
 use Rattle.cluster.specs.Cluster.{Cluster, opening}
-use Rattle.cluster.specs.Rules.{Act, Input, Puts, Starts, Shows, Works, Replays, Records, Counts, Drops, Hears, Collects, Recovers, Obeys, Enters, Restores, Greets, Freezes, Keeps, Thaws, Dies, Opens, Run, after_run}
+use Rattle.cluster.specs.Rules.{Act, Input, Puts, Starts, Shows, Works, Replays, Records, Counts, Drops, Hears, Collects, Recovers, Obeys, Enters, Restores, Greets, Freezes, Keeps, Thaws, Dies, Opens, does, Run, after_run}
 use Rattle.cluster.proofs.Settings.{does-count, does-handlers}
 use Rattle.cluster.proofs.Runs.{run-handlers}
 use Rattle.cluster.proofs.Promised.{nodes-keep}
 use Rattle.node.specs.Node.{TheNode}
-use Rattle.node.specs.Stands.{Stands, Goes, PutOut, WasSaid, Acts, Handles, Answers, actor, body_of, job_of, payloads_to}
+use Rattle.node.specs.Says.{body_of, WasSaid}
+use Rattle.node.specs.Stands.{Each, Stands, Goes, PutOut, Acts, Handles, Answers, actor, job_of, payloads_to}
 use Rattle.node.specs.Beside.{AllStand}
-use Rattle.node.specs.Runs.{Answer, Answering, state_from, sends_from, handlers_of, System, new_system, Call, Gave, Handed, Worked, Ticked, Froze, Thawed, Acted, IsGateway, IsAnswer, DoesIt, with_said, after_call, Calls, after_calls, CallsRun}
-use Rattle.node.proofs.Beside.{all-stand, stands-still}
+use Rattle.node.specs.Runs.{Answer, Answering, state_from, sends_from, handlers_of, System, new_system, Call, Gave, Handed, Worked, Ticked, Froze, Thawed, Acted, IsOne, CameFrom, IsGateway, IsAnswer, DoesIt, with_said, after_call, Calls, after_calls, CallsRun}
+use Rattle.node.proofs.Lists.{all-more}
+use Rattle.node.proofs.Putting.{put-still}
+use Rattle.node.proofs.Beside.{same, all-stand, stands-still, count-after}
 use Rattle.node.proofs.Opening.{stands-opened}
 use Rattle.node.proofs.Steps.{run-on, owes-at}
 use Rattle.node.proofs.Outside.{SameOutside, outside-self, outside-still, may-too, outside-too}
@@ -40,11 +46,30 @@ sends-more f p s (x ∷ h) m d =
 grows : (f : Answering) (len : ℕ → ℕ) → Grows (handlers_of f len)
 grows f len p h m d = (payloads_to d (f p (state_from f p (replicate (len p) 0) h) m).given, sym (sends-more f p (replicate (len p) 0) h m d))
 
--- a cluster in which all nodes of a system stand, and whose gateway has what that of the system has
+-- a cluster in which all nodes of a system stand, whose gateway has what that of the system has, and in which was put out what was given
 record Holds (f : Handlers) (s : System) (c : Cluster) : Type 0 where
   stand : AllStand s.nodes c
   outside : SameOutside s.outside c
+  given : Each (λ (x : Packet). PutOut c.count c.parcels x.from x) s.given
   handlers : c.handlers ≡ f
+
+-- nothing that was put out is taken back
+parcels-stay : (c : Cluster) (acts : List Act) (x : Parcel) → In x c.parcels → In x (after_run c acts).parcels
+parcels-stay c [] x i = i
+parcels-stay c (a ∷ acts) x i =
+    let apart : (suc (actor a) == actor a) ≡ false = grind (arith, nat_tests) in
+    parcels-stay (does c a) acts x ((same c a (suc (actor a)) apart).parcels x i)
+
+given-still : (c : Cluster) (acts : List Act) (xs : List Packet) → Each (λ (x : Packet). PutOut c.count c.parcels x.from x) xs → Each (λ (x : Packet). PutOut (after_run c acts).count (after_run c acts).parcels x.from x) xs
+given-still c acts xs h =
+    all-more (λ (x : Packet). PutOut c.count c.parcels x.from x) (λ (x : Packet). PutOut (after_run c acts).count (after_run c acts).parcels x.from x) xs
+    (λ x o. put-still c (after_run c acts) x.from x (sym (count-after c acts)) (λ b i. parcels-stay c acts (parcel x.from x.to b) i) o) h
+
+-- one of them was
+one-was : (P : Packet → Type 0) (x : Packet) (xs : List Packet) → Each P xs → IsOne x xs → P x
+one-was P x [] h i = absurd i
+one-was P x (y ∷ xs) h (inl e) = subst P (sym e) h.0
+one-was P x (y ∷ xs) h (inr i) = one-was P x xs h.1 i
 
 -- the cluster runs on to one that does
 record Onward (f : Handlers) (c : Cluster) (s : System) : Type 0 where
@@ -61,6 +86,7 @@ node-goes f s c p new some h g =
       holds = record {
         stand = all-stand s.nodes c p new h.stand g;
         outside = outside-still s.outside c p g.acts some g.by h.outside;
+        given = given-still c g.acts s.given h.given;
         handlers = run-handlers c g.acts ∙ h.handlers;
       };
     }
@@ -69,16 +95,26 @@ node-goes f s c p new some h g =
 stands-at : (f : Handlers) (s : System) (c : Cluster) (p : ℕ) → 0 < p → p ≤ s.outside.count → Holds f s c → Stands (s.nodes p) c p
 stands-at f s c p some low h = h.stand p some (subst (λ k. p ≤ k) h.outside.count low)
 
-said-in : (ps qs : List Parcel) (p d : ℕ) (o : Option Body) (b : Body) → ((x : Parcel) → In x ps → In x qs) → WasSaid ps p d o → o ≡ Some b → In (parcel p d b) qs
-said-in ps qs p d None b more w e = absurd w
-said-in ps qs p d (Some y) b more w e =
-    let same : y ≡ b = (cc) in
-    more (parcel p d b) (subst (λ z. In (parcel p d z) ps) same w)
+-- a packet that is no page says one thing
+said-of : (ps : List Parcel) (p d : ℕ) (body : bodies.Body) (b : Body) → body_of body ≡ Some b → WasSaid ps p d body → In (parcel p d b) ps
+said-of ps p d (packets.Told i j k flags entries) b e w = absurd (cc)
+said-of ps p d (packets.Restored i j n s flags pairs) b e w = absurd (cc)
+said-of ps p d (packets.Delivery i ssn x) b e w = let same : w.0 ≡ b = cc (w.1) in subst (λ z. In (parcel p d z) ps) same w.2
+said-of ps p d (packets.Number i ssn k) b e w = let same : w.0 ≡ b = cc (w.1) in subst (λ z. In (parcel p d z) ps) same w.2
+said-of ps p d (packets.Acknowledgement i k) b e w = let same : w.0 ≡ b = cc (w.1) in subst (λ z. In (parcel p d z) ps) same w.2
+said-of ps p d (packets.Ask i k) b e w = let same : w.0 ≡ b = cc (w.1) in subst (λ z. In (parcel p d z) ps) same w.2
+said-of ps p d (packets.Resume i k s) b e w = let same : w.0 ≡ b = cc (w.1) in subst (λ z. In (parcel p d z) ps) same w.2
+said-of ps p d (packets.Saved n) b e w = let same : w.0 ≡ b = cc (w.1) in subst (λ z. In (parcel p d z) ps) same w.2
 
-said-here : (ps qs : List Parcel) (x : Packet) (o : Option Body) → ((y : Parcel) → In y ps → In y qs) → WasSaid qs x.from x.to o → (y : Parcel) → In y (with_said x o ps) → In y qs
-said-here ps qs x None more w y i = more y i
-said-here ps qs x (Some b) more w y (inl e) = subst (λ z. In z qs) (sym e) w
-said-here ps qs x (Some b) more w y (inr i) = more y i
+said-here : (ps qs : List Parcel) (x : Packet) (o : Option Body) → body_of x.body ≡ o → ((y : Parcel) → In y ps → In y qs) → WasSaid qs x.from x.to x.body → (y : Parcel) → In y (with_said x o ps) → In y qs
+said-here ps qs x None is more w y i = more y i
+said-here ps qs x (Some b) is more w y (inl e) = subst (λ z. In z qs) (sym e) (said-of qs x.from x.to x.body b is w)
+said-here ps qs x (Some b) is more w y (inr i) = more y i
+
+-- where a packet came from, it was put out
+put-out : (f : Handlers) (s : System) (c : Cluster) (x : Packet) → Holds f s c → CameFrom s x → PutOut c.count c.parcels x.from x
+put-out f s c x h (inl i) = one-was (λ (y : Packet). PutOut c.count c.parcels y.from y) x s.given h.given i
+put-out f s c x h (inr o) = put-still s.outside c x.from x h.outside.count (λ b i. h.outside.parcels (parcel x.from x.to b) i) o
 
 -- the handler's answer is what the cluster's handlers say
 answers : (f : Answering) (len : ℕ → ℕ) (n : TheNode) (c : Cluster) (p : ℕ) (a : Answer) → c.handlers ≡ handlers_of f len → Stands n c p → IsAnswer f p n a → Handles a.state a.given n c
@@ -134,7 +170,7 @@ call-goes f len s c (Gave p x new) h m =
     let at : Stands (s.nodes p) c p = stands-at (handlers_of f len) s c p m.0 m.1 h in
     let me : (s.nodes p).me ≡ p = at.me in
     let took : PutOut c.count c.parcels p x × Stands new c p = subst (λ k. PutOut c.count c.parcels k x × Stands new c k) me (m.2.1 c (subst (Stands (s.nodes p) c) (sym me) at)) in
-    let said : WasSaid c.parcels x.from x.to (body_of x.body) = subst (λ k. WasSaid c.parcels k x.to (body_of x.body)) (sym took.0.from) took.0.said in
+    let put : PutOut c.count c.parcels x.from x = subst (λ k. PutOut c.count c.parcels k x) (sym took.0.from) took.0 in
     let o = h.outside in
     record {
       acts = [];
@@ -155,16 +191,16 @@ call-goes f len s c (Gave p x new) h m =
           resumed = o.resumed;
           inputs = o.inputs;
           shown = o.shown;
-          parcels = said-here s.outside.parcels c.parcels x (body_of x.body) o.parcels said;
+          parcels = said-here s.outside.parcels c.parcels x (body_of x.body) refl o.parcels put.said;
         };
+        given = (put, h.given);
         handlers = h.handlers;
       };
     }
 call-goes f len s c (Handed p x new) h m =
     let at : Stands (s.nodes p) c p = stands-at (handlers_of f len) s c p m.0 m.1 h in
     node-goes (handlers_of f len) s c p new m.0 h
-    (owes-at (λ d. (b : Body) → body_of x.body ≡ Some b → In (parcel x.from x.to b) d.parcels) (s.nodes p) new c p m.3 at
-    (λ b e. said-in s.outside.parcels c.parcels x.from x.to (body_of x.body) b h.outside.parcels m.2.said e))
+    (owes-at (λ d. WasSaid d.parcels x.from x.to x.body) (s.nodes p) new c p m.3 at (put-out (handlers_of f len) s c x h m.2).said)
 call-goes f len s c (Worked p a new) h m =
     let at : Stands (s.nodes p) c p = stands-at (handlers_of f len) s c p m.0 m.1 h in
     node-goes (handlers_of f len) s c p new m.0 h (owes-at (Handles a.state a.given (s.nodes p)) (s.nodes p) new c p m.3 at (answers f len (s.nodes p) c p a h.handlers at m.2))
@@ -178,6 +214,7 @@ call-goes f len s c (Acted a) h m =
       holds = record {
         stand = λ q some low. stands-still (s.nodes q) q 0 (a ∷ []) c (λ e. absurd (omega (arith, some, e))) (of-gateway a m.0, tt) (h.stand q some (subst (λ k. q ≤ k) (does-count c a) low));
         outside = outside-too s.outside c h.outside a m.0;
+        given = given-still c (a ∷ []) s.given h.given;
         handlers = does-handlers c a ∙ h.handlers;
       };
     }
@@ -198,7 +235,7 @@ pub calls-run : CallsRun
 calls-run f n len calls few m =
     let g : Handlers = handlers_of f len in
     let s : System = new_system n len g in
-    let begins : Holds g s (opening n g) = record { stand = λ p some low. stands-opened p n (len p) g some low (record { state_is = refl; sends_are = λ d. refl }); outside = outside-self (opening n g); handlers = refl } in
+    let begins : Holds g s (opening n g) = record { stand = λ p some low. stands-opened p n (len p) g some low (record { state_is = refl; sends_are = λ d. refl }); outside = outside-self (opening n g); given = tt; handlers = refl } in
     let all = calls-go f len s (opening n g) calls begins m in
     let keeps = nodes-keep n g all.acts few (grows f len) all.run in
     record {

@@ -131,7 +131,7 @@ unlocks n to wide c s u =
     }
 
 -- Messages
-get-some : (xs : List Payload) (k : ℕ) → k < length xs → slice_get xs k ≡ Some (slice_index_or xs k [])
+pub get-some : (xs : List Payload) (k : ℕ) → k < length xs → slice_get xs k ≡ Some (slice_index_or xs k [])
 get-some [] k l = absurd (omega arith)
 get-some (x ∷ xs) zero l = refl
 get-some (x ∷ xs) (suc k) l = get-some xs k (omega arith)

@@ -3,7 +3,7 @@ use Rattle.std.specs.Prelude.{ℕ, ◌+◌, ◌-◌, List, length, Option, Some,
 use Rattle.rsn.specs.Receipts.{numbers_of}
 use Rattle.rsn.specs.declared.receipts.TheConstants.{LIMIT}
 use Rattle.packets.specs.declared.packet.Body.{Body}
-use Rattle.packets.specs.declared.packet.Body.TheVariants.{Delivery, Number, Acknowledgement, Saved}
+use Rattle.packets.specs.declared.packet.Body.TheVariants.{Delivery, Number, Acknowledgement, Ask, Resume, Saved}
 use Rattle.packets.specs.declared.packet.Packet.{Packet}
 use Rattle.node.specs.declared.node.TheConstants.{WINDOW, MOST_RECEIVED}
 use Rattle.node.specs.declared.job.OpenJob.{OpenJob}
@@ -11,6 +11,7 @@ use Rattle.node.specs.declared.job.Given.{Given}
 use Rattle.node.specs.Queue.{is_kept, dropped_to}
 use Rattle.node.specs.Node.{TheNode, log_at, posts, worked, number_of, numbered, counted, tells, covered_of}
 use Rattle.node.specs.Sending.{released}
+use Rattle.node.specs.Asking.{asked_by, resumed_by}
 
 -- whether there is room for one message more
 abbrev pub takes_more : TheNode → Bool
@@ -55,6 +56,8 @@ told from (Delivery i ssn x) n = delivered from i ssn x n
 told from (Number i ssn k) n = recorded_by from i ssn k n
 told from (Acknowledgement i k) n = acknowledged_by i k n
 told from (Saved k) n = dropped_by from k n
+told from (Ask i k) n = asked_by from i k n
+told from (Resume i k s) n = resumed_by from i k s n
 told from body n = n
 
 -- a packet is of another node of this cluster to this one, which takes what arrives

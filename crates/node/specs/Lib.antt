@@ -3,7 +3,10 @@ pub mod Outbox
 pub mod Node
 pub mod Sending
 pub mod Saving
+pub mod Pages
+pub mod Asking
 pub mod Calls
+pub mod Says
 pub mod Stands
 pub mod Beside
 pub mod Runs

@@ -18,8 +18,8 @@ OfPeer me count (Some j) = (j.sender ≤ count) × (j.sender ≢ me)
 
 -- its number, and how many processes there are; its incarnation; its state; how many messages its checkpoint covers, and how many of
 -- these are of each sender; what it received behind these; by destination the messages that it keeps; how many of its numbers aren't
--- acknowledged; by peer the greatest incarnation that it heard of, and whether it obeyed the Resume of that one; the open job; whether it
--- waits until its checkpoint is durable; the packets to be taken
+-- acknowledged; by peer the greatest incarnation that it heard of, and whether it obeyed the Resume of that one; whether failures came one
+-- at a time, as far as it knows; the open job; whether it waits until its checkpoint is durable; the packets to be taken
 pub record TheNode : Type 0 where
   pub me : ℕ
   pub count : ℕ
@@ -32,6 +32,7 @@ pub record TheNode : Type 0 where
   pub waiting : ℕ
   pub heard : List ℕ
   pub resumed : List Bool
+  pub exact : Bool
   pub working : Option OpenJob
   pub frozen : Bool
   pub out : List Packet
@@ -128,6 +129,7 @@ new_node me count len =
       waiting = 0;
       heard = replicate (count + 1) 1;
       resumed = replicate (count + 1) true;
+      exact = true;
       working = None;
       frozen = false;
       out = [];

@@ -1,5 +1,5 @@
 -- Calls of nodes, one after another, with a gateway beside them
-use Rattle.std.specs.Prelude.{◌≡◌, ℕ, zero, ◌<◌, ◌≤◌, List, [], ◌∷◌, ◌++◌, Option, Some, None, replicate}
+use Rattle.std.specs.Prelude.{◌≡◌, ◌⊎◌, ℕ, zero, ◌<◌, ◌≤◌, List, [], ◌∷◌, ◌++◌, Option, Some, None, replicate}
 use Rattle.world.specs.declared.message.Message.{Message}
 use Rattle.world.specs.History.{Payload}
 use Rattle.world.specs.Handlers.{Handlers}
@@ -12,7 +12,8 @@ use Rattle.cluster.specs.Promises.{NoOrphanNode, OutputOnce, ReceivedOnce}
 use Rattle.node.specs.declared.job.OpenJob.{OpenJob}
 use Rattle.node.specs.declared.job.Given.{Given}
 use Rattle.node.specs.Node.{TheNode, new_node}
-use Rattle.node.specs.Stands.{PutOut, Owes, Acts, Handles, Takes, IsHanded, body_of, job_of, payloads_to}
+use Rattle.node.specs.Stands.{PutOut, Owes, Acts, Handles, Takes, IsHanded, job_of, payloads_to}
+use Rattle.node.specs.Says.{body_of}
 use Rattle.node.specs.Beside.{AllStand}
 
 -- the state that a handler leaves, and the messages that it gives
@@ -38,14 +39,16 @@ sends_from f p s (m ∷ h) d = payloads_to d (f p s m).given ++ sends_from f p (
 abbrev pub handlers_of : Answering → (ℕ → ℕ) → Handlers
 handlers_of f len = record { state = λ p h. state_from f p (replicate (len p) 0) h; sends = λ p h d. sends_from f p (replicate (len p) 0) h d }
 
--- the nodes by number; and a cluster as the gateway sees it: of itself it has all, of the others what they gave it or each other
+-- the nodes by number; a cluster as the gateway sees it: of itself it has all, of the others what they gave it or each other; and the
+-- packets that they gave
 pub record System : Type 0 where
   pub nodes : ℕ → TheNode
   pub outside : Cluster
+  pub given : List Packet
 
 -- n new nodes, and a gateway
 abbrev pub new_system : ℕ → (ℕ → ℕ) → Handlers → System
-new_system n len f = record { nodes = λ p. new_node p n (len p); outside = opening n f }
+new_system n len f = record { nodes = λ p. new_node p n (len p); outside = opening n f; given = [] }
 
 -- a call of a node that isn't refused, and what the node is then; or an act of the gateway
 pub data Call : Type 0 where
@@ -80,24 +83,33 @@ IsGateway act = ⊥
 abbrev pub IsAnswer : Answering → ℕ → TheNode → Answer → Type 0
 IsAnswer f p n a = (j : OpenJob) → n.working ≡ Some j → a ≡ f p n.state (job_of j)
 
+-- a packet is one of these
+abbrev pub IsOne : Packet → List Packet → Type 0
+IsOne x [] = ⊥
+IsOne x (y ∷ ys) = (x ≡ y) ⊎ IsOne x ys
+
+-- a packet came from somewhere: a node gave it, or the gateway put it out
+abbrev pub CameFrom : System → Packet → Type 0
+CameFrom s x = IsOne x s.given ⊎ PutOut s.outside.count s.outside.parcels x.from x
+
 -- each call does what the contract of its function says: `take`; `receive`, handed a packet that a node or the gateway put out, whenever,
 -- or again; `work`, with the handler's answer; `tick`; `checkpoint`; and `saved`. The gateway does what it may by what it sees
 abbrev pub DoesIt : Answering → System → Call → Type 0
 DoesIt f s (Gave p x new) = (0 < p) × (p ≤ s.outside.count) × Takes (Some x) (s.nodes p) new
-DoesIt f s (Handed p x new) = (0 < p) × (p ≤ s.outside.count) × PutOut s.outside.count s.outside.parcels x.from x × IsHanded x (s.nodes p) new
+DoesIt f s (Handed p x new) = (0 < p) × (p ≤ s.outside.count) × CameFrom s x × IsHanded x (s.nodes p) new
 DoesIt f s (Worked p a new) = (0 < p) × (p ≤ s.outside.count) × IsAnswer f p (s.nodes p) a × Owes (Handles a.state a.given (s.nodes p)) (s.nodes p) new
 DoesIt f s (Ticked p new) = (0 < p) × (p ≤ s.outside.count) × Acts (s.nodes p) new
 DoesIt f s (Froze p new) = (0 < p) × (p ≤ s.outside.count) × Acts (s.nodes p) new
 DoesIt f s (Thawed p new) = (0 < p) × (p ≤ s.outside.count) × Acts (s.nodes p) new
 DoesIt f s (Acted act) = IsGateway act × May s.outside act
 
--- what a packet says is among the parcels
+-- what a packet says is among the parcels that the gateway may take: none of these is a page
 abbrev pub with_said : Packet → Option Body → List Parcel → List Parcel
 with_said x None ps = ps
 with_said x (Some b) ps = parcel x.from x.to b ∷ ps
 
 abbrev pub after_call : System → Call → System
-after_call s (Gave p x new) = record { nodes = put s.nodes p new; outside = record s.outside { parcels = with_said x (body_of x.body) s.outside.parcels } }
+after_call s (Gave p x new) = record { nodes = put s.nodes p new; outside = record s.outside { parcels = with_said x (body_of x.body) s.outside.parcels }; given = x ∷ s.given }
 after_call s (Handed p x new) = record s { nodes = put s.nodes p new }
 after_call s (Worked p a new) = record s { nodes = put s.nodes p new }
 after_call s (Ticked p new) = record s { nodes = put s.nodes p new }

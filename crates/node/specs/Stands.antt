@@ -7,43 +7,26 @@ use Rattle.world.specs.Phases.{Phase, Up, Busy}
 use Rattle.world.specs.Handlers.{Handlers}
 use Rattle.world.specs.World.{put}
 use Rattle.world.specs.Logs.{run_to}
-use Rattle.cluster.specs.Parcels.{Body, Delivery, Number, Acknowledgement, Ask, Resume, Saved, Parcel, parcel, In}
+use Rattle.cluster.specs.Parcels.{Body, Parcel, parcel, In}
 use Rattle.cluster.specs.Cluster.{Cluster, Stage, Live, Frozen, waiting}
 use Rattle.cluster.specs.Rules.{Act, Input, Puts, Starts, Shows, Works, Replays, Records, Counts, Drops, Hears, Collects, Recovers, Obeys, Enters, Restores, Greets, Freezes, Keeps, Thaws, Dies, Opens, Run, after_run, IsNode, message}
-use Rattle.packets.specs.declared.packet.Body as bodies
-use Rattle.packets.specs.declared.packet.Body.TheVariants as packets
 use Rattle.packets.specs.declared.packet.Packet.{Packet}
 use Rattle.node.specs.declared.job.OpenJob.{OpenJob}
 use Rattle.node.specs.declared.job.Given.{Given}
 use Rattle.node.specs.Queue.{TheQueue, leading}
 use Rattle.node.specs.Node.{TheNode, log_at}
+use Rattle.node.specs.Says.{WasSaid}
 
 -- it holds of each
 abbrev pub Each : {X : Type 0} → (X → Type 0) → List X → Type 0
 Each P [] = Unit {0}
 Each P (x ∷ xs) = P x × Each P xs
 
--- what a packet says; of the pages of a node that comes back nothing is said yet
-abbrev pub body_of : bodies.Body → Option Body
-body_of (packets.Delivery i ssn x) = Some (Delivery i ssn x)
-body_of (packets.Number i ssn k) = Some (Number i ssn k)
-body_of (packets.Acknowledgement i k) = Some (Acknowledgement i k)
-body_of (packets.Ask i k) = Some (Ask i k)
-body_of (packets.Told i j k flags entries) = None
-body_of (packets.Resume i k s) = Some (Resume i k s)
-body_of (packets.Restored i j n s flags pairs) = None
-body_of (packets.Saved n) = Some (Saved n)
-
--- this was put out from p to d, where these parcels were
-abbrev pub WasSaid : List Parcel → ℕ → ℕ → Option Body → Type 0
-WasSaid parcels p d None = ⊥
-WasSaid parcels p d (Some b) = In (parcel p d b) parcels
-
 -- the packet is of the process p of so many, and was put out
 pub record PutOut (count : ℕ) (parcels : List Parcel) (p : ℕ) (x : Packet) : Type 0 where
   pub count_is : x.count ≡ count
   pub from : x.from ≡ p
-  pub said : WasSaid parcels p x.to (body_of x.body)
+  pub said : WasSaid parcels p x.to x.body
 
 -- the message of a job
 abbrev pub job_of : OpenJob → Message
@@ -69,11 +52,13 @@ abbrev pub IsNextAfter : List Message → Option OpenJob → Type 0
 IsNextAfter h None = Unit {0}
 IsNextAfter h (Some j) = j.ssn ≡ suc (count_of j.sender h)
 
--- of a history the first messages, as many as base, are known by their count of each sender, and those behind by their senders
+-- of a history, each message of which is the next of its sender, the first messages, as many as base, are known by their count of each
+-- sender, and those behind by their senders
 pub record HasReceived (count base : ℕ) (covered : List ℕ) (receipts : Received) (history : List Message) (acknowledged : ℕ → Bool) : Type 0 where
   pub before : List Message
   pub behind : List Message
   pub joined : before ++ behind ≡ history
+  pub ordered : InOrderFrom (λ q. 0) before
   pub many : length before ≡ base
   pub covered_is : (q : ℕ) → q ≤ count → slice_index_or covered q 0 ≡ count_of q before
   pub senders : receipts.senders ≡ map (λ (m : Message). m.sender) behind
@@ -187,9 +172,9 @@ pub record BeginsWith (f : Handlers) (p len : ℕ) : Type 0 where
   pub state_is : f.state p [] ≡ replicate len 0
   pub sends_are : (d : ℕ) → f.sends p [] d ≡ []
 
--- what it owes that is handed a packet, if that was put out
+-- what it owes that is handed a packet, if that says what was put out
 abbrev pub IsHanded : Packet → TheNode → TheNode → Type 0
-IsHanded x old new = Owes (λ c. (b : Body) → body_of x.body ≡ Some b → In (parcel x.from x.to b) c.parcels) old new
+IsHanded x old new = Owes (λ c. WasSaid c.parcels x.from x.to x.body) old new
 
 -- what take owes: the packet that waited first, which was put out; the node is without it
 abbrev pub Takes : Option Packet → TheNode → TheNode → Type 0

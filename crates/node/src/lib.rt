@@ -10,21 +10,24 @@
 //! one node leave what the others stand for. So calls of nodes, in any order and with packets that
 //! come late, twice or never, are a run of a cluster, of which the promises of `cluster` hold.
 //!
-//! A node never comes back here: the bytes of a checkpoint and recovery aren't in this crate yet.
+//! A node answers peers that come back, by pages of its log and of what it received. It never comes
+//! back itself here: the bytes of a checkpoint aren't in this crate yet.
 //!
 //! ```text
 //! let mut node = Node::open(alloc, 1, 2, 8)?;
-//! node.receive(&packet);
+//! node.receive(alloc, &packet)?;
 //! while let Some(packet) = node.take() {
 //!     send(packet);
 //! }
 //! ```
 #![tactic(auto)]
 
+mod asking;
 mod job;
 mod laws;
 mod node;
 mod outbox;
+mod page;
 mod queue;
 mod receiving;
 mod saving;
@@ -35,4 +38,5 @@ pub use job::{Given, OpenJob};
 pub use laws::{calls_run, nodes_run, others_stand};
 pub use node::{MOST_GIVEN, MOST_RECEIVED, Node, TICK, WINDOW};
 pub use outbox::{OUTBOX, Outbox};
+pub use page::PAGE;
 pub use queue::Queue;

@@ -46,6 +46,8 @@ pub struct Node {
     pub(crate) heard: Vec<u64>,
     /// By peer whether it obeyed the Resume of that incarnation.
     pub(crate) resumed: Vec<bool>,
+    /// Failures came one at a time, as far as it knows.
+    pub(crate) exact: bool,
     pub(crate) working: Option<OpenJob>,
     /// It waits until its checkpoint is durable, and takes, does and sends nothing until then.
     pub(crate) frozen: bool,
@@ -57,7 +59,7 @@ impl Model for Node {
 
     ghost Value = { TheNode };
 
-    ghost view = { λ n. record { me = n.me; count = n.count; life = n.life; state = n.state.items; base = n.base; covered = n.covered.items; receipts = n.receipts; logs = n.logs.items; waiting = n.waiting; heard = n.heard.items; resumed = n.resumed.items; working = n.working; frozen = n.frozen; out = n.out } };
+    ghost view = { λ n. record { me = n.me; count = n.count; life = n.life; state = n.state.items; base = n.base; covered = n.covered.items; receipts = n.receipts; logs = n.logs.items; waiting = n.waiting; heard = n.heard.items; resumed = n.resumed.items; exact = n.exact; working = n.working; frozen = n.frozen; out = n.out } };
 
     ghost invariant = { λ n. IsWithin n.me n.count n.base n.covered.items n.heard.items n.resumed.items n.receipts n.logs.items n.working n.frozen n.waiting };
 }
@@ -97,6 +99,7 @@ impl Node {
             logs,
             heard,
             resumed,
+            exact: true,
             working: None,
             frozen: false,
             out,

@@ -1,6 +1,6 @@
 //! What a node does with a packet.
 
-ghost use Rattle.std.specs.Prelude.{◌≡◌, ◌≢◌, ◌≤◌, ◌<◌, ◌+◌, ◌-◌, length, false};
+ghost use Rattle.std.specs.Prelude.{◌≡◌, ◌≢◌, ◌≤◌, ◌<◌, ◌+◌, ◌-◌, length, false, OnOk, OnErr};
 ghost use Rattle.rsn.specs.Receipts.{numbers_of};
 ghost use Rattle.node.specs.Node.{tells, counted, covered_of};
 ghost use Rattle.node.specs.Calls.{delivered, recorded_by, acknowledged_by, dropped_by, handed, takes_more};
@@ -10,21 +10,24 @@ use crate::job::OpenJob;
 use crate::node::{MOST_RECEIVED, Node, WINDOW};
 use helpers::Payload;
 use packets::{Body, Packet};
+use std::alloc::{AllocError, Global};
 
 impl Node {
     /// A packet came. One that isn't of another node of this cluster to this one is dropped, and so is
-    /// any while the node waits until its checkpoint is durable.
-    pub fn receive(&mut self, packet: &Packet)
-        ensures value { self.new ≡ handed packet.now self.old }
-        ensures acts { IsHanded packet.now self.old self.new }
+    /// any while the node waits until its checkpoint is durable. A refusal changes nothing.
+    pub fn receive(&mut self, alloc: Global, packet: &Packet) -> Result<(), AllocError>
+        ensures value { OnOk result (self.new ≡ handed packet.now self.old) }
+        ensures acts { OnOk result (IsHanded packet.now self.old self.new) }
+        ensures err { OnErr result (self.new ≡ self.old) }
     {
         // For the proof: reading a field tells the invariant.
         let _me = self.me;
-        self.hand(packet);
+        self.hand(alloc, packet)
     }
 
-    fn hand(&mut self, packet: &Packet)
-        ensures { self.new ≡ handed packet.now self.old }
+    fn hand(&mut self, alloc: Global, packet: &Packet) -> Result<(), AllocError>
+        ensures value { OnOk result (self.new ≡ handed packet.now self.old) }
+        ensures err { OnErr result (self.new ≡ self.old) }
     {
         let from = packet.from;
         if self.frozen
@@ -33,7 +36,7 @@ impl Node {
             || from > self.count
             || from == self.me
         {
-            return;
+            return Ok(());
         }
         match &packet.body {
             Body::Delivery {
@@ -51,8 +54,17 @@ impl Node {
                 number,
             } => self.receive_acknowledgement(*incarnation, *number),
             Body::Saved { covered } => self.receive_saved(from, *covered),
+            Body::Ask { incarnation, above } => {
+                return self.receive_ask(alloc, from, *incarnation, *above);
+            }
+            Body::Resume {
+                incarnation,
+                kept,
+                above,
+            } => return self.receive_resume(alloc, from, *incarnation, *kept, *above),
             _ => {}
         }
+        Ok(())
     }
 
     /// A message of `from`, in its incarnation `life`, came.

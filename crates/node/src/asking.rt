@@ -1,0 +1,86 @@
+//! What a node does that is up for one that comes back.
+
+ghost use Rattle.std.specs.Prelude.{◌≡◌, ◌≤◌, OnOk, OnErr};
+ghost use Rattle.node.specs.Asking.{hears, asked_by, obeys, works_for, resumed_by};
+
+use crate::node::Node;
+use std::alloc::{AllocError, Global};
+
+impl Node {
+    /// `from`, which comes back in its incarnation `life`, asks what the log holds for it above this
+    /// number. A refusal changes nothing.
+    pub(crate) fn receive_ask(
+        &mut self,
+        alloc: Global,
+        from: u8,
+        life: u64,
+        above: u64,
+    ) -> Result<(), AllocError>
+        requires { from ≤ self.old.count }
+        ensures ok { OnOk result (self.new ≡ asked_by from life above self.old) }
+        ensures err { OnErr result (self.new ≡ self.old) }
+    {
+        if life < self.heard[from as usize] {
+            return Ok(());
+        }
+        let body = self.told(alloc, from, life, above)?;
+        self.hear(from, life);
+        self.put(from, body);
+        Ok(())
+    }
+
+    /// It hears of a newer incarnation.
+    fn hear(&mut self, from: u8, life: u64)
+        requires { from ≤ self.old.count }
+        ensures { self.new ≡ hears from life self.old }
+    {
+        if self.heard[from as usize] < life {
+            self.heard[from as usize] = life;
+            self.resumed[from as usize] = false;
+        }
+    }
+
+    /// `from`, which comes back in its incarnation `life`, keeps so many messages, and asks which of its
+    /// own behind this SSN the node has. A refusal changes nothing.
+    pub(crate) fn receive_resume(
+        &mut self,
+        alloc: Global,
+        from: u8,
+        life: u64,
+        kept: u64,
+        above: u64,
+    ) -> Result<(), AllocError>
+        requires { from ≤ self.old.count }
+        ensures ok { OnOk result (self.new ≡ resumed_by from life kept above self.old) }
+        ensures err { OnErr result (self.new ≡ self.old) }
+    {
+        if life != self.heard[from as usize] || self.works_for(from) {
+            return Ok(());
+        }
+        let body = self.restored(alloc, from, life, above)?;
+        self.obey(from, kept);
+        self.put(from, body);
+        Ok(())
+    }
+
+    /// Whether the open job is on a message of `from`.
+    fn works_for(&self, from: u8) -> bool
+        ensures { result ≡ works_for from self.now.working }
+    {
+        match &self.working {
+            Some(job) => job.sender == from,
+            None => false,
+        }
+    }
+
+    /// `from` keeps so many messages: its numbers above that are forgotten, once in each of its lives.
+    fn obey(&mut self, from: u8, kept: u64)
+        requires { from ≤ self.old.count }
+        ensures { self.new ≡ obeys from kept self.old }
+    {
+        if !self.resumed[from as usize] {
+            self.logs[from as usize].forget_above(kept);
+            self.resumed[from as usize] = true;
+        }
+    }
+}
