@@ -1,18 +1,16 @@
 -- One that comes back is answered
-use Rattle.std.proofs.Common.{◌≡◌, ◌≢◌, inl, inr, ℕ, zero, suc, ◌+◌, ◌-◌, ◌<◌, ◌≤◌, List, [], ◌∷◌, ◌++◌, length, map, take, Bool, true, false, refl, sym, ap, ◌∙◌, subst, arith}
-use Rattle.std.specs.Prelude.{Option, Some, None, ◌==◌, ◌&&◌, ◌||◌, not, nat_lt, nat_le, if◌then◌else◌, slice_index_or, slice_set}
+use Rattle.std.proofs.Common.{◌≡◌, ◌≢◌, inl, ℕ, zero, suc, ◌<◌, ◌≤◌, List, [], ◌∷◌, length, map, take, Bool, true, false, refl, sym, ap, ◌∙◌, subst, arith}
+use Rattle.std.specs.Prelude.{Option, Some, None, ◌==◌, ◌&&◌, ◌||◌, not, nat_lt, if◌then◌else◌, slice_index_or, slice_set}
 use Rattle.std.proofs.lemmas.Bool.Decides.{nat_tests}
 use Rattle.std.proofs.lemmas.List.{get_or-set_same, get_or-set_other, length-map}
 use Rattle.world.specs.declared.message.Message.{Message}
 use Rattle.world.specs.History.{Payload, rsn_of}
-use Rattle.world.specs.Phases.{Up, Busy}
+use Rattle.world.specs.Phases.{Busy}
 use Rattle.world.specs.Calls.{up_to}
 use Rattle.theorems.proofs.Changes.{at-itself}
 use Rattle.theorems.proofs.Tests.{neither, not-false}
-use Rattle.cluster.specs.Parcels.{Ask, Resume, Told, Restored, In, parcel, reaches}
-use Rattle.cluster.specs.Cluster.{Cluster, seen}
-use Rattle.cluster.specs.Rules.{Act, Hears, Obeys, May, does, entry_of}
-use Rattle.packets.specs.declared.packet.Body.TheVariants as packets
+use Rattle.cluster.specs.Parcels.{Ask, Resume, Told, Restored, In, parcel}
+use Rattle.cluster.specs.Rules.{Hears, Obeys, entry_of}
 use Rattle.node.specs.declared.job.OpenJob.{OpenJob}
 use Rattle.node.specs.Queue.{TheQueue, forgotten_above}
 use Rattle.node.specs.Node.{TheNode, Within, log_at, posts, covered_of}
@@ -23,7 +21,7 @@ use Rattle.node.specs.declared.page.TheConstants.{PAIRS}
 use Rattle.node.specs.Pages.{entries_above, told_of, told_page, told_all, pairs_above, restored_all, restored_of}
 use Rattle.node.specs.Asking.{heard_of, hears, asked_by, works_for, obeys, resumed_by}
 use Rattle.node.specs.Says.{told_end, restored_end}
-use Rattle.node.specs.Stands.{Stands, KeepsOf, IsShut, sent_by, Goes, Owes, Receives, Acts, phase_of, job_of}
+use Rattle.node.specs.Stands.{KeepsOf, IsShut, sent_by, Receives, Acts, phase_of, job_of}
 use Rattle.node.proofs.Logs.{changed-at}
 use Rattle.node.proofs.Putting.{stands-takes, stands-well, posted, stays}
 use Rattle.node.proofs.Steps.{owes-then, by-if}

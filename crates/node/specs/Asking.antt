@@ -1,5 +1,5 @@
 -- What a node does that is up for one that comes back
-use Rattle.std.specs.Prelude.{ℕ, Option, Some, None, Bool, true, false, not, ◌&&◌, ◌||◌, ◌==◌, nat_lt, if◌then◌else◌, slice_index_or, slice_set}
+use Rattle.std.specs.Prelude.{ℕ, Option, Some, None, Bool, true, false, not, ◌||◌, ◌==◌, nat_lt, if◌then◌else◌, slice_index_or, slice_set}
 use Rattle.node.specs.declared.job.OpenJob.{OpenJob}
 use Rattle.node.specs.Queue.{forgotten_above}
 use Rattle.node.specs.Node.{TheNode, log_at, posts}

@@ -10,3 +10,5 @@ pub mod Says
 pub mod Stands
 pub mod Beside
 pub mod Runs
+pub mod Standing
+pub mod Bytes

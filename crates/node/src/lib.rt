@@ -3,7 +3,8 @@
 //! A [`Node`] knows no clock, socket, file or thread. Its host hands it the packets that came
 //! ([`Node::receive`]), sends those that it gives ([`Node::take`]), runs its handler
 //! ([`Node::work`]), now and then lets it send again what isn't answered ([`Node::tick`]), and keeps
-//! its checkpoints: [`Node::checkpoint`] makes one, [`Node::saved`] says that it is durable.
+//! its checkpoints: [`Node::checkpoint`] makes one, [`Node::saved`] says that it is durable. Packets
+//! come as bytes, too ([`Node::receive_bytes`]), and [`Node::standing`] tells how it stands.
 //!
 //! The promise: each call is none, one or more acts of the node's process that the rules of crate
 //! `cluster` allow, and what the node then holds is what the cluster has of that process. Acts of
@@ -23,6 +24,7 @@
 #![tactic(auto)]
 
 mod asking;
+mod bytes;
 mod job;
 mod laws;
 mod node;
@@ -32,6 +34,7 @@ mod queue;
 mod receiving;
 mod saving;
 mod sending;
+mod standing;
 mod working;
 
 pub use job::{Given, OpenJob};
@@ -40,3 +43,4 @@ pub use node::{MOST_GIVEN, MOST_RECEIVED, Node, TICK, WINDOW};
 pub use outbox::{OUTBOX, Outbox};
 pub use page::PAGE;
 pub use queue::Queue;
+pub use standing::{Stage, Standing};

@@ -1,6 +1,6 @@
 //! The packets that wait to be sent.
 
-ghost use Rattle.std.specs.Prelude.{◌≡◌, [], IfOk};
+ghost use Rattle.std.specs.Prelude.{◌≡◌, [], length, IfOk};
 ghost use Rattle.node.specs.Outbox.{pushed, Pops};
 
 use packets::Packet;
@@ -55,5 +55,12 @@ impl Outbox {
         ensures { Pops result self.old self.new }
     {
         self.packets.pop_front()
+    }
+
+    /// How many wait.
+    pub fn len(&self) -> usize
+        ensures { result ≡ length self.now }
+    {
+        self.packets.len()
     }
 }
