@@ -88,9 +88,6 @@ half_memory reg base disp op rest h k l =
 
 -- ---- numbers behind
 
-abbrev Done : (Instr) → List ℕ → Reading Instr → Type 0
-Done i rest z = z ≡ Some (i, rest)
-
 word_behind : (v : ℕ) (rest : List ℕ) (f : ℕ → Instr) → v < 2 ^ 32 → behind (four_bytes (le_bytes 4 v ++ rest)) (λ imm. whole (f imm)) ≡ Some (f v, rest)
 word_behind v rest f h = ap (λ z. behind z (λ imm. whole (f imm))) (read_four v rest h)
 

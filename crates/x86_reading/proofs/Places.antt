@@ -114,9 +114,9 @@ based_place small p m base disp rest mode low e x b h k s =
     sib_place small p m 36 disp rest mode (low ∙ e) k s
     ∙ ap₂ (λ u v. Some (if u == 4 then Memory v disp else MemoryBy v u disp, rest)) i o
 
-modrm_of : (small : Bool) (p m reg : ℕ) (place : Place) (bs rest : List ℕ) → p / 4 % 2 ≡ reg / 8 % 2 → m / 8 % 8 ≡ reg % 8 → reg < 16
+modrm_of : (p m reg : ℕ) (place : Place) (bs rest : List ℕ) → p / 4 % 2 ≡ reg / 8 % 2 → m / 8 % 8 ≡ reg % 8 → reg < 16
     → place_of p m bs ≡ Some (place, rest) → modrm p (m ∷ bs) ≡ Some ((reg, place), rest)
-modrm_of small p m reg place bs rest r middle h e =
+modrm_of p m reg place bs rest r middle h e =
     let n : reg_of p m ≡ reg = omega arith in
     ap (λ z. behind z (λ place bs. Some ((reg_of p m, place), bs))) e ∙ ap (λ x. Some ((x, place), rest)) n
 
@@ -125,11 +125,11 @@ memory_at : (small sib : Bool) (p reg base disp : ℕ) (rest : List ℕ) → p /
     → modrm p ((((if small then 64 else 128) + 8 * (reg % 8) + base % 8) ∷ ((if sib then 36 ∷ [] else []) ++ shown small disp)) ++ rest) ≡ Some ((reg, Memory base disp), rest)
 memory_at small true p reg base disp rest r x b h k l s t =
     let m = (if small then 64 else 128) + 8 * (reg % 8) + base % 8 in
-    modrm_of small p m reg (Memory base disp) (36 ∷ (shown small disp ++ rest)) rest r (middle_is small (reg % 8) (base % 8) (omega arith) (omega arith)) h
+    modrm_of p m reg (Memory base disp) (36 ∷ (shown small disp ++ rest)) rest r (middle_is small (reg % 8) (base % 8) (omega arith) (omega arith)) h
     (based_place small p m base disp rest (mode_is small (reg % 8) (base % 8) (omega arith) (omega arith)) (low_is small (reg % 8) (base % 8) (omega arith) (omega arith)) ((Decides-eqb (base % 8) 4).0 t) x b k l s)
 memory_at small false p reg base disp rest r x b h k l s t =
     let m = (if small then 64 else 128) + 8 * (reg % 8) + base % 8 in
-    modrm_of small p m reg (Memory base disp) (shown small disp ++ rest) rest r (middle_is small (reg % 8) (base % 8) (omega arith) (omega arith)) h
+    modrm_of p m reg (Memory base disp) (shown small disp ++ rest) rest r (middle_is small (reg % 8) (base % 8) (omega arith) (omega arith)) h
     (plain_place small p m base disp rest (mode_is small (reg % 8) (base % 8) (omega arith) (omega arith)) (low_is small (reg % 8) (base % 8) (omega arith) (omega arith)) (eqb-false (base % 8) 4 t) b k l s)
 
 pub modrm_memory : (p reg base disp : ℕ) (rest : List ℕ) → p / 4 % 2 ≡ reg / 8 % 2 → p / 2 % 2 ≡ 0 → p % 2 ≡ base / 8 % 2
@@ -144,7 +144,7 @@ by_at small p reg base index disp rest r x b h k i ne l s =
     let sib = 8 * (index % 8) + base % 8 in
     let o : base_of p sib ≡ base = omega arith in
     let n : index_of p sib ≡ index = omega arith in
-    modrm_of small p m reg (MemoryBy base index disp) (sib ∷ (shown small disp ++ rest)) rest r (middle_is small (reg % 8) 4 (omega arith) (omega arith)) h
+    modrm_of p m reg (MemoryBy base index disp) (sib ∷ (shown small disp ++ rest)) rest r (middle_is small (reg % 8) 4 (omega arith) (omega arith)) h
     (sib_place small p m sib disp rest (mode_is small (reg % 8) 4 (omega arith) (omega arith)) (low_is small (reg % 8) 4 (omega arith) (omega arith)) l s
     ∙ ap₂ (λ u v. Some (if u == 4 then Memory v disp else MemoryBy v u disp, rest)) n o
     ∙ ap (λ z. Some (z, rest)) (other index 4 (Memory base disp) (MemoryBy base index disp) ne))

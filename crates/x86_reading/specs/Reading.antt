@@ -109,7 +109,7 @@ alu_of n =
     if n == 0 then Some alu.Add else if n == 1 then Some alu.Or else if n == 4 then Some alu.And
     else if n == 5 then Some alu.Sub else if n == 6 then Some alu.Xor else if n == 7 then Some alu.Cmp else None
 
--- the shift /n of C1 and D3
+-- the shift /n of C1 and d3
 abbrev pub shift_of : ℕ → Option Shift
 shift_of n = if n == 4 then Some shift.Left else if n == 5 then Some shift.Right else if n == 7 then Some shift.RightSigned else None
 
@@ -145,7 +145,7 @@ on_register op w n r bs =
     else if op == 247 then group_f7 w n r bs
     else if op == 105 then behind (four_bytes bs) (λ imm. whole (instr.MulImm w n r imm))  -- 69 /r id
     else if op == 193 then with_op (shift_of n) (λ s. behind (one bs) (λ count. whole (instr.Shift s w r count)))  -- C1 /n ib
-    else if op == 211 then with_op (shift_of n) (λ s. whole (instr.ShiftBy s w r) bs)  -- D3 /n
+    else if op == 211 then with_op (shift_of n) (λ s. whole (instr.ShiftBy s w r) bs)  -- d3 /n
     else if op % 8 == 1 then with_op (alu_of (op / 8)) (λ a. whole (instr.Alu a w r n) bs)  -- 8n + 1 /r
     else None
 
