@@ -5,7 +5,7 @@ use Rattle.world.specs.Worked.{relaying}
 use Rattle.theorems.specs.Overlap.{passing}
 use Rattle.cluster.specs.Cluster.{opening}
 use Rattle.cluster.specs.Rules.{IsAll, Run, after_run, message}
-use Rattle.cluster.specs.Late.{renumbered, second_return, job_told, both_back, LateNumberIsDropped, LateResumeIsDropped, OldAnswerIsDropped, OpenJobComesFirst, HeardComesBack}
+use Rattle.cluster.specs.Late.{renumbered, second_return, job_told, both_back, old_ask_answered, LateNumberIsDropped, LateResumeIsDropped, OldAnswerIsDropped, OpenJobComesFirst, HeardComesBack, OldAskIsHeard}
 use Rattle.cluster.proofs.Chains.{◌▸◌, few, apart, of-one, one-of-two, two-of-two}
 
 pub late-number-is-dropped : LateNumberIsDropped
@@ -201,3 +201,49 @@ both-return g x =
 
 pub heard-comes-back : HeardComesBack
 heard-comes-back g x = (both-return g x, refl, inr (inr (inr (inr (inr (inr (inr (inr (inr (inr (inr (inr (inr (inr (inr (inr (inl refl)))))))))))))))), λ may. let e : ◌≡◌ {A = ℕ} 1 2 = may.2 in absurd (omega arith))
+
+is-told-again : (g : ℕ → List Message → List ℕ) → Run (opening 2 (passing g)) old_ask_answered
+is-told-again g =
+    ((omega arith, omega arith), λ e. absurd (cc))
+    ▸ ((omega arith, omega arith), refl)
+    ▸ (omega arith, omega arith, apart 1 0 refl, (refl, refl, refl))
+    ▸ (inl refl, omega arith, inl refl)
+    ▸ (omega arith, omega arith, apart 0 1 refl, (refl, refl, refl, λ v e. absurd (cc), λ m a e. refl))
+    ▸ (inl refl, refl, refl, omega arith, refl)
+    ▸ (omega arith, omega arith, apart 1 2 refl, (refl, refl, refl))
+    ▸ (inl refl, omega arith, inl refl)
+    ▸ (omega arith, omega arith, apart 2 1 refl, (refl, refl, refl, λ v e. absurd (cc), λ m a e. refl))
+    ▸ (inl refl, refl, refl, omega arith, refl)
+    ▸ ((omega arith, omega arith), refl, one-of-two (λ q. IsAll ((after_run (opening 2 (passing g)) (take 10 (old_ask_answered))).told 1 q)) refl refl, omega arith, refl, refl)
+    ▸ (omega arith, omega arith, apart 1 0 refl, (refl, refl, refl, refl, refl))
+    ▸ (inl refl, refl, refl, refl, λ m e. absurd (cc))
+    ▸ (omega arith, omega arith, apart 0 1 refl, (refl, refl, refl, λ m e. absurd (cc), refl, refl, λ v e. absurd (cc), λ ssn a e. refl))
+    ▸ (inl refl, refl, refl, refl, refl)
+    ▸ (omega arith, omega arith, apart 1 2 refl, (refl, refl, refl, refl, refl))
+    ▸ (inl refl, refl, refl, refl, λ m e. absurd (cc))
+    ▸ (omega arith, omega arith, apart 2 1 refl, (refl, refl, refl, λ m e. absurd (cc), refl, refl, λ v e. absurd (cc), λ ssn a e. refl))
+    ▸ (inl refl, (omega arith, omega arith), refl, refl, refl, refl, omega arith)
+    ▸ ((omega arith, omega arith), λ e. absurd (cc))
+    ▸ ((omega arith, omega arith), refl)
+    ▸ (omega arith, omega arith, apart 2 1 refl, (refl, refl, refl))
+    ▸ (inl refl, omega arith, inl refl)
+    ▸ (inr (inr (inr (inr (inr (inr (inl refl)))))), omega arith, inr refl)
+    ▸ (omega arith, omega arith, apart 1 2 refl, (refl, refl, refl, λ v e. absurd (cc), λ m a e. refl))
+    ▸ (inl refl, refl, refl, omega arith, refl)
+    ▸ (omega arith, omega arith, apart 2 0 refl, (refl, refl, refl))
+    ▸ (inl refl, omega arith, inl refl)
+    ▸ (omega arith, omega arith, apart 0 2 refl, (refl, refl, refl, λ v e. absurd (cc), λ m a e. refl))
+    ▸ (inl refl, refl, refl, omega arith, refl)
+    ▸ ((omega arith, omega arith), refl, two-of-two (λ q. IsAll ((after_run (opening 2 (passing g)) (take 30 (old_ask_answered))).told 2 q)) refl refl, omega arith, refl, refl)
+    ▸ (omega arith, omega arith, apart 2 0 refl, (refl, refl, refl, refl, refl))
+    ▸ (inl refl, refl, refl, refl, λ m e. absurd (cc))
+    ▸ (omega arith, omega arith, apart 0 2 refl, (refl, refl, refl, λ m e. absurd (cc), refl, refl, λ v e. absurd (cc), λ ssn a e. refl))
+    ▸ (inl refl, refl, refl, refl, refl)
+    ▸ (omega arith, omega arith, apart 2 1 refl, (refl, refl, refl, refl, refl))
+    ▸ (inl refl, refl, refl, refl, λ m e. absurd (cc))
+    ▸ (omega arith, omega arith, apart 1 2 refl, (refl, refl, refl, λ m e. absurd (cc), refl, refl, λ v e. absurd (cc), λ ssn a e. refl))
+    ▸ (inl refl, (omega arith, omega arith), refl, refl, refl, refl, omega arith)
+    ▸ tt
+
+pub old-ask-is-heard : OldAskIsHeard
+old-ask-is-heard g = (is-told-again g, refl, refl, refl, refl, refl)

@@ -1,11 +1,11 @@
 -- The worked runs of what a node keeps
-use Rattle.std.proofs.Common.{inl, ℕ, List, take, refl, arith}
+use Rattle.std.proofs.Common.{inl, inr, ℕ, List, take, refl, arith}
 use Rattle.world.specs.declared.message.Message.{Message}
 use Rattle.world.specs.Worked.{relaying}
 use Rattle.cluster.specs.Cluster.{opening}
 use Rattle.cluster.specs.Rules.{IsAll, Run}
 use Rattle.cluster.specs.Pieces.{one_after}
-use Rattle.cluster.specs.Sizes.{told_and_dies, MemoryIsFilled, ToldAgain}
+use Rattle.cluster.specs.Sizes.{told_and_dies, saved_lost, MemoryIsFilled, ToldAgain, SavedMayBeLost}
 use Rattle.cluster.proofs.Chains.{◌▸◌, few, apart, of-one}
 
 pub memory-is-filled : MemoryIsFilled
@@ -40,3 +40,28 @@ told-and-dies g x =
 
 pub told-again : ToldAgain
 told-again g x = (told-and-dies g x, refl, refl, refl, refl, refl)
+
+makes-up : (g : ℕ → List Message → List ℕ) (x y : List ℕ) → Run (opening 1 (relaying 0 g)) (saved_lost x y)
+makes-up g x y =
+    (omega arith, omega arith)
+    ▸ (omega arith, omega arith, apart 0 1 refl, (refl, refl, omega arith, omega arith, refl))
+    ▸ (inl refl, (omega arith, omega arith), refl, refl, refl, refl, few 0 (omega arith))
+    ▸ ((omega arith, omega arith), refl, refl)
+    ▸ ((omega arith, omega arith), refl, refl)
+    ▸ ((omega arith, omega arith), refl)
+    ▸ ((omega arith, omega arith), refl, refl)
+    ▸ (omega arith, omega arith, apart 1 0 refl, (refl, refl))
+    ▸ (omega arith, omega arith)
+    ▸ (omega arith, omega arith, apart 0 1 refl, (refl, refl, omega arith, omega arith, refl))
+    ▸ (inl refl, (omega arith, omega arith), refl, refl, refl, refl, few 0 (omega arith))
+    ▸ ((omega arith, omega arith), refl, refl)
+    ▸ ((omega arith, omega arith), refl, refl)
+    ▸ ((omega arith, omega arith), refl)
+    ▸ ((omega arith, omega arith), refl, refl)
+    ▸ (omega arith, omega arith, apart 1 0 refl, (refl, refl))
+    ▸ (inl refl, refl)
+    ▸ (inr (inr (inl refl)), refl)
+    ▸ tt
+
+pub saved-may-be-lost : SavedMayBeLost
+saved-may-be-lost g x y = (makes-up g x y, refl, refl, refl, refl)

@@ -162,3 +162,45 @@ HeardComesBack =
     × (is_well (two_after g (both_back x)) 1 ≡ true)
     × In (parcel 2 1 (Number 1 1 1)) (two_after g (both_back x)).parcels
     × (¬ May (two_after g (both_back x)) (Records 2 1 1 1 1))
+
+-- node 1 comes back, and node 2, which had heard its Ask, dies and is opened again
+abbrev pub ask_forgotten : List Act
+ask_forgotten =
+    falls 1
+    ++ asks 1 0 2 0
+    ++ tells 1 0 2 1 0 no_entries
+    ++ asks 1 2 2 0
+    ++ tells 1 2 2 1 0 no_entries
+    ++ Recovers 1 0
+    ∷ greets 1 2 0
+    ++ resumes 1 2 2 0
+    ++ restores 1 2 2 1 no_numbers
+    ++ falls 2
+
+-- it asks node 1, and the Ask of node 1 comes a second time
+abbrev pub old_ask_heard : List Act
+old_ask_heard = ask_forgotten ++ asks 2 1 2 0 ++ Hears 1 2 2 0 ∷ []
+
+-- node 1 tells it, and it comes back
+abbrev pub old_ask_answered : List Act
+old_ask_answered =
+    old_ask_heard
+    ++ tells 2 1 2 2 0 no_entries
+    ++ asks 2 0 2 0
+    ++ tells 2 0 2 1 0 no_entries
+    ++ Recovers 2 0
+    ∷ greets 2 2 0
+    ++ resumes 2 1 2 0
+    ++ restores 2 1 2 2 no_numbers
+
+-- it is a run. Node 2 has forgotten that it had heard the Ask, and hears it while it collects, though node 1 is up: so the Ask doesn't say
+-- that node 1 lost what it had. It is told by node 1, and both are up
+abbrev pub OldAskIsHeard : Type 0
+OldAskIsHeard =
+    (g : ℕ → List Message → List ℕ) →
+    Run (opening 2 (passing g)) old_ask_answered
+    × ((two_after g ask_forgotten).heard 2 1 ≡ 0)
+    × ((two_after g old_ask_heard).heard 2 1 ≡ 2)
+    × (is_well (two_after g old_ask_heard) 1 ≡ true)
+    × (is_well (two_after g old_ask_answered) 1 ≡ true)
+    × (is_well (two_after g old_ask_answered) 2 ≡ true)

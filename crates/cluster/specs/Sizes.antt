@@ -4,7 +4,7 @@ use Rattle.world.specs.declared.message.Message.{Message}
 use Rattle.world.specs.Worked.{relaying}
 use Rattle.cluster.specs.Parcels.{Delivery, Restored, Saved}
 use Rattle.cluster.specs.Cluster.{opening, is_well, waiting}
-use Rattle.cluster.specs.Rules.{Act, Puts, Shows, Replays, Counts, Drops, Recovers, Greets, Run}
+use Rattle.cluster.specs.Rules.{Act, Puts, Shows, Replays, Counts, Drops, Recovers, Greets, Freezes, Keeps, Thaws, Run}
 use Rattle.cluster.specs.Memory.{receipts, taken_since, entries, untold, unsaved, untaken}
 use Rattle.cluster.specs.Pieces.{receives, number_recorded, falls, asks, tells, resumes, no_numbers, first_entry, one_after}
 use Rattle.cluster.specs.Worked.{comes_back}
@@ -65,3 +65,23 @@ ToldAgain =
     × (entries (one_after g (take 19 (told_and_dies x))) 1 0 ≡ 1)
     × (is_well (one_after g (told_and_dies x)) 1 ≡ true)
     × (entries (one_after g (told_and_dies x)) 1 0 ≡ 0)
+
+-- a checkpoint of node 1 becomes durable
+abbrev pub saves : List Act
+saves = Freezes 1 ∷ Keeps 1 ∷ Thaws 1 ∷ []
+
+-- node 1 says Saved, which is lost; another checkpoint covers another message, the gateway is told of that one, and the first Saved comes
+-- behind it
+abbrev pub saved_lost : List ℕ → List ℕ → List Act
+saved_lost x y = receives 1 x ++ saves ++ Puts 1 0 (Saved 1) ∷ receives 2 y ++ saves ++ Puts 1 0 (Saved 2) ∷ Drops 1 0 2 ∷ Drops 1 0 1 ∷ []
+
+-- it is a run. The gateway's log keeps both messages until it is told, and then none: the second Saved makes up for the first, which changes
+-- nothing when it comes
+abbrev pub SavedMayBeLost : Type 0
+SavedMayBeLost =
+    (g : ℕ → List Message → List ℕ) (x y : List ℕ) →
+    Run (opening 1 (relaying 0 g)) (saved_lost x y)
+    × (entries (one_after g (take 8 (saved_lost x y))) 0 1 ≡ 1)
+    × (entries (one_after g (take 16 (saved_lost x y))) 0 1 ≡ 2)
+    × (entries (one_after g (take 17 (saved_lost x y))) 0 1 ≡ 0)
+    × ((one_after g (saved_lost x y)).trims 0 1 ≡ 2)

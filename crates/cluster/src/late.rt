@@ -1,6 +1,6 @@
 //! Worked runs in which packets come late.
 
-ghost use Rattle.cluster.specs.Late.{HeardComesBack, LateNumberIsDropped, LateResumeIsDropped, OldAnswerIsDropped, OpenJobComesFirst};
+ghost use Rattle.cluster.specs.Late.{HeardComesBack, LateNumberIsDropped, LateResumeIsDropped, OldAnswerIsDropped, OldAskIsHeard, OpenJobComesFirst};
 
 /// A number that comes behind its node's Ask isn't recorded.
 pub fn late_number_is_dropped()
@@ -26,4 +26,10 @@ pub fn open_job_comes_first()
 /// A node that comes back hears again of the incarnations that it had heard of.
 pub fn heard_comes_back()
     ensures { HeardComesBack }
+{}
+
+/// A node that collects hears an Ask again that it had heard before it died. Its sender is up, and
+/// tells it.
+pub fn old_ask_is_heard()
+    ensures { OldAskIsHeard }
 {}
