@@ -1,0 +1,2 @@
+pub mod Peer
+pub mod Store

@@ -1,0 +1,18 @@
+-- The packets that wait
+use Rattle.std.specs.Prelude.{◌≡◌, Option, Some, None, ℕ, ◌≤◌, List, [], ◌∷◌, ◌++◌, length, nat_lt, if◌then◌else◌}
+use Rattle.packets.specs.declared.packet.Packet.{Packet}
+use Rattle.outbox.specs.declared.outbox.TheConstants.{OUTBOX}
+
+-- one packet more, where there is room
+abbrev pub pushed : Packet → List Packet → List Packet
+pushed x xs = if nat_lt (length xs) OUTBOX then xs ++ x ∷ [] else xs
+
+-- the first packet leaves; none, if there is none
+abbrev pub Pops : Option Packet → List Packet → List Packet → Type 0
+Pops None old new = (old ≡ []) × (new ≡ [])
+Pops (Some x) old new = old ≡ x ∷ new
+
+-- there are no more, and all have room
+pub record HasRoom (len capacity : ℕ) : Type 0 where
+  pub few : len ≤ OUTBOX
+  pub room : OUTBOX ≤ capacity

@@ -1,0 +1,59 @@
+//! The packets that wait to be sent.
+
+ghost use Rattle.std.specs.Prelude.{◌≡◌, [], IfOk};
+ghost use Rattle.outbox.specs.Outbox.{pushed, Pops};
+
+use packets::Packet;
+use std::alloc::{AllocError, Global};
+use std::collections::VecDeque;
+use std::marker::Model;
+
+/// So many packets wait at most.
+pub const OUTBOX: usize = 4096;
+
+/// Packets in the order in which they came. There is room for all of them from the beginning on, and
+/// one more than that is lost, as any packet may be.
+#[derive(Drop)]
+pub struct Outbox {
+    packets: VecDeque<Packet>,
+}
+
+impl Model for Outbox {
+    ghost use Rattle.std.specs.Prelude.{List};
+    ghost use Rattle.std.specs.VecDeque.{deque_len, deque_capacity};
+    ghost use Rattle.packets.specs.declared.packet.Packet.{Packet};
+    ghost use Rattle.outbox.specs.Outbox.{HasRoom};
+
+    ghost Value = { List Packet };
+
+    ghost view = { λ o. o.packets.items };
+
+    ghost invariant = { λ o. HasRoom (deque_len o.packets) (deque_capacity o.packets) };
+}
+
+impl Outbox {
+    /// An empty one.
+    pub fn new(alloc: Global) -> Result<Outbox, AllocError>
+        ensures { IfOk result (λ o. o ≡ []) }
+    {
+        Ok(Outbox {
+            packets: VecDeque::with_capacity(alloc, OUTBOX)?,
+        })
+    }
+
+    /// A packet waits behind the others, where there is room.
+    pub fn push(&mut self, packet: Packet)
+        ensures { self.new ≡ pushed packet self.old }
+    {
+        if self.packets.len() < OUTBOX {
+            self.packets.push_back_reserved(packet);
+        }
+    }
+
+    /// The first packet leaves; none, if there is none.
+    pub fn pop(&mut self) -> Option<Packet>
+        ensures { Pops result self.old self.new }
+    {
+        self.packets.pop_front()
+    }
+}
