@@ -1,2 +1,6 @@
 pub mod Peer
 pub mod Store
+pub mod Gateway
+pub mod Calls
+pub mod Says
+pub mod Stands

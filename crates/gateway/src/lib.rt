@@ -2,9 +2,12 @@
 #![tactic(auto)]
 
 mod change;
+mod gateway;
 mod peer;
+mod receiving;
 mod store;
 
 pub use change::{Change, Output};
+pub use gateway::{Gateway, LEAST_PAGE};
 pub use peer::{Logged, Peer};
 pub use store::Store;

@@ -1,0 +1,79 @@
+-- What clauses see of the gateway, and what it sends
+use Rattle.std.specs.Prelude.{◌≡◌, ℕ, zero, suc, ◌+◌, ◌≤◌, List, [], ◌∷◌, ◌++◌, length, take, replicate, is_none, nat_lt, if◌then◌else◌}
+use Rattle.packets.specs.declared.packet.Body.{Body}
+use Rattle.packets.specs.declared.packet.Body.TheVariants.{Delivery}
+use Rattle.packets.specs.declared.packet.Packet.{Packet}
+use Rattle.outbox.specs.Outbox.{pushed}
+use Rattle.gateway.specs.declared.gateway.TheConstants.{LEAST_PAGE}
+use Rattle.gateway.specs.declared.peer.Logged.{Logged}
+use Rattle.gateway.specs.declared.change.Change.{Change}
+use Rattle.gateway.specs.declared.change.Change.TheVariants.{Input, Taken}
+use Rattle.gateway.specs.Peer.{ThePeer, no_peer, last_of, payload_of}
+use Rattle.gateway.specs.Store.{TheStore, peer_at, applied}
+
+-- how many bytes a packet has at most, and how many messages one tick makes for a process; what is kept durably, and what happened to it
+-- since that was asked; the packets to be taken
+pub record TheGateway : Type 0 where
+  pub page : ℕ
+  pub tick : ℕ
+  pub store : TheStore
+  pub changes : List Change
+  pub out : List Packet
+
+pub record IsGateway (page tick : ℕ) : Type 0 where
+  pub room : LEAST_PAGE ≤ page
+  pub some : 1 ≤ tick
+
+-- the gateway of so many processes, of which nothing came
+abbrev pub new_gateway : ℕ → ℕ → ℕ → TheGateway
+new_gateway count page tick = record { page = page; tick = tick; store = record { peers = replicate count no_peer; outputs = [] }; changes = []; out = [] }
+
+-- what it has of the process p
+abbrev pub peer_of : ℕ → TheGateway → ThePeer
+peer_of p g = peer_at p g.store
+
+-- a packet of the gateway's
+abbrev pub packet_of : TheGateway → ℕ → Body → Packet
+packet_of g to body = record { count = length g.store.peers; from = 0; to = to; body = body }
+
+-- one more packet waits to be taken, where there is room
+abbrev pub posts : ℕ → Body → TheGateway → TheGateway
+posts to body g = record g { out = pushed (packet_of g to body) g.out }
+
+-- a change happens
+abbrev pub happens : Change → TheGateway → TheGateway
+happens k g = record g { store = applied k g.store; changes = g.changes ++ k ∷ [] }
+
+-- a message that is kept is sent
+abbrev pub delivers : ℕ → ℕ → TheGateway → TheGateway
+delivers p ssn g = posts p (Delivery 1 ssn (payload_of ssn (peer_of p g))) g
+
+-- an input is logged, and sent
+abbrev pub puts_in : ℕ → List ℕ → TheGateway → TheGateway
+puts_in p x g = delivers p (last_of (peer_of p g) + 1) (happens (Input p x) g)
+
+-- the first output is taken, if there is one
+abbrev pub hands_out : TheGateway → TheGateway
+hands_out g = if nat_lt 0 (length g.store.outputs) then happens (Taken 1) g else g
+
+-- of the entries behind SSN s those without a number, by their SSN
+abbrev pub unnumbered : ℕ → List Logged → List ℕ
+unnumbered s [] = []
+unnumbered s (e ∷ es) = if is_none e.number then suc s ∷ unnumbered (suc s) es else unnumbered (suc s) es
+
+-- each of these is sent
+abbrev pub delivers_each : ℕ → List ℕ → TheGateway → TheGateway
+delivers_each p [] g = g
+delivers_each p (s ∷ ss) g = delivers_each p ss (delivers p s g)
+
+-- the first messages for p without a number are sent again
+abbrev pub resent : ℕ → TheGateway → TheGateway
+resent p g = delivers_each p (take g.tick (unnumbered (peer_of p g).dropped (peer_of p g).entries)) g
+
+-- so for the first k processes
+abbrev pub ticked_to : ℕ → TheGateway → TheGateway
+ticked_to zero g = g
+ticked_to (suc k) g = resent (suc k) (ticked_to k g)
+
+abbrev pub ticked : TheGateway → TheGateway
+ticked g = ticked_to (length g.store.peers) g
