@@ -1,1 +1,9 @@
 pub mod PeerLemmas
+pub mod Steps
+pub mod Peers
+pub mod Keeping
+pub mod Changing
+pub mod Sending
+pub mod Handing
+pub mod Views
+pub mod Opening

@@ -79,6 +79,13 @@ impl Gateway {
         ensures value { self.new ≡ record self.old { changes = [] } }
         ensures acts { Acts self.old self.new }
     {
+        self.tell(alloc)
+    }
+
+    fn tell(&mut self, alloc: Global) -> Vec<Change>
+        ensures given { result.items ≡ self.old.changes }
+        ensures value { self.new ≡ record self.old { changes = [] } }
+    {
         std::mem::replace(&mut self.changes, Vec::new(alloc))
     }
 
@@ -125,6 +132,14 @@ impl Gateway {
         ensures output { IfOk result (λ o. o ≡ slice_get self.old.store.outputs 0) }
         ensures value { OnOk result (self.new ≡ hands_out self.old) }
         ensures acts { OnOk result (Acts self.old self.new) }
+        ensures err { OnErr result (self.new ≡ self.old) }
+    {
+        self.hand_out()
+    }
+
+    fn hand_out(&mut self) -> Result<Option<Output>, AllocError>
+        ensures output { IfOk result (λ o. o ≡ slice_get self.old.store.outputs 0) }
+        ensures ok { OnOk result (self.new ≡ hands_out self.old) }
         ensures err { OnErr result (self.new ≡ self.old) }
     {
         let output = self.store.first_output();

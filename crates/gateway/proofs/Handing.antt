@@ -1,0 +1,87 @@
+-- A packet is handed to the gateway
+use Rattle.std.proofs.Common.{◌≡◌, ◌≢◌, ℕ, suc, ◌+◌, ◌<◌, ◌≤◌, List, length, min, Bool, true, false, refl, sym, ap, ◌∙◌, subst, arith, Result, Ok, Err, OnOk}
+use Rattle.std.specs.Prelude.{not, ◌&&◌, ◌||◌, ◌==◌, nat_lt, nat_le, if◌then◌else◌}
+use Rattle.std.proofs.lemmas.Bool.Decides.{nat_tests}
+use Rattle.theorems.proofs.Tests.{both, neither, not-false}
+use Rattle.cluster.specs.Parcels.{Body, Delivery, Number, Saved, Parcel, parcel, In}
+use Rattle.cluster.specs.Cluster.{Cluster}
+use Rattle.packets.specs.Packet.{in_range}
+use Rattle.packets.specs.declared.packet.Body as bodies
+use Rattle.packets.specs.declared.packet.Body.TheVariants as packets
+use Rattle.packets.specs.declared.packet.Packet.{Packet}
+use Rattle.gateway.specs.declared.change.Output.{Output}
+use Rattle.gateway.specs.declared.change.Change.TheVariants as changes
+use Rattle.gateway.specs.Peer.{last_of, is_kept, shows}
+use Rattle.gateway.specs.Store.{TheStore, IsOf}
+use Rattle.gateway.specs.Gateway.{TheGateway, peer_of, posts, happens}
+use Rattle.gateway.specs.Calls.{is_for, is_next, says_shown, arrived, recorded_by, dropped_by, told, handed}
+use Rattle.gateway.specs.Says.{Says}
+use Rattle.gateway.specs.Stands.{Owes, IsHanded, WasSaid}
+use Rattle.gateway.proofs.Changing.{goes-shown, goes-numbered, goes-dropped}
+use Rattle.gateway.proofs.Peers.{as-many}
+use Rattle.gateway.proofs.Sending.{saying-shown}
+use Rattle.gateway.proofs.Steps.{stays, goes-then, owes-then, by-if}
+
+-- where a process says this to it
+abbrev Told : ℕ → Body → TheGateway → TheGateway → Type 0
+Told p b old new = Owes (λ c. In (parcel p 0 b) c.parcels) old new
+
+ignores : (p : ℕ) (b : Body) (g : TheGateway) → Told p b g g
+ignores p b g c s given = stays g c s
+
+arrives : (i : ℕ) (x : Output) (g : TheGateway) → IsOf x.process g.store → Told x.process (Delivery i x.ssn x.payload) g (arrived i x g)
+arrives i x g o =
+    by-if (Told x.process (Delivery i x.ssn x.payload) g) (not (i == (peer_of x.process g).heard) || nat_lt ((peer_of x.process g).shown + 1) x.ssn) g (says_shown x.process (if is_next x g then happens (changes.Shown x) g else g)) (λ e. ignores x.process (Delivery i x.ssn x.payload) g)
+    (λ e. by-if (λ z. Told x.process (Delivery i x.ssn x.payload) g (says_shown x.process z)) (is_next x g) (happens (changes.Shown x) g) g (λ f. shown (neither (not (i == (peer_of x.process g).heard)) (nat_lt ((peer_of x.process g).shown + 1) x.ssn) e) f)
+    (λ f. owes-then (λ c. In (parcel x.process 0 (Delivery i x.ssn x.payload)) c.parcels) g g (says_shown x.process g) (ignores x.process (Delivery i x.ssn x.payload) g) (saying-shown g x.process o)))
+  where
+    shown : (not (i == (peer_of x.process g).heard) ≡ false) × (nat_lt ((peer_of x.process g).shown + 1) x.ssn ≡ false) → is_next x g ≡ true → Told x.process (Delivery i x.ssn x.payload) g (says_shown x.process (happens (changes.Shown x) g))
+    shown t f =
+        let here : (i == (peer_of x.process g).heard) ≡ true = not-false (i == (peer_of x.process g).heard) t.0 in
+        let heard : i ≡ (peer_of x.process g).heard = grind (arith, nat_tests) in
+        let next : x.ssn ≡ suc (peer_of x.process g).shown = (let same : x.ssn ≡ (peer_of x.process g).shown + 1 = grind (arith, nat_tests) in omega (arith, same)) in
+        owes-then (λ c. In (parcel x.process 0 (Delivery i x.ssn x.payload)) c.parcels) g (happens (changes.Shown x) g) (says_shown x.process (happens (changes.Shown x) g)) (λ c s given. goes-shown g c i x o s given heard next)
+        (saying-shown (happens (changes.Shown x) g) x.process (record { some = o.some; low = (let l : x.process ≤ length g.store.peers = o.low in omega (arith, l, as-many g.store x.process (shows x.ssn (peer_of x.process g)))) }))
+
+records : (p i ssn k : ℕ) (g : TheGateway) → IsOf p g.store → Told p (Number i ssn k) g (recorded_by p i ssn k g)
+records p i ssn k g o =
+    by-if (Told p (Number i ssn k) g) ((i == (peer_of p g).heard) && is_kept ssn (peer_of p g)) (posts p (packets.Acknowledgement i k) (happens (changes.Numbered p ssn k) g)) g
+    (λ e. let t = both (i == (peer_of p g).heard) (is_kept ssn (peer_of p g)) e in
+    let here = t.0 in
+    let heard : i ≡ (peer_of p g).heard = grind (arith, nat_tests) in
+    (λ c s given. goes-numbered g c p i ssn k o s given heard t.1))
+    (λ e. ignores p (Number i ssn k) g)
+
+drops : (p k : ℕ) (g : TheGateway) → IsOf p g.store → Told p (Saved k) g (dropped_by p k g)
+drops p k g o =
+    by-if (Told p (Saved k) g) (nat_le (min k (last_of (peer_of p g))) (peer_of p g).dropped) g (happens (changes.Dropped p (min k (last_of (peer_of p g)))) g) (λ e. ignores p (Saved k) g)
+    (λ e. let some : (peer_of p g).dropped < min k (last_of (peer_of p g)) = grind (arith, nat_tests) in
+    (λ c s given. goes-dropped g c p k o s given some))
+
+-- a packet says its body
+said-is : (ps : List Parcel) (p : ℕ) (to : ℕ) (b d : Body) → to ≡ 0 → d ≡ b → In (parcel p to d) ps → In (parcel p 0 b) ps
+said-is ps p to b d here same i = subst (λ z. In (parcel p z b) ps) here (subst (λ z. In (parcel p to z) ps) same i)
+
+told-so : (x : Packet) (g : TheGateway) → IsOf x.from g.store → x.to ≡ 0 → (b : bodies.Body) → x.body ≡ b → IsHanded x g (told x.from b g)
+told-so x g o me (packets.Delivery i ssn y) e c s w = arrives i (record { process = x.from; ssn = ssn; payload = y }) g o c s (said-is c.parcels x.from x.to (Delivery i ssn y) w.body me (subst (λ z. Says x.from z w.body) e w.says) w.among)
+told-so x g o me (packets.Number i ssn k) e c s w = records x.from i ssn k g o c s (said-is c.parcels x.from x.to (Number i ssn k) w.body me (subst (λ z. Says x.from z w.body) e w.says) w.among)
+told-so x g o me (packets.Saved k) e c s w = drops x.from k g o c s (said-is c.parcels x.from x.to (Saved k) w.body me (subst (λ z. Says x.from z w.body) e w.says) w.among)
+told-so x g o me (packets.Acknowledgement i k) e c s w = stays g c s
+told-so x g o me (packets.Ask i k) e c s w = stays g c s
+told-so x g o me (packets.Told i j k flags entries) e c s w = stays g c s
+told-so x g o me (packets.Resume i k n) e c s w = stays g c s
+told-so x g o me (packets.Restored i j n k flags pairs) e c s w = stays g c s
+
+pub handed-so : (x : Packet) (g : TheGateway) → IsHanded x g (handed x g)
+handed-so x g = by-if (IsHanded x g) (is_for g x) (told x.from x.body g) g (λ e. here (both ((x.count == length g.store.peers) && (x.to == 0) && nat_lt 0 x.from && nat_le x.from x.count) (in_range x.body) e)) (λ e c s w. stays g c s)
+  where
+    here : (((x.count == length g.store.peers) && (x.to == 0) && nat_lt 0 x.from && nat_le x.from x.count) ≡ true) × (in_range x.body ≡ true) → IsHanded x g (told x.from x.body g)
+    here t =
+        let a = both ((x.count == length g.store.peers) && (x.to == 0) && nat_lt 0 x.from) (nat_le x.from x.count) t.0 in
+        let d = both ((x.count == length g.store.peers) && (x.to == 0)) (nat_lt 0 x.from) a.0 in
+        let f = both (x.count == length g.store.peers) (x.to == 0) d.0 in
+        let count : x.count ≡ length g.store.peers = (let u = f.0 in grind (arith, nat_tests)) in
+        let me : x.to ≡ 0 = (let u = f.1 in grind (arith, nat_tests)) in
+        let some : 0 < x.from = (let u = d.1 in grind (arith, nat_tests)) in
+        let low : x.from ≤ x.count = (let u = a.1 in grind (arith, nat_tests)) in
+        told-so x g (record { some = some; low = omega (arith, low, count) }) me x.body refl

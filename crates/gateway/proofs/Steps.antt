@@ -1,0 +1,116 @@
+-- Acts one after another, and packets that are put out
+use Rattle.std.proofs.Common.{◌≡◌, ◌≢◌, inl, inr, ℕ, ◌<◌, ◌≤◌, List, [], ◌∷◌, ◌++◌, length, Bool, true, false, refl, sym, ap, ◌∙◌, subst, arith}
+use Rattle.std.specs.Prelude.{nat_lt, if◌then◌else◌}
+use Rattle.std.specs.List.{AllByRecursion}
+use Rattle.world.specs.Phases.{is_up}
+use Rattle.cluster.specs.Parcels.{Body, Parcel, parcel, In}
+use Rattle.cluster.specs.Cluster.{Cluster, is_well, takes}
+use Rattle.cluster.specs.Rules.{Act, Puts, May, MayPut, does, Run, after_run, IsNode}
+use Rattle.packets.specs.declared.packet.Body as bodies
+use Rattle.packets.specs.declared.packet.Packet.{Packet}
+use Rattle.outbox.specs.Outbox.{pushed}
+use Rattle.outbox.specs.declared.outbox.TheConstants.{OUTBOX}
+use Rattle.gateway.specs.Gateway.{TheGateway, posts, packet_of}
+use Rattle.gateway.specs.Says.{Says, IsByGateway}
+use Rattle.gateway.specs.Stands.{Stands, PutOut, Goes, Owes, Acts}
+
+-- what holds of all holds of them where less was asked
+pub all-more : {X : Type 0} (P Q : X → Type 0) (xs : List X) → ((x : X) → P x → Q x) → AllByRecursion P xs → AllByRecursion Q xs
+all-more P Q [] f h = tt
+all-more P Q (x ∷ xs) f h = (f x h.0, all-more P Q xs f h.1)
+
+pub all-append : {X : Type 0} (P : X → Type 0) (xs ys : List X) → AllByRecursion P xs → AllByRecursion P ys → AllByRecursion P (xs ++ ys)
+all-append P [] ys h g = g
+all-append P (x ∷ xs) ys h g = (h.0, all-append P xs ys h.1 g)
+
+-- a packet more, where there is room
+all-pushed : (P : Packet → Type 0) (xs : List Packet) (x : Packet) → AllByRecursion P xs → P x → AllByRecursion P (pushed x xs)
+all-pushed P xs x h e = by_room (nat_lt (length xs) OUTBOX)
+  where
+    by_room : (b : Bool) → AllByRecursion P (if b then xs ++ x ∷ [] else xs)
+    by_room true = all-append P xs (x ∷ []) h (e, tt)
+    by_room false = h
+
+-- a packet that was put out still is among more parcels
+pub put-still : (n : ℕ) (ps qs : List Parcel) (x : Packet) → ((y : Parcel) → In y ps → In y qs) → PutOut n ps x → PutOut n qs x
+put-still n ps qs x more s = record { count_is = s.count_is; from = s.from; said = record { body = s.said.body; says = s.said.says; among = more (parcel 0 x.to s.said.body) s.said.among } }
+
+-- what waits was put out, where one more packet was
+pub out-posted : (g : TheGateway) (c : Cluster) (p : ℕ) (x : bodies.Body) (b : Body) → Says 0 x b → length g.store.peers ≡ c.count → AllByRecursion (PutOut c.count c.parcels) g.out
+    → AllByRecursion (PutOut c.count (parcel 0 p b ∷ c.parcels)) (posts p x g).out
+out-posted g c p x b says count out =
+    all-pushed (PutOut c.count (parcel 0 p b ∷ c.parcels)) g.out (packet_of g p x)
+    (all-more (PutOut c.count c.parcels) (PutOut c.count (parcel 0 p b ∷ c.parcels)) g.out (λ o. put-still c.count c.parcels (parcel 0 p b ∷ c.parcels) o (λ y i. inr i)) out)
+    (record { count_is = count; from = refl; said = record { body = b; says = says; among = inl refl } })
+
+pub takes-here : (g : TheGateway) (c : Cluster) → Stands g c → takes c 0 ≡ true
+takes-here g c s = rw (s.stage, s.greeted, s.phase) refl
+
+pub well-here : (g : TheGateway) (c : Cluster) → Stands g c → is_well c 0 ≡ true
+well-here g c s = rw (s.stage, s.greeted, s.phase) refl
+
+-- it stands in the cluster in which the packet is put out
+pub stands-posted : (g : TheGateway) (c : Cluster) (p : ℕ) (x : bodies.Body) (b : Body) → Says 0 x b → Stands g c → Stands (posts p x g) (does c (Puts 0 p b))
+stands-posted g c p x b says s =
+    record {
+      count = s.count;
+      stage = s.stage;
+      greeted = s.greeted;
+      phase = s.phase;
+      life = s.life;
+      history = s.history;
+      logs = s.logs;
+      shown = s.shown;
+      outputs = s.outputs;
+      heard = s.heard;
+      resumed = s.resumed;
+      out = out-posted g c p x b says s.count s.out;
+    }
+
+-- to put out what the cluster lets it
+pub posted : (g : TheGateway) (c : Cluster) (p : ℕ) (x : bodies.Body) (b : Body) → Says 0 x b → Stands g c → IsNode c p → MayPut c 0 p b → Goes (posts p x g) c
+posted g c p x b says s node may =
+    record {
+      acts = Puts 0 p b ∷ [];
+      run = ((omega arith, node.1, (λ e. absurd (let some : 0 < p = node.0 in omega (arith, e, some))), may), tt);
+      by = (refl, tt);
+      stands = stands-posted g c p x b says s;
+    }
+
+-- to do nothing
+pub stays : (g : TheGateway) (c : Cluster) → Stands g c → Goes g c
+stays g c s = record { acts = []; run = tt; by = tt; stands = s }
+
+-- to do one thing
+pub does-one : (g : TheGateway) (c : Cluster) (a : Act) → May c a → IsByGateway a → Stands g (does c a) → Goes g c
+does-one g c a may by s = record { acts = a ∷ []; run = (may, tt); by = (by, tt); stands = s }
+
+-- a run goes on
+run-on : (c : Cluster) (acts more : List Act) → Run c acts → Run (after_run c acts) more → Run c (acts ++ more) × (after_run c (acts ++ more) ≡ after_run (after_run c acts) more)
+run-on c [] more r q = (q, refl)
+run-on c (a ∷ acts) more r q = let t = run-on (does c a) acts more r.1 q in ((r.0, t.0), t.1)
+
+pub goes-then : (mid new : TheGateway) (c : Cluster) → Goes mid c → ((d : Cluster) → Stands mid d → Goes new d) → Goes new c
+goes-then mid new c g more =
+    let m = more (after_run c g.acts) g.stands in
+    let both = run-on c g.acts m.acts g.run m.run in
+    record {
+      acts = g.acts ++ m.acts;
+      run = both.0;
+      by = all-append IsByGateway g.acts m.acts g.by m.by;
+      stands = subst (Stands new) (sym both.1) m.stands;
+    }
+
+pub acts-self : (g : TheGateway) → Acts g g
+acts-self g c s u = stays g c s
+
+pub acts-then : (old mid new : TheGateway) → Acts old mid → Acts mid new → Acts old new
+acts-then old mid new f g c s u = goes-then mid new c (f c s u) (λ d t. g d t tt)
+
+pub owes-then : (given : Cluster → Type 0) (old mid new : TheGateway) → Owes given old mid → Acts mid new → Owes given old new
+owes-then given old mid new f g c s h = goes-then mid new c (f c s h) (λ d t. g d t tt)
+
+-- what holds of both branches holds of the one that is taken
+pub by-if : {X : Type 0} (P : X → Type 0) (b : Bool) (x y : X) → (b ≡ true → P x) → (b ≡ false → P y) → P (if b then x else y)
+by-if P true x y f g = f refl
+by-if P false x y f g = g refl

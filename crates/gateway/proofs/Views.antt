@@ -1,0 +1,36 @@
+-- Results, and what waits to be taken
+use Rattle.std.proofs.Common.{◌≡◌, List, [], ◌∷◌, Option, Some, None, Result, Ok, Err, OnOk, refl, ap, subst, ◌∙◌}
+use Rattle.std.specs.List.{AllByRecursion}
+use Rattle.packets.specs.declared.packet.Packet.{Packet}
+use Rattle.cluster.specs.Cluster.{Cluster}
+use Rattle.outbox.specs.Outbox.{Pops}
+use Rattle.gateway.specs.Gateway.{TheGateway}
+use Rattle.gateway.specs.Stands.{Stands, PutOut, Takes}
+
+pub on-ok : {X E : Type 0} (r : Result X E) (P Q : Type 0) → (P → Q) → OnOk r P → OnOk r Q
+on-ok (Ok x) P Q f h = f h
+on-ok (Err e) P Q f h = tt
+
+-- the first packet that waits leaves
+pub takes-so : (o : Option Packet) (g : TheGateway) (rest : List Packet) → Pops o g.out rest → Takes o g (record g { out = rest })
+takes-so None g rest e = (e.0, ap (λ xs. record g { out = xs }) e.1 ∙ ap (λ xs. record g { out = xs }) (let back : [] ≡ g.out = (cc) in back))
+takes-so (Some x) g rest e = (ap (λ xs. record g { out = xs }) e, λ c s. taken c s (subst (AllByRecursion (PutOut c.count c.parcels)) e s.out))
+  where
+    taken : (c : Cluster) → Stands g c → AllByRecursion (PutOut c.count c.parcels) (x ∷ rest) → PutOut c.count c.parcels x × Stands (record g { out = rest }) c
+    taken c s out = (
+      out.0,
+      record {
+        count = s.count;
+        stage = s.stage;
+        greeted = s.greeted;
+        phase = s.phase;
+        life = s.life;
+        history = s.history;
+        logs = s.logs;
+        shown = s.shown;
+        outputs = s.outputs;
+        heard = s.heard;
+        resumed = s.resumed;
+        out = out.1;
+      },
+    )

@@ -1,0 +1,17 @@
+use Rattle.std.proofs.Common.{rules, ◌≡◌, ◌∙◌, ap, [], List, replicate}
+use Rattle.std.proofs.lemmas.Grind.{common_steps}
+use Rattle.gateway.specs.declared.change.Change.{Change}
+use Rattle.gateway.specs.declared.change.Output.{Output}
+use Rattle.gateway.specs.Peer.{ThePeer, no_peer}
+use Rattle.gateway.specs.Store.{TheStore}
+use Rattle.gateway.proofs.Opening.{stands-opened}
+use Rattle.gateway.proofs.gateway.Gateway.open.Goals as goal
+
+pub returns-clause-stands : goal.returns-clause-stands
+returns-clause-stands c f =
+    let s : TheStore = c.in_ok-store.store in
+    let peers : s.peers ≡ replicate c.args.count no_peer = search rules in
+    let outputs : s.outputs ≡ [] = search rules in
+    let changes : c.new-3.result.items ≡ [] = search rules in
+    let out : c.in_ok-out.out ≡ [] = search rules in
+    rw (peers, outputs, changes, out) (stands-opened c.args.count c.args.page c.args.tick f)

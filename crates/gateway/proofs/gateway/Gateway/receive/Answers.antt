@@ -1,0 +1,11 @@
+use Rattle.std.proofs.Common.{subst, sym}
+use Rattle.gateway.specs.Gateway.{TheGateway}
+use Rattle.gateway.specs.Stands.{IsHanded}
+use Rattle.gateway.proofs.Views.{on-ok}
+use Rattle.gateway.proofs.Handing.{handed-so}
+use Rattle.gateway.proofs.gateway.Gateway.receive.Goals as goal
+
+pub returns-clause-acts : goal.returns-clause-acts
+returns-clause-acts c =
+    let P : TheGateway → Type 0 = λ v. IsHanded c.args.packet.now c.args.self.now v in
+    on-ok c.hand.result _ _ (λ e. subst P (sym e) (handed-so c.args.packet.now c.args.self.now)) c.hand.ensures.ok
