@@ -1,6 +1,6 @@
 -- The gateway stands where a change is an act of its own
 use Rattle.std.proofs.Common.{◌≡◌, ◌≢◌, inl, inr, ℕ, suc, ◌+◌, ◌-◌, ◌<◌, ◌≤◌, List, [], ◌∷◌, ◌++◌, length, map, take, drop, min, max, Bool, true, false, refl, sym, ap, ◌∙◌, subst, arith, append_assoc}
-use Rattle.std.specs.Prelude.{Some, None, ◌&&◌, ◌==◌, nat_lt, nat_le, if◌then◌else◌}
+use Rattle.std.specs.Prelude.{Option, Some, None, slice_index_or, ◌&&◌, ◌==◌, nat_lt, nat_le, if◌then◌else◌}
 use Rattle.std.specs.List.{AllByRecursion}
 use Rattle.std.proofs.lemmas.Bool.Decides.{nat_tests}
 use Rattle.std.proofs.lemmas.List.{map-append, take-append-drop}
@@ -11,17 +11,20 @@ use Rattle.world.specs.Calls.{up_to}
 use Rattle.world.specs.Logs.{sent, is_entry}
 use Rattle.theorems.proofs.Changes.{at-itself}
 use Rattle.cluster.specs.Parcels.{Delivery, Number, Acknowledgement, Ask, Resume, Saved, parcel, In}
+use Rattle.world.specs.Phases.{Up, Busy}
 use Rattle.cluster.specs.Cluster.{Cluster, seen}
 use Rattle.cluster.specs.Rules.{Act, Input, Shows, Records, Drops, Hears, Obeys, May, does, IsNode, message}
 use Rattle.packets.specs.declared.packet.Body.TheVariants as packets
 use Rattle.gateway.specs.declared.change.Output.{Output}
 use Rattle.gateway.specs.declared.change.Change.{Change}
 use Rattle.gateway.specs.declared.change.Change.TheVariants as changes
-use Rattle.gateway.specs.Peer.{ThePeer, last_of, is_kept, appended, recorded, dropped_first, dropped_to, hears, forgets, shows}
+use Rattle.gateway.specs.declared.peer.Logged.{Logged}
+use Rattle.gateway.specs.Peer.{ThePeer, no_entry, last_of, is_kept, appended, recorded, dropped_first, dropped_to, hears, forgets, shows}
 use Rattle.gateway.specs.Store.{TheStore, IsOf, peer_at, with_peer}
 use Rattle.gateway.specs.Gateway.{TheGateway, peer_of, posts, happens}
+use Rattle.gateway.specs.Calls.{obeyed}
 use Rattle.gateway.specs.Stands.{Stands, KeepsOf, EndsWith, PutOut, Goes, shown_as}
-use Rattle.gateway.proofs.Peers.{here-is, there-is, each-peer, same-part, as-many}
+use Rattle.gateway.proofs.Peers.{each-peer, same-part, as-many, each-twice, twice-many}
 use Rattle.gateway.proofs.Keeping.{kept-within, sent-size, kept-appended, kept-numbered, kept-dropped, kept-forgot}
 use Rattle.gateway.proofs.Steps.{takes-here, out-posted, does-one, stays}
 
@@ -274,3 +277,92 @@ goes-asked g c s =
       resumed = s.resumed;
       out = s.out;
     })
+
+-- a log whose messages and numbers are as they were
+kept-same : (y z : ThePeer) (d : ℕ) (xs : List Payload) (numbers : ℕ → Option ℕ) → y.dropped ≡ z.dropped → y.entries ≡ z.entries → KeepsOf z d xs numbers → KeepsOf y d xs numbers
+kept-same y z d xs numbers e f k =
+    record {
+      before = k.before;
+      many = k.many ∙ sym e;
+      joined = ap (λ (es : List Logged). k.before ++ map (λ (x : Logged). x.payload) es) f ∙ k.joined;
+      dropped_is = k.dropped_is ∙ sym e;
+      numbers_are = λ i l. ap (λ (es : List Logged). (slice_index_or es i no_entry).number) f ∙ k.numbers_are i (subst (λ (es : List Logged). i < length es) f l) ∙ ap (λ n. numbers (suc (n + i))) (sym e);
+      beyond = λ i l. k.beyond i (let same : length y.entries ≡ length z.entries = ap length f in omega (arith, l, same, e));
+    }
+
+-- a newer incarnation is heard of
+pub goes-heard : (g : TheGateway) (c : Cluster) (p i k : ℕ) → IsOf p g.store → Stands g c → In (parcel p 0 (Ask i k)) c.parcels → (peer_of p g).heard < i → Goes (happens (changes.Heard p i false) g) c
+goes-heard g c p i k o s given newer = does-one (happens (changes.Heard p i false) g) c (Hears p 0 i k) (given, omega (arith, s.heard p node, newer), inl (takes-here g c s)) refl stands
+  where
+    node : IsNode c p
+    node = node-is g c p s o
+
+    logs : (q : ℕ) → IsNode c q → KeepsOf (peer_at q (with_peer p (hears i false (peer_of p g)) g.store)) (c.trims 0 q) (c.inputs q) (c.numbers 0 q)
+    logs q n = each-peer (λ z y. KeepsOf y (c.trims 0 z) (c.inputs z) (c.numbers 0 z)) g.store p q (hears i false (peer_of p g)) o n.0
+        (kept-same (hears i false (peer_of p g)) (peer_of p g) (c.trims 0 p) (c.inputs p) (c.numbers 0 p) refl refl (s.logs p node)) (λ apart. s.logs q n)
+
+    heard : (q : ℕ) → IsNode c q → (if q == p then i else c.heard 0 q) ≡ (peer_at q (with_peer p (hears i false (peer_of p g)) g.store)).heard
+    heard q n = each-peer (λ z y. (if z == p then i else c.heard 0 z) ≡ y.heard) g.store p q (hears i false (peer_of p g)) o n.0
+        (at-itself p (λ t. (if t then i else c.heard 0 p) ≡ i) refl) (λ apart. rw (apart-is q p apart) (s.heard q n))
+
+    resumed : (q : ℕ) → IsNode c q → (if q == p then false else c.resumed 0 q) ≡ (peer_at q (with_peer p (hears i false (peer_of p g)) g.store)).resumed
+    resumed q n = each-peer (λ z y. (if z == p then false else c.resumed 0 z) ≡ y.resumed) g.store p q (hears i false (peer_of p g)) o n.0
+        (at-itself p (λ t. (if t then false else c.resumed 0 p) ≡ false) refl) (λ apart. rw (apart-is q p apart) (s.resumed q n))
+
+    stands : Stands (happens (changes.Heard p i false) g) (does c (Hears p 0 i k))
+    stands =
+        record {
+          count = count-still g c p (hears i false (peer_of p g)) o s;
+          stage = s.stage;
+          greeted = s.greeted;
+          phase = s.phase;
+          life = s.life;
+          history = s.history;
+          logs = logs;
+          shown = shown-still g c p (hears i false (peer_of p g)) o s refl;
+          outputs = s.outputs;
+          heard = heard;
+          resumed = resumed;
+          out = s.out;
+        }
+
+-- a Resume is obeyed: numbers above what is kept are forgotten
+pub goes-obeyed : (g : TheGateway) (c : Cluster) (p i k n : ℕ) → IsOf p g.store → Stands g c → In (parcel p 0 (Resume i k n)) c.parcels → i ≡ (peer_of p g).heard → (peer_of p g).resumed ≡ false → Goes (obeyed p i k g) c
+goes-obeyed g c p i k n o s given last fresh =
+    does-one (obeyed p i k g) c (Obeys p 0 i k n) (given, takes-here g c s, last ∙ sym (s.heard p node), s.resumed p node ∙ fresh, (λ m busy. absurd (let up : c.phase 0 ≡ Up = s.phase in cc))) refl stands
+  where
+    node : IsNode c p
+    node = node-is g c p s o
+
+    logs : (q : ℕ) → IsNode c q → KeepsOf (peer_of q (obeyed p i k g)) (c.trims 0 q) (c.inputs q) (if q == p then (λ ssn. up_to k (c.numbers 0 p ssn)) else c.numbers 0 q)
+    logs q m = each-twice g.store p (forgets k (peer_of p g)) (hears i true) o (λ z y. KeepsOf y (c.trims 0 z) (c.inputs z) (if z == p then (λ ssn. up_to k (c.numbers 0 p ssn)) else c.numbers 0 z)) q m.0
+        (at-itself p (λ t. KeepsOf (hears i true (forgets k (peer_of p g))) (c.trims 0 p) (c.inputs p) (if t then (λ ssn. up_to k (c.numbers 0 p ssn)) else c.numbers 0 p))
+        (kept-same (hears i true (forgets k (peer_of p g))) (forgets k (peer_of p g)) (c.trims 0 p) (c.inputs p) (λ ssn. up_to k (c.numbers 0 p ssn)) refl refl (kept-forgot (peer_of p g) k (c.trims 0 p) (c.inputs p) (c.numbers 0 p) (s.logs p node))))
+        (λ apart. rw (apart-is q p apart) (s.logs q m))
+
+    shown : (q : ℕ) → IsNode c q → (peer_of q (obeyed p i k g)).shown ≡ count_of q c.shown
+    shown q m = each-twice g.store p (forgets k (peer_of p g)) (hears i true) o (λ z y. y.shown ≡ count_of z c.shown) q m.0 (s.shown p node) (λ apart. s.shown q m)
+
+    heard : (q : ℕ) → IsNode c q → c.heard 0 q ≡ (peer_of q (obeyed p i k g)).heard
+    heard q m = each-twice g.store p (forgets k (peer_of p g)) (hears i true) o (λ z y. c.heard 0 z ≡ y.heard) q m.0 (s.heard p node ∙ sym last) (λ apart. s.heard q m)
+
+    resumed : (q : ℕ) → IsNode c q → (if q == p then true else c.resumed 0 q) ≡ (peer_of q (obeyed p i k g)).resumed
+    resumed q m = each-twice g.store p (forgets k (peer_of p g)) (hears i true) o (λ z y. (if z == p then true else c.resumed 0 z) ≡ y.resumed) q m.0
+        (at-itself p (λ t. (if t then true else c.resumed 0 p) ≡ true) refl) (λ apart. rw (apart-is q p apart) (s.resumed q m))
+
+    stands : Stands (obeyed p i k g) (does c (Obeys p 0 i k n))
+    stands =
+        record {
+          count = twice-many g.store p (forgets k (peer_of p g)) (hears i true) o ∙ s.count;
+          stage = s.stage;
+          greeted = s.greeted;
+          phase = s.phase;
+          life = s.life;
+          history = s.history;
+          logs = logs;
+          shown = shown;
+          outputs = s.outputs;
+          heard = heard;
+          resumed = resumed;
+          out = s.out;
+        }

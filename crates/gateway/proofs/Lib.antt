@@ -4,6 +4,7 @@ pub mod Peers
 pub mod Keeping
 pub mod Changing
 pub mod Sending
+pub mod Answering
 pub mod Handing
 pub mod Views
 pub mod Opening

@@ -31,3 +31,26 @@ same-part F s p q new o one same = each-peer (λ z n. F n ≡ F (peer_at z s)) s
 
 pub as-many : (s : TheStore) (p : ℕ) (new : ThePeer) → length (with_peer p new s).peers ≡ length s.peers
 as-many s p new = length-set s.peers (p - 1) new
+
+-- a process is still one of those where something changes
+pub inside : (s : TheStore) (p : ℕ) (new : ThePeer) → IsOf p s → IsOf p (with_peer p new s)
+inside s p new o = record { some = o.some; low = omega (arith, o.low, as-many s p new) }
+
+-- where the same one changes once more
+module _ (s : TheStore) (p : ℕ) (mid : ThePeer) (f : ThePeer → ThePeer) (o : IsOf p s) where
+  abbrev twice : TheStore
+  twice = with_peer p (f (peer_at p (with_peer p mid s))) (with_peer p mid s)
+
+  pub twice-inside : IsOf p twice
+  twice-inside = inside (with_peer p mid s) p (f (peer_at p (with_peer p mid s))) (inside s p mid o)
+
+  pub twice-here : peer_at p twice ≡ f mid
+  twice-here = here-is (with_peer p mid s) p (f (peer_at p (with_peer p mid s))) (inside s p mid o) ∙ ap f (here-is s p mid o)
+
+  pub twice-many : length twice.peers ≡ length s.peers
+  twice-many = as-many (with_peer p mid s) p (f (peer_at p (with_peer p mid s))) ∙ as-many s p mid
+
+  pub each-twice : (P : ℕ → ThePeer → Type 0) (q : ℕ) → 0 < q → P p (f mid) → (q ≢ p → P q (peer_at q s)) → P q (peer_at q twice)
+  each-twice P q one here there =
+      each-peer P (with_peer p mid s) p q (f (peer_at p (with_peer p mid s))) (inside s p mid o) one (subst (λ z. P p (f z)) (sym (here-is s p mid o)) here)
+      (λ apart. subst (P q) (sym (there-is s p q mid o.some one apart)) (there apart))

@@ -12,11 +12,11 @@ use Rattle.packets.specs.declared.packet.Body.TheVariants as packets
 use Rattle.gateway.specs.declared.peer.Logged.{Logged}
 use Rattle.gateway.specs.declared.change.Change.TheVariants as changes
 use Rattle.gateway.specs.Peer.{ThePeer, no_entry, last_of, is_kept, payload_of, number_of, appended}
-use Rattle.gateway.specs.Store.{TheStore, IsOf, peer_at, with_peer}
+use Rattle.gateway.specs.Store.{TheStore, IsOf}
 use Rattle.gateway.specs.Gateway.{TheGateway, peer_of, delivers, happens, puts_in, hands_out, unnumbered, delivers_each, resent, ticked_to, ticked}
 use Rattle.gateway.specs.Calls.{says_shown}
 use Rattle.gateway.specs.Stands.{Stands, KeepsOf, Acts}
-use Rattle.gateway.proofs.Peers.{here-is, as-many}
+use Rattle.gateway.proofs.Peers.{here-is, inside}
 use Rattle.gateway.proofs.Keeping.{kept-within, sent-size}
 use Rattle.gateway.proofs.Changing.{node-is, goes-input, goes-taken}
 use Rattle.gateway.proofs.Steps.{posted, well-here, acts-self, acts-then, by-if}
@@ -41,7 +41,7 @@ abbrev payload_in : Logged → List ℕ
 payload_in e = e.payload
 
 -- a message that is kept is the one that was sent
-sent-is : (p : ThePeer) (d : ℕ) (xs : List Payload) (numbers : ℕ → Option ℕ) (ssn : ℕ) → KeepsOf p d xs numbers → is_kept ssn p ≡ true → nth xs ssn ≡ Some (payload_of ssn p)
+pub sent-is : (p : ThePeer) (d : ℕ) (xs : List Payload) (numbers : ℕ → Option ℕ) (ssn : ℕ) → KeepsOf p d xs numbers → is_kept ssn p ≡ true → nth xs ssn ≡ Some (payload_of ssn p)
 sent-is p d xs numbers ssn k kept =
     let w = kept-within p ssn kept in
     let place : ssn ≡ suc (length k.before + (ssn - p.dropped - 1)) = omega (arith, w.0, k.many) in
@@ -79,10 +79,6 @@ last-kept p x =
     pushed : (xs : List Logged) (y : Logged) → length (xs ++ y ∷ []) ≡ length xs + 1
     pushed [] y = refl
     pushed (z ∷ xs) y = ap suc (pushed xs y) ∙ (let e : suc (length xs + 1) ≡ suc (length xs) + 1 = omega arith in e)
-
--- a process is still one of those where something changes
-pub inside : (s : TheStore) (p : ℕ) (new : ThePeer) → IsOf p s → IsOf p (with_peer p new s)
-inside s p new o = record { some = o.some; low = omega (arith, o.low, as-many s p new) }
 
 -- an input is logged, and sent
 pub putting-in : (g : TheGateway) (p : ℕ) (x : Payload) → IsOf p g.store → Acts g (puts_in p x g)

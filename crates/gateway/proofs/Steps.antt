@@ -11,7 +11,8 @@ use Rattle.packets.specs.declared.packet.Packet.{Packet}
 use Rattle.outbox.specs.Outbox.{pushed}
 use Rattle.outbox.specs.declared.outbox.TheConstants.{OUTBOX}
 use Rattle.gateway.specs.Gateway.{TheGateway, posts, packet_of}
-use Rattle.gateway.specs.Says.{Says, IsByGateway}
+use Rattle.pages.specs.Says.{Says}
+use Rattle.gateway.specs.Deeds.{IsByGateway}
 use Rattle.gateway.specs.Stands.{Stands, PutOut, Goes, Owes, Acts}
 
 -- what holds of all holds of them where less was asked

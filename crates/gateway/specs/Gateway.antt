@@ -4,7 +4,7 @@ use Rattle.packets.specs.declared.packet.Body.{Body}
 use Rattle.packets.specs.declared.packet.Body.TheVariants.{Delivery}
 use Rattle.packets.specs.declared.packet.Packet.{Packet}
 use Rattle.outbox.specs.Outbox.{pushed}
-use Rattle.gateway.specs.declared.gateway.TheConstants.{LEAST_PAGE}
+use Rattle.pages.specs.declared.page.TheConstants.{LEAST_PAGE}
 use Rattle.gateway.specs.declared.peer.Logged.{Logged}
 use Rattle.gateway.specs.declared.change.Change.{Change}
 use Rattle.gateway.specs.declared.change.Change.TheVariants.{Input, Taken}

@@ -2,5 +2,5 @@ pub mod Peer
 pub mod Store
 pub mod Gateway
 pub mod Calls
-pub mod Says
+pub mod Deeds
 pub mod Stands

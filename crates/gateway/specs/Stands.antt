@@ -12,7 +12,8 @@ use Rattle.gateway.specs.declared.peer.Logged.{Logged}
 use Rattle.gateway.specs.declared.change.Output.{Output}
 use Rattle.gateway.specs.Peer.{ThePeer, no_entry}
 use Rattle.gateway.specs.Gateway.{TheGateway, peer_of}
-use Rattle.gateway.specs.Says.{Says, IsByGateway}
+use Rattle.pages.specs.Says.{Says}
+use Rattle.gateway.specs.Deeds.{IsByGateway}
 
 -- a body that the packet says was put out from p
 pub record WasSaid (parcels : List Parcel) (p : ℕ) (x : Packet) : Type 0 where

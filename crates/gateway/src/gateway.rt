@@ -14,17 +14,15 @@ use helpers::Payload;
 use limits::PROCESSES;
 use outbox::Outbox;
 use packets::{Body, NUMBER_LIMIT, Packet};
+use pages::LEAST_PAGE;
 use std::alloc::{AllocError, Global};
 use std::marker::Model;
-
-/// Bytes of the largest packet, at least.
-pub const LEAST_PAGE: u32 = 512;
 
 /// The way in and out of a cluster.
 #[derive(Drop)]
 pub struct Gateway {
     /// How many bytes a packet has at most.
-    pub(crate) page: u32,
+    pub(crate) page: u16,
     /// How many messages one tick makes for a process, at most.
     pub(crate) tick: u32,
     pub(crate) store: Store,
@@ -46,7 +44,7 @@ impl Model for Gateway {
 impl Gateway {
     /// The gateway of a new cluster of so many processes. The others say how many bytes a packet has
     /// at most, and how many messages one tick makes for a process.
-    pub fn open(alloc: Global, count: u8, page: u32, tick: u32) -> Result<Gateway, AllocError>
+    pub fn open(alloc: Global, count: u8, page: u16, tick: u32) -> Result<Gateway, AllocError>
         requires some { 1 ≤ count }
         requires few { count ≤ PROCESSES }
         requires page { LEAST_PAGE ≤ page }

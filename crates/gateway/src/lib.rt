@@ -3,7 +3,8 @@
 //! A [`Gateway`] knows no clock, socket, file or thread. Its host hands it messages from outside
 //! ([`Gateway::input`]) and the packets that came ([`Gateway::receive`]), sends those that it gives
 //! ([`Gateway::take`]), passes on what processes show ([`Gateway::output`]), and now and then lets it
-//! send again what isn't answered ([`Gateway::tick`]). The gateway never fails: its host keeps its
+//! send again what isn't answered ([`Gateway::tick`]). A process that comes back is told what the log
+//! holds for it, a page at a time. The gateway never fails: its host keeps its
 //! [`Store`] durably, by what happened to it since the host asked ([`Gateway::changes`]).
 //!
 //! The promise: each call is none, one or more acts of the gateway that the rules of crate `cluster`
@@ -26,8 +27,9 @@ mod gateway;
 mod peer;
 mod receiving;
 mod store;
+mod telling;
 
 pub use change::{Change, Output};
-pub use gateway::{Gateway, LEAST_PAGE};
+pub use gateway::Gateway;
 pub use peer::{Logged, Peer};
 pub use store::Store;

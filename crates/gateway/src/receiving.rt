@@ -8,20 +8,20 @@ ghost use Rattle.gateway.specs.Stands.{IsHanded};
 use crate::change::{Change, Output};
 use crate::gateway::Gateway;
 use packets::{Body, Packet};
-use std::alloc::AllocError;
+use std::alloc::{AllocError, Global};
 
 impl Gateway {
     /// A packet came. One that isn't of a process of this cluster to the gateway is dropped. A refusal
     /// changes nothing.
-    pub fn receive(&mut self, packet: &Packet) -> Result<(), AllocError>
+    pub fn receive(&mut self, alloc: Global, packet: &Packet) -> Result<(), AllocError>
         ensures value { OnOk result (self.new ≡ handed packet.now self.old) }
         ensures acts { OnOk result (IsHanded packet.now self.old self.new) }
         ensures err { OnErr result (self.new ≡ self.old) }
     {
-        self.hand(packet)
+        self.hand(alloc, packet)
     }
 
-    fn hand(&mut self, packet: &Packet) -> Result<(), AllocError>
+    fn hand(&mut self, alloc: Global, packet: &Packet) -> Result<(), AllocError>
         ensures ok { OnOk result (self.new ≡ handed packet.now self.old) }
         ensures err { OnErr result (self.new ≡ self.old) }
     {
@@ -49,6 +49,14 @@ impl Gateway {
                 number,
             } => self.receive_number(process, *incarnation, *ssn, *number),
             Body::Saved { covered } => self.receive_saved(process, *covered),
+            Body::Ask { incarnation, above } => {
+                self.receive_ask(alloc, process, *incarnation, *above)
+            }
+            Body::Resume {
+                incarnation,
+                kept,
+                above,
+            } => self.receive_resume(alloc, process, *incarnation, *kept, *above),
             _ => Ok(()),
         }
     }
