@@ -4,6 +4,7 @@ use Rattle.std.specs.Prelude.{if◌then◌else◌, ◌==◌, ◌&&◌, nat_lt, n
 use Rattle.std.proofs.lemmas.Bool.Decides.{nat_tests}
 use Rattle.std.proofs.Math.ListN.{get_or-eq_default}
 use Rattle.std.proofs.lemmas.List.{get_or-set_same, get_or-set_other, length-set, length-map}
+use Rattle.limits.specs.declared.TheConstants.{PACKETS, PROCESSES}
 use Rattle.rsn.specs.Receipts as rsn
 use Rattle.sender_log.specs.Queue.{TheQueue, no_queue, is_logged, recorded}
 use Rattle.sender_log.specs.Log.{TheLog, queue_of}
@@ -203,7 +204,7 @@ module _ (m : TheMachine) (w : World) (s : Stands m w) (room key to calls : ℕ)
                 by_ssn false e false f = absurd (cc)
 
     -- the process tells its number again, under the same key
-    pub again : judge w to x ≡ Known → (rsn incarnation : ℕ) → rsn_of (w.history to) x.sender x.ssn ≡ Some rsn → incarnation ≡ (process_at m to).incarnation → key < 4096
+    pub again : judge w to x ≡ Known → (rsn incarnation : ℕ) → rsn_of (w.history to) x.sender x.ssn ≡ Some rsn → incarnation ≡ (process_at m to).incarnation → key < PACKETS
         → Puts m.slots slots key (Some (Delivery to x)) (Some (Number to x.sender x.ssn rsn incarnation)) → Steps m (record m { slots = slots; calls = calls }) room (Arrive key) (Duplicate key) w
     again verdict rsn incarnation rsn_is incarnation_is low puts =
         let number : number_for w to x (rsn_of (w.history to) x.sender x.ssn) ≡ Some (Number to x.sender x.ssn rsn incarnation) =
@@ -303,7 +304,7 @@ module _ (m : TheMachine) (w : World) (s : Stands m w) (room key r t i k incarna
         none true = refl
         none false = refl
 
-  module _ (current : incarnation ≡ (process_at m r).incarnation) (logged : is_logged i (queue_of r (log_at m t)) ≡ true) (low : key < 4096) (puts : Puts m.slots slots key (Some (Number r t i k incarnation)) (Some (Acknowledgement t r k incarnation))) where
+  module _ (current : incarnation ≡ (process_at m r).incarnation) (logged : is_logged i (queue_of r (log_at m t)) ≡ true) (low : key < PACKETS) (puts : Puts m.slots slots key (Some (Number r t i k incarnation)) (Some (Acknowledgement t r k incarnation))) where
     -- the log with the number
     abbrev pub l : TheLog
     l = numbered (log_at m t) r i k
@@ -458,7 +459,7 @@ module _ (m : TheMachine) (w : World) (s : Stands m w) (room key t r k incarnati
       none true = refl
       none false = refl
 
-  module _ (current : incarnation ≡ (process_at m r).incarnation) (first : 0 < k) (known : k ≤ received (process_at m r)) (few : length m.processes ≤ 15) (y : TheProcess) (a : Acknowledges k (process_at m r) y) where
+  module _ (current : incarnation ≡ (process_at m r).incarnation) (first : 0 < k) (known : k ≤ received (process_at m r)) (few : length m.processes ≤ PROCESSES) (y : TheProcess) (a : Acknowledges k (process_at m r) y) where
     among : k ≤ length (w.history r)
     among = omega (arith, known, as_long)
 

@@ -2,6 +2,7 @@
 use Rattle.std.proofs.Common.{◌≡◌, ◌≢◌, ℕ, zero, suc, ◌+◌, ◌-◌, ◌<◌, ◌≤◌, List, [], ◌∷◌, length, Bool, true, false, refl, sym, ap, ◌∙◌, arith}
 use Rattle.std.specs.Prelude.{◌==◌, ◌&&◌, ◌||◌, not, nat_lt, nat_le, Option, Some, None, is_some, count_by, slice_index_or, option_and_then}
 use Rattle.std.proofs.lemmas.Bool.Decides.{nat_tests}
+use Rattle.limits.specs.declared.TheConstants.{PACKETS}
 use Rattle.sender_log.specs.Queue.{is_logged}
 use Rattle.sender_log.specs.Log.{queue_of}
 use Rattle.world.specs.declared.message.Message.{Message}
@@ -43,22 +44,22 @@ module _ (m : TheMachine) (w : World) (s : Stands m w) (room d feed : ℕ) (x : 
 
 -- A place for one packet more
 
-module _ (m : TheMachine) (w : World) (s : Stands m w) (room : ℕ) (keys : (key : ℕ) → 4096 ≤ key → slice_index_or m.slots key None ≡ None) where
-  by_fields : (full crowded : Bool) → nat_le room (busy m) ≡ full → nat_le (4096 - live m) (count_by is_some m.slots) ≡ crowded
-      → least ((nat_lt room (busy m + 1), 12) ∷ (nat_lt 4096 (count_by is_some m.slots + live m + 1), 13) ∷ []) ≡ option_and_then cause_of (placing m room)
+module _ (m : TheMachine) (w : World) (s : Stands m w) (room : ℕ) (keys : (key : ℕ) → PACKETS ≤ key → slice_index_or m.slots key None ≡ None) where
+  by_fields : (full crowded : Bool) → nat_le room (busy m) ≡ full → nat_le (PACKETS - live m) (count_by is_some m.slots) ≡ crowded
+      → least ((nat_lt room (busy m + 1), 12) ∷ (nat_lt PACKETS (count_by is_some m.slots + live m + 1), 13) ∷ []) ≡ option_and_then cause_of (placing m room)
   by_fields true b e f = let late : nat_lt room (busy m + 1) ≡ true = grind (arith, nat_tests) in rw (e, late) refl
   by_fields false true e f =
       let early : nat_lt room (busy m + 1) ≡ false = grind (arith, nat_tests) in
-      let many : nat_lt 4096 (count_by is_some m.slots + live m + 1) ≡ true = grind (arith, nat_tests) in
+      let many : nat_lt PACKETS (count_by is_some m.slots + live m + 1) ≡ true = grind (arith, nat_tests) in
       rw (e, f, early, many) refl
   by_fields false false e f =
       let early : nat_lt room (busy m + 1) ≡ false = grind (arith, nat_tests) in
-      let few : nat_lt 4096 (count_by is_some m.slots + live m + 1) ≡ false = grind (arith, nat_tests) in
+      let few : nat_lt PACKETS (count_by is_some m.slots + live m + 1) ≡ false = grind (arith, nat_tests) in
       rw (e, f, early, few) refl
 
   -- what the world says of a place is what the fields say
   pub place-is : least ((journal_full room (open_jobs w), 12) ∷ (wire_full w, 13) ∷ []) ≡ option_and_then cause_of (placing m room)
-  place-is = rw (jobs m w s, live-is m w s, packets-is m w s keys, wire-is) (by_fields (nat_le room (busy m)) (nat_le (4096 - live m) (count_by is_some m.slots)) refl refl)
+  place-is = rw (jobs m w s, live-is m w s, packets-is m w s keys, wire-is) (by_fields (nat_le room (busy m)) (nat_le (PACKETS - live m) (count_by is_some m.slots)) refl refl)
 
 -- A message that is to leave
 
@@ -102,7 +103,7 @@ module _ (m : TheMachine) (w : World) (s : Stands m w) (room p d i : ℕ) where
               missing (suc j) n = entry_at m w s p d within to apart (down_at m w s p within up) (suc j) ∙ n (omega arith)
 
           -- past these causes, a message is refused only where it has no place
-          pub transmit-rest : is_logged i (queue_of d (log_at m p)) ≡ true → ((key : ℕ) → 4096 ≤ key → slice_index_or m.slots key None ≡ None) → refusal_of w room (Transmit p d i) ≡ option_and_then cause_of (placing m room)
+          pub transmit-rest : is_logged i (queue_of d (log_at m p)) ≡ true → ((key : ℕ) → PACKETS ≤ key → slice_index_or m.slots key None ≡ None) → refusal_of w room (Transmit p d i) ≡ option_and_then cause_of (placing m room)
           transmit-rest logged keys = rest ∙ rw (out, entry_at m w s p d within to apart (down_at m w s p within up) i ∙ logged) (place-is m w s room keys)
 
 -- What lies under a key
@@ -130,7 +131,7 @@ module _ (m : TheMachine) (w : World) (s : Stands m w) (room key : ℕ) where
         by_slot (Some k) some = refl
 
     -- a copy of a packet that is there is refused only where it has no place
-    pub copy-rest : ((key : ℕ) → 4096 ≤ key → slice_index_or m.slots key None ≡ None) → refusal_of w room (Copy key) ≡ option_and_then cause_of (placing m room)
+    pub copy-rest : ((key : ℕ) → PACKETS ≤ key → slice_index_or m.slots key None ≡ None) → refusal_of w room (Copy key) ≡ option_and_then cause_of (placing m room)
     copy-rest keys = rw something (place-is m w s room keys)
 
     pub lose-full : room ≤ busy m → refusal_of w room (Lose key) ≡ Some 12

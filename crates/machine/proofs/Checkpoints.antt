@@ -3,6 +3,7 @@ use Rattle.std.proofs.Common.{◌≡◌, ◌≢◌, ℕ, suc, ◌+◌, ◌-◌, 
 use Rattle.std.specs.Prelude.{◌==◌, nat_le, Option, None, is_some, slice_index_or}
 use Rattle.std.proofs.lemmas.Bool.Decides.{nat_tests}
 use Rattle.std.proofs.lemmas.List.{get_or-map, get_or-replicate, length-map, length-replicate, take_all}
+use Rattle.limits.specs.declared.TheConstants.{PROCESSES}
 use Rattle.rsn.specs.Receipts.{Received}
 use Rattle.send_gate.specs.Gate.{Releases}
 use Rattle.sender_log.specs.Queue.{TheQueue, no_queue}
@@ -45,7 +46,7 @@ work-live stages.Down o saved now h e may = absurd (true≢false (sym e))
 work-live (stages.Replaying plan alone) o saved now h e may = absurd (true≢false (sym e))
 work-live (stages.Resync peers) o saved now h e may = absurd (true≢false (sym e))
 
-module _ (m : TheMachine) (w : World) (s : Stands m w) (room p calls : ℕ) (y : TheProcess) (positive : 0 < p) (within : p ≤ length m.processes) (few : length m.processes ≤ 15) (up : is_up_at m p ≡ true) (width : length (process_at m p).outbox.log.queues ≡ suc (length m.processes))
+module _ (m : TheMachine) (w : World) (s : Stands m w) (room p calls : ℕ) (y : TheProcess) (positive : 0 < p) (within : p ≤ length m.processes) (few : length m.processes ≤ PROCESSES) (up : is_up_at m p ≡ true) (width : length (process_at m p).outbox.log.queues ≡ suc (length m.processes))
     (saves : IsSaved (saved_of p (length m.processes) (process_at m p).state (process_at m p).receipts (process_at m p).outbox.log) (process_at m p) y) where
   h : List Message
   h = w.history p

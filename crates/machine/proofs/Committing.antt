@@ -7,6 +7,7 @@ use Rattle.std.proofs.lemmas.Bool.Decides.{nat_tests}
 use Rattle.std.proofs.lemmas.List.{get_or_append_left, get_or-append_right, length-map, map_push}
 use Rattle.std.proofs.lemmas.List.Elements.{filter-append}
 use Rattle.std.proofs.lemmas.List.Sums.{sum_by-append}
+use Rattle.limits.specs.declared.TheConstants.{PACKETS}
 use Rattle.rsn.specs.Receipts.{Received}
 use Rattle.sender_log.specs.Log.{queue_of}
 use Rattle.send_gate.specs.declared.gate.Held.{Held}
@@ -253,7 +254,7 @@ module _ (m : TheMachine) (w : World) (s : Stands m w) (t : TheTask) (k : Matche
           rw (run_same, longer) (holds-given was.outbox.gate y.outbox.gate c.outbox.held d (run_of w me) (length h) (w.released me d) (sent_by w me d) (λ j. length (w.handlers.sends me (take j hx) d)) c.outbox.waiting c.outbox.released earlier now (run_to-is (w.acknowledged me) (length h)).0 by_messages by_all (holds_at m w s me d k.inside k.within to other (up_at m w s me k.within up)))
 
   -- the step
-  module _ (log_of : IsLogOf (length m.processes) me was.outbox.log) (sent_all : HasSent was) (key calls : ℕ) (slots : List (Option Packet)) (low : key < 4096) (puts : Puts m.slots slots key None (Some (Number me x.sender x.ssn t.rsn t.incarnation))) where
+  module _ (log_of : IsLogOf (length m.processes) me was.outbox.log) (sent_all : HasSent was) (key calls : ℕ) (slots : List (Option Packet)) (low : key < PACKETS) (puts : Puts m.slots slots key None (Some (Number me x.sender x.ssn t.rsn t.incarnation))) where
     abbrev next : TheMachine
     next = record m { processes = set m.processes (me - 1) y; slots = slots; calls = calls }
 

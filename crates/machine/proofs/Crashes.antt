@@ -4,6 +4,7 @@ use Rattle.std.specs.Prelude.{◌==◌, None, nat_lt, slice_index_or, replicate}
 use Rattle.std.proofs.lemmas.Bool.Decides.{nat_tests}
 use Rattle.std.proofs.lemmas.List.{get_or-replicate, length-replicate}
 use Rattle.std.proofs.Math.ListN.{get_or-eq_default}
+use Rattle.limits.specs.declared.TheConstants.{PARTIES}
 use Rattle.verifier.specs.Typed.{Typed}
 use Rattle.sender_log.specs.Queue.{TheQueue, no_queue}
 use Rattle.world.specs.declared.call.Call.TheVariants.{Crash}
@@ -55,7 +56,7 @@ module _ (m : TheMachine) (w : World) (s : Stands m w) (room p calls : ℕ) (out
       }))
       (λ d to apart back. let e = rw (self-same p) at back in absurd (true≢false e))
       (λ d to apart up. let e = rw (self-same p) at up in absurd (true≢false (sym e)))
-      (λ d down. ap (λ (o : TheOutbox). slice_index_or o.gate.released d 0) is ∙ zeros 16 d))
+      (λ d down. ap (λ (o : TheOutbox). slice_index_or o.gate.released d 0) is ∙ zeros PARTIES d))
       refl
 
 -- a crashed process is sound

@@ -2,6 +2,7 @@
 use Rattle.std.proofs.Common.{◌≡◌, ℕ, ◌+◌, ◌<◌, ◌≤◌, List, length, Bool, true, false, refl, sym, ap, ◌∙◌, subst, arith}
 use Rattle.std.specs.Prelude.{slice_index_or, Option, Some, None, ◌==◌}
 use Rattle.std.proofs.lemmas.Bool.Decides.{nat_tests}
+use Rattle.limits.specs.declared.TheConstants.{ENTRIES, PACKETS}
 use Rattle.world.specs.declared.packet.Packet.{Packet}
 use Rattle.machine.specs.Process.{TheProcess}
 use Rattle.machine.specs.Wire.{Puts}
@@ -44,11 +45,11 @@ module _ (old new : List (Option Packet)) (key : ℕ) (was is : Option Packet) (
       by_key false at = all j x (sym (puts.others j (grind (arith, nat_tests))) ∙ e)
 
   -- and no key above is used
-  pub keys-put : key < 4096 → ((j : ℕ) → 4096 ≤ j → slice_index_or old j None ≡ None) → (j : ℕ) → 4096 ≤ j → slice_index_or new j None ≡ None
+  pub keys-put : key < PACKETS → ((j : ℕ) → PACKETS ≤ j → slice_index_or old j None ≡ None) → (j : ℕ) → PACKETS ≤ j → slice_index_or new j None ≡ None
   keys-put low all j h = puts.others j (omega arith) ∙ all j h
 
 -- a packet that goes leaves no key above
-pub keys-gone : (old new : List (Option Packet)) (key : ℕ) (was : Option Packet) → Puts old new key was None → ((j : ℕ) → 4096 ≤ j → slice_index_or old j None ≡ None) → (j : ℕ) → 4096 ≤ j → slice_index_or new j None ≡ None
+pub keys-gone : (old new : List (Option Packet)) (key : ℕ) (was : Option Packet) → Puts old new key was None → ((j : ℕ) → PACKETS ≤ j → slice_index_or old j None ≡ None) → (j : ℕ) → PACKETS ≤ j → slice_index_or new j None ≡ None
 keys-gone old new key was puts all j h = by_key (j == key) refl
   where
     by_key : (b : Bool) → (j == key) ≡ b → slice_index_or new j None ≡ None
@@ -56,8 +57,8 @@ keys-gone old new key was puts all j h = by_key (j == key) refl
     by_key false at = puts.others j (grind (arith, nat_tests)) ∙ all j h
 
 -- one key of the wire changes, and one more call is counted
-pub sound-wire : (m : Inside) (slots : List (Option Packet)) (key : ℕ) (was is : Option Packet) → IsSound m → m.calls < 65537 → Puts m.wire slots key was is → IsSomeCarried (length m.processes.items) is
-    → ((j : ℕ) → 4096 ≤ j → slice_index_or slots j None ≡ None) → IsSound (record m { wire = slots; calls = m.calls + 1 })
+pub sound-wire : (m : Inside) (slots : List (Option Packet)) (key : ℕ) (was is : Option Packet) → IsSound m → m.calls < ENTRIES + 1 → Puts m.wire slots key was is → IsSomeCarried (length m.processes.items) is
+    → ((j : ℕ) → PACKETS ≤ j → slice_index_or slots j None ≡ None) → IsSound (record m { wire = slots; calls = m.calls + 1 })
 sound-wire m slots key was is i calls puts fits keys =
     record {
       some = i.some;

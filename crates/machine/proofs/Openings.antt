@@ -8,6 +8,7 @@ use Rattle.std.proofs.lemmas.List.Elements.{All-push}
 use Rattle.std.proofs.lemmas.Bool.{false≢true}
 use Rattle.std.proofs.lemmas.Bool.Decides.{nat_tests}
 use Rattle.std.proofs.lemmas.Option.{slice_get-get_or}
+use Rattle.limits.specs.declared.TheConstants.{PARTIES, STATE_BYTES}
 use Rattle.regtypes.specs.declared.image_form.ImageForm.TheVariants.{Sbi1}
 use Rattle.verifier.specs.Typed.{Typed}
 use Rattle.checkpoint.specs.Saved.{TheKept, nothing_kept}
@@ -42,10 +43,10 @@ idle-split n images i ps a p d e h false f =
     ∙ ap (λ (x : Typed). idle_process (suc p) n x.len) (sym (get_or_push images i e p last))
 
 -- one process more
-pub idle-push : (n : ℕ) (images : List Typed) (i : Typed) (ps : List TheProcess) → i.len ≤ 1024 → AreIdle n images ps → AreIdle n (images ++ i ∷ []) (ps ++ idle_process (suc (length images)) n i.len ∷ [])
+pub idle-push : (n : ℕ) (images : List Typed) (i : Typed) (ps : List TheProcess) → i.len ≤ STATE_BYTES → AreIdle n images ps → AreIdle n (images ++ i ∷ []) (ps ++ idle_process (suc (length images)) n i.len ∷ [])
 idle-push n images i ps short a = record {
   count = omega (arith, length_push ps (idle_process (suc (length images)) n i.len), length_push images i, a.count);
-  short = All-push (λ (x : Typed). x.len ≤ 1024) images i a.short short;
+  short = All-push (λ (x : Typed). x.len ≤ STATE_BYTES) images i a.short short;
   idle = λ p d e h. idle-split n images i ps a p d e (let l = length_push images i in omega (arith, l, h)) (nat_lt p (length images)) refl;
 }
 
@@ -143,7 +144,7 @@ module _ (images : List Typed) (ps : List TheProcess) (a : AreIdle (length image
       let empty = (idle_process (suc (p - 1)) (length images) (get_or images (p - 1) none).len).outbox.gate in
       let held : Holds d empty 0 0 0 (λ k. length ((handlers_of images).sends p (take k []) d)) =
       record {
-        released_is = replicate-at 16 d 0;
+        released_is = replicate-at PARTIES d 0;
         waits = λ k low high. sym (ap (λ l. length ((handlers_of images).sends p l d)) (take-nil k) ∙ ap length (handlers-start images p d));
       } in
       subst (λ (x : TheProcess). Holds d x.outbox.gate 0 0 0 (λ k. length ((handlers_of images).sends p (take k []) d))) (sym (idle-is (p - 1) (idle_process 0 0 0) inside)) held

@@ -3,6 +3,7 @@ use Rattle.std.proofs.Common.{◌≡◌, ◌≢◌, ℕ, zero, suc, ◌+◌, ◌
 use Rattle.std.specs.Prelude.{if◌then◌else◌, ◌==◌, ◌&&◌, ◌||◌, not, nat_lt, nat_le, Option, Some, None, is_some, count_by, slice_index_or, option_and_then, IfNone, IfSome}
 use Rattle.std.proofs.lemmas.Bool.Decides.{nat_tests}
 use Rattle.std.proofs.lemmas.List.{length-map, get_or_default}
+use Rattle.limits.specs.declared.TheConstants.{PACKETS}
 use Rattle.rsn.specs.Receipts.{numbers_from, numbers_of, judged, run_of, acknowledged_of}
 use Rattle.rsn.specs.declared.receipts.Judgement.{Judgement}
 use Rattle.rsn.specs.declared.receipts.Judgement.TheVariants.{Next, Duplicate, Early}
@@ -190,7 +191,7 @@ any_below-all test zero none = refl
 any_below-all test (suc n) none = rw (none n) (any_below-all test n none)
 
 -- a packet that belongs to a message lies on the wire
-pub wire-has : (m : TheMachine) (w : World) (from to i key : ℕ) (k : Packet) → Stands m w → ((key : ℕ) → 4096 ≤ key → slice_index_or m.slots key None ≡ None) → slice_index_or m.slots key None ≡ Some k → belongs w from to i (Some k) ≡ true
+pub wire-has : (m : TheMachine) (w : World) (from to i key : ℕ) (k : Packet) → Stands m w → ((key : ℕ) → PACKETS ≤ key → slice_index_or m.slots key None ≡ None) → slice_index_or m.slots key None ≡ Some k → belongs w from to i (Some k) ≡ true
     → any_below (λ key. belongs w from to i (w.wire key)) WIRE ≡ true
 wire-has m w from to i key k s keys found e =
     let low : key < WIRE = rw wire-is (key-low m.slots key k keys found) in
@@ -282,11 +283,11 @@ module _ (m : TheMachine) (w : World) (s : Stands m w) (room from to i : ℕ) (p
     useful-released = let low : nat_le i (released_at m from to) ≡ true = rw released at (fields w from to i useful).1 in grind (arith, nat_tests)
 
     -- a packet more has a place or none, and the message is accepted so
-    pub useful-place : ((key : ℕ) → 4096 ≤ key → slice_index_or m.slots key None ≡ None) → refusal_of w room (Transmit from to i) ≡ option_and_then cause_of (placing m room)
+    pub useful-place : ((key : ℕ) → PACKETS ≤ key → slice_index_or m.slots key None ≡ None) → refusal_of w room (Transmit from to i) ≡ option_and_then cause_of (placing m room)
     useful-place keys = transmit-rest m w s room from to i peers.from_within peers.to_within peers.from_up peers.other useful-released useful_logged keys
 
     -- where it has one, the message may be picked
-    pub useful-pick : ((key : ℕ) → 4096 ≤ key → slice_index_or m.slots key None ≡ None) → placing m room ≡ None → IsPick w room (Transmit from to i)
+    pub useful-pick : ((key : ℕ) → PACKETS ≤ key → slice_index_or m.slots key None ≡ None) → placing m room ≡ None → IsPick w room (Transmit from to i)
     useful-pick keys free = record { useful = useful; accepted = useful-place keys ∙ ap (option_and_then cause_of) free }
 
     -- one that isn't the next of its sender is one that is behind the sender's run
@@ -344,9 +345,9 @@ free-place false true e = absurd (cc)
 free-place false false e = refl
 
 -- a message that is picked has a place
-pub pick-placed : (m : TheMachine) (w : World) (s : Stands m w) (room from to i : ℕ) → ((key : ℕ) → 4096 ≤ key → slice_index_or m.slots key None ≡ None) → IsPick w room (Transmit from to i) → placing m room ≡ None
+pub pick-placed : (m : TheMachine) (w : World) (s : Stands m w) (room from to i : ℕ) → ((key : ℕ) → PACKETS ≤ key → slice_index_or m.slots key None ≡ None) → IsPick w room (Transmit from to i) → placing m room ≡ None
 pick-placed m w s room from to i keys k =
-    free-place (nat_le room (busy m)) (nat_le (4096 - live m) (count_by is_some m.slots)) (sym (useful-place m w s room from to i (pick-peers m w s room from to i k) k.useful keys) ∙ k.accepted)
+    free-place (nat_le room (busy m)) (nat_le (PACKETS - live m) (count_by is_some m.slots)) (sym (useful-place m w s room from to i (pick-peers m w s room from to i k) k.useful keys) ∙ k.accepted)
 
 pub none-is : {X : Type 0} (o : Option X) → is_some o ≡ false → o ≡ None
 none-is None e = refl

@@ -5,6 +5,7 @@ use Rattle.std.specs.List.{filter}
 use Rattle.std.proofs.lemmas.Bool.Decides.{nat_tests}
 use Rattle.std.proofs.lemmas.List.{get_or-set_same, get_or-set_other}
 use Rattle.std.proofs.lemmas.List.Sums.{sum_by-cons}
+use Rattle.limits.specs.declared.TheConstants.{PARTIES}
 use Rattle.rsn.specs.Receipts.{run_of}
 use Rattle.rsn.proofs.ReceiptLemmas.{run_of-bound}
 use Rattle.send_gate.specs.declared.gate.Held.{Held}
@@ -95,7 +96,7 @@ flags-set bs f n k e a b same j h = by_place (suc j == k) refl
         get_or-set_other bs (k - 1) j true false apart ∙ same j h
 
 -- a gate that released up to a later run
-pub holds-released : (old new : TheGate) (d run now n released : ℕ) (sent_by : ℕ → ℕ) → d < 16 → run ≤ now → now ≤ n → Holds d old run n released sent_by → Releases now old new → Holds d new now n (max released (sent_by now)) sent_by
+pub holds-released : (old new : TheGate) (d run now n released : ℕ) (sent_by : ℕ → ℕ) → d < PARTIES → run ≤ now → now ≤ n → Holds d old run n released sent_by → Releases now old new → Holds d new now n (max released (sent_by now)) sent_by
 holds-released old new d run now n released sent_by small more within h r =
     let after : max released (sent_by now) ≡ released + count_to d (filter (λ (x : Held). nat_le x.rsn now) old.waiting) = omega (arith, h.waits now more within) in
     record {

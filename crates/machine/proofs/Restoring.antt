@@ -5,6 +5,7 @@ use Rattle.std.specs.Arc.{arc_value}
 use Rattle.std.specs.List.{list_all}
 use Rattle.std.specs.Vec.{with_item, with_items}
 use Rattle.std.proofs.lemmas.List.{append-nil, drop_all, get_or_default, get_or-set_same, length-map, length-set, take_all}
+use Rattle.limits.specs.declared.TheConstants.{ENTRIES}
 use Rattle.verifier.specs.Typed.{Typed}
 use Rattle.rsn.specs.Receipts.{run_of}
 use Rattle.checkpoint.specs.declared.form.Form.TheVariants.{Second}
@@ -68,7 +69,7 @@ put-sound m i p y positive within now =
     }
 
 -- one more call is counted
-pub count-sound : (m : Inside) → IsSound m → m.calls < 65537 → IsSound (record m { calls = m.calls + 1 })
+pub count-sound : (m : Inside) → IsSound m → m.calls < ENTRIES + 1 → IsSound (record m { calls = m.calls + 1 })
 count-sound m i calls =
     record {
       some = i.some;

@@ -5,6 +5,7 @@ use Rattle.std.proofs.lemmas.Bool.{false≢true}
 use Rattle.std.proofs.lemmas.Bool.Decides.{nat_tests}
 use Rattle.std.proofs.lemmas.List.{get_or-map, get_or-replicate, length-append, length-map, length-replicate, length-take-le}
 use Rattle.std.proofs.Math.Seq.{take-append_seam}
+use Rattle.limits.specs.declared.TheConstants.{PARTIES}
 use Rattle.sender_log.specs.Queue.{no_queue, is_logged}
 use Rattle.sender_log.specs.Log.{TheLog, queue_of}
 use Rattle.checkpoint.specs.Saved.{nothing_kept, queue_again, log_again}
@@ -252,7 +253,7 @@ module _ (m : TheMachine) (w : World) (s : Stands m w) (p : ℕ) (inside : 0 < p
                 subst (λ l. Keeps (queue_of d l) (w.trims p d) (if p == 0 then w.inputs d else w.handlers.sends p (take (w.saved p + 0) hx) d) (put (w.numbers p) p (λ i. up_to k (w.numbers p p i)) d)) (sym (log_now (forgotten p k m) p y inside within_then))
                 (rw apart (keeps-now d to other (take (w.saved p + 0) hx) from));
             gates = λ d to other f. absurd (false≢true f);
-            shut = λ d f. ap (λ (z : TheProcess). slice_index_or z.outbox.gate.released d 0) (now_at (forgotten p k m) p y inside within_then) ∙ at-replicate 16 d 0;
+            shut = λ d f. ap (λ (z : TheProcess). slice_index_or z.outbox.gate.released d 0) (now_at (forgotten p k m) p y inside within_then) ∙ at-replicate PARTIES d 0;
           }
 
       life-onward : life onward p ≡ life_with (Replaying 0 false alone)
@@ -283,7 +284,7 @@ module _ (m : TheMachine) (w : World) (s : Stands m w) (p : ℕ) (inside : 0 < p
             saves = saves-now;
             log_of = log_of;
             logs = λ d to other. keeps-now d to other hx all;
-            shut = λ d. at-replicate 16 d 0;
+            shut = λ d. at-replicate PARTIES d 0;
             run = run_to-whole (λ j. nat_le j k) (length hx) (λ j a b. grind (arith, nat_tests, longer));
           }
 

@@ -3,6 +3,7 @@ use Rattle.std.proofs.Common.{◌≡◌, ◌≢◌, ℕ, suc, ◌+◌, ◌<◌, 
 use Rattle.std.specs.Prelude.{if◌then◌else◌, ◌==◌, ◌||◌, Option, Some, None, slice_index_or}
 use Rattle.std.proofs.lemmas.Bool.Decides.{nat_tests}
 use Rattle.std.proofs.lemmas.List.{get_or-set_same, get_or-set_other, length-set}
+use Rattle.limits.specs.declared.TheConstants.{ENTRIES, PACKETS}
 use Rattle.sender_log.specs.Queue.{no_queue, is_logged, payload_of, appended}
 use Rattle.sender_log.specs.Log.{TheLog, queue_of, with_queue}
 use Rattle.world.specs.declared.packet.Packet.{Packet}
@@ -78,7 +79,7 @@ module _ (m : TheMachine) (w : World) (s : Stands m w) (room d feed calls n : �
       refl
 
 -- the outside's log has one input more
-pub sound-input : (m : Inside) (o : TheOutside) (d : ℕ) (x : Payload) → IsSound m → m.calls < 65537 → d ≤ length m.processes.items → o.log ≡ with_queue d (appended x (queue_of d m.outside.log)) m.outside.log → o.shown ≡ m.outside.shown
+pub sound-input : (m : Inside) (o : TheOutside) (d : ℕ) (x : Payload) → IsSound m → m.calls < ENTRIES + 1 → d ≤ length m.processes.items → o.log ≡ with_queue d (appended x (queue_of d m.outside.log)) m.outside.log → o.shown ≡ m.outside.shown
     → IsSound (record m { outside = o; calls = m.calls + 1 })
 sound-input m o d x i calls within log shown =
     record {
@@ -107,7 +108,7 @@ sound-input m o d x i calls within log shown =
 
 -- A packet on the wire
 
-module _ (m : TheMachine) (w : World) (s : Stands m w) (room key calls : ℕ) (slots : List (Option Packet)) (is : Packet) (low : key < 4096) (puts : Puts m.slots slots key None (Some is)) where
+module _ (m : TheMachine) (w : World) (s : Stands m w) (room key calls : ℕ) (slots : List (Option Packet)) (is : Packet) (low : key < PACKETS) (puts : Puts m.slots slots key None (Some is)) where
   vacant : w.wire key ≡ None
   vacant = s.shows.wire key ∙ puts.before
 

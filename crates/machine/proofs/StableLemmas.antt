@@ -5,6 +5,7 @@ use Rattle.std.specs.List.{list_all}
 use Rattle.std.proofs.lemmas.Bool.Decides.{nat_tests}
 use Rattle.std.proofs.lemmas.List.{get_or-set_same, get_or-set_other}
 use Rattle.std.proofs.lemmas.List.Sums.{sum_by-cons}
+use Rattle.limits.specs.declared.TheConstants.{PARTIES}
 use Rattle.sender_log.specs.Queue.{TheQueue, no_queue}
 use Rattle.checkpoint.specs.Saved.{TheKept, is_sender, kept_of, nothing_kept, queue_again}
 
@@ -43,7 +44,7 @@ module _ (counts : List ℕ) (f : ℕ → ℕ) (k n : ℕ) (inside : k < length 
           ap (λ j. slice_index_or (set counts k n) j 0) same ∙ get_or-set_same counts k n 0 inside ∙ is ∙ sym (ap f same)
       by_place false e = get_or-set_other counts k x n 0 (grind (arith, nat_tests)) ∙ before x (grind (arith, nat_tests))
 
-  pub counts-above : ((x : ℕ) → x < 16 → k ≤ x → slice_index_or counts x 0 ≡ 0) → (x : ℕ) → x < 16 → k + 1 ≤ x → slice_index_or (set counts k n) x 0 ≡ 0
+  pub counts-above : ((x : ℕ) → x < PARTIES → k ≤ x → slice_index_or counts x 0 ≡ 0) → (x : ℕ) → x < PARTIES → k + 1 ≤ x → slice_index_or (set counts k n) x 0 ≡ 0
   counts-above before x small high = get_or-set_other counts k x n 0 (λ e. absurd (omega (arith, e, high))) ∙ before x small (omega (arith, high))
 
 -- of queues that nothing was sent to, nothing is kept

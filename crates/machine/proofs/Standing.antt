@@ -7,6 +7,7 @@ use Rattle.std.proofs.lemmas.List.{get_or_default, get_or-append-add, length-app
 use Rattle.theorems.proofs.ListLemmas.{take-all}
 use Rattle.std.proofs.lemmas.Option.{slice_get-get_or, slice_get_past}
 use Rattle.std.proofs.Math.ListN.{get_or-eq_default}
+use Rattle.limits.specs.declared.TheConstants.{PACKETS}
 use Rattle.rsn.specs.Receipts.{numbers_from, numbers_of, judged}
 use Rattle.rsn.specs.declared.receipts.Judgement.TheVariants as judgements
 use Rattle.rsn.specs.declared.receipts.Judgement.TheVariants.{Duplicate}
@@ -32,7 +33,7 @@ use Rattle.machine.specs.Arriving.{IsJudged}
 use Rattle.machine.proofs.ReceiptLemmas.{senders, length-numbers, rsn_from-numbers}
 
 -- the size of the wire as a number, which the fields are compared with
-pub wire-is : WIRE ≡ 4096
+pub wire-is : WIRE ≡ PACKETS
 unfolding WIRE
 wire-is = refl
 
@@ -168,7 +169,7 @@ packets_to m w n s none =
     ∙ sym (count_below-list is_some (λ key. is_some (slice_index_or m.slots key None)) m.slots (λ p d h. ap is_some (get_or_default m.slots p d None h)))
 
 -- and as many packets, where no key from the size of the wire on has one
-pub packets-is : (m : TheMachine) (w : World) → Stands m w → ((key : ℕ) → 4096 ≤ key → slice_index_or m.slots key None ≡ None) → packets w ≡ count_by is_some m.slots
+pub packets-is : (m : TheMachine) (w : World) → Stands m w → ((key : ℕ) → PACKETS ≤ key → slice_index_or m.slots key None ≡ None) → packets w ≡ count_by is_some m.slots
 packets-is m w s keys = packets_to m w WIRE s (λ key h. keys key (rw wire-is at h))
 
 -- what is kept of the process of this number, from 1
@@ -333,9 +334,9 @@ module _ (m : TheMachine) (w : World) (s : Stands m w) (p : ℕ) (x : Message) (
       by_place false e false f = verdict ∙ verdict-ahead (length numbers) x.ssn (grind (arith, nat_tests))
 
 -- a key with a packet is one of the wire's
-pub key-low : (slots : List (Option Packet)) (key : ℕ) (k : Packet) → ((key : ℕ) → 4096 ≤ key → slice_index_or slots key None ≡ None) → slice_index_or slots key None ≡ Some k → key < 4096
-key-low slots key k keys found = by_size (nat_lt key 4096) refl
+pub key-low : (slots : List (Option Packet)) (key : ℕ) (k : Packet) → ((key : ℕ) → PACKETS ≤ key → slice_index_or slots key None ≡ None) → slice_index_or slots key None ≡ Some k → key < PACKETS
+key-low slots key k keys found = by_size (nat_lt key PACKETS) refl
   where
-    by_size : (b : Bool) → nat_lt key 4096 ≡ b → key < 4096
+    by_size : (b : Bool) → nat_lt key PACKETS ≡ b → key < PACKETS
     by_size true e = grind (arith, nat_tests)
-    by_size false e = let above : 4096 ≤ key = grind (arith, nat_tests) in let none = keys key above in absurd (cc)
+    by_size false e = let above : PACKETS ≤ key = grind (arith, nat_tests) in let none = keys key above in absurd (cc)

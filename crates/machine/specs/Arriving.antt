@@ -1,5 +1,6 @@
 -- What an arrival changes
 use Rattle.std.specs.Prelude.{◌≡◌, ℕ, ◌+◌, ◌-◌, ◌<◌, length, Some, None, true, ◌==◌, if◌then◌else◌, slice_index_or, slice_set}
+use Rattle.limits.specs.declared.TheConstants.{ENTRIES}
 use Rattle.rsn.specs.declared.receipts.Judgement.{Judgement}
 use Rattle.rsn.specs.declared.receipts.Judgement.TheVariants as judgements
 use Rattle.sender_log.specs.Queue.{recorded}
@@ -34,7 +35,7 @@ pub record MayArrive (m : TheMachine) (room key : ℕ) (packet : Packet) : Type 
   pub carried : IsCarried (length m.processes) packet
   pub up : is_up_at m (target_of packet) ≡ true
   pub accepted : (w : World) → Stands m w → refusal_of w room (Arrive key) ≡ None
-  pub calls : m.calls < 65536
+  pub calls : m.calls < ENTRIES
 
 -- the packet is gone, and nothing else has changed
 pub record Drops (old new : TheMachine) (key : ℕ) : Type 0 where

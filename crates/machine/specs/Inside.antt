@@ -2,6 +2,7 @@
 use Rattle.std.specs.Prelude.{◌≡◌, ◌≢◌, ℕ, suc, ◌+◌, ◌<◌, ◌≤◌, List, length, map, Option, Some, None, is_some, true, false, slice_index_or}
 use Rattle.std.specs.Arc.{arc_value}
 use Rattle.std.specs.List.{list_all}
+use Rattle.limits.specs.declared.TheConstants.{ENTRIES, PACKETS, PROCESSES, STATE_BYTES}
 use Rattle.verifier.specs.Typed.{Typed}
 use Rattle.sender_log.specs.Log.{TheLog, queue_of}
 use Rattle.world.specs.declared.packet.Packet.{Packet}
@@ -40,7 +41,7 @@ begun x = received x + one_if (is_some x.working)
 
 -- one of n processes, with this number, an image of this state length, after so many calls
 pub record IsSoundAt (n me len calls : ℕ) (x : TheProcess) : Type 0 where
-  pub short : len ≤ 1024
+  pub short : len ≤ STATE_BYTES
   pub state : is_lost x.stage ≡ false → length x.state ≡ len
   pub log : IsLogOf n me x.outbox.log
   pub senders : list_all (is_sender me n) x.receipts.senders ≡ true
@@ -56,13 +57,13 @@ pub record IsSoundAt (n me len calls : ℕ) (x : TheProcess) : Type 0 where
 -- the sizes, and who is named on the wire
 pub record IsSound (m : Inside) : Type 0 where
   pub some : 0 < length m.processes.items
-  pub few : length m.processes.items ≤ 15
+  pub few : length m.processes.items ≤ PROCESSES
   pub images : length m.images.items ≡ length m.processes.items
   pub processes : (p : ℕ) (d : TheProcess) (e : Typed) → p < length m.processes.items → IsSoundAt (length m.processes.items) (suc p) (slice_index_or (map arc_value m.images.items) p e).len m.calls (slice_index_or m.processes.items p d)
   pub outside : IsLogOf (length m.processes.items) 0 m.outside.log
-  pub calls : m.calls ≤ 65537
+  pub calls : m.calls ≤ ENTRIES + 1
   pub started : m.started ≤ m.calls
   pub inputs : (d : ℕ) → (queue_of d m.outside.log).first + length (queue_of d m.outside.log).payloads ≤ m.calls + 1
   pub shown : length m.outside.shown ≤ m.calls
   pub wire : AreCarried m.wire (length m.processes.items)
-  pub keys : (key : ℕ) → 4096 ≤ key → slice_index_or m.wire key None ≡ None
+  pub keys : (key : ℕ) → PACKETS ≤ key → slice_index_or m.wire key None ≡ None

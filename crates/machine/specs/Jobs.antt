@@ -1,5 +1,6 @@
 -- Open jobs, as the fields tell them
 use Rattle.std.specs.Prelude.{◌≡◌, ◌≢◌, ◌<◌, ◌≤◌, ℕ, ◌+◌, ◌-◌, length, Some, false, slice_index_or, slice_set}
+use Rattle.limits.specs.declared.TheConstants.{ENTRIES}
 use Rattle.verifier.specs.Typed.{Typed}
 use Rattle.replay.specs.Task.{TheTask}
 use Rattle.world.specs.declared.message.Message.{Message}
@@ -15,7 +16,7 @@ pub record MayBegin (m : TheMachine) (me : ℕ) (message : Message) : Type 0 whe
   pub other : message.sender ≢ me
   pub back : is_lost (process_at m me).stage ≡ false
   pub next : IsNextFor (process_at m me).stage message
-  pub calls : m.calls < 65536
+  pub calls : m.calls < ENTRIES
 
 -- the process works on the message, and the job has all that its handler takes
 pub record Begins (old new : TheMachine) (me : ℕ) (message : Message) (task : TheTask) : Type 0 where

@@ -1,5 +1,6 @@
 -- Crashed processes, and how they come back
 use Rattle.std.specs.Prelude.{◌≡◌, ℕ, ◌-◌, ◌<◌, ◌≤◌, List, ◌∷◌, length, map, Option, Some, None, Bool, true, false, not, ◌&&◌, ◌||◌, ◌==◌, nat_lt, nat_le, if◌then◌else◌, slice_index_or, slice_set}
+use Rattle.limits.specs.declared.TheConstants.{ENTRIES, PARTIES}
 use Rattle.sender_log.specs.Queue.{unnumbered}
 use Rattle.sender_log.specs.Log.{TheLog, queue_of, with_queue}
 use Rattle.replay.specs.Plan.{ThePlan}
@@ -35,7 +36,7 @@ pub record MayRecover (m : TheMachine) (room p : ℕ) (alone : Bool) : Type 0 wh
   pub within : p ≤ length m.processes
   pub down : is_lost (process_at m p).stage ≡ true
   pub accepted : (w : World) → Stands m w → refusal_of w room (recovery_of p alone) ≡ None
-  pub calls : m.calls < 65536
+  pub calls : m.calls < ENTRIES
 
 -- all senders forget the numbers above k of their messages to p
 abbrev pub forgotten : ℕ → ℕ → TheMachine → TheMachine
@@ -50,7 +51,7 @@ abbrev pub is_peer_of : TheMachine → ℕ → Bool → ℕ → Bool
 is_peer_of m p alone q = nat_lt 0 q && nat_le q (length m.processes) && not (q == p) && (not alone || is_up_at m q)
 
 abbrev pub ArePeersOf : TheMachine → ℕ → Bool → Peers → Type 0
-ArePeersOf m p alone peers = (length peers.todo ≡ 16) × ((q : ℕ) → slice_index_or peers.todo q false ≡ is_peer_of m p alone q)
+ArePeersOf m p alone peers = (length peers.todo ≡ PARTIES) × ((q : ℕ) → slice_index_or peers.todo q false ≡ is_peer_of m p alone q)
 
 -- p isn't down, has no job open, and all that it received is acknowledged
 pub record MaySettle (m : TheMachine) (p : ℕ) : Type 0 where

@@ -1,5 +1,6 @@
 -- Jobs that are replayed, and numbers that are restored
 use Rattle.std.specs.Prelude.{◌≡◌, ◌≢◌, ℕ, ◌-◌, ◌<◌, ◌≤◌, ◌==◌, ◌&&◌, length, IsSome, None, Bool, true, false, not, nat_lt, nat_le, slice_index_or, slice_set}
+use Rattle.limits.specs.declared.TheConstants.{PARTIES}
 use Rattle.rsn.specs.Receipts.{numbers_of}
 use Rattle.sender_log.specs.Queue.{renumbered}
 use Rattle.sender_log.specs.Log.{queue_of}
@@ -37,4 +38,4 @@ abbrev pub is_left : TheMachine → ℕ → ℕ → ℕ → Bool
 is_left m p r q = nat_lt 0 q && nat_le q (length m.processes) && not (q == r) && is_to_do (process_at m p).stage q
 
 abbrev pub ArePeersLeft : TheMachine → ℕ → ℕ → Peers → Type 0
-ArePeersLeft m p r peers = (length peers.todo ≡ 16) × ((q : ℕ) → slice_index_or peers.todo q false ≡ is_left m p r q)
+ArePeersLeft m p r peers = (length peers.todo ≡ PARTIES) × ((q : ℕ) → slice_index_or peers.todo q false ≡ is_left m p r q)

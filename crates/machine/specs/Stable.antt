@@ -1,5 +1,6 @@
 -- What outlives a crash
 use Rattle.std.specs.Prelude.{◌≡◌, ◌≢◌, ℕ, suc, ◌+◌, ◌*◌, ◌<◌, ◌≤◌, ◌==◌, List, length, map, count_by, replicate, [], slice_index_or}
+use Rattle.limits.specs.declared.TheConstants.{EFFECTS, PARTIES}
 use Rattle.checkpoint.specs.Saved.{TheSaved, nothing_kept}
 use Rattle.world.specs.declared.message.Message.{Message}
 use Rattle.world.specs.History.{Payload}
@@ -7,8 +8,8 @@ use Rattle.machine.specs.Queue.{IsRest}
 
 -- the counts are those of its senders, and it sent at most 8 messages to a destination for each that it received
 pub record IsStable (s : TheSaved) (counts : List ℕ) : Type 0 where
-  pub counts_are : (x : ℕ) → x < 16 → slice_index_or counts x 0 ≡ count_by (λ y. y == x) s.senders
-  pub sent : (d : ℕ) → (slice_index_or s.queues d nothing_kept).first + length (slice_index_or s.queues d nothing_kept).payloads ≤ 8 * length s.senders + 1
+  pub counts_are : (x : ℕ) → x < PARTIES → slice_index_or counts x 0 ≡ count_by (λ y. y == x) s.senders
+  pub sent : (d : ℕ) → (slice_index_or s.queues d nothing_kept).first + length (slice_index_or s.queues d nothing_kept).payloads ≤ EFFECTS * length s.senders + 1
 
 -- a process that received nothing, with a state of so many zeros
 abbrev pub idle_saved : ℕ → ℕ → ℕ → TheSaved

@@ -14,6 +14,7 @@ ghost use Rattle.machine.specs.Arriving.{IsJudged, IsNumbered, MayArrive, Drops,
 
 use crate::arrival::Arrival;
 use crate::machine::Machine;
+use limits::ENTRIES;
 use replay::{Job, Ticket};
 use rsn::Judgement;
 use sender_log::LogError;
@@ -109,7 +110,7 @@ impl Machine {
 
     /// Takes a packet from the wire to whom it is for.
     pub fn arrive(&mut self, room: u32, key: usize) -> Result<Arrival, Refusal>
-        requires { self.old.calls + room ≤ 65536 }
+        requires { self.old.calls + room ≤ ENTRIES }
         ensures step { Simulates self.old self.new room (Call.Arrive key) (answering answer_of result) }
         ensures job { IfOk result (IsJobOf self.new) }
         ensures target { IfOk result (IsJobFor (slice_index_or self.old.slots key None)) }
@@ -201,7 +202,7 @@ impl Machine {
 
     // A packet arrives and leaves nothing behind.
     fn drop_packet(&mut self, key: usize)
-        requires { self.old.calls < 65536 }
+        requires { self.old.calls < ENTRIES }
         ensures { Drops self.old self.new key }
     {
         self.wire.remove(key);

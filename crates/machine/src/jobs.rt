@@ -9,6 +9,7 @@ ghost use Rattle.machine.specs.Simulation.{is_up_at};
 
 use crate::arrival::Finished;
 use crate::machine::Machine;
+use limits::ENTRIES;
 use replay::{Done, Job, Task, Ticket};
 use std::sync::Arc;
 use verifier::Image;
@@ -67,7 +68,7 @@ impl Machine {
 
     /// Takes in what a handler left, if it is the result of the open job.
     pub fn finish(&mut self, done: Done) -> Result<Finished, (Refusal, Done)>
-        requires { self.old.calls ≤ 65536 }
+        requires { self.old.calls ≤ ENTRIES }
         ensures step { Finishes self.old self.new done result }
         ensures calls { OnOk result (self.new.calls ≡ self.old.calls + 1) }
     {
@@ -83,7 +84,7 @@ impl Machine {
 
     // A message is received.
     fn commit(&mut self, done: Done) -> Result<Finished, (Refusal, Done)>
-        requires calls { self.old.calls ≤ 65536 }
+        requires calls { self.old.calls ≤ ENTRIES }
         requires matches { Matches self.old done }
         requires slots { HaveSlots self.old done }
         requires up { is_up_at self.old done.who.me ≡ true }
@@ -111,7 +112,7 @@ impl Machine {
 
     // A message is replayed.
     fn recall(&mut self, done: Done) -> Result<Finished, (Refusal, Done)>
-        requires calls { self.old.calls ≤ 65536 }
+        requires calls { self.old.calls ≤ ENTRIES }
         requires matches { Matches self.old done }
         requires slots { HaveSlots self.old done }
         requires down { is_up_at self.old done.who.me ≡ false }

@@ -15,6 +15,7 @@ use crate::process::Process;
 use crate::stage::Stage;
 use crate::wire::Wire;
 use helpers::Who;
+use limits::PROCESSES;
 use rsn::Receipts;
 use send_gate::Gate;
 use sender_log::Log;
@@ -23,9 +24,6 @@ use std::marker::Model;
 use std::sync::Arc;
 use verifier::Image;
 use world::{Message, Packet, PhaseName, Refusal};
-
-/// The most processes.
-const MOST_PROCESSES: usize = 15;
 
 /// Processes 1 to n, the outside and the wire.
 #[derive(Drop)]
@@ -53,7 +51,7 @@ impl Model for Machine {
 
 // For each image a process that received nothing, numbered from 1.
 fn idle_processes(alloc: Global, images: &[Arc<Image>]) -> Result<Vec<Process>, AllocError>
-    requires { length images.now ≤ 15 }
+    requires { length images.now ≤ PROCESSES }
     ensures { IfOk result (λ v. AreIdle (length images.now) (map arc_value images.now) v.items) }
 {
     let n = images.len() as u8;
@@ -71,7 +69,7 @@ impl Machine {
         ensures { Opens (map arc_value images.items) result }
     {
         let count = images.len();
-        if count == 0 || count > MOST_PROCESSES {
+        if count == 0 || count > PROCESSES {
             return Err(Refusal::NoSuchProcess);
         }
         let processes = idle_processes(alloc, images.as_slice())?;
@@ -90,7 +88,7 @@ impl Machine {
     /// How many processes there are, 1 to 15.
     pub fn count(&self) -> u8
         ensures value { result ≡ length self.now.processes }
-        ensures some { (1 ≤ result) × (result ≤ 15) }
+        ensures some { (1 ≤ result) × (result ≤ PROCESSES) }
     {
         self.processes.len() as u8
     }
@@ -192,7 +190,7 @@ impl Machine {
     pub(crate) fn process(&self, p: u8) -> &Process
         requires { (1 ≤ p) × (p ≤ length self.now.processes) }
         ensures value { result.now ≡ process_at self.now p }
-        ensures few { length self.now.processes ≤ 15 }
+        ensures few { length self.now.processes ≤ PROCESSES }
     {
         &self.processes[p as usize - 1]
     }
@@ -207,7 +205,7 @@ impl Machine {
     /// How many jobs are open, at most one a process.
     pub fn open_jobs(&self) -> u32
         ensures value { result ≡ count_by (λ x. is_some x.working) self.now.processes }
-        ensures bound { result ≤ 15 }
+        ensures bound { result ≤ PROCESSES }
     {
         let open = self.processes.iter().filter(|p| p.working().is_some());
         open.count() as u32
@@ -216,7 +214,7 @@ impl Machine {
     // How many of these are of processes that are up.
     pub(crate) fn live_jobs(&self) -> u32
         ensures value { result ≡ live self.now }
-        ensures bound { result ≤ 15 }
+        ensures bound { result ≤ PROCESSES }
     {
         let open = self.processes.iter().filter(|p| p.is_busy());
         open.count() as u32

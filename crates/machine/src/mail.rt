@@ -8,6 +8,7 @@ ghost use Rattle.machine.specs.declared.mail.Mail.{Mail};
 ghost use Rattle.machine.specs.Mail.{HasRoom, HasRoomFor, Posts, PostsAll, Follows, WithdrawsLast};
 
 use helpers::{Effects, Payload};
+use limits::PARTIES;
 use send_gate::Gate;
 use sender_log::Log;
 use std::alloc::AllocError;
@@ -23,7 +24,7 @@ impl Mail {
     /// Logs a message to a destination, and holds it until the message with this number is
     /// acknowledged. One to any other number is passed over. A refusal changes nothing.
     fn post(&mut self, dst: u8, rsn: u32, payload: &Payload) -> Result<(), AllocError>
-        requires narrow { length self.old.log.queues ≤ 16 }
+        requires narrow { length self.old.log.queues ≤ PARTIES }
         requires order { All (λ h. h.rsn ≤ rsn) self.old.gate.waiting }
         requires room { HasRoomFor dst self.old }
         ensures ok { OnOk result (Posts dst rsn payload.now self.old self.new) }
@@ -43,7 +44,7 @@ impl Mail {
     /// Posts what a handler gave: its messages to processes, and its outputs to the outside. A
     /// refusal leaves a part of it posted.
     pub fn post_all(&mut self, rsn: u32, effects: &Effects) -> Result<(), AllocError>
-        requires narrow { length self.old.log.queues ≤ 16 }
+        requires narrow { length self.old.log.queues ≤ PARTIES }
         requires below { All (λ h. h.rsn < rsn) self.old.gate.waiting }
         requires room { HasRoom self.old }
         ensures ok { OnOk result (PostsAll effects.now rsn self.old self.new) }

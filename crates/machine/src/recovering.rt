@@ -11,6 +11,7 @@ ghost use Rattle.machine.specs.Stage.{is_lost};
 use crate::machine::Machine;
 use crate::outbox::Outbox;
 use crate::stage::Peers;
+use limits::ENTRIES;
 use replay::{Plan, collect_from};
 use rsn::Receipts;
 use std::alloc::{AllocError, Global};
@@ -19,7 +20,7 @@ use world::{Answer, Call, Refusal};
 impl Machine {
     /// Why a process would not crash.
     pub fn crash_cause(&self, room: u32, p: u8) -> Option<Refusal>
-        requires { room ≤ 65536 }
+        requires { room ≤ ENTRIES }
         ensures none { IfNone result ((0 < p) × (p ≤ length self.now.processes) × (0 < room) × (is_lost (process_at self.now p).stage ≡ false)) }
         ensures cause { (w : World) → Stands self.now w → refusal_of w room (Call.Crash p) ≡ option_and_then cause_of result }
         ensures told { IsTold result }
@@ -40,7 +41,7 @@ impl Machine {
 
     /// A process loses all but its checkpoint and its incarnation, which goes up: the new one.
     pub fn crash(&mut self, room: u32, p: u8) -> Result<u32, Refusal>
-        requires { self.old.calls + room ≤ 65536 }
+        requires { self.old.calls + room ≤ ENTRIES }
         ensures step { Simulates self.old self.new room (Call.Crash p) (answering Answer.Crashed result) }
         ensures calls { OnOk result (self.new.calls ≡ self.old.calls + 1) }
     {
@@ -111,7 +112,7 @@ impl Machine {
     /// A process comes back as its checkpoint says, with the messages before it that senders logged
     /// under the next numbers. Answers how many messages it keeps. All others have to be up.
     pub fn recover(&mut self, room: u32, p: u8) -> Result<u32, Refusal>
-        requires { self.old.calls + room ≤ 65536 }
+        requires { self.old.calls + room ≤ ENTRIES }
         ensures step { Simulates self.old self.new room (Call.Recover p) (answering Answer.Kept result) }
         ensures calls { OnOk result (self.new.calls ≡ self.old.calls + 1) }
     {
@@ -123,7 +124,7 @@ impl Machine {
 
     /// As `recover`, whatever the other processes do.
     pub fn recover_alone(&mut self, room: u32, p: u8) -> Result<u32, Refusal>
-        requires { self.old.calls + room ≤ 65536 }
+        requires { self.old.calls + room ≤ ENTRIES }
         ensures step { Simulates self.old self.new room (Call.RecoverAlone p) (answering Answer.Kept result) }
         ensures calls { OnOk result (self.new.calls ≡ self.old.calls + 1) }
     {

@@ -13,6 +13,7 @@ ghost use Rattle.machine.specs.Replaying.{MayReplay, MayResync, ArePeersLeft, re
 
 use crate::machine::Machine;
 use crate::stage::{Peers, Stage};
+use limits::ENTRIES;
 use replay::Job;
 use std::alloc::AllocError;
 use world::{Answer, Call, Refusal};
@@ -42,7 +43,7 @@ impl Machine {
 
     /// Opens the next job of a process that replays.
     pub fn replay_begin(&mut self, room: u32, p: u8) -> Result<Job, Refusal>
-        requires { self.old.calls + room ≤ 65536 }
+        requires { self.old.calls + room ≤ ENTRIES }
         ensures step { Simulates self.old self.new room (Call.ReplayBegin p) (answering (λ job. Answer.Started job.serial) result) }
         ensures job { IfOk result (IsHandedOut self.new) }
         ensures target { IfOk result (λ job. job.who.me ≡ p) }
@@ -100,7 +101,7 @@ impl Machine {
     /// Gives the messages of p to r the numbers under which r received them, and answers how many
     /// got one. After the last peer p is up, and all that it sent is released.
     pub fn resync(&mut self, room: u32, p: u8, r: u8) -> Result<u32, Refusal>
-        requires { self.old.calls + room ≤ 65536 }
+        requires { self.old.calls + room ≤ ENTRIES }
         ensures step { Simulates self.old self.new room (Call.Resync p r) (answering Answer.Restored result) }
         ensures calls { OnOk result (self.new.calls ≡ self.old.calls + 1) }
     {

@@ -7,6 +7,7 @@ ghost use Rattle.machine.specs.Simulation.{Stands, Simulates, answering, process
 ghost use Rattle.machine.specs.Saving.{IsSavedOf, covered_at, dropped_by, dropped_to, trimmed_to, without_covered};
 
 use crate::machine::Machine;
+use limits::{ENTRIES, SENDS};
 use world::{Answer, Call, Refusal};
 
 impl Machine {
@@ -33,7 +34,7 @@ impl Machine {
 
     /// Saves a process, and answers how many messages its checkpoint covers.
     pub fn checkpoint(&mut self, room: u32, p: u8) -> Result<u32, Refusal>
-        requires { self.old.calls + room ≤ 65536 }
+        requires { self.old.calls + room ≤ ENTRIES }
         ensures step { Simulates self.old self.new room (Call.Checkpoint p) (answering Answer.Saved result) }
         ensures calls { OnOk result (self.new.calls ≡ self.old.calls + 1) }
     {
@@ -75,7 +76,7 @@ impl Machine {
     /// Each sender that is up drops its messages to d that d's checkpoint covers, or for the
     /// outside those that were shown. Answers how many. It takes no memory.
     pub fn trim(&mut self, room: u32, d: u8) -> Result<u32, Refusal>
-        requires { self.old.calls + room ≤ 65536 }
+        requires { self.old.calls + room ≤ ENTRIES }
         ensures step { Simulates self.old self.new room (Call.Trim d) (answering Answer.Trimmed result) }
         ensures calls { OnOk result (self.new.calls ≡ self.old.calls + 1) }
     {
@@ -93,7 +94,7 @@ impl Machine {
     fn covered(&self, s: u8, d: u8) -> u32
         requires { (s ≤ length self.now.processes) × (d ≤ length self.now.processes) }
         ensures value { result ≡ covered_at self.now s d }
-        ensures bound { result ≤ 65537 }
+        ensures bound { result ≤ ENTRIES + 1 }
     {
         if d == 0 {
             return self.outside.shown_of(s);
@@ -119,7 +120,7 @@ impl Machine {
         requires { (s ≤ length self.old.processes) × (d ≤ length self.old.processes) }
         ensures after { self.new ≡ without_covered self.old d s }
         ensures value { result ≡ dropped_by self.old d s }
-        ensures bound { result ≤ 524289 }
+        ensures bound { result ≤ SENDS + 1 }
     {
         if s == d || !self.is_up(s) {
             return 0;

@@ -7,8 +7,8 @@ ghost use Rattle.machine.specs.Simulation.{Stands, Simulates, answering, IsTold}
 ghost use Rattle.machine.specs.Sending.{placing, released_at, MayLeave};
 
 use crate::machine::Machine;
-use crate::wire::MOST_PACKETS;
 use helpers::Payload;
+use limits::{ENTRIES, PACKETS};
 use world::{Answer, Call, Feed, Message, Packet, Refusal};
 
 impl Machine {
@@ -32,7 +32,7 @@ impl Machine {
 
     /// Logs a message of the outside for a process, and answers its SSN.
     pub fn input(&mut self, room: u32, feed: &Feed) -> Result<u32, Refusal>
-        requires { self.old.calls + room ≤ 65536 }
+        requires { self.old.calls + room ≤ ENTRIES }
         ensures step { Simulates self.old self.new room (Call.Input feed.now.dst feed.now.number feed.now.payload) (answering Answer.Logged result) }
         ensures calls { OnOk result (self.new.calls ≡ self.old.calls + 1) }
     {
@@ -51,7 +51,7 @@ impl Machine {
         if room <= self.open_jobs() {
             return Some(Refusal::JournalFull);
         }
-        if self.wire.len() >= MOST_PACKETS - self.live_jobs() as usize {
+        if self.wire.len() >= PACKETS - self.live_jobs() as usize {
             return Some(Refusal::WireFull);
         }
         None
@@ -95,7 +95,7 @@ impl Machine {
 
     /// Puts a logged and released message on the wire, and answers the packet's key.
     pub fn transmit(&mut self, room: u32, from: u8, to: u8, ssn: u32) -> Result<usize, Refusal>
-        requires { self.old.calls + room ≤ 65536 }
+        requires { self.old.calls + room ≤ ENTRIES }
         ensures step { Simulates self.old self.new room (Call.Transmit from to ssn) (answering Answer.Placed result) }
         ensures calls { OnOk result (self.new.calls ≡ self.old.calls + 1) }
     {
@@ -129,7 +129,7 @@ impl Machine {
 
     /// Puts a copy of a packet on the wire, and answers its key.
     pub fn copy(&mut self, room: u32, key: usize) -> Result<usize, Refusal>
-        requires { self.old.calls + room ≤ 65536 }
+        requires { self.old.calls + room ≤ ENTRIES }
         ensures step { Simulates self.old self.new room (Call.Copy key) (answering Answer.Placed result) }
         ensures calls { OnOk result (self.new.calls ≡ self.old.calls + 1) }
     {
@@ -161,7 +161,7 @@ impl Machine {
 
     /// Takes a packet from the wire, which arrives nowhere.
     pub fn lose(&mut self, room: u32, key: usize) -> Result<(), Refusal>
-        requires { self.old.calls + room ≤ 65536 }
+        requires { self.old.calls + room ≤ ENTRIES }
         ensures step { Simulates self.old self.new room (Call.Lose key) (answering (λ _. Answer.Lost) result) }
         ensures calls { OnOk result (self.new.calls ≡ self.old.calls + 1) }
     {

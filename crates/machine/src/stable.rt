@@ -9,6 +9,7 @@ ghost use Rattle.machine.specs.Outbox.{outbox_again};
 
 use crate::outbox::Outbox;
 use checkpoint::{Saved, Stored};
+use limits::{PARTIES, PROCESSES, RECEIPTS, STATE_BYTES};
 use rsn::Receipts;
 use std::alloc::{AllocError, Global};
 use std::marker::Model;
@@ -17,7 +18,7 @@ use std::marker::Model;
 #[derive(Drop)]
 pub struct Stable {
     saved: Stored,
-    counts: [u32; 16],
+    counts: [u32; PARTIES],
 }
 
 impl Model for Stable {
@@ -43,8 +44,8 @@ impl Stable {
         outbox: &Outbox,
     ) -> Result<Stable, AllocError>
         requires own { (1 ≤ me) × (me ≤ n) }
-        requires count { n ≤ 15 }
-        requires state { length state.now ≤ 1024 }
+        requires count { n ≤ PROCESSES }
+        requires state { length state.now ≤ STATE_BYTES }
         requires senders { list_all (is_sender me n) receipts.now.senders ≡ true }
         requires owner { outbox.now.log.owner ≡ me }
         requires queues { length outbox.now.log.queues ≡ n + 1 }
@@ -53,7 +54,7 @@ impl Stable {
     {
         let parsed = Saved::of(alloc, me, n, state, receipts, outbox.log())?;
         let saved = Stored::of(alloc, &parsed)?;
-        let mut counts = [0; 16];
+        let mut counts = [0; PARTIES];
         for sender in 0..n + 1 {
             counts[sender as usize] = receipts.next(sender) - 1;
         }
@@ -70,16 +71,16 @@ impl Stable {
     /// How many messages it covers.
     pub fn length(&self) -> u32
         ensures value { result ≡ length self.now.senders }
-        ensures bound { result ≤ 65536 }
+        ensures bound { result ≤ RECEIPTS }
     {
         self.saved.length()
     }
 
     /// How many messages of this sender it covers.
     pub fn count_of(&self, sender: u8) -> u32
-        requires { sender < 16 }
+        requires { sender < PARTIES }
         ensures value { result ≡ count_by (λ s. s == sender) self.now.senders }
-        ensures bound { result ≤ 65536 }
+        ensures bound { result ≤ RECEIPTS }
     {
         // For the proof: it covers at most 65,536 messages, and those of one sender are no more.
         let _covered = self.length();

@@ -3,6 +3,7 @@
 ghost use Rattle.std.specs.Prelude.{◌≡◌, ◌<◌, false, slice_index_or, slice_set, replicate};
 ghost use Rattle.machine.specs.Stage.{is_live, is_lost, is_replayed, next_job, has_no_peer};
 
+use limits::PARTIES;
 use replay::Plan;
 use world::Message;
 
@@ -69,15 +70,17 @@ impl Stage {
 /// Processes by number: whether they are still to do.
 #[derive(Clone, Copy, PartialEq, Eq, Debug)]
 pub struct Peers {
-    pub todo: [bool; 16],
+    pub todo: [bool; PARTIES],
 }
 
 impl Peers {
     /// None.
     pub fn none() -> Peers
-        ensures { result.todo ≡ replicate 16 false }
+        ensures { result.todo ≡ replicate PARTIES false }
     {
-        Peers { todo: [false; 16] }
+        Peers {
+            todo: [false; PARTIES],
+        }
     }
 
     /// Whether this one is to do.
@@ -96,7 +99,7 @@ impl Peers {
 
     /// This one is to do, or isn't.
     pub fn set(&mut self, r: u8, todo: bool)
-        requires { r < 16 }
+        requires { r < PARTIES }
         ensures { self.new.todo ≡ slice_set self.old.todo r todo }
     {
         self.todo[r as usize] = todo;

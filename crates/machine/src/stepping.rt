@@ -10,6 +10,7 @@ ghost use Rattle.machine.specs.Stepping.{IsJobless, OpensJob, TakesNoResult, ans
 
 use crate::arrival::Arrival;
 use crate::machine::Machine;
+use limits::ENTRIES;
 use replay::Job;
 use world::{Answer, Call, Feed, Refusal};
 
@@ -39,7 +40,7 @@ impl Machine {
     /// Why a call would be refused, want of memory apart. A finish is refused by its result.
     pub fn cause(&self, room: u32, call: &Call) -> Option<Refusal>
         requires result { TakesNoResult call.now }
-        requires room { room ≤ 65536 }
+        requires room { room ≤ ENTRIES }
         ensures cause { (w : World) → Stands self.now w → refusal_of w room call.now ≡ option_and_then cause_of result }
         ensures told { IsTold result }
     {
@@ -71,7 +72,7 @@ impl Machine {
     /// takes a result: it is `finish`.
     pub fn step(&mut self, room: u32, call: &Call) -> Result<Reply, Refusal>
         requires result { TakesNoResult call.now }
-        requires room { self.old.calls + room ≤ 65536 }
+        requires room { self.old.calls + room ≤ ENTRIES }
         ensures step { Simulates self.old self.new room call.now (answering answer_in result) }
         ensures job { IfOk result (OpensJob self.old self.new call.now) }
         ensures calls { OnOk result (self.new.calls ≡ self.old.calls + 1) }
@@ -99,7 +100,7 @@ impl Machine {
     // Makes a call that neither starts nor ends a job, and gives its answer.
     fn perform(&mut self, room: u32, call: &Call) -> Result<Answer, Refusal>
         requires jobless { IsJobless call.now }
-        requires room { self.old.calls + room ≤ 65536 }
+        requires room { self.old.calls + room ≤ ENTRIES }
         ensures step { Simulates self.old self.new room call.now result }
         ensures calls { OnOk result (self.new.calls ≡ self.old.calls + 1) }
     {

@@ -3,13 +3,11 @@
 ghost use Rattle.std.specs.Prelude.{◌≡◌, ◌<◌, ◌≤◌, ℕ, [], length, Some, None, is_some, IsSome, IfOk, OnErr, option_copied, slice_index_or, count_by};
 ghost use Rattle.machine.specs.Wire.{Puts, Ascend, AreListed};
 
+use limits::PACKETS;
 use slab::Slab;
 use std::alloc::{AllocError, Global};
 use std::marker::Model;
 use world::Packet;
-
-/// The most packets on the wire. Their keys are below it.
-pub const MOST_PACKETS: usize = 4096;
 
 /// The packets on the wire. A new one gets the key that was vacated last, or the least fresh one.
 #[derive(Drop)]
@@ -74,13 +72,13 @@ impl Wire {
     /// Puts a packet under a vacant key. A table whose next key is past the last one has no place
     /// for it.
     pub fn place(&mut self, packet: Packet) -> Result<usize, AllocError>
-        ensures key { IfOk result (λ key. key < 4096) }
+        ensures key { IfOk result (λ key. key < PACKETS) }
         ensures puts { IfOk result (λ key. Puts self.old self.new key None (Some packet)) }
         ensures err { OnErr result (self.new ≡ self.old) }
     {
         self.slab.reserve(1)?;
         let key = self.slab.vacant_key();
-        if key >= MOST_PACKETS {
+        if key >= PACKETS {
             return Err(AllocError);
         }
         let place = rank(self.keys.as_slice(), key);

@@ -3,6 +3,7 @@ use Rattle.std.proofs.Common.{◌≡◌, ℕ, zero, suc, ◌-◌, ◌<◌, ◌�
 use Rattle.std.specs.Prelude.{Option, Some, None, IfSome, slice_index_or}
 use Rattle.std.proofs.lemmas.List.{get_or_append_left, get_or-append_right, get_or_past}
 use Rattle.std.proofs.lemmas.Bool.Decides.{nat_tests}
+use Rattle.limits.specs.declared.TheConstants.{SEATS}
 use Rattle.sessions.specs.Seats.{TheSeat, AreSeats, new_seats, seat_at}
 
 abbrev new_seat : ℕ → Option TheSeat
@@ -40,8 +41,8 @@ new-placed n k s false e at =
     absurd (cc)
 
 -- the seats of a session that opens
-pub new-are-seats : AreSeats (new_seats 17)
-new-are-seats = record { all = new-length 17; placed = λ k s e. new-placed 17 k s (nat_lt k 17) refl e }
+pub new-are-seats : AreSeats (new_seats SEATS)
+new-are-seats = record { all = new-length SEATS; placed = λ k s e. new-placed SEATS k s (nat_lt k SEATS) refl e }
 
 -- a seat that is at hand is that of its worker
 pub sits : (seats : List (Option TheSeat)) (k : ℕ) (o : Option TheSeat) → AreSeats seats → o ≡ seat_at seats k → IfSome o (λ s. s.worker ≡ k)

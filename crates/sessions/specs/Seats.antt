@@ -1,5 +1,6 @@
 -- Seats, the rights to call
 use Rattle.std.specs.Prelude.{◌≡◌, ℕ, suc, zero, ◌+◌, List, [], ◌∷◌, ◌++◌, length, Option, Some, None, All, IsSome, slice_index_or, sum_by}
+use Rattle.limits.specs.declared.TheConstants.{SEATS}
 
 -- its worker, 0 for none, and how many of its calls were accepted
 pub record TheSeat : Type 0 where
@@ -17,7 +18,7 @@ seat_at seats k = slice_index_or seats k None
 
 -- the seats of the workers 0 to 16. Each that is at hand lies at its own number
 pub record AreSeats (seats : List (Option TheSeat)) : Type 0 where
-  pub all : length seats ≡ 17
+  pub all : length seats ≡ SEATS
   pub placed : (k : ℕ) (s : TheSeat) → seat_at seats k ≡ Some s → s.worker ≡ k
 
 -- no seat is out

@@ -10,10 +10,11 @@ ghost use Rattle.sessions.specs.Driving.{Advances, Driven, IsDone, IsQuiet};
 ghost use Rattle.sessions.specs.Service.{own_seat, seat_of};
 
 use crate::service::Service;
+use limits::ENTRIES;
 use world::{Call, Refusal};
 
 /// How much an empty journal takes.
-const ALL_ROOM: u32 = 65_536;
+const ALL_ROOM: u32 = ENTRIES as u32;
 
 impl Service {
     /// A useful call that isn't refused for another cause than want of memory, and `None` only where

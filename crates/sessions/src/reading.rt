@@ -11,13 +11,14 @@ ghost use Rattle.sessions.specs.Journal.{IsExact, IsLegal, is_exact, world_at};
 ghost use Rattle.sessions.specs.Service.{KeepsPromises};
 
 use crate::service::Service;
+use limits::{ENTRIES, PROCESSES};
 use world::{Entry, Message, PhaseName};
 
 impl Service {
     /// How many processes there are, 1 to 15.
     pub fn count(&self) -> u8
         ensures value { result ≡ length self.now.images }
-        ensures some { (1 ≤ result) × (result ≤ 15) }
+        ensures some { (1 ≤ result) × (result ≤ PROCESSES) }
     {
         self.machine.count()
     }
@@ -25,7 +26,7 @@ impl Service {
     /// The accepted calls with their answers, the first one first.
     pub fn journal(&self) -> &[Entry]
         ensures entries { result.now ≡ self.now.entries }
-        ensures bound { length self.now.entries ≤ 65536 }
+        ensures bound { length self.now.entries ≤ ENTRIES }
         ensures legal { IsLegal self.now }
         ensures kept { HasKept (world_at self.now) }
         ensures no_orphan { IsExact self.now → NoOrphan (world_at self.now) }

@@ -10,6 +10,7 @@ ghost use Rattle.sessions.specs.Driving.{StartsJob};
 ghost use Rattle.sessions.specs.Service.{OpensAlone, Owes, OwesAs, Returns, own_seat, seat_of};
 
 use crate::journal::Journal;
+use limits::ENTRIES;
 use machine::{Finished, Machine, Reply};
 use replay::Done;
 use std::alloc::Global;
@@ -88,7 +89,7 @@ impl Service {
         ensures adds { OwesAs worker self.old self.new call.now (answering answer_in result) }
         ensures job { IfOk result (StartsJob self.old self.new call.now) }
         ensures exactly { IfOk result (λ reply. Returns self.old self.new call.now reply.answer) }
-        ensures bound { length self.new.entries ≤ 65536 }
+        ensures bound { length self.new.entries ≤ ENTRIES }
     {
         let room = self.journal.room();
         if !self.journal.reserve() {
@@ -105,7 +106,7 @@ impl Service {
     /// What `finish` does, for this worker.
     pub(crate) fn finish_of(&mut self, worker: u8, done: Done) -> Result<Finished, (Refusal, Done)>
         ensures takes { Takes self.old self.new (seat_of worker self.old) (seat_of worker self.new) done result }
-        ensures bound { length self.new.entries ≤ 65536 }
+        ensures bound { length self.new.entries ≤ ENTRIES }
     {
         if !self.journal.reserve() {
             if self.machine.is_open(done.task()) {

@@ -16,6 +16,7 @@ ghost use Rattle.sessions.specs.Journal.{IsLegal, world_at, room_at, Adds, Takes
 use crate::seat::{Seat, settle};
 use crate::service::Service;
 use crate::share::Share;
+use limits::SEATS;
 use machine::{Finished, Reply};
 use replay::{Done, Job};
 use std::alloc::{AllocError, Global};
@@ -24,9 +25,6 @@ use std::sync::Arc;
 use std::sync::ledger::{Blank, Book, Ledger, Share as Part};
 use verifier::Image;
 use world::{Answer, Call, Feed, Refusal};
-
-/// How many seats there are: one for nobody, and one for each of 16 workers.
-const SEATS: u8 = 17;
 
 /// A service that many may call, the book that counts their accepted calls, and the seats that
 /// nobody took. `L` names the session's ledger, which has a part for each seat.
@@ -54,11 +52,11 @@ fn seats_of<L: Ledger>(
     alloc: Global,
     mut parts: Part<L>,
 ) -> Result<Vec<Option<Seat<L>>>, AllocError>
-    requires { (parts.parts ≡ 17) × (parts.amount ≡ 0) }
-    ensures { IfOk result (λ v. v.items ≡ new_seats 17) }
+    requires { (parts.parts ≡ SEATS) × (parts.amount ≡ 0) }
+    ensures { IfOk result (λ v. v.items ≡ new_seats SEATS) }
 {
     let mut seats = Vec::new(alloc);
-    for worker in 0..SEATS {
+    for worker in 0..SEATS as u8 {
         let part = parts.split_off(1, 0);
         seats.push(Some(Seat::new(worker, part)))?;
     }
@@ -71,7 +69,7 @@ impl<L: Ledger> Session<L> {
     /// (`NoSuchProcess`), and want of memory.
     pub fn open(alloc: Global, blank: Blank, images: Vec<Arc<Image>>) -> Result<Session<L>, Refusal>
         requires name { blank.name ≡ L.name }
-        requires parts { (blank.parts ≡ L.parts) × (L.parts ≡ 17) }
+        requires parts { (blank.parts ≡ L.parts) × (L.parts ≡ SEATS) }
         ensures { OpensWith (map arc_value images.items) result }
     {
         let service = Service::open(alloc, images)?;
@@ -109,7 +107,7 @@ impl<L: Ledger> Session<L> {
     /// Whether no seat is out.
     pub fn is_whole(&self) -> bool
         ensures whole { IsTrue result ↔ IsWhole self.now.seats }
-        ensures places { length self.now.seats ≡ 17 }
+        ensures places { length self.now.seats ≡ SEATS }
     {
         self.seats.iter().all(|seat| seat.is_some())
     }
@@ -117,12 +115,12 @@ impl<L: Ledger> Session<L> {
     /// Shows that the journal is as long as all seats were answered together, where those of the
     /// shares and the others are all 17. Takes no memory.
     pub fn settle(&mut self, shares: &mut [Share<L>], seats: &mut [Seat<L>])
-        requires { L.parts ≡ 17 }
+        requires { L.parts ≡ SEATS }
         ensures session { self.new ≡ self.old }
         ensures shares { shares.new ≡ shares.old }
         ensures seats { seats.new ≡ seats.old }
         ensures legal { IsLegal self.new }
-        ensures all { length shares.old + length seats.old ≡ 17 → length self.old.entries ≡ answers_of shares.old + answered_by seats.old }
+        ensures all { length shares.old + length seats.old ≡ SEATS → length self.old.entries ≡ answers_of shares.old + answered_by seats.old }
     {
         settle(&mut self.book, shares, seats);
         let _entries = self.service.journal();

@@ -3,6 +3,7 @@ use Rattle.std.proofs.Common.{◌≡◌, ℕ, suc, zero, ◌+◌, ◌-◌, ◌<�
 use Rattle.std.specs.Prelude.{Option, Some, None, IsSome, ◌⊎◌, slice_set}
 use Rattle.std.proofs.lemmas.List.{get_or-set_other}
 use Rattle.std.proofs.lemmas.List.Sums.{sum_by-append}
+use Rattle.limits.specs.declared.TheConstants.{SEATS, WORKERS}
 use Rattle.sessions.specs.Seats.{TheSeat, IsWhole, answered_by, listed, seat_at, seats_from}
 use Rattle.workers.specs.Running.{manned, unmanned}
 
@@ -29,11 +30,11 @@ others-more xs ys zs k n same set j (inl below) = ap (λ s. seat_at s j) set ∙
 others-more xs ys zs k n same set j (inr above) = ap (λ s. seat_at s j) set ∙ get_or-set_other ys (k + n) j None None (omega (arith, above)) ∙ same j (inr (omega (arith, above)))
 
 -- nobody's, those behind the workers', and theirs
-pub all-taken : (xs ys zs : List (Option TheSeat)) (n : ℕ) (none one two three : List TheSeat) → n ≤ 16 → none ≡ [] → one ≡ none ++ seats_from xs 0 1 → ((j : ℕ) → (j < 0) ⊎ (0 + 1 ≤ j) → seat_at ys j ≡ seat_at xs j)
-    → two ≡ one ++ seats_from ys (n + 1) (16 - n) → ((j : ℕ) → (j < n + 1) ⊎ (n + 1 + (16 - n) ≤ j) → seat_at zs j ≡ seat_at ys j) → three ≡ two ++ seats_from zs 1 n → three ≡ unmanned n xs ++ manned n xs
+pub all-taken : (xs ys zs : List (Option TheSeat)) (n : ℕ) (none one two three : List TheSeat) → n ≤ WORKERS → none ≡ [] → one ≡ none ++ seats_from xs 0 1 → ((j : ℕ) → (j < 0) ⊎ (0 + 1 ≤ j) → seat_at ys j ≡ seat_at xs j)
+    → two ≡ one ++ seats_from ys (n + 1) (WORKERS - n) → ((j : ℕ) → (j < n + 1) ⊎ (n + 1 + (WORKERS - n) ≤ j) → seat_at zs j ≡ seat_at ys j) → three ≡ two ++ seats_from zs 1 n → three ≡ unmanned n xs ++ manned n xs
 all-taken xs ys zs n none one two three few empty first first_others second second_others third =
     let nobody : one ≡ seats_from xs 0 1 = first ∙ ap (λ s. s ++ seats_from xs 0 1) empty in
-    let behind : seats_from ys (n + 1) (16 - n) ≡ seats_from xs (n + 1) (16 - n) = seats_from-same ys xs (n + 1) (16 - n) (λ j low high. first_others j (inr (omega (arith, low)))) in
+    let behind : seats_from ys (n + 1) (WORKERS - n) ≡ seats_from xs (n + 1) (WORKERS - n) = seats_from-same ys xs (n + 1) (WORKERS - n) (λ j low high. first_others j (inr (omega (arith, low)))) in
     let theirs : seats_from zs 1 n ≡ seats_from xs 1 n = seats_from-same zs xs 1 n (λ j low high. second_others j (inl (omega (arith, high))) ∙ first_others j (inr (omega (arith, low)))) in
     let both : two ≡ unmanned n xs = second ∙ (λ i. nobody i ++ behind i) in
     third ∙ (λ i. both i ++ theirs i)
@@ -49,13 +50,13 @@ length-seats_from xs k (suc n) whole within =
     let here : IsSome (seat_at xs (k + n)) = whole (k + n) None (omega (arith, within)) in
     omega (arith, length-append (seats_from xs k n) (listed (seat_at xs (k + n))), length-listed (seat_at xs (k + n)) here, length-seats_from xs k n whole (omega (arith, within)))
 
-pub length-unmanned : (xs : List (Option TheSeat)) (n : ℕ) → IsWhole xs → n ≤ 16 → length xs ≡ 17 → length (unmanned n xs) ≡ 17 - n
+pub length-unmanned : (xs : List (Option TheSeat)) (n : ℕ) → IsWhole xs → n ≤ WORKERS → length xs ≡ SEATS → length (unmanned n xs) ≡ SEATS - n
 length-unmanned xs n whole few places =
     let nobody : length (seats_from xs 0 1) ≡ 1 = length-seats_from xs 0 1 whole (omega (arith, places)) in
-    let behind : length (seats_from xs (n + 1) (16 - n)) ≡ 16 - n = length-seats_from xs (n + 1) (16 - n) whole (omega (arith, places, few)) in
-    omega (arith, length-append (seats_from xs 0 1) (seats_from xs (n + 1) (16 - n)), nobody, behind, few)
+    let behind : length (seats_from xs (n + 1) (WORKERS - n)) ≡ WORKERS - n = length-seats_from xs (n + 1) (WORKERS - n) whole (omega (arith, places, few)) in
+    omega (arith, length-append (seats_from xs 0 1) (seats_from xs (n + 1) (WORKERS - n)), nobody, behind, few)
 
-pub length-manned : (xs : List (Option TheSeat)) (n : ℕ) → IsWhole xs → n ≤ 16 → length xs ≡ 17 → length (manned n xs) ≡ n
+pub length-manned : (xs : List (Option TheSeat)) (n : ℕ) → IsWhole xs → n ≤ WORKERS → length xs ≡ SEATS → length (manned n xs) ≡ n
 length-manned xs n whole few places = length-seats_from xs 1 n whole (omega (arith, places, few))
 
 pub answered_by-append : (xs ys : List TheSeat) → answered_by (xs ++ ys) ≡ answered_by xs + answered_by ys

@@ -1,5 +1,6 @@
 -- What a run needs, which seats it gives to workers, and when it is refused
 use Rattle.std.specs.Prelude.{ℕ, ◌+◌, ◌≤◌, ◌-◌, List, ◌++◌, Option}
+use Rattle.limits.specs.declared.TheConstants.{WORKERS}
 use Rattle.sessions.specs.Seats.{TheSeat, IsWhole, seats_from}
 use Rattle.sessions.specs.Journal.{TheSession}
 use Rattle.workers.specs.declared.running.RunError.{RunError}
@@ -8,7 +9,7 @@ use Rattle.workers.specs.declared.running.RunError.TheVariants.{Workers, Memory}
 -- there are 1 to 16 workers, and no seat is out
 pub record CanRun (workers : ℕ) (s : TheSession) : Type 0 where
   pub some : 1 ≤ workers
-  pub few : workers ≤ 16
+  pub few : workers ≤ WORKERS
   pub whole : IsWhole s.seats
 
 -- the seats of the workers 1, 2, .. up to this number
@@ -17,7 +18,7 @@ manned workers seats = seats_from seats 1 workers
 
 -- and the others
 abbrev pub unmanned : ℕ → List (Option TheSeat) → List TheSeat
-unmanned workers seats = seats_from seats 0 1 ++ seats_from seats (workers + 1) (16 - workers)
+unmanned workers seats = seats_from seats 0 1 ++ seats_from seats (workers + 1) (WORKERS - workers)
 
 -- a run is refused where it can't be, or for want of memory
 abbrev pub IsCause : RunError → Type 0 → Type 0

@@ -5,6 +5,7 @@ ghost use Rattle.sessions.specs.Journal.{IsLegal};
 ghost use Rattle.sessions.specs.Seats.{answered_by};
 ghost use Rattle.sessions.specs.Shares.{answers_of};
 
+use limits::SEATS;
 use sessions::{Seat, Session, Share};
 use std::sync::Mutex;
 use std::sync::ledger::Ledger;
@@ -23,12 +24,12 @@ pub(crate) fn settled<L: Ledger>(
     shares: Vec<Share<L>>,
     seats: Vec<Seat<L>>,
 ) -> Closed<L>
-    requires { L.parts ≡ 17 }
+    requires { L.parts ≡ SEATS }
     ensures session { result.session ≡ session }
     ensures shares { result.shares.items ≡ shares.items }
     ensures seats { result.seats.items ≡ seats.items }
     ensures legal { IsLegal result.session }
-    ensures all { length shares.items + length seats.items ≡ 17 → length result.session.entries ≡ answers_of shares.items + answered_by seats.items }
+    ensures all { length shares.items + length seats.items ≡ SEATS → length result.session.entries ≡ answers_of shares.items + answered_by seats.items }
 {
     let mut session = session;
     let mut shares = shares;
@@ -48,11 +49,11 @@ pub fn close<L: Ledger>(
     shares: Vec<Share<L>>,
     seats: Vec<Seat<L>>,
 ) -> Closed<L>
-    requires { L.parts ≡ 17 }
+    requires { L.parts ≡ SEATS }
     ensures shares { result.shares.items ≡ shares.items }
     ensures seats { result.seats.items ≡ seats.items }
     ensures legal { IsLegal result.session }
-    ensures all { length shares.items + length seats.items ≡ 17 → length result.session.entries ≡ answers_of shares.items + answered_by seats.items }
+    ensures all { length shares.items + length seats.items ≡ SEATS → length result.session.entries ≡ answers_of shares.items + answered_by seats.items }
 {
     settled(session.into_inner(), shares, seats)
 }

@@ -16,6 +16,7 @@ use crate::shared::{Running, Start};
 use crate::turnstile::Turnstile;
 use crate::working::serve;
 use crossbeam_channel::Receiver;
+use limits::{SEATS, WORKERS};
 use sessions::{Seat, Session, Share};
 use std::alloc::{AllocError, Global};
 use std::marker::{Brand, PhantomData};
@@ -25,12 +26,6 @@ use std::thread;
 use std::thread::Threads;
 use thiserror::Error;
 use world::Feed;
-
-/// The most workers of a run.
-const MOST_WORKERS: u8 = 16;
-
-/// How many seats a session has: one for nobody, and one for each of the workers.
-const SEATS: usize = 17;
 
 /// Why no worker was started. Where both causes hold, the first one is told.
 #[derive(Clone, Copy, PartialEq, Eq, Debug, Error)]
@@ -63,7 +58,7 @@ struct Crew<L: Ledger> {
 // Places for all seats, and for a share of each worker.
 fn places_for<L: Ledger>(alloc: Global, workers: u8) -> Result<Crew<L>, AllocError>
     ensures none { IfOk result (λ c. (c.seats.items ≡ []) × (c.shares.items ≡ [])) }
-    ensures places { IfOk result (λ c. (17 ≤ vec_capacity c.seats) × (workers ≤ vec_capacity c.shares)) }
+    ensures places { IfOk result (λ c. (SEATS ≤ vec_capacity c.seats) × (workers ≤ vec_capacity c.shares)) }
 {
     let seats = Vec::with_capacity(alloc, SEATS)?;
     let shares = Vec::with_capacity(alloc, workers as usize)?;
@@ -88,7 +83,7 @@ fn sit_at<L: Ledger>(session: &mut Session<L>, worker: u8, seats: &mut Vec<Seat<
 
 // Sits at so many seats from that of a worker on, and puts those that are at hand behind these.
 fn sit_from<L: Ledger>(session: &mut Session<L>, worker: u8, count: u8, seats: &mut Vec<Seat<L>>)
-    requires within { worker + count ≤ 17 }
+    requires within { worker + count ≤ SEATS }
     requires room { vec_len seats.old + count ≤ vec_capacity seats.old }
     ensures seats { seats.new.items ≡ seats.old.items ++ seats_from session.old.seats worker count }
     ensures len { vec_len seats.new ≤ vec_len seats.old + count }
@@ -104,10 +99,10 @@ fn sit_from<L: Ledger>(session: &mut Session<L>, worker: u8, count: u8, seats: &
 
 // Shows that the journal is as long as these seats were answered, if they are all.
 fn audit<L: Ledger>(session: &mut Session<L>, seats: &mut Vec<Seat<L>>)
-    requires { L.parts ≡ 17 }
+    requires { L.parts ≡ SEATS }
     ensures session { session.new ≡ session.old }
     ensures seats { seats.new.items ≡ seats.old.items }
-    ensures all { length seats.old.items ≡ 17 → length session.old.entries ≡ answered_by seats.old.items }
+    ensures all { length seats.old.items ≡ SEATS → length session.old.entries ≡ answered_by seats.old.items }
 {
     let mut none: [Share<L>; 0] = [];
     session.settle(&mut none, seats.as_mut_slice());
@@ -117,27 +112,27 @@ fn audit<L: Ledger>(session: &mut Session<L>, seats: &mut Vec<Seat<L>>)
 fn is_ready<L: Ledger>(workers: u8, session: &Session<L>) -> bool
     ensures can { OnTrue result (CanRun workers session.now) }
     ensures cannot { OnFalse result (¬ CanRun workers session.now) }
-    ensures places { length session.now.seats ≡ 17 }
+    ensures places { length session.now.seats ≡ SEATS }
 {
-    session.is_whole() && workers > 0 && workers <= MOST_WORKERS
+    session.is_whole() && workers > 0 && workers <= WORKERS as u8
 }
 
 // Takes all seats, those of the workers last.
 fn man<L: Ledger>(session: &mut Session<L>, seats: &mut Vec<Seat<L>>, workers: u8)
-    requires parts { L.parts ≡ 17 }
+    requires parts { L.parts ≡ SEATS }
     requires can { CanRun workers session.old }
-    requires places { length session.old.seats ≡ 17 }
+    requires places { length session.old.seats ≡ SEATS }
     requires none { seats.old.items ≡ [] }
-    requires room { 17 ≤ vec_capacity seats.old }
+    requires room { SEATS ≤ vec_capacity seats.old }
     ensures seats { seats.new.items ≡ unmanned workers session.old.seats ++ manned workers session.old.seats }
-    ensures others { length (unmanned workers session.old.seats) ≡ 17 - workers }
+    ensures others { length (unmanned workers session.old.seats) ≡ SEATS - workers }
     ensures theirs { length (manned workers session.old.seats) ≡ workers }
     ensures answered { length session.old.entries ≡ answered_by (unmanned workers session.old.seats) + answered_by (manned workers session.old.seats) }
     ensures images { session.new.images ≡ session.old.images }
     ensures entries { session.new.entries ≡ session.old.entries }
 {
     sit_from(session, 0, 1, seats);
-    sit_from(session, workers + 1, MOST_WORKERS - workers, seats);
+    sit_from(session, workers + 1, WORKERS as u8 - workers, seats);
     sit_from(session, 1, workers, seats);
     audit(session, seats);
 }
@@ -205,7 +200,7 @@ fn run_from<
     budget: u32,
     turnstile: &G,
 ) -> Result<Closed<L>, (RunError, Session<L>)>
-    requires parts { L.parts ≡ 17 }
+    requires parts { L.parts ≡ SEATS }
     requires start { session ≡ B.session }
     ensures can { OnOk result (CanRun workers session) }
     ensures served { IfOk result (λ c. AreServed budget (manned workers session.seats) c.shares.items) }
@@ -252,7 +247,7 @@ pub fn run<L: Ledger + Send + Sync, R: Threads + Wait + Sync, G: Turnstile>(
     budget: u32,
     turnstile: &G,
 ) -> Result<Closed<L>, (RunError, Session<L>)>
-    requires { L.parts ≡ 17 }
+    requires { L.parts ≡ SEATS }
     ensures can { OnOk result (CanRun workers session) }
     ensures served { IfOk result (λ c. AreServed budget (manned workers session.seats) c.shares.items) }
     ensures workers { IfOk result (λ c. vec_len c.shares ≡ workers) }

@@ -1,6 +1,7 @@
 use Rattle.std.proofs.Common.{◌≡◌, ◌≤◌, ◌+◌, ◌++◌, ◌∷◌, [], suc, length, map, take, sym, ap, ◌∙◌, subst, arith}
 use Rattle.std.specs.Arc.{arc_value}
 use Rattle.std.proofs.lemmas.List.{take_more, map-append}
+use Rattle.limits.specs.declared.TheConstants.{STATE_BYTES}
 use Rattle.machine.specs.Process.{idle_process}
 use Rattle.machine.specs.Opening.{AreIdle}
 use Rattle.machine.proofs.Openings.{idle-push}
@@ -18,6 +19,6 @@ loop-image-preserved c =
     let me : c.len.result + 1 ≡ suc (length prefix) = omega (arith, c.len.ensures, c.loop-image.invariant.count) in
     let is : c.in_ok-new.field-0 ≡ idle_process (suc (length prefix)) (length xs) image.len =
     c.in_ok-new.ensures ∙ ap (λ j. idle_process j (length xs) c.state_len.result) me ∙ ap (λ n. idle_process (suc (length prefix)) (length xs) n) (c.state_len.ensures.value ∙ ap (λ i. i.len) c.deref.ensures) in
-    let short : image.len ≤ 1024 = let bound = c.state_len.ensures.bound in let is_len : c.state_len.result ≡ image.len = c.state_len.ensures.value ∙ ap (λ i. i.len) c.deref.ensures in rw is_len at bound in
+    let short : image.len ≤ STATE_BYTES = let bound = c.state_len.ensures.bound in let is_len : c.state_len.result ≡ image.len = c.state_len.ensures.value ∙ ap (λ i. i.len) c.deref.ensures in rw is_len at bound in
     let items = c.in_ok-push.ensures.items ∙ ap (λ x. ps ++ x ∷ []) is in
     subst (λ l. AreIdle (length xs) l c.push.new.self.items) (sym more) (subst (AreIdle (length xs) (prefix ++ image ∷ [])) (sym items) (idle-push (length xs) prefix image ps short c.loop-image.invariant))

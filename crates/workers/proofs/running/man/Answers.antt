@@ -1,4 +1,5 @@
 use Rattle.std.proofs.Common.{◌≡◌, ◌++◌, length, length-append, ap, ◌∙◌, arith}
+use Rattle.limits.specs.declared.TheConstants.{SEATS}
 use Rattle.sessions.specs.Seats.{answered_by}
 use Rattle.workers.specs.Running.{manned, unmanned}
 use Rattle.workers.proofs.SeatsFrom.{all-taken, length-unmanned, length-manned, answered_by-append}
@@ -27,6 +28,6 @@ returns-clause-answered g c =
     let is = taken g (goal.at.returns-clause-answered g c).After-audit in
     let others = length-unmanned seats n c.requires.can.whole c.requires.can.few c.requires.places in
     let theirs = length-manned seats n c.requires.can.whole c.requires.can.few c.requires.places in
-    let all : length c.sit_from-3.new.seats.items ≡ 17 = omega (arith, ap length is, length-append (unmanned n seats) (manned n seats), others, theirs, c.requires.can.few) in
+    let all : length c.sit_from-3.new.seats.items ≡ SEATS = omega (arith, ap length is, length-append (unmanned n seats) (manned n seats), others, theirs, c.requires.can.few) in
     let entries = c.sit_from-3.ensures.entries ∙ c.sit_from-2.ensures.entries ∙ c.sit_from.ensures.entries in
     omega (arith, ap length entries, c.audit.ensures.all all, ap answered_by is, answered_by-append (unmanned n seats) (manned n seats))

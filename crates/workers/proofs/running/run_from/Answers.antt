@@ -1,4 +1,5 @@
 use Rattle.std.proofs.Common.{◌≡◌, ◌+◌, ◌-◌, length, length-append, sym, ap, ◌∙◌, subst, arith}
+use Rattle.limits.specs.declared.TheConstants.{SEATS}
 use Rattle.sessions.specs.Seats.{answered_by}
 use Rattle.sessions.specs.Shares.{answers_of}
 use Rattle.workers.specs.Shares.{AreServed}
@@ -35,8 +36,8 @@ total g c =
     let n = c.args.workers in
     let shares : length c.serve_all-crew.result.shares.items ≡ n =
     ap length (sym c.settled.ensures.shares) ∙ length-served c.args.budget (manned n seats) c.settled.result.shares.items (served g c) ∙ c.man.ensures.theirs in
-    let rest : length c.serve_all-crew.result.seats.items ≡ 17 - n = ap length (sym c.settled.ensures.seats) ∙ ap length (others g c) ∙ c.man.ensures.others in
-    let all : length c.serve_all-crew.result.shares.items + length c.serve_all-crew.result.seats.items ≡ 17 = omega (arith, shares, rest, c.if-not-is_ready.ensures.can.few) in
+    let rest : length c.serve_all-crew.result.seats.items ≡ SEATS - n = ap length (sym c.settled.ensures.seats) ∙ ap length (others g c) ∙ c.man.ensures.others in
+    let all : length c.serve_all-crew.result.shares.items + length c.serve_all-crew.result.seats.items ≡ SEATS = omega (arith, shares, rest, c.if-not-is_ready.ensures.can.few) in
     omega (arith, c.settled.ensures.all all, ap answers_of c.settled.ensures.shares, ap answered_by c.settled.ensures.seats)
 
 pub returns-clause-can : goal.returns-clause-can

@@ -3,6 +3,7 @@ use Rattle.std.specs.Prelude.{Some}
 use Rattle.std.specs.Arc.{arc_value}
 use Rattle.std.proofs.lemmas.Grind.{common_steps}
 use Rattle.std.proofs.lemmas.List.{length-set, get_or-map, get_or_default}
+use Rattle.limits.specs.declared.TheConstants.{ENTRIES}
 use Rattle.helpers.specs.declared.effects.Who.{Who}
 use Rattle.verifier.specs.Typed.{Typed}
 use Rattle.machine.specs.Process.{TheProcess, idle_process}
@@ -41,7 +42,7 @@ invariant_of-self c =
     let was = c.index_mut-process.result.now in
     let positive = c.requires.inside in
     let within : me ≤ length xs = subst (λ (v : TheMachine). me ≤ length v.processes) (sym c.self.view_is) c.requires.within in
-    let calls : m.calls < 65536 = subst (λ (v : TheMachine). v.calls < 65536) (sym c.self.view_is) c.requires.calls in
+    let calls : m.calls < ENTRIES = subst (λ (v : TheMachine). v.calls < ENTRIES) (sym c.self.view_is) c.requires.calls in
     let here : was ≡ slice_index_or xs (me - 1) was = first_of (search rules, grind (arith, common_steps)) in
     let begins : y ≡ record was { working = Some c.args.message } = first_of (search rules, grind (arith, common_steps)) in
     let at : was ≡ process_at c.args.self.now me = here ∙ get_or_default xs (me - 1) was (idle_process 0 0 0) (omega (arith, positive, within)) ∙ ap (λ (v : TheMachine). process_at v me) c.self.view_is in

@@ -2,6 +2,7 @@ use Rattle.std.proofs.Common.{rules, arith, ◌≡◌, ◌<◌, ◌≤◌, ◌+�
 use Rattle.std.specs.Arc.{arc_value}
 use Rattle.std.proofs.lemmas.Grind.{common_steps}
 use Rattle.std.proofs.lemmas.List.{length-set, length-map, get_or_default, get_or-set_same}
+use Rattle.limits.specs.declared.TheConstants.{ENTRIES, PROCESSES}
 use Rattle.verifier.specs.Typed.{Typed}
 use Rattle.checkpoint.specs.Saved.{TheSaved, saved_of}
 use Rattle.world.specs.declared.call.Call.TheVariants.{Checkpoint}
@@ -82,7 +83,7 @@ invariant_of-self c =
     let y = c.save.new.self in
     let positive = c.in_default.ensures.none.0 in
     let within : p ≤ length xs = subst (λ (v : TheMachine). p ≤ length v.processes) (sym c.self.view_is) c.in_default.ensures.none.1 in
-    let calls : c.self.inside.calls + c.args.room ≤ 65536 = subst (λ (v : TheMachine). v.calls + c.args.room ≤ 65536) (sym c.self.view_is) c.requires in
+    let calls : c.self.inside.calls + c.args.room ≤ ENTRIES = subst (λ (v : TheMachine). v.calls + c.args.room ≤ ENTRIES) (sym c.self.view_is) c.requires in
     let here : was ≡ slice_index_or xs (p - 1) was = first_of (search rules, grind (arith, common_steps)) in
     let at : was ≡ process_at m p = here ∙ get_or_default xs (p - 1) was (idle_process 0 0 0) (omega (arith, positive, within)) in
     let taken : c.process.result.now ≡ process_at m p = c.process.ensures.value ∙ ap (λ (v : TheMachine). process_at v p) (sym c.self.view_is) in
@@ -116,7 +117,7 @@ returns-clause-step c w s =
     let positive = c.in_default.ensures.none.0 in
     let within = c.in_default.ensures.none.1 in
     let inside : p ≤ length xs = subst (λ (v : TheMachine). p ≤ length v.processes) (sym c.self.view_is) within in
-    let few : length m.processes ≤ 15 = subst (λ (v : TheMachine). length v.processes ≤ 15) c.self.view_is c.self.invariant.few in
+    let few : length m.processes ≤ PROCESSES = subst (λ (v : TheMachine). length v.processes ≤ PROCESSES) c.self.view_is c.self.invariant.few in
     let here : was ≡ slice_index_or xs (p - 1) was = first_of (search rules, grind (arith, common_steps)) in
     let at : was ≡ process_at m p = here ∙ get_or_default xs (p - 1) was (idle_process 0 0 0) (omega (arith, positive, inside)) ∙ ap (λ (v : TheMachine). process_at v p) c.self.view_is in
     let image : Typed = some-of (map arc_value c.self.inside.images.items) (omega (arith, length-map c.self.inside.images.items arc_value, c.self.invariant.images, c.self.invariant.some)) in

@@ -3,6 +3,7 @@ use Rattle.std.specs.Prelude.{Some, None}
 use Rattle.std.specs.Arc.{arc_value}
 use Rattle.std.proofs.lemmas.Grind.{common_steps}
 use Rattle.std.proofs.lemmas.List.{get_or_default, length-set, set-get_or}
+use Rattle.limits.specs.declared.TheConstants.{ENTRIES, PACKETS}
 use Rattle.verifier.specs.Typed.{Typed}
 use Rattle.world.specs.declared.message.Message.{Message}
 use Rattle.world.specs.declared.packet.Packet.TheVariants.{Number}
@@ -63,7 +64,7 @@ invariant_of-self c =
       inputs = i.inputs;
       shown = i.shown;
       wire = subst (λ ws. AreCarried ws (length (set xs (p - 1) c.commit.new.self))) (sym wire) (subst (AreCarried c.self.inside.wire) (sym len) i.wire);
-      keys = subst (λ ws. (key : ℕ) → 4096 ≤ key → slice_index_or ws key None ≡ None) (sym wire) i.keys;
+      keys = subst (λ ws. (key : ℕ) → PACKETS ≤ key → slice_index_or ws key None ≡ None) (sym wire) i.keys;
     }
 
 pub returns-in_default-clause-step : goal.returns-in_default-clause-step
@@ -111,7 +112,7 @@ invariant_of-self-2 c =
       images = i.images ∙ sym len;
       processes = sound-set xs images p c.self.inside.calls y positive within i.processes now;
       outside = subst (λ n. IsLogOf n 0 c.self.inside.outside.log) (sym len) i.outside;
-      calls = subst (λ (v : TheMachine). v.calls + 1 ≤ 65537) (sym c.self.view_is) (omega (arith, c.requires.calls));
+      calls = subst (λ (v : TheMachine). v.calls + 1 ≤ ENTRIES + 1) (sym c.self.view_is) (omega (arith, c.requires.calls));
       started = omega (arith, i.started);
       inputs = λ d. omega (arith, i.inputs d);
       shown = omega (arith, i.shown);

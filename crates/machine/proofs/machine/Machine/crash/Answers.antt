@@ -3,6 +3,7 @@ use Rattle.std.specs.Prelude.{None}
 use Rattle.std.specs.Arc.{arc_value}
 use Rattle.std.proofs.lemmas.Grind.{common_steps}
 use Rattle.std.proofs.lemmas.List.{length-set, length-map, get_or_default, get_or-set_same}
+use Rattle.limits.specs.declared.TheConstants.{ENTRIES}
 use Rattle.verifier.specs.Typed.{Typed}
 use Rattle.world.specs.declared.call.Call.TheVariants.{Crash}
 use Rattle.world.specs.declared.answer.Answer.TheVariants.{Crashed}
@@ -39,7 +40,7 @@ invariant_of-self c =
     let y = c.crash.new.self in
     let positive = c.in_default.ensures.none.0 in
     let within : p ≤ length xs = subst (λ (v : TheMachine). p ≤ length v.processes) (sym c.self.view_is) c.in_default.ensures.none.1 in
-    let calls : c.self.inside.calls + c.args.room ≤ 65536 = subst (λ (v : TheMachine). v.calls + c.args.room ≤ 65536) (sym c.self.view_is) c.requires in
+    let calls : c.self.inside.calls + c.args.room ≤ ENTRIES = subst (λ (v : TheMachine). v.calls + c.args.room ≤ ENTRIES) (sym c.self.view_is) c.requires in
     let here : was ≡ slice_index_or xs (p - 1) was = first_of (search rules, grind (arith, common_steps)) in
     let outbox : c.in_ok-outbox.outbox ≡ empty_outbox p (length xs) = c.in_ok-outbox.ensures ∙ ap (empty_outbox p) (c.count.ensures.value ∙ ap (λ (v : TheMachine). length v.processes) (sym c.self.view_is)) in
     let is : y ≡ crashed c.in_ok-outbox.outbox was = c.crash.ensures in

@@ -1,4 +1,5 @@
 use Rattle.std.proofs.Common.{arith, ◌<◌, subst, sym, length}
+use Rattle.limits.specs.declared.TheConstants.{ENTRIES}
 use Rattle.machine.specs.Simulation.{TheMachine}
 use Rattle.machine.proofs.Keeping.{later, carried-put, keys-gone}
 use Rattle.machine.proofs.machine.Machine.drop_packet.Goals as goal
@@ -7,7 +8,7 @@ pub invariant_of-self : goal.invariant_of-self
 invariant_of-self c =
     let i = c.self.invariant in
     let n = length c.self.inside.processes.items in
-    let calls : c.self.inside.calls < 65536 = subst (λ (v : TheMachine). v.calls < 65536) (sym c.self.view_is) c.requires in
+    let calls : c.self.inside.calls < ENTRIES = subst (λ (v : TheMachine). v.calls < ENTRIES) (sym c.self.view_is) c.requires in
     record {
       some = i.some;
       few = i.few;

@@ -1,6 +1,7 @@
 use Rattle.std.proofs.Common.{rules, ◌≡◌, ◌≤◌, ◌<◌, ◌+◌, arith, subst, sym, length}
 use Rattle.std.specs.Prelude.{None}
 use Rattle.std.proofs.lemmas.Grind.{common_steps}
+use Rattle.limits.specs.declared.TheConstants.{ENTRIES}
 use Rattle.sender_log.specs.Queue.{appended}
 use Rattle.sender_log.specs.Log.{queue_of, with_queue}
 use Rattle.world.specs.declared.call.Call.TheVariants.{Input}
@@ -31,7 +32,7 @@ pub invariant_of-self-2 : goal.invariant_of-self-2
 invariant_of-self-2 c =
     let g = (goal.at.invariant_of-self-2 c).In_ok-ssn in
     let i = c.self.inside in
-    let calls : i.calls + c.args.room ≤ 65536 = subst (λ (v : TheMachine). v.calls + c.args.room ≤ 65536) (sym c.self.view_is) c.requires in
+    let calls : i.calls + c.args.room ≤ ENTRIES = subst (λ (v : TheMachine). v.calls + c.args.room ≤ ENTRIES) (sym c.self.view_is) c.requires in
     sound-input i c.input.new.self c.args.feed.now.dst c.args.feed.now.payload c.self.invariant (omega (arith, calls)) (inside g).1 (log g) (shown g)
 
 pub returns-clause-step : goal.returns-clause-step

@@ -1,5 +1,6 @@
 use Rattle.std.proofs.Common.{◌≡◌, ◌≤◌, false, refl, ℕ, sym, ◌∙◌, ap, arith, slice_index_or}
 use Rattle.std.specs.Prelude.{Some, None, option_copied}
+use Rattle.limits.specs.declared.TheConstants.{PACKETS}
 use Rattle.machine.specs.Wire.{AreListed}
 use Rattle.machine.specs.Simulation.{TheMachine}
 use Rattle.world.specs.Useful.{belongs}
@@ -23,7 +24,7 @@ loop-key-preserved c =
 pub returns-then-belongs : goal.returns-then-belongs
 returns-then-belongs c =
     let m = c.args.self.now in
-    let keys : (key : ℕ) → 4096 ≤ key → slice_index_or m.slots key None ≡ None = rw (← c.self.view_is) c.self.invariant.keys in
+    let keys : (key : ℕ) → PACKETS ≤ key → slice_index_or m.slots key None ≡ None = rw (← c.self.view_is) c.self.invariant.keys in
     let key = slice_index_or c.keys-key-items.result.now c.loop-key.key-index 0 in
     let found : slice_index_or m.slots key None ≡ Some c.in-Some.packet.now = ap (λ (v : TheMachine). slice_index_or v.slots key None) (sym c.self.view_is) ∙ sym c.peek.ensures ∙ ap option_copied c.in-Some.is in
     λ w s. sym (wire-has m w c.args.from c.args.to c.args.ssn key c.in-Some.packet.now s keys found (sym (c.belongs.ensures w s) ∙ c.if-belongs.true))

@@ -1,5 +1,6 @@
 use Rattle.std.proofs.Common.{◌≡◌, ◌≤◌, ◌+◌, arith, subst, sym}
 use Rattle.std.specs.Prelude.{None, slice_index_or}
+use Rattle.limits.specs.declared.TheConstants.{ENTRIES}
 use Rattle.world.specs.declared.call.Call.TheVariants.{Lose}
 use Rattle.world.specs.World.{World}
 use Rattle.world.specs.Refusals.{refusal_of}
@@ -12,7 +13,7 @@ use Rattle.machine.proofs.machine.Machine.lose.Goals as goal
 pub invariant_of-self : goal.invariant_of-self
 invariant_of-self c =
     let i = c.self.inside in
-    let calls : i.calls + c.args.room ≤ 65536 = subst (λ (v : TheMachine). v.calls + c.args.room ≤ 65536) (sym c.self.view_is) c.requires in
+    let calls : i.calls + c.args.room ≤ ENTRIES = subst (λ (v : TheMachine). v.calls + c.args.room ≤ ENTRIES) (sym c.self.view_is) c.requires in
     sound-wire i c.remove.new.self c.args.key _ _ c.self.invariant (omega (arith, calls)) c.remove.ensures tt (keys-gone i.wire c.remove.new.self c.args.key _ c.remove.ensures c.self.invariant.keys)
 
 pub returns-clause-step : goal.returns-clause-step

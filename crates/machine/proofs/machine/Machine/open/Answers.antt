@@ -3,6 +3,7 @@ use Rattle.std.specs.Arc.{arc_value}
 use Rattle.std.specs.Prelude.{Option, None, List, slice_index_or}
 use Rattle.std.proofs.lemmas.Grind.{common_steps}
 use Rattle.std.proofs.lemmas.List.{length-map}
+use Rattle.limits.specs.declared.TheConstants.{PACKETS, PROCESSES}
 use Rattle.sender_log.specs.Log.{queue_of}
 use Rattle.world.specs.declared.packet.Packet.{Packet}
 use Rattle.machine.specs.Outside.{TheOutside, empty_outside}
@@ -14,7 +15,7 @@ pub invariant_of-result : goal.invariant_of-result
 invariant_of-result c =
     let images = map arc_value c.args.images.items in
     let xs = c.in_ok-processes.processes.items in
-    let few : (0 < length images) × (length images ≤ 15) = first_of (search rules, grind (arith, common_steps)) in
+    let few : (0 < length images) × (length images ≤ PROCESSES) = first_of (search rules, grind (arith, common_steps)) in
     let count : c.len-count.result ≡ length images = first_of (search rules, grind (arith, common_steps)) in
     let idle = idle-handed arc_value c.as_slice.result.now c.args.images.items xs c.as_slice.ensures.value c.in_ok-processes.ensures in
     let outside = c.in_ok-outside.ensures ∙ ap empty_outside count in
@@ -29,13 +30,13 @@ invariant_of-result c =
       inputs = λ d. subst (λ (o : TheOutside). (queue_of d o.log).first + length (queue_of d o.log).payloads ≤ 1) (sym outside) (inputs-sound images xs idle d);
       shown = subst (λ (o : TheOutside). length o.shown ≤ 0) (sym outside) (omega arith);
       wire = subst (λ ws. AreCarried ws (length xs)) (sym c.new-2.ensures) (λ key k e. absurd (cc));
-      keys = subst (λ (ws : List (Option Packet)). (key : ℕ) → 4096 ≤ key → slice_index_or ws key None ≡ None) (sym c.new-2.ensures) (λ key h. refl);
+      keys = subst (λ (ws : List (Option Packet)). (key : ℕ) → PACKETS ≤ key → slice_index_or ws key None ≡ None) (sym c.new-2.ensures) (λ key h. refl);
     }
 
 pub returns : goal.returns
 returns c =
     let images = map arc_value c.args.images.items in
-    let few : (0 < length images) × (length images ≤ 15) = first_of (search rules, grind (arith, common_steps)) in
+    let few : (0 < length images) × (length images ≤ PROCESSES) = first_of (search rules, grind (arith, common_steps)) in
     let count : c.len-count.result ≡ length images = first_of (search rules, grind (arith, common_steps)) in
     let idle = idle-handed arc_value c.as_slice.result.now c.args.images.items c.in_ok-processes.processes.items c.as_slice.ensures.value c.in_ok-processes.ensures in
     let outside = c.in_ok-outside.ensures ∙ ap empty_outside count in

@@ -1,12 +1,13 @@
 -- Below `q` the peers are named, and from there on none is
 use Rattle.std.proofs.Common.{◌≡◌, ℕ, ◌<◌, ◌≤◌, length, false}
 use Rattle.std.specs.Prelude.{slice_index_or}
+use Rattle.limits.specs.declared.TheConstants.{PARTIES}
 use Rattle.machine.specs.Replaying.{is_left}
 use Rattle.machine.proofs.machine.Machine.peers_left.Given as goal
 
 abbrev pub invariant-loop-q : goal.invariant-loop-q
 invariant-loop-q l = record {
-  wide : length l.left.todo ≡ 16;
+  wide : length l.left.todo ≡ PARTIES;
   below : (q : ℕ) → q < l.q → slice_index_or l.left.todo q false ≡ is_left l.self l.p l.r q;
   above : (q : ℕ) → l.q ≤ q → slice_index_or l.left.todo q false ≡ false;
 }

@@ -2,6 +2,7 @@ use Rattle.std.proofs.Common.{rules, ◌≡◌, length, ◌<◌, ◌≤◌, ◌+
 use Rattle.std.specs.Prelude.{◌==◌, None, is_some}
 use Rattle.std.proofs.lemmas.Bool.Decides.{nat_tests}
 use Rattle.std.proofs.lemmas.Grind.{common_steps}
+use Rattle.limits.specs.declared.TheConstants.{PACKETS}
 use Rattle.machine.specs.Simulation.{TheMachine}
 use Rattle.machine.specs.Picking.{ArePeers, NoneWanted}
 use Rattle.machine.proofs.Picks.{pick-peers, pick-placed, useful-pick, none-is}
@@ -10,13 +11,13 @@ use Rattle.machine.proofs.machine.Machine.pick_transmit.Goals as goal
 pub returns-then-is_some-clause-none : goal.returns-then-is_some-clause-none
 returns-then-is_some-clause-none c =
     let m = c.args.self.now in
-    let keys : (key : ℕ) → 4096 ≤ key → slice_index_or m.slots key None ≡ None = rw (← c.self.view_is) c.self.invariant.keys in
+    let keys : (key : ℕ) → PACKETS ≤ key → slice_index_or m.slots key None ≡ None = rw (← c.self.view_is) c.self.invariant.keys in
     λ w s p d i k. true≢false (sym c.if-is_some.true ∙ c.is_some.ensures ∙ ap is_some (c.place_cause.ensures ∙ pick-placed m w s c.args.room p d i keys k))
 
 pub returns-in-Some-clause-some : goal.returns-in-Some-clause-some
 returns-in-Some-clause-some c =
     let m = c.args.self.now in
-    let keys : (key : ℕ) → 4096 ≤ key → slice_index_or m.slots key None ≡ None = rw (← c.self.view_is) c.self.invariant.keys in
+    let keys : (key : ℕ) → PACKETS ≤ key → slice_index_or m.slots key None ≡ None = rw (← c.self.view_is) c.self.invariant.keys in
     let free = sym c.place_cause.ensures ∙ none-is c.place_cause.result (sym c.is_some.ensures ∙ c.if-is_some.false) in
     λ w s. useful-pick m w s c.args.room c.loop-from.from c.in-Some.to c.in-Some.ssn c.in-Some.ensures.some.0 (c.in-Some.ensures.some.1 w s) keys free
 

@@ -3,6 +3,7 @@ use Rattle.std.specs.Prelude.{Some, None}
 use Rattle.std.specs.Arc.{arc_value}
 use Rattle.helpers.specs.declared.effects.Who.{Who}
 use Rattle.std.proofs.lemmas.List.{length-map}
+use Rattle.limits.specs.declared.TheConstants.{ENTRIES}
 use Rattle.world.specs.declared.packet.Packet.TheVariants.{Delivery, Number}
 use Rattle.world.specs.declared.call.Call.TheVariants.{Arrive}
 use Rattle.world.specs.declared.answer.Answer.TheVariants.{Started, Duplicate, Early}
@@ -25,7 +26,7 @@ invariant_of-self-in-Duplicate c =
     let n = length c.self.inside.processes.items in
     let wire : c.self.inside.wire ≡ m.slots = ap (λ (v : TheMachine). v.slots) c.self.view_is in
     let many : length m.processes ≡ n = ap (λ (v : TheMachine). length v.processes) (sym c.self.view_is) in
-    let calls : c.self.inside.calls < 65536 = subst (λ (v : TheMachine). v.calls < 65536) (sym c.self.view_is) c.requires.may.calls in
+    let calls : c.self.inside.calls < ENTRIES = subst (λ (v : TheMachine). v.calls < ENTRIES) (sym c.self.view_is) c.requires.may.calls in
     let low = key-low c.self.inside.wire c.args.key _ i.keys (ap (λ ws. slice_index_or ws c.args.key None) wire ∙ c.requires.may.found) in
     let k = c.requires.may.carried in
     record {

@@ -1,5 +1,6 @@
 use Rattle.std.proofs.Common.{arith, ◌≡◌, ◌<◌, ◌+◌, ◌++◌, ◌∷◌, [], subst, sym, ap, ◌∙◌, slice_index_or, length, length-append}
 use Rattle.std.specs.Prelude.{Some, None}
+use Rattle.limits.specs.declared.TheConstants.{ENTRIES}
 use Rattle.sender_log.specs.Log.{queue_of}
 use Rattle.world.specs.declared.packet.Packet.TheVariants.{Delivery}
 use Rattle.world.specs.declared.call.Call.TheVariants.{Arrive}
@@ -18,7 +19,7 @@ invariant_of-self-in-Next c =
     let n = length c.self.inside.processes.items in
     let o_is = c.in_ok-show-in-Next.ensures.ok in
     let x = c.args.message in
-    let calls : c.self.inside.calls < 65536 = subst (λ (v : TheMachine). v.calls < 65536) (sym c.self.view_is) c.requires.calls in
+    let calls : c.self.inside.calls < ENTRIES = subst (λ (v : TheMachine). v.calls < ENTRIES) (sym c.self.view_is) c.requires.calls in
     let more : length c.show.new.self.shown ≡ length c.self.inside.outside.shown + 1 = ap (λ (o : TheOutside). length o.shown) o_is ∙ length-append c.self.inside.outside.shown (x ∷ []) in
     record {
       some = i.some;

@@ -1,6 +1,7 @@
 use Rattle.std.proofs.Common.{rules, ◌≡◌, ◌≤◌, ◌<◌, ◌+◌, arith, ap, subst, sym, ◌∙◌, length, true, false, refl, true≢false}
 use Rattle.std.specs.Prelude.{Some, None}
 use Rattle.std.proofs.lemmas.Grind.{common_steps}
+use Rattle.limits.specs.declared.TheConstants.{ENTRIES, PACKETS}
 use Rattle.sender_log.specs.Queue.{is_logged, payload_of}
 use Rattle.sender_log.specs.Log.{TheLog, queue_of}
 use Rattle.world.specs.declared.packet.Packet.{Packet}
@@ -25,7 +26,7 @@ puts : (c : In_ok-key) → Puts c.self.inside.wire c.place.new.self c.in_ok-key.
 unfolding packet
 puts c = first_of (search rules, grind (arith, common_steps))
 
-low : (c : In_ok-key) → c.in_ok-key.key < 4096
+low : (c : In_ok-key) → c.in_ok-key.key < PACKETS
 low c = first_of (search rules, grind (arith, common_steps))
 
 may : (c : In_ok-key) → MayLeave (view_of c.self.inside) c.args.from c.args.to c.args.ssn
@@ -58,7 +59,7 @@ invariant_of-self-2 c =
     let g = (goal.at.invariant_of-self-2 c).In_ok-key in
     let i = c.self.inside in
     let m = may g in
-    let calls : i.calls + c.args.room ≤ 65536 = subst (λ (v : TheMachine). v.calls + c.args.room ≤ 65536) (sym c.self.view_is) c.requires in
+    let calls : i.calls + c.args.room ≤ ENTRIES = subst (λ (v : TheMachine). v.calls + c.args.room ≤ ENTRIES) (sym c.self.view_is) c.requires in
     let carried : IsCarried (length i.processes.items) (packet g) = (m.to_within, m.from_within, m.other, m.first) in
     sound-wire i c.place.new.self c.in_ok-key.key None (Some (packet g)) c.self.invariant (omega (arith, calls)) (puts g) carried (keys-put i.wire c.place.new.self c.in_ok-key.key None (Some (packet g)) (puts g) (low g) c.self.invariant.keys)
 

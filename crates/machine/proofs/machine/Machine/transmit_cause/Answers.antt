@@ -2,6 +2,7 @@ use Rattle.std.proofs.Common.{rules, ◌≡◌, ◌≤◌, ℕ, true, false, ari
 use Rattle.std.specs.Prelude.{None, not}
 use Rattle.std.proofs.lemmas.Grind.{common_steps}
 use Rattle.std.proofs.lemmas.Bool.Decides.{nat_tests}
+use Rattle.limits.specs.declared.TheConstants.{PACKETS}
 use Rattle.sender_log.specs.Queue.{is_logged}
 use Rattle.sender_log.specs.Log.{TheLog, queue_of}
 use Rattle.machine.specs.Simulation.{is_up_at, log_at}
@@ -46,5 +47,5 @@ returns-clause-cause c =
     let g = (goal.at.returns-clause-cause c).Else-to-count in
     let u = (goal.at.returns-clause-cause c).Else-not-is_up in
     let logged : is_logged c.args.ssn (queue_of c.args.to (log_at c.args.self.now c.args.from)) ≡ true = ap (λ (l : TheLog). is_logged c.args.ssn (queue_of c.args.to l)) (sym c.log.ensures.value) ∙ sym c.is_logged.ensures ∙ c.if-not-is_logged.false in
-    let keys : (key : ℕ) → 4096 ≤ key → slice_index_or c.args.self.now.slots key None ≡ None = rw (← c.self.view_is) c.self.invariant.keys in
+    let keys : (key : ℕ) → PACKETS ≤ key → slice_index_or c.args.self.now.slots key None ≡ None = rw (← c.self.view_is) c.self.invariant.keys in
     λ w s. rw c.place_cause.ensures (transmit-rest c.args.self.now w s c.args.room c.args.from c.args.to c.args.ssn (within g) (to g) (up u) c.if-from-to.false (rw c.released.ensures at c.if-ssn-released.false) logged keys)

@@ -1,4 +1,5 @@
 use Rattle.std.proofs.Common.{◌≡◌, ◌≤◌, ◌+◌, ℕ, List, length, sym, ap, ◌∙◌, subst, arith}
+use Rattle.limits.specs.declared.TheConstants.{EFFECTS}
 use Rattle.helpers.specs.declared.effects.Sent.{Sent}
 use Rattle.world.specs.History.{Payload}
 use Rattle.world.specs.Fold.{emitted_to}
@@ -51,10 +52,10 @@ pub returns-clause-ok : goal.returns-clause-ok
 returns-clause-ok c =
     let e = c.args.effects.now in
     let k = c.loop-output.output-index in
-    let sends : length e.sends ≤ 8 = subst (λ (l : List Sent). length l ≤ 8) c.sends-sent-items.ensures.value c.sends-sent-items.ensures.bound in
-    let outputs : length e.outputs ≤ 8 = subst (λ (l : List Payload). length l ≤ 8) c.outputs-output-items.ensures.value c.outputs-output-items.ensures.bound in
+    let sends : length e.sends ≤ EFFECTS = subst (λ (l : List Sent). length l ≤ EFFECTS) c.sends-sent-items.ensures.value c.sends-sent-items.ensures.bound in
+    let outputs : length e.outputs ≤ EFFECTS = subst (λ (l : List Payload). length l ≤ EFFECTS) c.outputs-output-items.ensures.value c.outputs-output-items.ensures.bound in
     let past : length e.outputs ≤ k = subst (λ (l : List Payload). length l ≤ k) c.outputs-output-items.ensures.value c.loop-output-test.false in
     let same : (d : ℕ) → outputs_of e.sends c.outputs-output-items.result.now k d ≡ emitted_to d e =
     λ d. ap (λ l. outputs_of e.sends l k d) c.outputs-output-items.ensures.value ∙ outputs-all e k past d in
     gave-all e c.args.rsn c.args.self.now c.loop-output.self (outputs_of e.sends c.outputs-output-items.result.now k) c.loop-output.invariant c.requires.below same
-    (λ d. let l = ap length (same d) in omega (arith, l, emitted-few e 8 sends outputs d))
+    (λ d. let l = ap length (same d) in omega (arith, l, emitted-few e EFFECTS sends outputs d))

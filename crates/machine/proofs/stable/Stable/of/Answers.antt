@@ -2,6 +2,7 @@ use Rattle.std.proofs.Common.{◌≡◌, ℕ, ◌+◌, ◌-◌, ◌<◌, length,
 use Rattle.std.specs.Prelude.{◌==◌, count_by, nat_lt, slice_index_or}
 use Rattle.std.proofs.lemmas.Bool.Decides.{nat_tests}
 use Rattle.std.proofs.lemmas.List.{length-set}
+use Rattle.limits.specs.declared.TheConstants.{PARTIES}
 use Rattle.replay.proofs.PlanLemmas.{length-numbers_from}
 use Rattle.sender_log.specs.Log.{TheLog, queue_of}
 use Rattle.checkpoint.specs.Saved.{TheKept, TheSaved, kept_of, nothing_kept, saved_of}
@@ -31,7 +32,7 @@ invariant_of-result c =
     let all : c.loop-sender.sender ≡ n + 1 = omega arith in
     let inside : (x : ℕ) → x < n + 1 → slice_index_or c.loop-sender.counts x 0 ≡ count_by (λ y. y == x) saved.senders =
     (λ x l. v.counted x (omega (arith, all, l)) ∙ ap (λ xs. count_by (λ y. y == x) xs) (sym senders)) in
-    let above : (x : ℕ) → x < 16 → n < x → slice_index_or c.loop-sender.counts x 0 ≡ count_by (λ y. y == x) saved.senders =
+    let above : (x : ℕ) → x < PARTIES → n < x → slice_index_or c.loop-sender.counts x 0 ≡ count_by (λ y. y == x) saved.senders =
     (λ x small l. v.zero x small (omega (arith, all, l)) ∙ sym (none-above c.args.me n x l c.args.receipts.now.senders c.requires.senders) ∙ ap (λ xs. count_by (λ y. y == x) xs) (sym senders)) in
     record {
       counts_are = λ x small. elim (nat_lt x (n + 1)) as (λ b. nat_lt x (n + 1) ≡ b → slice_index_or c.loop-sender.counts x 0 ≡ count_by (λ y. y == x) saved.senders) [
