@@ -5,6 +5,7 @@ use Rattle.std.proofs.lemmas.Bool.Decides.{nat_tests}
 use Rattle.std.proofs.lemmas.List.{get_or_append_left, get_or_push, length-map}
 use Rattle.std.proofs.lemmas.List.Elements.{All-push}
 use Rattle.std.proofs.lemmas.List.Sums.{sum_by-append}
+use Rattle.limits.specs.declared.TheConstants.{SEATS, WORKERS}
 use Rattle.verifier.specs.Typed.{Typed}
 use Rattle.world.specs.declared.entry.Entry.{Entry}
 use Rattle.world.specs.Fold.{handlers_of}
@@ -118,11 +119,11 @@ pub record Leave {L : Type 0} (workers budget : ℕ) (opened closed : TheSession
   pub grew : length closed.entries + answered_by (manned workers opened.seats) ≡ length opened.entries + shared.answers_of shares
 
 live_new : {L : Type 0} → (names : List (List ℕ)) (images : List Typed) (workers budget : ℕ) (closed : TheSession) (shares : List (Share L)) (ended : List Ended) (old new : List ℕ)
-    → workers ≤ 16 → Leave workers budget (record { images = images; entries = []; seats = new_seats 17 }) closed shares → IsLegal closed → All HasMemory shares
+    → workers ≤ WORKERS → Leave workers budget (record { images = images; entries = []; seats = new_seats SEATS }) closed shares → IsLegal closed → All HasMemory shares
     → ended ≡ map ended_of shares → new ≡ old ++ results_text names closed.images closed.entries → IsLive names images workers budget ended old new
 live_new names images workers budget closed shares ended old new few leave legal memory ends written =
-    let seats : List TheSeat = manned workers (new_seats 17) in
-    let men : AreManned seats workers = manned_new 17 workers (omega (arith, few)) in
+    let seats : List TheSeat = manned workers (new_seats SEATS) in
+    let men : AreManned seats workers = manned_new SEATS workers (omega (arith, few)) in
     let none : answered_by seats ≡ 0 = fresh_answered 1 seats men.fresh_all in
     let many : length closed.entries ≡ shared.answers_of shares = omega (arith, none, leave.grew) in
     let same = leave.continues.images in
@@ -139,7 +140,7 @@ live_new names images workers budget closed shares ended old new few leave legal
 
 -- the text of what they leave, and how they ended
 pub live_by : {L : Type 0} → (names : List (List ℕ)) (images : List Typed) (workers budget : ℕ) (opened closed : TheSession) (shares : List (Share L)) (ended : List Ended) (old new : List ℕ)
-    → workers ≤ 16 → opened ≡ record { images = images; entries = []; seats = new_seats 17 } → Leave workers budget opened closed shares → IsLegal closed
+    → workers ≤ WORKERS → opened ≡ record { images = images; entries = []; seats = new_seats SEATS } → Leave workers budget opened closed shares → IsLegal closed
     → All HasMemory shares → ended ≡ map ended_of shares → new ≡ old ++ results_text names closed.images closed.entries → IsLive names images workers budget ended old new
 live_by names images workers budget opened closed shares ended old new few is leave legal memory ends written =
     live_new names images workers budget closed shares ended old new few (subst (λ (o : TheSession). Leave workers budget o closed shares) is leave) legal memory ends written

@@ -1,5 +1,6 @@
 -- What it is to carry out an order of a scenario (docs/FORMATS.md, "Carrying out").
 use Rattle.std.specs.Prelude.{◌≡◌, ◌≤◌, ◌+◌, ◌-◌, ◌^◌, ◌⊎◌, ℕ, List, [], ◌∷◌, ◌++◌, length, replicate, Option, Some, None, slice_index_or, slice_set}
+use Rattle.limits.specs.declared.TheConstants.{PARTIES}
 use Rattle.verifier.specs.Typed.{Typed}
 use Rattle.replay.specs.Task.{TheTask}
 use Rattle.world.specs.declared.call.Call.{Call}
@@ -32,7 +33,7 @@ pub record Position : Type 0 where
 
 -- nothing was done so far
 abbrev pub beginning : List Typed → Position
-beginning images = record { images = images; entries = []; held = replicate 16 None; inputs = 0 }
+beginning images = record { images = images; entries = []; held = replicate PARTIES None; inputs = 0 }
 
 -- the world where the journal leads
 abbrev pub world_at : Position → World

@@ -19,6 +19,7 @@ use crate::feeds::feeds_of;
 use crate::opening::want_of_memory;
 use crate::results::push_results;
 use indexmap::IndexMap;
+use limits::{SEATS, WORKERS};
 use scenario::{Process, Scenario};
 use sessions::{End, Session, Share};
 use std::alloc::{AllocError, Global};
@@ -63,9 +64,9 @@ fn opened<L: Ledger>(
     images: Vec<Arc<Image>>,
 ) -> Result<Session<L>, AllocError>
     requires name { blank.name ≡ L.name }
-    requires parts { (blank.parts ≡ L.parts) × (blank.parts ≡ 17) }
+    requires parts { (blank.parts ≡ L.parts) × (blank.parts ≡ SEATS) }
     requires few { AreFew (map arc_value images.items) }
-    ensures { IfOk result (λ s. s ≡ record { images = map arc_value images.items; entries = []; seats = new_seats 17 }) }
+    ensures { IfOk result (λ s. s ≡ record { images = map arc_value images.items; entries = []; seats = new_seats SEATS }) }
 {
     let session: Session<L> = Session::open(alloc, blank, images).map_err(want_of_memory)?;
     Ok(session)
@@ -80,7 +81,7 @@ fn served<L: Ledger + Send + Sync, R: Threads + Wait + Sync>(
     workers: u8,
     budget: u32,
 ) -> Result<Closed<L>, AllocError>
-    requires parts { L.parts ≡ 17 }
+    requires parts { L.parts ≡ SEATS }
     requires can { CanRun workers session }
     ensures legal { IfOk result (λ c. IsLegal c.session) }
     ensures continues { IfOk result (λ c. Continues session c.session) }
@@ -109,10 +110,10 @@ fn live_in<L: Ledger + Send + Sync, R: Threads + Wait + Sync>(
     out: &mut String,
 ) -> Result<Vec<Ended>, AllocError>
     requires name { blank.name ≡ L.name }
-    requires parts { (blank.parts ≡ L.parts) × (blank.parts ≡ 17) }
+    requires parts { (blank.parts ≡ L.parts) × (blank.parts ≡ SEATS) }
     requires few { AreFew (map arc_value images.items) }
     requires named { length scenario.now.processes.entries ≡ length images.items }
-    requires workers { (1 ≤ workers) × (workers ≤ 16) }
+    requires workers { (1 ≤ workers) × (workers ≤ WORKERS) }
     ensures written { IfOk result (λ ended. IsLive (names_of scenario.now.processes) (map arc_value images.items) workers budget ended.items (string_bytes out.old) (string_bytes out.new)) }
     ensures unchanged { OnErr result (string_bytes out.new ≡ string_bytes out.old) }
 {
@@ -140,10 +141,10 @@ pub fn live<R: Threads + Wait + Sync>(
 ) -> Result<Vec<Ended>, AllocError>
     requires few { AreFew (map arc_value images.items) }
     requires named { length scenario.now.processes.entries ≡ length images.items }
-    requires workers { (1 ≤ workers) × (workers ≤ 16) }
+    requires workers { (1 ≤ workers) × (workers ≤ WORKERS) }
     ensures written { IfOk result (λ ended. IsLive (names_of scenario.now.processes) (map arc_value images.items) workers budget ended.items (string_bytes out.old) (string_bytes out.new)) }
     ensures unchanged { OnErr result (string_bytes out.new ≡ string_bytes out.old) }
 {
-    let blank = Blank::new(17);
+    let blank = Blank::new(SEATS as u64);
     live_in::<Brand, R>(rt, alloc, blank, scenario, images, workers, budget, out)
 }

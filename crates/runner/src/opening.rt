@@ -8,15 +8,13 @@ ghost use Rattle.runner.specs.Orders.{beginning};
 ghost use Rattle.runner.specs.Inside.{position_of};
 
 use crate::player::Player;
+use limits::PARTIES;
 use replay::Job;
 use sessions::Service;
 use std::alloc::{AllocError, Global};
 use std::sync::Arc;
 use verifier::Image;
 use world::Refusal;
-
-/// How many places there are for jobs: that of each process is its number, 1 to 15.
-const PLACES: usize = 16;
 
 /// Want of memory, which a refusal told.
 pub(crate) fn want_of_memory(refusal: Refusal) -> AllocError
@@ -28,12 +26,12 @@ pub(crate) fn want_of_memory(refusal: Refusal) -> AllocError
     }
 }
 
-// A place for the job of each process.
+// A place for the job of each process: its number. Nothing is held at place 0.
 fn places(alloc: Global) -> Result<Vec<Option<Job>>, AllocError>
-    ensures { IfOk result (λ v. v.items ≡ replicate 16 None) }
+    ensures { IfOk result (λ v. v.items ≡ replicate PARTIES None) }
 {
     let mut held = Vec::new(alloc);
-    for place in 0..PLACES {
+    for place in 0..PARTIES {
         held.push(None)?;
     }
     Ok(held)

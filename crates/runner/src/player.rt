@@ -1,6 +1,7 @@
 //! Where a run stands.
 
 ghost use Rattle.std.specs.Prelude.{◌≡◌, length};
+ghost use Rattle.limits.specs.declared.TheConstants.{PARTIES};
 
 use replay::Job;
 use sessions::Service;
@@ -12,5 +13,5 @@ pub(crate) struct Player {
     pub(crate) session: Service,
     pub(crate) held: Vec<Option<Job>>,
     pub(crate) inputs: u32,
-    ghost places: { length held.items ≡ 16 },
+    ghost places: { length held.items ≡ PARTIES },
 }

@@ -23,7 +23,7 @@ const LINE_BYTES: usize = 38;
 /// Makes room for a line of each of so many orders. Where there is none, nothing has changed.
 fn make_room(out: &mut String, orders: usize) -> Result<(), AllocError>
     ensures bytes { string_bytes out.new ≡ string_bytes out.old }
-    ensures room { OnOk result (string_len out.new + 38 * orders ≤ string_capacity out.new) }
+    ensures room { OnOk result (string_len out.new + LINE_BYTES * orders ≤ string_capacity out.new) }
 {
     let Some(bytes) = orders.checked_mul(LINE_BYTES) else {
         return Err(AllocError);
@@ -46,9 +46,9 @@ fn push_reserved(out: &mut String, text: &str)
 
 /// Writes that the order of a line was refused, with the refusal's number, where there is room.
 fn push_refused(out: &mut String, line: usize, number: u8)
-    requires { string_len out.old + 38 ≤ string_capacity out.old }
+    requires { string_len out.old + LINE_BYTES ≤ string_capacity out.old }
     ensures written { string_bytes out.new ≡ string_bytes out.old ++ refused_text line (Some number) }
-    ensures len { string_len out.new ≤ string_len out.old + 38 }
+    ensures len { string_len out.new ≤ string_len out.old + LINE_BYTES }
     ensures capacity { string_capacity out.old ≤ string_capacity out.new }
 {
     let mut digits = Buffer::new();
@@ -63,11 +63,11 @@ impl Player {
     // Carries out the order of a step, and writes its line where it is refused. It ends the run
     // where the order finds no memory, and then writes nothing.
     fn obey(&mut self, step: &Step, out: &mut String) -> Result<(), AllocError>
-        requires { string_len out.old + 38 ≤ string_capacity out.old }
+        requires { string_len out.old + LINE_BYTES ≤ string_capacity out.old }
         ensures done { OnOk result (IsPlayed step.now (position_of self.old) (position_of self.new) (string_bytes out.old) (string_bytes out.new)) }
         ensures memory { OnErr result (FindsNoMemory (position_of self.old) step.now.order) }
         ensures unchanged { OnErr result (string_bytes out.new ≡ string_bytes out.old) }
-        ensures len { string_len out.new ≤ string_len out.old + 38 }
+        ensures len { string_len out.new ≤ string_len out.old + LINE_BYTES }
         ensures capacity { string_capacity out.old ≤ string_capacity out.new }
     {
         let Err(refusal) = self.carry_out(&step.order) else {
@@ -84,7 +84,7 @@ impl Player {
 
     // Carries out the orders of all steps, one after the other.
     fn play(&mut self, steps: &[Step], out: &mut String) -> Result<(), AllocError>
-        requires { string_len out.old + 38 * length steps.now ≤ string_capacity out.old }
+        requires { string_len out.old + LINE_BYTES * length steps.now ≤ string_capacity out.old }
         ensures done { OnOk result (ArePlayed steps.now (position_of self.old) (position_of self.new) (string_bytes out.old) (string_bytes out.new)) }
         ensures short { OnErr result (ArePlayedTo steps.now (position_of self.old) (string_bytes out.old) (string_bytes out.new)) }
     {

@@ -2,6 +2,7 @@
 use Rattle.std.specs.Prelude.{◌≤◌, ◌<◌, length, ℕ, ◌/◌, ◌%◌, List, [], ◌∷◌, codes, flat_map}
 use Rattle.std.specs.Char.{digit_char}
 use Rattle.std.specs.List.{AllByRecursion}
+use Rattle.limits.specs.declared.TheConstants.{PAYLOAD_BYTES}
 
 -- a byte as two lower-case hexadecimal digits
 abbrev pub pair_text : ℕ → List ℕ
@@ -18,4 +19,4 @@ hex_text (b ∷ rest) = pairs_text (b ∷ rest)
 
 -- at most 256 bytes
 abbrev pub IsPayload : List ℕ → Type 0
-IsPayload bytes = (length bytes ≤ 256) × AllByRecursion (λ b. b < 256) bytes
+IsPayload bytes = (length bytes ≤ PAYLOAD_BYTES) × AllByRecursion (λ b. b < 256) bytes

@@ -8,6 +8,7 @@ use Rattle.scenario.specs.declared.order.Allowed.TheVariants.{All, Inputs}
 use Rattle.scenario.specs.declared.verb.Verb.{Verb}
 use Rattle.scenario.specs.declared.verb.Verb.TheVariants as verb
 use Rattle.scenario.specs.Hex.{IsPayload, hex_text}
+use Rattle.scenario.specs.declared.process.TheConstants.{NAME_LIMIT}
 
 -- ---- names
 
@@ -28,7 +29,7 @@ begins_with_letter (c ∷ cs) = is_letter c
 pub record IsName (text : List ℕ) : Type 0 where
   pub begins : begins_with_letter text ≡ true
   pub bytes : list_all is_name_byte text ≡ true
-  pub short : length text ≤ 16
+  pub short : length text ≤ NAME_LIMIT
   pub other : text ≢ codes "outside"
 
 -- the number of a process, where there are n

@@ -3,6 +3,7 @@ use Rattle.std.specs.Prelude.{◌≡◌, ◌≢◌, ◌≤◌, ◌<◌, ◌==◌
 use Rattle.std.specs.List.{AllByRecursion, list_all}
 use Rattle.std.specs.Global.{Global}
 use Rattle.std.specs.String.{string_bytes}
+use Rattle.limits.specs.declared.TheConstants.{PROCESSES}
 use Rattle.indexmap.specs.IndexMap.{IndexMap}
 use Rattle.scenario.specs.declared.process.Process.{Process}
 use Rattle.scenario.specs.Order.{IsName}
@@ -44,12 +45,12 @@ AreDifferent (x ∷ xs) = IsFresh x xs × AreDifferent xs
 -- the next process may have this name and this path: no order was given yet, and there are fewer than 15
 pub record MayDeclare (names : List (List ℕ)) (begun : Bool) (name path : List ℕ) : Type 0 where
   pub first : begun ≡ false
-  pub room : length names < 15
+  pub room : length names < PROCESSES
   pub named : IsName name
   pub pathed : IsPath path
   pub fresh : IsFresh name names
 
 -- at most 15 processes, with names
 pub record AreNamed {S : Type 0} (processes : IndexMap (String Global) Process S) : Type 0 where
-  pub few : length processes.entries ≤ 15
+  pub few : length processes.entries ≤ PROCESSES
   pub named : AllByRecursion IsName (names_of processes)

@@ -3,6 +3,7 @@ use Rattle.std.specs.Prelude.{◌≡◌, ◌≢◌, ◌≤◌, ◌+◌, ◌==◌
 use Rattle.std.specs.List.{AllByRecursion, slice_split}
 use Rattle.std.specs.declared.alloc.Global.{Global}
 use Rattle.std.specs.String.{string_bytes}
+use Rattle.limits.specs.declared.TheConstants.{PROCESSES}
 use Rattle.scenario.specs.declared.order.Order.{Order}
 use Rattle.scenario.specs.declared.order.Allowed.{Allowed}
 use Rattle.scenario.specs.declared.process.Process.{Process}
@@ -38,7 +39,7 @@ step_row names x = (x.line, order_text names x.order)
 -- the lines are those of at most 15 processes with different names, and then of orders that may stand there and speak of these
 -- processes alone
 pub record AreLines (allowed : Allowed) (lines : List (List ℕ)) (entries : List (String Global × Process)) (steps : List Step) : Type 0 where
-  pub few : length entries ≤ 15
+  pub few : length entries ≤ PROCESSES
   pub declared : AllByRecursion IsDeclared entries
   pub different : AreDifferent (names_in entries)
   pub ranged : AllByRecursion (λ x. IsInRange (length (names_in entries)) x.order) steps

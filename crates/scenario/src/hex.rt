@@ -5,7 +5,8 @@ ghost use Rattle.std.specs.Char.{digit_char};
 ghost use Rattle.scenario.specs.Hex.{IsPayload, hex_text, pairs_text};
 ghost use Rattle.scenario.specs.Inside.Reads.{Reads, ReadsDigit};
 
-use helpers::{PAYLOAD_LIMIT, Payload};
+use helpers::Payload;
+use limits::PAYLOAD_BYTES;
 use std::fmt;
 
 /// Bytes that print as two lower-case hexadecimal digits each, or as `-` where there are none.
@@ -67,11 +68,11 @@ pub fn payload_of(text: &str) -> Option<Payload>
 fn pairs_of(text: &[u8]) -> Option<Payload>
     ensures { Reads pairs_text IsPayload text.now result }
 {
-    if text.len() % 2 != 0 || text.len() > 2 * PAYLOAD_LIMIT {
+    if text.len() % 2 != 0 || text.len() > 2 * PAYLOAD_BYTES {
         return None;
     }
     let len = text.len() / 2;
-    let mut bytes = [0; PAYLOAD_LIMIT];
+    let mut bytes = [0; PAYLOAD_BYTES];
     for index in 0..len {
         let high = digit_of(text[2 * index])?;
         let low = digit_of(text[2 * index + 1])?;

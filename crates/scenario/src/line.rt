@@ -10,9 +10,7 @@ use crate::order::{Order, order_of};
 use crate::process::{Process, is_name};
 use crate::split::split_at_space;
 use indexmap::IndexMap;
-
-/// The most processes of a scenario.
-const PROCESS_LIMIT: usize = 15;
+use limits::PROCESSES;
 
 /// What a line is.
 pub enum Line<'a> {
@@ -86,7 +84,7 @@ fn declaration_of<'a>(
     requires { AreNamed processes.now }
     ensures { ReadsDeclaration (names_of processes.now) begun text.now result }
 {
-    if begun || processes.len() >= PROCESS_LIMIT {
+    if begun || processes.len() >= PROCESSES {
         return None;
     }
     let (word, operands) = split_at_space(text)?;

@@ -5,10 +5,8 @@ use crate::number::{number_of, word_of};
 use crate::order::Allowed;
 use crate::process::is_name;
 use crate::verb::{Verb, verb_named};
+use limits::PROCESSES;
 use std::fmt;
-
-/// The most processes of a scenario.
-const PROCESS_LIMIT: usize = 15;
 
 /// The most letters of a word that are shown.
 const SHOWN_LIMIT: usize = 40;
@@ -118,7 +116,7 @@ fn declaring<'a>(above: Above<'a>, operands: &'a str) -> Option<Mistake<'a>> {
     if above.has_order() {
         return Some(Mistake::Late);
     }
-    if above.processes() >= PROCESS_LIMIT {
+    if above.processes() >= PROCESSES {
         return Some(Mistake::Full);
     }
     let (name, path) = operands.split_once(' ').unwrap_or((operands, ""));
@@ -278,7 +276,7 @@ impl fmt::Display for Mistake<'_> {
             }
             Mistake::Words { form } => write!(f, "more or fewer words than in: {form}"),
             Mistake::Late => f.write_str("processes are declared before the first order"),
-            Mistake::Full => write!(f, "there are at most {PROCESS_LIMIT} processes"),
+            Mistake::Full => write!(f, "there are at most {PROCESSES} processes"),
             Mistake::Name { name } => {
                 let name = Shown(name);
                 write!(

@@ -9,7 +9,7 @@ ghost use Rattle.scenario.specs.Process.{AreNamed, names_of};
 use indexmap::IndexMap;
 
 /// The most bytes of a name.
-const NAME_LIMIT: usize = 16;
+pub(crate) const NAME_LIMIT: usize = 16;
 
 /// What a scenario says of a process beside its name.
 #[derive(Debug, Drop)]

@@ -1,6 +1,7 @@
 use Rattle.std.proofs.Common.{rules, ◌∙◌, length, map, sym, ap, subst, string_bytes}
 use Rattle.std.specs.Arc.{arc_value}
 use Rattle.std.proofs.lemmas.List.{length-map}
+use Rattle.limits.specs.declared.TheConstants.{SEATS}
 use Rattle.sessions.specs.Journal.{TheSession}
 use Rattle.sessions.specs.Seats.{IsWhole}
 use Rattle.scenario.specs.Process.{names_of}
@@ -14,7 +15,7 @@ served-requires-clause-can g c =
     let can : CanRun c.args.workers c.in_ok-session.session = record {
       some = c.requires.workers.0;
       few = c.requires.workers.1;
-      whole = subst (λ (s : TheSession). IsWhole s.seats) (sym c.in_ok-session.ensures) (whole_new 17);
+      whole = subst (λ (s : TheSession). IsWhole s.seats) (sym c.in_ok-session.ensures) (whole_new SEATS);
     } in
     search rules
 

@@ -48,7 +48,7 @@ returns c =
       declares c.args.text.now c.in_ok-word.word.now c.in_ok-word.operands.now cut.0 cut.1 c.in_ok-name.name.now c.in_ok-name.path.now more.0 more.1 is,
       record {
         first = search rules;
-        room = omega (arith, c.len.ensures.len, c.if-len-ge-PROCESS_LIMIT.false, length-map c.args.processes.now.entries (λ (e : String Global × Process). string_bytes e.0));
+        room = omega (arith, c.len.ensures.len, c.if-len-ge-PROCESSES.false, length-map c.args.processes.now.entries (λ (e : String Global × Process). string_bytes e.0));
         named = search rules;
         pathed = search rules;
         fresh = c.if-not-is_free.ensures;
