@@ -1,5 +1,6 @@
 -- Sessions that are opened by image files
 use Rattle.std.specs.Prelude.{◌≡◌, ◌≢◌, ◌⊎◌, ℕ, ◌<◌, ◌≤◌, List, [], ◌∷◌, length, take, drop, Option, Some, None}
+use Rattle.limits.specs.declared.TheConstants.{PROCESSES}
 use Rattle.verifier.specs.Typed.{Typed}
 use Rattle.verifier.specs.Verdict.{IsImageOf}
 use Rattle.verifier.specs.ImageFile.{IsFile, IsRefusal}
@@ -35,7 +36,7 @@ IsOpened files lengths old new = (images : List Typed) × AreFiles files lengths
 
 -- there are files for 1 to 15 processes
 abbrev pub AreCounted : List ℕ → Type 0
-AreCounted lengths = (1 ≤ length lengths) × (length lengths ≤ 15)
+AreCounted lengths = (1 ≤ length lengths) × (length lengths ≤ PROCESSES)
 
 -- why it isn't: it was open, there are none or too many files, they aren't those of images, or memory ran out; the first of these
 abbrev pub IsUnopened : List ℕ → List ℕ → Option TheSession → Fault → Type 0

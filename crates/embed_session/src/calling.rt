@@ -9,6 +9,7 @@ use crate::fault::Fault;
 use crate::handle::SessionHandle;
 use crate::places::{is_stopped, refusal_of_input};
 use helpers::Payload;
+use limits::PAYLOAD_BYTES;
 use std::alloc::Global;
 use world::{Answer, Call, Refusal};
 
@@ -84,9 +85,6 @@ pub(crate) fn drive(
     Ok(())
 }
 
-/// The most bytes of a payload.
-const LONGEST: usize = 256;
-
 /// Hands a payload in for a process, under a feed number, and writes the message's number. Places of
 /// the journal are kept for it to be put on the wire, to arrive and to be received.
 pub(crate) fn input(
@@ -99,7 +97,7 @@ pub(crate) fn input(
 ) -> Result<(), Fault>
     ensures { MatchResult result (λ _. IsHandedIn to feed payload.now handle.old.session.value handle.new.session.value ssn.new) (λ why. IsHandedBack to feed payload.now handle.old.session.value handle.new.session.value why × (ssn.new ≡ ssn.old)) }
 {
-    if payload.len() > LONGEST {
+    if payload.len() > PAYLOAD_BYTES {
         return Err(Fault::Payload);
     }
     let payload = Payload::from_slice(payload);

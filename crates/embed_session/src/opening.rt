@@ -7,14 +7,12 @@ ghost use Rattle.embed_session.specs.Opening.{IsImageIn, IsMisfit, IsOpened, IsR
 
 use crate::fault::Fault;
 use crate::handle::SessionHandle;
+use limits::PROCESSES;
 use sessions::Service;
 use std::alloc::Global;
 use std::sync::Arc;
 use verifier::{Image, ImageError, load};
 use world::Refusal;
-
-/// The most processes.
-const MOST_PROCESSES: usize = 15;
 
 /// The image of a file.
 fn image_of(alloc: Global, file: &[u8]) -> Result<Arc<Image>, Fault>
@@ -72,7 +70,7 @@ pub(crate) fn open(
     if handle.is_open() {
         return Err(Fault::Handle);
     }
-    if lengths.is_empty() || lengths.len() > MOST_PROCESSES {
+    if lengths.is_empty() || lengths.len() > PROCESSES {
         return Err(Fault::Session(Refusal::NoSuchProcess));
     }
     let mut images = Vec::new(alloc);
