@@ -7,6 +7,7 @@ use Rattle.std.specs.Str.{bytes_eq}
 use Rattle.std.specs.Str.Parse.{digits_value, without_leading_plus}
 use Rattle.std.proofs.lemmas.Bool.{eqb-true}
 use Rattle.std.proofs.lemmas.Slice.Eq.{bytes_eq-Decides}
+use Rattle.limits.specs.declared.TheConstants.{STATE_BYTES, WORKERS}
 use Rattle.clap.specs.Words.{App, Row, Rule, Text, fault_of, one_of, read_as}
 use Rattle.clap.specs.Kinds.{check_kinds, or_else, range_kinds, value_kinds}
 use Rattle.clap.specs.Facts.{explicit_source, parser_of_value}
@@ -25,6 +26,7 @@ use Rattle.regtypes.specs.declared.image_form.ImageForm.{ImageForm}
 use Rattle.regtypes.specs.declared.image_form.ImageForm.TheVariants.{Sbi1, Sbi2}
 use Rattle.cli.specs.Program.{sblog_app}
 use Rattle.cli.proofs.WalkLemmas.{IsFineStop, Keeps, first_none, level_fine, second_none, some_kind}
+use Rattle.cli.specs.declared.command.TheConstants.{BUDGET}
 
 -- ---- rows
 
@@ -36,10 +38,10 @@ IsNumbered id low high r text = bytes_eq r.id id ≡ true → (read_as r.reading
 pub record IsSound (r : Row) : Type 0 where
   pub text : Text
   pub one : r.values ≡ text ∷ []
-  pub state : IsNumbered (codes "state") 0 1024 r text
+  pub state : IsNumbered (codes "state") 0 STATE_BYTES r text
   pub form : IsNumbered (codes "form") 1 2 r text
-  pub workers : IsNumbered (codes "workers") 1 16 r text
-  pub budget : IsNumbered (codes "budget") 1 1000000 r text
+  pub workers : IsNumbered (codes "workers") 1 WORKERS r text
+  pub budget : IsNumbered (codes "budget") 1 BUDGET r text
 
 -- the row of a first use
 abbrev new_row : Rule → Text → Row
@@ -176,11 +178,11 @@ accepted : (b : Bool) → cond b [] (ValueValidation ∷ []) ≡ [] → b ≡ tr
 accepted true e = refl
 accepted false e = absurd (some_kind _ _ e)
 
-state_sound : (v : Text) → value_kinds false (parser.Unsigned 0 1024) v ≡ [] → IsSound (new_row (rule_in asm_leaf 2) v)
+state_sound : (v : Text) → value_kinds false (parser.Unsigned 0 STATE_BYTES) v ≡ [] → IsSound (new_row (rule_in asm_leaf 2) v)
 state_sound v fits = record {
   text = v;
   one = refl;
-  state = λ _. (refl, accepted (accepts false (parser.Unsigned 0 1024) v) fits);
+  state = λ _. (refl, accepted (accepts false (parser.Unsigned 0 STATE_BYTES) v) fits);
   form = unlike (codes "state") (codes "form") refl;
   workers = unlike (codes "state") (codes "workers") refl;
   budget = unlike (codes "state") (codes "budget") refl;
@@ -196,24 +198,24 @@ form_sound v fits = record {
   budget = unlike (codes "form") (codes "budget") refl;
 }
 
-workers_sound : (v : Text) → value_kinds false (parser.Unsigned 1 16) v ≡ [] → IsSound (new_row (rule_in live_leaf 1) v)
+workers_sound : (v : Text) → value_kinds false (parser.Unsigned 1 WORKERS) v ≡ [] → IsSound (new_row (rule_in live_leaf 1) v)
 workers_sound v fits = record {
   text = v;
   one = refl;
   state = unlike (codes "workers") (codes "state") refl;
   form = unlike (codes "workers") (codes "form") refl;
-  workers = λ _. (refl, accepted (accepts false (parser.Unsigned 1 16) v) fits);
+  workers = λ _. (refl, accepted (accepts false (parser.Unsigned 1 WORKERS) v) fits);
   budget = unlike (codes "workers") (codes "budget") refl;
 }
 
-budget_sound : (v : Text) → value_kinds false (parser.Unsigned 1 1000000) v ≡ [] → IsSound (new_row (rule_in live_leaf 2) v)
+budget_sound : (v : Text) → value_kinds false (parser.Unsigned 1 BUDGET) v ≡ [] → IsSound (new_row (rule_in live_leaf 2) v)
 budget_sound v fits = record {
   text = v;
   one = refl;
   state = unlike (codes "budget") (codes "state") refl;
   form = unlike (codes "budget") (codes "form") refl;
   workers = unlike (codes "budget") (codes "workers") refl;
-  budget = λ _. (refl, accepted (accepts false (parser.Unsigned 1 1000000) v) fits);
+  budget = λ _. (refl, accepted (accepts false (parser.Unsigned 1 BUDGET) v) fits);
 }
 
 -- a use of `--help` is a fault
@@ -358,7 +360,7 @@ live_given words none =
     let fine = level_fine IsSound live_leaf (λ p a is. find_all (Keeps IsSound false) p live_leaf.rules a live_keeps is) [] words false [] (refl, (refl, (refl, (refl, tt)))) none in
     let rows = rows_after live_leaf.rules [] words in
     let all = three_required (is_given (codes "SCENARIO") rows) (is_given (codes "workers") rows) (is_given (codes "budget") rows) fine.3 in
-    (path_given (codes "SCENARIO") rows fine.0 all.0, number_given (codes "workers") 1 16 rows fine.0 (λ r s. s.workers) all.1, number_given (codes "budget") 1 1000000 rows fine.0 (λ r s. s.budget) all.2)
+    (path_given (codes "SCENARIO") rows fine.0 all.0, number_given (codes "workers") 1 WORKERS rows fine.0 (λ r s. s.workers) all.1, number_given (codes "budget") 1 BUDGET rows fine.0 (λ r s. s.budget) all.2)
 
 draw_given : (words : List Text) → level_fault draw_leaf [] nothing_held words false [] ≡ []
     → ((path : Text) × HasScenario (rows_after draw_leaf.rules [] words) path)
@@ -383,7 +385,7 @@ asm_given words none =
     let fine = level_fine IsSound asm_leaf (λ p a is. find_all (Keeps IsSound false) p asm_leaf.rules a asm_keeps is) [] words false [] (refl, (refl, (refl, (refl, (refl, tt))))) none in
     let rows = rows_after asm_leaf.rules [] words in
     let all = three_required (is_given (codes "SRC") rows) (is_given (codes "OUT") rows) (is_given (codes "state") rows) fine.3 in
-    (path_given (codes "SRC") rows fine.0 all.0, path_given (codes "OUT") rows fine.0 all.1, number_given (codes "state") 0 1024 rows fine.0 (λ r s. s.state) all.2, form_given rows fine.0)
+    (path_given (codes "SRC") rows fine.0 all.0, path_given (codes "OUT") rows fine.0 all.1, number_given (codes "state") 0 STATE_BYTES rows fine.0 (λ r s. s.state) all.2, form_given rows fine.0)
 
 pack_given : (words : List Text) → level_fault pack_leaf [] nothing_held words false [] ≡ []
     → ((path : Text) × HasPath (codes "CODE") (rows_after pack_leaf.rules [] words) path)
@@ -393,7 +395,7 @@ pack_given words none =
     let fine = level_fine IsSound pack_leaf (λ p a is. find_all (Keeps IsSound false) p pack_leaf.rules a pack_keeps is) [] words false [] (refl, (refl, (refl, (refl, (refl, tt))))) none in
     let rows = rows_after pack_leaf.rules [] words in
     let all = three_required (is_given (codes "CODE") rows) (is_given (codes "OUT") rows) (is_given (codes "state") rows) fine.3 in
-    (path_given (codes "CODE") rows fine.0 all.0, path_given (codes "OUT") rows fine.0 all.1, number_given (codes "state") 0 1024 rows fine.0 (λ r s. s.state) all.2, form_given rows fine.0)
+    (path_given (codes "CODE") rows fine.0 all.0, path_given (codes "OUT") rows fine.0 all.1, number_given (codes "state") 0 STATE_BYTES rows fine.0 (λ r s. s.state) all.2, form_given rows fine.0)
 
 dis_given : (words : List Text) → level_fault dis_leaf [] nothing_held words false [] ≡ [] → (path : Text) × HasImage (rows_after dis_leaf.rules [] words) path
 dis_given words none =

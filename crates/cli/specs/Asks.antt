@@ -2,6 +2,7 @@
 use Rattle.std.specs.Prelude.{◌≡◌, ◌≢◌, ◌≤◌, ◌⊎◌, ℕ, List, [], Option, Some, None, codes}
 use Rattle.std.specs.Str.Parse.{IsNumeral, digits_value, without_leading_plus}
 use Rattle.std.specs.String.{string_bytes}
+use Rattle.limits.specs.declared.TheConstants.{STATE_BYTES, WORKERS}
 use Rattle.clap.specs.Words.{IsAmong, Row, Text, fault_of, first_of, one_of, subcommand_of}
 use Rattle.clap.specs.declared.error.kind.ErrorKind.{ErrorKind}
 use Rattle.clap.specs.declared.error.kind.ErrorKind.TheVariants.{OutOfMemory}
@@ -12,6 +13,7 @@ use Rattle.cli.specs.declared.refusal.Refusal.{Refusal}
 use Rattle.cli.specs.declared.refusal.Refusal.TheVariants as refusal
 use Rattle.cli.specs.declared.request.Request.{Request}
 use Rattle.cli.specs.declared.request.Request.TheVariants as request
+use Rattle.cli.specs.declared.command.TheConstants.{BUDGET}
 
 -- the text is n in decimal, in this range; a plus may stand first
 pub record IsNumber (low high : ℕ) (text : Text) (n : ℕ) : Type 0 where
@@ -26,15 +28,15 @@ HasNumber id low high rows n = (text : Text) × (one_of id rows ≡ Some text) �
 
 -- the option --state was given as the number n
 abbrev pub HasState : List Row → ℕ → Type 0
-HasState rows n = HasNumber (codes "state") 0 1024 rows n
+HasState rows n = HasNumber (codes "state") 0 STATE_BYTES rows n
 
 -- the option --workers was given as the number n
 abbrev pub HasWorkers : List Row → ℕ → Type 0
-HasWorkers rows n = HasNumber (codes "workers") 1 16 rows n
+HasWorkers rows n = HasNumber (codes "workers") 1 WORKERS rows n
 
 -- the option --budget was given as the number n
 abbrev pub HasBudget : List Row → ℕ → Type 0
-HasBudget rows n = HasNumber (codes "budget") 1 1000000 rows n
+HasBudget rows n = HasNumber (codes "budget") 1 BUDGET rows n
 
 -- the number by which --form names a form
 abbrev pub form_number : ImageForm → ℕ
@@ -81,9 +83,9 @@ order_of (request.Dis image) = Dis image.now
 
 -- a length of a state is at most 1,024; workers are 1 to 16, and have a budget of 1 to 1,000,000
 abbrev pub IsInRange : Order → Type 0
-IsInRange (Live scenario workers budget) = (1 ≤ workers) × (workers ≤ 16) × (1 ≤ budget) × (budget ≤ 1000000)
-IsInRange (Asm source image state form) = state ≤ 1024
-IsInRange (Pack code image state form) = state ≤ 1024
+IsInRange (Live scenario workers budget) = (1 ≤ workers) × (workers ≤ WORKERS) × (1 ≤ budget) × (budget ≤ BUDGET)
+IsInRange (Asm source image state form) = state ≤ STATE_BYTES
+IsInRange (Pack code image state form) = state ≤ STATE_BYTES
 IsInRange order = Unit {0}
 
 -- the command of this name asks for it, with what its arguments were given

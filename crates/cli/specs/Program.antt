@@ -1,9 +1,11 @@
 -- The command line of `sblog` as `clap` sees it: its commands and the rule of each argument.
 use Rattle.std.specs.Prelude.{ℕ, Bool, Some, codes, false, true}
+use Rattle.limits.specs.declared.TheConstants.{STATE_BYTES, WORKERS}
 use Rattle.clap.specs.Words.{App, Rule, Text, new_app, new_rule, with_rule, with_subcommand}
 use Rattle.clap.specs.Simple.{on_top}
 use Rattle.clap.specs.declared.builder.ArgAction.TheVariants.{Set}
 use Rattle.clap.specs.declared.builder.ValueParser.TheVariants as parser
+use Rattle.cli.specs.declared.command.TheConstants.{BUDGET}
 
 -- a required argument with one value
 abbrev pub required_rule : Text → Rule
@@ -26,7 +28,7 @@ run_app = with_rule (new_app (codes "run")) (required_rule (codes "SCENARIO"))
 -- `live SCENARIO --workers N --budget B`
 abbrev pub live_app : App
 live_app = with_rule (with_rule (with_rule (new_app (codes "live")) (required_rule (codes "SCENARIO")))
-    (number_rule (codes "workers") true 1 16)) (number_rule (codes "budget") true 1 1000000)
+    (number_rule (codes "workers") true 1 WORKERS)) (number_rule (codes "budget") true 1 BUDGET)
 
 -- `draw SCENARIO OUT`
 abbrev pub draw_app : App
@@ -43,7 +45,7 @@ explain_app = with_rule (new_app (codes "explain")) (required_rule (codes "IMAGE
 -- `NAME SOURCE OUT --state N [--form F]`
 abbrev pub writer_app : Text → Text → App
 writer_app name source = with_rule (with_rule (with_rule (with_rule (new_app name) (required_rule source))
-    (required_rule (codes "OUT"))) (number_rule (codes "state") true 0 1024)) (number_rule (codes "form") false 1 2)
+    (required_rule (codes "OUT"))) (number_rule (codes "state") true 0 STATE_BYTES)) (number_rule (codes "form") false 1 2)
 
 -- `asm SRC OUT --state N [--form F]`
 abbrev pub asm_app : App

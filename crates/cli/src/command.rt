@@ -7,7 +7,11 @@ ghost use Rattle.cli.specs.Program.{asm_app, check_app, dis_app, draw_app, expla
 
 use clap::builder::ValueParser;
 use clap::{Arg, ArgAction, Command};
+use limits::{STATE_BYTES, WORKERS};
 use std::alloc::{AllocError, Global};
+
+/// The most calls that a worker can be given as its budget.
+pub const BUDGET: u64 = 1_000_000;
 
 /// A required argument with one value.
 fn required<'a>(alloc: Global, id: &'a str) -> Arg<'a>
@@ -54,8 +58,8 @@ fn live<'a>(alloc: Global) -> Result<Command<'a>, AllocError>
     let scenario = Command::new(alloc, "live")
         .about("Has N workers carry out the inputs of a scenario, each at most about B calls")
         .arg(required(alloc, "SCENARIO"))?;
-    let workers = scenario.arg(number(alloc, "workers", "N", 1, 16))?;
-    workers.arg(number(alloc, "budget", "B", 1, 1_000_000))
+    let workers = scenario.arg(number(alloc, "workers", "N", 1, WORKERS as u64))?;
+    workers.arg(number(alloc, "budget", "B", 1, BUDGET))
 }
 
 fn draw<'a>(alloc: Global) -> Result<Command<'a>, AllocError>
@@ -99,7 +103,7 @@ fn writer<'a>(
     let named = Command::new(alloc, name).about(about);
     let with_source = named.arg(required(alloc, source))?;
     let image = with_source.arg(required(alloc, "OUT"))?;
-    let state = image.arg(number(alloc, "state", "N", 0, 1024))?;
+    let state = image.arg(number(alloc, "state", "N", 0, STATE_BYTES as u64))?;
     state.arg(form(alloc))
 }
 

@@ -4,10 +4,11 @@ ghost use Rattle.std.specs.Prelude.{◌≡◌, ◌≢◌, IfErr, IfOk, [], codes
 ghost use Rattle.clap.specs.Words.{first_of, found_of, kind_of, rows_of, subcommand_rows_of};
 ghost use Rattle.cli.specs.Asks.{AsksBy, AsksFor, AsksIn, Explains, Gives, GivesOrder, HasForm, HasNumber, IsInRange, IsRefusal, order_of};
 
-use crate::command::sblog;
+use crate::command::{BUDGET, sblog};
 use crate::refusal::{Refusal, Usage};
 use clap::error::ErrorKind;
 use clap::{ArgMatches, Error};
+use limits::{STATE_BYTES, WORKERS};
 use regtypes::ImageForm;
 use std::alloc::{AllocError, Global};
 use std::convert::AsStr;
@@ -106,8 +107,8 @@ fn live_in<'a>(matches: &ArgMatches<'a>) -> Option<Request<'a>>
     ensures { GivesOrder (AsksIn (codes "live") (rows_of (found_of matches.now))) result }
 {
     let scenario = path_in(matches, "SCENARIO")?;
-    let workers = number_in(matches, "workers", 1, 16)? as u8;
-    let budget = number_in(matches, "budget", 1, 1_000_000)? as u32;
+    let workers = number_in(matches, "workers", 1, WORKERS as u64)? as u8;
+    let budget = number_in(matches, "budget", 1, BUDGET)? as u32;
     Some(Request::Live {
         scenario,
         workers,
@@ -142,7 +143,7 @@ fn asm_in<'a>(matches: &ArgMatches<'a>) -> Option<Request<'a>>
 {
     let source = path_in(matches, "SRC")?;
     let image = path_in(matches, "OUT")?;
-    let state = number_in(matches, "state", 0, 1024)? as u16;
+    let state = number_in(matches, "state", 0, STATE_BYTES as u64)? as u16;
     let form = form_in(matches)?;
     Some(Request::Asm {
         source,
@@ -157,7 +158,7 @@ fn pack_in<'a>(matches: &ArgMatches<'a>) -> Option<Request<'a>>
 {
     let code = path_in(matches, "CODE")?;
     let image = path_in(matches, "OUT")?;
-    let state = number_in(matches, "state", 0, 1024)? as u16;
+    let state = number_in(matches, "state", 0, STATE_BYTES as u64)? as u16;
     let form = form_in(matches)?;
     Some(Request::Pack {
         code,

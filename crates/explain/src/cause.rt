@@ -10,6 +10,7 @@ use crate::kinds::{push_place, push_reg, push_with, push_with_signed};
 use crate::reads::{base, shifted};
 use crate::study::Study;
 use decode::{Insn, Reg};
+use limits::SLOTS;
 use regtypes::{
     Attributes, Flow, Frame, ImageForm, Kind, Region, Rule, attributes_from, flow_from,
 };
@@ -83,7 +84,7 @@ fn push_about(out: &mut String, reg: Option<Reg>, text: &str) -> Result<(), Allo
 
 /// The slot that a jump leads to, which may not be there.
 fn target_of(slot: usize, distance: i32) -> i64
-    requires { slot < 1024 }
+    requires { slot < SLOTS }
     ensures { result ≡ pos (slot + 1) +ℤ distance }
 {
     slot as i64 + 1 + i64::from(distance)
@@ -97,7 +98,7 @@ fn push_jump_cause(
     distance: i32,
 ) -> Result<(), AllocError>
     requires within { slot < slots }
-    requires short { slots ≤ 1024 }
+    requires short { slots ≤ SLOTS }
     ensures { OnOk result (string_bytes out.new ≡ string_bytes out.old ++ jump_cause slots slot distance) }
 {
     let target = target_of(slot, distance);
@@ -115,7 +116,7 @@ fn push_flow_cause(
     insn: &Insn,
 ) -> Result<(), AllocError>
     requires within { slot < slots }
-    requires short { slots ≤ 1024 }
+    requires short { slots ≤ SLOTS }
     ensures { OnOk result (string_bytes out.new ≡ string_bytes out.old ++ flow_cause slots slot (flow_of insn.now)) }
 {
     match flow_from(insn) {
@@ -277,7 +278,7 @@ pub fn push_cause(
     rule: Rule,
 ) -> Result<(), AllocError>
     requires within { slot < length study.now.slots.items }
-    requires short { length study.now.slots.items ≤ 1024 }
+    requires short { length study.now.slots.items ≤ SLOTS }
     ensures { OnOk result (string_bytes out.new ≡ string_bytes out.old ++ cause study.now.form study.now.state_len (length study.now.slots.items) slot insn.now frame.now rule) }
 {
     let what = attributes_from(insn);

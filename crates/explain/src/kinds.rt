@@ -6,6 +6,7 @@ ghost use Rattle.regtypes.specs.Rules.{region_len};
 ghost use Rattle.explain.specs.Kinds.{kind_text, place_text, reg_text, region_text, signed_text};
 
 use decode::Reg;
+use limits::STACK_BYTES;
 use regtypes::{Kind, Region};
 use std::alloc::AllocError;
 
@@ -16,7 +17,7 @@ fn region_len(region: Region, low: u16, state_len: u16) -> u16
     match region {
         Region::Message => low,
         Region::State => state_len,
-        Region::Stack => 512,
+        Region::Stack => STACK_BYTES as u16,
     }
 }
 

@@ -11,6 +11,7 @@ use crate::study::{Study, study_of};
 use crate::why::{Why, whys_at};
 use assemble::disassemble;
 use decode::{Insn, Reg};
+use limits::SLOTS;
 use regtypes::{Frame, Kind, Rule};
 use std::alloc::{AllocError, Global};
 use verifier::ImageError;
@@ -91,7 +92,7 @@ fn push_broken(
     frame: &Frame,
 ) -> Result<(), AllocError>
     requires within { slot < length study.now.slots.items }
-    requires short { length study.now.slots.items ≤ 1024 }
+    requires short { length study.now.slots.items ≤ SLOTS }
     ensures { OnOk result (string_bytes out.new ≡ string_bytes out.old ++ broken_text study.now rule slot insn.now frame.now) }
 {
     push_with(out, "    refused by V", rule.number().into(), ": ")?;
@@ -117,7 +118,7 @@ fn push_refusal(
     frame: Option<Frame>,
 ) -> Result<(), AllocError>
     requires within { slot < length study.now.slots.items }
-    requires short { length study.now.slots.items ≤ 1024 }
+    requires short { length study.now.slots.items ≤ SLOTS }
     ensures { OnOk result (string_bytes out.new ≡ string_bytes out.old ++ refusal_text study.now rule slot insn.now frame) }
 {
     let Some(frame) = frame else {
@@ -137,7 +138,7 @@ fn push_notes(
     frame: Option<Frame>,
 ) -> Result<(), AllocError>
     requires within { slot < length study.now.slots.items }
-    requires short { length study.now.slots.items ≤ 1024 }
+    requires short { length study.now.slots.items ≤ SLOTS }
     ensures { OnOk result (string_bytes out.new ≡ string_bytes out.old ++ notes_text study.now whys.now slot insn.now frame study.now.refusal) }
 {
     match study.refusal {
@@ -159,7 +160,7 @@ fn push_slot(
     slot: usize,
 ) -> Result<(), AllocError>
     requires within { slot < length study.now.slots.items }
-    requires short { length study.now.slots.items ≤ 1024 }
+    requires short { length study.now.slots.items ≤ SLOTS }
     ensures { OnOk result (string_bytes out.new ≡ string_bytes out.old ++ slot_text study.now whys.now slot) }
 {
     let Some(insn) = study.insn_at(slot) else {
@@ -211,7 +212,7 @@ fn reasons_of(study: &Study) -> [Why; 11]
 
 /// The listing of a study (docs/FORMATS.md, "Listing"). Only memory can run out.
 pub fn listing_of(alloc: Global, study: &Study) -> Result<String, AllocError>
-    requires { length study.now.slots.items ≤ 1024 }
+    requires { length study.now.slots.items ≤ SLOTS }
     ensures { IfOk result (λ text. IsListing study.now (string_bytes text)) }
 {
     let whys = reasons_of(study);
