@@ -1,5 +1,6 @@
 -- Why a source comes to no file.
 use Rattle.std.proofs.Common.{◌≡◌, ◌<◌, ◌≤◌, ◌∙◌, ◌⊎◌, ℕ, List, [], ◌∷◌, length, refl, sym, ap, subst, arith, inl, inr, map, take}
+use Rattle.limits.specs.declared.TheConstants.{SLOTS}
 use Rattle.assemble.specs.Refusal.{AreLines}
 use Rattle.assemble.specs.Refusal as assembling
 use Rattle.assemble.specs.Text.{line_of, lines_of, spoken}
@@ -17,9 +18,11 @@ use Rattle.tracer.specs.Fault.{fault_of_image, fault_of_text}
 use Rattle.tracer.specs.Judged.{IsJudged}
 use Rattle.tracer.specs.declared.fault.Fault.{Fault}
 use Rattle.tracer.proofs.JudgedLemmas.{fault_of_judged, judged_by_read, read_whole}
+use Rattle.tracer.specs.declared.asm.TheConstants.{SOURCE_LIMIT}
+use Rattle.tracer.specs.declared.judged.TheConstants.{TEXT_LIMIT}
 
 -- a text that is refused, of a source of which it is what is judged
-pub text_refused : (bytes whole head : List ℕ) (e : AsmError) (f : Fault) → bytes ≡ take 1048577 whole → IsJudged bytes head
+pub text_refused : (bytes whole head : List ℕ) (e : AsmError) (f : Fault) → bytes ≡ take SOURCE_LIMIT whole → IsJudged bytes head
     → assembling.IsRefusal head e → f ≡ fault_of_text e → IsUnassembled whole f
 text_refused bytes whole head text.Memory f read judged why is = subst (IsUnassembled whole) (sym is) tt
 text_refused bytes whole head (text.Fault rule line) f read judged why is =
@@ -40,13 +43,13 @@ pub code_refused : (source : List ℕ) (code : List Insn) (e : ImageError) (f : 
 code_refused source code image.Memory f lines why is = subst (IsUnassembled source) (sym is) tt
 code_refused source code (image.Header fault) f lines why is = subst (IsUnassembled source) (sym is) (why.0, inl (silent why.1))
   where
-    silent : (slots code ≡ 0) ⊎ (1024 < slots code) → spoken (lines_of source) ≡ []
+    silent : (slots code ≡ 0) ⊎ (SLOTS < slots code) → spoken (lines_of source) ≡ []
     silent (inl none) = lines.written ∙ ap (map line_of) (no_slots code none)
     silent (inr many) = absurd (omega (arith, lines.limit, many))
 code_refused source code (image.Decode rule slot) f lines why is = absurd why
 code_refused source code (image.Verify rule slot) f lines why is = absurd why
 
 -- what is judged of a source that isn't too long is all of it
-pub judged_all : (bytes whole head : List ℕ) → bytes ≡ take 1048577 whole → IsJudged bytes head → length bytes ≤ 1048576 → head ≡ whole
-judged_all bytes whole head read (inl all) short = all.1 ∙ read_whole 1048576 bytes whole read short
+pub judged_all : (bytes whole head : List ℕ) → bytes ≡ take SOURCE_LIMIT whole → IsJudged bytes head → length bytes ≤ TEXT_LIMIT → head ≡ whole
+judged_all bytes whole head read (inl all) short = all.1 ∙ read_whole TEXT_LIMIT bytes whole read short
 judged_all bytes whole head read (inr part) short = absurd (omega (arith, part.0, short))

@@ -22,6 +22,7 @@ use Rattle.tracer.specs.declared.fault.Fault.TheVariants.{Usage, Header, Decode,
 use Rattle.tracer.specs.declared.files.Failure.{Failure}
 use Rattle.tracer.specs.declared.files.Failure.TheVariants as failure
 use Rattle.tracer.proofs.HeadLemmas.{head_refusal, head_unread}
+use Rattle.tracer.specs.declared.check.TheConstants.{IMAGE_LIMIT}
 
 -- a command line that is refused
 pub refusal_is_cause : (words : List (List ℕ)) (content : Content) (one : Sameness) (failed : Bool) (e : Refusal) (f : Fault)
@@ -101,14 +102,14 @@ plain_of failed (failure.InputOutput reason) f told is = inr (is, told (λ same.
 
 -- an image that is refused by the bytes that were read of it
 pub image_refused : (content : Content) (failed : Bool) (path bytes : List ℕ) (e : ImageError) (f : Fault)
-    → ((known : List ℕ) → content path ≡ Some known → bytes ≡ take 8201 known) → image_file.IsRefusal bytes e → f ≡ fault_of_image e
+    → ((known : List ℕ) → content path ≡ Some known → bytes ≡ take IMAGE_LIMIT known) → image_file.IsRefusal bytes e → f ≡ fault_of_image e
     → LoadFault content failed path f
 image_refused content failed path bytes e f read why is =
     inr (e, is, λ known there. head_refusal known e (subst (λ (b : List ℕ). image_file.IsRefusal b e) (read known there) why))
 
 -- one whose code is not verified
 pub listing_fault : (content : Content) (failed : Bool) (path bytes : List ℕ) (e : ImageError) (f : Fault)
-    → ((known : List ℕ) → content path ≡ Some known → bytes ≡ take 8201 known) → image_file.IsUnread bytes e → f ≡ fault_of_image e
+    → ((known : List ℕ) → content path ≡ Some known → bytes ≡ take IMAGE_LIMIT known) → image_file.IsUnread bytes e → f ≡ fault_of_image e
     → FaultOf content failed path IsUnlisted f
 listing_fault content failed path bytes e f read why is = subst (FaultOf content failed path IsUnlisted) (sym is) (by e why)
   where

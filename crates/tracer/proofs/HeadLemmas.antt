@@ -13,6 +13,7 @@ use Rattle.verifier.specs.declared.fault.HeaderFault.TheVariants.{Magic, StateLe
 use Rattle.verifier.specs.declared.fault.ImageError.{ImageError}
 use Rattle.verifier.specs.declared.fault.ImageError.TheVariants.{Memory, Header, Decode, Verify}
 use Rattle.verifier.proofs.Files.{file_has, file_header, fields_of}
+use Rattle.tracer.specs.declared.check.TheConstants.{IMAGE_LIMIT}
 
 file_length : (form : ImageForm) (is : List Insn) (len : ℕ) (bytes : List ℕ) → IsFile form is len bytes → length bytes ≤ 8200
 file_length form is len bytes f =
@@ -20,26 +21,26 @@ file_length form is len bytes f =
     omega (arith, k.size, length_encoding is, f.short)
 
 -- all of a file is read, or more than an image has is left
-heads : (bytes : List ℕ) → (take 8201 bytes ≡ bytes) ⊎ (8201 < length bytes)
-heads bytes = go (nat_le (length bytes) 8201) refl
+heads : (bytes : List ℕ) → (take IMAGE_LIMIT bytes ≡ bytes) ⊎ (IMAGE_LIMIT < length bytes)
+heads bytes = go (nat_le (length bytes) IMAGE_LIMIT) refl
   where
-    go : (b : Bool) → nat_le (length bytes) 8201 ≡ b → (take 8201 bytes ≡ bytes) ⊎ (8201 < length bytes)
-    go true is = inl (take_all 8201 bytes (leb-true (length bytes) 8201 is))
-    go false is = inr (leb-false (length bytes) 8201 is)
+    go : (b : Bool) → nat_le (length bytes) IMAGE_LIMIT ≡ b → (take IMAGE_LIMIT bytes ≡ bytes) ⊎ (IMAGE_LIMIT < length bytes)
+    go true is = inl (take_all IMAGE_LIMIT bytes (leb-true (length bytes) IMAGE_LIMIT is))
+    go false is = inr (leb-false (length bytes) IMAGE_LIMIT is)
 
-cut : (bytes : List ℕ) → 8201 < length bytes → length (take 8201 bytes) ≡ 8201
-cut bytes long = length-take-le 8201 bytes (omega (arith, long))
+cut : (bytes : List ℕ) → IMAGE_LIMIT < length bytes → length (take IMAGE_LIMIT bytes) ≡ IMAGE_LIMIT
+cut bytes long = length-take-le IMAGE_LIMIT bytes (omega (arith, long))
 
 -- a file whose first bytes are an image is that image
-pub head_file : (form : ImageForm) (is : List Insn) (len : ℕ) (bytes : List ℕ) → IsFile form is len (take 8201 bytes) → IsFile form is len bytes
+pub head_file : (form : ImageForm) (is : List Insn) (len : ℕ) (bytes : List ℕ) → IsFile form is len (take IMAGE_LIMIT bytes) → IsFile form is len bytes
 head_file form is len bytes f = go (heads bytes)
   where
-    go : (take 8201 bytes ≡ bytes) ⊎ (8201 < length bytes) → IsFile form is len bytes
+    go : (take IMAGE_LIMIT bytes ≡ bytes) ⊎ (IMAGE_LIMIT < length bytes) → IsFile form is len bytes
     go (inl all) = subst (IsFile form is len) all f
-    go (inr long) = absurd (omega (arith, file_length form is len (take 8201 bytes) f, cut bytes long))
+    go (inr long) = absurd (omega (arith, file_length form is len (take IMAGE_LIMIT bytes) f, cut bytes long))
 
 -- a listing of its first bytes is one of the file
-pub head_explained : (bytes text : List ℕ) → IsExplained (take 8201 bytes) text → IsExplained bytes text
+pub head_explained : (bytes text : List ℕ) → IsExplained (take IMAGE_LIMIT bytes) text → IsExplained bytes text
 head_explained bytes text e = record {
   study = e.study;
   found = record {
@@ -66,7 +67,7 @@ same_fields (a ∷ b ∷ c ∷ d ∷ e ∷ f ∷ g ∷ []) more l = absurd (omeg
 same_fields (a ∷ b ∷ c ∷ d ∷ e ∷ f ∷ g ∷ h ∷ xs) more l = (refl, refl, refl)
 
 -- a header's fault stays when more follows
-still_broken : (fault : HeaderFault) (xs more : List ℕ) → length xs ≡ 8201 → IsHeaderFault xs fault → IsHeaderFault (xs ++ more) fault
+still_broken : (fault : HeaderFault) (xs more : List ℕ) → length xs ≡ IMAGE_LIMIT → IsHeaderFault xs fault → IsHeaderFault (xs ++ more) fault
 unfolding IsFirst
 still_broken fault xs more long (inl short) = absurd (omega (arith, short.1, long))
 still_broken fault xs more long (inr (a, later)) = inr ((λ s. omega (arith, s, long, length-append xs more)), go later)
@@ -97,11 +98,11 @@ still_broken fault xs more long (inr (a, later)) = inr ((λ s. omega (arith, s, 
         inr ((λ m. b (magic_left m)), inr ((λ s. c (omega (arith, s, same.1))), inr ((λ n. d (count_left n)), inl (size.0, length_more))))
     go (inr (b, inr (c, inr (d, inr e)))) = absurd e.1
 
-head_header : (bytes : List ℕ) (fault : HeaderFault) → 8201 < length bytes → IsHeaderFault (take 8201 bytes) fault → IsHeaderFault bytes fault
+head_header : (bytes : List ℕ) (fault : HeaderFault) → IMAGE_LIMIT < length bytes → IsHeaderFault (take IMAGE_LIMIT bytes) fault → IsHeaderFault bytes fault
 head_header bytes fault long broken =
-    subst (λ (b : List ℕ). IsHeaderFault b fault) (take-append-drop 8201 bytes) (still_broken fault (take 8201 bytes) (drop 8201 bytes) (cut bytes long) broken)
+    subst (λ (b : List ℕ). IsHeaderFault b fault) (take-append-drop IMAGE_LIMIT bytes) (still_broken fault (take IMAGE_LIMIT bytes) (drop IMAGE_LIMIT bytes) (cut bytes long) broken)
 
-head_unread_of : (bytes : List ℕ) (e : ImageError) → 8201 < length bytes → IsUnread (take 8201 bytes) e → IsUnread bytes e
+head_unread_of : (bytes : List ℕ) (e : ImageError) → IMAGE_LIMIT < length bytes → IsUnread (take IMAGE_LIMIT bytes) e → IsUnread bytes e
 head_unread_of bytes Memory long why = tt
 head_unread_of bytes (Header fault) long why = head_header bytes fault long why
 head_unread_of bytes (Decode rule slot) long why =
@@ -109,15 +110,15 @@ head_unread_of bytes (Decode rule slot) long why =
 head_unread_of bytes (Verify rule slot) long why = absurd why
 
 -- what makes its first bytes no image file makes the file none
-pub head_unread : (bytes : List ℕ) (e : ImageError) → IsUnread (take 8201 bytes) e → IsUnread bytes e
+pub head_unread : (bytes : List ℕ) (e : ImageError) → IsUnread (take IMAGE_LIMIT bytes) e → IsUnread bytes e
 head_unread bytes e why = go (heads bytes)
   where
-    go : (take 8201 bytes ≡ bytes) ⊎ (8201 < length bytes) → IsUnread bytes e
+    go : (take IMAGE_LIMIT bytes ≡ bytes) ⊎ (IMAGE_LIMIT < length bytes) → IsUnread bytes e
     go (inl all) = subst (λ b. IsUnread b e) all why
     go (inr long) = head_unread_of bytes e long why
 
 -- what makes its first bytes no file of typable code makes the file none
-pub head_refusal : (bytes : List ℕ) (e : ImageError) → IsRefusal (take 8201 bytes) e → IsRefusal bytes e
+pub head_refusal : (bytes : List ℕ) (e : ImageError) → IsRefusal (take IMAGE_LIMIT bytes) e → IsRefusal bytes e
 head_refusal bytes Memory why = tt
 head_refusal bytes (Header fault) why = head_unread bytes (Header fault) why
 head_refusal bytes (Decode rule slot) why = head_unread bytes (Decode rule slot) why

@@ -8,6 +8,8 @@ use Rattle.assemble.specs.Refusal as assembling
 use Rattle.assemble.specs.Text.{is_silent, lines_of}
 use Rattle.assemble.specs.declared.fault.Rule.{Rule}
 use Rattle.tracer.specs.Judged.{AreWholeLines, IsJudged, IsLastFeed}
+use Rattle.tracer.specs.declared.asm.TheConstants.{SOURCE_LIMIT}
+use Rattle.tracer.specs.declared.judged.TheConstants.{TEXT_LIMIT}
 
 -- ---- beginnings
 
@@ -39,12 +41,12 @@ longer n bytes whole is long = go (nat_le (length whole) n) refl
     go false gt = leb-false (length whole) n gt
 
 -- what is judged of the bytes that were read is what is judged of the source
-pub judged_by_read : (bytes whole head : List ℕ) → bytes ≡ take 1048577 whole → IsJudged bytes head → IsJudged whole head
+pub judged_by_read : (bytes whole head : List ℕ) → bytes ≡ take SOURCE_LIMIT whole → IsJudged bytes head → IsJudged whole head
 judged_by_read bytes whole head is (inl all) =
-    let same : bytes ≡ whole = read_whole 1048576 bytes whole is all.0 in
-    inl (subst (λ (b : List ℕ). length b ≤ 1048576) same all.0, all.1 ∙ same)
+    let same : bytes ≡ whole = read_whole TEXT_LIMIT bytes whole is all.0 in
+    inl (subst (λ (b : List ℕ). length b ≤ TEXT_LIMIT) same all.0, all.1 ∙ same)
 judged_by_read bytes whole head is (inr part) =
-    inr (longer 1048576 bytes whole is part.0, subst (λ (b : List ℕ). AreWholeLines b head) (fewer 1048576 bytes whole is) part.1)
+    inr (longer TEXT_LIMIT bytes whole is part.0, subst (λ (b : List ℕ). AreWholeLines b head) (fewer TEXT_LIMIT bytes whole is) part.1)
 
 -- ---- lines
 
@@ -107,8 +109,8 @@ no_fault (x ∷ y ∷ ys) line after is speaks = absurd (cc)
 pub fault_of_judged : (whole head : List ℕ) (rule : Rule) (line : ℕ) → IsJudged whole head → assembling.IsFault head rule line → assembling.IsFault whole rule line
 fault_of_judged whole head rule line (inl all) f = subst (λ (t : List ℕ). assembling.IsFault t rule line) all.1 f
 fault_of_judged whole head rule line (inr (long, inl (end, is, feed))) f =
-    fault_before whole (take end (take 1048576 whole)) (lines_of (drop (suc end) (take 1048576 whole) ++ drop 1048576 whole)) rule line
-    (lines_behind 1048576 whole end feed) (subst (λ (t : List ℕ). assembling.IsFault t rule line) is f)
+    fault_before whole (take end (take TEXT_LIMIT whole)) (lines_of (drop (suc end) (take TEXT_LIMIT whole) ++ drop TEXT_LIMIT whole)) rule line
+    (lines_behind TEXT_LIMIT whole end feed) (subst (λ (t : List ℕ). assembling.IsFault t rule line) is f)
 fault_of_judged whole head rule line (inr (long, inr (is, none))) f =
     let g = subst (λ (t : List ℕ). assembling.IsFault t rule line) is f in
     absurd (no_fault g.before g.line g.after g.whole g.speaks)

@@ -10,10 +10,11 @@ use Rattle.verifier.specs.declared.fault.HeaderFault.TheVariants.{SlotCount}
 use Rattle.tracer.specs.Judged.{IsJudged}
 use Rattle.tracer.specs.declared.fault.Fault.{Fault}
 use Rattle.tracer.specs.declared.fault.Fault.TheVariants.{Usage, Header, Decode, Verify, Assemble, Scenario, Memory, InputOutput}
+use Rattle.tracer.specs.declared.judged.TheConstants.{TEXT_LIMIT}
 
 -- the source is the text of code of which these bytes are the file of this form, with a state of this length
 pub record IsAssembled (source : List ℕ) (state : ℕ) (form : ImageForm) (bytes : List ℕ) : Type 0 where
-  pub short : length source ≤ 1048576
+  pub short : length source ≤ TEXT_LIMIT
   pub text : IsUtf8 source
   pub code : List Insn
   pub lines : assembling.AreLines (lines_of source) code
@@ -21,7 +22,7 @@ pub record IsAssembled (source : List ℕ) (state : ℕ) (form : ImageForm) (byt
 
 -- the source has more bytes than a text may have, and no line that ends within these is refused
 pub record IsTooLong (source : List ℕ) : Type 0 where
-  pub long : 1048576 < length source
+  pub long : TEXT_LIMIT < length source
   pub head : List ℕ
   pub judged : IsJudged source head
   pub code : List Insn

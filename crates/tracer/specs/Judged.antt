@@ -1,5 +1,6 @@
 -- What of a source is judged.
 use Rattle.std.specs.Prelude.{◌≡◌, ◌≢◌, ◌<◌, ◌≤◌, ◌⊎◌, ℕ, List, [], length, slice_index_or, take}
+use Rattle.tracer.specs.declared.judged.TheConstants.{TEXT_LIMIT}
 
 -- the last line feed of the bytes is at this place
 pub record IsLastFeed (bytes : List ℕ) (place : ℕ) : Type 0 where
@@ -15,4 +16,4 @@ AreWholeLines bytes lines =
 -- all of the source; of one with more bytes than a text may have, the lines that end within these
 abbrev pub IsJudged : List ℕ → List ℕ → Type 0
 IsJudged source head =
-    ((length source ≤ 1048576) × (head ≡ source)) ⊎ ((1048576 < length source) × AreWholeLines (take 1048576 source) head)
+    ((length source ≤ TEXT_LIMIT) × (head ≡ source)) ⊎ ((TEXT_LIMIT < length source) × AreWholeLines (take TEXT_LIMIT source) head)

@@ -1,5 +1,6 @@
 -- The command `pack` (docs/FORMATS.md, "Commands").
 use Rattle.std.specs.Prelude.{◌≡◌, ◌<◌, ◌≤◌, ◌*◌, ◌⊎◌, ℕ, List, length}
+use Rattle.limits.specs.declared.TheConstants.{SLOTS}
 use Rattle.decode.specs.Encoding.{encoding}
 use Rattle.decode.specs.Refusal as decoding
 use Rattle.decode.specs.declared.insn.Insn.{Insn}
@@ -17,8 +18,8 @@ pub record IsPacked (code : List ℕ) (state : ℕ) (form : ImageForm) (bytes : 
 
 -- why code comes to no file: it has no slot or more than 1,024, or is no encoding; want of memory says nothing of it
 abbrev pub IsUnpacked : List ℕ → Fault → Type 0
-IsUnpacked code (Decode rule slot) = (length code ≤ 8 * 1024) × decoding.IsFault code rule slot
-IsUnpacked code (Header fault) = (fault ≡ SlotCount) × ((length code ≡ 0) ⊎ (8 * 1024 < length code))
+IsUnpacked code (Decode rule slot) = (length code ≤ 8 * SLOTS) × decoding.IsFault code rule slot
+IsUnpacked code (Header fault) = (fault ≡ SlotCount) × ((length code ≡ 0) ⊎ (8 * SLOTS < length code))
 IsUnpacked code Memory = Unit {0}
 IsUnpacked code InputOutput = ⊥
 IsUnpacked code (Assemble rule line) = ⊥

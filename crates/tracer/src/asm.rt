@@ -7,6 +7,7 @@ ghost use Rattle.tracer.specs.Inside.{IsNoUsage};
 use crate::fault::Fault;
 use crate::judged::{TEXT_LIMIT, judged};
 use assemble::assemble;
+use limits::STATE_BYTES;
 use regtypes::ImageForm;
 use std::alloc::Global;
 use verifier::{HeaderFault, file};
@@ -19,10 +20,10 @@ pub const SOURCE_LIMIT: usize = TEXT_LIMIT + 1;
 /// `Fault::InputOutput`. One with more bytes than a text has comes to the first fault of the lines that end
 /// within these, or else to `HeaderFault::SlotCount`.
 pub fn asm(alloc: Global, source: &[u8], state: u16, form: ImageForm) -> Result<Vec<u8>, Fault>
-    requires { state ≤ 1024 }
-    ensures written { IfOk result (λ v. (whole : List ℕ) → source.now ≡ take 1048577 whole
+    requires { state ≤ STATE_BYTES }
+    ensures written { IfOk result (λ v. (whole : List ℕ) → source.now ≡ take SOURCE_LIMIT whole
         → IsAssembled whole state form v.items) }
-    ensures refused { IfErr result (λ f. (whole : List ℕ) → source.now ≡ take 1048577 whole → IsUnassembled whole f) }
+    ensures refused { IfErr result (λ f. (whole : List ℕ) → source.now ≡ take SOURCE_LIMIT whole → IsUnassembled whole f) }
     ensures kind { IfErr result IsNoUsage }
 {
     let Ok(text) = str::from_utf8(judged(source)) else {

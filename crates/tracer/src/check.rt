@@ -8,12 +8,13 @@ ghost use Rattle.tracer.specs.Program.{FaultOf};
 use crate::fault::Fault;
 use crate::files::Files;
 use crate::site::Site;
+use limits::SLOTS;
 use std::alloc::Global;
 use std::fmt;
 use verifier::{Image, load};
 
 /// The bytes that decide whether a file is an image: as many as the largest one has, and one more.
-pub const IMAGE_LIMIT: usize = 8201;
+pub const IMAGE_LIMIT: usize = 8 + 8 * SLOTS + 1;
 
 /// The answer of `check`. It prints as its line, with the line's end.
 #[derive(Clone, Copy, Debug, PartialEq, Eq)]

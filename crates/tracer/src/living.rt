@@ -8,6 +8,7 @@ use crate::fault::Fault;
 use crate::files::Files;
 use crate::site::Site;
 use crate::staging::{Staged, stage};
+use limits::WORKERS;
 use runner::live;
 use scenario::Allowed;
 use std::alloc::Global;
@@ -26,7 +27,7 @@ pub fn live_scenario<R: Threads + Wait + Sync, F: Files>(
     site: &mut Site,
     text: &mut String,
 ) -> Result<(), Fault>
-    requires workers { (1 ≤ workers) × (workers ≤ 16) }
+    requires workers { (1 ≤ workers) × (workers ≤ WORKERS) }
     requires empty { string_bytes text.old ≡ [] }
     ensures report { OnOk result (IsAnswer (F.content files.old) (Live path.now workers budget) (string_bytes text.new)) }
     ensures same { F.content files.new ≡ F.content files.old }

@@ -21,6 +21,7 @@ use crate::playing::run_scenario;
 use crate::site::Site;
 use crate::stream::Stream;
 use cli::{Request, parse_words};
+use limits::STATE_BYTES;
 use regtypes::ImageForm;
 use std::alloc::Global;
 use std::convert::AsStr;
@@ -37,7 +38,7 @@ fn write_image<F: Files>(
     files: &mut F,
     site: &mut Site,
 ) -> Result<(), Fault>
-    requires { state ≤ 1024 }
+    requires { state ≤ STATE_BYTES }
     ensures report { OnOk result (IsAnswer (F.content files.old) (Asm source.now image.now state form) []) }
     ensures left { OnOk result (Leaves (Asm source.now image.now state form)
         (F.content files.old) (F.content files.new)) }
@@ -61,7 +62,7 @@ fn write_packed<F: Files>(
     files: &mut F,
     site: &mut Site,
 ) -> Result<(), Fault>
-    requires { state ≤ 1024 }
+    requires { state ≤ STATE_BYTES }
     ensures report { OnOk result (IsAnswer (F.content files.old) (Pack code.now image.now state form) []) }
     ensures left { OnOk result (Leaves (Pack code.now image.now state form)
         (F.content files.old) (F.content files.new)) }

@@ -8,6 +8,7 @@ use Rattle.tracer.proofs.AsmLemmas.{code_refused, judged_all, text_refused}
 use Rattle.tracer.proofs.CauseLemmas.{becomes}
 use Rattle.tracer.proofs.JudgedLemmas.{judged_by_read, longer, read_whole}
 use Rattle.tracer.proofs.asm.asm.Goals as goal
+use Rattle.tracer.specs.declared.judged.TheConstants.{TEXT_LIMIT}
 
 pub returns-in_default-clause-refused : goal.returns-in_default-clause-refused
 returns-in_default-clause-refused c = λ whole read.
@@ -25,7 +26,7 @@ returns-then-source-gt-TEXT_LIMIT-clause-refused c = λ whole read.
     let text : c.in-Ok.text.now ≡ c.judged.result.now = search rules in (
       refl,
       inr record {
-        long = longer 1048576 c.args.source.now whole read (omega arith);
+        long = longer TEXT_LIMIT c.args.source.now whole read (omega arith);
         head = c.judged.result.now;
         judged = judged_by_read c.args.source.now whole c.judged.result.now read c.judged.ensures;
         code = c.in_ok-code.code.items;
@@ -37,7 +38,7 @@ pub returns-in_err-bytes-clause-refused : goal.returns-in_err-bytes-clause-refus
 returns-in_err-bytes-clause-refused c =
     let text : c.in-Ok.text.now ≡ c.judged.result.now = search rules in
     let code : c.as_slice.result.now ≡ c.in_ok-code.code.items = search rules in
-    let short : length c.args.source.now ≤ 1048576 = omega arith in
+    let short : length c.args.source.now ≤ TEXT_LIMIT = omega arith in
     becomes c.from_residual-in_err-bytes.result _ _ c.from_residual-in_err-bytes.ensures.1
     (λ f is whole read. code_refused whole c.in_ok-code.code.items c.in_err-bytes.field-0.0 f
     (subst (λ t. AreLines (lines_of t) c.in_ok-code.code.items) (judged_all c.args.source.now whole c.judged.result.now read c.judged.ensures short)
@@ -46,13 +47,13 @@ returns-in_err-bytes-clause-refused c =
 
 pub returns-clause-written : goal.returns-clause-written
 returns-clause-written c = λ whole read.
-    let short : length c.args.source.now ≤ 1048576 = omega arith in
+    let short : length c.args.source.now ≤ TEXT_LIMIT = omega arith in
     let text : c.in-Ok.text.now ≡ c.judged.result.now = search rules in
     let all : c.in-Ok.text.now ≡ whole = text ∙ judged_all c.args.source.now whole c.judged.result.now read c.judged.ensures short in
     let utf8 : IsUtf8 c.in-Ok.text.now = search rules in
     let code : c.as_slice.result.now ≡ c.in_ok-code.code.items = search rules in
     record {
-      short = subst (λ t. length t ≤ 1048576) (read_whole 1048576 c.args.source.now whole read short) short;
+      short = subst (λ t. length t ≤ TEXT_LIMIT) (read_whole TEXT_LIMIT c.args.source.now whole read short) short;
       text = subst IsUtf8 all utf8;
       code = c.in_ok-code.code.items;
       lines = subst (λ t. AreLines (lines_of t) c.in_ok-code.code.items) all c.in_ok-code.ensures.found;

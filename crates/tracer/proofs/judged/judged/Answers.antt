@@ -1,8 +1,9 @@
 use Rattle.std.proofs.Common.{inl, inr, refl, sym, arith, length-take-le}
 use Rattle.tracer.proofs.judged.judged.Goals as goal
+use Rattle.tracer.specs.declared.judged.TheConstants.{TEXT_LIMIT}
 
 pub slice_bounds-whole_lines-end : goal.slice_bounds-whole_lines-end
-slice_bounds-whole_lines-end c = sym (length-take-le 1048576 c.args.source.now (omega arith))
+slice_bounds-whole_lines-end c = sym (length-take-le TEXT_LIMIT c.args.source.now (omega arith))
 
 pub returns-then-source-le-TEXT_LIMIT : goal.returns-then-source-le-TEXT_LIMIT
 returns-then-source-le-TEXT_LIMIT c = inl (omega arith, refl)
