@@ -1,6 +1,7 @@
 -- Which texts are refused, and the rule and the line that are named (docs/FORMATS.md, "Assembler text").
 use Rattle.std.specs.Prelude.{◌≡◌, ◌≢◌, ◌<◌, ◌≤◌, ◌+◌, ◌==◌, ℕ, ◌++◌, length, List, [], ◌∷◌, map, false}
 use Rattle.std.specs.List.{AllByRecursion, before_first}
+use Rattle.limits.specs.declared.TheConstants.{SLOTS}
 use Rattle.decode.specs.Encoding.{Fits}
 use Rattle.decode.specs.First.{IsFirst}
 use Rattle.decode.specs.Slots.{slots, size_of}
@@ -25,7 +26,7 @@ abbrev pub LineBreaks : ℕ → Rule → List ℕ → Type 0
 LineBreaks n rule.Word line = (i : Insn) → (parts_of i).0 ≢ before_first (λ c. c == 32) line
 LineBreaks n rule.Shape line = (i : Insn) → line ≢ line_of i
 LineBreaks n rule.Range line = (i : Insn) → Fits i → line ≢ line_of i
-LineBreaks n rule.Limit line = (i : Insn) → Fits i → line ≡ line_of i → 1024 < n + size_of i
+LineBreaks n rule.Limit line = (i : Insn) → Fits i → line ≡ line_of i → SLOTS < n + size_of i
 
 -- the first rule that refuses the line; each refuses what the one before it does
 abbrev pub LineBreaksFirst : ℕ → Rule → List ℕ → Type 0
@@ -35,7 +36,7 @@ LineBreaksFirst n r line = IsFirst (λ q. LineBreaks n q line) (rule.Word ∷ ru
 pub record AreLines (lines : List (List ℕ)) (is : List Insn) : Type 0 where
   pub fits : AllByRecursion Fits is
   pub written : spoken lines ≡ map line_of is
-  pub limit : slots is ≤ 1024
+  pub limit : slots is ≤ SLOTS
 
 -- what stands before the line is fine, and the line breaks this rule
 pub record IsFault (text : List ℕ) (r : Rule) (number : ℕ) : Type 0 where

@@ -14,6 +14,7 @@ use crate::fault::AsmError;
 use crate::reading::assemble;
 use crate::writing::disassemble;
 use decode::Insn;
+use limits::SLOTS;
 use std::alloc::Global;
 
 /// A text belongs to one list only.
@@ -30,12 +31,12 @@ pub fn one_fault()
 /// What is written for a list belongs to it, and with at most 1,024 slots it is read back.
 pub fn read_back()
     ensures written { (is : List Insn) → IsText (text_of is) is }
-    ensures again { (is : List Insn) → AllByRecursion Fits is → slots is ≤ 1024 → AreLines (lines_of (text_of is)) is }
+    ensures again { (is : List Insn) → AllByRecursion Fits is → slots is ≤ SLOTS → AreLines (lines_of (text_of is)) is }
 {}
 
 /// What is written of at most 1,024 slots is read back, unless memory runs out.
 pub fn there_and_back(alloc: Global, insns: &[Insn]) -> Result<Vec<Insn>, AsmError>
-    requires { slots insns.now ≤ 1024 }
+    requires { slots insns.now ≤ SLOTS }
     ensures { IfOk result (λ v. v.items ≡ insns.now) × IfErr result (λ e. e ≡ Memory) }
 {
     let text = disassemble(alloc, insns)?;

@@ -11,10 +11,8 @@ use crate::fault::{AsmError, Rule};
 use crate::line::read_line;
 use crate::split::split_at_byte;
 use decode::Insn;
+use limits::SLOTS;
 use std::alloc::Global;
-
-/// How many slots the instructions of a text take at most.
-const MAX_SLOTS: usize = 1024;
 
 /// The instructions that the lines of the text are, one a line, of at most 1,024 slots (docs/FORMATS.md, "Assembler
 /// text"). Empty lines and lines that begin with `#` give none. The error names the first faulty line, counted from 1,
@@ -75,7 +73,7 @@ fn is_silent(line: &[u8]) -> bool
 
 /// The instruction of a line after this many slots, if it gives one.
 fn read_after(slots: usize, line: &[u8]) -> Result<Option<Insn>, Rule>
-    requires { slots ≤ 1024 }
+    requires { slots ≤ SLOTS }
     ensures { ReadsAfter slots line.now result }
 {
     if is_silent(line) {
@@ -83,7 +81,7 @@ fn read_after(slots: usize, line: &[u8]) -> Result<Option<Insn>, Rule>
     }
     match read_line(line) {
         Ok(insn) => {
-            if slots + insn.slots() > MAX_SLOTS {
+            if slots + insn.slots() > SLOTS {
                 return Err(Rule::Limit);
             }
             Ok(Some(insn))

@@ -1,5 +1,6 @@
 -- The listing of an image file (docs/FORMATS.md, "Listing").
 use Rattle.std.specs.Prelude.{◌≡◌, ℕ, zero, suc, ◌==◌, nat_lt, ◌++◌, ◌∷◌, [], List, Option, Some, None, codes, decimal, length, slice_index_or, if◌then◌else◌}
+use Rattle.limits.specs.declared.TheConstants.{REGISTERS}
 use Rattle.assemble.specs.Text.{text_of}
 use Rattle.decode.specs.declared.insn.Insn.{Insn}
 use Rattle.decode.specs.Slots.{insn_at}
@@ -48,7 +49,7 @@ register_text s whys i f r =
 -- what is known of the registers that an instruction reads, in ascending order; or that no way leads to it
 abbrev pub known_text : Study → List Why → Insn → Option Frame → List ℕ
 known_text s whys i None = codes "    no way leads here\n"
-known_text s whys i (Some f) = texts_below (register_text s whys i f) 11
+known_text s whys i (Some f) = texts_below (register_text s whys i f) REGISTERS
 
 -- ---- slots
 

@@ -1,6 +1,7 @@
 -- Why a register isn't set at a slot. A way goes from slot to slot, each behind an instruction that leads to the next one.
 use Rattle.std.specs.Prelude.{◌≡◌, ◌≢◌, ◌<◌, ◌&&◌, ℕ, false, List, [], ◌∷◌, Some, None, pos, ℤ, slice_index_or}
 use Rattle.std.specs.List.{Contains}
+use Rattle.limits.specs.declared.TheConstants.{REGISTERS}
 use Rattle.decode.specs.declared.insn.Insn.{Insn}
 use Rattle.decode.specs.declared.insn.Insn.TheVariants.{Call}
 use Rattle.decode.specs.Slots.{insn_at}
@@ -89,4 +90,4 @@ pub record Explains (s : Study) (r : ℕ) (why : Why) (here : ℕ) : Type 0 wher
 
 -- the same for each register
 abbrev pub AreWhys : Study → List Why → ℕ → Type 0
-AreWhys s whys here = (r : ℕ) → r < 11 → Explains s r (slice_index_or whys r Unknown) here
+AreWhys s whys here = (r : ℕ) → r < REGISTERS → Explains s r (slice_index_or whys r Unknown) here

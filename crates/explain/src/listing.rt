@@ -11,7 +11,7 @@ use crate::study::{Study, study_of};
 use crate::why::{Why, whys_at};
 use assemble::disassemble;
 use decode::{Insn, Reg};
-use limits::SLOTS;
+use limits::{REGISTERS, SLOTS};
 use regtypes::{Frame, Kind, Rule};
 use std::alloc::{AllocError, Global};
 use verifier::ImageError;
@@ -46,7 +46,7 @@ fn push_register(
     frame: &Frame,
     number: u8,
 ) -> Result<(), AllocError>
-    requires { number < 11 }
+    requires { number < REGISTERS }
     ensures { OnOk result (string_bytes out.new ≡ string_bytes out.old ++ register_text study.now whys.now insn.now frame.now number) }
 {
     if !is_read(study.form, insn, number) {
@@ -76,7 +76,7 @@ fn push_known(
     let Some(frame) = frame else {
         return out.push_str("    no way leads here\n");
     };
-    for number in 0..11 {
+    for number in 0..REGISTERS as u8 {
         push_register(out, study, whys, insn, &frame, number)?;
     }
     Ok(())
@@ -201,12 +201,12 @@ fn push_head(out: &mut String, study: &Study) -> Result<(), AllocError>
 }
 
 /// Why the registers are unset that are so at the slot that is refused.
-fn reasons_of(study: &Study) -> [Why; 11]
+fn reasons_of(study: &Study) -> [Why; REGISTERS]
     ensures { AreReasons study.now result study.now.refusal }
 {
     match study.refusal {
         Some((_, slot)) => whys_at(study, slot),
-        None => [Why::Unknown; 11],
+        None => [Why::Unknown; REGISTERS],
     }
 }
 

@@ -7,6 +7,7 @@ ghost use Rattle.explain.specs.Why.{AreWhys, Calls, Clash, IsWhy, Leaves, Passes
 
 use crate::study::Study;
 use decode::{Insn, Reg};
+use limits::REGISTERS;
 use regtypes::{Flow, Frame, Kind, flow_from, transfer};
 
 /// Why a register isn't set.
@@ -135,14 +136,14 @@ fn why_of(study: &Study, reg: Reg, slot: usize) -> Why
 }
 
 /// Why each register is unset that is so at a slot.
-pub fn whys_at(study: &Study, slot: usize) -> [Why; 11]
+pub fn whys_at(study: &Study, slot: usize) -> [Why; REGISTERS]
     ensures { AreWhys study.now result slot }
 {
-    let mut whys = [Why::Unknown; 11];
+    let mut whys = [Why::Unknown; REGISTERS];
     let Some(frame) = study.frame_at(slot) else {
         return whys;
     };
-    for number in 0..11 {
+    for number in 0..REGISTERS as u8 {
         let reg = Reg { number };
         if frame.kind(reg) == Kind::Unset {
             whys[number as usize] = why_of(study, reg, slot);

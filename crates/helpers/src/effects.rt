@@ -3,12 +3,10 @@
 ghost use Rattle.std.specs.Prelude.{◌≡◌, [], length, ◌≤◌, Some};
 ghost use Rattle.helpers.specs.Helpers as rows;
 
-use crate::payload::{PAYLOAD_LIMIT, Payload};
+use crate::payload::Payload;
 use arrayvec::ArrayVec;
+use limits::{EFFECTS, PAYLOAD_BYTES};
 use std::marker::Model;
-
-/// How many sends, and how many outputs, one call of a handler can emit.
-pub const LIMIT: usize = 8;
 
 /// Who is called, who sent the message, and how many processes there are. Number 0 is the outside.
 #[derive(Clone, Copy, Debug, PartialEq, Eq)]
@@ -31,20 +29,21 @@ pub struct Sent {
 /// between calls costs a call only what it emits.
 #[derive(Drop)]
 pub struct Effects {
-    sends: ArrayVec<Sent, LIMIT>,
-    outputs: ArrayVec<Payload, LIMIT>,
+    sends: ArrayVec<Sent, EFFECTS>,
+    outputs: ArrayVec<Payload, EFFECTS>,
 }
 
 impl Model for Effects {
     ghost use Rattle.std.specs.Prelude.{◌≤◌};
     ghost use Rattle.arrayvec.specs.ArrayVec.{array_vec_len};
     ghost use Rattle.helpers.specs.Effects.{Emitted};
+    ghost use Rattle.limits.specs.declared.TheConstants.{EFFECTS};
 
     ghost Value = { Emitted };
 
     ghost view = { λ e. record { sends = e.sends.items; outputs = e.outputs.items } };
 
-    ghost invariant = { λ e. (array_vec_len e.sends ≤ 8) × (array_vec_len e.outputs ≤ 8) };
+    ghost invariant = { λ e. (array_vec_len e.sends ≤ EFFECTS) × (array_vec_len e.outputs ≤ EFFECTS) };
 }
 
 impl Effects {
@@ -73,7 +72,7 @@ impl Effects {
     /// The messages that were sent, at most 8.
     pub fn sends(&self) -> &[Sent]
         ensures value { result.now ≡ self.now.sends }
-        ensures bound { length result.now ≤ 8 }
+        ensures bound { length result.now ≤ EFFECTS }
     {
         self.sends.as_slice()
     }
@@ -81,7 +80,7 @@ impl Effects {
     /// The outputs that were given, at most 8.
     pub fn outputs(&self) -> &[Payload]
         ensures value { result.now ≡ self.now.outputs }
-        ensures bound { length result.now ≤ 8 }
+        ensures bound { length result.now ≤ EFFECTS }
     {
         self.outputs.as_slice()
     }
@@ -89,7 +88,7 @@ impl Effects {
     /// Helper 1: sends bytes to another process. The code is 0 where they were appended, 1 where
     /// the destination, as a 64-bit number, isn't another process, else 2: no room is left.
     pub fn send(&mut self, who: Who, dst: u64, payload: &[u8]) -> u64
-        requires { length payload.now ≤ 256 }
+        requires { length payload.now ≤ PAYLOAD_BYTES }
         ensures code { result ≡ (rows.send who dst (Some payload.now) self.old).0 }
         ensures after { self.new ≡ (rows.send who dst (Some payload.now) self.old).1 }
     {
@@ -110,7 +109,7 @@ impl Effects {
     /// Helper 2: gives bytes to the outside. The code is 0 where they were appended, else 2: no
     /// room is left.
     pub fn output(&mut self, payload: &[u8]) -> u64
-        requires { length payload.now ≤ 256 }
+        requires { length payload.now ≤ PAYLOAD_BYTES }
         ensures code { result ≡ (rows.output (Some payload.now) self.old).0 }
         ensures after { self.new ≡ (rows.output (Some payload.now) self.old).1 }
     {
@@ -126,11 +125,11 @@ impl Effects {
     /// Helper 5: sends as many of 256 bytes as are asked for. The code is as helper 1's, but 3 where
     /// the destination is good, room is left and more than 256 are asked for: nothing is appended.
     pub fn send_sized(&mut self, who: Who, dst: u64, bytes: &[u8], len: u64) -> u64
-        requires { length bytes.now ≡ 256 }
+        requires { length bytes.now ≡ PAYLOAD_BYTES }
         ensures code { result ≡ (rows.send who dst (sized_payload bytes.now len) self.old).0 }
         ensures after { self.new ≡ (rows.send who dst (sized_payload bytes.now len) self.old).1 }
     {
-        if len <= PAYLOAD_LIMIT as u64 {
+        if len <= PAYLOAD_BYTES as u64 {
             return self.send(who, dst, &bytes[..len as usize]);
         }
         if is_no_peer(who, dst) {
@@ -145,11 +144,11 @@ impl Effects {
     /// Helper 6: gives as many of 256 bytes as are asked for to the outside. The code is as helper
     /// 2's, but 3 where room is left and more than 256 are asked for: nothing is appended.
     pub fn output_sized(&mut self, bytes: &[u8], len: u64) -> u64
-        requires { length bytes.now ≡ 256 }
+        requires { length bytes.now ≡ PAYLOAD_BYTES }
         ensures code { result ≡ (rows.output (sized_payload bytes.now len) self.old).0 }
         ensures after { self.new ≡ (rows.output (sized_payload bytes.now len) self.old).1 }
     {
-        if len > PAYLOAD_LIMIT as u64 {
+        if len > PAYLOAD_BYTES as u64 {
             let is_full = self.outputs.is_full();
             return if is_full { 2 } else { 3 };
         }

@@ -18,5 +18,5 @@
 mod effects;
 mod payload;
 
-pub use effects::{Effects, LIMIT, Sent, Who};
-pub use payload::{PAYLOAD_LIMIT, Payload};
+pub use effects::{Effects, Sent, Who};
+pub use payload::Payload;

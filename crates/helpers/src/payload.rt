@@ -5,11 +5,9 @@ ghost use Rattle.std.specs.Cmp.{partial_equiv_from_equiv};
 ghost use Rattle.std.specs.Cmp.Lexicographic.{nat_list_eq_equiv, pointwise};
 ghost use Rattle.helpers.specs.Payload.{IsFilled, filled, view64};
 
+use limits::{FORM_1_BYTES, PAYLOAD_BYTES};
 use std::fmt;
 use std::marker::Model;
-
-/// The most bytes of a payload.
-pub const PAYLOAD_LIMIT: usize = 256;
 
 /// What a message says: 0 to 256 bytes.
 ///
@@ -17,7 +15,7 @@ pub const PAYLOAD_LIMIT: usize = 256;
 /// message, filled up, are lent and not copied.
 #[derive(Clone, Copy)]
 pub struct Payload {
-    bytes: [u8; PAYLOAD_LIMIT],
+    bytes: [u8; PAYLOAD_BYTES],
     len: u16,
 }
 
@@ -43,14 +41,14 @@ impl Payload {
         ensures { result ≡ [] }
     {
         Payload {
-            bytes: [0; PAYLOAD_LIMIT],
+            bytes: [0; PAYLOAD_BYTES],
             len: 0,
         }
     }
 
     /// A copy of at most 256 bytes.
     pub fn from_slice(bytes: &[u8]) -> Payload
-        requires { length bytes.now ≤ 256 }
+        requires { length bytes.now ≤ PAYLOAD_BYTES }
         ensures { result ≡ bytes.now }
     {
         let mut payload = Payload::new();
@@ -61,7 +59,7 @@ impl Payload {
     /// The bytes.
     pub fn as_slice(&self) -> &[u8]
         ensures value { result.now ≡ self.now }
-        ensures bound { length result.now ≤ 256 }
+        ensures bound { length result.now ≤ PAYLOAD_BYTES }
     {
         &self.bytes[..self.len as usize]
     }
@@ -69,7 +67,7 @@ impl Payload {
     /// How many bytes there are.
     pub fn len(&self) -> usize
         ensures value { result ≡ length self.now }
-        ensures bound { result ≤ 256 }
+        ensures bound { result ≤ PAYLOAD_BYTES }
     {
         self.len as usize
     }
@@ -82,7 +80,7 @@ impl Payload {
     }
 
     /// The first 64 bytes, filled up with zeros: what a handler of 64 bytes a message sees.
-    pub fn view64(&self) -> &[u8; 64]
+    pub fn view64(&self) -> &[u8; FORM_1_BYTES]
         ensures { result.now ≡ view64 self.now }
     {
         let Some(view) = self.bytes.first_chunk() else {
@@ -93,7 +91,7 @@ impl Payload {
 
     // Takes these bytes in place of its own. Of its places only those are written that either uses.
     pub(crate) fn replace(&mut self, bytes: &[u8])
-        requires { length bytes.now ≤ 256 }
+        requires { length bytes.now ≤ PAYLOAD_BYTES }
         ensures { self.new ≡ bytes.now }
     {
         refill(&mut self.bytes, self.len as usize, bytes);
@@ -102,9 +100,9 @@ impl Payload {
 }
 
 // Puts bytes into the places, of which so many were used, and zeros behind them.
-fn refill(places: &mut [u8; PAYLOAD_LIMIT], used: usize, bytes: &[u8])
+fn refill(places: &mut [u8; PAYLOAD_BYTES], used: usize, bytes: &[u8])
     requires used { IsFilled used places.old }
-    requires fits { length bytes.now ≤ 256 }
+    requires fits { length bytes.now ≤ PAYLOAD_BYTES }
     ensures { places.new ≡ filled bytes.now }
 {
     let len = bytes.len();
@@ -122,10 +120,10 @@ impl Default for Payload {
     }
 }
 
-impl From<[u8; 64]> for Payload {
+impl From<[u8; FORM_1_BYTES]> for Payload {
     ghost from_gives = { λ bytes p. p ≡ bytes };
 
-    fn from(bytes: [u8; 64]) -> Payload {
+    fn from(bytes: [u8; FORM_1_BYTES]) -> Payload {
         Payload::from_slice(&bytes)
     }
 }

@@ -18,11 +18,20 @@ pub const PARTIES: usize = 16;
 /// Bytes of a message's payload.
 pub const PAYLOAD_BYTES: usize = 256;
 
+/// Bytes of a message that a handler of form 1 sees, and of one that helpers 1 and 2 take.
+pub const FORM_1_BYTES: usize = 64;
+
 /// Bytes of a process's state.
 pub const STATE_BYTES: usize = 1024;
 
 /// Bytes of the stack of one handler call.
 pub const STACK_BYTES: usize = 512;
+
+/// Bytes of the memory of one handler call: its message, its state and its stack.
+pub const MEMORY_BYTES: usize = 1792;
+
+/// Registers of a handler, r0 to r10.
+pub const REGISTERS: usize = 11;
 
 /// Slots of an image, of eight bytes each.
 pub const SLOTS: usize = 1024;
@@ -51,6 +60,8 @@ pub const SEATS: usize = 17;
 
 // What one limit is of others.
 const _: () = prove!(PARTIES == PROCESSES + 1);
+
+const _: () = prove!(MEMORY_BYTES == PAYLOAD_BYTES + STATE_BYTES + STACK_BYTES);
 
 const _: () = prove!(SEATS == WORKERS + 1);
 

@@ -1,5 +1,6 @@
 -- What is known of the eleven registers and of the message's length, and its order.
 use Rattle.std.specs.Prelude.{◌≡◌, ◌≤◌, ℕ, Bool, true, false, List, [], ◌∷◌, ◌++◌, replicate, pos, slice_index_or}
+use Rattle.limits.specs.declared.TheConstants.{FORM_1_BYTES, STACK_BYTES}
 use Rattle.regtypes.specs.declared.image_form.ImageForm.{ImageForm}
 use Rattle.regtypes.specs.declared.image_form.ImageForm.TheVariants.{Sbi1, Sbi2}
 use Rattle.regtypes.specs.declared.frame.Region.TheVariants.{Message, State, Stack}
@@ -25,11 +26,11 @@ is_num k = false
 -- r1 is the message, r2 the state, r10 the end of the stack; of r3 this is known, and nothing else is set
 abbrev pub entry_kinds : Kind → List Kind
 entry_kinds third =
-    Unset ∷ Place Message (pos 0) ∷ Place State (pos 0) ∷ third ∷ replicate 6 Unset ++ Place Stack (pos 512) ∷ []
+    Unset ∷ Place Message (pos 0) ∷ Place State (pos 0) ∷ third ∷ replicate 6 Unset ++ Place Stack (pos STACK_BYTES) ∷ []
 
 -- in form 1 the message has 64 bytes; in form 2 it may have none, and r3 is how many it has
 abbrev pub entry_frame : ImageForm → Frame
-entry_frame Sbi1 = record { kinds = entry_kinds Unset; low = 64 }
+entry_frame Sbi1 = record { kinds = entry_kinds Unset; low = FORM_1_BYTES }
 entry_frame Sbi2 = record { kinds = entry_kinds Len; low = 0 }
 
 -- what the second kind says of a register, the first says too

@@ -1,6 +1,7 @@
 -- What is known behind an instruction, on each of its two ways.
 use Rattle.std.specs.Prelude.{◌≡◌, length, ℕ, Bool, true, false, ◌&&◌, List, ◌∷◌, Option, Some, None, Result, Ok, Err, ℤ, pos, ◌+ℤ◌, nat_le, slice_set, drop, if◌then◌else◌}
 use Rattle.std.specs.Option.{option_map_or}
+use Rattle.limits.specs.declared.TheConstants.{PAYLOAD_BYTES}
 use Rattle.decode.specs.declared.insn.Reg.{Reg}
 use Rattle.decode.specs.declared.insn.Width.TheVariants.{W64}
 use Rattle.decode.specs.declared.insn.Condition.{Condition}
@@ -57,7 +58,7 @@ shown met i f = None
 
 -- no message has more than 256 bytes
 abbrev pub raised : ℕ → Option ℤ → ℕ
-raised low (Some (pos n)) = if nat_le low n && nat_le n 256 then n else low
+raised low (Some (pos n)) = if nat_le low n && nat_le n PAYLOAD_BYTES then n else low
 raised low least = low
 
 -- ---- frames

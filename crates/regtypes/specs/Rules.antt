@@ -2,6 +2,7 @@
 use Rattle.std.specs.Prelude.{ℕ, zero, suc, ◌+◌, ◌==◌, ◌||◌, ◌&&◌, not, Bool, true, false, List, [], ◌∷◌, Option, Some, None, is_none, ℤ, pos, negsuc, ◌+ℤ◌, nat_le, nat_lt, if◌then◌else◌, ◌^◌}
 use Rattle.std.specs.Option.{option_map, option_map_or, option_and_then}
 use Rattle.std.specs.List.{list_any, list_all}
+use Rattle.limits.specs.declared.TheConstants.{FORM_1_BYTES, PAYLOAD_BYTES, STACK_BYTES}
 use Rattle.decode.specs.declared.insn.Reg.{Reg}
 use Rattle.decode.specs.declared.insn.Insn.{Insn}
 use Rattle.decode.specs.declared.insn.Insn.TheVariants.{Call, Exit}
@@ -45,7 +46,7 @@ is_in_message k = false
 abbrev pub region_len : ℕ → ℕ → Region → ℕ
 region_len low len Message = low
 region_len low len State = len
-region_len low len Stack = 512
+region_len low len Stack = STACK_BYTES
 
 -- n bytes from a place on lie in the region
 abbrev pub lie_inside : ℕ → ℕ → ℤ → Bool
@@ -94,12 +95,12 @@ arguments_of form z = None
 
 -- a place and a count: 256 bytes lie there, or they are the whole message
 abbrev pub is_sized : ℕ → ℕ → Kind → Kind → Bool
-is_sized low len place count = is_num count && (has_bytes low len 256 place || (is_message place && is_len count))
+is_sized low len place count = is_num count && (has_bytes low len PAYLOAD_BYTES place || (is_message place && is_len count))
 
 -- whether the registers hold what an argument wants; len is how many bytes the state has
 abbrev pub takes : ℕ → Frame → Argument → Bool
 takes len f (Number r) = is_num (kind_at f.kinds r)
-takes len f (Payload r) = has_bytes f.low len 64 (kind_at f.kinds r)
+takes len f (Payload r) = has_bytes f.low len FORM_1_BYTES (kind_at f.kinds r)
 takes len f (Sized r n) = is_sized f.low len (kind_at f.kinds r) (kind_at f.kinds n)
 
 -- ---- what the rules speak of

@@ -1,6 +1,7 @@
 -- When code is typable.
 use Rattle.std.specs.Prelude.{◌≡◌, ℕ, ◌+◌, ◌<◌, ◌≤◌, List, [], ◌∷◌, ◌++◌, Option, Some, None, ℤ, pos, negsuc, ◌+ℤ◌, Bool, false, nat_lt, ◌&&◌, not, slice_get, length, unwrap_or, is_some}
 use Rattle.std.specs.List.{AllByRecursion}
+use Rattle.limits.specs.declared.TheConstants.{PAYLOAD_BYTES, REGISTERS}
 use Rattle.decode.specs.declared.insn.Insn.{Insn}
 use Rattle.decode.specs.Slots.{insn_at}
 use Rattle.regtypes.specs.declared.flow.Flow.{Flow}
@@ -45,8 +46,8 @@ Enters table e = (t : ℕ) × (g : Frame) × (e.0 ≡ pos t) × (frame_at table 
 -- what enters a slot fits its frame, and below slot n no rule is broken under a frame
 pub record TypesBelow (form : ImageForm) (slots : List (Option Insn)) (len n : ℕ) (table : Table) : Type 0 where
   pub start : Enters table (pos 0, entry_frame form)
-  pub whole : (s : ℕ) (g : Frame) → frame_at table s ≡ Some g → length g.kinds ≡ 11
-  pub short : (s : ℕ) (g : Frame) → frame_at table s ≡ Some g → g.low ≤ 256
+  pub whole : (s : ℕ) (g : Frame) → frame_at table s ≡ Some g → length g.kinds ≡ REGISTERS
+  pub short : (s : ℕ) (g : Frame) → frame_at table s ≡ Some g → g.low ≤ PAYLOAD_BYTES
   pub begins : (s : ℕ) (g : Frame) → frame_at table s ≡ Some g → (i : Insn) × (insn_at slots s ≡ Some i)
   pub keeps : (s : ℕ) (g : Frame) (i : Insn) → s < n → frame_at table s ≡ Some g → insn_at slots s ≡ Some i
       → broken form slots len s i g ≡ None

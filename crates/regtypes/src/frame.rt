@@ -7,6 +7,7 @@ ghost use Rattle.regtypes.specs.Inside.Frame.{IsJoin};
 
 use crate::image_form::ImageForm;
 use decode::Reg;
+use limits::{FORM_1_BYTES, REGISTERS, STACK_BYTES};
 
 /// A part of the memory that a handler can reach: the message, its state, and its stack of 512
 /// bytes.
@@ -30,7 +31,7 @@ pub enum Kind {
 /// What is known of the eleven registers, r0 to r10, and how many bytes the message has at least.
 #[derive(Clone, Copy, Debug, PartialEq, Eq)]
 pub struct Frame {
-    pub kinds: [Kind; 11],
+    pub kinds: [Kind; REGISTERS],
     pub low: u16,
 }
 
@@ -43,12 +44,15 @@ impl Frame {
     pub fn entry(form: ImageForm) -> Frame
         ensures { result ≡ entry_frame form }
     {
-        let mut kinds = [Kind::Unset; 11];
+        let mut kinds = [Kind::Unset; REGISTERS];
         kinds[1] = Kind::Place(Region::Message, 0);
         kinds[2] = Kind::Place(Region::State, 0);
-        kinds[10] = Kind::Place(Region::Stack, 512);
+        kinds[10] = Kind::Place(Region::Stack, STACK_BYTES as i16);
         match form {
-            ImageForm::Sbi1 => Frame { kinds, low: 64 },
+            ImageForm::Sbi1 => Frame {
+                kinds,
+                low: FORM_1_BYTES as u16,
+            },
             ImageForm::Sbi2 => {
                 kinds[3] = Kind::Len;
                 Frame { kinds, low: 0 }
@@ -110,7 +114,7 @@ fn join_kind(a: Kind, b: Kind) -> Kind
 pub fn leq(a: &Frame, b: &Frame) -> bool
     ensures { IsTrue result ↔ Leq a.now b.now }
 {
-    for i in 0..11 {
+    for i in 0..REGISTERS {
         if !leq_kind(a.kinds[i], b.kinds[i]) {
             return false;
         }
@@ -125,7 +129,7 @@ pub fn join(a: &Frame, b: &Frame) -> Frame
     ensures least { (f : Frame) → Leq a.now f → Leq b.now f → Leq result f }
 {
     let mut kinds = a.kinds;
-    for i in 0..11 {
+    for i in 0..REGISTERS {
         kinds[i] = join_kind(a.kinds[i], b.kinds[i]);
     }
     let low = if a.low <= b.low { a.low } else { b.low };

@@ -4,6 +4,7 @@ ghost use Rattle.std.specs.Prelude.{◌≡◌, ◌≤◌, IsTrue};
 ghost use Rattle.regtypes.specs.Rules.{is_unset, is_len, is_place, is_in_message, is_message, is_sized, has_bytes, moved, is_near, region_len};
 
 use crate::frame::{Kind, Region, is_num};
+use limits::{PAYLOAD_BYTES, STACK_BYTES};
 
 pub fn is_unset(kind: Kind) -> bool
     ensures { result ≡ is_unset kind }
@@ -42,7 +43,7 @@ fn region_len(region: Region, low: u16, state_len: u16) -> usize
     match region {
         Region::Message => low as usize,
         Region::State => state_len as usize,
-        Region::Stack => 512,
+        Region::Stack => STACK_BYTES,
     }
 }
 
@@ -76,7 +77,9 @@ pub fn has_bytes(kind: Kind, bytes: u16, low: u16, state_len: u16) -> bool
 pub fn is_sized(place: Kind, count: Kind, low: u16, state_len: u16) -> bool
     ensures { result ≡ is_sized low state_len place count }
 {
-    is_num(count) && (has_bytes(place, 256, low, state_len) || (is_message(place) && is_len(count)))
+    is_num(count)
+        && (has_bytes(place, PAYLOAD_BYTES as u16, low, state_len)
+            || (is_message(place) && is_len(count)))
 }
 
 /// Whether a place that is moved stays one that a frame can name.

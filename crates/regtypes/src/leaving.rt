@@ -17,6 +17,7 @@ use crate::local::{
 };
 use crate::rule::Rule;
 use decode::{Condition, Insn, Operand, Reg, Width};
+use limits::PAYLOAD_BYTES;
 
 /// What is known behind an instruction.
 #[derive(Clone, Copy, Debug, PartialEq, Eq)]
@@ -100,7 +101,7 @@ fn raised(low: u16, least: Option<i64>) -> u16
     match least {
         None => low,
         Some(number) => {
-            if i64::from(low) <= number && number <= 256 {
+            if i64::from(low) <= number && number <= PAYLOAD_BYTES as i64 {
                 number as u16
             } else {
                 low

@@ -12,6 +12,7 @@ use crate::frame::{Frame, is_num};
 use crate::image_form::ImageForm;
 use crate::kinds::{has_bytes, is_in_message, is_place, is_sized, is_unset, moves, reaches};
 use decode::{Insn, Reg};
+use limits::FORM_1_BYTES;
 
 fn holds_nothing(frame: &Frame, reg: Option<Reg>) -> bool
     ensures { result ≡ has is_unset frame.now.kinds reg }
@@ -145,8 +146,9 @@ pub fn misgives(form: ImageForm, insn: &Insn, frame: &Frame, state_len: u16) -> 
     let low = frame.low;
     match *insn {
         Insn::Call { helper } => match (form, helper) {
-            (_, 1) => !(is_num(kinds[1]) && has_bytes(kinds[2], 64, low, state_len)),
-            (_, 2) => !has_bytes(kinds[1], 64, low, state_len),
+            (_, 1) => !(is_num(kinds[1])
+                && has_bytes(kinds[2], FORM_1_BYTES as u16, low, state_len)),
+            (_, 2) => !has_bytes(kinds[1], FORM_1_BYTES as u16, low, state_len),
             (ImageForm::Sbi2, 5) => {
                 !(is_num(kinds[1]) && is_sized(kinds[2], kinds[3], low, state_len))
             }

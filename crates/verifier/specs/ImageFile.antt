@@ -2,6 +2,7 @@
 use Rattle.std.specs.Prelude.{◌≡◌, ◌≢◌, ◌<◌, ◌≤◌, ◌⊎◌, ℕ, ◌+◌, ◌*◌, ◌++◌, length, take, drop, List, [], ◌∷◌}
 use Rattle.std.specs.Int.{w16, to_le_bytes, from_le_bytes}
 use Rattle.std.specs.List.{AllByRecursion}
+use Rattle.limits.specs.declared.TheConstants.{SLOTS, STATE_BYTES}
 use Rattle.decode.specs.declared.insn.Insn.{Insn}
 use Rattle.regtypes.specs.declared.image_form.ImageForm.{ImageForm}
 use Rattle.regtypes.specs.declared.image_form.ImageForm.TheVariants.{Sbi1, Sbi2}
@@ -27,9 +28,9 @@ magic Sbi2 = 0x53 ∷ 0x42 ∷ 0x49 ∷ 0x32 ∷ []
 pub record IsFile (form : ImageForm) (code : List Insn) (len : ℕ) (bytes : List ℕ) : Type 0 where
   pub bytes_are : bytes ≡ (magic form ++ (to_le_bytes w16 len ++ to_le_bytes w16 (slots code))) ++ encoding code
   pub fits : AllByRecursion Fits code
-  pub state : len ≤ 1024
+  pub state : len ≤ STATE_BYTES
   pub some : 0 < slots code
-  pub short : slots code ≤ 1024
+  pub short : slots code ≤ SLOTS
 
 -- ---- refusals
 
@@ -41,8 +42,8 @@ field_at k bytes = from_le_bytes w16 (take 2 (drop k bytes))
 abbrev pub HasFault : List ℕ → HeaderFault → Type 0
 HasFault bytes TooShort = length bytes < 8
 HasFault bytes Magic = (form : ImageForm) → take 4 bytes ≢ magic form
-HasFault bytes StateLength = 1024 < field_at 4 bytes
-HasFault bytes SlotCount = (field_at 6 bytes ≡ 0) ⊎ (1024 < field_at 6 bytes)
+HasFault bytes StateLength = STATE_BYTES < field_at 4 bytes
+HasFault bytes SlotCount = (field_at 6 bytes ≡ 0) ⊎ (SLOTS < field_at 6 bytes)
 HasFault bytes FileLength = length bytes ≢ 8 + 8 * field_at 6 bytes
 
 -- the fault that bytes are refused with before their code is read: the first, in the order of their numbers

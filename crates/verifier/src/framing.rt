@@ -8,6 +8,7 @@ ghost use Rattle.verifier.specs.Verdict.{IsJudged};
 use crate::judging::judge;
 use crate::layout::lay_out;
 use decode::Insn;
+use limits::SLOTS;
 use regtypes::{Frame, ImageForm, Rule};
 use std::alloc::{AllocError, Global};
 
@@ -47,7 +48,7 @@ pub fn frames_of(
     form: ImageForm,
 ) -> Result<Frames, AllocError>
     requires some { 0 < length code.now }
-    requires slots { length (slots_of code.now) ≤ 1024 }
+    requires slots { length (slots_of code.now) ≤ SLOTS }
     ensures slots { IfOk result (λ f. f.slots.items ≡ slots_of code.now) }
     ensures judged { IfOk result (λ f. IsJudged form code.now state_len f.table.items f.refusal) }
 {

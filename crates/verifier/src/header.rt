@@ -7,6 +7,7 @@ ghost use Rattle.verifier.specs.Inside.Header.{HasHeader, IsSound, header_bytes}
 
 use crate::fault::HeaderFault;
 use byteorder::{ByteOrder, LittleEndian};
+use limits::{SLOTS, STATE_BYTES};
 use regtypes::ImageForm;
 
 /// How many bytes a header has, and so a slot.
@@ -17,12 +18,6 @@ const MAGIC_1: [u8; 4] = [0x53, 0x42, 0x49, 0x31];
 
 /// What a file of form 2 begins with.
 const MAGIC_2: [u8; 4] = [0x53, 0x42, 0x49, 0x32];
-
-/// The most bytes that a state has.
-const STATE_LIMIT: u16 = 1024;
-
-/// The most slots that code has.
-pub const SLOT_LIMIT: u16 = 1024;
 
 /// The fields of a header.
 #[derive(Clone, Copy, Debug, PartialEq, Eq)]
@@ -73,10 +68,10 @@ pub fn read_header(bytes: &[u8]) -> Result<(FileHeader, ImageForm, &[u8]), Heade
         Some(form) => form,
         None => return Err(HeaderFault::Magic),
     };
-    if header.state_len > STATE_LIMIT {
+    if header.state_len > STATE_BYTES as u16 {
         return Err(HeaderFault::StateLength);
     }
-    if header.slots == 0 || header.slots > SLOT_LIMIT {
+    if header.slots == 0 || header.slots > SLOTS as u16 {
         return Err(HeaderFault::SlotCount);
     }
     if code.len() != HEADER * header.slots as usize {

@@ -8,13 +8,14 @@ ghost use Rattle.verifier.specs.Least.{IsLeast, StopsAt};
 ghost use Rattle.verifier.specs.Inside.Pass.{Follows, Merged};
 
 use decode::Insn;
+use limits::{PAYLOAD_BYTES, REGISTERS, SLOTS};
 use regtypes::{Flow, Frame, ImageForm, Rule, flow_from, join, transfer};
 
 /// Joins a frame into what a slot has.
 fn merge(table: &mut [Option<Frame>], to: usize, frame: &Frame)
     requires within { to < length table.old }
-    requires whole { length frame.now.kinds ≡ 11 }
-    requires short { frame.now.low ≤ 256 }
+    requires whole { length frame.now.kinds ≡ REGISTERS }
+    requires short { frame.now.low ≤ PAYLOAD_BYTES }
     ensures { Merged table.old to frame.now table.new }
 {
     table[to] = match &table[to] {
@@ -32,7 +33,7 @@ fn begins(slots: &[Option<Insn>], slot: usize) -> bool
 
 /// Whether a jump leads to a later slot in which an instruction begins.
 fn is_target(slots: &[Option<Insn>], slot: usize, distance: i32) -> bool
-    requires { slot < 1024 }
+    requires { slot < SLOTS }
     ensures { result ≡ is_target slots.now slot (pos (slot + 1) +ℤ distance) }
 {
     distance >= 0 && begins(slots, slot + 1 + distance as usize)
@@ -40,7 +41,7 @@ fn is_target(slots: &[Option<Insn>], slot: usize, distance: i32) -> bool
 
 /// The slot that a jump leads to.
 fn target(slots: &[Option<Insn>], slot: usize, distance: i32) -> usize
-    requires short { slot < 1024 }
+    requires short { slot < SLOTS }
     requires target { is_target slots.now slot (pos (slot + 1) +ℤ distance) ≡ true }
     ensures place { pos (slot + 1) +ℤ distance ≡ pos result }
     ensures later { slot < result }
@@ -51,7 +52,7 @@ fn target(slots: &[Option<Insn>], slot: usize, distance: i32) -> usize
 
 /// The rules on where an instruction leads, V1 and V2.
 fn leads(slots: &[Option<Insn>], slot: usize, flow: &Flow) -> Result<(), Rule>
-    requires short { slot < 1024 }
+    requires short { slot < SLOTS }
     requires within { slot < length slots.now }
     ensures { MatchResult result (λ _. first_broken (flow_tests slots.now slot flow.now) ≡ None) (λ r. first_broken (flow_tests slots.now slot flow.now) ≡ Some r) }
 {
@@ -88,7 +89,7 @@ pub fn judge(
     slot: usize,
     table: &mut [Option<Frame>],
 ) -> Result<(), Rule>
-    requires short { length slots.now ≤ 1024 }
+    requires short { length slots.now ≤ SLOTS }
     requires within { slot < length slots.now }
     requires same { length table.old ≡ length slots.now }
     requires follows { Follows slots.now }

@@ -4,8 +4,9 @@ ghost use Rattle.std.specs.Prelude.{◌≤◌, IfOk, IfErr};
 ghost use Rattle.verifier.specs.ImageFile.{IsFile, IsUnwritten};
 
 use crate::fault::{HeaderFault, ImageError};
-use crate::header::{SLOT_LIMIT, write_header};
+use crate::header::write_header;
 use decode::{Insn, encode, slots};
+use limits::{SLOTS, STATE_BYTES};
 use regtypes::ImageForm;
 use std::alloc::Global;
 
@@ -17,12 +18,12 @@ pub fn file(
     code: &[Insn],
     state_len: u16,
 ) -> Result<Vec<u8>, ImageError>
-    requires { state_len ≤ 1024 }
+    requires { state_len ≤ STATE_BYTES }
     ensures written { IfOk result (λ v. IsFile form code.now state_len v.items) }
     ensures refused { IfErr result (IsUnwritten code.now) }
 {
     let count = slots(code);
-    if count == 0 || count > SLOT_LIMIT as usize {
+    if count == 0 || count > SLOTS {
         return Err(ImageError::Header(HeaderFault::SlotCount));
     }
     let header = write_header(form, state_len, count as u16);

@@ -12,14 +12,15 @@ use crate::fault::VerifyError;
 use crate::framing::{Frames, frames_of};
 use crate::image::Image;
 use decode::{Insn, encode};
+use limits::{SLOTS, STATE_BYTES};
 use regtypes::{ImageForm, Rule};
 use std::alloc::Global;
 
 /// The image of these instructions with a state of this length, if they are typable in form 1, in
 /// which a message has 64 bytes.
 pub fn verify(alloc: Global, code: Vec<Insn>, state_len: u16) -> Result<Image, VerifyError>
-    requires slots { length (slots_of code.items) ≤ 1024 }
-    requires state { state_len ≤ 1024 }
+    requires slots { length (slots_of code.items) ≤ SLOTS }
+    requires state { state_len ≤ STATE_BYTES }
     ensures { MatchResult result (λ image. IsImageOf Sbi1 code.items state_len image) (λ why. IsWhy Sbi1 code.items state_len why) }
 {
     verify_form(alloc, code, state_len, ImageForm::Sbi1)
@@ -34,8 +35,8 @@ pub fn verify_form(
     state_len: u16,
     form: ImageForm,
 ) -> Result<Image, VerifyError>
-    requires slots { length (slots_of code.items) ≤ 1024 }
-    requires state { state_len ≤ 1024 }
+    requires slots { length (slots_of code.items) ≤ SLOTS }
+    requires state { state_len ≤ STATE_BYTES }
     ensures { MatchResult result (λ image. IsImageOf form code.items state_len image) (λ why. IsWhy form code.items state_len why) }
 {
     match encode(alloc, &code) {
@@ -52,8 +53,8 @@ pub fn verify_encoded(
     state_len: u16,
     form: ImageForm,
 ) -> Result<Image, VerifyError>
-    requires slots { length (slots_of code.items) ≤ 1024 }
-    requires state { state_len ≤ 1024 }
+    requires slots { length (slots_of code.items) ≤ SLOTS }
+    requires state { state_len ≤ STATE_BYTES }
     requires fits { AllByRecursion Fits code.items }
     requires bytes { bytes.items ≡ encoding code.items }
     ensures { MatchResult result (λ image. IsImageOf form code.items state_len image) (λ why. IsWhy form code.items state_len why) }

@@ -1,6 +1,7 @@
 -- What is left of a text while its lines are read.
 use Rattle.std.specs.Prelude.{◌≡◌, ◌≤◌, ◌+◌, ℕ, ◌++◌, length, List, [], true, false, Option, Some, None, Result, Ok, Err}
 use Rattle.std.specs.Borrow.{Bor}
+use Rattle.limits.specs.declared.TheConstants.{SLOTS}
 use Rattle.decode.specs.Encoding.{Fits}
 use Rattle.decode.specs.Slots.{size_of}
 use Rattle.decode.specs.declared.insn.Insn.{Insn}
@@ -21,7 +22,7 @@ left (Some x) = length x.now + 1
 -- a line gives nothing, or an instruction for which there is room after n slots; or it is refused
 abbrev pub ReadsAfter : ℕ → List ℕ → Result (Option Insn) Rule → Type 0
 ReadsAfter n line (Ok None) = is_silent line ≡ true
-ReadsAfter n line (Ok (Some i)) = (is_silent line ≡ false) × Fits i × (line ≡ line_of i) × (n + size_of i ≤ 1024)
+ReadsAfter n line (Ok (Some i)) = (is_silent line ≡ false) × Fits i × (line ≡ line_of i) × (n + size_of i ≤ SLOTS)
 ReadsAfter n line (Err r) = (is_silent line ≡ false) × LineBreaksFirst n r line
 
 -- the lines that were read

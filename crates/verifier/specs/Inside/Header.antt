@@ -1,6 +1,7 @@
 -- Headers field by field, on the way there.
 use Rattle.std.specs.Prelude.{◌≡◌, ◌<◌, ◌≤◌, ℕ, ◌*◌, ◌^◌, ◌++◌, length, List}
 use Rattle.std.specs.Int.{w16, to_le_bytes}
+use Rattle.limits.specs.declared.TheConstants.{SLOTS, STATE_BYTES}
 use Rattle.regtypes.specs.declared.image_form.ImageForm.{ImageForm}
 use Rattle.verifier.specs.declared.header.FileHeader.{FileHeader}
 use Rattle.verifier.specs.ImageFile.{magic}
@@ -19,7 +20,7 @@ pub record HasHeader (h : FileHeader) (rest bytes : List ℕ) : Type 0 where
 -- a header without a fault
 pub record IsSound (form : ImageForm) (h : FileHeader) (rest : List ℕ) : Type 0 where
   pub magic_is : h.magic ≡ magic form
-  pub state : h.state_len ≤ 1024
+  pub state : h.state_len ≤ STATE_BYTES
   pub some : 0 < h.slots
-  pub short : h.slots ≤ 1024
+  pub short : h.slots ≤ SLOTS
   pub size : length rest ≡ 8 * h.slots

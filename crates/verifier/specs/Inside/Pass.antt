@@ -1,5 +1,6 @@
 -- What the steps of the pass over the slots do.
 use Rattle.std.specs.Prelude.{◌≡◌, ◌≢◌, ℕ, ◌+◌, ◌<◌, ◌≤◌, List, Option, Some, None, length}
+use Rattle.limits.specs.declared.TheConstants.{PAYLOAD_BYTES, REGISTERS}
 use Rattle.decode.specs.declared.insn.Insn.{Insn}
 use Rattle.decode.specs.Slots.{size_of, insn_at}
 use Rattle.regtypes.specs.declared.image_form.ImageForm.{ImageForm}
@@ -17,8 +18,8 @@ pub record Merged (old : Table) (to : ℕ) (f : Frame) (new : Table) : Type 0 wh
   pub other : (s : ℕ) → s ≢ to → frame_at new s ≡ frame_at old s
   pub frame : Frame
   pub there : frame_at new to ≡ Some frame
-  pub whole : length frame.kinds ≡ 11
-  pub short : frame.low ≤ 256
+  pub whole : length frame.kinds ≡ REGISTERS
+  pub short : frame.low ≤ PAYLOAD_BYTES
   pub covers : Leq f frame
   pub keeps : (g : Frame) → frame_at old to ≡ Some g → Leq g frame
   pub least : (k : Frame) → Leq f k → ((g : Frame) → frame_at old to ≡ Some g → Leq g k) → Leq frame k

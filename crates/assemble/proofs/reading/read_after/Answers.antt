@@ -5,8 +5,8 @@ use Rattle.assemble.specs.Text.{is_silent}
 use Rattle.assemble.proofs.Lines.{first_limit, line_once}
 use Rattle.assemble.proofs.reading.read_after.Goals as goal
 
-pub returns-then-slots-gt-MAX_SLOTS : goal.returns-then-slots-gt-MAX_SLOTS
-returns-then-slots-gt-MAX_SLOTS c =
+pub returns-then-slots-gt-SLOTS : goal.returns-then-slots-gt-SLOTS
+returns-then-slots-gt-SLOTS c =
     let found = c.in-Ok.ensures.found in
     let speaks : is_silent c.args.line.now ≡ false = search rules in
     let above : 1024 < c.args.slots + size_of c.in-Ok.insn = search rules in

@@ -9,8 +9,8 @@ returns-then-bytes-lt-HEADER-clause-refused c = too_short c.args.bytes.now (sear
 pub returns-in-None-clause-refused : goal.returns-in-None-clause-refused
 returns-in-None-clause-refused c = starts_broken Magic _ _ _ c.header_at.ensures (stops _ _ _ _ _ c.header_at.ensures (search rules))
 
-pub returns-then-header-gt-STATE_LIMIT-clause-refused : goal.returns-then-header-gt-STATE_LIMIT-clause-refused
-returns-then-header-gt-STATE_LIMIT-clause-refused c =
+pub returns-then-header-clause-refused : goal.returns-then-header-clause-refused
+returns-then-header-clause-refused c =
     starts_broken StateLength _ _ _ c.header_at.ensures
     (passes Magic _ _ _ _ _ c.header_at.ensures (search rules)
     (stops _ _ _ _ _ c.header_at.ensures (search rules)))
