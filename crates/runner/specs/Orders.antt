@@ -1,6 +1,6 @@
 -- What it is to carry out an order of a scenario (docs/FORMATS.md, "Carrying out").
 use Rattle.std.specs.Prelude.{◌≡◌, ◌≤◌, ◌+◌, ◌-◌, ◌^◌, ◌⊎◌, ℕ, List, [], ◌∷◌, ◌++◌, length, replicate, Option, Some, None, slice_index_or, slice_set}
-use Rattle.limits.specs.declared.TheConstants.{PARTIES}
+use Rattle.limits.specs.declared.TheConstants.{ENTRIES, PARTIES}
 use Rattle.verifier.specs.Typed.{Typed}
 use Rattle.replay.specs.Task.{TheTask}
 use Rattle.world.specs.declared.call.Call.{Call}
@@ -8,7 +8,6 @@ use Rattle.world.specs.declared.call.Call.TheVariants as call
 use Rattle.world.specs.declared.answer.Answer.{Answer}
 use Rattle.world.specs.declared.entry.Entry.{Entry}
 use Rattle.world.specs.declared.refusal.Refusal.TheVariants.{StaleJob}
-use Rattle.world.specs.Bounds.{LIMIT}
 use Rattle.world.specs.Fold.{handlers_of}
 use Rattle.world.specs.History.{Payload}
 use Rattle.world.specs.Legal.{WStep, world_of}
@@ -41,7 +40,7 @@ world_at old = world_of (length old.images) (handlers_of old.images) old.entries
 
 -- how many entries the journal still takes
 abbrev pub room_at : Position → ℕ
-room_at old = LIMIT - length old.entries
+room_at old = ENTRIES - length old.entries
 
 -- ---- calls
 

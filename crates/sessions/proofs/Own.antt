@@ -1,13 +1,14 @@
 -- Calls of a worker in a session of one caller
 use Rattle.std.proofs.Common.{◌≡◌, ℕ, ◌+◌, ◌-◌, ◌≤◌, List, [], ◌∷◌, ◌++◌, length, length-append, true, sym, ap, ◌∙◌, subst}
 use Rattle.std.specs.Prelude.{Option, Some, None, Result, Err}
+use Rattle.limits.specs.declared.TheConstants.{ENTRIES}
 use Rattle.replay.specs.Task.{TheTask}
 use Rattle.world.specs.declared.call.Call.{Call}
 use Rattle.world.specs.declared.answer.Answer.{Answer}
 use Rattle.world.specs.declared.entry.Entry.{Entry}
 use Rattle.world.specs.declared.refusal.Refusal.{Refusal}
 use Rattle.world.specs.World.{World}
-use Rattle.world.specs.Bounds.{LIMIT, open_jobs}
+use Rattle.world.specs.Bounds.{open_jobs}
 use Rattle.world.specs.Calls.{after}
 use Rattle.world.specs.Refusals.{refusal_of, cause_of}
 use Rattle.world.specs.Useful.{may_call}
@@ -17,7 +18,7 @@ use Rattle.sessions.specs.Seats.{TheSeat}
 use Rattle.sessions.specs.Journal.{TheSession, entry, answered_more, Adds}
 use Rattle.sessions.specs.Driving.{Starts}
 use Rattle.sessions.specs.Service.{seat_of, OwesAs, Returns}
-use Rattle.sessions.specs.Inside.{IsSession}
+use Rattle.sessions.specs.Fields.{IsSession}
 use Rattle.sessions.proofs.Steps.{Accepts, accepted, here, refused, session, returns-to}
 
 -- what a service of these fields is
@@ -36,14 +37,14 @@ abbrev pub Grows : ℕ → TheMachine → TheMachine → List Entry → List Ent
 Grows worker m m' es entries call answer = Accepts m m' es entries [] (seat_of worker (service m es)) (seat_of worker (service m' entries)) call answer
 
 pub grows : (worker : ℕ) (m m' : TheMachine) (es entries : List Entry) (call : Call) (answer : Answer) → IsSession m es → may_call (here m es) worker call ≡ true
-    → ((w : World) → Stands m w → Steps m m' (LIMIT - length es) call answer w)
-    → entries ≡ es ++ entry worker call answer ∷ [] → m'.calls ≡ m.calls + 1 → length es + 1 + open_jobs (after (here m es) call answer) ≤ LIMIT → Grows worker m m' es entries call answer
+    → ((w : World) → Stands m w → Steps m m' (ENTRIES - length es) call answer w)
+    → entries ≡ es ++ entry worker call answer ∷ [] → m'.calls ≡ m.calls + 1 → length es + 1 + open_jobs (after (here m es) call answer) ≤ ENTRIES → Grows worker m m' es entries call answer
 grows worker m m' es entries call answer s may step is calls room =
     accepted m m' es [] (seat_of worker (service m es)) call answer s may step entries is (seat_of worker (service m' entries)) (answered worker m m' es entries (entry worker call answer) is) calls room
 
 -- a call that is refused changes nothing
 pub stays : (worker : ℕ) (old : TheSession) (m m' : TheMachine) (es entries : List Entry) (call : Call) (refusal : Refusal) (room : ℕ) (r : Result Answer Refusal)
-    → service m es ≡ old → m' ≡ m → entries ≡ es → room ≡ LIMIT - length es → refusal_of (here m es) room call ≡ cause_of refusal → r ≡ Err refusal → OwesAs worker old (service m' entries) call r
+    → service m es ≡ old → m' ≡ m → entries ≡ es → room ≡ ENTRIES - length es → refusal_of (here m es) room call ≡ cause_of refusal → r ≡ Err refusal → OwesAs worker old (service m' entries) call r
 stays worker old m m' es entries call refusal room r view same kept is cause err =
     let back : service m' entries ≡ old = (λ i. service (same i) (kept i)) ∙ view in
     let P : TheSeat → Type 0 = λ seat. Adds old (service m' entries) (seat_of worker old) seat call r in

@@ -1,6 +1,7 @@
 -- What each accepted call of the machine does to the session
 use Rattle.std.proofs.Common.{◌≡◌, ℕ, Bool, ◌||◌, ◌==◌, zero, suc, ◌+◌, ◌-◌, ◌≤◌, List, [], ◌∷◌, ◌++◌, length, length-append, append_assoc, true, false, refl, sym, ap, ◌∙◌, subst, arith}
 use Rattle.std.specs.Prelude.{◌&&◌, Option, Some, None, Result, Ok, Err, option_and_then, unwrap_or}
+use Rattle.limits.specs.declared.TheConstants.{ENTRIES}
 use Rattle.verifier.specs.Typed.{Typed}
 use Rattle.world.specs.declared.call.Call.{Call}
 use Rattle.world.specs.declared.answer.Answer.{Answer}
@@ -9,7 +10,7 @@ use Rattle.world.specs.declared.refusal.Refusal.{Refusal}
 use Rattle.world.specs.declared.refusal.Refusal.TheVariants.{Memory}
 use Rattle.world.specs.Fold.{handlers_of}
 use Rattle.world.specs.World.{World, opening}
-use Rattle.world.specs.Bounds.{LIMIT, count_below, open_jobs}
+use Rattle.world.specs.Bounds.{count_below, open_jobs}
 use Rattle.world.specs.Calls.{after}
 use Rattle.world.specs.Refusals.{refusal_of, cause_of}
 use Rattle.world.specs.Useful.{is_free, is_useful, may_call}
@@ -21,7 +22,7 @@ use Rattle.theorems.specs.Single.{IsSingle}
 use Rattle.theorems.proofs.KeptLemmas.{recovers-exactly}
 use Rattle.sessions.specs.Seats.{TheSeat}
 use Rattle.sessions.specs.Journal.{TheSession, entry, answered_more, Adds, ReturnsTo, is_exact_of, world_at, room_at}
-use Rattle.sessions.specs.Inside.{IsSession}
+use Rattle.sessions.specs.Fields.{IsSession}
 
 -- the world of a session's fields
 abbrev pub here : TheMachine → List Entry → World
@@ -86,24 +87,24 @@ abbrev pub Accepts : TheMachine → TheMachine → List Entry → List Entry →
 Accepts m m' es entries seats by by' call answer =
     IsSession m' entries × Adds (session m es seats) (session m' entries seats) by by' call (Ok answer) × Carries m m' es entries call
 
-module _ (m m' : TheMachine) (es : List Entry) (seats : List (Option TheSeat)) (by : TheSeat) (call : Call) (answer : Answer) (s : IsSession m es) (may : may_call (here m es) by.worker call ≡ true) (step : (w : World) → Stands m w → Steps m m' (LIMIT - length es) call answer w) where
+module _ (m m' : TheMachine) (es : List Entry) (seats : List (Option TheSeat)) (by : TheSeat) (call : Call) (answer : Answer) (s : IsSession m es) (may : may_call (here m es) by.worker call ≡ true) (step : (w : World) → Stands m w → Steps m m' (ENTRIES - length es) call answer w) where
   e : Entry
   e = entry by.worker call answer
 
-  taken : Steps m m' (LIMIT - length es) call answer (here m es)
+  taken : Steps m m' (ENTRIES - length es) call answer (here m es)
   taken = step (here m es) s.leads
 
-  stepped : WStep (LIMIT - length es) (here m es) call answer (here m' (es ++ e ∷ []))
+  stepped : WStep (ENTRIES - length es) (here m es) call answer (here m' (es ++ e ∷ []))
   unfolding e
   stepped = record { accepted = taken.accepted; answered = taken.answered; becomes = rw taken.images (world_after-push (opening (length m.images) (handlers_of m.images)) es e) }
 
-  keeps : m'.calls ≡ m.calls + 1 → length es + 1 + open_jobs (after (here m es) call answer) ≤ LIMIT → IsSession m' (es ++ e ∷ [])
+  keeps : m'.calls ≡ m.calls + 1 → length es + 1 + open_jobs (after (here m es) call answer) ≤ ENTRIES → IsSession m' (es ++ e ∷ [])
   unfolding e
   keeps calls room =
       let push = world_after-push (opening (length m.images) (handlers_of m.images)) es e in
       let len : length (es ++ e ∷ []) ≡ length es + 1 = length-append es (e ∷ []) in
       let P : List Typed → Type 0 = λ images. Stands m' (world_of (length images) (handlers_of images) (es ++ e ∷ [])) in
-      let Q : List Typed → Type 0 = λ images. length (es ++ e ∷ []) + open_jobs (world_of (length images) (handlers_of images) (es ++ e ∷ [])) ≤ LIMIT in
+      let Q : List Typed → Type 0 = λ images. length (es ++ e ∷ []) + open_jobs (world_of (length images) (handlers_of images) (es ++ e ∷ [])) ≤ ENTRIES in
       let leads : Stands m' (here m' (es ++ e ∷ [])) = subst P (sym taken.images) (subst (Stands m') (sym push) taken.stands) in
       record {
         legal = rw taken.images (Legal-push (length m.images) (handlers_of m.images) es e s.legal may (record { accepted = taken.accepted; answered = taken.answered; becomes = refl }));
@@ -120,7 +121,7 @@ module _ (m m' : TheMachine) (es : List Entry) (seats : List (Option TheSeat)) (
 
   -- the session after an accepted call
   pub accepted : (entries : List Entry) → entries ≡ es ++ entry by.worker call answer ∷ [] → (by' : TheSeat) → by' ≡ answered_more 1 by
-      → m'.calls ≡ m.calls + 1 → length es + 1 + open_jobs (after (here m es) call answer) ≤ LIMIT
+      → m'.calls ≡ m.calls + 1 → length es + 1 + open_jobs (after (here m es) call answer) ≤ ENTRIES
       → Accepts m m' es entries seats by by' call answer
   unfolding e
   accepted entries is by' seat calls room =
@@ -133,7 +134,7 @@ told (Some r) = refl
 
 -- a call that the machine refuses changes nothing
 pub refused : (old : TheSession) (m m' : TheMachine) (es entries : List Entry) (seats : List (Option TheSeat)) (by : TheSeat) (call : Call) (refusal : Refusal) (room : ℕ) (r : Result Answer Refusal)
-    → session m es seats ≡ old → m' ≡ m → entries ≡ es → room ≡ LIMIT - length es → refusal_of (here m es) room call ≡ cause_of refusal → r ≡ Err refusal → Adds old (session m' entries seats) by by call r
+    → session m es seats ≡ old → m' ≡ m → entries ≡ es → room ≡ ENTRIES - length es → refusal_of (here m es) room call ≡ cause_of refusal → r ≡ Err refusal → Adds old (session m' entries seats) by by call r
 refused old m m' es entries seats by call refusal room r view same kept is cause err =
     let P : TheSession → Type 0 = λ s. refusal_of (world_at s) (room_at s) call ≡ cause_of refusal in
     let Q : Result Answer Refusal → Type 0 = λ r. Adds old (session m' entries seats) by by call r in

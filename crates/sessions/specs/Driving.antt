@@ -1,5 +1,6 @@
 -- Calls that are picked and made, with the jobs that they start
 use Rattle.std.specs.Prelude.{◌≡◌, ℕ, ◌+◌, ◌-◌, ◌<◌, ◌≤◌, ◌⊎◌, List, [], ◌∷◌, ◌++◌, length, Option, Some, None, Result, Ok, Err}
+use Rattle.limits.specs.declared.TheConstants.{ENTRIES}
 use Rattle.world.specs.declared.call.Call.{Call}
 use Rattle.world.specs.declared.call.Call.TheVariants.{Finish}
 use Rattle.world.specs.declared.answer.Answer.{Answer}
@@ -8,7 +9,6 @@ use Rattle.world.specs.declared.refusal.Refusal.{Refusal}
 use Rattle.world.specs.declared.refusal.Refusal.TheVariants.{Memory}
 use Rattle.world.specs.World.{World}
 use Rattle.world.specs.Calls.{after}
-use Rattle.world.specs.Bounds.{LIMIT}
 use Rattle.replay.specs.Task.{TheTask}
 use Rattle.machine.specs.Arrival.{IsOpen}
 use Rattle.machine.specs.Picking.{IsPick}
@@ -40,7 +40,7 @@ IsQuiet s = (call : Call) → ¬ IsPick (world_at s) (room_at s) call
 
 -- no call could be picked in an empty journal either: nothing is left to do
 abbrev pub IsDone : TheSession → Type 0
-IsDone s = (call : Call) → ¬ IsPick (world_at s) LIMIT call
+IsDone s = (call : Call) → ¬ IsPick (world_at s) ENTRIES call
 
 -- the job of this process was started and is open, or there is none
 abbrev pub Starts : TheSession → Option ℕ → Option TheTask → Type 0

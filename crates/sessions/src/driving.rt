@@ -2,7 +2,6 @@
 
 ghost use Rattle.std.specs.Prelude.{◌≡◌, ℕ, ◌<◌, ◌≤◌, IfErr, IfNone, IfOk, IfSome, None, Option};
 ghost use Rattle.world.specs.declared.refusal.Refusal.TheVariants.{Memory};
-ghost use Rattle.world.specs.Bounds.{LIMIT};
 ghost use Rattle.machine.specs.Picking.{IsPick, IsMove};
 ghost use Rattle.machine.specs.Stepping.{TakesNoResult};
 ghost use Rattle.sessions.specs.Journal.{world_at, room_at};
@@ -32,7 +31,7 @@ impl Service {
     /// `None` only where there is none. Where `pick` has none, only the journal's end is in its way.
     /// Takes no memory.
     pub fn outstanding(&self) -> Option<Call>
-        ensures some { IfSome result (λ call. IsPick (world_at self.now) LIMIT call) }
+        ensures some { IfSome result (λ call. IsPick (world_at self.now) ENTRIES call) }
         ensures none { IfNone result (IsDone self.now) }
         ensures moves { IfSome result IsMove }
     {

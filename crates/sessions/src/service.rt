@@ -31,7 +31,7 @@ pub struct Service {
 impl Model for Service {
     ghost use Rattle.std.specs.Prelude.{◌≡◌, []};
     ghost use Rattle.sessions.specs.Journal.{TheSession, is_exact_of};
-    ghost use Rattle.sessions.specs.Inside.{IsSession};
+    ghost use Rattle.sessions.specs.Fields.{IsSession};
 
     ghost Value = { TheSession };
 

@@ -1,13 +1,13 @@
 -- Every call keeps a world gated
 use Rattle.std.proofs.Common.{◌≡◌, ℕ, zero, suc, ◌+◌, ◌-◌, List, [], ◌∷◌, length, Bool, true, false, refl}
 use Rattle.std.specs.Prelude.{Option, Some, None, nat_lt, nat_le, ◌&&◌, ◌==◌, if◌then◌else◌}
+use Rattle.limits.specs.declared.TheConstants.{ENTRIES}
 use Rattle.world.specs.declared.packet.Packet.{Packet}
 use Rattle.world.specs.declared.packet.Packet.TheVariants.{Delivery, Number, Acknowledgement}
 use Rattle.world.specs.Phases.{Phase, Up, Busy, Down, Replaying, Resync, is_up, is_replaying, without}
 use Rattle.world.specs.Handlers.{Handlers}
 use Rattle.world.specs.World.{World, put, opening}
 use Rattle.world.specs.Logs.{length_of, is_entry}
-use Rattle.world.specs.Bounds.{LIMIT}
 use Rattle.world.specs.Calls.{finish, replay, replay_begin, ready, peers, recover, keep, arrive, after}
 use Rattle.world.specs.Answers.{MayAnswer, Receives, ReceivesIf, ReceivesUp, ReceivesAs, NumbersAs, AcknowledgesAs, Finishes, Verdict, Next, Known, Ahead, judge, target_of}
 use Rattle.world.specs.Refusals.{causes, refusal_of}
@@ -117,7 +117,7 @@ gated-call room w (ResyncWith p r) a free may s h =
 gated-along : (k : ℕ) (w : World) (es : List Entry) → LegalFrom k w es → Sound w → Gated w → Gated (world_after w es)
 gated-along k w [] l s h = h
 gated-along k w (e ∷ es) l s h =
-    gated-along (suc k) (after w e.call e.answer) es l.2 (sound-call (LIMIT - k) w e.call e.answer l.1.accepted l.1.answered s) (gated-call (LIMIT - k) w e.call e.answer l.1.accepted l.1.answered s h)
+    gated-along (suc k) (after w e.call e.answer) es l.2 (sound-call (ENTRIES - k) w e.call e.answer l.1.accepted l.1.answered s) (gated-call (ENTRIES - k) w e.call e.answer l.1.accepted l.1.answered s h)
 
 pub always-gated : (n : ℕ) (f : Handlers) (es : List Entry) → Grows f → Starts f → Legal n f es → Gated (world_of n f es)
 always-gated n f es g t l = gated-along 0 (opening n f) es l (opens-sound n f g) (opens-gated n f t)

@@ -1,8 +1,8 @@
 -- From entry to entry along a journal
 use Rattle.std.proofs.Common.{◌≡◌, ℕ, suc, ◌-◌, List, [], ◌∷◌, ◌++◌, true, refl, sym, subst, arith}
+use Rattle.limits.specs.declared.TheConstants.{ENTRIES}
 use Rattle.world.specs.Handlers.{Handlers}
 use Rattle.world.specs.World.{World, opening}
-use Rattle.world.specs.Bounds.{LIMIT}
 use Rattle.world.specs.Calls.{after}
 use Rattle.world.specs.Legal.{LegalFrom, Legal, world_after, world_of, is_single, all_single}
 use Rattle.world.specs.declared.entry.Entry.{Entry}
@@ -49,7 +49,7 @@ opens-exact n f =
 
 sound-along : (k : ℕ) (w : World) (es : List Entry) → LegalFrom k w es → Sound w → Sound (world_after w es)
 sound-along k w [] l s = s
-sound-along k w (e ∷ es) l s = sound-along (suc k) (after w e.call e.answer) es l.2 (sound-call (LIMIT - k) w e.call e.answer l.1.accepted l.1.answered s)
+sound-along k w (e ∷ es) l s = sound-along (suc k) (after w e.call e.answer) es l.2 (sound-call (ENTRIES - k) w e.call e.answer l.1.accepted l.1.answered s)
 
 pub always-sound : (n : ℕ) (f : Handlers) (es : List Entry) → Grows f → Legal n f es → Sound (world_of n f es)
 always-sound n f es g l = sound-along 0 (opening n f) es l (opens-sound n f g)
@@ -61,8 +61,8 @@ preserves-along k w (e ∷ es) l one s h = last (both (is_single w e.call) (all_
     last : (is_single w e.call ≡ true) × (all_single (after w e.call e.answer) es ≡ true) → (all_single (after w e.call e.answer) es ≡ true → Sound (after w e.call e.answer) → Exact (after w e.call e.answer) → Preserves (after w e.call e.answer) (world_after (after w e.call e.answer) es))
         → Preserves w (world_after (after w e.call e.answer) es)
     last t rest =
-        let s' : Sound (after w e.call e.answer) = sound-call (LIMIT - k) w e.call e.answer l.1.accepted l.1.answered s in
-        let g : Preserves w (after w e.call e.answer) = preserves-call (LIMIT - k) w e.call e.answer l.1.accepted l.1.answered t.0 s h in
+        let s' : Sound (after w e.call e.answer) = sound-call (ENTRIES - k) w e.call e.answer l.1.accepted l.1.answered s in
+        let g : Preserves w (after w e.call e.answer) = preserves-call (ENTRIES - k) w e.call e.answer l.1.accepted l.1.answered t.0 s h in
         let r : Preserves (after w e.call e.answer) (world_after (after w e.call e.answer) es) = rest t.1 s' g.exact in
         record { carries = carries-trans g.carries r.carries; exact = r.exact }
 

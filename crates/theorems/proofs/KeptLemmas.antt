@@ -2,6 +2,7 @@
 use Rattle.std.proofs.Common.{◌≡◌, ℕ, zero, suc, ◌+◌, ◌-◌, ◌<◌, ◌≤◌, List, ◌∷◌, ◌++◌, length, take, Bool, true, false, refl, sym, ap, ◌∙◌, subst, arith}
 use Rattle.std.specs.Prelude.{Option, Some, None, nat_lt, nat_le}
 use Rattle.std.proofs.lemmas.Bool.Decides.{nat_tests}
+use Rattle.limits.specs.declared.TheConstants.{ENTRIES}
 use Rattle.world.specs.declared.message.Message.{Message}
 use Rattle.world.specs.Phases.{is_down}
 use Rattle.world.specs.Handlers.{Handlers}
@@ -19,7 +20,6 @@ use Rattle.theorems.specs.Kept.{IsKept, HasKept, KeptIsOne}
 use Rattle.theorems.specs.Growth.{Grows}
 use Rattle.theorems.specs.Recovery.{RecoversKept, RunIsKept, StateIsKept, replayed, ReplaysBack, RecoversExactly, recovery}
 use Rattle.theorems.specs.Single.{IsSingle}
-use Rattle.world.specs.Bounds.{LIMIT}
 use Rattle.world.specs.Refusals.{causes}
 use Rattle.world.specs.declared.call.Call.TheVariants.{Recover}
 use Rattle.world.specs.declared.answer.Answer.TheVariants.{Kept}
@@ -130,7 +130,7 @@ replays-back n f es more worker p k i same returning =
     let l = legal-append 0 (opening n f) es (recovery worker p k ∷ more) i.legal in
     let here : LegalFrom l.1.0 v (recovery worker p k ∷ more) = l.1.1 in
     let before : Sound v = sound-single n f es (single-before n f es (recovery worker p k ∷ more) i) in
-    let opened : Sound (recover v p k false) = sound-call (LIMIT - l.1.0) v (Recover p) (Kept k) here.1.accepted here.1.answered before in
+    let opened : Sound (recover v p k false) = sound-call (ENTRIES - l.1.0) v (Recover p) (Kept k) here.1.accepted here.1.answered before in
     let along = back-along p (v.saved p) k 0 (suc l.1.0) (recover v p k false) more here.2 returning opened (back-opens v p k false here.1.answered.0 here.1.answered.1) in
     let P : World → Type 0 = λ u. Back u p (v.saved p) k (0 + c) × Sound u in
     let last : P w = subst P (sym (world_after-append (opening n f) es (recovery worker p k ∷ more))) along in
@@ -158,7 +158,7 @@ recovers-exactly n f es more worker p k i =
     let l = legal-append 0 (opening n f) es rest i.legal in
     let here : LegalFrom l.1.0 v (recovery worker p k ∷ more) = l.1.1 in
     let kept : IsKept v p k = (recovers-kept n f es before p k here.1.answered).kept in
-    let x = clear (causes v (LIMIT - l.1.0) (Recover p)) here.1.accepted in
+    let x = clear (causes v (ENTRIES - l.1.0) (Recover p)) here.1.accepted in
     let down : is_down (v.phase p) ≡ true = not-false _ x.1.1.0 in
     let secured : Secured v p k = kept-secured v (sound-single n f es before) (always-exact n f es before) p k down kept in
     let c : Carries v (world_of n f (es ++ recovery worker p k ∷ more)) = secured-always n f es rest i in

@@ -2,6 +2,7 @@
 use Rattle.std.proofs.Common.{◌≡◌, ◌⊎◌, inl, inr, ℕ, zero, suc, ◌+◌, ◌-◌, ◌≤◌, List, [], ◌∷◌, ◌++◌, length, Bool, true, false, refl, sym, ap, ◌∙◌, subst, arith, length-append}
 use Rattle.std.specs.Prelude.{Option, Some, None, nat_lt, nat_le, not, ◌&&◌, ◌==◌, if◌then◌else◌}
 use Rattle.std.proofs.lemmas.Bool.Decides.{nat_tests}
+use Rattle.limits.specs.declared.TheConstants.{ENTRIES}
 use Rattle.world.specs.declared.message.Message.{Message}
 use Rattle.world.specs.declared.packet.Packet.{Packet}
 use Rattle.world.specs.declared.packet.Packet.TheVariants.{Delivery, Number, Acknowledgement}
@@ -10,7 +11,6 @@ use Rattle.world.specs.Phases.{Phase, Up, Busy, Down, Replaying, Resync, is_up, 
 use Rattle.world.specs.Handlers.{Handlers}
 use Rattle.world.specs.World.{World, put, opening, is_inside}
 use Rattle.world.specs.Logs.{length_of, is_entry, sent}
-use Rattle.world.specs.Bounds.{LIMIT}
 use Rattle.world.specs.Plan.{message_of}
 use Rattle.world.specs.Calls.{delivery, number_for, duplicate, recorded, note, commit, replay, finish, arrive, ready, peers, up_to, keep, recover, told, resync, crash, after}
 use Rattle.world.specs.Answers.{MayAnswer, Receives, ReceivesIf, ReceivesUp, ReceivesAs, NumbersAs, AcknowledgesAs, Finishes, Verdict, Next, Known, Ahead, judge, target_of}
@@ -252,7 +252,7 @@ bounded-call room w (ResyncWith p r) a free may s h =
 bounded-along : (k : ℕ) (w : World) (es : List Entry) → LegalFrom k w es → Sound w → Bounded w → Bounded (world_after w es)
 bounded-along k w [] l s h = h
 bounded-along k w (e ∷ es) l s h =
-    bounded-along (suc k) (after w e.call e.answer) es l.2 (sound-call (LIMIT - k) w e.call e.answer l.1.accepted l.1.answered s) (bounded-call (LIMIT - k) w e.call e.answer l.1.accepted l.1.answered s h)
+    bounded-along (suc k) (after w e.call e.answer) es l.2 (sound-call (ENTRIES - k) w e.call e.answer l.1.accepted l.1.answered s) (bounded-call (ENTRIES - k) w e.call e.answer l.1.accepted l.1.answered s h)
 
 pub always-bounded : (n : ℕ) (f : Handlers) (es : List Entry) → Grows f → Legal n f es → Bounded (world_of n f es)
 always-bounded n f es g l = bounded-along 0 (opening n f) es l (opens-sound n f g) (opens-bounded n f)

@@ -2,13 +2,13 @@
 use Rattle.std.proofs.Common.{◌≡◌, ◌≢◌, ℕ, zero, suc, ◌+◌, ◌-◌, ◌<◌, ◌≤◌, List, [], ◌∷◌, ◌++◌, length, Bool, true, false, refl, sym, ap, ◌∙◌, subst, arith}
 use Rattle.std.specs.Prelude.{Option, Some, None, nat_lt, ◌&&◌, ◌==◌, if◌then◌else◌}
 use Rattle.std.proofs.lemmas.Bool.Decides.{nat_tests}
+use Rattle.limits.specs.declared.TheConstants.{ENTRIES}
 use Rattle.world.specs.declared.message.Message.{Message}
 use Rattle.world.specs.declared.packet.Packet.{Packet}
 use Rattle.world.specs.declared.packet.Packet.TheVariants.{Delivery, Number, Acknowledgement}
 use Rattle.world.specs.Phases.{Phase, Up, Busy, Down, Replaying, Resync, is_up, without}
 use Rattle.world.specs.World.{World, put}
 use Rattle.world.specs.Logs.{length_in, length_of, is_entry}
-use Rattle.world.specs.Bounds.{LIMIT}
 use Rattle.world.specs.Calls.{with_open_job, phase_with, ready, peers, keep, recover, replay, finish, arrive, after}
 use Rattle.world.specs.Answers.{MayAnswer, Receives, ReceivesIf, ReceivesUp, ReceivesAs, NumbersAs, AcknowledgesAs, Finishes, Verdict, Next, Known, Ahead, judge, target_of}
 use Rattle.world.specs.Refusals.{causes, refusal_of, is_to_busy}
@@ -226,8 +226,8 @@ module _ (p from k c : ℕ) where
 pub back-along : (p from k c i : ℕ) (w : World) (es : List Entry) → LegalFrom i w es → IsReturning p es → Sound w → Back w p from k c → Back (world_after w es) p from k (c + replayed p es) × Sound (world_after w es)
 back-along p from k c i w [] l r s h = let none : c + 0 ≡ c = omega arith in (rw none h, s)
 back-along p from k c i w (e ∷ es) l r s h =
-    more (is_replayed p e.call e.answer) (back-call p from k c (LIMIT - i) w e.call e.answer l.1.accepted l.1.answered r.0 s h)
-    (λ n. back-along p from k n (suc i) (after w e.call e.answer) es l.2 r.1 (sound-call (LIMIT - i) w e.call e.answer l.1.accepted l.1.answered s))
+    more (is_replayed p e.call e.answer) (back-call p from k c (ENTRIES - i) w e.call e.answer l.1.accepted l.1.answered r.0 s h)
+    (λ n. back-along p from k n (suc i) (after w e.call e.answer) es l.2 r.1 (sound-call (ENTRIES - i) w e.call e.answer l.1.accepted l.1.answered s))
   where
     more : (b : Bool) → Back (after w e.call e.answer) p from k (if b then suc c else c)
         → ((n : ℕ) → Back (after w e.call e.answer) p from k n → Back (world_after (after w e.call e.answer) es) p from k (n + replayed p es) × Sound (world_after (after w e.call e.answer) es))

@@ -1,6 +1,7 @@
 -- Every call keeps a world tidy
 use Rattle.std.proofs.Common.{◌≡◌, ℕ, zero, suc, ◌+◌, ◌-◌, ◌<◌, ◌≤◌, List, [], ◌∷◌, length, Bool, true, false, refl, arith}
 use Rattle.std.specs.Prelude.{Option, Some, None, nat_lt, nat_le, ◌&&◌, ◌==◌, if◌then◌else◌}
+use Rattle.limits.specs.declared.TheConstants.{ENTRIES}
 use Rattle.world.specs.declared.packet.Packet.{Packet}
 use Rattle.world.specs.declared.packet.Packet.TheVariants.{Delivery, Number, Acknowledgement}
 use Rattle.world.specs.Phases.{Phase, Up, Busy, Down, Replaying, Resync, is_up, is_replaying}
@@ -23,7 +24,6 @@ use Rattle.world.specs.Calls.{begin, replay, ready, peers, recover, keep, resync
 use Rattle.world.specs.Phases.{without}
 use Rattle.world.specs.World.{put, opening}
 use Rattle.world.specs.Logs.{sent}
-use Rattle.world.specs.Bounds.{LIMIT}
 use Rattle.world.specs.Handlers.{Handlers}
 use Rattle.world.specs.Legal.{LegalFrom, Legal, world_after, world_of}
 use Rattle.world.specs.declared.entry.Entry.{Entry}
@@ -163,7 +163,7 @@ tidy-call room w (ResyncWith p r) a free may s h =
 tidy-along : (k : ℕ) (w : World) (es : List Entry) → LegalFrom k w es → Sound w → Tidy w → Tidy (world_after w es)
 tidy-along k w [] l s h = h
 tidy-along k w (e ∷ es) l s h =
-    tidy-along (suc k) (after w e.call e.answer) es l.2 (sound-call (LIMIT - k) w e.call e.answer l.1.accepted l.1.answered s) (tidy-call (LIMIT - k) w e.call e.answer l.1.accepted l.1.answered s h)
+    tidy-along (suc k) (after w e.call e.answer) es l.2 (sound-call (ENTRIES - k) w e.call e.answer l.1.accepted l.1.answered s) (tidy-call (ENTRIES - k) w e.call e.answer l.1.accepted l.1.answered s h)
 
 pub always-tidy : (n : ℕ) (f : Handlers) (es : List Entry) → Grows f → Legal n f es → Tidy (world_of n f es)
 always-tidy n f es g l = tidy-along 0 (opening n f) es l (opens-sound n f g) (opens-tidy n f)

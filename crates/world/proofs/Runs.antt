@@ -1,6 +1,7 @@
 -- A journal that is one entry longer, and what no call changes
 use Rattle.std.proofs.Common.{◌≡◌, ℕ, suc, ◌+◌, ◌-◌, List, [], ◌∷◌, ◌++◌, length, Bool, true, false, refl, ◌∙◌, arith}
 use Rattle.std.specs.Prelude.{Option, Some, None, if◌then◌else◌}
+use Rattle.limits.specs.declared.TheConstants.{ENTRIES}
 use Rattle.world.specs.declared.packet.Packet.{Packet}
 use Rattle.world.specs.declared.packet.Packet.TheVariants.{Delivery, Number, Acknowledgement}
 use Rattle.world.specs.declared.call.Call.{Call}
@@ -11,7 +12,6 @@ use Rattle.world.specs.declared.entry.Entry.{Entry}
 use Rattle.world.specs.Handlers.{Handlers}
 use Rattle.world.specs.Phases.{Phase, Busy, Replaying}
 use Rattle.world.specs.World.{World, opening}
-use Rattle.world.specs.Bounds.{LIMIT}
 use Rattle.world.specs.Calls.{after, arrive, finish}
 use Rattle.world.specs.Useful.{may_call}
 use Rattle.world.specs.Legal.{WStep, LegalFrom, Legal, world_after, world_of}
@@ -24,14 +24,14 @@ pub world_after-push : (w : World) (es : List Entry) (e : Entry) → world_after
 world_after-push w es e = world_after-append w es (e ∷ [])
 
 LegalFrom-push : (k : ℕ) (w : World) (es : List Entry) (e : Entry) → LegalFrom k w es → may_call (world_after w es) e.worker e.call ≡ true
-    → WStep (LIMIT - (k + length es)) (world_after w es) e.call e.answer (after (world_after w es) e.call e.answer) → LegalFrom k w (es ++ e ∷ [])
+    → WStep (ENTRIES - (k + length es)) (world_after w es) e.call e.answer (after (world_after w es) e.call e.answer) → LegalFrom k w (es ++ e ∷ [])
 LegalFrom-push k w [] e h may step = (may, (let e0 : k + 0 ≡ k = omega arith in rw e0 at step), tt)
 LegalFrom-push k w (x ∷ es) e h may step =
     (h.0, h.1, LegalFrom-push (suc k) (after w x.call x.answer) es e h.2 may (let e1 : k + suc (length es) ≡ suc k + length es = omega arith in rw e1 at step))
 
 -- a legal journal with one more step is legal
 pub Legal-push : (n : ℕ) (f : Handlers) (es : List Entry) (e : Entry) → Legal n f es → may_call (world_of n f es) e.worker e.call ≡ true
-    → WStep (LIMIT - length es) (world_of n f es) e.call e.answer (after (world_of n f es) e.call e.answer) → Legal n f (es ++ e ∷ [])
+    → WStep (ENTRIES - length es) (world_of n f es) e.call e.answer (after (world_of n f es) e.call e.answer) → Legal n f (es ++ e ∷ [])
 Legal-push n f es e h may step = LegalFrom-push 0 (opening n f) es e h may (let e0 : 0 + length es ≡ length es = omega arith in rw (← e0) at step)
 
 -- as many processes, with the same handlers

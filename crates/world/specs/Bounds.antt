@@ -1,15 +1,12 @@
 -- How much a session holds at most, and what counts towards it
 use Rattle.std.specs.Prelude.{ℕ, suc, zero, ◌+◌, Option, Some, None, Bool, true, false, not, ◌||◌, nat_lt, if◌then◌else◌}
+use Rattle.limits.specs.declared.TheConstants.{PACKETS}
 use Rattle.world.specs.Phases.{is_working, is_busy}
 use Rattle.world.specs.World.{World}
 
--- the most entries of a journal, those of the jobs that are open among them
-abbrev pub LIMIT : ℕ
-LIMIT = 65536
-
 -- the most packets on the wire, those of the live jobs that are open among them. Keys are below it
 unfoldable pub WIRE : ℕ
-WIRE = 4096
+WIRE = PACKETS
 
 -- how many of 0, 1, .. below k pass the test
 abbrev pub count_below : (ℕ → Bool) → ℕ → ℕ

@@ -1,12 +1,12 @@
 -- Journals whose calls and answers are a run of the world
 use Rattle.std.specs.Prelude.{◌≡◌, ℕ, suc, ◌-◌, List, [], ◌∷◌, None, Bool, true, false, ◌&&◌}
+use Rattle.limits.specs.declared.TheConstants.{ENTRIES}
 use Rattle.world.specs.declared.call.Call.{Call}
 use Rattle.world.specs.declared.call.Call.TheVariants.{Crash, RecoverAlone}
 use Rattle.world.specs.declared.answer.Answer.{Answer}
 use Rattle.world.specs.declared.entry.Entry.{Entry}
 use Rattle.world.specs.Handlers.{Handlers}
 use Rattle.world.specs.World.{World, opening}
-use Rattle.world.specs.Bounds.{LIMIT}
 use Rattle.world.specs.Calls.{after}
 use Rattle.world.specs.Answers.{MayAnswer}
 use Rattle.world.specs.Refusals.{refusal_of, others_up}
@@ -26,7 +26,7 @@ world_after w (e ∷ es) = world_after (after w e.call e.answer) es
 -- the entries are steps from this world on, in a journal that has k entries before them
 abbrev pub LegalFrom : ℕ → World → List Entry → Type 0
 LegalFrom k w [] = Unit {0}
-LegalFrom k w (e ∷ es) = (may_call w e.worker e.call ≡ true) × WStep (LIMIT - k) w e.call e.answer (after w e.call e.answer) × LegalFrom (suc k) (after w e.call e.answer) es
+LegalFrom k w (e ∷ es) = (may_call w e.worker e.call ≡ true) × WStep (ENTRIES - k) w e.call e.answer (after w e.call e.answer) × LegalFrom (suc k) (after w e.call e.answer) es
 
 -- a journal of n processes with these handlers
 abbrev pub Legal : ℕ → Handlers → List Entry → Type 0

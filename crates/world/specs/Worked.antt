@@ -1,5 +1,6 @@
 -- Lists of calls worked out by hand
 use Rattle.std.specs.Prelude.{◌≡◌, ℕ, ◌-◌, List, [], ◌∷◌, ◌++◌, Some, None, true, false, take, if◌then◌else◌, ◌==◌}
+use Rattle.limits.specs.declared.TheConstants.{ENTRIES}
 use Rattle.world.specs.declared.message.Message.{Message}
 use Rattle.world.specs.declared.packet.Packet.TheVariants.{Number}
 use Rattle.world.specs.declared.call.Call.{Call}
@@ -11,7 +12,6 @@ use Rattle.world.specs.Handlers.{Handlers}
 use Rattle.world.specs.Phases.{Up}
 use Rattle.world.specs.Logs.{length_of, state_of}
 use Rattle.world.specs.World.{opening}
-use Rattle.world.specs.Bounds.{LIMIT}
 use Rattle.world.specs.Refusals.{refusal_of}
 use Rattle.world.specs.Useful.{is_useful}
 use Rattle.world.specs.Legal.{Legal, world_of, all_single}
@@ -67,9 +67,9 @@ abbrev pub TwoCrashesAreLegal : Type 0
 TwoCrashesAreLegal =
     (g : ℕ → List Message → List ℕ) →
     Legal 2 (silent g) two_crashes
-    × (refusal_of (world_of 2 (silent g) (take 1 two_crashes)) (LIMIT - 1) (Recover 2) ≡ Some 8)
-    × (refusal_of (world_of 2 (silent g) (take 2 two_crashes)) (LIMIT - 2) (Recover 1) ≡ Some 8)
-    × (refusal_of (world_of 2 (silent g) (take 4 two_crashes ++ by_nobody (Crash 1) (Crashed 3) ∷ [])) (LIMIT - 5) (ResyncWith 2 1) ≡ Some 8)
+    × (refusal_of (world_of 2 (silent g) (take 1 two_crashes)) (ENTRIES - 1) (Recover 2) ≡ Some 8)
+    × (refusal_of (world_of 2 (silent g) (take 2 two_crashes)) (ENTRIES - 2) (Recover 1) ≡ Some 8)
+    × (refusal_of (world_of 2 (silent g) (take 4 two_crashes ++ by_nobody (Crash 1) (Crashed 3) ∷ [])) (ENTRIES - 5) (ResyncWith 2 1) ≡ Some 8)
     × ((world_of 2 (silent g) two_crashes).phase 1 ≡ Up)
     × ((world_of 2 (silent g) two_crashes).phase 2 ≡ Up)
     × (all_single (opening 2 (silent g)) (take 1 two_crashes) ≡ true)
@@ -90,7 +90,7 @@ abbrev pub LostJobIsLegal : Type 0
 LostJobIsLegal =
     (g : ℕ → List Message → List ℕ) (x : List ℕ) →
     Legal 1 (silent g) (lost_job x)
-    × (refusal_of (world_of 1 (silent g) (take 4 (lost_job x))) (LIMIT - 4) (Finish 1) ≡ Some 9)
+    × (refusal_of (world_of 1 (silent g) (take 4 (lost_job x))) (ENTRIES - 4) (Finish 1) ≡ Some 9)
     × ((world_of 1 (silent g) (lost_job x)).phase 1 ≡ Up)
     × (state_of (world_of 1 (silent g) (lost_job x)) 1 ≡ g 1 [])
     × (all_single (opening 1 (silent g)) (lost_job x) ≡ true)
@@ -139,7 +139,7 @@ abbrev pub ReplayedMessageIsKept : Type 0
 ReplayedMessageIsKept =
     (g : ℕ → List Message → List ℕ) (x : List ℕ) →
     Legal 1 (silent g) (replayed_message x)
-    × (refusal_of (world_of 1 (silent g) (take 9 (replayed_message x))) (LIMIT - 9) (ReplayBegin 1) ≡ Some 3)
+    × (refusal_of (world_of 1 (silent g) (take 9 (replayed_message x))) (ENTRIES - 9) (ReplayBegin 1) ≡ Some 3)
     × ((world_of 1 (silent g) (replayed_message x)).phase 1 ≡ Up)
     × (state_of (world_of 1 (silent g) (replayed_message x)) 1 ≡ g 1 (first_input x ∷ []))
     × (all_single (opening 1 (silent g)) (replayed_message x) ≡ true)
@@ -216,7 +216,7 @@ FirstRunIsReleased =
     Legal 2 (relaying 2 g) (out_of_order x)
     × ((world_of 2 (relaying 2 g) (take 14 (out_of_order x))).released 1 2 ≡ 0)
     × ((world_of 2 (relaying 2 g) (out_of_order x)).released 1 2 ≡ 2)
-    × (refusal_of (world_of 2 (relaying 2 g) (out_of_order x)) (LIMIT - 16) (Transmit 1 2 3) ≡ Some 6)
+    × (refusal_of (world_of 2 (relaying 2 g) (out_of_order x)) (ENTRIES - 16) (Transmit 1 2 3) ≡ Some 6)
 
 -- a copy of a number arrives after its receiver crashed and came back
 abbrev pub old_number : List ℕ → List Entry

@@ -1,7 +1,7 @@
 use Rattle.std.specs.Prelude.{Err}
 use Rattle.std.proofs.Common.{◌≡◌, ◌-◌, ◌++◌, ◌∷◌, [], length, arith, refl, ap, subst, ◌∙◌}
 use Rattle.std.proofs.lemmas.Result.{err_from_is_err_and}
-use Rattle.world.specs.Bounds.{LIMIT}
+use Rattle.limits.specs.declared.TheConstants.{ENTRIES}
 use Rattle.world.specs.Legal.{is_single}
 use Rattle.machine.specs.Simulation.{answering}
 use Rattle.machine.specs.Stepping.{answer_in, job_of}
@@ -22,11 +22,11 @@ done c =
     let call = c.args.call.now in
     let answer = c.in_ok-reply.reply.answer in
     let w = here m es in
-    let room_is : c.room-room.result ≡ LIMIT - length es = c.room-room.ensures.value in
+    let room_is : c.room-room.result ≡ ENTRIES - length es = c.room-room.ensures.value in
     let step = rw room_is at c.in_ok-reply.ensures.step in
     let items : c.append.new.self.entries ≡ es ++ entry c.args.worker call answer ∷ [] = c.append.ensures ∙ ap (λ xs. xs ++ entry c.args.worker call answer ∷ []) c.reserve.ensures.entries in
     let taken = step w c.self.invariant.0.leads in
-    let place = room-of w (LIMIT - length es) call answer c.requires.result taken.accepted taken.answered in
+    let place = room-of w (ENTRIES - length es) call answer c.requires.result taken.accepted taken.answered in
     let may = ap (λ (v : TheSession). may_call (world_at v) c.args.worker call) c.self.view_is ∙ c.requires.may in
     grows c.args.worker m c.step.new.self es c.append.new.self.entries call answer c.self.invariant.0 may step items c.in_ok-reply.ensures.calls (omega (arith, place, c.self.invariant.0.room))
 

@@ -1,8 +1,8 @@
 use Rattle.std.proofs.Common.{◌≡◌, ◌-◌, ◌++◌, ◌∷◌, [], length, arith, refl, sym, ap, ◌∙◌, subst, true≢false}
+use Rattle.limits.specs.declared.TheConstants.{ENTRIES}
 use Rattle.replay.specs.Task.{TheTask}
 use Rattle.world.specs.declared.call.Call.TheVariants.{Finish}
 use Rattle.world.specs.World.{World}
-use Rattle.world.specs.Bounds.{LIMIT}
 use Rattle.machine.specs.Simulation.{Stands, Steps}
 use Rattle.machine.specs.Jobs.{Matches}
 use Rattle.machine.specs.Arrival.{IsOpen, finished_of}
@@ -35,7 +35,7 @@ done c =
     let call = Finish t.who.me in
     let answer = finished_of c.in_ok-finished.finished in
     let w = here m es in
-    let step : (w : World) → Stands m w → Steps m c.finish.new.self (LIMIT - length es) call answer w =
+    let step : (w : World) → Stands m w → Steps m c.finish.new.self (ENTRIES - length es) call answer w =
     λ w s. let st = (c.in_ok-finished.ensures.step w s).1 in record { images = st.images; accepted = st.accepted; answered = st.answered; stands = st.stands } in
     let process : c.process-process.result ≡ t.who.me = c.process-process.ensures ∙ ap (λ (z : TheTask). z.who.me) c.task-2.ensures in
     let items : c.append.new.self.entries ≡ es ++ entry c.args.worker call answer ∷ [] =

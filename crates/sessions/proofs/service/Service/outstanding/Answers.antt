@@ -1,6 +1,6 @@
 use Rattle.std.proofs.Common.{subst}
 use Rattle.std.specs.Prelude.{IfNone, IfSome}
-use Rattle.world.specs.Bounds.{LIMIT}
+use Rattle.limits.specs.declared.TheConstants.{ENTRIES}
 use Rattle.machine.specs.Picking.{IsPick}
 use Rattle.machine.proofs.Picks.{if_none, if_some}
 use Rattle.sessions.specs.Journal.{TheSession, world_at}
@@ -12,7 +12,7 @@ pub returns-clause-some : goal.returns-clause-some
 returns-clause-some c =
     let m = c.self.inside.machine in
     let es = c.self.inside.journal.entries in
-    let P : TheSession → Type 0 = λ s. IfSome c.pick.result (λ call. IsPick (world_at s) LIMIT call) in
+    let P : TheSession → Type 0 = λ s. IfSome c.pick.result (λ call. IsPick (world_at s) ENTRIES call) in
     subst P c.self.view_is (if_some c.pick.result (λ call k. k (here m es) c.self.invariant.0.leads) c.pick.ensures.some)
 
 pub returns-clause-none : goal.returns-clause-none

@@ -1,6 +1,6 @@
 use Rattle.std.proofs.Common.{◌≡◌, ◌-◌, length, subst}
 use Rattle.std.specs.Prelude.{IfNone, IfSome}
-use Rattle.world.specs.Bounds.{LIMIT}
+use Rattle.limits.specs.declared.TheConstants.{ENTRIES}
 use Rattle.machine.specs.Picking.{IsPick}
 use Rattle.machine.proofs.Picks.{if_none, if_some}
 use Rattle.sessions.specs.Journal.{TheSession, world_at, room_at}
@@ -13,7 +13,7 @@ pub returns-clause-some : goal.returns-clause-some
 returns-clause-some c =
     let m = c.self.inside.machine in
     let es = c.self.inside.journal.entries in
-    let room : c.room.result ≡ LIMIT - length es = c.room.ensures.value in
+    let room : c.room.result ≡ ENTRIES - length es = c.room.ensures.value in
     let P : TheSession → Type 0 = λ s. IfSome c.pick.result (λ call. IsPick (world_at s) (room_at s) call) in
     subst P c.self.view_is (if_some c.pick.result (λ call k. subst (λ r. IsPick (here m es) r call) room (k (here m es) c.self.invariant.0.leads)) c.pick.ensures.some)
 
@@ -21,7 +21,7 @@ pub returns-clause-none : goal.returns-clause-none
 returns-clause-none c =
     let m = c.self.inside.machine in
     let es = c.self.inside.journal.entries in
-    let room : c.room.result ≡ LIMIT - length es = c.room.ensures.value in
+    let room : c.room.result ≡ ENTRIES - length es = c.room.ensures.value in
     let P : TheSession → Type 0 = λ s. IfNone c.pick.result (IsQuiet s) in
     subst P c.self.view_is (if_none c.pick.result (λ none call. subst (λ r. ¬ IsPick (here m es) r call) room (none (here m es) c.self.invariant.0.leads call)) c.pick.ensures.none)
 
