@@ -13,7 +13,7 @@ use Rattle.world.specs.Fold.{handlers_of, emitted_to, seen}
 use Rattle.world.specs.World.{World}
 use Rattle.world.proofs.FoldLemmas.{handlers_of-push, sends-push}
 use Rattle.machine.specs.Outbox.{TheOutbox, Gives}
-use Rattle.machine.specs.Inside.{IsLogOf}
+use Rattle.machine.specs.Fields.{IsLogOf}
 use Rattle.machine.specs.Process.{TheProcess}
 use Rattle.machine.specs.Simulation.{TheMachine, Keeps, Shows, Stands, process_at}
 use Rattle.machine.specs.Jobs.{Matches}

@@ -19,7 +19,7 @@ use Rattle.world.specs.Logs.{length_in, payloads, sent, sent_in_all, run_of, run
 use Rattle.world.specs.Refusals.{refusal_of}
 use Rattle.theorems.proofs.RunLemmas.{run_to-whole, run_to-is}
 use Rattle.machine.specs.Process.{TheProcess, received, all_acknowledged, IsSaved}
-use Rattle.machine.specs.Inside.{IsSoundAt}
+use Rattle.machine.specs.Fields.{IsSoundAt}
 use Rattle.machine.specs.Stable.{Saves}
 use Rattle.machine.specs.Stage.{is_live, is_lost, held_by, MayWork}
 use Rattle.machine.specs.Simulation.{TheMachine, Stands, StandsAt, Steps, Keeps, Holds, process_at, log_at, gate_at, is_up_at, sent_by}

@@ -34,7 +34,7 @@ use Rattle.machine.specs.Stage.{is_live, is_lost, held_by, phase_of, IsNextAfter
 use Rattle.machine.specs.declared.stage.Stage.{Stage}
 use Rattle.machine.specs.declared.stage.Stage.TheVariants as stages
 use Rattle.machine.specs.Wire.{Puts}
-use Rattle.machine.specs.Inside.{IsLogOf}
+use Rattle.machine.specs.Fields.{IsLogOf}
 use Rattle.machine.specs.Simulation.{TheMachine, StandsAt, Keeps, Holds, Shows, Stands, Steps, process_at, log_at, gate_at, is_up_at, sent_by}
 use Rattle.machine.specs.Jobs.{Matches}
 use Rattle.machine.specs.Arrival.{IsOpen}

@@ -14,7 +14,7 @@ use Rattle.world.specs.World.{World, put}
 use Rattle.world.specs.Refusals.{refusal_of}
 use Rattle.machine.specs.Process.{TheProcess, crashed}
 use Rattle.machine.specs.Outbox.{TheOutbox, empty_outbox}
-use Rattle.machine.specs.Inside.{IsSoundAt}
+use Rattle.machine.specs.Fields.{IsSoundAt}
 use Rattle.machine.specs.Simulation.{TheMachine, Stands, StandsAt, Steps, process_at}
 use Rattle.machine.proofs.Standing.{at_process}
 use Rattle.machine.proofs.Steps.{step}

@@ -21,7 +21,7 @@ use Rattle.machine.specs.Stage.{is_live, is_lost, IsInPlan, IsNextIn}
 use Rattle.machine.specs.declared.stage.Stage.{Stage}
 use Rattle.machine.specs.declared.stage.Stage.TheVariants as stages
 use Rattle.machine.specs.Outbox.{Gives}
-use Rattle.machine.specs.Inside.{view_of, IsLogOf, IsSound, IsSoundAt}
+use Rattle.machine.specs.Fields.{view_of, IsLogOf, IsSound, IsSoundAt}
 use Rattle.machine.specs.Jobs.{Matches}
 use Rattle.machine.specs.Recovering.{MaySettle}
 use Rattle.machine.specs.Simulation.{TheMachine, process_at, is_up_at}

@@ -14,7 +14,7 @@ use Rattle.world.specs.Calls.{up_to as kept_to}
 use Rattle.machine.specs.Process.{TheProcess, idle_process, unnumbered_at}
 use Rattle.machine.specs.Outbox.{TheOutbox, empty_outbox, with_messages}
 use Rattle.machine.specs.Outside.{TheOutside}
-use Rattle.machine.specs.Inside.{IsLogOf, IsSoundAt}
+use Rattle.machine.specs.Fields.{IsLogOf, IsSoundAt}
 use Rattle.machine.specs.Recovering.{forgotten}
 use Rattle.machine.specs.Simulation.{TheMachine, Keeps, process_at, log_at, gate_at}
 use Rattle.machine.proofs.StableLemmas.{at-map, at-replicate}

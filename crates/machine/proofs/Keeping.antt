@@ -6,7 +6,7 @@ use Rattle.limits.specs.declared.TheConstants.{ENTRIES, PACKETS}
 use Rattle.world.specs.declared.packet.Packet.{Packet}
 use Rattle.machine.specs.Process.{TheProcess}
 use Rattle.machine.specs.Wire.{Puts}
-use Rattle.machine.specs.Inside.{IsCarried, AreCarried, IsSoundAt, IsSound}
+use Rattle.machine.specs.Fields.{IsCarried, AreCarried, IsSoundAt, IsSound}
 use Rattle.machine.specs.declared.machine.Machine.TheInside.{Inside}
 
 -- a packet, if there is one, is one that n processes may have on the wire

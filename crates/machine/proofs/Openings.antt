@@ -27,7 +27,7 @@ use Rattle.machine.specs.Process.{TheProcess, idle_process}
 use Rattle.machine.specs.Outside.{empty_outside}
 use Rattle.machine.specs.Stable.{Saves, idle_saved}
 use Rattle.machine.specs.Simulation.{TheMachine, StandsAt, Keeps, Holds, Shows, Stands}
-use Rattle.machine.specs.Inside.{IsSoundAt, IsLogOf}
+use Rattle.machine.specs.Fields.{IsSoundAt, IsLogOf}
 use Rattle.machine.specs.Opening.{AreIdle}
 
 idle-split : (n : ℕ) (images : List Typed) (i : Typed) (ps : List TheProcess) → AreIdle n images ps → (p : ℕ) (d : TheProcess) (e : Typed) → p < suc (length images) → (b : Bool) → nat_lt p (length images) ≡ b

@@ -25,7 +25,7 @@ use Rattle.machine.specs.Stable.{Saves}
 use Rattle.machine.specs.Stage.{is_live, is_lost, held_by, phase_of, MayWork, Replays, IsInPlan}
 use Rattle.machine.specs.declared.stage.Stage.{Stage}
 use Rattle.machine.specs.declared.stage.Stage.TheVariants as stages
-use Rattle.machine.specs.Inside.{IsLogOf}
+use Rattle.machine.specs.Fields.{IsLogOf}
 use Rattle.machine.specs.Recovering.{SettlesAt}
 use Rattle.machine.specs.Simulation.{TheMachine, StandsAt, Keeps, Shows, Stands, Steps, process_at, log_at, gate_at, is_up_at}
 use Rattle.machine.specs.Jobs.{Matches}

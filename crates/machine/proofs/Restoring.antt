@@ -16,7 +16,7 @@ use Rattle.machine.specs.Recovering.{MaySettle, forgotten}
 use Rattle.machine.specs.Simulation.{TheMachine, process_at}
 use Rattle.machine.specs.Stage.{is_lost}
 use Rattle.machine.specs.Outside.{TheOutside}
-use Rattle.machine.specs.Inside.{view_of, AreCarried, IsLogOf, IsSoundAt, IsSound}
+use Rattle.machine.specs.Fields.{view_of, AreCarried, IsLogOf, IsSoundAt, IsSound}
 use Rattle.machine.specs.declared.machine.Machine.TheInside.{Inside}
 use Rattle.machine.proofs.Keeping.{later}
 use Rattle.machine.proofs.Forgetting.{forgot, forgotten-at, forgotten-width, inputs-forgot, log-forgot, processes-forgot}

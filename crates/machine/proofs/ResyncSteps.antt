@@ -27,7 +27,7 @@ use Rattle.machine.specs.Stage.{is_live, is_lost, held_by, phase_of, is_to_do, M
 use Rattle.machine.specs.declared.stage.Stage.{Stage}
 use Rattle.machine.specs.declared.stage.Stage.TheVariants as stages
 use Rattle.machine.specs.declared.stage.Peers.{Peers}
-use Rattle.machine.specs.Inside.{IsLogOf}
+use Rattle.machine.specs.Fields.{IsLogOf}
 use Rattle.machine.specs.Replaying.{ArePeersLeft}
 use Rattle.machine.specs.Simulation.{TheMachine, StandsAt, Keeps, Shows, Stands, Steps, process_at, log_at, is_up_at}
 use Rattle.machine.proofs.ReceiptLemmas.{senders, length-numbers, rsn_from-numbers}

@@ -33,7 +33,7 @@ use Rattle.machine.specs.declared.stage.Stage.TheVariants as stages
 use Rattle.machine.specs.Process.{TheProcess, idle_process, restored}
 use Rattle.machine.specs.Recovering.{SettlesAt, forgotten, logs_of, recovery_of}
 use Rattle.machine.specs.Outbox.{TheOutbox}
-use Rattle.machine.specs.Inside.{IsLogOf}
+use Rattle.machine.specs.Fields.{IsLogOf}
 use Rattle.machine.specs.Simulation.{TheMachine, StandsAt, Keeps, Shows, Stands, Steps, process_at, log_at, is_up_at}
 use Rattle.machine.proofs.ReceiptLemmas.{senders, InOrderFrom-each}
 use Rattle.machine.proofs.StableLemmas.{at-replicate, queue-at}

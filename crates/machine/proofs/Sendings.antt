@@ -19,7 +19,7 @@ use Rattle.world.specs.Calls.{input, delivery}
 use Rattle.world.specs.Refusals.{refusal_of}
 use Rattle.machine.specs.Outside.{TheOutside, is_taken, Takes}
 use Rattle.machine.specs.Wire.{Puts}
-use Rattle.machine.specs.Inside.{IsSound}
+use Rattle.machine.specs.Fields.{IsSound}
 use Rattle.machine.specs.declared.machine.Machine.TheInside.{Inside}
 use Rattle.machine.specs.Simulation.{TheMachine, Keeps, Shows, Stands, Steps, log_at, is_up_at}
 use Rattle.machine.proofs.Standing.{wire-is, down_at, payload_at, last_at}

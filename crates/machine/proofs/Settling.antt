@@ -21,7 +21,7 @@ use Rattle.machine.specs.declared.stage.Stage.TheVariants as stages
 use Rattle.machine.specs.declared.stage.Peers.{Peers}
 use Rattle.machine.specs.Outbox.{TheOutbox, Opens}
 use Rattle.machine.specs.Process.{TheProcess, Settles, received}
-use Rattle.machine.specs.Inside.{IsLogOf, IsSoundAt}
+use Rattle.machine.specs.Fields.{IsLogOf, IsSoundAt}
 use Rattle.machine.specs.Recovering.{ArePeersOf}
 use Rattle.machine.specs.Simulation.{TheMachine, Keeps, Holds, log_at, is_up_at}
 use Rattle.machine.proofs.ReceiptLemmas.{senders}

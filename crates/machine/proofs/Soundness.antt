@@ -10,7 +10,7 @@ use Rattle.machine.specs.Stage.{IsNextFor, IsInPlan}
 use Rattle.machine.specs.declared.stage.Stage.{Stage}
 use Rattle.machine.specs.declared.stage.Stage.TheVariants as stages
 use Rattle.machine.specs.Outbox.{TheOutbox}
-use Rattle.machine.specs.Inside.{IsSoundAt, IsLogOf, IsSound}
+use Rattle.machine.specs.Fields.{IsSoundAt, IsLogOf, IsSound}
 use Rattle.machine.specs.declared.machine.Machine.TheInside.{Inside}
 use Rattle.machine.proofs.Updates.{set-is}
 use Rattle.machine.proofs.Keeping.{later}

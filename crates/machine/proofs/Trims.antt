@@ -17,7 +17,7 @@ use Rattle.world.specs.Calls.{trim, trimmed as trimmed_in, dropped}
 use Rattle.theorems.specs.Invariants.Sound.{Sound}
 use Rattle.world.specs.Refusals.{refusal_of}
 use Rattle.machine.specs.Process.{TheProcess, idle_process, trimmed_at}
-use Rattle.machine.specs.Inside.{IsSoundAt}
+use Rattle.machine.specs.Fields.{IsSoundAt}
 use Rattle.machine.specs.Queue.{IsRest}
 use Rattle.machine.specs.Saving.{covered_at, drops, dropped_by, dropped_to, trimmed_log, trimmed_to, without_covered}
 use Rattle.machine.specs.Simulation.{TheMachine, Shows, Stands, StandsAt, Steps, Keeps, process_at, log_at, is_up_at}

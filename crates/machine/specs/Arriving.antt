@@ -13,7 +13,7 @@ use Rattle.world.specs.History.{rsn_of}
 use Rattle.world.specs.World.{World}
 use Rattle.world.specs.Answers.{Next, Known, Ahead, judge, target_of}
 use Rattle.world.specs.Refusals.{refusal_of}
-use Rattle.machine.specs.Inside.{IsCarried}
+use Rattle.machine.specs.Fields.{IsCarried}
 use Rattle.machine.specs.Wire.{Puts}
 use Rattle.machine.specs.Simulation.{TheMachine, Stands, process_at, log_at, is_up_at}
 

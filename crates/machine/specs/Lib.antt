@@ -11,7 +11,7 @@ pub mod Outside
 pub mod Wire
 pub mod Receipts
 pub mod Simulation
-pub mod Inside
+pub mod Fields
 pub mod Opening
 pub mod Jobs
 pub mod Arrival

@@ -7,7 +7,7 @@ ghost use Rattle.sender_log.specs.declared.error.LogError.TheVariants.{NotLogged
 ghost use Rattle.world.specs.World.{World};
 ghost use Rattle.world.specs.Answers.{target_of};
 ghost use Rattle.world.specs.Refusals.{refusal_of, cause_of, is_to_busy, starts, one_if};
-ghost use Rattle.machine.specs.Inside.{IsCarried};
+ghost use Rattle.machine.specs.Fields.{IsCarried};
 ghost use Rattle.machine.specs.Simulation.{Stands, Simulates, answering, log_at, is_up_at, IsTold};
 ghost use Rattle.machine.specs.Arrival.{answer_of, IsJobFor, IsJobOf};
 ghost use Rattle.machine.specs.Arriving.{IsJudged, IsNumbered, MayArrive, Drops, Records, IsNumber, IsAcknowledgement};

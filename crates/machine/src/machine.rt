@@ -42,7 +42,7 @@ impl Model for Machine {
 
     ghost Value = { TheMachine };
 
-    ghost use Rattle.machine.specs.Inside.{view_of, IsSound};
+    ghost use Rattle.machine.specs.Fields.{view_of, IsSound};
 
     ghost view = { view_of };
 

@@ -6,7 +6,7 @@ ghost use Rattle.world.specs.World.{World};
 ghost use Rattle.world.specs.Bounds.{WIRE, any_below};
 ghost use Rattle.world.specs.Refusals.{refusal_of};
 ghost use Rattle.world.specs.Useful.{belongs, is_unacknowledged, is_useful, wants, works_on};
-ghost use Rattle.machine.specs.Inside.{IsCarried};
+ghost use Rattle.machine.specs.Fields.{IsCarried};
 ghost use Rattle.machine.specs.Simulation.{Stands, process_at, is_up_at};
 ghost use Rattle.machine.specs.Stage.{phase_of};
 ghost use Rattle.machine.specs.declared.stage.Stage.TheVariants.{Live};

@@ -7,7 +7,7 @@ use Rattle.world.specs.declared.call.Call.TheVariants.{Arrive}
 use Rattle.world.specs.declared.answer.Answer.TheVariants.{Unreachable}
 use Rattle.world.specs.Answers.{target_of}
 use Rattle.machine.specs.Arriving.{MayArrive}
-use Rattle.machine.specs.Inside.{IsCarried}
+use Rattle.machine.specs.Fields.{IsCarried}
 use Rattle.machine.specs.Wire.{Puts}
 use Rattle.machine.specs.Simulation.{TheMachine, Steps, is_up_at}
 use Rattle.machine.proofs.Arrivals.{unreachable}

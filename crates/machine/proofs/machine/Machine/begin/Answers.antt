@@ -8,7 +8,7 @@ use Rattle.helpers.specs.declared.effects.Who.{Who}
 use Rattle.verifier.specs.Typed.{Typed}
 use Rattle.machine.specs.Process.{TheProcess, idle_process}
 use Rattle.machine.specs.Simulation.{TheMachine, process_at}
-use Rattle.machine.specs.Inside.{view_of, AreCarried, IsLogOf, IsSoundAt}
+use Rattle.machine.specs.Fields.{view_of, AreCarried, IsLogOf, IsSoundAt}
 use Rattle.machine.specs.Stage.{is_lost, IsNextFor}
 use Rattle.machine.proofs.Soundness.{sound_at, sound-begun, sound-set}
 use Rattle.machine.proofs.machine.Machine.begin.Goals as goal

@@ -10,7 +10,7 @@ use Rattle.checkpoint.specs.Saved.{TheSaved, Fits, log_again}
 use Rattle.replay.specs.Plan.{IsPlan, found}
 use Rattle.world.specs.declared.answer.Answer.TheVariants.{Kept}
 use Rattle.machine.specs.Process.{TheProcess, idle_process, restored}
-use Rattle.machine.specs.Inside.{view_of, IsLogOf}
+use Rattle.machine.specs.Fields.{view_of, IsLogOf}
 use Rattle.machine.specs.Recovering.{SettlesAt, forgotten, logs_of, recovery_of}
 use Rattle.machine.specs.Simulation.{TheMachine, Steps, process_at}
 use Rattle.machine.proofs.Soundness.{sound_at, some-of}

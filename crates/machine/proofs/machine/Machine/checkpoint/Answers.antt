@@ -9,7 +9,7 @@ use Rattle.world.specs.declared.call.Call.TheVariants.{Checkpoint}
 use Rattle.world.specs.declared.answer.Answer.TheVariants.{Saved}
 use Rattle.machine.specs.Process.{TheProcess, idle_process, received, IsSaved}
 use Rattle.machine.specs.Stage.{is_live, is_lost}
-use Rattle.machine.specs.Inside.{view_of, AreCarried, IsLogOf, IsSoundAt}
+use Rattle.machine.specs.Fields.{view_of, AreCarried, IsLogOf, IsSoundAt}
 use Rattle.machine.specs.Simulation.{TheMachine, Steps, process_at, is_up_at}
 use Rattle.machine.proofs.Standing.{is_live-at, live-lost}
 use Rattle.machine.proofs.Checkpoints.{checkpoint-step, saved-sound}

@@ -15,7 +15,7 @@ use Rattle.machine.specs.Process.{TheProcess, idle_process, received, HasSent, C
 use Rattle.machine.specs.Stage.{is_live}
 use Rattle.machine.specs.Wire.{Puts}
 use Rattle.machine.specs.Simulation.{TheMachine, Stands, Steps, process_at}
-use Rattle.machine.specs.Inside.{AreCarried, IsLogOf, IsSoundAt}
+use Rattle.machine.specs.Fields.{AreCarried, IsLogOf, IsSoundAt}
 use Rattle.machine.specs.Arrival.{IsOpen}
 use Rattle.machine.proofs.Standing.{is_live-at}
 use Rattle.machine.proofs.JobLemmas.{opens}

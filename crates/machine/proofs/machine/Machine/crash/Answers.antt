@@ -11,7 +11,7 @@ use Rattle.world.specs.World.{World}
 use Rattle.world.specs.Refusals.{refusal_of}
 use Rattle.machine.specs.Process.{TheProcess, idle_process, crashed}
 use Rattle.machine.specs.Outbox.{TheOutbox, empty_outbox}
-use Rattle.machine.specs.Inside.{view_of, AreCarried, IsLogOf, IsSoundAt}
+use Rattle.machine.specs.Fields.{view_of, AreCarried, IsLogOf, IsSoundAt}
 use Rattle.machine.specs.Simulation.{TheMachine, Stands, Steps, process_at}
 use Rattle.machine.proofs.Crashes.{crash-step, crashed-sound}
 use Rattle.machine.proofs.Soundness.{sound_at, sound-set, some-of}

@@ -4,7 +4,7 @@ use Rattle.std.proofs.lemmas.Grind.{common_steps}
 use Rattle.std.proofs.lemmas.List.{length-set}
 use Rattle.verifier.specs.Typed.{Typed}
 use Rattle.machine.specs.Process.{trimmed_at}
-use Rattle.machine.specs.Inside.{AreCarried, IsLogOf, IsSoundAt}
+use Rattle.machine.specs.Fields.{AreCarried, IsLogOf, IsSoundAt}
 use Rattle.machine.specs.Simulation.{TheMachine}
 use Rattle.machine.proofs.Trims.{trimmed-sound}
 use Rattle.machine.proofs.Soundness.{sound_at, sound-put}

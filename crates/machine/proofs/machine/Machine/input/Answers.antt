@@ -9,7 +9,7 @@ use Rattle.world.specs.World.{World}
 use Rattle.world.specs.Refusals.{refusal_of}
 use Rattle.machine.specs.Outside.{Takes}
 use Rattle.machine.specs.Simulation.{TheMachine, Stands}
-use Rattle.machine.specs.Inside.{view_of}
+use Rattle.machine.specs.Fields.{view_of}
 use Rattle.machine.proofs.Sendings.{logged, sound-input}
 use Rattle.machine.proofs.machine.Machine.input.Goals as goal
 use Rattle.machine.proofs.machine.Machine.input.Goals.{In_ok-ssn}

@@ -6,7 +6,7 @@ use Rattle.world.specs.declared.answer.Answer.TheVariants.{Numbered, Stale}
 use Rattle.world.specs.Answers.{target_of}
 use Rattle.machine.specs.Process.{TheProcess}
 use Rattle.machine.specs.Wire.{Puts}
-use Rattle.machine.specs.Inside.{IsCarried}
+use Rattle.machine.specs.Fields.{IsCarried}
 use Rattle.machine.specs.Arriving.{Drops}
 use Rattle.machine.specs.Simulation.{TheMachine, Steps, process_at, is_up_at}
 use Rattle.machine.proofs.Arrivals.{number-past, number-unlogged, noted, records-else}

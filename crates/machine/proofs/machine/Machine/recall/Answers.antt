@@ -9,7 +9,7 @@ use Rattle.replay.specs.Plan.{ThePlan}
 use Rattle.machine.specs.Process.{TheProcess, received, Recalls}
 use Rattle.machine.specs.Stage.{is_replayed}
 use Rattle.machine.specs.Recovering.{SettlesAt}
-use Rattle.machine.specs.Inside.{view_of}
+use Rattle.machine.specs.Fields.{view_of}
 use Rattle.machine.specs.Simulation.{TheMachine, Steps, process_at}
 use Rattle.machine.proofs.JobLemmas.{opens}
 use Rattle.machine.proofs.Restoring.{count-sound}

@@ -10,7 +10,7 @@ use Rattle.world.specs.declared.answer.Answer.TheVariants.{Started, Duplicate, E
 use Rattle.world.specs.World.{World}
 use Rattle.machine.specs.Process.{TheProcess}
 use Rattle.machine.specs.Wire.{Puts}
-use Rattle.machine.specs.Inside.{view_of}
+use Rattle.machine.specs.Fields.{view_of}
 use Rattle.machine.specs.Arrival.{IsOpen}
 use Rattle.machine.specs.Simulation.{TheMachine, Stands, Steps, process_at}
 use Rattle.machine.proofs.Arrivals.{early, started, again}

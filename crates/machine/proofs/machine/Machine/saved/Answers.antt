@@ -6,7 +6,7 @@ use Rattle.checkpoint.specs.declared.form.Form.TheVariants.{Second}
 use Rattle.checkpoint.specs.Format.{IsCheckpoint}
 use Rattle.checkpoint.specs.Saved.{TheSaved}
 use Rattle.machine.specs.Process.{TheProcess, idle_process}
-use Rattle.machine.specs.Inside.{view_of}
+use Rattle.machine.specs.Fields.{view_of}
 use Rattle.machine.specs.Stable.{Saves}
 use Rattle.machine.specs.Simulation.{TheMachine, process_at}
 use Rattle.machine.proofs.Standing.{at_process}

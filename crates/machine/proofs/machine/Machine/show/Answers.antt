@@ -7,7 +7,7 @@ use Rattle.world.specs.declared.call.Call.TheVariants.{Arrive}
 use Rattle.world.specs.declared.answer.Answer.TheVariants.{Shown, ShownBefore, Early}
 use Rattle.machine.specs.Outside.{TheOutside}
 use Rattle.machine.specs.Wire.{Puts}
-use Rattle.machine.specs.Inside.{view_of, IsLogOf}
+use Rattle.machine.specs.Fields.{view_of, IsLogOf}
 use Rattle.machine.specs.Simulation.{TheMachine, Steps}
 use Rattle.machine.proofs.Arrivals.{early, shown, shown_before}
 use Rattle.machine.proofs.Keeping.{later, carried-put, keys-gone}
