@@ -6,6 +6,7 @@ ghost use Rattle.std.specs.List.{All};
 ghost use Rattle.send_gate.specs.Gate.{count_to};
 
 use checkpoint::{Saved, Stored, decode, encode, migrate, there_and_back};
+use limits::{PARTIES, SENDS};
 use replay::{collect, collect_from, resync};
 use rsn::{Judgement, Receipts};
 use send_gate::Gate;
@@ -20,7 +21,7 @@ const MOST_RECEIVED: u32 = 65_536;
 
 /// So many messages of one sender, under the numbers from 1.
 fn received(alloc: Global, sender: u8, count: u32) -> Result<Receipts, Fail>
-    requires { sender < 16 }
+    requires { sender < PARTIES }
 {
     let mut receipts = Receipts::new(alloc, &[])?;
     for place in 0..count {
@@ -88,7 +89,7 @@ fn a_log_keeps_524_288_messages(rt: HostRuntime) -> Result<(), Fail> {
 /// Holds one send more to process 2, of the first message.
 fn hold_one(gate: &mut Gate) -> Result<(), Fail>
     requires order { All (λ h. h.rsn ≤ 1) gate.old.waiting }
-    requires room { slice_index_or gate.old.released 2 0 + count_to 2 gate.old.waiting < 524288 }
+    requires room { slice_index_or gate.old.released 2 0 + count_to 2 gate.old.waiting < SENDS }
     ensures order { All (λ h. h.rsn ≤ 1) gate.new.waiting }
     ensures count { slice_index_or gate.new.released 2 0 + count_to 2 gate.new.waiting ≤ slice_index_or gate.old.released 2 0 + count_to 2 gate.old.waiting + 1 }
 {

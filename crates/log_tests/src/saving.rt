@@ -1,6 +1,7 @@
 ghost use Rattle.std.specs.Prelude.{◌≤◌, length};
 
 use checkpoint::{Saved, SavedError, Stored, decode, encode, migrate, there_and_back};
+use limits::PAYLOAD_BYTES;
 use rsn::Receipts;
 use sender_log::Log;
 use std::alloc::Global;
@@ -65,7 +66,7 @@ fn first_relay_bytes(alloc: Global) -> Result<Vec<u8>, Fail> {
 
 /// The checkpoint of process 1 of 2 that keeps one payload for process 2.
 fn with_payload(alloc: Global, payload: &[u8]) -> Result<Vec<u8>, Fail>
-    requires { length payload.now ≤ 256 }
+    requires { length payload.now ≤ PAYLOAD_BYTES }
 {
     let receipts = Receipts::new(alloc, &[0])?;
     let mut log = Log::new(alloc, 1, 2)?;

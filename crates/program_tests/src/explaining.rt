@@ -4,6 +4,7 @@ mod images;
 
 use assemble::assemble;
 use explain::explain;
+use limits::STATE_BYTES;
 use regtypes::ImageForm;
 use std::alloc::Global;
 use std::test::Fail;
@@ -250,7 +251,7 @@ static CASES: [(ImageForm, u16, &str, &str); 17] = [
 
 /// The listing of the image file of a source.
 fn explained(alloc: Global, form: ImageForm, state: u16, source: &str) -> Result<String, Fail>
-    requires { state ≤ 1024 }
+    requires { state ≤ STATE_BYTES }
 {
     let code = assemble(alloc, source)?;
     let bytes = file(alloc, form, &code, state)?;
@@ -261,7 +262,7 @@ fn explained(alloc: Global, form: ImageForm, state: u16, source: &str) -> Result
 #[test]
 fn listings(rt: HostRuntime) -> Result<(), Fail> {
     for (form, state, source, want) in CASES {
-        if state <= 1024 {
+        if state <= STATE_BYTES as u16 {
             let text = explained(rt.alloc(), form, state, source)?;
             assert!(rt; text.as_str() == want, "{source}{text}");
         }

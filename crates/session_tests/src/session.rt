@@ -13,6 +13,7 @@ mod script;
 
 use crashing::Course;
 use helpers::Payload;
+use limits::SEATS;
 use replay::Done;
 use script::Step;
 use sessions::{Finished, Seat, Session};
@@ -97,7 +98,7 @@ fn images(alloc: Global, cast: Cast) -> Result<Vec<Arc<Image>>, Fail> {
 /// Processes with these images, each waiting for its first message.
 fn open<L: Ledger>(alloc: Global, blank: Blank, images: Vec<Arc<Image>>) -> Result<Stage<L>, Fail>
     requires name { blank.name ≡ L.name }
-    requires parts { (blank.parts ≡ L.parts) × (blank.parts ≡ 17) }
+    requires parts { (blank.parts ≡ L.parts) × (blank.parts ≡ SEATS) }
 {
     let mut session = Session::open(alloc, blank, images)?;
     let Some(seat) = session.sit(0) else {
@@ -129,7 +130,7 @@ fn play_in<L: Ledger>(
     scene: Scene,
 ) -> Result<(), Fail>
     requires name { blank.name ≡ L.name }
-    requires parts { (blank.parts ≡ L.parts) × (blank.parts ≡ 17) }
+    requires parts { (blank.parts ≡ L.parts) × (blank.parts ≡ SEATS) }
 {
     let stage: Stage<L> = open(alloc, blank, images)?;
     match scene {
@@ -146,7 +147,7 @@ fn play(rt: &impl Abort, alloc: Global, count: usize, scene: Scene) -> Result<()
     play_in::<Brand>(
         rt,
         alloc,
-        Blank::new(17),
+        Blank::new(SEATS as u64),
         images(alloc, Cast::Adders(count))?,
         scene,
     )
@@ -159,7 +160,7 @@ fn follow_in<L: Ledger>(
     script: &[Step],
 ) -> Result<Option<usize>, Fail>
     requires name { blank.name ≡ L.name }
-    requires parts { (blank.parts ≡ L.parts) × (blank.parts ≡ 17) }
+    requires parts { (blank.parts ≡ L.parts) × (blank.parts ≡ SEATS) }
 {
     let mut stage: Stage<L> = open(alloc, blank, images(alloc, cast)?)?;
     Ok(stage.first_wrong(script))
@@ -168,7 +169,7 @@ fn follow_in<L: Ledger>(
 /// Follows each script in a session of its own.
 fn follow(rt: &impl Abort, alloc: Global, scripts: &[(Cast, &[Step])]) -> Result<(), Fail> {
     for (place, (cast, script)) in scripts.iter().enumerate() {
-        let wrong = follow_in::<Brand>(alloc, Blank::new(17), *cast, *script)?;
+        let wrong = follow_in::<Brand>(alloc, Blank::new(SEATS as u64), *cast, *script)?;
         assert_eq!(rt; wrong, None, "script {place}");
     }
     Ok(())
@@ -182,7 +183,7 @@ fn survives_in<L: Ledger>(
     failure: &[Step],
 ) -> Result<bool, Fail>
     requires name { blank.name ≡ L.name }
-    requires parts { (blank.parts ≡ L.parts) × (blank.parts ≡ 17) }
+    requires parts { (blank.parts ≡ L.parts) × (blank.parts ≡ SEATS) }
 {
     let mut stage: Stage<L> = open(alloc, blank, images(alloc, course.cast)?)?;
     Ok(stage.survives(course, after, failure))
@@ -192,7 +193,13 @@ fn survives_in<L: Ledger>(
 fn survive(rt: &impl Abort, alloc: Global, course: &Course) -> Result<(), Fail> {
     for failure in course.failures {
         for after in 0..=course.calls.len() {
-            let is_right = survives_in::<Brand>(alloc, Blank::new(17), course, after, *failure)?;
+            let is_right = survives_in::<Brand>(
+                alloc,
+                Blank::new(SEATS as u64),
+                course,
+                after,
+                *failure,
+            )?;
             assert!(rt; is_right, "after {after} calls");
         }
     }
@@ -408,7 +415,7 @@ fn result_elsewhere<L: Ledger>(
     words: [(u8, u8); 2],
 ) -> Result<Option<Done>, Fail>
     requires name { blank.name ≡ L.name }
-    requires parts { (blank.parts ≡ L.parts) × (blank.parts ≡ 17) }
+    requires parts { (blank.parts ≡ L.parts) × (blank.parts ≡ SEATS) }
 {
     let mut other: Stage<L> = open(alloc, blank, images(alloc, Cast::Adders(count))?)?;
     Ok(other.result_of(words))
@@ -431,12 +438,12 @@ fn results<L: Ledger>(rt: &impl Abort, alloc: Global, stage: Stage<L>) -> Result
     let mut stage = stage;
     let ours = stage.result_of(WORDS);
     for (count, words) in OTHERS {
-        let theirs = result_elsewhere::<Brand>(alloc, Blank::new(17), count, words)?;
+        let theirs = result_elsewhere::<Brand>(alloc, Blank::new(SEATS as u64), count, words)?;
         assert_eq!(rt; stage.finish(theirs), (0, 0, 9));
     }
     assert_eq!(rt; stage.entries(), 7);
     // One that is the same in all parts is taken, and then its like is stale.
-    let theirs = result_elsewhere::<Brand>(alloc, Blank::new(17), 2, WORDS)?;
+    let theirs = result_elsewhere::<Brand>(alloc, Blank::new(SEATS as u64), 2, WORDS)?;
     assert_eq!(rt; stage.finish(theirs), (2, 1, 0));
     assert_eq!(rt; stage.finish(ours), (0, 0, 9));
     assert!(rt; stage.is_at(1, PhaseName::Up, 2, 12));
@@ -499,7 +506,7 @@ fn seats<L: Ledger>(rt: &impl Abort, stage: Stage<L>) -> Result<(), Fail> {
 /// The number that so many images are refused with, or 0.
 fn opening<L: Ledger>(alloc: Global, blank: Blank, count: usize) -> Result<u8, Fail>
     requires name { blank.name ≡ L.name }
-    requires parts { (blank.parts ≡ L.parts) × (blank.parts ≡ 17) }
+    requires parts { (blank.parts ≡ L.parts) × (blank.parts ≡ SEATS) }
 {
     let images = images(alloc, Cast::Adders(count))?;
     let session: Result<Session<L>, Refusal> = Session::open(alloc, blank, images);
@@ -507,7 +514,7 @@ fn opening<L: Ledger>(alloc: Global, blank: Blank, count: usize) -> Result<u8, F
 }
 
 fn opened(alloc: Global, count: usize) -> Result<u8, Fail> {
-    opening::<Brand>(alloc, Blank::new(17), count)
+    opening::<Brand>(alloc, Blank::new(SEATS as u64), count)
 }
 
 #[test]

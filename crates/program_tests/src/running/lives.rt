@@ -3,6 +3,7 @@
 ghost use Rattle.std.specs.Prelude.{◌≤◌};
 
 use super::{ADDER, image};
+use limits::WORKERS;
 use runner::live;
 use scenario::{Allowed, parse};
 use std::alloc::Global;
@@ -17,7 +18,7 @@ fn lived<R: Threads + Wait + Sync>(
     text: &str,
     workers: u8,
 ) -> Result<String, Fail>
-    requires { (1 ≤ workers) × (workers ≤ 16) }
+    requires { (1 ≤ workers) × (workers ≤ WORKERS) }
 {
     let scenario = parse(alloc, text, Allowed::Inputs)?;
     let mut images = Vec::new(alloc);

@@ -5,6 +5,7 @@ ghost use Rattle.std.specs.Prelude.{◌≡◌};
 use super::script::{Act, Step};
 use super::{ADDER, Cast, Stage, follow, open};
 use helpers::Payload;
+use limits::SEATS;
 use std::alloc::Global;
 use std::marker::Brand;
 use std::process::Abort;
@@ -101,7 +102,7 @@ fn fanned_in<L: Ledger>(
     images: Vec<Arc<Image>>,
 ) -> Result<(), Fail>
     requires name { blank.name ≡ L.name }
-    requires parts { (blank.parts ≡ L.parts) × (blank.parts ≡ 17) }
+    requires parts { (blank.parts ≡ L.parts) × (blank.parts ≡ SEATS) }
 {
     let mut stage: Stage<L> = open(alloc, blank, images)?;
     let payload = Payload::from_slice(&[9; 256]);
@@ -121,7 +122,7 @@ fn fanned_in<L: Ledger>(
 
 /// The same in a session of its own.
 fn fanned(rt: &impl Abort, alloc: Global) -> Result<(), Fail> {
-    fanned_in::<Brand>(rt, alloc, Blank::new(17), fan_and_adder(alloc)?)
+    fanned_in::<Brand>(rt, alloc, Blank::new(SEATS as u64), fan_and_adder(alloc)?)
 }
 
 /// The fan is saved, and its outputs, which were shown, are dropped from its log.

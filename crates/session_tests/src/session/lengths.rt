@@ -4,6 +4,7 @@ ghost use Rattle.std.specs.Prelude.{◌≡◌};
 
 use super::{ECHO, Stage, open};
 use helpers::Payload;
+use limits::SEATS;
 use std::alloc::Global;
 use std::marker::Brand;
 use std::process::Abort;
@@ -34,7 +35,7 @@ fn shown_in<L: Ledger>(
     messages: [Payload; 2],
 ) -> Result<[Payload; 2], Fail>
     requires name { blank.name ≡ L.name }
-    requires parts { (blank.parts ≡ L.parts) × (blank.parts ≡ 17) }
+    requires parts { (blank.parts ≡ L.parts) × (blank.parts ≡ SEATS) }
 {
     let mut images = Vec::new(alloc);
     images.push(Arc::new(alloc, load(alloc, image)?)?)?;
@@ -59,7 +60,7 @@ fn shown(
     image: &[u8],
     messages: [Payload; 2],
 ) -> Result<[Payload; 2], Fail> {
-    shown_in::<Brand>(rt, alloc, Blank::new(17), image, messages)
+    shown_in::<Brand>(rt, alloc, Blank::new(SEATS as u64), image, messages)
 }
 
 #[test]

@@ -5,6 +5,7 @@ ghost use Rattle.std.specs.Prelude.{◌≡◌};
 use super::course::{adders, place_of, word};
 use super::turnstiles::{Crasher, Watcher};
 use crossbeam_channel::{Receiver, Sender};
+use limits::SEATS;
 use replay::Job;
 use sessions::Session;
 use std::alloc::Global;
@@ -100,7 +101,7 @@ fn meet_in<L: Ledger + Send + Sync, R: Wait + Sync>(
     trouble: Trouble,
 ) -> Result<Alone, Fail>
     requires name { blank.name ≡ L.name }
-    requires parts { (blank.parts ≡ L.parts) × (blank.parts ≡ 17) }
+    requires parts { (blank.parts ≡ L.parts) × (blank.parts ≡ SEATS) }
 {
     let mut session: Session<L> = Session::open(alloc, blank, adders(alloc, 1)?)?;
     let feeds = [word(1, 1, 5)];
@@ -138,7 +139,7 @@ fn meet_in<L: Ledger + Send + Sync, R: Wait + Sync>(
 
 /// The worker meets this.
 pub(crate) fn meet<R: Wait + Sync>(rt: &R, alloc: Global, trouble: Trouble) -> Result<Alone, Fail> {
-    meet_in::<Brand, R>(rt, alloc, Blank::new(17), trouble)
+    meet_in::<Brand, R>(rt, alloc, Blank::new(SEATS as u64), trouble)
 }
 
 /// What a worker alone did with three feeds: how many jobs it ran and results it told, with the lock
@@ -156,7 +157,7 @@ fn watch_in<L: Ledger + Send + Sync, R: Wait + Sync>(
     blank: Blank,
 ) -> Result<Watched, Fail>
     requires name { blank.name ≡ L.name }
-    requires parts { (blank.parts ≡ L.parts) × (blank.parts ≡ 17) }
+    requires parts { (blank.parts ≡ L.parts) × (blank.parts ≡ SEATS) }
 {
     let mut session: Session<L> = Session::open(alloc, blank, adders(alloc, 1)?)?;
     let feeds = [word(1, 1, 5), word(2, 1, 6), word(3, 1, 7)];
@@ -180,5 +181,5 @@ fn watch_in<L: Ledger + Send + Sync, R: Wait + Sync>(
 
 /// Watches a worker alone.
 pub(crate) fn watch<R: Wait + Sync>(rt: &R, alloc: Global) -> Result<Watched, Fail> {
-    watch_in::<Brand, R>(rt, alloc, Blank::new(17))
+    watch_in::<Brand, R>(rt, alloc, Blank::new(SEATS as u64))
 }

@@ -3,6 +3,7 @@
 ghost use Rattle.std.specs.Prelude.{◌≡◌};
 
 use helpers::Payload;
+use limits::SEATS;
 use sessions::Session;
 use std::alloc::Global;
 use std::marker::Brand;
@@ -183,7 +184,7 @@ fn follow_in<L: Ledger + Send + Sync, R: Threads + Wait + Sync, G: Turnstile>(
     turnstile: &G,
 ) -> Result<Outcome, Fail>
     requires name { blank.name ≡ L.name }
-    requires parts { (blank.parts ≡ L.parts) × (blank.parts ≡ 17) }
+    requires parts { (blank.parts ≡ L.parts) × (blank.parts ≡ SEATS) }
 {
     let mut session: Session<L> = Session::open(alloc, blank, adders(alloc, case.processes)?)?;
     prepare(&mut session, case.before)?;
@@ -213,5 +214,5 @@ pub(crate) fn follow<R: Threads + Wait + Sync, G: Turnstile>(
     case: Case,
     turnstile: &G,
 ) -> Result<Outcome, Fail> {
-    follow_in::<Brand, R, G>(rt, alloc, Blank::new(17), case, turnstile)
+    follow_in::<Brand, R, G>(rt, alloc, Blank::new(SEATS as u64), case, turnstile)
 }
