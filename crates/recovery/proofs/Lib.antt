@@ -1,0 +1,10 @@
+pub mod Lists
+pub mod Acts
+pub mod Keeping
+pub mod Pages
+pub mod Told
+pub mod Posting
+pub mod Asking
+pub mod Telling
+pub mod Reviving
+pub mod Others

@@ -1,0 +1,19 @@
+use Rattle.std.proofs.Common.{rules, ◌≡◌, ◌+◌, suc, ℕ, replicate, ap, ◌∙◌, arith}
+use Rattle.std.proofs.lemmas.Grind.{common_steps}
+use Rattle.std.proofs.lemmas.List.{length-set, length-replicate}
+use Rattle.recovery.specs.Own.{own_of}
+use Rattle.recovery.specs.Collected.{none_told}
+use Rattle.recovery.proofs.Keeping.{logs-short}
+use Rattle.recovery.proofs.collecting.Collecting.begin.Goals as goal
+
+pub invariant_of-result : goal.invariant_of-result
+invariant_of-result c =
+    let k = c.args.kept.now in
+    let own : c.in_ok-own.own ≡ own_of k c.args.incarnation = first_of (search rules, grind (arith, common_steps)) in
+    let many : c.loop-made.made ≡ k.count + 1 = omega (arith, c.loop-made-test.false) in
+    let told : c.loop-made.told.items ≡ replicate (k.count + 1) (none_told k.length) = c.loop-made.invariant ∙ ap (λ n. replicate n (none_told k.length)) many in
+    rw (own, told) (record {
+      wide = length-replicate (k.count + 1) (none_told k.length) ∙ (let e : k.count + 1 ≡ suc k.count = omega arith in e);
+      heard_wide = length-set (replicate (k.count + 1) 0) 0 1 ∙ length-replicate {A = ℕ} (k.count + 1) 0 ∙ (let e : k.count + 1 ≡ suc k.count = omega arith in e);
+      short = logs-short k c.requires;
+    })

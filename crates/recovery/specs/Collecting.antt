@@ -1,0 +1,64 @@
+-- What clauses see of a process that collects, and what the calls make of it
+use Rattle.std.specs.Prelude.{◌≡◌, ℕ, zero, suc, ◌+◌, List, length, replicate, Bool, not, ◌&&◌, ◌==◌, nat_le, if◌then◌else◌, slice_index_or, slice_set}
+use Rattle.packets.specs.Packet.{is_done, is_lost, in_range}
+use Rattle.packets.specs.declared.page.Entry.{Entry}
+use Rattle.packets.specs.declared.page.Flags.{Flags}
+use Rattle.packets.specs.declared.kept.Kept.{Kept}
+use Rattle.packets.specs.declared.packet.Body.{Body}
+use Rattle.packets.specs.declared.packet.Body.TheVariants.{Ask, Told}
+use Rattle.packets.specs.declared.packet.Packet.{Packet}
+use Rattle.recovery.specs.Own.{TheOwn, IsShort, posts, is_for, hears, own_of}
+use Rattle.recovery.specs.Collected.{TheCollected, none_told, with_page}
+
+-- what it has of its own, and by peer what that told
+pub record TheCollecting : Type 0 where
+  pub own : TheOwn
+  pub told : List TheCollected
+
+-- it hears each peer, and has sent no more than its checkpoint's messages made it
+pub record IsCollecting (own : TheOwn) (told : List TheCollected) : Type 0 where
+  pub wide : length told ≡ suc own.count
+  pub heard_wide : length own.heard ≡ suc own.count
+  pub short : IsShort own.logs own.base
+
+abbrev pub told_of : List TheCollected → ℕ → TheCollected
+told_of told q = slice_index_or told q (none_told 0)
+
+-- a peer that hasn't told all is asked for what its log holds above what it told
+abbrev pub asks : ℕ → TheCollecting → TheCollecting
+asks to n = if (told_of n.told to).done then n else record n { own = posts to (Ask n.own.life (told_of n.told to).cursor) n.own }
+
+-- so is each peer below d
+abbrev pub asks_below : ℕ → ℕ → TheCollecting → TheCollecting
+asks_below me zero n = n
+asks_below me (suc d) n = if d == me then asks_below me d n else asks d (asks_below me d n)
+
+abbrev pub asked : TheCollecting → TheCollecting
+asked n = asks_below n.own.me (n.own.count + 1) n
+
+-- one that was told nothing
+abbrev pub begins : Kept → ℕ → TheCollecting
+begins k life = record { own = own_of k life; told = replicate (k.count + 1) (none_told k.length) }
+
+-- it comes back, and asks all
+abbrev pub revived : Kept → ℕ → TheCollecting
+revived k life = asked (begins k life)
+
+-- a page answers what was asked last: in this incarnation, of a peer that isn't older than it was heard of and is up
+abbrev pub answers : ℕ → ℕ → ℕ → ℕ → Flags → TheCollecting → Bool
+answers from i j k flags n =
+    (i == n.own.life) && nat_le (slice_index_or n.own.heard from 0) j && not (told_of n.told from).done && (k == (told_of n.told from).cursor) && not (is_lost flags)
+
+-- it is taken in, and the peer is asked for the next one
+abbrev pub took_page : ℕ → ℕ → Bool → List Entry → TheCollecting → TheCollecting
+took_page from j done page n =
+    asks from (record { own = hears from j n.own; told = slice_set n.told from (with_page done page (told_of n.told from)) })
+
+-- another one says this: what isn't an answer is dropped
+abbrev pub heard : ℕ → Body → TheCollecting → TheCollecting
+heard from (Told i j k flags entries) n = if in_range (Told i j k flags entries) && answers from i j k flags n then took_page from j (is_done flags) entries n else n
+heard from body n = n
+
+-- a packet comes
+abbrev pub handed : Packet → TheCollecting → TheCollecting
+handed x n = if is_for n.own x then heard x.from x.body n else n

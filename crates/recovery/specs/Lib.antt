@@ -1,0 +1,5 @@
+pub mod Own
+pub mod Collected
+pub mod Collecting
+pub mod Stands
+pub mod Beside

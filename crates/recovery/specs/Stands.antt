@@ -1,0 +1,91 @@
+-- Which clusters a process stands in that comes back, and what a call owes
+use Rattle.std.specs.Prelude.{◌≡◌, ◌≢◌, ℕ, ◌<◌, ◌≤◌, List, [], ◌∷◌, length, take, map, Option, Some, None, Bool, true, false, slice_index_or}
+use Rattle.world.specs.declared.message.Message.{Message}
+use Rattle.world.specs.History.{count_of}
+use Rattle.cluster.specs.Parcels.{reaches}
+use Rattle.cluster.specs.Cluster.{Cluster, Collected, Dead, Collecting}
+use Rattle.cluster.specs.Rules.{Act, Run, after_run, IsNode, Asks, IsAll, entry_in}
+use Rattle.packets.specs.declared.packet.Packet.{Packet}
+use Rattle.packets.specs.declared.page.Entry.{Entry}
+use Rattle.packets.specs.declared.kept.Kept.{Kept}
+use Rattle.node.specs.Queue.{no_queue}
+use Rattle.node.specs.Node.{log_at}
+use Rattle.node.specs.Stands.{Each, PutOut, KeepsOf, actor}
+use Rattle.recovery.specs.Own.{TheOwn, with_own, queue_of}
+use Rattle.node.specs.Says.{WasSaid, first_told}
+use Rattle.recovery.specs.Collected.{TheCollected}
+use Rattle.recovery.specs.Collecting.{TheCollecting, told_of}
+
+-- what a process has of its own is what the cluster has of p, whose state has the messages h, and its log these numbers, with so many
+-- entries dropped
+pub record HasOwn (o : TheOwn) (c : Cluster) (p : ℕ) (h : List Message) (trims : ℕ → ℕ) (numbers : ℕ → ℕ → Option ℕ) : Type 0 where
+  pub me : o.me ≡ p
+  pub count : o.count ≡ c.count
+  pub inside : IsNode c p
+  pub saved : c.saved p ≡ o.base
+  pub many : o.base ≤ length h
+  pub state : c.handlers.state p h ≡ o.state
+  pub covered : (q : ℕ) → q ≤ c.count → slice_index_or o.covered q 0 ≡ count_of q (take o.base h)
+  pub logs : (d : ℕ) → d ≤ c.count → d ≢ p → KeepsOf (log_at o.logs d) (trims d) (c.handlers.sends p h d) (numbers d)
+  pub heard : (q : ℕ) → q ≤ c.count → c.heard p q ≡ slice_index_or o.heard q 0
+  pub out : Each (PutOut c.count c.parcels p) o.out
+
+-- up to where a peer told: nothing goes anywhere
+abbrev pub reached : Option Collected → ℕ → Bool
+reached None m = true
+reached (Some t) m = reaches t.upto m
+
+-- what is held of what a peer q told is what the cluster has of it, above the checkpoint: the entries, as far as they go, and what is asked
+-- for next
+pub record IsTold (q base : ℕ) (x : TheCollected) (t : Option Collected) : Type 0 where
+  pub asks : x.done ≡ false → Asks base t x.cursor
+  pub all : x.done ≡ true → IsAll t
+  pub low : x.done ≡ false → Each (λ (e : Entry). e.number ≤ x.cursor) x.entries
+  pub entries : (m : ℕ) → base < m → reached t m ≡ true → entry_in t m ≡ first_told q x.entries m
+
+-- a process that collects stands in a cluster in which p does
+pub record StandsCollecting (n : TheCollecting) (c : Cluster) (p : ℕ) : Type 0 where
+  pub stage : c.stage p ≡ Collecting
+  pub life : c.stored p ≡ n.own.life
+  pub own : HasOwn n.own c p (take n.own.base (c.history p)) (c.saved_trims p) (λ _ _. None)
+  pub told : (q : ℕ) → q ≤ c.count → IsTold q n.own.base (told_of n.told q) (c.told p q)
+
+-- what is kept of the process p is what its checkpoint covers: its state, how many messages there are of each sender, and by destination
+-- what they sent, without the entries that the log had dropped by then
+pub record IsKeptOf (k : Kept) (c : Cluster) (p : ℕ) : Type 0 where
+  pub me : k.me ≡ p
+  pub count : k.count ≡ c.count
+  pub saved : c.saved p ≡ k.length
+  pub many : k.length ≤ length (c.history p)
+  pub state : c.handlers.state p (take k.length (c.history p)) ≡ k.state
+  pub counts : (q : ℕ) → q ≤ c.count → slice_index_or (with_own 0 k.me k.counts) q 0 ≡ count_of q (take k.length (c.history p))
+  pub logs : (d : ℕ) → d ≤ c.count → d ≢ p → KeepsOf (log_at (with_own no_queue k.me (map queue_of k.logs)) d) (c.saved_trims p d) (c.handlers.sends p (take k.length (c.history p)) d) (λ _. None)
+
+-- by acts of its own the process p goes from the cluster c to one of which this holds
+pub record GoesTo (p : ℕ) (P : Cluster → Type 0) (c : Cluster) : Type 0 where
+  pub acts : List Act
+  pub run : Run c acts
+  pub by : Each (λ (a : Act). actor a ≡ p) acts
+  pub stands : P (after_run c acts)
+
+-- what it owes that comes back: where p is dead, what is kept is what its checkpoint covers, and no incarnation from this one on was
+-- stored, it goes on to one in which it stands
+abbrev pub Revives : Kept → ℕ → TheCollecting → Type 0
+Revives k life n = (c : Cluster) → c.stage k.me ≡ Dead → c.stored k.me < life → IsKeptOf k c k.me → IsNode c k.me → GoesTo k.me (λ d. StandsCollecting n d k.me) c
+
+-- what a call owes of one that collects: from each cluster in which it stood, and of which this holds, to one in which it stands
+abbrev pub Owes : (Cluster → Type 0) → TheCollecting → TheCollecting → Type 0
+Owes given old new = (c : Cluster) → StandsCollecting old c old.own.me → given c → GoesTo old.own.me (λ d. StandsCollecting new d old.own.me) c
+
+-- one that is told nothing
+abbrev pub Acts : TheCollecting → TheCollecting → Type 0
+Acts old new = Owes (λ c. Unit {0}) old new
+
+-- one that is handed a packet, if that was put out
+abbrev pub IsHanded : Packet → TheCollecting → TheCollecting → Type 0
+IsHanded x old new = Owes (λ c. WasSaid c.parcels x.from x.to x.body) old new
+
+-- what take owes: the packet that waited first, which was put out; the process is without it
+abbrev pub Takes : Option Packet → TheCollecting → TheCollecting → Type 0
+Takes None old new = (old.own.out ≡ []) × (new ≡ old)
+Takes (Some x) old new = (old ≡ record new { own = record new.own { out = x ∷ new.own.out } }) × ((c : Cluster) → StandsCollecting old c old.own.me → PutOut c.count c.parcels old.own.me x × StandsCollecting new c old.own.me)

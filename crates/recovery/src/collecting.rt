@@ -1,0 +1,195 @@
+//! A process that asks its peers what their logs hold for it.
+
+ghost use Rattle.std.specs.Prelude.{◌≡◌, ◌≢◌, ◌≤◌, ◌<◌, ◌+◌, ◌^◌, true, IfOk, OnOk, OnErr};
+ghost use Rattle.std.specs.List.{list_all};
+ghost use Rattle.recovery.specs.Own.{comes_back, is_process, is_short};
+ghost use Rattle.recovery.specs.Collecting.{asks, asked, begins, revived, told_of, answers, took_page, handed};
+ghost use Rattle.recovery.specs.Stands.{Revives, Acts, IsHanded, Takes};
+
+use crate::collected::Collected;
+use crate::own::Own;
+use node::{MOST_GIVEN, MOST_RECEIVED};
+use packets::{Body, Entry, Flags, Kept, KeptLog, Packet};
+use std::alloc::{AllocError, Global};
+use std::marker::Model;
+
+/// A process that came back, and what its peers told.
+#[derive(Drop)]
+pub struct Collecting {
+    own: Own,
+    told: Vec<Collected>,
+}
+
+impl Model for Collecting {
+    ghost use Rattle.recovery.specs.Collecting.{TheCollecting, IsCollecting};
+
+    ghost Value = { TheCollecting };
+
+    ghost view = { λ n. record { own = n.own; told = n.told.items } };
+
+    ghost invariant = { λ n. IsCollecting n.own n.told.items };
+}
+
+/// Whether this can be what is kept of a process of a cluster: each number is in its range, and no
+/// more messages were sent than those make that were received.
+pub fn comes_back(kept: &Kept) -> bool
+    ensures { result ≡ comes_back kept.now }
+{
+    if !is_process(kept) || !kept.is_in_range() || kept.length > MOST_RECEIVED {
+        return false;
+    }
+    are_short(MOST_GIVEN as u64 * kept.length + 2, kept.logs.as_slice())
+}
+
+/// Whether it is of a process of a cluster, with counts and logs for each peer.
+fn is_process(kept: &Kept) -> bool
+    ensures { result ≡ is_process kept.now }
+{
+    let peers = kept.count as usize;
+    0 < kept.me
+        && kept.me <= kept.count
+        && kept.count <= 15
+        && kept.counts.as_slice().len() == peers
+        && kept.logs.as_slice().len() == peers
+}
+
+/// Whether each log has fewer messages than these, with those that were dropped.
+fn are_short(most: u64, logs: &[KeptLog]) -> bool
+    requires { most < 2 ^ 63 }
+    ensures { result ≡ list_all (is_short most) logs.now }
+{
+    logs.iter().all(|log| is_short(most, log))
+}
+
+fn is_short(most: u64, log: &KeptLog) -> bool
+    requires { most < 2 ^ 63 }
+    ensures { result ≡ is_short most log.now }
+{
+    log.first
+        .saturating_add(log.payloads.as_slice().len() as u64)
+        < most
+}
+
+impl Collecting {
+    /// What is kept of a process comes back in this incarnation. All its peers are asked.
+    pub fn revive(alloc: Global, kept: &Kept, incarnation: u64) -> Result<Collecting, AllocError>
+        requires { comes_back kept.now ≡ true }
+        ensures value { IfOk result (λ n. n ≡ revived kept.now incarnation) }
+        ensures acts { IfOk result (λ n. Revives kept.now incarnation n) }
+    {
+        let mut node = Collecting::begin(alloc, kept, incarnation)?;
+        node.ask_all();
+        Ok(node)
+    }
+
+    fn begin(alloc: Global, kept: &Kept, incarnation: u64) -> Result<Collecting, AllocError>
+        requires { comes_back kept.now ≡ true }
+        ensures { IfOk result (λ n. n ≡ begins kept.now incarnation) }
+    {
+        let own = Own::kept(alloc, kept, incarnation)?;
+        let mut told = Vec::new(alloc);
+        for made in 0..kept.count as usize + 1 {
+            told.push(Collected::new(alloc, kept.length))?;
+        }
+        Ok(Collecting { own, told })
+    }
+
+    /// A packet that is to be sent, the first that waits; none, if there is none.
+    pub fn take(&mut self) -> Option<Packet>
+        ensures { Takes result self.old self.new }
+    {
+        self.own.out.pop()
+    }
+
+    /// The peers that haven't told all are asked again.
+    pub fn tick(&mut self)
+        ensures value { self.new ≡ asked self.old }
+        ensures acts { Acts self.old self.new }
+    {
+        self.ask_all();
+    }
+
+    /// A packet came. One that isn't the answer of a peer to what was asked last is dropped. A refusal
+    /// changes nothing.
+    pub fn receive(&mut self, packet: &Packet) -> Result<(), AllocError>
+        ensures value { OnOk result (self.new ≡ handed packet.now self.old) }
+        ensures acts { OnOk result (IsHanded packet.now self.old self.new) }
+        ensures err { OnErr result (self.new ≡ self.old) }
+    {
+        // For the proof: reading a field tells the invariant.
+        let _known = self.told.len();
+        self.hand(packet)
+    }
+
+    fn ask_all(&mut self)
+        ensures { self.new ≡ asked self.old }
+    {
+        let me = self.own.me();
+        for to in 0..self.own.count() + 1 {
+            if to != me {
+                self.ask(to);
+            }
+        }
+    }
+
+    fn ask(&mut self, to: u8)
+        requires { to ≤ self.old.own.count }
+        ensures { self.new ≡ asks to self.old }
+    {
+        let told = &self.told[to as usize];
+        if !told.done {
+            let above = told.cursor;
+            let incarnation = self.own.life;
+            self.own.put(to, Body::Ask { incarnation, above });
+        }
+    }
+
+    fn hand(&mut self, packet: &Packet) -> Result<(), AllocError>
+        ensures ok { OnOk result (self.new ≡ handed packet.now self.old) }
+        ensures err { OnErr result (self.new ≡ self.old) }
+    {
+        if !self.own.is_for(packet) || !packet.body.is_in_range() {
+            return Ok(());
+        }
+        match &packet.body {
+            Body::Told {
+                incarnation,
+                teller,
+                above,
+                flags,
+                entries,
+            } => {
+                if self.is_answer(packet.from, *incarnation, *teller, *above, *flags) {
+                    self.add(packet.from, *teller, flags.done(), entries.as_slice())?;
+                }
+                Ok(())
+            }
+            _ => Ok(()),
+        }
+    }
+
+    /// Whether a page answers what was asked last.
+    fn is_answer(&self, from: u8, life: u64, teller: u64, above: u64, flags: Flags) -> bool
+        requires { from ≤ self.now.own.count }
+        ensures { result ≡ answers from life teller above flags self.now }
+    {
+        let told = &self.told[from as usize];
+        life == self.own.life
+            && self.own.heard(from) <= teller
+            && !told.done
+            && above == told.cursor
+            && !flags.lost()
+    }
+
+    /// A page is taken in, and the peer is asked for the next one.
+    fn add(&mut self, from: u8, teller: u64, done: bool, page: &[Entry]) -> Result<(), AllocError>
+        requires { from ≤ self.old.own.count }
+        ensures ok { OnOk result (self.new ≡ took_page from teller done page.now self.old) }
+        ensures err { OnErr result (self.new ≡ self.old) }
+    {
+        self.told[from as usize].add(page, done)?;
+        self.own.hear(from, teller);
+        self.ask(from);
+        Ok(())
+    }
+}

@@ -1,0 +1,158 @@
+//! What a process has of its own while it comes back.
+
+ghost use Rattle.std.specs.Prelude.{◌≡◌, ℕ, ◌≤◌, ◌+◌, ◌++◌, ◌^◌, length, map, true, Some, slice_get, slice_index_or, IfOk, OnOk};
+ghost use Rattle.node.specs.Queue.{no_queue};
+ghost use Rattle.recovery.specs.Own.{posts, with_own, queue_of, comes_back, own_of, is_for, hears};
+
+use node::{Outbox, Queue};
+use packets::{Body, Kept, KeptLog, Packet};
+use std::alloc::{AllocError, Global};
+use std::marker::Model;
+
+/// The number of the process, how many there are, its incarnation, its state, and what its logs keep.
+#[derive(Drop)]
+pub(crate) struct Own {
+    pub(crate) me: u8,
+    pub(crate) count: u8,
+    pub(crate) life: u64,
+    pub(crate) state: Vec<u8>,
+    /// How many messages its checkpoint covers, and how many of these are of each sender.
+    pub(crate) base: u64,
+    pub(crate) covered: Vec<u64>,
+    /// By destination what it sent.
+    pub(crate) logs: Vec<Queue>,
+    /// By peer the greatest incarnation that it heard of.
+    pub(crate) heard: Vec<u64>,
+    pub(crate) out: Outbox,
+}
+
+impl Model for Own {
+    ghost use Rattle.recovery.specs.Own.{TheOwn, IsOwn};
+
+    ghost Value = { TheOwn };
+
+    ghost view = { λ o. record { me = o.me; count = o.count; life = o.life; state = o.state.items; base = o.base; covered = o.covered.items; logs = o.logs.items; heard = o.heard.items; out = o.out } };
+
+    ghost invariant = { λ o. IsOwn o.me o.count o.base o.covered.items o.heard.items o.logs.items };
+}
+
+impl Own {
+    /// What is kept of a process, in this incarnation. Of the gateway it heard, of the others it didn't.
+    pub(crate) fn kept(alloc: Global, kept: &Kept, life: u64) -> Result<Own, AllocError>
+        requires { comes_back kept.now ≡ true }
+        ensures { IfOk result (λ o. o ≡ own_of kept.now life) }
+    {
+        let me = kept.me;
+        let state = Vec::from_slice(alloc, kept.state.as_slice())?;
+        let covered = counts(alloc, kept.counts.as_slice(), me as usize)?;
+        let logs = queues(alloc, kept.logs.as_slice(), me as usize)?;
+        let mut heard = Vec::new(alloc);
+        heard.resize(kept.count as usize + 1, 0)?;
+        heard[0] = 1;
+        let out = Outbox::new(alloc)?;
+        Ok(Own {
+            me,
+            count: kept.count,
+            life,
+            state,
+            base: kept.length,
+            covered,
+            logs,
+            heard,
+            out,
+        })
+    }
+
+    /// Its number.
+    pub(crate) fn me(&self) -> u8
+        ensures value { result ≡ self.now.me }
+        ensures within { (1 ≤ result) × (result ≤ self.now.count) }
+    {
+        self.me
+    }
+
+    /// How many processes there are.
+    pub(crate) fn count(&self) -> u8
+        ensures value { result ≡ self.now.count }
+        ensures few { result ≤ 15 }
+    {
+        self.count
+    }
+
+    /// Whether a packet is of another node of this cluster to this one.
+    pub(crate) fn is_for(&self, packet: &Packet) -> bool
+        ensures { result ≡ is_for self.now packet.now }
+    {
+        packet.count == self.count
+            && packet.to == self.me
+            && packet.from <= self.count
+            && packet.from != self.me
+    }
+
+    /// The greatest incarnation of a peer that it heard of.
+    pub(crate) fn heard(&self, peer: u8) -> u64
+        requires { peer ≤ self.now.count }
+        ensures { result ≡ slice_index_or self.now.heard peer 0 }
+    {
+        self.heard[peer as usize]
+    }
+
+    /// It hears of this incarnation of a peer.
+    pub(crate) fn hear(&mut self, peer: u8, life: u64)
+        requires { peer ≤ self.old.count }
+        ensures { self.new ≡ hears peer life self.old }
+    {
+        self.heard[peer as usize] = life;
+    }
+
+    /// A packet waits to be taken.
+    pub(crate) fn put(&mut self, to: u8, body: Body)
+        ensures { self.new ≡ posts to body self.old }
+    {
+        let packet = Packet {
+            count: self.count,
+            from: self.me,
+            to,
+            body,
+        };
+        self.out.push(packet);
+    }
+}
+
+/// The counts by peer, and of the process itself none.
+fn counts(alloc: Global, counts: &[u64], me: usize) -> Result<Vec<u64>, AllocError>
+    requires { me ≤ length counts.now }
+    ensures { IfOk result (λ v. v.items ≡ with_own 0 me counts.now) }
+{
+    let (before, behind) = counts.split_at(me);
+    let mut all = Vec::from_slice(alloc, before)?;
+    all.push(0)?;
+    all.extend_from_slice(behind)?;
+    Ok(all)
+}
+
+/// The logs by peer, and to the process itself none.
+fn queues(alloc: Global, logs: &[KeptLog], me: usize) -> Result<Vec<Queue>, AllocError>
+    requires inside { me ≤ length logs.now }
+    requires room { (i : ℕ) (l : KeptLog) → slice_get logs.now i ≡ Some l → (1 ≤ l.first) × (l.first + length l.payloads ≤ 2 ^ 63) }
+    ensures { IfOk result (λ v. v.items ≡ with_own no_queue me (map queue_of logs.now)) }
+{
+    let (before, behind) = logs.split_at(me);
+    let mut queues = Vec::new(alloc);
+    add(alloc, &mut queues, before)?;
+    queues.push(Queue::new(alloc))?;
+    add(alloc, &mut queues, behind)?;
+    Ok(queues)
+}
+
+/// These logs behind the others.
+fn add(alloc: Global, queues: &mut Vec<Queue>, logs: &[KeptLog]) -> Result<(), AllocError>
+    requires { (i : ℕ) (l : KeptLog) → slice_get logs.now i ≡ Some l → (1 ≤ l.first) × (l.first + length l.payloads ≤ 2 ^ 63) }
+    ensures { OnOk result (queues.new.items ≡ queues.old.items ++ map queue_of logs.now) }
+{
+    for log in logs {
+        let queue = Queue::kept(alloc, log.first, log.payloads.as_slice())?;
+        queues.push(queue)?;
+    }
+    Ok(())
+}
