@@ -27,7 +27,9 @@ enum sblog_code {
     SBLOG_WHO = 7,     /* numbers of processes out of range */
     SBLOG_ROOM = 8,    /* the buffer for the answer is too short */
     SBLOG_FORM = 9,    /* the image is an SBI2, which these functions only check */
-    SBLOG_HANDLE = 10  /* the handle is null */
+    SBLOG_HANDLE = 10, /* the handle is null */
+    SBLOG_NATIVE = 11, /* there is no machine code for the image */
+    SBLOG_RECORD = 12  /* no call of form 1 leaves such a record */
 };
 
 enum { SBLOG_MESSAGE_SIZE = 64, SBLOG_FAULT_SIZE = 16, SBLOG_REPORT_LIMIT = 1064 };
@@ -56,6 +58,14 @@ uint32_t sblog_run(sblog_handle *handle, uint8_t *state, size_t state_len, const
                    size_t messages_len, uint8_t me, uint8_t from, uint8_t count, uint8_t *reports,
                    size_t reports_len);
 
+/* Writes the machine code of the image, for x86-64, and how many bytes it has; where the buffer has fewer
+   (8), it is left as it was, and the size is written all the same. */
+uint32_t sblog_compile(sblog_handle *handle, uint8_t *out, size_t out_len, size_t *size);
+
+/* The report of a call of machine code, from what it answered and the record that it left, of form 1. */
+uint32_t sblog_native_report(uint64_t r0, const uint8_t *record, size_t record_len, uint8_t *report,
+                             size_t report_len);
+
 /* Gives the memory of the image back; of a null handle there is none. */
 void sblog_close(sblog_handle *handle);
 
@@ -70,6 +80,54 @@ static inline uint64_t sblog_number(const uint8_t *at) {
 static inline size_t sblog_report_size(const uint8_t *report) {
     return 32 + 65 * (size_t)sblog_number(report + 16) + 64 * (size_t)sblog_number(report + 24);
 }
+
+/* ---- calls of machine code, where SBLOG_CALLS_CODE is defined before this file is read: on x86-64, with the
+   pages of <sys/mman.h>. These functions are C of the program's own, and nothing of them is proved. */
+
+#ifdef SBLOG_CALLS_CODE
+#include <string.h>
+#include <sys/mman.h>
+
+enum {
+    SBLOG_ARRAY_SIZE = 1792, /* the message from 0 on, the state, the stack behind the state; zeros elsewhere */
+    SBLOG_STATE_AT = 256,
+    SBLOG_STACK_SIZE = 512,
+    SBLOG_RECORD_SIZE = 4416
+};
+
+/* Machine code: it is given an array, a record, and the message's length, and answers r0. */
+typedef uint64_t (*sblog_native_code)(uint8_t *array, uint8_t *record, uint64_t message_len);
+
+/* Copies machine code into pages of its own, which are never writable and executable at once; null where
+   there are none. */
+static inline sblog_native_code sblog_map(const uint8_t *code, size_t size) {
+    void *pages = mmap(NULL, size, PROT_READ | PROT_WRITE, MAP_PRIVATE | MAP_ANONYMOUS, -1, 0);
+    if (pages == MAP_FAILED) return NULL;
+    memcpy(pages, code, size);
+    if (mprotect(pages, size, PROT_READ | PROT_EXEC) == 0) return (sblog_native_code)(uintptr_t)pages;
+    munmap(pages, size);
+    return NULL;
+}
+
+/* Gives the pages of so much code back. */
+static inline void sblog_unmap(sblog_native_code code, size_t size) {
+    if (code != NULL) munmap((void *)(uintptr_t)code, size);
+}
+
+/* Calls machine code by one message, of 64 bytes in form 1 and of at most 256 in form 2, and answers r0. The
+   array was zeros before its first call, and has the state from SBLOG_STATE_AT on, which a call changes in
+   place. The record has the steps, sends and outputs then. */
+static inline uint64_t sblog_native_call(sblog_native_code code, uint8_t *array, size_t state_len,
+                                         const uint8_t *message, size_t message_len, uint8_t me,
+                                         uint8_t from, uint8_t count, uint8_t *record) {
+    const uint64_t front[6] = {0, 0, 0, me, from, count}; /* sends, outputs, steps; who is called */
+    memcpy(record, front, sizeof front);
+    memcpy(array, message, message_len);
+    memset(array + message_len, 0, SBLOG_STATE_AT - message_len);
+    memset(array + SBLOG_STATE_AT + state_len, 0, SBLOG_STACK_SIZE);
+    return code(array, record, message_len);
+}
+#endif
 
 /* ---- sessions. The name below keeps this part and a copy of the header that sessions had before apart. */
 

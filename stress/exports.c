@@ -13,11 +13,12 @@
 
 #include "sblog.h"
 
-enum { MESSAGES = 3, HEADER = 8, STATE_LIMIT = 1024, WRONG = 99 };
+enum { MESSAGES = 3, HEADER = 8, STATE_LIMIT = 1024, RECORD = 4416, CODE_LIMIT = 1 << 17, WRONG = 99 };
 
 /* All that a call may change. */
 static struct {
-    uint8_t fault[SBLOG_FAULT_SIZE], state[STATE_LIMIT], reports[MESSAGES * SBLOG_REPORT_LIMIT];
+    uint8_t fault[SBLOG_FAULT_SIZE], state[STATE_LIMIT], reports[MESSAGES * SBLOG_REPORT_LIMIT], code[CODE_LIMIT];
+    size_t code_len;
 } now, before;
 
 static sblog_handle *handle;
@@ -55,6 +56,13 @@ static uint32_t run(void) {
     return sblog_run(handle, now.state, state_len, messages, sizeof messages, 1, 0, 2, now.reports, sizeof now.reports);
 }
 
+static uint32_t compile(void) { return sblog_compile(handle, now.code, sizeof now.code, &now.code_len); }
+
+static uint32_t native_report(void) {
+    static const uint8_t record[RECORD]; /* no steps, sends and outputs */
+    return sblog_native_report(7, record, sizeof record, now.reports, sizeof now.reports);
+}
+
 static uint32_t close_handle(void) {
     sblog_close(handle);
     handle = NULL;
@@ -76,8 +84,11 @@ static const struct export {
     {"sblog_call", call, 1, {SBLOG_DONE, SBLOG_FORM}},
     {"sblog_call_many", call_many, 1, {SBLOG_DONE, SBLOG_FORM}},
     {"sblog_run", run, 0, {SBLOG_DONE, SBLOG_FORM}},
+    {"sblog_compile", compile, 1, {SBLOG_DONE, SBLOG_DONE}},
+    {"sblog_native_report", native_report, 0, {SBLOG_DONE, SBLOG_DONE}},
     {"sblog_close", close_handle, 0, {SBLOG_DONE, SBLOG_DONE}},
     {"sblog_run", run, 0, {SBLOG_HANDLE, SBLOG_HANDLE}},
+    {"sblog_compile", compile, 0, {SBLOG_HANDLE, SBLOG_HANDLE}},
     {"sblog_close", close_handle, 0, {SBLOG_DONE, SBLOG_DONE}},
 };
 

@@ -1,4 +1,4 @@
--- A slice that is left as it was passed says its last value. Assumes `Logic`.
+-- A slice or a reference that is left as it was passed says its last value. Assumes `Logic`.
 use Rattle.std.proofs.Common.{◌≡◌, ℕ, zero, ◌^◌, ◌<◌, List, [], ◌∷◌, length, sym, subst, lit<, MutBor}
 use seplogic.Ra.Ura.{Ura}
 use mir.Syntax.{Lifetime}
@@ -18,6 +18,7 @@ use base.Fraction.{full_share}
 use Rattle.std_alloc.specs.Box.Ownership.{box_owns}
 use Rattle.std_heap.proofs.GlobalToken.{dealloc_token-Testable}
 use Rattle.embed.specs.Handles.{heap, may_free}
+use denote.Ref.{MutRef}
 use denote.Slice.{MutSlice, finally, res-finally, coded_holeys, heres}
 
 -- what is left of a slice that a function gave away or left alone
@@ -38,3 +39,14 @@ pub tested : {M : Type 1} {𝓤 : Ura M} (𝓛 : Logic 𝓤) (R : RattleType) (p
 tested {𝓤 = 𝓤} 𝓛 R p x =
     let freed = snd∗ 𝓤 (sem 𝓛 (lies_at R full_share p x)) (sem 𝓛 (may_free (bare (lone R.mir)) p)) in
     fact_use 𝓤 (Testable p) (via 𝓤 _ freed (dealloc_token-Testable 𝓛 heap (bare (lone R.mir)) p)) (guard_i 𝓤 (Testable p) (sem 𝓛 (box_owns may_free R p x)))
+
+-- what is left of a reference that a function gave away or left alone
+abbrev pub given_ref : (κ : Lft) (R : RattleType) → MutBor R.Denot → R.Denot → Fml
+given_ref κ R x y = fsep (fres x.ghost_name (R.coded.code y)) (fbor κ (Body (mem R) x.ref_ptr.0 x.ref_ptr.1 x.ghost_name))
+
+-- a reference that a function left alone ends with the value that it has now
+pub ref_left : {M : Type 1} {𝓤 : Ura M} (𝓛 : Logic 𝓤) (ℓ : Lifetime) (κ : Lft) (R : RattleType) (x : MutBor R.Denot) (vs : List Val)
+    → ent 𝓤 (sem 𝓛 ((MutRef ℓ κ R).own_val x vs)) (sem 𝓛 (given_ref κ R x x.now))
+ref_left 𝓛 ℓ κ R x vs =
+    qed 𝓛 (‵ ((MutRef ℓ κ R).own_val x vs) ∷ []) ∵ fsplit ! $ move ! (1 ∷ []) $ fsplit ! $
+    use1 𝓛 (‵ (fres x.ghost_name (R.coded.code x.now))) (𝓛.names.obs-res x.ghost_name (R.coded.code x.now)) $ keep ! (0 ∷ 1 ∷ []) $ fjoin ! $ done !

@@ -7,3 +7,4 @@ pub mod Loosened
 pub mod OpenedValue
 pub mod Laid
 pub mod AsByFile
+pub mod CallRecords

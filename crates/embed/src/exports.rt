@@ -1,10 +1,11 @@
 //! What C calls. A code of 0 says that it is done, any other is the number of a refusal, and what
 //! either says of file, state and buffers stands in the contracts.
 
+ghost use Rattle.embed.specs.CallRecord.{Reports};
 ghost use Rattle.embed.specs.Calls.{caller};
 ghost use Rattle.embed.specs.Exports.{Answers, AnswersCall, AnswersCalls, IsChecked, IsUnchecked};
 
-use crate::calling;
+use crate::{call_record, calling};
 use helpers::Who;
 use std::alloc::Global;
 
@@ -61,4 +62,13 @@ pub extern "C" fn sblog_call_many(
         Ok(()) => 0,
         Err(refusal) => refusal.number(),
     }
+}
+
+/// Writes the report of a call of machine code: of what it answered, r0, and of the record that it
+/// left. `out` has at least 1,064 bytes.
+#[unsafe(no_mangle)]
+pub extern "C" fn sblog_native_report(r0: u64, bytes: &[u8], out: &mut [u8]) -> u32
+    ensures { Reports result r0 bytes.now out.old out.new }
+{
+    call_record::report(r0, bytes, out)
 }

@@ -3,7 +3,9 @@
 use crate::calling::{MESSAGE, call_each};
 use crate::report::REPORT_LIMIT;
 use helpers::{Effects, Who};
+use native::compile;
 use regtypes::ImageForm;
+use std::alloc::{AllocError, Global};
 use std::marker::Model;
 use verifier::Image;
 
@@ -29,8 +31,9 @@ impl Model for Handler {
 }
 
 impl Handler {
-    ghost use Rattle.std.specs.Prelude.{◌≡◌, ◌≤◌, ◌*◌, ◌/◌, ◌%◌, length};
+    ghost use Rattle.std.specs.Prelude.{◌≡◌, ◌≤◌, ◌*◌, ◌/◌, ◌%◌, IfOk, IfSome, length};
     ghost use Rattle.regtypes.specs.declared.image_form.ImageForm.TheVariants.{Sbi1};
+    ghost use Rattle.native.specs.Correct.{IsNative};
     ghost use Rattle.embed.specs.Calls.{AreReported};
 
     /// A handler that wasn't called yet.
@@ -52,6 +55,13 @@ impl Handler {
         ensures { result ≡ self.now.form }
     {
         self.image.form()
+    }
+
+    /// The machine code of its image. `None`: the image has operations for which there is none.
+    pub fn compile(&self, alloc: Global) -> Result<Option<Vec<u8>>, AllocError>
+        ensures { IfOk result (λ o. IfSome o (λ code. IsNative self.now.form self.now.slots self.now.len code.items)) }
+    {
+        compile(alloc, &self.image)
     }
 
     /// How many bytes its state has.

@@ -6,9 +6,11 @@ ghost use Rattle.std.specs.Borrow.{sem};
 ghost use Rattle.verifier.specs.Typed.{Typed};
 ghost use Rattle.embed.specs.Calls.{caller};
 ghost use Rattle.embed.specs.Handles.{owns_image, state_len_of, Opens, Runs};
+ghost use Rattle.embed.specs.MachineCode.{Compiles};
 
 use crate::handler::Handler;
 use crate::loose::Loose;
+use crate::machine_code::compile;
 use crate::opening::{Opened, close, open};
 use crate::running::run;
 use std::alloc::Global;
@@ -67,6 +69,26 @@ pub unsafe extern "C" fn sblog_run(
     }
     let handler = handle.cast::<Handler>();
     run(&mut *handler, state, messages, me, from, count, out)
+}
+
+/// Writes the machine code of an image from the front of `out` on. `size` becomes how many bytes that
+/// is, also where `out` has less: nothing is written then.
+#[unsafe(no_mangle)]
+pub unsafe extern "C" fn sblog_compile(
+    alloc: Global,
+    handle: *mut Handle,
+    out: &mut [u8],
+    size: &mut usize,
+) -> u32
+    ghost held: { Option Typed }
+    requires* { sem 𝓛 (owns_image handle held) }
+    ensures* { sem 𝓛 (owns_image handle held) ∗ ⌜ Compiles result held out.old out.new size.old size.new ⌝ }
+{
+    if handle.is_null() {
+        return NULL;
+    }
+    let handler = handle.cast::<Handler>();
+    compile(alloc, &*handler, out, size)
 }
 
 /// Gives the memory of an image back. Of a null handle there is none.

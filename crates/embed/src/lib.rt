@@ -25,11 +25,13 @@
 #![tactic(auto)]
 
 mod bytes;
+mod call_record;
 mod calling;
 mod exports;
 mod handler;
 mod handles;
 mod loose;
+mod machine_code;
 mod opening;
 mod refusal;
 mod report;

@@ -9,6 +9,7 @@ ghost use Rattle.embed.specs.Layout.{header_bytes, sent_bytes, report_bytes, fau
 use crate::bytes::{put, put_number};
 use helpers::{Effects, Payload, Sent};
 use interp::CallEnd;
+use limits::EFFECTS;
 
 /// The most bytes that the report of one call has: four numbers, 8 sends and 8 outputs.
 pub const REPORT_LIMIT: usize = 1064;
@@ -45,6 +46,30 @@ fn put_outputs(out: &mut [u8], at: usize, outputs: &[Payload]) -> usize
     end
 }
 
+/// Writes a report by its parts, and answers the place behind it.
+pub fn put_parts(
+    out: &mut [u8],
+    at: usize,
+    r0: u64,
+    steps: u64,
+    sends: &[Sent],
+    outputs: &[Payload],
+) -> usize
+    requires room { at + REPORT_LIMIT ≤ length out.old }
+    requires few_sends { length sends.now ≤ EFFECTS }
+    requires few_outputs { length outputs.now ≤ EFFECTS }
+    ensures written { out.new ≡ overwritten out.old at (report_bytes r0 steps (record { sends = sends.now; outputs = outputs.now })) }
+    ensures end { result ≡ at + length (report_bytes r0 steps (record { sends = sends.now; outputs = outputs.now })) }
+    ensures size { length (report_bytes r0 steps (record { sends = sends.now; outputs = outputs.now })) ≤ REPORT_LIMIT }
+{
+    let mut end = put_number(out, at, r0);
+    end = put_number(out, end, steps);
+    end = put_number(out, end, sends.len() as u64);
+    end = put_number(out, end, outputs.len() as u64);
+    end = put_sends(out, end, sends);
+    put_outputs(out, end, outputs)
+}
+
 /// Writes the report of a call, and answers the place behind it.
 pub fn put_report(out: &mut [u8], at: usize, call: CallEnd, effects: &Effects) -> usize
     requires { at + REPORT_LIMIT ≤ length out.old }
@@ -54,12 +79,7 @@ pub fn put_report(out: &mut [u8], at: usize, call: CallEnd, effects: &Effects) -
 {
     let sends = effects.sends();
     let outputs = effects.outputs();
-    let mut end = put_number(out, at, call.r0);
-    end = put_number(out, end, u64::from(call.steps));
-    end = put_number(out, end, sends.len() as u64);
-    end = put_number(out, end, outputs.len() as u64);
-    end = put_sends(out, end, sends);
-    put_outputs(out, end, outputs)
+    put_parts(out, at, call.r0, u64::from(call.steps), sends, outputs)
 }
 
 /// Writes the rule and the slot of a refusal.

@@ -1,0 +1,35 @@
+-- Machine code of an image that was opened (docs/EMBEDDING.md).
+use Rattle.std.specs.Prelude.{◌≡◌, ℕ, ◌<◌, ◌≤◌, List, Option, Some, None, length}
+use Rattle.operations.specs.Bytes.{overwritten}
+use Rattle.verifier.specs.Typed.{Typed}
+use Rattle.verifier.specs.declared.fault.ImageError.TheVariants.{Memory}
+use Rattle.native.specs.Correct.{IsNative}
+use Rattle.embed.specs.declared.refusal.Refusal.{Refusal}
+use Rattle.embed.specs.declared.refusal.Refusal.TheVariants.{Image, Room, Handle, Native}
+use Rattle.embed.specs.Exports.{Answers}
+
+-- these bytes are machine code of the image, and the size is how many they are
+pub record IsCodeOf (image : Typed) (size : ℕ) (code : List ℕ) : Type 0 where
+  pub native : IsNative image.form image.slots image.len code
+  pub size_is : size ≡ length code
+
+-- machine code of the image was written from the front on
+pub record IsCompiled (image : Typed) (out written : List ℕ) (size : ℕ) : Type 0 where
+  pub code : List ℕ
+  pub code_is : IsCodeOf image size code
+  pub fits : length code ≤ length out
+  pub written_is : written ≡ overwritten out 0 code
+
+-- why it wasn't: it is longer than the buffer, there is none, or memory ran out
+abbrev pub IsUncompiled : Typed → List ℕ → ℕ → ℕ → Refusal → Type 0
+IsUncompiled image out was size Room = (code : List ℕ) × IsCodeOf image size code × (length out < length code)
+IsUncompiled image out was size Native = size ≡ was
+IsUncompiled image out was size (Image Memory) = size ≡ was
+IsUncompiled image out was size why = ⊥
+
+-- what a code says of compiling a handle's image. A refusal leaves the buffer as it was
+abbrev pub Compiles : ℕ → Option Typed → List ℕ → List ℕ → ℕ → ℕ → Type 0
+Compiles code None out written was size =
+    Answers code ⊥ (λ why. (why ≡ Handle) × (written ≡ out) × (size ≡ was))
+Compiles code (Some image) out written was size =
+    Answers code (IsCompiled image out written size) (λ why. IsUncompiled image out was size why × (written ≡ out))

@@ -1,0 +1,40 @@
+//! Machine code of images that were opened.
+
+ghost use Rattle.std.specs.Prelude.{◌≡◌, Some, OnOk, IfErr, OnErr};
+ghost use Rattle.embed.specs.MachineCode.{IsCompiled, IsUncompiled, Compiles};
+
+use crate::bytes::put;
+use crate::handler::Handler;
+use crate::refusal::Refusal;
+use std::alloc::Global;
+use verifier::ImageError;
+
+/// Writes the machine code of a handler's image from the front on, and how many bytes that is, which
+/// a buffer that is too short is told too.
+fn write(alloc: Global, handler: &Handler, out: &mut [u8], size: &mut usize) -> Result<(), Refusal>
+    ensures done { OnOk result (IsCompiled handler.now out.old out.new size.new) }
+    ensures refused { IfErr result (IsUncompiled handler.now out.old size.old size.new) }
+    ensures unchanged { OnErr result (out.new ≡ out.old) }
+{
+    let code = match handler.compile(alloc) {
+        Ok(Some(code)) => code,
+        Ok(None) => return Err(Refusal::Native),
+        Err(_) => return Err(Refusal::Image(ImageError::Memory)),
+    };
+    *size = code.len();
+    if out.len() < code.len() {
+        return Err(Refusal::Room);
+    }
+    put(out, 0, code.as_slice());
+    Ok(())
+}
+
+/// The code of writing machine code: 0, or the number of the refusal.
+pub fn compile(alloc: Global, handler: &Handler, out: &mut [u8], size: &mut usize) -> u32
+    ensures { Compiles result (Some handler.now) out.old out.new size.old size.new }
+{
+    match write(alloc, handler, out, size) {
+        Ok(()) => 0,
+        Err(refusal) => refusal.number(),
+    }
+}
