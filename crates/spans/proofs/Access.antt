@@ -94,7 +94,7 @@ aligned_at (pos p) c e = by_test (p % 8 == 0) refl e
 aligned_at (negsuc p) c e = cc
 
 -- a word that a narrower reach has alone is one that the wider one may reach
-whole_word-is_reached : (s t : Reach) (o : ℤ) (n c : ℕ) → s.lo ≤ℤ s.hi → WithinReach s t → whole_word s o n ≡ Some c → (n ≡ 8) × (is_reached t o n c ≡ true)
+pub whole_word-is_reached : (s t : Reach) (o : ℤ) (n c : ℕ) → s.lo ≤ℤ s.hi → WithinReach s t → whole_word s o n ≡ Some c → (n ≡ 8) × (is_reached t o n c ≡ true)
 whole_word-is_reached s t o n c i l e =
     let w = word_is s o n c e in
     let a = aligned_at (s.lo +ℤ o) c w.at in

@@ -6,7 +6,7 @@ use Rattle.std.proofs.lemmas.List.{get_or-set_same, get_or-set_other, get_or_pas
 use Rattle.regtypes.specs.declared.frame.Region.{Region}
 use Rattle.regtypes.specs.declared.frame.Region.TheVariants.{Message, State, Stack}
 use Rattle.spans.specs.Span.{Span}
-use Rattle.spans.specs.Frame.{Reach, Kind, Unset, Num, Place, joined_reach, LeqKind, joined_kind, kind_at, Leq}
+use Rattle.spans.specs.Frame.{Reach, Kind, Unset, Num, Place, joined_reach, LeqKind, joined_kind, kind_at, Leq, Frame}
 
 -- places of one region
 joined_in : (r : Region) (s t : Reach) → Place r (joined_reach s t) ≡ joined_kind (Place r s) (Place r t)
@@ -76,3 +76,7 @@ joined_all a b k m n p j c = ⊎_elim (j c) past (cases_lt c 75)
       where
         nothing : (y : Kind) → joined_kind Unset y ≡ Unset
         nothing y = refl
+
+-- the first i cells have the kinds of a frame
+abbrev pub Filled : List Kind → Frame → ℕ → Type 0
+Filled k f i = (c : ℕ) → c < i → kind_at k c ≡ f c

@@ -1,5 +1,5 @@
 -- What is known of the registers and of the words of the stack, and its order.
-use Rattle.std.specs.Prelude.{◌≡◌, ℕ, List, slice_index_or, nat_lt, int_le, ◌==◌, ℤ, pos, ◌≤ℤ◌, Bool, true, false, if◌then◌else◌}
+use Rattle.std.specs.Prelude.{◌≡◌, ℕ, List, slice_index_or, nat_lt, int_le, ◌==◌, ◌&&◌, ℤ, pos, ◌≤ℤ◌, Bool, true, false, if◌then◌else◌}
 use Rattle.regtypes.specs.declared.frame.Region.TheVariants.{Message, State, Stack}
 pub use Rattle.spans.specs.declared.kind.Reach.{Reach}
 pub use Rattle.spans.specs.declared.kind.Kind.{Kind}
@@ -82,12 +82,12 @@ abbrev pub with_kind : Frame → ℕ → Kind → Frame
 with_kind f c k d = if d == c then k else f d
 
 -- as a call begins: r1 is the message, r2 the state, r3 how many bytes the message has, r10 the end of the stack, whose
--- words are numbers; nothing else is set
+-- 64 words are numbers; nothing else is set
 abbrev pub entry_frame : Frame
 entry_frame d =
     if d == 1 then Place Message (at_place (pos 0))
     else if d == 2 then Place State (at_place (pos 0))
     else if d == 3 then Num (span 0 256)
     else if d == 10 then Place Stack (at_place (pos 512))
-    else if nat_lt 10 d then Num (whole 64)
+    else if nat_lt 10 d && nat_lt d 75 then Num (whole 64)
     else Unset

@@ -1,6 +1,6 @@
 //! What is known of registers and of the stack's words in form 3 of images, and why a step from what
-//! fits it is no fault. Of its code there are kinds, frames, their order and their join; no rule is code
-//! yet, and no image of form 3 is accepted.
+//! fits it is no fault. Of its code there are kinds, frames, their order and their join; `span_rules` has
+//! parts of the rules, and no image of form 3 is accepted.
 //!
 //! A number is known to lie between two others, and a place to have one of the distances between two
 //! others from its region's first byte; each of the stack's 64 words has such a kind too. So a handler
@@ -10,10 +10,11 @@
 //! instruction asks of it and leaves. Beside that stand the configurations of a call and its steps, with
 //! no frame in them: `specs/Configuration`, `specs/Memory` and `specs/Step`.
 //!
-//! [`Cells`] is a frame as an array, [`leq`] its order, [`join`] what two frames both say. The functions
-//! without a body are there for their laws: [`rules_are_monotone`] and the laws of order and join are
-//! what makes the least typing decide; [`steps_fit`] and [`calls_fit`] say that code with a typing never
-//! comes to a fault. No law says that the rules refuse no more than they have to.
+//! [`Cells`] is a frame as an array, [`Cells::entry`] what is known as a call begins, [`leq`] the order of
+//! frames, [`join`] what two of them both say. The functions without a body are there for their laws:
+//! [`rules_are_monotone`] and the laws of order and join are what makes the least typing decide;
+//! [`steps_fit`] and [`calls_fit`] say that code with a typing never comes to a fault. No law says that
+//! the rules refuse no more than they have to.
 //!
 //! ```
 //! // in both frames r3 is a number: from 1 to 4 in one, from 3 to 9 in the other
