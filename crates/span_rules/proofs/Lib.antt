@@ -1,0 +1,4 @@
+pub mod Exact
+pub mod Ones
+pub mod Wiping
+pub mod Words

@@ -1,0 +1,177 @@
+-- The least rule that an instruction breaks under a frame (docs/FORMATS.md, "Rules of the verifier"); None where it breaks
+-- none of V3 to V10.
+use Rattle.std.specs.Prelude.{ℕ, zero, suc, ◌+◌, ◌&&◌, nat_le, int_le, ℤ, pos, negsuc, Bool, Option, Some, None, false, if◌then◌else◌, min}
+use Rattle.std.specs.Option.{option_map_or}
+use Rattle.decode.specs.declared.insn.Width.{Width}
+use Rattle.decode.specs.declared.insn.Width.TheVariants.{W32, W64}
+use Rattle.decode.specs.declared.insn.Operand.TheVariants as operand
+use Rattle.decode.specs.declared.insn.Insn.{Insn}
+use Rattle.decode.specs.declared.insn.Insn.TheVariants.{Alu, MovSx, Neg, End, Jump, JumpLong, JumpIf, Call, Exit, Load, LoadSx, StoreReg, StoreImm, Wide}
+use Rattle.decode.specs.Encoding.{bytes_in, loaded}
+use Rattle.regtypes.specs.declared.frame.Region.TheVariants.{Message, State, Stack}
+use Rattle.regtypes.specs.declared.rule.Rule.{Rule}
+use Rattle.regtypes.specs.declared.rule.Rule.TheVariants.{V3, V4, V5, V6, V7, V8, V9, V10}
+use Rattle.regtypes.specs.Attributes.{attributes_of}
+use Rattle.regtypes.specs.Rules.{rule_number, is_frame_pointer}
+use Rattle.spans.specs.declared.kind.Reach.{Reach}
+use Rattle.spans.specs.declared.kind.Kind.{Kind}
+use Rattle.spans.specs.declared.kind.Kind.TheVariants.{Unset, Num, Place}
+use Rattle.spans.specs.Frame.{Frame}
+use Rattle.spans.specs.Access.{is_inside, whole_word, is_reached}
+use Rattle.spans.specs.Leaving.{AluForm, Copies, Sums, Moves, Sets, Computes, alu_form, operand_kind, moved_reach}
+
+-- the lesser of two rules, where both are broken
+abbrev pub lesser : Option Rule → Option Rule → Option Rule
+lesser None b = b
+lesser (Some r) None = Some r
+lesser (Some r) (Some q) = Some (if nat_le (rule_number r) (rule_number q) then r else q)
+
+-- the rule, where a test fails
+abbrev pub unless : Bool → Rule → Option Rule
+unless holds rule = if holds then None else Some rule
+
+-- ---- kinds
+
+-- what is read as a number: nothing is known of it, or it is a place
+abbrev pub number_rule : Kind → Option Rule
+number_rule Unset = Some V3
+number_rule (Num s) = None
+number_rule (Place r s) = Some V5
+
+-- what is copied, a place too: nothing is known of it
+abbrev pub value_rule : Kind → Option Rule
+value_rule Unset = Some V3
+value_rule (Num s) = None
+value_rule (Place r s) = None
+
+-- ---- arithmetic
+
+-- places of which one is more than 16 bits and a sign from its region's first byte
+abbrev pub near_rule : Reach → Option Rule
+near_rule s = unless (int_le (negsuc 32767) s.lo && int_le s.hi (pos 32767)) V6
+
+-- a sum of two registers
+abbrev pub sum_rule : Kind → Kind → Option Rule
+sum_rule (Num s) (Num t) = None
+sum_rule (Place r s) (Num t) = near_rule (moved_reach s (pos t.lo) (pos t.hi))
+sum_rule (Num s) (Place r t) = near_rule (moved_reach t (pos s.lo) (pos s.hi))
+sum_rule (Place r s) (Place q t) = Some V5
+sum_rule Unset b = Some V3
+sum_rule (Num s) Unset = Some V3
+sum_rule (Place r s) Unset = Some V3
+
+-- a sum with a whole number, of a place by 64 bits alone
+abbrev pub move_rule : Width → ℤ → Kind → Option Rule
+move_rule width z (Num s) = None
+move_rule W64 z (Place r s) = near_rule (moved_reach s z z)
+move_rule W32 z (Place r s) = Some V5
+move_rule width z Unset = Some V3
+
+-- arithmetic with dst and an operand
+abbrev pub alu_rule : AluForm → Kind → Kind → Option Rule
+alu_rule Copies a b = value_rule b
+alu_rule Sums a b = sum_rule a b
+alu_rule (Moves width z) a b = move_rule width z a
+alu_rule (Sets width) a b = number_rule b
+alu_rule (Computes op width) a b = lesser (number_rule a) (number_rule b)
+
+-- ---- memory
+
+-- the first w words of the stack: of those that an access may reach, each is read as a number
+unfoldable pub words_rule : ℕ → Frame → Reach → ℤ → ℕ → Option Rule
+words_rule zero f s o n = None
+words_rule (suc w) f s o n =
+    lesser (words_rule w f s o n) (if is_reached s o n (11 + w) then number_rule (f (11 + w)) else None)
+
+-- a load from the stack, inside it: of a whole word, or else of numbers
+abbrev pub read_rule : Option ℕ → Frame → Reach → ℤ → ℕ → Option Rule
+read_rule (Some c) f s o n = value_rule (f c)
+read_rule None f s o n = words_rule 64 f s o n
+
+-- a load of n bytes, o bytes from a base of this kind; the words of the stack are judged where it lies inside
+abbrev pub load_rule : ℕ → Frame → Kind → ℤ → ℕ → Option Rule
+load_rule state f Unset o n = Some V3
+load_rule state f (Num s) o n = Some V5
+load_rule state f (Place Message s) o n = unless (is_inside 512 s o n) V6
+load_rule state f (Place State s) o n = unless (is_inside state s o n) V6
+load_rule state f (Place Stack s) o n = if is_inside 512 s o n then read_rule (whole_word s o n) f s o n else Some V6
+
+-- a store of a kind in the stack, inside it: to a whole word, a place too; else a number, over numbers
+abbrev pub write_rule : Option ℕ → Frame → Kind → Reach → ℤ → ℕ → Option Rule
+write_rule (Some c) f k s o n = value_rule k
+write_rule None f k s o n = lesser (number_rule k) (words_rule 64 f s o n)
+
+-- a store of a kind through a base of another; a place that is stored but to a whole word breaks V5 wherever it is stored
+abbrev pub store_rule : ℕ → Frame → Kind → Kind → ℤ → ℕ → Option Rule
+store_rule state f k Unset o n = Some V3
+store_rule state f k (Num s) o n = lesser (value_rule k) (Some V5)
+store_rule state f k (Place Message s) o n = lesser (number_rule k) (Some (if is_inside 512 s o n then V7 else V6))
+store_rule state f k (Place State s) o n = lesser (number_rule k) (unless (is_inside state s o n) V6)
+store_rule state f k (Place Stack s) o n =
+    if is_inside 512 s o n then write_rule (whole_word s o n) f k s o n else lesser (number_rule k) (Some V6)
+
+-- ---- helpers
+
+-- an argument that isn't what a helper wants, whatever is wrong with it
+abbrev pub argument_rule : Option Rule → Option Rule
+argument_rule None = None
+argument_rule (Some r) = Some V9
+
+-- a place with n bytes in its region from each of its positions, in the stack of numbers
+abbrev pub payload_rule : ℕ → Frame → Kind → ℕ → Option Rule
+payload_rule state f Unset n = Some V9
+payload_rule state f (Num s) n = Some V9
+payload_rule state f (Place Message s) n = unless (is_inside 512 s (pos 0) n) V9
+payload_rule state f (Place State s) n = unless (is_inside state s (pos 0) n) V9
+payload_rule state f (Place Stack s) n =
+    if is_inside 512 s (pos 0) n then argument_rule (words_rule 64 f s (pos 0) n) else Some V9
+
+-- the same of as many bytes as a number says, and of 256 where it may be greater
+abbrev pub sized_rule : ℕ → Frame → Kind → Kind → Option Rule
+sized_rule state f p Unset = Some V9
+sized_rule state f p (Place r s) = Some V9
+sized_rule state f p (Num s) = payload_rule state f p (min s.hi 256)
+
+-- the call of a helper (docs/FORMATS.md, "Helpers")
+abbrev pub call_rule : ℕ → Frame → ℤ → Option Rule
+call_rule state f (pos (suc zero)) = lesser (argument_rule (number_rule (f 1))) (payload_rule state f (f 2) 64)
+call_rule state f (pos (suc (suc zero))) = payload_rule state f (f 1) 64
+call_rule state f (pos (suc (suc (suc zero)))) = None
+call_rule state f (pos (suc (suc (suc (suc zero))))) = None
+call_rule state f (pos (suc (suc (suc (suc (suc zero)))))) = lesser (argument_rule (number_rule (f 1))) (sized_rule state f (f 2) (f 3))
+call_rule state f (pos (suc (suc (suc (suc (suc (suc zero))))))) = sized_rule state f (f 1) (f 2)
+call_rule state f z = Some V8
+
+-- r0 at EXIT
+abbrev pub exit_rule : Kind → Option Rule
+exit_rule Unset = Some V10
+exit_rule (Num s) = None
+exit_rule (Place r s) = Some V10
+
+-- ---- instructions
+
+-- what an instruction asks of a frame, V3 and V5 to V10; the state has `state` bytes
+abbrev pub frame_rule : ℕ → Insn → Frame → Option Rule
+frame_rule state (Alu op width dst o) f = alu_rule (alu_form op width o) (f dst.number) (operand_kind width o f)
+frame_rule state (MovSx x dst src) f = number_rule (f src.number)
+frame_rule state (Neg width dst) f = number_rule (f dst.number)
+frame_rule state (End order bits dst) f = number_rule (f dst.number)
+frame_rule state (Wide dst value) f = None
+frame_rule state (Jump offset) f = None
+frame_rule state (JumpLong distance) f = None
+frame_rule state (JumpIf condition width dst o offset) f = lesser (number_rule (f dst.number)) (number_rule (operand_kind width o f))
+frame_rule state (Call helper) f = call_rule state f helper
+frame_rule state Exit f = exit_rule (f 0)
+frame_rule state (Load size dst src offset) f = load_rule state f (f src.number) offset (bytes_in size)
+frame_rule state (LoadSx size dst src offset) f = load_rule state f (f src.number) offset (bytes_in (loaded size))
+frame_rule state (StoreReg size dst src offset) f = store_rule state f (f src.number) (f dst.number) offset (bytes_in size)
+frame_rule state (StoreImm size dst offset imm) f =
+    store_rule state f (operand_kind W64 (operand.Imm imm) f) (f dst.number) offset (bytes_in size)
+
+-- V4: r10 is written
+abbrev pub frame_pointer_rule : Insn → Option Rule
+frame_pointer_rule i = if option_map_or is_frame_pointer (attributes_of i).written false then Some V4 else None
+
+-- the least of the rules V3 to V10 that an instruction breaks
+abbrev pub broken_rule : ℕ → Insn → Frame → Option Rule
+broken_rule state i f = lesser (frame_pointer_rule i) (frame_rule state i f)
