@@ -1,3 +1,4 @@
 pub mod Rules
 pub mod Leaving
 pub mod Laws
+pub mod Transfer
