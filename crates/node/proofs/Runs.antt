@@ -43,7 +43,7 @@ sends-more f p s (x ∷ h) m d =
     ∙ sym (append_assoc (payloads_to d (f p s x).given) (sends_from f p (f p s x).state h d) (payloads_to d (f p (state_from f p (f p s x).state h) m).given))
 
 -- such handlers take nothing back
-grows : (f : Answering) (len : ℕ → ℕ) → Grows (handlers_of f len)
+pub grows : (f : Answering) (len : ℕ → ℕ) → Grows (handlers_of f len)
 grows f len p h m d = (payloads_to d (f p (state_from f p (replicate (len p) 0) h) m).given, sym (sends-more f p (replicate (len p) 0) h m d))
 
 -- a cluster in which all nodes of a system stand, whose gateway has what that of the system has, and in which was put out what was given
@@ -54,7 +54,7 @@ record Holds (f : Handlers) (s : System) (c : Cluster) : Type 0 where
   handlers : c.handlers ≡ f
 
 -- nothing that was put out is taken back
-parcels-stay : (c : Cluster) (acts : List Act) (x : Parcel) → In x c.parcels → In x (after_run c acts).parcels
+pub parcels-stay : (c : Cluster) (acts : List Act) (x : Parcel) → In x c.parcels → In x (after_run c acts).parcels
 parcels-stay c [] x i = i
 parcels-stay c (a ∷ acts) x i =
     let apart : (suc (actor a) == actor a) ≡ false = grind (arith, nat_tests) in
@@ -66,7 +66,7 @@ given-still c acts xs h =
     (λ x o. put-still c (after_run c acts) x.from x (sym (count-after c acts)) (λ b i. parcels-stay c acts (parcel x.from x.to b) i) o) h
 
 -- one of them was
-one-was : (P : Packet → Type 0) (x : Packet) (xs : List Packet) → Each P xs → IsOne x xs → P x
+pub one-was : (P : Packet → Type 0) (x : Packet) (xs : List Packet) → Each P xs → IsOne x xs → P x
 one-was P x [] h i = absurd i
 one-was P x (y ∷ xs) h (inl e) = subst P (sym e) h.0
 one-was P x (y ∷ xs) h (inr i) = one-was P x xs h.1 i
@@ -117,7 +117,7 @@ put-out f s c x h (inl i) = one-was (λ (y : Packet). PutOut c.count c.parcels y
 put-out f s c x h (inr o) = put-still s.outside c x.from x h.outside.count (λ b i. h.outside.parcels (parcel x.from x.to b) i) o
 
 -- the handler's answer is what the cluster's handlers say
-answers : (f : Answering) (len : ℕ → ℕ) (n : TheNode) (c : Cluster) (p : ℕ) (a : Answer) → c.handlers ≡ handlers_of f len → Stands n c p → IsAnswer f p n a → Handles a.state a.given n c
+pub answers : (f : Answering) (len : ℕ → ℕ) (n : TheNode) (c : Cluster) (p : ℕ) (a : Answer) → c.handlers ≡ handlers_of f len → Stands n c p → IsAnswer f p n a → Handles a.state a.given n c
 answers f len n c p a handlers s is j busy =
     let me : n.me ≡ p = s.me in
     let h : List Message = c.history p in

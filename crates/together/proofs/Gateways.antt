@@ -1,0 +1,94 @@
+-- The gateway beside nodes
+use Rattle.std.proofs.Common.{◌≡◌, ℕ, zero, suc, ◌<◌, ◌≤◌, List, [], ◌∷◌, refl, sym, ◌∙◌, subst, arith}
+use Rattle.std.specs.List.{AllByRecursion}
+use Rattle.cluster.specs.Parcels.{Body, Parcel, parcel, In}
+use Rattle.cluster.specs.Cluster.{Cluster}
+use Rattle.cluster.specs.Rules.{Act, Input, Puts, Starts, Shows, Works, Replays, Records, Counts, Drops, Hears, Collects, Recovers, Obeys, Enters, Restores, Greets, Freezes, Keeps, Thaws, Dies, Opens, after_run, IsNode}
+use Rattle.packets.specs.declared.packet.Body as bodies
+use Rattle.packets.specs.declared.packet.Body.TheVariants as packets
+use Rattle.packets.specs.declared.packet.Packet.{Packet}
+use Rattle.node.specs.Says as nodes
+use Rattle.pages.specs.Says as pages
+use Rattle.node.specs.Stands.{Each, actor}
+use Rattle.node.proofs.Outside.{SameOutside, outside-self, outside-still}
+use Rattle.gateway.specs.Deeds.{IsByGateway}
+use Rattle.gateway.specs.Gateway.{TheGateway}
+use Rattle.gateway.specs.Stands.{Stands, PutOut}
+use Rattle.gateway.proofs.Steps.{all-more}
+
+-- what the gateway holds stands where a cluster has the same of it
+stands-same : (g : TheGateway) (c d : Cluster) → SameOutside c d → Stands g c → Stands g d
+stands-same g c d e s =
+    record {
+      count = s.count ∙ e.count;
+      stage = sym e.stage ∙ s.stage;
+      greeted = sym e.greeted ∙ s.greeted;
+      phase = sym e.phase ∙ s.phase;
+      life = sym e.life ∙ s.life;
+      history = sym e.history ∙ s.history;
+      logs = λ p n. rw (sym (e.trims p), sym (e.numbers p), sym (e.inputs p)) (s.logs p (there p n));
+      shown = λ p n. rw (sym e.shown) (s.shown p (there p n));
+      outputs = rw (sym e.shown) s.outputs;
+      heard = λ p n. sym (e.heard p) ∙ s.heard p (there p n);
+      resumed = λ p n. sym (e.resumed p) ∙ s.resumed p (there p n);
+      out = all-more (PutOut c.count c.parcels) (PutOut d.count d.parcels) g.out still s.out;
+    }
+  where
+    there : (p : ℕ) → IsNode d p → IsNode c p
+    there p n = (n.0, subst (λ k. p ≤ k) (sym e.count) n.1)
+
+    still : (x : Packet) → PutOut c.count c.parcels x → PutOut d.count d.parcels x
+    still x o = record { count_is = o.count_is ∙ e.count; from = o.from; said = record { body = o.said.body; says = o.said.says; among = e.parcels (parcel 0 x.to o.said.body) o.said.among } }
+
+-- it stands after the acts of a node
+pub gateway-stands : (g : TheGateway) (c : Cluster) (p : ℕ) (acts : List Act) → 0 < p → Each (λ (a : Act). actor a ≡ p) acts → Stands g c → Stands g (after_run c acts)
+gateway-stands g c p acts some by s = stands-same g c (after_run c acts) (outside-still c c p acts some by (outside-self c)) s
+
+-- its acts are those of node 0
+by-gateway : (a : Act) → IsByGateway a → actor a ≡ 0
+by-gateway (Input d x) o = refl
+by-gateway (Puts p d x) o = o
+by-gateway (Starts p d i ssn x) o = absurd o
+by-gateway (Shows p i ssn x) o = refl
+by-gateway (Works p m) o = absurd o
+by-gateway (Replays p j) o = absurd o
+by-gateway (Records r s i ssn k) o = o
+by-gateway (Counts s r i k) o = absurd o
+by-gateway (Drops d s n) o = o
+by-gateway (Hears p q i k) o = o
+by-gateway (Collects q p i j k u f) o = absurd o
+by-gateway (Recovers p k) o = absurd o
+by-gateway (Obeys p q i k s) o = o
+by-gateway (Enters q p i j n s u f) o = absurd o
+by-gateway (Restores q p i j n s f) o = absurd o
+by-gateway (Greets p i j n s f) o = absurd o
+by-gateway (Freezes p) o = absurd o
+by-gateway (Keeps p) o = absurd o
+by-gateway (Thaws p) o = absurd o
+by-gateway (Dies p) o = absurd o
+by-gateway (Opens p n) o = absurd o
+
+pub all-by-gateway : (acts : List Act) → AllByRecursion IsByGateway acts → Each (λ (a : Act). actor a ≡ 0) acts
+all-by-gateway [] h = tt
+all-by-gateway (a ∷ acts) h = (by-gateway a h.0, all-by-gateway acts h.1)
+
+-- a packet says the same to nodes and to the gateway
+pub says-out : (p : ℕ) (x : bodies.Body) (b : Body) → nodes.Says p x b → pages.Says p x b
+says-out p (packets.Delivery i ssn y) b h = h
+says-out p (packets.Number i ssn k) b h = h
+says-out p (packets.Acknowledgement i k) b h = h
+says-out p (packets.Ask i k) b h = h
+says-out p (packets.Told i j k flags entries) b h = h
+says-out p (packets.Resume i k s) b h = h
+says-out p (packets.Restored i j n s flags pairs) b h = h
+says-out p (packets.Saved n) b h = h
+
+pub says-in : (p : ℕ) (x : bodies.Body) (b : Body) → pages.Says p x b → nodes.Says p x b
+says-in p (packets.Delivery i ssn y) b h = h
+says-in p (packets.Number i ssn k) b h = h
+says-in p (packets.Acknowledgement i k) b h = h
+says-in p (packets.Ask i k) b h = h
+says-in p (packets.Told i j k flags entries) b h = h
+says-in p (packets.Resume i k s) b h = h
+says-in p (packets.Restored i j n s flags pairs) b h = h
+says-in p (packets.Saved n) b h = h
