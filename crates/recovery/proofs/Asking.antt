@@ -37,6 +37,7 @@ asks-one n c to s low other open_is =
       life = s.life;
       own = own-posted n.own c me to (packets.Ask n.own.life cursor) (Ask n.own.life cursor) (take n.own.base (c.history me)) (c.saved_trims me) (λ _ _. None) refl s.own;
       told = s.told;
+      alone = s.alone;
     })
 
 pub asks-at : (n : TheCollecting) (c : Cluster) (to : ℕ) → StandsCollecting n c n.own.me → to ≤ n.own.count → to ≢ n.own.me → GoesTo n.own.me (At (asks to n) n.own.me) c

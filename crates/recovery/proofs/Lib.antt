@@ -8,3 +8,4 @@ pub mod Asking
 pub mod Telling
 pub mod Reviving
 pub mod Others
+pub mod Planning

@@ -30,6 +30,7 @@ stands-same n c d p e s =
         heard = λ q l. rw (sym (e.heard q)) (s.own.heard q (subst (λ m. q ≤ m) (sym e.count) l));
         out = all-more (PutOut c.count c.parcels p) (PutOut d.count d.parcels p) n.own.out (λ o. put-still c d p o e.count (λ b i. e.parcels _ i)) s.own.out;
       };
+      alone = sym (e.told p) ∙ s.alone;
       told = λ q l. rw (sym (e.told q)) (s.told q (subst (λ m. q ≤ m) (sym e.count) l));
     }
 

@@ -81,6 +81,7 @@ module _ (k : Kept) (life : ℕ) (c : Cluster) (dead : c.stage k.me ≡ Dead) (e
       out = tt;
     };
     told = told-is;
+    alone = at-itself me (λ b. (if b then (λ _. None) else c.told me) me ≡ None) refl;
   }
 
   goes-revived : GoesTo me (At (revived k life) me) c

@@ -1,6 +1,6 @@
 -- A page comes to a process that collects
 use Rattle.std.proofs.Common.{◌≡◌, ◌≢◌, ℕ, suc, ◌<◌, ◌≤◌, List, length, Bool, true, false, refl, sym, ◌∙◌, subst, arith}
-use Rattle.std.specs.Prelude.{Option, Some, not, slice_index_or, slice_set, ◌&&◌, ◌==◌, nat_le, if◌then◌else◌}
+use Rattle.std.specs.Prelude.{None, Option, Some, not, slice_index_or, slice_set, ◌&&◌, ◌==◌, nat_le, if◌then◌else◌}
 use Rattle.std.proofs.lemmas.Bool.Decides.{nat_tests}
 use Rattle.world.specs.declared.message.Message.{Message}
 use Rattle.theorems.proofs.Changes.{at-itself}
@@ -92,6 +92,11 @@ module _ (n : TheCollecting) (c : Cluster) (from i j k : ℕ) (flags : Flags) (p
       (at-changed (λ z x y. IsTold z base x y) n.told (none_told 0) (c.told me) from more (Some page_of) q (omega (arith, low, told_wide))
       (told-page from base k (told_of n.told from) (c.told me from) flags page f (s.told from within) ok.open_is ok.cursor fits says) (s.told q l))
 
+  alone-is : c'.told me me ≡ None
+  alone-is =
+      let apart : (me == from) ≡ false = (let f : me ≢ from = λ e. other (sym e) in grind (arith, nat_tests)) in
+      at-itself me (λ t. (if t && (me == from) then Some (with_told (c.told me from) k (told_end flags k page) f) else c.told me me) ≡ None) (rw apart s.alone)
+
   stands-mid : StandsCollecting mid c' me
   stands-mid = record {
     stage = s.stage;
@@ -109,6 +114,7 @@ module _ (n : TheCollecting) (c : Cluster) (from i j k : ℕ) (flags : Flags) (p
       out = s.own.out;
     };
     told = told-is;
+    alone = alone-is;
   }
 
   goes-page : GoesTo me (At (took_page from j (is_done flags) page n) me) c

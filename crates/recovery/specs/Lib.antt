@@ -2,4 +2,5 @@ pub mod Own
 pub mod Collected
 pub mod Collecting
 pub mod Stands
+pub mod Plan
 pub mod Beside

@@ -49,6 +49,8 @@ pub record StandsCollecting (n : TheCollecting) (c : Cluster) (p : ℕ) : Type 0
   pub life : c.stored p ≡ n.own.life
   pub own : HasOwn n.own c p (take n.own.base (c.history p)) (c.saved_trims p) (λ _ _. None)
   pub told : (q : ℕ) → q ≤ c.count → IsTold q n.own.base (told_of n.told q) (c.told p q)
+  -- nor did it tell itself anything
+  pub alone : c.told p p ≡ None
 
 -- what is kept of the process p is what its checkpoint covers: its state, how many messages there are of each sender, and by destination
 -- what they sent, without the entries that the log had dropped by then

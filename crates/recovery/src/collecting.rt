@@ -16,8 +16,8 @@ use std::marker::Model;
 /// A process that came back, and what its peers told.
 #[derive(Drop)]
 pub struct Collecting {
-    own: Own,
-    told: Vec<Collected>,
+    pub(crate) own: Own,
+    pub(crate) told: Vec<Collected>,
 }
 
 impl Model for Collecting {

@@ -24,6 +24,7 @@ mod collected;
 mod collecting;
 mod laws;
 mod own;
+mod plan;
 
 pub use collecting::{Collecting, comes_back};
 pub use laws::others_stand;

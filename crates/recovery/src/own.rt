@@ -4,7 +4,7 @@ ghost use Rattle.std.specs.Prelude.{◌≡◌, ℕ, ◌≤◌, ◌+◌, ◌++◌
 ghost use Rattle.node.specs.Queue.{no_queue};
 ghost use Rattle.recovery.specs.Own.{posts, with_own, queue_of, comes_back, own_of, is_for, hears};
 
-use node::{Outbox, Queue};
+use node::{MOST_RECEIVED, Outbox, Queue};
 use packets::{Body, Kept, KeptLog, Packet};
 use std::alloc::{AllocError, Global};
 use std::marker::Model;
@@ -77,6 +77,23 @@ impl Own {
         ensures few { result ≤ 15 }
     {
         self.count
+    }
+
+    /// How many messages its checkpoint covers.
+    pub(crate) fn base(&self) -> u64
+        ensures value { result ≡ self.now.base }
+        ensures young { result ≤ MOST_RECEIVED }
+    {
+        self.base
+    }
+
+    /// How many of these are of each sender.
+    pub(crate) fn covered(&self) -> &[u64]
+        ensures value { result.now ≡ self.now.covered }
+        ensures wide { length result.now ≡ self.now.count + 1 }
+        ensures low { (q : ℕ) → slice_index_or result.now q 0 ≤ self.now.base }
+    {
+        self.covered.as_slice()
     }
 
     /// Whether a packet is of another node of this cluster to this one.

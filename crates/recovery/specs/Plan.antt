@@ -1,0 +1,57 @@
+-- What a process keeps once all its peers have told all
+use Rattle.std.specs.Prelude.{◌≡◌, ◌≢◌, ℕ, zero, suc, ◌+◌, ◌≤◌, List, [], ◌∷◌, ◌++◌, length, map, take, Option, Some, None, Bool, true, ◌&&◌, ◌||◌, ◌==◌, if◌then◌else◌, slice_index_or}
+use Rattle.world.specs.declared.message.Message.{Message}
+use Rattle.world.specs.History.{count_of}
+use Rattle.world.specs.Plan.{first_below, if_next}
+use Rattle.cluster.specs.Cluster.{Cluster}
+use Rattle.cluster.specs.Rules.{Recovers, May, kept_by}
+use Rattle.node.specs.declared.job.OpenJob.{OpenJob}
+use Rattle.node.specs.Stands.{job_of}
+use Rattle.recovery.specs.Own.{TheOwn}
+use Rattle.node.specs.Says.{first_told}
+use Rattle.recovery.specs.Collected.{TheCollected}
+use Rattle.recovery.specs.Collecting.{TheCollecting, told_of}
+use Rattle.recovery.specs.Stands.{StandsCollecting}
+
+-- of the peers below d all have told all
+abbrev pub told_below : List TheCollected → ℕ → ℕ → Bool
+told_below told me zero = true
+told_below told me (suc d) = told_below told me d && ((d == me) || (told_of told d).done)
+
+abbrev pub has_all : TheCollecting → Bool
+has_all n = told_below n.told n.own.me (n.own.count + 1)
+
+-- the message that was told under the number m: of two, that of the lesser peer
+abbrev pub told_under : List TheCollected → ℕ → ℕ → Option Message
+told_under told count m = first_below (λ q. first_told q (told_of told q).entries m) (count + 1)
+
+-- it, where it is its sender's next behind so many of each
+abbrev pub next_by : List ℕ → Option Message → Option Message
+next_by counts None = None
+next_by counts (Some m) = if m.ssn == suc (slice_index_or counts m.sender 0) then Some m else None
+
+-- behind the history h these messages come, each the one that f has under the next number, and its sender's next
+abbrev pub Follows : (ℕ → Option Message) → List Message → List Message → Type 0
+Follows f h [] = Unit {0}
+Follows f h (m ∷ ms) = (if_next h (f (suc (length h))) ≡ Some m) × Follows f (h ++ m ∷ []) ms
+
+-- a history has as many messages as the checkpoint covers, and as many of each sender
+pub record IsCovered (base count : ℕ) (covered : List ℕ) (h : List Message) : Type 0 where
+  pub many : length h ≡ base
+  pub counts : (q : ℕ) → q ≤ count → slice_index_or covered q 0 ≡ count_of q h
+
+-- the messages follow behind what the checkpoint covers, and none behind them
+pub record IsPlan (f : ℕ → Option Message) (h ms : List Message) : Type 0 where
+  pub follows : Follows f h ms
+  pub most : if_next (h ++ ms) (f (suc (length (h ++ ms)))) ≡ None
+
+abbrev pub Plans : TheCollecting → List OpenJob → Type 0
+Plans n jobs = (h : List Message) → IsCovered n.own.base n.own.count n.own.covered h → IsPlan (told_under n.told n.own.count) h (map job_of jobs)
+
+-- where all have told, the process may recover with what its checkpoint covers and these messages behind it
+pub record MayRecover (n : TheCollecting) (jobs : List OpenJob) (c : Cluster) : Type 0 where
+  pub may : May c (Recovers n.own.me (n.own.base + length jobs))
+  pub kept : kept_by c n.own.me (n.own.base + length jobs) ≡ take n.own.base (c.history n.own.me) ++ map job_of jobs
+
+abbrev pub Recovering : TheCollecting → List OpenJob → Type 0
+Recovering n jobs = has_all n ≡ true → (c : Cluster) → StandsCollecting n c n.own.me → MayRecover n jobs c
