@@ -1,3 +1,4 @@
 pub mod Page
+pub mod Label
 pub mod Marks
 pub mod Picture

@@ -1,10 +1,13 @@
 -- What an entry shows by itself: a mark and labels, in its column and on its process's line (docs/FORMATS.md, "Picture").
-use Rattle.std.specs.Prelude.{◌≡◌, ℕ, ◌+◌, ◌-◌, List, [], ◌∷◌, ◌++◌, codes, decimal, nat_le, if◌then◌else◌}
+use Rattle.std.specs.Prelude.{◌≡◌, ℕ, ◌+◌, List, [], ◌∷◌, ◌++◌, codes, decimal, length, nat_le, take, if◌then◌else◌}
 use Rattle.world.specs.declared.call.Call.{Call}
 use Rattle.world.specs.declared.call.Call.TheVariants as call
 use Rattle.world.specs.declared.answer.Answer.{Answer}
 use Rattle.world.specs.declared.answer.Answer.TheVariants as answer
 use Rattle.world.specs.declared.entry.Entry.{Entry}
+use Rattle.scenario.specs.Hex.{hex_text}
+use Rattle.diagram.specs.declared.label.Side.TheVariants.{Above, Below, Beyond}
+use Rattle.diagram.specs.Label.{label_text}
 use Rattle.diagram.specs.Page.{column_place, line_place}
 
 -- one of the shapes, in a column on the line of a process, or of the outside (0)
@@ -12,17 +15,9 @@ abbrev pub shape_text : List ℕ → ℕ → ℕ → List ℕ
 shape_text shape column line =
     codes "<use href='#" ++ (shape ++ (codes "' x='" ++ (decimal (column_place column) ++ (codes "' y='" ++ (decimal (line_place line) ++ codes "'/>\n")))))
 
--- words in a style, in a column at a height
-abbrev pub label_text : List ℕ → ℕ → ℕ → List ℕ → List ℕ
-label_text style column height words =
-    codes "<text class='" ++ style ++ codes "' x='" ++ decimal (column_place column) ++ codes "' y='" ++ decimal height ++ codes "'>" ++ words ++ codes "</text>\n"
-
--- the same above a line, and below it
-abbrev pub above : List ℕ → ℕ → ℕ → List ℕ → List ℕ
-above style column line words = label_text style column (line_place line - 14) words
-
-abbrev pub below : List ℕ → ℕ → ℕ → List ℕ → List ℕ
-below style column line words = label_text style column (line_place line + 22) words
+-- the first four bytes, and two dots where there are more
+abbrev pub first_bytes : List ℕ → List ℕ
+first_bytes payload = if nat_le (length payload) 4 then hex_text payload else hex_text (take 4 payload) ++ codes ".."
 
 -- the number that the answer of a checkpoint, a trim, a crash or a recovery gives
 abbrev pub number_in : Answer → ℕ
@@ -36,18 +31,28 @@ number_in a = 0
 abbrev pub on_line : ℕ → ℕ → List ℕ → List ℕ
 on_line n p text = if nat_le p n then text else []
 
+-- where the outside hands in a message: the number of its feed, and for whom it is
+abbrev pub input_mark : ℕ → ℕ → ℕ → List ℕ
+input_mark column to feed =
+    shape_text (codes "input") column 0 ++ label_text (codes "t") Above column 0 (codes "in " ++ decimal feed)
+    ++ label_text (codes "t") Below column 0 (codes "for " ++ decimal to)
+
 -- the mark of a call that was answered with a number, in a picture of n processes; calls that move packets have none by themselves
 abbrev pub call_mark : ℕ → ℕ → Call → ℕ → List ℕ
-call_mark n column (call.Input to feed payload) k =
-    shape_text (codes "input") column 0 ++ above (codes "t") column 0 (codes "in " ++ decimal feed) ++ below (codes "t") column 0 (codes "for " ++ decimal to)
-call_mark n column (call.Checkpoint p) k = on_line n p (shape_text (codes "saved") column p ++ above (codes "t") column p (codes "save " ++ decimal k))
-call_mark n column (call.Trim p) k = on_line n p (shape_text (codes "trim") column p ++ above (codes "t") column p (codes "trim " ++ decimal k))
+call_mark n column (call.Input to feed payload) k = input_mark column to feed ++ label_text (codes "b") Beyond column 0 (first_bytes payload)
+call_mark n column (call.Checkpoint p) k =
+    on_line n p (shape_text (codes "saved") column p ++ label_text (codes "t") Above column p (codes "save " ++ decimal k))
+call_mark n column (call.Trim p) k =
+    on_line n p (shape_text (codes "trim") column p ++ label_text (codes "t") Above column p (codes "trim " ++ decimal k))
 call_mark n column (call.Crash p) k =
-    on_line n p (shape_text (codes "crash") column p ++ above (codes "c") column p (codes "crash") ++ below (codes "t") column p (codes "inc " ++ decimal k))
+    on_line n p (shape_text (codes "crash") column p ++ label_text (codes "c") Above column p (codes "crash")
+        ++ label_text (codes "t") Below column p (codes "inc " ++ decimal k))
 call_mark n column (call.Recover p) k =
-    on_line n p (shape_text (codes "recover") column p ++ above (codes "r") column p (codes "recover") ++ below (codes "t") column p (codes "kept " ++ decimal k))
+    on_line n p (shape_text (codes "recover") column p ++ label_text (codes "r") Above column p (codes "recover")
+        ++ label_text (codes "t") Below column p (codes "kept " ++ decimal k))
 call_mark n column (call.RecoverAlone p) k =
-    on_line n p (shape_text (codes "recover") column p ++ above (codes "r") column p (codes "alone") ++ below (codes "t") column p (codes "kept " ++ decimal k))
+    on_line n p (shape_text (codes "recover") column p ++ label_text (codes "r") Above column p (codes "alone")
+        ++ label_text (codes "t") Below column p (codes "kept " ++ decimal k))
 call_mark n column c k = []
 
 -- the mark of an entry

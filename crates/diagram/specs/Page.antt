@@ -1,9 +1,9 @@
 -- How large a picture is, and where its columns and lines are.
 use Rattle.std.specs.Prelude.{ℕ, ◌+◌, ◌*◌, ◌/◌, min, max, List, ◌++◌, codes, decimal}
 
--- where a column is: 44 pixels a column, and 140 after each 40 columns; those from 2^32 - 1 on are in one place
+-- where a column is: 24 pixels a column, and 140 after each 50 columns; those from 2^32 - 1 on are in one place
 abbrev pub column_place : ℕ → ℕ
-column_place column = 190 + min column 4294967295 * 44 + min column 4294967295 / 40 * 140
+column_place column = 190 + min column 4294967295 * 24 + min column 4294967295 / 50 * 140
 
 -- as wide as that many columns, and at least as wide as the legend
 abbrev pub page_width : ℕ → ℕ
@@ -11,11 +11,11 @@ page_width columns = max (column_place columns + 44) 900
 
 -- where the line of a process is, and that of the outside (0)
 abbrev pub line_place : ℕ → ℕ
-line_place number = 74 + number * 78
+line_place number = 100 + number * 78
 
 -- as high as the lines of that many processes, of at most 255, and the legend
 abbrev pub page_height : ℕ → ℕ
-page_height processes = line_place (min processes 255) + 44 + 124
+page_height processes = line_place (min processes 255) + 44 + 132
 
 -- how an element `svg` of this size begins
 abbrev pub head_text : ℕ → ℕ → List ℕ

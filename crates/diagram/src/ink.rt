@@ -1,4 +1,4 @@
-//! What is written of a picture: lines, boxes, marks and labels, an element each.
+//! What is written of a picture: lines, boxes, marks and texts, an element each.
 //!
 //! A class names a style of `legend::STYLE`.
 
@@ -12,33 +12,6 @@ const HALF: usize = 9;
 pub struct Point {
     pub x: usize,
     pub y: usize,
-}
-
-/// Where a label stands: above or below its point.
-#[derive(Clone, Copy, PartialEq, Eq, Debug)]
-pub enum Side {
-    Above,
-    Below,
-}
-
-impl Side {
-    /// The side of a lane that looks away from another.
-    pub(crate) fn away(lane: u8, other: u8) -> Side {
-        if other < lane {
-            Side::Below
-        } else {
-            Side::Above
-        }
-    }
-
-    /// Where the foot of a label is.
-    fn foot(self, at: Point) -> Point {
-        let y = match self {
-            Side::Above => at.y.saturating_sub(14),
-            Side::Below => at.y.saturating_add(22),
-        };
-        Point { x: at.x, y }
-    }
 }
 
 /// Writes a straight line.
@@ -104,27 +77,4 @@ pub(crate) fn push_count(
         out,
         "<text class='{class}' x='{x}' y='{y}'>{text}{count}</text>"
     )
-}
-
-/// Writes a word beside a point.
-pub(crate) fn push_label(
-    out: &mut String,
-    class: &str,
-    at: Point,
-    side: Side,
-    word: &str,
-) -> Result<(), AllocError> {
-    push_text(out, class, side.foot(at), word)
-}
-
-/// Writes a word and a number beside a point.
-pub(crate) fn push_numbered(
-    out: &mut String,
-    class: &str,
-    at: Point,
-    side: Side,
-    word: &str,
-    number: u32,
-) -> Result<(), AllocError> {
-    push_count(out, class, side.foot(at), word, u64::from(number))
 }

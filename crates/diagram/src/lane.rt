@@ -1,5 +1,7 @@
 //! What a process is doing, as far as its line and its boxes tell.
 
+use crate::sign::Sign;
+
 /// What a line looks like.
 #[derive(Clone, Copy, PartialEq, Eq, Debug)]
 pub enum Phase {
@@ -38,6 +40,14 @@ impl Job {
         match self.sender {
             Some(_) => "call",
             None => "again",
+        }
+    }
+
+    /// What the legend calls it.
+    pub(crate) fn sign(&self) -> Sign {
+        match self.sender {
+            Some(_) => Sign::Call,
+            None => Sign::Replayed,
         }
     }
 }

@@ -1,19 +1,29 @@
-//! The styles of a picture, and what they mean.
+//! The styles of a picture, and the legend of the signs that it has.
+
+use crate::sign::Sign;
+use std::alloc::{AllocError, Global};
 
 /// The least width of a page, so that the legend has room.
 pub const LEGEND_WIDTH: usize = 900;
 /// The height of the legend.
-pub const LEGEND_HEIGHT: usize = 124;
+pub const LEGEND_HEIGHT: usize = 132;
+
+/// Signs stand side by side, so many in a row.
+const IN_ROW: usize = 4;
+/// From a sign to the next one of its row, and from a row to the next.
+const CELL: (usize, usize) = (222, 24);
+/// Where the first sign is.
+const CORNER: (usize, usize) = (12, 20);
 
 /// Styles, arrow heads, the pattern of replayed calls, and the shapes of marks.
 pub const STYLE: &str = "<style>
 text{font:11px Helvetica,Arial,'DejaVu Sans',sans-serif;fill:#222}
 line,path{fill:none;stroke:#444}
-.t,.s,.c,.r,.more{paint-order:stroke;stroke:#fff;stroke-width:3px;stroke-linejoin:round}
-.t,.s,.c,.r,.place{text-anchor:middle;font-size:10px}
-.s{fill:#00654a;font-weight:bold}.c{fill:#a33d00;font-weight:bold}.r{fill:#7a5200}
-.place{fill:#777}.name{font-size:12px;font-weight:bold}.more{font-weight:bold;fill:#666;stroke-width:6px}
-.j{font-size:10px}
+.t,.s,.c,.r,.b,.more{paint-order:stroke;stroke:#fff;stroke-width:3px;stroke-linejoin:round}
+.t,.s,.c,.r,.b,.place{text-anchor:middle;font-size:10px}
+.s{fill:#00654a;font-weight:bold}.c{fill:#a33d00;font-weight:bold}.r{fill:#7a5200}.b{fill:#0b4f7d;font-size:9px}
+.place{fill:#777;font-size:9px}.name{font-size:12px;font-weight:bold}.more{font-weight:bold;fill:#666;stroke-width:6px}
+.j{font-size:9px}
 .column{stroke:#eee}
 .up{stroke-width:1.5}.down{stroke:#888;stroke-dasharray:1 5}.back{stroke:#e69f00;stroke-width:4}
 .call{fill:#dcebf7;stroke:#0072b2}.again{fill:url(#stripes);stroke:#a86f00}
@@ -41,22 +51,41 @@ line,path{fill:none;stroke:#444}
 </defs>
 ";
 
-/// What the styles mean, four to a row.
-pub const LEGEND: &str =
-    "<line class='message' x1='12' y1='20' x2='46' y2='20'/><text x='54' y='24'>message, with its SSN</text>
-<line class='number' x1='232' y1='20' x2='266' y2='20'/><text x='274' y='24'>its number (RSN), to its sender</text>
-<line class='ack' x1='462' y1='20' x2='496' y2='20'/><text x='504' y='24'>acknowledgement of a number</text>
-<line class='out' x1='692' y1='20' x2='726' y2='20'/><text x='734' y='24'>output, shown outside</text>
-<path class='call' d='M46 36H12V52H46Z'/><text class='j' x='17' y='48'>#1</text><text x='54' y='48'>handler call, its job</text>
-<path class='again' d='M266 36H232V52H266Z'/><text x='274' y='48'>replayed call</text>
-<path class='call' d='M496 36H462V52H496'/><text x='504' y='48'>cut by a crash, or still open</text>
-<line class='message cut' x1='692' y1='44' x2='720' y2='44'/><use href='#lost' x='720' y='44'/><text x='734' y='48'>lost packet</text>
-<use href='#crash' x='29' y='68'/><text x='54' y='72'>crash, its new incarnation</text>
-<use href='#recover' x='249' y='68'/><text x='274' y='72'>recovery, how many it kept</text>
-<line class='back' x1='462' y1='68' x2='496' y2='68'/><text x='504' y='72'>replays, or restores numbers</text>
-<line class='sync' x1='692' y1='68' x2='726' y2='68'/><text x='734' y='72'>numbers from a peer</text>
-<use href='#saved' x='29' y='92'/><text x='54' y='96'>checkpoint, what it covers</text>
-<use href='#trim' x='249' y='92'/><text x='274' y='96'>logs to it are trimmed</text>
-<line class='message cut' x1='462' y1='92' x2='496' y2='92'/><use href='#copy' x='479' y='92'/><text x='504' y='96'>a copy, from where it was made</text>
-<line class='message cut' x1='692' y1='92' x2='726' y2='92'/><text x='734' y='96'>still on its way</text>
-";
+/// The signs that a picture has.
+#[derive(Drop)]
+pub struct Legend {
+    signs: Vec<Sign>,
+}
+
+impl Legend {
+    /// No sign so far.
+    pub(crate) fn new(alloc: Global) -> Legend {
+        Legend {
+            signs: Vec::new(alloc),
+        }
+    }
+
+    /// The picture has this sign.
+    pub(crate) fn note(&mut self, sign: Sign) -> Result<(), AllocError> {
+        if !self.signs.contains(&sign) {
+            self.signs.push(sign)?;
+        }
+        Ok(())
+    }
+
+    /// Each sign, with what it is.
+    pub(crate) fn text(&self, alloc: Global) -> Result<String, AllocError> {
+        let mut out = String::new(alloc);
+        let shown = Sign::ALL.iter().filter(|sign| self.signs.contains(sign));
+        for (place, sign) in shown.enumerate() {
+            let x = CORNER.0.saturating_add((place % IN_ROW) * CELL.0);
+            let y = CORNER.1.saturating_add((place / IN_ROW).saturating_mul(CELL.1));
+            let (sample, words) = (sign.sample(), sign.words());
+            writeln!(
+                out,
+                "<g transform='translate({x} {y})'>{sample}<text x='42' y='4'>{words}</text></g>"
+            )?;
+        }
+        Ok(out)
+    }
+}

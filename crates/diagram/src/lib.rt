@@ -13,6 +13,7 @@
 #![tactic(auto)]
 
 mod ink;
+mod label;
 mod lane;
 mod legend;
 mod marks;
@@ -20,6 +21,7 @@ mod packets;
 mod page;
 mod picture;
 mod processes;
+mod sign;
 mod wire;
 
 pub use page::draw;

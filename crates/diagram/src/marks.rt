@@ -2,12 +2,20 @@
 //!
 //! A class names a style of `legend::STYLE`, a shape one of its shapes.
 
-ghost use Rattle.std.specs.Prelude.{◌≡◌, ◌++◌, ◌≤◌, OnOk, codes, decimal, string_bytes};
-ghost use Rattle.diagram.specs.Marks.{above, below, call_mark, entry_mark, marks_from, number_in, shape_text};
+ghost use Rattle.std.specs.Prelude.{◌≡◌, ◌++◌, OnOk, codes, string_bytes};
+ghost use Rattle.diagram.specs.Label.{label_text};
+ghost use Rattle.diagram.specs.Marks.{call_mark, entry_mark, first_bytes, input_mark, marks_from, number_in, shape_text};
+ghost use Rattle.diagram.specs.declared.label.Side.TheVariants.{Beyond};
 
+use crate::label::{Side, push_number, push_word};
 use crate::page::{column_x, lane_y};
+use helpers::Payload;
+use scenario::Hex;
 use std::alloc::AllocError;
 use world::{Answer, Call, Entry};
+
+/// How many bytes of a message are shown.
+const SHOWN_BYTES: usize = 4;
 
 /// Writes the marks of entries in their columns, in a picture of so many processes.
 pub(crate) fn push_marks(
@@ -65,36 +73,44 @@ fn push_call_mark(
     ensures { OnOk result (string_bytes out.new ≡ string_bytes out.old ++ call_mark processes column call.now number) }
 {
     match *call {
-        Call::Input { to, feed, .. } => {
-            push_shape(out, "input", column, 0)?;
-            push_above(out, "t", column, 0, "in ", feed)?;
-            push_below(out, column, 0, "for ", u32::from(to))
+        Call::Input { to, feed, payload } => {
+            push_input(out, column, to, feed)?;
+            push_bytes(out, column, &payload)
         }
         Call::Checkpoint { process } if process <= processes => {
             push_shape(out, "saved", column, process)?;
-            push_above(out, "t", column, process, "save ", number)
+            push_number(out, "t", Side::Above, column, process, "save ", number)
         }
         Call::Trim { to } if to <= processes => {
             push_shape(out, "trim", column, to)?;
-            push_above(out, "t", column, to, "trim ", number)
+            push_number(out, "t", Side::Above, column, to, "trim ", number)
         }
         Call::Crash { process } if process <= processes => {
             push_shape(out, "crash", column, process)?;
-            push_word(out, "c", column, process, "crash")?;
-            push_below(out, column, process, "inc ", number)
+            push_word(out, "c", Side::Above, column, process, "crash")?;
+            push_number(out, "t", Side::Below, column, process, "inc ", number)
         }
         Call::Recover { process } if process <= processes => {
             push_shape(out, "recover", column, process)?;
-            push_word(out, "r", column, process, "recover")?;
-            push_below(out, column, process, "kept ", number)
+            push_word(out, "r", Side::Above, column, process, "recover")?;
+            push_number(out, "t", Side::Below, column, process, "kept ", number)
         }
         Call::RecoverAlone { process } if process <= processes => {
             push_shape(out, "recover", column, process)?;
-            push_word(out, "r", column, process, "alone")?;
-            push_below(out, column, process, "kept ", number)
+            push_word(out, "r", Side::Above, column, process, "alone")?;
+            push_number(out, "t", Side::Below, column, process, "kept ", number)
         }
         _ => Ok(()),
     }
+}
+
+/// Writes where the outside hands in a message: the number of its feed, and for whom it is.
+fn push_input(out: &mut String, column: usize, to: u8, feed: u32) -> Result<(), AllocError>
+    ensures { OnOk result (string_bytes out.new ≡ string_bytes out.old ++ input_mark column to feed) }
+{
+    push_shape(out, "input", column, 0)?;
+    push_number(out, "t", Side::Above, column, 0, "in ", feed)?;
+    push_number(out, "t", Side::Below, column, 0, "for ", u32::from(to))
 }
 
 /// Writes a shape on a line.
@@ -105,48 +121,17 @@ fn push_shape(out: &mut String, shape: &str, column: usize, line: u8) -> Result<
     writeln!(out, "<use href='#{shape}' x='{x}' y='{y}'/>")
 }
 
-/// Writes a word above a line.
-fn push_word(
-    out: &mut String,
-    class: &str,
-    column: usize,
-    line: u8,
-    word: &str,
-) -> Result<(), AllocError>
-    ensures { OnOk result (string_bytes out.new ≡ string_bytes out.old ++ above class.now column line word.now) }
+/// Writes the first four bytes of an input beyond the line of the outside, and two dots where it has more.
+fn push_bytes(out: &mut String, column: usize, payload: &Payload) -> Result<(), AllocError>
+    ensures { OnOk result (string_bytes out.new ≡ string_bytes out.old ++ label_text (codes "b") Beyond column 0 (first_bytes payload.now)) }
 {
-    let (x, y) = (column_x(column), lane_y(line) - 14);
-    writeln!(out, "<text class='{class}' x='{x}' y='{y}'>{word}</text>")
-}
-
-/// Writes a word and a number above a line.
-fn push_above(
-    out: &mut String,
-    class: &str,
-    column: usize,
-    line: u8,
-    word: &str,
-    number: u32,
-) -> Result<(), AllocError>
-    ensures { OnOk result (string_bytes out.new ≡ string_bytes out.old ++ above class.now column line (word.now ++ decimal number)) }
-{
-    let (x, y) = (column_x(column), lane_y(line) - 14);
-    writeln!(
-        out,
-        "<text class='{class}' x='{x}' y='{y}'>{word}{number}</text>"
-    )
-}
-
-/// Writes a word and a number below a line.
-fn push_below(
-    out: &mut String,
-    column: usize,
-    line: u8,
-    word: &str,
-    number: u32,
-) -> Result<(), AllocError>
-    ensures { OnOk result (string_bytes out.new ≡ string_bytes out.old ++ below (codes "t") column line (word.now ++ decimal number)) }
-{
-    let (x, y) = (column_x(column), lane_y(line) + 22);
-    writeln!(out, "<text class='t' x='{x}' y='{y}'>{word}{number}</text>")
+    let bytes = payload.as_slice();
+    let (x, y) = (column_x(column), Side::Beyond.height(column, 0));
+    if bytes.len() <= SHOWN_BYTES {
+        let hex = Hex(bytes);
+        writeln!(out, "<text class='b' x='{x}' y='{y}'>{hex}</text>")
+    } else {
+        let hex = Hex(&bytes[..SHOWN_BYTES]);
+        writeln!(out, "<text class='b' x='{x}' y='{y}'>{hex}..</text>")
+    }
 }

@@ -1,7 +1,9 @@
 //! What is drawn of packets.
 
-use crate::ink::{Point, Side, push_label, push_line, push_mark, push_numbered};
+use crate::ink::{Point, push_line, push_mark};
+use crate::label::{Side, push_number, push_word};
 use crate::picture::Picture;
+use crate::sign::Sign;
 use crate::wire::{Kind, Wire};
 use std::alloc::AllocError;
 use world::Answer;
@@ -20,7 +22,7 @@ impl Picture {
         }
         let wire = Wire::new(Kind::Message, from, to, column);
         let side = Side::away(from, to);
-        push_numbered(&mut self.marks, "t", wire.start(), side, "ssn ", ssn)?;
+        push_number(&mut self.marks, "t", side, column, from, "ssn ", ssn)?;
         self.place(key, wire)
     }
 
@@ -47,6 +49,8 @@ impl Picture {
         let end = wire.half(column);
         push_line(&mut self.arrows, wire.headless(), wire.start(), end)?;
         push_mark(&mut self.marks, "lost", end)?;
+        self.legend.note(wire.sign())?;
+        self.legend.note(Sign::Lost)?;
         self.mark_copy(wire, end)
     }
 
@@ -67,6 +71,7 @@ impl Picture {
             wire.class()
         };
         push_line(&mut self.arrows, class, wire.start(), end)?;
+        self.legend.note(wire.sign())?;
         self.mark_copy(wire, end)?;
         self.receive(column, wire, answer)
     }
@@ -85,7 +90,7 @@ impl Picture {
             }
             Answer::Shown(ssn) => {
                 push_mark(&mut self.marks, "shown", end)?;
-                return push_numbered(&mut self.marks, "s", end, Side::Above, "out ", ssn);
+                return push_number(&mut self.marks, "s", Side::Above, column, here, "out ", ssn);
             }
             Answer::Duplicate(new) => {
                 self.place(new, Wire::new(Kind::Number, here, back, column))?;
@@ -96,18 +101,20 @@ impl Picture {
             Answer::Stale => "stale",
             Answer::Unreachable => {
                 push_mark(&mut self.marks, "lost", end)?;
+                self.legend.note(Sign::Lost)?;
                 "down"
             }
             _ => return Ok(()),
         };
-        push_label(&mut self.marks, "t", end, side, word)
+        push_word(&mut self.marks, "t", side, column, here, word)
     }
 
     /// A ring where a copied packet was copied.
     pub(crate) fn mark_copy(&mut self, wire: Wire, end: Point) -> Result<(), AllocError> {
-        match wire.copied {
-            Some(column) => push_mark(&mut self.marks, "copy", wire.point_at(column, end)),
-            None => Ok(()),
-        }
+        let Some(column) = wire.copied else {
+            return Ok(());
+        };
+        self.legend.note(Sign::Copy)?;
+        push_mark(&mut self.marks, "copy", wire.point_at(column, end))
     }
 }

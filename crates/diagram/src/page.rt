@@ -7,7 +7,7 @@ ghost use Rattle.diagram.specs.Picture.{IsPicture};
 ghost use Rattle.diagram.specs.Page.{column_place, head_text, line_place, page_height, page_width};
 
 use crate::ink::{Point, push_count, push_line, push_text};
-use crate::legend::{LEGEND, LEGEND_HEIGHT, LEGEND_WIDTH, STYLE};
+use crate::legend::{LEGEND_HEIGHT, LEGEND_WIDTH, STYLE};
 use crate::marks::push_marks;
 use crate::picture::Picture;
 use indexmap::IndexMap;
@@ -16,21 +16,21 @@ use std::alloc::{AllocError, Global};
 use world::Entry;
 
 /// From a column to the next, in pixels.
-const STEP: usize = 44;
+const STEP: usize = 24;
 /// Where the first column is.
 const FIRST: usize = 190;
 /// Where lines begin.
 const BEGIN: usize = 160;
 /// After so many columns names are written again.
-const BLOCK: usize = 40;
+const BLOCK: usize = 50;
 /// How much room they have then.
 const GUTTER: usize = 140;
 /// Where the line of the outside is.
-const TOP: usize = 74;
+const TOP: usize = 100;
 /// Columns from this one on are in one place.
 const COLUMN_LIMIT: usize = 4_294_967_295;
 /// From a line to the next.
-const GAP: usize = 78;
+pub(crate) const GAP: usize = 78;
 /// What is free below the last line and behind the last column.
 const MARGIN: usize = 44;
 
@@ -115,9 +115,9 @@ fn lane_count(processes: &IndexMap<String, Process>) -> u8
 /// Writes the number of an entry, from 1, and a thin line through its column.
 fn push_column(out: &mut String, column: usize, foot: usize) -> Result<(), AllocError> {
     let x = column_x(column);
-    push_line(out, "column", Point { x, y: 30 }, Point { x, y: foot })?;
+    push_line(out, "column", Point { x, y: 24 }, Point { x, y: foot })?;
     let place = (column as u64).saturating_add(1);
-    push_count(out, "place", Point { x, y: 22 }, "", place)
+    push_count(out, "place", Point { x, y: 18 }, "", place)
 }
 
 /// Writes the names of the lines, left of them and again after each block of columns.
@@ -127,7 +127,7 @@ fn push_names(
     count: u8,
     columns: usize,
 ) -> Result<(), AllocError> {
-    push_text(out, "name", Point { x: 12, y: 22 }, "entry")?;
+    push_text(out, "name", Point { x: 12, y: 18 }, "entry")?;
     push_lane_names(out, processes, count, "name", 12)?;
     for block in 1..=columns / BLOCK {
         let after = column_x(block.saturating_mul(BLOCK));
@@ -167,6 +167,7 @@ fn joined(
 ) -> Result<String, AllocError>
     ensures { IfOk result (λ text. HasPart (marks_from count 0 entries.now) (string_bytes text)) }
 {
+    let legend = picture.legend.text(alloc)?;
     let mut out = String::from_str(alloc, STYLE)?;
     out.push_str("<rect width='100%' height='100%' fill='#fff'/>\n")?;
     out.push_str(picture.lines.as_str())?;
@@ -175,7 +176,7 @@ fn joined(
     out.push_str(picture.marks.as_str())?;
     push_marks(&mut out, count, entries)?;
     writeln!(out, "<g transform='translate(0 {foot})'>")?;
-    out.push_str(LEGEND)?;
+    out.push_str(legend.as_str())?;
     out.push_str("</g>\n")?;
     Ok(out)
 }

@@ -2,7 +2,9 @@
 
 use crate::ink::{Point, push_line, push_mark};
 use crate::lane::{Job, Lane, Phase};
+use crate::legend::Legend;
 use crate::page::{column_x, lane_y};
+use crate::sign::Sign;
 use crate::wire::Wire;
 use indexmap::IndexMap;
 use std::alloc::{AllocError, Global};
@@ -23,6 +25,7 @@ pub struct Picture {
     pub arrows: String,
     /// and marks and labels of packets and handler calls.
     pub marks: String,
+    pub legend: Legend,
 }
 
 impl Picture {
@@ -39,6 +42,7 @@ impl Picture {
             boxes: String::new(alloc),
             arrows: String::new(alloc),
             marks: String::new(alloc),
+            legend: Legend::new(alloc),
         })
     }
 
@@ -46,6 +50,7 @@ impl Picture {
     /// isn't drawn.
     pub(crate) fn enter(&mut self, column: usize, entry: &Entry) -> Result<(), AllocError> {
         match (entry.call, entry.answer) {
+            (Call::Input { .. }, _) => self.legend.note(Sign::Input),
             (Call::Transmit { from, to, ssn }, Answer::Placed(key)) => {
                 self.transmit(column, (from, to), ssn, key)
             }
@@ -54,9 +59,9 @@ impl Picture {
             (Call::Arrive { key }, answer) => self.arrive(column, key, answer),
             (Call::Finish { process }, answer) => self.finish(column, process, answer),
             (Call::Checkpoint { process }, Answer::Saved(length)) => {
-                self.checkpoint(process, length);
-                Ok(())
+                self.checkpoint(process, length)
             }
+            (Call::Trim { to }, _) if self.has(to) => self.legend.note(Sign::Trim),
             (Call::Crash { process }, Answer::Crashed(_)) => self.crash(column, process),
             (Call::Recover { process }, Answer::Kept(kept)) => {
                 self.recover(column, process, kept, false)
@@ -85,17 +90,16 @@ impl Picture {
             self.stop(number, end, true)?;
             let y = lane_y(number);
             let start = Point { x: lane.since, y };
-            push_line(
-                &mut self.lines,
-                lane.phase.class(),
-                start,
-                Point { x: end, y },
-            )?;
+            let class = lane.phase.class();
+            push_line(&mut self.lines, class, start, Point { x: end, y })?;
         }
         for wire in self.wires.values() {
             let half = wire.half(column);
             push_line(&mut self.arrows, wire.headless(), wire.start(), half)?;
+            self.legend.note(wire.sign())?;
+            self.legend.note(Sign::OnItsWay)?;
             if let Some(copied) = wire.copied {
+                self.legend.note(Sign::Copy)?;
                 push_mark(&mut self.marks, "copy", wire.point_at(copied, half))?;
             }
         }

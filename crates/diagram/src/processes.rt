@@ -1,9 +1,11 @@
 //! What is drawn of processes: their lines, handler calls, checkpoints, crashes and recoveries.
 
-use crate::ink::{Point, Side, push_box, push_count, push_line, push_numbered};
+use crate::ink::{Point, push_box, push_count, push_line};
+use crate::label::{Side, push_number};
 use crate::lane::{Job, Lane, Phase};
 use crate::page::{column_x, lane_y};
 use crate::picture::Picture;
+use crate::sign::Sign;
 use crate::wire::{Kind, Wire};
 use std::alloc::AllocError;
 use world::Answer;
@@ -41,8 +43,12 @@ impl Picture {
         };
         let start = point(job.column, process);
         push_box(&mut self.boxes, job.class(), start, end, is_open)?;
+        self.legend.note(job.sign())?;
+        if is_open {
+            self.legend.note(Sign::Open)?;
+        }
         let at = Point {
-            x: start.x.saturating_add(5),
+            x: start.x.saturating_add(3),
             y: start.y.saturating_add(4),
         };
         push_count(&mut self.boxes, "j", at, "#", u64::from(job.serial))
@@ -77,15 +83,13 @@ impl Picture {
             return Ok(());
         };
         let side = Side::away(process, sender);
-        let at = point(column, process);
-        push_numbered(&mut self.marks, "t", at, side, "rsn ", rsn)?;
+        push_number(&mut self.marks, "t", side, column, process, "rsn ", rsn)?;
         self.place(key, Wire::new(Kind::Number, process, sender, column))
     }
 
     /// A message is received once more.
     fn replayed(&mut self, column: usize, process: u8, rsn: u32) -> Result<(), AllocError> {
-        let at = point(column, process);
-        push_numbered(&mut self.marks, "t", at, Side::Below, "rsn ", rsn)?;
+        push_number(&mut self.marks, "t", Side::Below, column, process, "rsn ", rsn)?;
         match self.phase(process) {
             Phase::Replaying { kept, alone } if rsn >= kept => self.restore(column, process, alone),
             _ => Ok(()),
@@ -93,10 +97,12 @@ impl Picture {
     }
 
     /// A process is saved.
-    pub(crate) fn checkpoint(&mut self, process: u8, length: u32) {
-        if let Some(lane) = self.lanes.get_mut(usize::from(process)) {
-            lane.saved = length;
-        }
+    pub(crate) fn checkpoint(&mut self, process: u8, length: u32) -> Result<(), AllocError> {
+        let Some(lane) = self.lanes.get_mut(usize::from(process)) else {
+            return Ok(());
+        };
+        lane.saved = length;
+        self.legend.note(Sign::Saved)
     }
 
     /// A process crashes.
@@ -104,6 +110,7 @@ impl Picture {
         if !self.has(process) {
             return Ok(());
         }
+        self.legend.note(Sign::Crash)?;
         self.stop(process, column_x(column), true)?;
         self.turn(column, process, Phase::Down)
     }
@@ -119,7 +126,9 @@ impl Picture {
         let Some(lane) = self.lanes.get(usize::from(process)) else {
             return Ok(());
         };
-        if lane.saved < kept {
+        let saved = lane.saved;
+        self.legend.note(Sign::Recovery)?;
+        if saved < kept {
             self.turn(column, process, Phase::Replaying { kept, alone })
         } else {
             self.restore(column, process, alone)
@@ -139,8 +148,9 @@ impl Picture {
         }
         let at = point(column, process);
         push_line(&mut self.arrows, "sync", point(column, peer), at)?;
+        self.legend.note(Sign::Sync)?;
         let side = Side::away(process, peer);
-        push_numbered(&mut self.marks, "t", at, side, "sync ", count)?;
+        push_number(&mut self.marks, "t", side, column, process, "sync ", count)?;
         match self.phase(process) {
             Phase::Restoring { left } if left > 1 => {
                 self.set_phase(process, Phase::Restoring { left: left - 1 });
@@ -173,6 +183,9 @@ impl Picture {
             y: end.y,
         };
         push_line(&mut self.lines, lane.phase.class(), start, end)?;
+        if phase.class() == "back" {
+            self.legend.note(Sign::Back)?;
+        }
         self.begin_phase(process, end.x, phase);
         Ok(())
     }

@@ -2,6 +2,7 @@
 
 use crate::ink::Point;
 use crate::page::{column_x, lane_y};
+use crate::sign::Sign;
 
 /// What a packet is.
 #[derive(Clone, Copy, PartialEq, Eq, Debug)]
@@ -41,6 +42,15 @@ impl Wire {
             Kind::Message => { if self.to == 0 { "out" } else { "message" } }
             Kind::Number => "number",
             Kind::Acknowledgement => "ack",
+        }
+    }
+
+    /// What the legend calls it.
+    pub(crate) fn sign(&self) -> Sign {
+        match self.kind {
+            Kind::Message => { if self.to == 0 { Sign::Output } else { Sign::Message } }
+            Kind::Number => Sign::Number,
+            Kind::Acknowledgement => Sign::Acknowledgement,
         }
     }
 

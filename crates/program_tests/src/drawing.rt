@@ -1,6 +1,6 @@
 //! Pictures of small journals, with the places of what is drawn worked out by hand.
 //!
-//! The first column is at 190, and each other one 44 further; the lines are at 74, 152 and 230.
+//! The first column is at 190, and each other one 24 further; the lines are at 100, 178 and 256.
 
 use diagram::draw;
 use helpers::Payload;
@@ -23,7 +23,7 @@ fn behind_input(alloc: Global, calls: &[(Call, Answer)]) -> Result<Vec<Entry>, F
         call: Call::Input {
             to: 1,
             feed: 7,
-            payload: Payload::new(),
+            payload: Payload::from_slice(b"\x01\x02\x03\x0a\xff".as_slice()),
         },
         answer: Answer::Logged(1),
     })?;
@@ -60,16 +60,18 @@ const MESSAGE: [(Call, Answer); 5] = [
     (Call::Arrive { key: 8 }, Answer::Acknowledged),
 ];
 
-const MESSAGE_PARTS: [&str; 9] = [
-    "width='900' height='398'",
-    "<line class='up' x1='160' y1='74' x2='454' y2='74'/>",
-    "<text class='name' x='12' y='234'>2 far</text>",
-    "<use href='#input' x='190' y='74'/>\n<text class='t' x='190' y='60'>in 7</text>",
-    "<line class='message' x1='234' y1='74' x2='278' y2='152'/>",
-    "<path class='call' d='M322 143H278V161H322Z'/>\n<text class='j' x='283' y='156'>#12</text>",
-    "<text class='t' x='322' y='174'>rsn 4</text>",
-    "<line class='number' x1='322' y1='152' x2='366' y2='74'/>",
-    "<line class='ack' x1='366' y1='74' x2='410' y2='152'/>",
+const MESSAGE_PARTS: [&str; 11] = [
+    "width='900' height='432'",
+    "<line class='up' x1='160' y1='100' x2='334' y2='100'/>",
+    "<text class='name' x='12' y='260'>2 far</text>",
+    "<use href='#input' x='190' y='100'/>\n<text class='t' x='190' y='86'>in 7</text>",
+    "<text class='b' x='190' y='64'>0102030a..</text>",
+    "<line class='message' x1='214' y1='100' x2='238' y2='178'/>",
+    "<path class='call' d='M262 169H238V187H262Z'/>\n<text class='j' x='241' y='182'>#12</text>",
+    "<text class='t' x='262' y='211'>rsn 4</text>",
+    "<line class='number' x1='262' y1='178' x2='286' y2='100'/>",
+    "<line class='ack' x1='286' y1='100' x2='310' y2='178'/>",
+    "<text x='42' y='4'>acknowledgement of a number</text>",
 ];
 
 /// A crash beside an open job, after which the process comes back with one message.
@@ -90,15 +92,15 @@ const RECOVERY: [(Call, Answer); 7] = [
 ];
 
 const RECOVERY_PARTS: [&str; 9] = [
-    "<path class='call' d='M322 143H278V161H322'/>",
-    "<line class='up' x1='160' y1='152' x2='322' y2='152'/>",
-    "<use href='#crash' x='322' y='152'/>",
-    "<line class='down' x1='322' y1='152' x2='366' y2='152'/>",
-    "<text class='t' x='366' y='174'>kept 1</text>",
-    "<path class='again' d='M454 143H410V161H454Z'/>",
-    "<line class='back' x1='454' y1='152' x2='498' y2='152'/>",
-    "<line class='sync' x1='498' y1='230' x2='498' y2='152'/>",
-    "<line class='up' x1='498' y1='152' x2='542' y2='152'/>",
+    "<path class='call' d='M262 169H238V187H262'/>",
+    "<line class='up' x1='160' y1='178' x2='262' y2='178'/>",
+    "<use href='#crash' x='262' y='178'/>",
+    "<line class='down' x1='262' y1='178' x2='286' y2='178'/>",
+    "<text class='t' x='286' y='200'>kept 1</text>",
+    "<path class='again' d='M334 169H310V187H334Z'/>",
+    "<line class='back' x1='334' y1='178' x2='358' y2='178'/>",
+    "<line class='sync' x1='358' y1='256' x2='358' y2='178'/>",
+    "<line class='up' x1='358' y1='178' x2='382' y2='178'/>",
 ];
 
 /// An output that is copied and shown, its copy lost, and a message that stays on its way.
@@ -118,12 +120,12 @@ const PACKETS: [(Call, Answer); 5] = [
 ];
 
 const PACKETS_PARTS: [&str; 6] = [
-    "<line class='out' x1='234' y1='152' x2='322' y2='74'/>",
-    "<text class='s' x='322' y='60'>out 1</text>",
-    "<line class='out cut' x1='234' y1='152' x2='366' y2='113'/>",
-    "<use href='#lost' x='366' y='113'/>",
-    "<use href='#copy' x='278' y='139'/>",
-    "<line class='message cut' x1='410' y1='74' x2='454' y2='113'/>",
+    "<line class='out' x1='214' y1='178' x2='262' y2='100'/>",
+    "<text class='s' x='262' y='75'>out 1</text>",
+    "<line class='out cut' x1='214' y1='178' x2='286' y2='139'/>",
+    "<use href='#lost' x='286' y='139'/>",
+    "<use href='#copy' x='238' y='165'/>",
+    "<line class='message cut' x1='310' y1='100' x2='334' y2='139'/>",
 ];
 
 #[test]
@@ -175,11 +177,11 @@ const NOTHING: [(Call, Answer); 10] = [
     (Call::Trim { to: 9 }, Answer::Early),
 ];
 
-/// What names nobody leaves no mark; 40 columns further names are written again.
+/// What names nobody leaves no mark, and no sign in the legend; 50 columns further names are written again.
 #[test]
 fn nonsense_and_width(rt: HostRuntime) -> Result<(), Fail> {
     let mut calls = Vec::new(rt.alloc());
-    for _ in 0..4 {
+    for _ in 0..5 {
         for &call in NOTHING.as_slice() {
             calls.push(call)?;
         }
@@ -187,12 +189,13 @@ fn nonsense_and_width(rt: HostRuntime) -> Result<(), Fail> {
     let entries = behind_input(rt.alloc(), calls.as_slice())?;
     let text = picture(rt.alloc(), entries.as_slice())?;
     for part in [
-        "width='2178' height='398'",
-        "<text class='place' x='2090' y='22'>41</text>",
-        "<text class='more' x='1998' y='156'>1 near</text>",
+        "width='1598' height='432'",
+        "<text class='place' x='1530' y='18'>51</text>",
+        "<text class='more' x='1438' y='182'>1 near</text>",
     ] {
         assert!(rt; text.as_str().contains(part), "{part} in {text}");
     }
-    assert!(rt; !text.as_str().contains("y2='113'"), "{text}");
+    assert!(rt; !text.as_str().contains("y2='139'"), "{text}");
+    assert!(rt; !text.as_str().contains("crash, its new"), "{text}");
     Ok(())
 }

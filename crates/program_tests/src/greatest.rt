@@ -97,12 +97,12 @@ fn a_full_journal_is_traced(rt: HostRuntime) -> Result<(), Fail> {
     Ok(())
 }
 
-/// What its picture begins with, and the last column: at 190 and 65,535 times 44, with 140 more after
-/// each 40 of the columns before it. A column further, and 44 pixels, the page ends.
+/// What its picture begins with, and the last column: at 190 and 65,535 times 24, with 140 more after
+/// each 50 of the columns before it. A column further, and 44 pixels, the page ends.
 const DRAWN: [&str; 3] = [
-    "<svg xmlns='http://www.w3.org/2000/svg' width='3113138' height='320' ",
-    "<text class='place' x='3113050' y='22'>65536</text>",
-    "<use href='#lost' x='3113050' y='113'/>",
+    "<svg xmlns='http://www.w3.org/2000/svg' width='1756498' height='354' ",
+    "<text class='place' x='1756430' y='18'>65536</text>",
+    "<use href='#lost' x='1756430' y='139'/>",
 ];
 
 #[test]

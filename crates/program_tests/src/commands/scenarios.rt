@@ -204,8 +204,8 @@ const OWN_INPUT: &str = "error: OUT is a file that is read\n";
 /// A picture is at its place whole, or all is as it was.
 #[test]
 fn pictures(rt: HostRuntime) -> Result<(), Fail> {
-    let sized = "<svg xmlns='http://www.w3.org/2000/svg' width='900' height='320' ";
-    let named = "<text class='name' x='12' y='156'>1 a</text>";
+    let sized = "<svg xmlns='http://www.w3.org/2000/svg' width='900' height='354' ";
+    let named = "<text class='name' x='12' y='182'>1 a</text>";
     let cases = [
         ("draw s out", 0, "", [sized, named]),
         ("draw s folder", 6, NO_FOLDER, ["old", "old"]),

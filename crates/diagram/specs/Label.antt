@@ -1,0 +1,18 @@
+-- Labels: words beside a line, in an entry's column (docs/FORMATS.md, "Picture").
+use Rattle.std.specs.Prelude.{ℕ, ◌+◌, ◌*◌, ◌%◌, ◌==◌, List, ◌++◌, codes, decimal, if◌then◌else◌}
+use Rattle.diagram.specs.declared.label.Side.{Side}
+use Rattle.diagram.specs.declared.label.Side.TheVariants.{Above, Below, Beyond}
+use Rattle.diagram.specs.Page.{column_place}
+
+-- the height of a label of a line: it stands above the line, below it, or beyond what stands above it. Those of odd columns are further
+-- out, so that what stands in neighbouring columns can be read
+abbrev pub label_place : Side → ℕ → ℕ → ℕ
+label_place Above column line = if column % 2 == 0 then 86 + line * 78 else 75 + line * 78
+label_place Below column line = if column % 2 == 0 then 122 + line * 78 else 133 + line * 78
+label_place Beyond column line = if column % 2 == 0 then 64 + line * 78 else 53 + line * 78
+
+-- words in a style, in a column beside a line
+abbrev pub label_text : List ℕ → Side → ℕ → ℕ → List ℕ → List ℕ
+label_text style side column line words =
+    codes "<text class='" ++ style ++ codes "' x='" ++ decimal (column_place column) ++ codes "' y='" ++ decimal (label_place side column line)
+    ++ codes "'>" ++ words ++ codes "</text>\n"

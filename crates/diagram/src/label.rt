@@ -1,0 +1,76 @@
+//! Labels: words beside a line, in an entry's column.
+//!
+//! A class names a style of `legend::STYLE`.
+
+ghost use Rattle.std.specs.Prelude.{◌≡◌, ◌++◌, OnOk, decimal, string_bytes};
+ghost use Rattle.diagram.specs.Label.{label_place, label_text};
+
+use crate::page::{GAP, column_x};
+use std::alloc::AllocError;
+
+/// Where a label stands beside a line.
+#[derive(Clone, Copy, PartialEq, Eq, Debug)]
+pub enum Side {
+    Above,
+    Below,
+    /// Above what stands above the line.
+    Beyond,
+}
+
+impl Side {
+    /// The side of a line that looks away from another.
+    pub(crate) fn away(line: u8, other: u8) -> Side {
+        if other < line {
+            Side::Below
+        } else {
+            Side::Above
+        }
+    }
+
+    /// The foot of a label in this column, in pixels. Those of odd columns are further out.
+    pub(crate) fn height(self, column: usize, line: u8) -> usize
+        ensures { result ≡ label_place self column line }
+    {
+        let (even, odd) = match self {
+            Side::Above => (86, 75),
+            Side::Below => (122, 133),
+            Side::Beyond => (64, 53),
+        };
+        let first = if column % 2 == 0 { even } else { odd };
+        first + usize::from(line) * GAP
+    }
+}
+
+/// Writes a word beside a line.
+pub(crate) fn push_word(
+    out: &mut String,
+    class: &str,
+    side: Side,
+    column: usize,
+    line: u8,
+    word: &str,
+) -> Result<(), AllocError>
+    ensures { OnOk result (string_bytes out.new ≡ string_bytes out.old ++ label_text class.now side column line word.now) }
+{
+    let (x, y) = (column_x(column), side.height(column, line));
+    writeln!(out, "<text class='{class}' x='{x}' y='{y}'>{word}</text>")
+}
+
+/// Writes a word and a number beside a line.
+pub(crate) fn push_number(
+    out: &mut String,
+    class: &str,
+    side: Side,
+    column: usize,
+    line: u8,
+    word: &str,
+    number: u32,
+) -> Result<(), AllocError>
+    ensures { OnOk result (string_bytes out.new ≡ string_bytes out.old ++ label_text class.now side column line (word.now ++ decimal number)) }
+{
+    let (x, y) = (column_x(column), side.height(column, line));
+    writeln!(
+        out,
+        "<text class='{class}' x='{x}' y='{y}'>{word}{number}</text>"
+    )
+}
