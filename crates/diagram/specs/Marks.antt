@@ -46,13 +46,13 @@ call_mark n column (call.Trim p) k =
     on_line n p (shape_text (codes "trim") column p ++ label_text (codes "t") Above column p (codes "trim " ++ decimal k))
 call_mark n column (call.Crash p) k =
     on_line n p (shape_text (codes "crash") column p ++ label_text (codes "c") Above column p (codes "crash")
-        ++ label_text (codes "t") Below column p (codes "inc " ++ decimal k))
+    ++ label_text (codes "t") Below column p (codes "inc " ++ decimal k))
 call_mark n column (call.Recover p) k =
     on_line n p (shape_text (codes "recover") column p ++ label_text (codes "r") Above column p (codes "recover")
-        ++ label_text (codes "t") Below column p (codes "kept " ++ decimal k))
+    ++ label_text (codes "t") Below column p (codes "kept " ++ decimal k))
 call_mark n column (call.RecoverAlone p) k =
     on_line n p (shape_text (codes "recover") column p ++ label_text (codes "r") Above column p (codes "alone")
-        ++ label_text (codes "t") Below column p (codes "kept " ++ decimal k))
+    ++ label_text (codes "t") Below column p (codes "kept " ++ decimal k))
 call_mark n column c k = []
 
 -- the mark of an entry

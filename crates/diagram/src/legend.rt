@@ -79,7 +79,9 @@ impl Legend {
         let shown = Sign::ALL.iter().filter(|sign| self.signs.contains(sign));
         for (place, sign) in shown.enumerate() {
             let x = CORNER.0.saturating_add((place % IN_ROW) * CELL.0);
-            let y = CORNER.1.saturating_add((place / IN_ROW).saturating_mul(CELL.1));
+            let y = CORNER
+                .1
+                .saturating_add((place / IN_ROW).saturating_mul(CELL.1));
             let (sample, words) = (sign.sample(), sign.words());
             writeln!(
                 out,

@@ -89,7 +89,15 @@ impl Picture {
 
     /// A message is received once more.
     fn replayed(&mut self, column: usize, process: u8, rsn: u32) -> Result<(), AllocError> {
-        push_number(&mut self.marks, "t", Side::Below, column, process, "rsn ", rsn)?;
+        push_number(
+            &mut self.marks,
+            "t",
+            Side::Below,
+            column,
+            process,
+            "rsn ",
+            rsn,
+        )?;
         match self.phase(process) {
             Phase::Replaying { kept, alone } if rsn >= kept => self.restore(column, process, alone),
             _ => Ok(()),

@@ -48,7 +48,13 @@ impl Wire {
     /// What the legend calls it.
     pub(crate) fn sign(&self) -> Sign {
         match self.kind {
-            Kind::Message => { if self.to == 0 { Sign::Output } else { Sign::Message } }
+            Kind::Message => {
+                if self.to == 0 {
+                    Sign::Output
+                } else {
+                    Sign::Message
+                }
+            }
             Kind::Number => Sign::Number,
             Kind::Acknowledgement => Sign::Acknowledgement,
         }
