@@ -1,6 +1,5 @@
 //! The local rules of form 3 of images, by number: what an instruction asks of a frame of `spans`, and
-//! the frames that leave it. No code goes through a handler's instructions yet, and no image of form 3 is
-//! accepted.
+//! the frames that leave it. `span_verifier` goes through a handler's instructions by them.
 //!
 //! [`transfer`] answers the frames that leave an instruction on its two ways, none on a way that no
 //! number takes, or the least of the rules V3 to V10 that is broken. `specs/Rules` says which that is and

@@ -1,0 +1,63 @@
+//! The header of an image file of form 3.
+
+ghost use Rattle.std.specs.Prelude.{◌≡◌, ◌≤◌, length, IfOk, IfErr};
+ghost use Rattle.span_images.specs.ImageFile.{IsHeaderFault};
+ghost use Rattle.span_images.specs.Inside.Header.{IsSound, header_of};
+ghost use Rattle.verifier.specs.Inside.Header.{HasHeader};
+
+use byteorder::{ByteOrder, LittleEndian};
+use limits::{SLOTS, STATE_BYTES};
+use verifier::HeaderFault;
+
+/// How many bytes a header has, and so a slot.
+pub const HEADER: usize = 8;
+
+/// What a file of form 3 begins with.
+const MAGIC_3: [u8; 4] = [0x53, 0x42, 0x49, 0x33];
+
+/// The fields of a header.
+#[derive(Clone, Copy, Debug, PartialEq, Eq)]
+pub struct Fields {
+    pub magic: [u8; 4],
+    pub state_len: u16,
+    pub slots: u16,
+}
+
+/// The fields of the first eight bytes, and the bytes after them.
+fn header_at(bytes: &[u8]) -> (Fields, &[u8])
+    requires { 8 ≤ length bytes.now }
+    ensures { HasHeader (header_of result.0) result.1.now bytes.now }
+{
+    let (front, rest) = bytes.split_at(HEADER);
+    let fields = Fields {
+        magic: [front[0], front[1], front[2], front[3]],
+        state_len: LittleEndian::read_u16(&front[4..6]),
+        slots: LittleEndian::read_u16(&front[6..8]),
+    };
+    (fields, rest)
+}
+
+/// The header of a file and its code, if the header has no fault.
+pub fn read_header(bytes: &[u8]) -> Result<(Fields, &[u8]), HeaderFault>
+    ensures found { IfOk result (λ x. HasHeader (header_of x.0) x.1.now bytes.now) }
+    ensures sound { IfOk result (λ x. IsSound x.0 x.1.now) }
+    ensures refused { IfErr result (IsHeaderFault bytes.now) }
+{
+    if bytes.len() < HEADER {
+        return Err(HeaderFault::TooShort);
+    }
+    let (header, code) = header_at(bytes);
+    if header.magic != MAGIC_3 {
+        return Err(HeaderFault::Magic);
+    }
+    if header.state_len > STATE_BYTES as u16 {
+        return Err(HeaderFault::StateLength);
+    }
+    if header.slots == 0 || header.slots > SLOTS as u16 {
+        return Err(HeaderFault::SlotCount);
+    }
+    if code.len() != HEADER * header.slots as usize {
+        return Err(HeaderFault::FileLength);
+    }
+    Ok((header, code))
+}

@@ -1,0 +1,4 @@
+pub mod Typing
+pub mod Verdict
+pub mod Laws
+pub mod Inside
