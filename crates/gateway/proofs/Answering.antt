@@ -1,28 +1,27 @@
 -- What the gateway tells a process that comes back, it may
-use Rattle.std.proofs.Common.{◌≡◌, ◌≢◌, ℕ, zero, suc, ◌+◌, ◌-◌, ◌<◌, ◌≤◌, List, [], ◌∷◌, ◌++◌, length, map, Bool, true, false, refl, sym, ap, ◌∙◌, subst, arith}
-use Rattle.std.specs.Prelude.{Option, Some, None, ◌==◌, ◌&&◌, not, nat_lt, nat_le, slice_index_or}
+use Rattle.std.proofs.Common.{◌≡◌, ℕ, suc, ◌+◌, ◌-◌, ◌<◌, ◌≤◌, List, [], length, map, Bool, true, false, refl, sym, ap, ◌∙◌, subst, arith}
+use Rattle.std.specs.Prelude.{Option, Some, None, ◌&&◌, not, nat_lt, nat_le, slice_index_or}
 use Rattle.std.proofs.lemmas.Bool.Decides.{nat_tests}
 use Rattle.std.proofs.lemmas.List.{get_or-map, length-map}
 use Rattle.world.specs.declared.message.Message.{Message}
-use Rattle.world.specs.History.{Payload, nth, rsn_of}
-use Rattle.world.specs.Phases.{Up, Busy, is_down}
+use Rattle.world.specs.History.{Payload, nth}
+use Rattle.world.specs.Phases.{Up, is_down}
 use Rattle.world.specs.Logs.{sent, is_entry}
 use Rattle.world.specs.Plan.{is_number, message_of, logged_as, first_below}
 use Rattle.cluster.specs.Parcels.{Told, Restored, reaches}
 use Rattle.cluster.specs.Cluster.{Cluster, seen}
 use Rattle.cluster.specs.Rules.{IsNode, entry_of}
 use Rattle.packets.specs.Packet.{flags_of}
-use Rattle.packets.specs.declared.page.Entry.{Entry}
-use Rattle.pages.specs.Pages.{entries_from, page_of}
+use Rattle.pages.specs.Pages.{entries_from}
 use Rattle.pages.specs.Says.{first_told, told_end}
 use Rattle.pages.proofs.PageLemmas.{all-told}
 use Rattle.pages.proofs.Telling.{found_as, first-split, told-from, entries-over, entries-ordered, logged-when, logged-off, lost-is, page-told, page-goes}
-use Rattle.gateway.specs.declared.peer.Logged.{Logged}
-use Rattle.gateway.specs.Peer.{ThePeer, no_entry, last_of, is_kept, payload_of}
-use Rattle.gateway.specs.Store.{IsOf}
+use Rattle.stores.specs.declared.peer.Logged.{Logged}
+use Rattle.stores.specs.Peer.{ThePeer, no_entry, is_kept, payload_of}
+use Rattle.stores.specs.Store.{IsOf}
 use Rattle.gateway.specs.Gateway.{TheGateway, peer_of, posts}
 use Rattle.gateway.specs.Calls.{entries_in, told_page, told_all, told_of, restores, restored_of}
-use Rattle.gateway.specs.Stands.{Stands, KeepsOf, Goes}
+use Rattle.gateway.specs.Stands.{Stands, Goes}
 use Rattle.gateway.proofs.Keeping.{sent-size}
 use Rattle.gateway.proofs.Sending.{sent-is}
 use Rattle.gateway.proofs.Changing.{node-is}

@@ -1,30 +1,28 @@
 -- The gateway stands where a change is an act of its own
-use Rattle.std.proofs.Common.{◌≡◌, ◌≢◌, inl, inr, ℕ, suc, ◌+◌, ◌-◌, ◌<◌, ◌≤◌, List, [], ◌∷◌, ◌++◌, length, map, take, drop, min, max, Bool, true, false, refl, sym, ap, ◌∙◌, subst, arith, append_assoc}
-use Rattle.std.specs.Prelude.{Option, Some, None, slice_index_or, ◌&&◌, ◌==◌, nat_lt, nat_le, if◌then◌else◌}
-use Rattle.std.specs.List.{AllByRecursion}
+use Rattle.std.proofs.Common.{◌≡◌, ◌≢◌, inl, ℕ, suc, ◌+◌, ◌-◌, ◌<◌, ◌≤◌, List, [], ◌∷◌, ◌++◌, length, map, take, drop, min, max, Bool, true, false, refl, sym, ap, ◌∙◌, subst, arith, append_assoc}
+use Rattle.std.specs.Prelude.{Option, Some, slice_index_or, ◌==◌, nat_lt, nat_le, if◌then◌else◌}
 use Rattle.std.proofs.lemmas.Bool.Decides.{nat_tests}
 use Rattle.std.proofs.lemmas.List.{map-append, take-append-drop}
 use Rattle.world.specs.declared.message.Message.{Message}
 use Rattle.world.specs.History.{Payload, count_of}
 use Rattle.world.specs.World.{put}
 use Rattle.world.specs.Calls.{up_to}
-use Rattle.world.specs.Logs.{sent, is_entry}
+use Rattle.world.specs.Logs.{is_entry}
 use Rattle.theorems.proofs.Changes.{at-itself}
 use Rattle.cluster.specs.Parcels.{Delivery, Number, Acknowledgement, Ask, Resume, Saved, parcel, In}
-use Rattle.world.specs.Phases.{Up, Busy}
+use Rattle.world.specs.Phases.{Up}
 use Rattle.cluster.specs.Cluster.{Cluster, seen}
-use Rattle.cluster.specs.Rules.{Act, Input, Shows, Records, Drops, Hears, Obeys, May, does, IsNode, message}
+use Rattle.cluster.specs.Rules.{Input, Shows, Records, Drops, Hears, Obeys, May, does, IsNode}
 use Rattle.packets.specs.declared.packet.Body.TheVariants as packets
-use Rattle.gateway.specs.declared.change.Output.{Output}
-use Rattle.gateway.specs.declared.change.Change.{Change}
-use Rattle.gateway.specs.declared.change.Change.TheVariants as changes
-use Rattle.gateway.specs.declared.peer.Logged.{Logged}
-use Rattle.gateway.specs.Peer.{ThePeer, no_entry, last_of, is_kept, appended, recorded, dropped_first, dropped_to, hears, forgets, shows}
-use Rattle.gateway.specs.Store.{TheStore, IsOf, peer_at, with_peer}
+use Rattle.stores.specs.declared.change.Output.{Output}
+use Rattle.stores.specs.declared.change.Change.TheVariants as changes
+use Rattle.stores.specs.declared.peer.Logged.{Logged}
+use Rattle.stores.specs.Peer.{ThePeer, no_entry, last_of, is_kept, appended, recorded, dropped_first, hears, forgets, shows}
+use Rattle.stores.specs.Store.{TheStore, IsOf, peer_at, with_peer}
 use Rattle.gateway.specs.Gateway.{TheGateway, peer_of, posts, happens}
 use Rattle.gateway.specs.Calls.{obeyed}
-use Rattle.gateway.specs.Stands.{Stands, KeepsOf, EndsWith, PutOut, Goes, shown_as}
-use Rattle.gateway.proofs.Peers.{each-peer, same-part, as-many, each-twice, twice-many}
+use Rattle.gateway.specs.Stands.{Stands, KeepsOf, EndsWith, Goes, shown_as}
+use Rattle.stores.proofs.Peers.{each-peer, same-part, as-many, each-twice, twice-many}
 use Rattle.gateway.proofs.Keeping.{kept-within, sent-size, kept-appended, kept-numbered, kept-dropped, kept-forgot}
 use Rattle.gateway.proofs.Steps.{takes-here, out-posted, does-one, stays}
 

@@ -1,25 +1,24 @@
 -- A packet is handed to the gateway
-use Rattle.std.proofs.Common.{◌≡◌, ◌≢◌, ℕ, suc, ◌+◌, ◌<◌, ◌≤◌, List, length, min, Bool, true, false, refl, sym, ap, ◌∙◌, subst, arith, Result, Ok, Err, OnOk}
+use Rattle.std.proofs.Common.{◌≡◌, ◌≢◌, ℕ, suc, ◌+◌, ◌<◌, ◌≤◌, List, length, min, true, false, refl, sym, ap, subst, arith}
 use Rattle.std.specs.Prelude.{Some, not, ◌&&◌, ◌||◌, ◌==◌, nat_lt, nat_le, if◌then◌else◌}
 use Rattle.std.proofs.lemmas.Bool.Decides.{nat_tests}
 use Rattle.theorems.proofs.Tests.{both, neither, not-false}
 use Rattle.cluster.specs.Parcels.{Body, Delivery, Number, Ask, Resume, Saved, Parcel, parcel, In}
-use Rattle.cluster.specs.Cluster.{Cluster}
 use Rattle.packets.specs.Packet.{in_range}
 use Rattle.packets.specs.declared.packet.Body as bodies
 use Rattle.packets.specs.declared.packet.Body.TheVariants as packets
 use Rattle.packets.specs.declared.packet.Packet.{Packet}
-use Rattle.gateway.specs.declared.change.Output.{Output}
-use Rattle.gateway.specs.declared.change.Change.TheVariants as changes
-use Rattle.gateway.specs.Peer.{ThePeer, last_of, is_kept, shows, hears, forgets}
-use Rattle.gateway.specs.Store.{TheStore, IsOf}
+use Rattle.stores.specs.declared.change.Output.{Output}
+use Rattle.stores.specs.declared.change.Change.TheVariants as changes
+use Rattle.stores.specs.Peer.{ThePeer, last_of, is_kept, shows, hears, forgets}
+use Rattle.stores.specs.Store.{IsOf}
 use Rattle.gateway.specs.Gateway.{TheGateway, peer_of, posts, happens}
 use Rattle.gateway.specs.Calls.{is_for, is_next, says_shown, arrived, recorded_by, dropped_by, told_of, asked, obeyed, restores, resumed_by, told, handed}
-use Rattle.pages.specs.Says.{Says, body_of}
-use Rattle.gateway.specs.Stands.{Owes, IsHanded, WasSaid}
+use Rattle.pages.specs.Says.{Says}
+use Rattle.gateway.specs.Stands.{Owes, IsHanded}
 use Rattle.gateway.proofs.Changing.{goes-shown, goes-numbered, goes-dropped, goes-heard, goes-obeyed}
 use Rattle.gateway.proofs.Answering.{tells, restoring}
-use Rattle.gateway.proofs.Peers.{here-is, as-many, inside, twice-here, twice-inside}
+use Rattle.stores.proofs.Peers.{here-is, as-many, inside, twice-here, twice-inside}
 use Rattle.gateway.proofs.Sending.{saying-shown}
 use Rattle.gateway.proofs.Steps.{stays, goes-then, owes-then, by-if}
 

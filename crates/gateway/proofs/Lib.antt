@@ -1,6 +1,4 @@
-pub mod PeerLemmas
 pub mod Steps
-pub mod Peers
 pub mod Keeping
 pub mod Changing
 pub mod Sending
@@ -8,3 +6,4 @@ pub mod Answering
 pub mod Handing
 pub mod Views
 pub mod Opening
+pub mod Since

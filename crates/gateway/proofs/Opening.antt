@@ -1,10 +1,10 @@
 -- The gateway at the opening
-use Rattle.std.proofs.Common.{◌≡◌, ℕ, suc, ◌-◌, ◌<◌, ◌≤◌, [], length, refl, sym, subst, arith}
+use Rattle.std.proofs.Common.{◌≡◌, ℕ, ◌-◌, ◌<◌, ◌≤◌, [], refl, sym, subst, arith}
 use Rattle.std.specs.Prelude.{None, true}
 use Rattle.std.proofs.lemmas.List.{get_or-replicate, length-replicate}
 use Rattle.world.specs.Handlers.{Handlers}
 use Rattle.cluster.specs.Cluster.{opening}
-use Rattle.gateway.specs.Peer.{ThePeer, no_peer}
+use Rattle.stores.specs.Peer.{ThePeer, no_peer}
 use Rattle.gateway.specs.Gateway.{new_gateway, peer_of}
 use Rattle.gateway.specs.Stands.{Stands, KeepsOf}
 

@@ -1,22 +1,21 @@
 -- What the gateway sends, and sends again, it may
-use Rattle.std.proofs.Common.{◌≡◌, ◌≢◌, ℕ, zero, suc, ◌+◌, ◌-◌, ◌<◌, ◌≤◌, List, [], ◌∷◌, ◌++◌, length, map, take, drop, Bool, true, false, refl, sym, ap, ◌∙◌, subst, arith}
+use Rattle.std.proofs.Common.{◌≡◌, ℕ, zero, suc, ◌+◌, ◌-◌, ◌<◌, ◌≤◌, List, [], ◌∷◌, ◌++◌, length, map, take, drop, Bool, true, false, refl, sym, ap, ◌∙◌, subst, arith}
 use Rattle.std.specs.Prelude.{Option, Some, None, is_none, slice_get, slice_index_or, nat_lt, nat_le, if◌then◌else◌}
 use Rattle.std.specs.List.{AllByRecursion}
 use Rattle.std.proofs.lemmas.Bool.Decides.{nat_tests}
 use Rattle.std.proofs.lemmas.List.{get_or-map, length-map}
 use Rattle.world.specs.History.{Payload, nth}
 use Rattle.cluster.specs.Parcels.{Delivery, Saved}
-use Rattle.cluster.specs.Cluster.{Cluster}
 use Rattle.cluster.specs.Rules.{IsNode}
 use Rattle.packets.specs.declared.packet.Body.TheVariants as packets
-use Rattle.gateway.specs.declared.peer.Logged.{Logged}
-use Rattle.gateway.specs.declared.change.Change.TheVariants as changes
-use Rattle.gateway.specs.Peer.{ThePeer, no_entry, last_of, is_kept, payload_of, number_of, appended}
-use Rattle.gateway.specs.Store.{TheStore, IsOf}
+use Rattle.stores.specs.declared.peer.Logged.{Logged}
+use Rattle.stores.specs.declared.change.Change.TheVariants as changes
+use Rattle.stores.specs.Peer.{ThePeer, no_entry, last_of, is_kept, payload_of, number_of, appended}
+use Rattle.stores.specs.Store.{IsOf}
 use Rattle.gateway.specs.Gateway.{TheGateway, peer_of, delivers, happens, puts_in, hands_out, unnumbered, delivers_each, resent, ticked_to, ticked}
 use Rattle.gateway.specs.Calls.{says_shown}
-use Rattle.gateway.specs.Stands.{Stands, KeepsOf, Acts}
-use Rattle.gateway.proofs.Peers.{here-is, inside}
+use Rattle.gateway.specs.Stands.{KeepsOf, Acts}
+use Rattle.stores.proofs.Peers.{here-is, inside}
 use Rattle.gateway.proofs.Keeping.{kept-within, sent-size}
 use Rattle.gateway.proofs.Changing.{node-is, goes-input, goes-taken}
 use Rattle.gateway.proofs.Steps.{posted, well-here, acts-self, acts-then, by-if}

@@ -1,5 +1,5 @@
 -- Results, and what waits to be taken
-use Rattle.std.proofs.Common.{◌≡◌, List, [], ◌∷◌, Option, Some, None, Result, Ok, Err, OnOk, refl, ap, subst, ◌∙◌}
+use Rattle.std.proofs.Common.{◌≡◌, List, [], ◌∷◌, Option, Some, None, Result, Ok, Err, IfOk, OnOk, ap, subst, ◌∙◌}
 use Rattle.std.specs.List.{AllByRecursion}
 use Rattle.packets.specs.declared.packet.Packet.{Packet}
 use Rattle.cluster.specs.Cluster.{Cluster}
@@ -10,6 +10,14 @@ use Rattle.gateway.specs.Stands.{Stands, PutOut, Takes}
 pub on-ok : {X E : Type 0} (r : Result X E) (P Q : Type 0) → (P → Q) → OnOk r P → OnOk r Q
 on-ok (Ok x) P Q f h = f h
 on-ok (Err e) P Q f h = tt
+
+pub on-ok-two : {X E : Type 0} (r : Result X E) (P Q R : Type 0) → (P → Q → R) → OnOk r P → OnOk r Q → OnOk r R
+on-ok-two (Ok x) P Q R f p q = f p q
+on-ok-two (Err e) P Q R f p q = tt
+
+pub if-ok : {X E : Type 0} (r : Result X E) (P Q : X → Type 0) → ((x : X) → P x → Q x) → IfOk r P → IfOk r Q
+if-ok (Ok x) P Q f p = f x p
+if-ok (Err e) P Q f p = tt
 
 -- the first packet that waits leaves
 pub takes-so : (o : Option Packet) (g : TheGateway) (rest : List Packet) → Pops o g.out rest → Takes o g (record g { out = rest })

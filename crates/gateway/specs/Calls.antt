@@ -6,10 +6,10 @@ use Rattle.packets.specs.declared.packet.Body.{Body}
 use Rattle.packets.specs.declared.packet.Body.TheVariants.{Delivery, Number, Acknowledgement, Ask, Told, Resume, Restored, Saved}
 use Rattle.packets.specs.declared.packet.Packet.{Packet}
 use Rattle.pages.specs.Pages.{entries_above, page_of}
-use Rattle.gateway.specs.declared.peer.Logged.{Logged}
-use Rattle.gateway.specs.declared.change.Output.{Output}
-use Rattle.gateway.specs.declared.change.Change.TheVariants.{Numbered, Dropped, Heard, Forgotten, Shown}
-use Rattle.gateway.specs.Peer.{ThePeer, last_of, is_kept}
+use Rattle.stores.specs.declared.peer.Logged.{Logged}
+use Rattle.stores.specs.declared.change.Output.{Output}
+use Rattle.stores.specs.declared.change.Change.TheVariants.{Numbered, Dropped, Heard, Forgotten, Shown}
+use Rattle.stores.specs.Peer.{ThePeer, last_of, is_kept}
 use Rattle.gateway.specs.Gateway.{TheGateway, peer_of, posts, happens}
 
 -- a packet is of a process of this cluster to the gateway, and its fields are in range

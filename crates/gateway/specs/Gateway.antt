@@ -1,15 +1,15 @@
 -- What clauses see of the gateway, and what it sends
-use Rattle.std.specs.Prelude.{◌≡◌, ℕ, zero, suc, ◌+◌, ◌≤◌, List, [], ◌∷◌, ◌++◌, length, take, replicate, is_none, nat_lt, if◌then◌else◌}
+use Rattle.std.specs.Prelude.{ℕ, zero, suc, ◌+◌, ◌≤◌, List, [], ◌∷◌, ◌++◌, length, take, replicate, is_none, nat_lt, if◌then◌else◌}
 use Rattle.packets.specs.declared.packet.Body.{Body}
 use Rattle.packets.specs.declared.packet.Body.TheVariants.{Delivery}
 use Rattle.packets.specs.declared.packet.Packet.{Packet}
 use Rattle.outbox.specs.Outbox.{pushed}
 use Rattle.pages.specs.declared.page.TheConstants.{LEAST_PAGE}
-use Rattle.gateway.specs.declared.peer.Logged.{Logged}
-use Rattle.gateway.specs.declared.change.Change.{Change}
-use Rattle.gateway.specs.declared.change.Change.TheVariants.{Input, Taken}
-use Rattle.gateway.specs.Peer.{ThePeer, no_peer, last_of, payload_of}
-use Rattle.gateway.specs.Store.{TheStore, peer_at, applied}
+use Rattle.stores.specs.declared.peer.Logged.{Logged}
+use Rattle.stores.specs.declared.change.Change.{Change}
+use Rattle.stores.specs.declared.change.Change.TheVariants.{Input, Taken}
+use Rattle.stores.specs.Peer.{ThePeer, no_peer, last_of, payload_of}
+use Rattle.stores.specs.Store.{TheStore, peer_at, applied}
 
 -- how many bytes a packet has at most, and how many messages one tick makes for a process; what is kept durably, and what happened to it
 -- since that was asked; the packets to be taken

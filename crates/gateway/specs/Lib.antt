@@ -1,6 +1,6 @@
-pub mod Peer
-pub mod Store
 pub mod Gateway
 pub mod Calls
 pub mod Deeds
 pub mod Stands
+pub mod Since
+pub mod Bytes

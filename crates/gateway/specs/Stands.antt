@@ -1,5 +1,5 @@
 -- Which clusters the gateway stands in, and what a call owes
-use Rattle.std.specs.Prelude.{◌≡◌, ℕ, suc, ◌+◌, ◌<◌, ◌≤◌, List, [], ◌∷◌, ◌++◌, length, map, Option, Some, None, true, slice_index_or, slice_get}
+use Rattle.std.specs.Prelude.{◌≡◌, ℕ, suc, ◌+◌, ◌<◌, List, [], ◌∷◌, ◌++◌, length, map, Option, Some, None, true, slice_index_or}
 use Rattle.std.specs.List.{AllByRecursion}
 use Rattle.world.specs.declared.message.Message.{Message}
 use Rattle.world.specs.History.{Payload, count_of}
@@ -8,9 +8,9 @@ use Rattle.cluster.specs.Parcels.{Body, Parcel, parcel, In}
 use Rattle.cluster.specs.Cluster.{Cluster, Live}
 use Rattle.cluster.specs.Rules.{Act, Run, after_run, IsNode, message}
 use Rattle.packets.specs.declared.packet.Packet.{Packet}
-use Rattle.gateway.specs.declared.peer.Logged.{Logged}
-use Rattle.gateway.specs.declared.change.Output.{Output}
-use Rattle.gateway.specs.Peer.{ThePeer, no_entry}
+use Rattle.stores.specs.declared.peer.Logged.{Logged}
+use Rattle.stores.specs.declared.change.Output.{Output}
+use Rattle.stores.specs.Peer.{ThePeer, no_entry}
 use Rattle.gateway.specs.Gateway.{TheGateway, peer_of}
 use Rattle.pages.specs.Says.{Says}
 use Rattle.gateway.specs.Deeds.{IsByGateway}

@@ -3,13 +3,12 @@
 ghost use Rattle.std.specs.Prelude.{◌≡◌, ◌+◌, ◌<◌, ◌≤◌, [], length, slice_get, true, IfOk, OnOk, OnErr};
 ghost use Rattle.world.specs.Handlers.{Handlers};
 ghost use Rattle.cluster.specs.Cluster.{opening};
-ghost use Rattle.gateway.specs.Peer.{last_of, is_kept, number_of};
-ghost use Rattle.gateway.specs.Store.{Fits, IsOf};
+ghost use Rattle.stores.specs.Peer.{last_of, is_kept, number_of};
+ghost use Rattle.stores.specs.Store.{Fits, IsOf};
 ghost use Rattle.gateway.specs.Gateway.{new_gateway, peer_of, posts, happens, delivers, puts_in, hands_out, resent, ticked};
 ghost use Rattle.gateway.specs.Stands.{Stands, Acts, Takes};
+ghost use Rattle.gateway.specs.Since.{Since, KeepsSince};
 
-use crate::change::{Change, Output};
-use crate::store::Store;
 use helpers::Payload;
 use limits::PROCESSES;
 use outbox::Outbox;
@@ -17,6 +16,7 @@ use packets::{Body, NUMBER_LIMIT, Packet};
 use pages::LEAST_PAGE;
 use std::alloc::{AllocError, Global};
 use std::marker::Model;
+use stores::{Change, Output, Store};
 
 /// The way in and out of a cluster.
 #[derive(Drop)]
@@ -75,6 +75,7 @@ impl Gateway {
     pub fn changes(&mut self, alloc: Global) -> Vec<Change>
         ensures given { result.items ≡ self.old.changes }
         ensures value { self.new ≡ record self.old { changes = [] } }
+        ensures since { Since self.new.store self.new }
         ensures acts { Acts self.old self.new }
     {
         self.tell(alloc)
@@ -92,6 +93,7 @@ impl Gateway {
         requires { IsOf process self.old.store }
         ensures ssn { IfOk result (λ ssn. ssn ≡ last_of (peer_of process self.old) + 1) }
         ensures value { OnOk result (self.new ≡ puts_in process payload self.old) }
+        ensures since { OnOk result (KeepsSince self.old self.new) }
         ensures acts { OnOk result (Acts self.old self.new) }
         ensures err { OnErr result (self.new ≡ self.old) }
     {
@@ -129,6 +131,7 @@ impl Gateway {
     pub fn output(&mut self) -> Result<Option<Output>, AllocError>
         ensures output { IfOk result (λ o. o ≡ slice_get self.old.store.outputs 0) }
         ensures value { OnOk result (self.new ≡ hands_out self.old) }
+        ensures since { OnOk result (KeepsSince self.old self.new) }
         ensures acts { OnOk result (Acts self.old self.new) }
         ensures err { OnErr result (self.new ≡ self.old) }
     {
@@ -150,6 +153,7 @@ impl Gateway {
     /// What isn't answered yet is sent again: for each process the first messages without a number.
     pub fn tick(&mut self)
         ensures value { self.new ≡ ticked self.old }
+        ensures since { KeepsSince self.old self.new }
         ensures acts { Acts self.old self.new }
     {
         self.send_again();

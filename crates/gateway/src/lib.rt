@@ -1,11 +1,15 @@
 //! The gateway of a cluster: node 0, the way in and out of it, as a value that its host calls.
 //!
 //! A [`Gateway`] knows no clock, socket, file or thread. Its host hands it messages from outside
-//! ([`Gateway::input`]) and the packets that came ([`Gateway::receive`]), sends those that it gives
-//! ([`Gateway::take`]), passes on what processes show ([`Gateway::output`]), and now and then lets it
-//! send again what isn't answered ([`Gateway::tick`]). A process that comes back is told what the log
-//! holds for it, a page at a time. The gateway never fails: its host keeps its
-//! [`Store`] durably, by what happened to it since the host asked ([`Gateway::changes`]).
+//! ([`Gateway::input`]) and the packets that came ([`Gateway::receive`], [`Gateway::receive_bytes`]),
+//! sends those that it gives ([`Gateway::take`]), passes on what processes show
+//! ([`Gateway::output`]), and now and then lets it send again what isn't answered
+//! ([`Gateway::tick`]). A process that comes back is told what the log holds for it, a page at a time.
+//!
+//! Its host makes what happened to the [`Store`] ([`Gateway::changes`]) durable before it sends what a
+//! call put out. A store and all changes since are the store of now; with it the gateway comes back
+//! ([`Gateway::revive`], [`Gateway::apply`]) where it was killed, and stands in each cluster in which
+//! the killed one stood.
 //!
 //! The promise: each call is none, one or more acts of the gateway that the rules of crate `cluster`
 //! allow, and what the gateway then holds is what the cluster has of it: its logs are the inputs, it
@@ -22,14 +26,11 @@
 //! ```
 #![tactic(auto)]
 
-mod change;
+mod bytes;
 mod gateway;
-mod peer;
 mod receiving;
-mod store;
+mod reviving;
 mod telling;
 
-pub use change::{Change, Output};
 pub use gateway::Gateway;
-pub use peer::{Logged, Peer};
-pub use store::Store;
+pub use stores::{Change, Logged, Output, Peer, Store};

@@ -1,23 +1,26 @@
 //! What the gateway does with a packet.
 
 ghost use Rattle.std.specs.Prelude.{◌≡◌, ◌≤◌, ◌<◌, ◌^◌, length, OnOk, OnErr};
-ghost use Rattle.gateway.specs.Store.{IsOf};
+ghost use Rattle.stores.specs.Store.{IsOf};
 ghost use Rattle.gateway.specs.Calls.{is_for, arrived, says_shown, recorded_by, dropped_by, handed};
 ghost use Rattle.gateway.specs.Stands.{IsHanded};
+ghost use Rattle.gateway.specs.Since.{KeepsSince, IsShort};
 
-use crate::change::{Change, Output};
 use crate::gateway::Gateway;
 use packets::{Body, Packet};
 use std::alloc::{AllocError, Global};
+use stores::{Change, Output};
 
 impl Gateway {
     /// A packet came. One that isn't of a process of this cluster to the gateway is dropped. A refusal
     /// changes nothing.
     pub fn receive(&mut self, alloc: Global, packet: &Packet) -> Result<(), AllocError>
         ensures value { OnOk result (self.new ≡ handed packet.now self.old) }
+        ensures since { OnOk result (KeepsSince self.old self.new) }
         ensures acts { OnOk result (IsHanded packet.now self.old self.new) }
         ensures err { OnErr result (self.new ≡ self.old) }
     {
+        let _len = longest(&packet.body);
         self.hand(alloc, packet)
     }
 
@@ -150,5 +153,15 @@ impl Gateway {
             return Ok(());
         }
         self.happen(Change::Dropped { process, ssn })
+    }
+}
+
+/// For the proof: this tells how long a payload is at most.
+fn longest(body: &Body) -> usize
+    ensures { IsShort body.now }
+{
+    match body {
+        Body::Delivery { payload, .. } => payload.len(),
+        _ => 0,
     }
 }

@@ -1,6 +1,6 @@
 //! The packets that wait to be sent.
 
-ghost use Rattle.std.specs.Prelude.{◌≡◌, [], IfOk};
+ghost use Rattle.std.specs.Prelude.{◌≡◌, [], true, IfOk};
 ghost use Rattle.outbox.specs.Outbox.{pushed, Pops};
 
 use packets::Packet;
@@ -39,6 +39,14 @@ impl Outbox {
         Ok(Outbox {
             packets: VecDeque::with_capacity(alloc, OUTBOX)?,
         })
+    }
+
+    /// Whether no packet waits.
+    pub fn is_empty(&self) -> bool
+        ensures yes { result ≡ true → self.now ≡ [] }
+        ensures no { self.now ≡ [] → result ≡ true }
+    {
+        self.packets.is_empty()
     }
 
     /// A packet waits behind the others, where there is room.

@@ -18,6 +18,8 @@
 //! What a process keeps durably is a [`Kept`]: its state, how many messages it received of each peer,
 //! and those that it sent and still keeps. [`encode_kept`] writes it as `SBN1`, [`decode_kept`] reads
 //! it, and the same holds of these bytes.
+//!
+//! The fields, and the checksum behind them, are for crate `stores` too, which has bytes of this form.
 #![tactic(auto)]
 
 mod checksum;
@@ -39,10 +41,12 @@ mod writing;
 
 pub use checksum::crc32c;
 pub use fault::{PacketError, PacketFault};
+pub use fields::{byte_of, payload_of, u32_of, u64_of};
+pub use head::{CHECKSUM_LEN, HEAD_LEN};
 pub use kept::{Kept, KeptLog};
 pub use kept_fault::{KeptError, KeptFault};
 pub use kept_reading::decode_kept;
-pub use kept_writing::encode_kept;
+pub use kept_writing::{encode_kept, put_u32};
 pub use kind::Kind;
 pub use laws::{
     back_and_there, kept_again, one_kept, one_packet, same_bytes_again, there_and_back,
@@ -50,4 +54,4 @@ pub use laws::{
 pub use packet::{Body, NUMBER_LIMIT, Packet};
 pub use page::{Entry, Flags, Page, Pair};
 pub use reading::decode;
-pub use writing::encode;
+pub use writing::{encode, put_checksum, put_payload, put_u64};

@@ -38,7 +38,7 @@ pub data Call : Type 0 where
   GaveOut : Packet → TheGateway → Call
   -- it was handed this packet
   HandedOut : Packet → TheGateway → Call
-  -- it took an input, gave an output, sent again what isn't answered, or told what happened
+  -- it took an input, gave an output, sent again what isn't answered, told what happened, or came back with its store
   DidOut : TheGateway → Call
 
 -- one of the first n nodes

@@ -1,9 +1,6 @@
-use Rattle.std.proofs.Common.{rules, ◌≡◌, ◌∙◌, ap, [], List, replicate}
-use Rattle.std.proofs.lemmas.Grind.{common_steps}
-use Rattle.gateway.specs.declared.change.Change.{Change}
-use Rattle.gateway.specs.declared.change.Output.{Output}
-use Rattle.gateway.specs.Peer.{ThePeer, no_peer}
-use Rattle.gateway.specs.Store.{TheStore}
+use Rattle.std.proofs.Common.{rules, ◌≡◌, [], replicate}
+use Rattle.stores.specs.Peer.{no_peer}
+use Rattle.stores.specs.Store.{TheStore}
 use Rattle.gateway.proofs.Opening.{stands-opened}
 use Rattle.gateway.proofs.gateway.Gateway.open.Goals as goal
 

@@ -1,8 +1,8 @@
-use Rattle.std.proofs.Common.{rules, ◌≡◌, ◌<◌, ◌≤◌, ◌+◌, ◌-◌, List, ℕ, take, drop, true, false, ap, ◌∙◌, subst, sym, arith}
+use Rattle.std.proofs.Common.{rules, ◌≡◌, ◌<◌, ◌≤◌, ◌+◌, ◌-◌, take, drop, true, false, ap, ◌∙◌, sym, arith}
 use Rattle.std.specs.Prelude.{is_none}
 use Rattle.std.proofs.lemmas.Grind.{common_steps}
-use Rattle.gateway.specs.Peer.{ThePeer, number_of, last_of}
-use Rattle.gateway.specs.Store.{TheStore, peer_at}
+use Rattle.stores.specs.Peer.{ThePeer, number_of, last_of}
+use Rattle.stores.specs.Store.{peer_at}
 use Rattle.gateway.specs.Gateway.{TheGateway, peer_of, delivers, delivers_each, resent, unnumbered}
 use Rattle.gateway.proofs.Sending.{resent-some, resent-none}
 use Rattle.gateway.proofs.gateway.Gateway.resend.Goals as goal

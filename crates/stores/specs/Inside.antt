@@ -1,0 +1,3 @@
+-- What the crate's own functions say to one another. No public contract reaches it.
+pub mod Reading
+pub mod Changing

@@ -1,0 +1,26 @@
+//! Why changes did not happen.
+
+ghost use Rattle.std.specs.Prelude.{◌≡◌};
+ghost use Rattle.stores.specs.declared.fault.ApplyError.TheVariants.{Memory};
+
+use std::alloc::AllocError;
+use thiserror::Error;
+
+/// Why changes did not happen to a store.
+#[derive(Debug, Drop, PartialEq, Eq, Error)]
+pub enum ApplyError {
+    /// Memory ran out.
+    #[error("out of memory")]
+    Memory,
+    /// The change that has so many before it can't happen to the store as it is then.
+    #[error("change {0} does not fit the store")]
+    Unfit(usize),
+}
+
+impl From<AllocError> for ApplyError {
+    ghost from_gives = { λ _ e. e ≡ Memory };
+
+    fn from(_e: AllocError) -> ApplyError {
+        ApplyError::Memory
+    }
+}

@@ -1,0 +1,72 @@
+//! Why bytes are no store's.
+
+ghost use Rattle.std.specs.Prelude.{◌≡◌};
+ghost use Rattle.stores.specs.declared.store_fault.StoreError.TheVariants.{Memory};
+
+use std::alloc::AllocError;
+use thiserror::Error;
+
+/// The first fault of bytes that are no store's, in the order of their numbers.
+#[derive(Clone, Copy, Debug, PartialEq, Eq, Error)]
+pub enum StoreFault {
+    /// 1: fewer than 16 bytes.
+    #[error("fewer than 16 bytes")]
+    Short,
+    /// 2: the first four bytes are not the magic.
+    #[error("no store")]
+    Magic,
+    /// 3: the last four bytes are not the checksum of the others.
+    #[error("the checksum is wrong")]
+    Checksum,
+    /// 4: the number of processes is out of its range.
+    #[error("the number of processes is out of range")]
+    Count,
+    /// 5: the three bytes behind it are not zeros.
+    #[error("the three bytes behind the number of processes are not zeros")]
+    Zeros,
+    /// 6: what follows ends early or too late, or a payload is too long.
+    #[error("the fields do not take just the bytes that are there")]
+    Fields,
+    /// 7: a field is out of its range.
+    #[error("a field is out of range")]
+    Range,
+}
+
+impl StoreFault {
+    ghost use Rattle.std.specs.Prelude.{◌≡◌};
+    ghost use Rattle.stores.specs.Faults.{store_fault_number};
+
+    /// Its number, 1 to 7.
+    pub fn number(self) -> u8
+        ensures { result ≡ store_fault_number self }
+    {
+        match self {
+            StoreFault::Short => 1,
+            StoreFault::Magic => 2,
+            StoreFault::Checksum => 3,
+            StoreFault::Count => 4,
+            StoreFault::Zeros => 5,
+            StoreFault::Fields => 6,
+            StoreFault::Range => 7,
+        }
+    }
+}
+
+/// Why a store was not read.
+#[derive(Debug, Drop, PartialEq, Eq, Error)]
+pub enum StoreError {
+    /// Memory ran out.
+    #[error("out of memory")]
+    Memory,
+    /// The bytes are no store's.
+    #[error("store: {0}")]
+    Fault(StoreFault),
+}
+
+impl From<AllocError> for StoreError {
+    ghost from_gives = { λ _ e. e ≡ Memory };
+
+    fn from(_e: AllocError) -> StoreError {
+        StoreError::Memory
+    }
+}
