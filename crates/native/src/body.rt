@@ -25,11 +25,11 @@ pub(crate) enum Body {
 pub(crate) fn gpr(reg: Reg) -> u8
     ensures { result ≡ codes.gpr reg.number }
 {
-    let table = [0u8, 7, 6, 8, 9, 10, 3, 12, 13, 14, 4];
+    let table = [0u8, 8, 12, 9, 10, 3, 5, 13, 14, 15, 4];
     table[reg.number as usize]
 }
 
-/// A position in the array, seen from rbp.
+/// A position in the array, seen from rdi.
 pub(crate) fn seen(at: u64) -> u64
     ensures { result ≡ codes.seen at }
 {
@@ -294,7 +294,7 @@ fn load_code(size: Size, dst: Reg, at: u16) -> Body
     let load = Instr::Load {
         size,
         to: gpr(dst),
-        base: 5,
+        base: 7,
         disp: seen(at as u64),
     };
     by_word(dst, Body::One(load))
@@ -306,7 +306,7 @@ fn load_sx_code(size: SignedSize, dst: Reg, at: u16) -> Body
     let load = Instr::LoadSx {
         size,
         to: gpr(dst),
-        base: 5,
+        base: 7,
         disp: seen(at as u64),
     };
     by_word(dst, Body::One(load))
@@ -317,7 +317,7 @@ fn store_code(size: Size, src: Reg, at: u16) -> Body
 {
     let store = Instr::Store {
         size,
-        base: 5,
+        base: 7,
         disp: seen(at as u64),
         from: gpr(src),
     };
@@ -330,7 +330,7 @@ fn store_imm_code(size: Size, at: u16, imm: i32) -> Body
 {
     Body::One(Instr::StoreImm {
         size,
-        base: 5,
+        base: 7,
         disp: seen(at as u64),
         imm: number(imm),
     })
@@ -343,7 +343,7 @@ fn told_code(at: u64) -> Body
     Body::One(Instr::Load {
         size: Size::Double,
         to: 0,
-        base: 15,
+        base: 6,
         disp: at,
     })
 }

@@ -33,7 +33,7 @@ fn write_room_test(code: &mut Vec<u8>, count_at: u64, none: u64) -> Result<(), A
             Instr::Load {
                 size: Size::Double,
                 to: 1,
-                base: 15,
+                base: 6,
                 disp: count_at,
             },
             Instr::AluImm {
@@ -60,7 +60,7 @@ fn write_least_test(code: &mut Vec<u8>, none: u64) -> Result<(), AllocError>
             Instr::AluImm {
                 op: Alu::Cmp,
                 width: Width::W64,
-                to: 7,
+                to: 8,
                 imm: 1,
             },
             Instr::JumpIf {
@@ -81,14 +81,14 @@ fn write_most_test(code: &mut Vec<u8>, none: u64) -> Result<(), AllocError>
             Instr::Load {
                 size: Size::Double,
                 to: 1,
-                base: 15,
+                base: 6,
                 disp: 40,
             },
             Instr::Alu {
                 op: Alu::Cmp,
                 width: Width::W64,
                 to: 1,
-                from: 7,
+                from: 8,
             },
             Instr::JumpIf {
                 condition: Condition::Below,
@@ -108,13 +108,13 @@ fn write_other_test(code: &mut Vec<u8>, none: u64) -> Result<(), AllocError>
             Instr::Load {
                 size: Size::Double,
                 to: 1,
-                base: 15,
+                base: 6,
                 disp: 24,
             },
             Instr::Alu {
                 op: Alu::Cmp,
                 width: Width::W64,
-                to: 7,
+                to: 8,
                 from: 1,
             },
             Instr::JumpIf {
@@ -171,12 +171,12 @@ pub(crate) fn write_tests(code: &mut Vec<u8>, helper: Helper, size: u64) -> Resu
         Helper::SendSized => {
             write_peer_tests(code, size + 64, size + 51, size + 38)?;
             write_room_test(code, 0, size + 35)?;
-            write_length_test(code, 8, size)?;
+            write_length_test(code, 9, size)?;
             Ok(())
         }
         Helper::OutputSized => {
             write_room_test(code, 8, size + 24)?;
-            write_length_test(code, 6, size)?;
+            write_length_test(code, 12, size)?;
             Ok(())
         }
     }
@@ -197,7 +197,7 @@ fn write_place(code: &mut Vec<u8>, base: u64) -> Result<(), AllocError>
             },
             Instr::LeaBy {
                 to: 2,
-                base: 15,
+                base: 6,
                 index: 2,
                 disp: base,
             },
@@ -220,7 +220,7 @@ fn write_aim(code: &mut Vec<u8>) -> Result<(), AllocError>
             size: Size::Double,
             base: 2,
             disp: 0,
-            from: 7,
+            from: 8,
         }],
     )
 }
@@ -240,22 +240,22 @@ fn write_copy(code: &mut Vec<u8>, at: u64) -> Result<(), AllocError>
                 imm: 64,
             },
             Instr::LoadLong {
-                base: 5,
+                base: 7,
                 disp: seen(at),
             },
             Instr::StoreLong { base: 2, disp: 16 },
             Instr::LoadLong {
-                base: 5,
+                base: 7,
                 disp: seen(at + 16),
             },
             Instr::StoreLong { base: 2, disp: 32 },
             Instr::LoadLong {
-                base: 5,
+                base: 7,
                 disp: seen(at + 32),
             },
             Instr::StoreLong { base: 2, disp: 48 },
             Instr::LoadLong {
-                base: 5,
+                base: 7,
                 disp: seen(at + 48),
             },
             Instr::StoreLong { base: 2, disp: 64 },
@@ -286,7 +286,7 @@ fn write_sized(code: &mut Vec<u8>, at: u64, len: u8) -> Result<(), AllocError>
             },
             Instr::Lea {
                 to: 6,
-                base: 5,
+                base: 7,
                 disp: seen(at),
             },
             Instr::Lea {
@@ -311,7 +311,7 @@ fn write_good_end(code: &mut Vec<u8>, count_at: u64, past: u64) -> Result<(), Al
         &[
             Instr::Store {
                 size: Size::Double,
-                base: 15,
+                base: 6,
                 disp: count_at,
                 from: 1,
             },
@@ -347,7 +347,7 @@ fn write_send_sized(code: &mut Vec<u8>, at: u64) -> Result<(), AllocError>
 {
     write_place(code, 64)?;
     write_aim(code)?;
-    write_sized(code, at, 8)?;
+    write_sized(code, at, 9)?;
     write_good_end(code, 0, 28)?;
     Ok(())
 }
@@ -356,7 +356,7 @@ fn write_output_sized(code: &mut Vec<u8>, at: u64) -> Result<(), AllocError>
     ensures { OnOk result (code.new.items ≡ code.old.items ++ codes (specs.output_sized_good at)) }
 {
     write_place(code, 2240)?;
-    write_sized(code, at, 6)?;
+    write_sized(code, at, 12)?;
     write_good_end(code, 8, 17)?;
     Ok(())
 }

@@ -9,6 +9,7 @@ use crate::body::{Body, body_of, gpr};
 use crate::comparison::{compare_code, condition_of};
 use crate::emission::{Helper, write_end, write_good, write_tests};
 use crate::quotient::{Ways, divisor_code, write_quotient, write_signed};
+use crate::saved::{Saved, write_restoring, write_saving};
 use crate::sequence::write_all;
 use crate::task::Task;
 use decode::{AluOp, Condition, Operand, Reg, Size, Width};
@@ -357,8 +358,13 @@ fn emit_leap(
 }
 
 /// The end.
-fn emit_exit(code: &mut Vec<u8>, pends: &[u64], slot: usize) -> Result<bool, AllocError>
-    ensures { IfOk result (Emits (Ends pends.now slot) code.old.items code.new.items) }
+fn emit_exit(
+    code: &mut Vec<u8>,
+    pends: &[u64],
+    saved: Saved,
+    slot: usize,
+) -> Result<bool, AllocError>
+    ensures { IfOk result (Emits (Ends pends.now saved slot) code.old.items code.new.items) }
 {
     let Some(k) = at(pends, slot).checked_add(1) else {
         return Ok(false);
@@ -367,53 +373,41 @@ fn emit_exit(code: &mut Vec<u8>, pends: &[u64], slot: usize) -> Result<bool, All
         return Ok(false);
     }
     flush(code, k)?;
-    let end = [
-        Instr::Store {
-            size: Size::Double,
-            base: 15,
-            disp: 16,
-            from: 11,
-        },
-        Instr::Pop { reg: 15 },
-        Instr::Pop { reg: 14 },
-        Instr::Pop { reg: 13 },
-        Instr::Pop { reg: 12 },
-        Instr::Pop { reg: 5 },
-        Instr::Pop { reg: 3 },
-        Instr::Return,
-    ];
-    write_all(code, &end)?;
+    emit_leaving(code, saved)?;
     Ok(true)
 }
 
-/// The begin.
-pub(crate) fn emit_entry(code: &mut Vec<u8>) -> Result<(), AllocError>
-    ensures { OnOk result (code.new.items ≡ code.old.items ++ codes entering) }
+// Tells the steps, and returns.
+fn emit_leaving(code: &mut Vec<u8>, saved: Saved) -> Result<(), AllocError>
+    ensures { OnOk result (code.new.items ≡ code.old.items ++ codes (leaving saved)) }
 {
+    Instr::Store {
+        size: Size::Double,
+        base: 6,
+        disp: 16,
+        from: 11,
+    }
+    .write(code)?;
+    write_restoring(code, saved)?;
+    Instr::Return.write(code)
+}
+
+/// The begin.
+pub(crate) fn emit_entry(code: &mut Vec<u8>, saved: Saved) -> Result<(), AllocError>
+    ensures { OnOk result (code.new.items ≡ code.old.items ++ codes (entering saved)) }
+{
+    write_saving(code, saved)?;
     let begin = [
-        Instr::Push { reg: 3 },
-        Instr::Push { reg: 5 },
-        Instr::Push { reg: 12 },
-        Instr::Push { reg: 13 },
-        Instr::Push { reg: 14 },
-        Instr::Push { reg: 15 },
         Instr::Lea {
-            to: 5,
+            to: 7,
             base: 7,
             disp: 384,
         },
         Instr::Mov {
             width: Width::W64,
-            to: 15,
-            from: 6,
-        },
-        Instr::Mov {
-            width: Width::W64,
-            to: 8,
+            to: 9,
             from: 2,
         },
-        Instr::MovImm { to: 7, imm: 0 },
-        Instr::MovImm { to: 6, imm: 0 },
         Instr::MovImm { to: 11, imm: 0 },
     ];
     write_all(code, &begin)
@@ -425,11 +419,12 @@ pub(crate) fn emit(
     code: &mut Vec<u8>,
     pends: &[u64],
     places: &[u64],
+    saved: Saved,
     slot: usize,
     task: Task,
 ) -> Result<bool, AllocError>
     requires { slot < SLOTS }
-    ensures { IfOk result (Emits (Serves pends.now places.now slot (length code.old.items) task) code.old.items code.new.items) }
+    ensures { IfOk result (Emits (Serves pends.now places.now saved slot (length code.old.items) task) code.old.items code.new.items) }
 {
     match task {
         Task::Branch {
@@ -444,7 +439,7 @@ pub(crate) fn emit(
             )
         }
         Task::Leap { to } => emit_leap(code, pends, places, slot, to),
-        Task::Exit => emit_exit(code, pends, slot),
+        Task::Exit => emit_exit(code, pends, saved, slot),
         Task::Dead => Ok(true),
         _ => emit_plain(alloc, code, pends, places, slot, task),
     }

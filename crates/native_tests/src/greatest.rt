@@ -1,21 +1,27 @@
 //! Machine code of images of 1,024 slots, the most that there are. The code expected was put together
 //! from the lines of `examples/native`, and GNU `as` gives the same bytes.
 
-use crate::compiling::{RELAY_CODE, code_of};
+use crate::compiling::{ADDER_CODE, RELAY_CODE, code_of};
 use std::alloc::Global;
 use std::test::Fail;
 
-/// Where the entry ends in the relay's code, which is that of every handler.
-const ENTRY: usize = 0x2b;
+/// Where the entry ends in the adder's code, as in that of every handler that keeps no register.
+const ENTRY: usize = 0x10;
+
+/// Where the adder's end begins, with the steps in four bytes.
+const END: usize = 0x28;
+
+/// Where the entry ends in the relay's code, which keeps three registers.
+const RELAY_ENTRY: usize = 0x16;
 
 /// Where its move of 2 into r1 begins.
-const MOVE: usize = 0x2e;
+const MOVE: usize = 0x19;
 
 /// Where its send begins.
-const SEND: usize = 0x34;
+const SEND: usize = 0x1f;
 
-/// Where its end begins, with the steps in four bytes.
-const END: usize = 0xd6;
+/// Where its end begins.
+const RELAY_END: usize = 0xc1;
 
 /// `lea 1024(%r11), %r11`: the steps are told at the end.
 const STEPS: [u8; 7] = [0x4d, 0x8d, 0x9b, 0x00, 0x04, 0x00, 0x00];
@@ -56,13 +62,13 @@ fn sums_a_word(alloc: Global) -> Result<bool, Fail> {
         (&[0x95, 0, 0, 0, 0, 0, 0, 0], 1),
     ];
     let code = [
-        (&RELAY_CODE[..ENTRY], 1),
-        (&[0x4c, 0x8b, 0x85, 0x80, 0xfe, 0xff, 0xff], 1),
+        (&ADDER_CODE[..ENTRY], 1),
+        (&[0x4c, 0x8b, 0x8f, 0x80, 0xfe, 0xff, 0xff], 1),
         (&[0x40, 0xb8, 0, 0, 0, 0], 1),
-        (&[0x4c, 0x01, 0xc0], 1_020),
-        (&[0x48, 0x89, 0x45, 0x80], 1),
+        (&[0x4c, 0x01, 0xc8], 1_020),
+        (&[0x48, 0x89, 0x47, 0x80], 1),
         (&STEPS, 1),
-        (&RELAY_CODE[END + 4..], 1),
+        (&ADDER_CODE[END + 4..], 1),
     ];
     is_code_of(alloc, &image, &code)
 }
@@ -87,17 +93,17 @@ fn sends_what_it_can(alloc: Global) -> Result<bool, Fail> {
         alloc,
         &[
             (&RELAY_CODE[MOVE..SEND], 1),
-            (&[0x48, 0x89, 0xde], 1),
-            (&RELAY_CODE[SEND..END], 1),
+            (&[0x49, 0x89, 0xec], 1),
+            (&RELAY_CODE[SEND..RELAY_END], 1),
         ],
     )?;
     let code = [
-        (&RELAY_CODE[..ENTRY], 1),
-        (&[0x48, 0x89, 0xfb], 1),
+        (&RELAY_CODE[..RELAY_ENTRY], 1),
+        (&[0x4c, 0x89, 0xc5], 1),
         (send.as_slice(), 340),
         (&[0x40, 0xb8, 0, 0, 0, 0], 2),
         (&STEPS, 1),
-        (&RELAY_CODE[END + 4..], 1),
+        (&RELAY_CODE[RELAY_END + 4..], 1),
     ];
     is_code_of(alloc, &image, &code)
 }

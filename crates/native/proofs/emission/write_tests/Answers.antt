@@ -14,12 +14,12 @@ pub returns-in_ok-write_length_test-in-SendSized : goal.returns-in_ok-write_leng
 returns-in_ok-write_length_test-in-SendSized c =
     let old = c.args.code.now.items in
     let n = c.args.size in
-    three_then old c.write_peer_tests-in-SendSized.new.code.items c.write_room_test-in-SendSized.new.code.items c.write_length_test.new.code.items (peer_tests (n + 64) (n + 51) (n + 38)) (room_test 0 (n + 35)) (length_test 8 n) c.in_ok-write_peer_tests-in-SendSized.ensures c.in_ok-write_room_test-in-SendSized.ensures c.in_ok-write_length_test-in-SendSized.ensures
+    three_then old c.write_peer_tests-in-SendSized.new.code.items c.write_room_test-in-SendSized.new.code.items c.write_length_test.new.code.items (peer_tests (n + 64) (n + 51) (n + 38)) (room_test 0 (n + 35)) (length_test 9 n) c.in_ok-write_peer_tests-in-SendSized.ensures c.in_ok-write_room_test-in-SendSized.ensures c.in_ok-write_length_test-in-SendSized.ensures
     ∙ ap (λ h. old ++ codes (tests_of h n)) (sym c.in-SendSized.is)
 
 pub returns-in_ok-write_length_test-in-OutputSized : goal.returns-in_ok-write_length_test-in-OutputSized
 returns-in_ok-write_length_test-in-OutputSized c =
     let old = c.args.code.now.items in
     let n = c.args.size in
-    some_then old c.write_room_test-in-OutputSized.new.code.items c.write_length_test-in-OutputSized.new.code.items (room_test 8 (n + 24)) (length_test 6 n) c.in_ok-write_room_test-in-OutputSized.ensures c.in_ok-write_length_test-in-OutputSized.ensures
+    some_then old c.write_room_test-in-OutputSized.new.code.items c.write_length_test-in-OutputSized.new.code.items (room_test 8 (n + 24)) (length_test 12 n) c.in_ok-write_room_test-in-OutputSized.ensures c.in_ok-write_length_test-in-OutputSized.ensures
     ∙ ap (λ h. old ++ codes (tests_of h n)) (sym c.in-OutputSized.is)

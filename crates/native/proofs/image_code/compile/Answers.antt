@@ -19,12 +19,12 @@ loop-slot-preserved c =
     let f : slice_get ops slot ≡ Some o = slice_get-get_or ops slot o w ∙ ap Some (sym c.index-ops-slot.is) in
     let d : IsTrue c.in_ok-done.done = search (rules, c.if-not-done.false) in
     let l = c.in_ok-done.ensures d in
-    let l1 = subst (λ x. Lays pool x c.as_slice-in-loop-slot-2.result.now slot o old new) c.as_slice-in-loop-slot.ensures.value l in
-    let l2 = subst (λ x. Lays pool pends x slot o old new) c.as_slice-in-loop-slot-2.ensures.value l1 in
-    laid_next ops pool pends places old new slot o f c.loop-slot.invariant l2
+    let l1 = subst (λ x. Lays pool x c.as_slice-in-loop-slot-2.result.now c.saved_of-saved.result slot o old new) c.as_slice-in-loop-slot.ensures.value l in
+    let l2 = subst (λ x. Lays pool pends x c.saved_of-saved.result slot o old new) c.as_slice-in-loop-slot-2.ensures.value l1 in
+    laid_next ops pool pends places c.saved_of-saved.result old new slot o f c.loop-slot.invariant l2
 
 pub returns : goal.returns
 returns c =
     let b = c.begin-begin.ensures in
     let p = c.args.image.now in
-    native p.form p.slots p.table p.len p.low c.operations.result.0.now c.operations.result.1.now c.in_ok-pends.pends.items c.in_ok-places.places.items c.loop-slot.code.items c.loop-slot.slot b.typing b.short b.state c.operations.ensures.dense c.operations.ensures.sparing b.from b.to (omega (arith, c.loop-slot-test.false)) c.loop-slot.invariant
+    native p.form p.slots p.table p.len p.low c.operations.result.0.now c.operations.result.1.now c.in_ok-pends.pends.items c.in_ok-places.places.items c.saved_of-saved.result c.loop-slot.code.items c.loop-slot.slot b.typing b.short b.state c.operations.ensures.dense c.operations.ensures.sparing b.from b.to (omega (arith, c.loop-slot-test.false)) c.loop-slot.invariant

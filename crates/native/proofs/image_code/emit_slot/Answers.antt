@@ -1,6 +1,7 @@
 use Rattle.std.proofs.Common.{◌≡◌, ◌+◌, length, IsTrue, sym, ap, ◌∙◌, subst, arith, rules, length-append, slice_index}
 use Rattle.std.proofs.lemmas.Bool.Decides.{nat_tests}
 use Rattle.x86.specs.Machine.{HasAt}
+use Rattle.native.specs.Saved.{highest}
 use Rattle.native.specs.Code.{codes, Serves}
 use Rattle.native.proofs.Running.{has_all}
 use Rattle.native.proofs.image_code.emit_slot.Goals as goal
@@ -30,7 +31,8 @@ returns c =
         acts = c.in-Some.ensures.acts;
         within = c.in-Some.ensures.within;
         fits = c.in-Some.ensures.fits;
-        serves = subst (λ p. Serves c.args.pends.now places slot p t is) at x.1;
+        spares = c.rank_written.ensures (highest c.args.saved) (omega (arith, c.highest.ensures, c.if-rank_written-highest.false));
+        serves = subst (λ p. Serves c.args.pends.now places c.args.saved slot p t is) at x.1;
         stands = subst (λ p. HasAt new p (codes is)) at (subst (λ z. HasAt z (length old) (codes is)) (sym x.2) (has_all (codes is) old));
         next = ap (λ p. p + length (codes is)) (sym at) ∙ sym sum ∙ sym next;
       };

@@ -7,12 +7,12 @@ pub returns : goal.returns
 returns c =
     let k = c.in-Some.k in
     λ _. (
-      flushed k ++ leaving,
+      flushed k ++ leaving c.args.saved,
       record {
         k = k;
         is_are = refl;
         short = omega (arith, c.if-k-ge2147483648.false);
         sums = c.in-Some.ensures.1 ∙ ap (λ x. x + 1) c.at.ensures;
       },
-      some_then c.args.code.now.items c.flush.new.code.items c.write_all.new.code.items (flushed k) leaving c.in_ok-flush.ensures c.in_ok-write_all.ensures,
+      some_then c.args.code.now.items c.flush.new.code.items c.emit_leaving.new.code.items (flushed k) (leaving c.args.saved) c.in_ok-flush.ensures c.in_ok-emit_leaving.ensures,
     )
