@@ -1,0 +1,4 @@
+pub mod WorkedRuns
+pub mod DeathRuns
+pub mod LateRuns
+pub mod SizeRuns

@@ -1,0 +1,5 @@
+pub mod Pieces
+pub mod Worked
+pub mod Deaths
+pub mod Late
+pub mod Sizes

@@ -1,0 +1,24 @@
+//! Worked runs of nodes: a node is killed while it is idle, while it collects, before and after a
+//! number is recorded; packets come late or not at all.
+//!
+//! Each is a list of acts with the cluster that it leads to. That its steps may happen and that it leads
+//! there is computed from the rules of crate `cluster`: so a rule that said something else would fail
+//! one of them, and a reader sees what each rule is for.
+//!
+//! ```text
+//! node_comes_back();
+//! ```
+#![tactic(auto)]
+
+mod deaths;
+mod late;
+mod rows;
+mod sizes;
+
+pub use deaths::{all_have_to_answer, dies_at_checkpoint, dies_while_collecting, number_is_lost};
+pub use late::{
+    heard_comes_back, late_number_is_dropped, late_resume_is_dropped, old_answer_is_dropped,
+    old_ask_is_heard, open_job_comes_first,
+};
+pub use rows::{node_comes_back, old_packets_are_dropped, two_deaths_overlap};
+pub use sizes::{memory_is_filled, saved_may_be_lost, told_again};
