@@ -17,16 +17,18 @@ use Rattle.node.specs.Node.{TheNode, Within, log_at, posts, covered_of}
 use Rattle.packets.specs.Packet.{flags_of}
 use Rattle.packets.specs.declared.page.Entry.{Entry}
 use Rattle.rsn.specs.Receipts.{numbers_of}
-use Rattle.node.specs.declared.page.TheConstants.{PAIRS}
-use Rattle.node.specs.Pages.{entries_above, told_of, told_page, told_all, pairs_above, restored_all, restored_of}
+use Rattle.node.specs.declared.page.TheConstants.{PAGE, PAIRS}
+use Rattle.node.specs.Pages.{entries_in, told_of, told_page, told_all, pairs_above, restored_all, restored_of}
 use Rattle.node.specs.Asking.{heard_of, hears, asked_by, works_for, obeys, resumed_by}
-use Rattle.node.specs.Says.{told_end, restored_end}
+use Rattle.pages.specs.Says.{told_end, restored_end}
 use Rattle.node.specs.Stands.{KeepsOf, IsShut, sent_by, Receives, Acts, phase_of, job_of}
 use Rattle.node.proofs.Logs.{changed-at}
 use Rattle.node.proofs.Putting.{stands-takes, stands-well, posted, stays}
 use Rattle.node.proofs.Steps.{owes-then, by-if}
 use Rattle.node.proofs.Arrivals.{covers}
-use Rattle.node.proofs.Telling.{entries-ordered, log-told, page-told, page-goes, lost-is}
+use Rattle.pages.proofs.PageLemmas.{Ordered}
+use Rattle.pages.proofs.Telling.{entries-ordered, page-told, page-goes, lost-is}
+use Rattle.node.proofs.Telling.{log-told}
 use Rattle.node.proofs.Restoring.{history-told, pairs-told, pairs-go}
 
 -- a list with one value changed, as a function with one
@@ -39,16 +41,20 @@ set-at xs r v d q wide = split (q == r) refl
 
 -- ---- Ask
 
+-- the entries of its log are in the order of their numbers
+ordered : (n : TheNode) (d k : ℕ) → Ordered (suc k) (entries_in k (log_at n.logs d))
+ordered n d k = let q = log_at n.logs d in entries-ordered k q.dropped q.payloads q.numbers
+
 -- a page of its log it may tell to one of whose incarnation it has heard
 telling : (n : TheNode) (d i k : ℕ) → d ≤ n.count → d ≢ n.me → heard_of d n ≡ i → Acts n (posts d (told_of d i k n) n)
 telling n d i k low other heard c s u =
     let within : d ≤ c.count = omega (arith, low, s.count) in
-    let all : List Entry = entries_above k (log_at n.logs d) in
+    let all : List Entry = entries_in k (log_at n.logs d) in
     let end : Option ℕ = told_end (flags_of (told_all d k n) false n.exact) k (told_page d k n) in
     posted n c d (told_of d i k n) (Told i n.life k end (entry_of c n.me d))
-    (entry_of c n.me d, refl, lost-is (told_all d k n) n.exact, λ m above reach. log-told n c d s within other k m above ∙ page-told n.me k m n.exact all above (entries-ordered k (log_at n.logs d)) reach)
+    (entry_of c n.me d, refl, lost-is (told_all d k n) n.exact, λ m above reach. log-told n c d s within other k m above ∙ page-told PAGE n.me k m n.exact all above (ordered n d k) reach)
     s low other
-    (stands-well n c n.me s, sym (s.heard d within ∙ heard), sym s.life, λ v e. page-goes k v n.exact all (entries-ordered k (log_at n.logs d)) e, λ m above reach. refl)
+    (stands-well n c n.me s, sym (s.heard d within ∙ heard), sym s.life, λ v e. page-goes PAGE k v n.exact all (ordered n d k) e, λ m above reach. refl)
 
 -- it hears of a newer incarnation
 hearing : (n : TheNode) (d i k : ℕ) → n.frozen ≡ false → d ≤ n.count → d < length n.heard → d < length n.resumed → heard_of d n < i

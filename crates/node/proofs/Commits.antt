@@ -126,7 +126,7 @@ log-more logs d dropped xs numbers k g inside s = changed-at (λ q. KeepsOf q dr
     there : d ≢ g.to → KeepsOf (log_at logs d) dropped (xs ++ (if d == g.to then g.payload ∷ [] else [])) numbers
     there apart = let e : (d == g.to) ≡ false = grind (arith, nat_tests) in rw (e, none-more xs) s
 
-logs-more : (logs : List TheQueue) (d dropped : ℕ) (xs : List Payload) (numbers : ℕ → Option ℕ) (k : ℕ) (given : List Given) → ((i : ℕ) (g : Given) → slice_get given i ≡ Some g → g.to < length logs)
+pub logs-more : (logs : List TheQueue) (d dropped : ℕ) (xs : List Payload) (numbers : ℕ → Option ℕ) (k : ℕ) (given : List Given) → ((i : ℕ) (g : Given) → slice_get given i ≡ Some g → g.to < length logs)
     → KeepsOf (log_at logs d) dropped xs numbers → KeepsOf (log_at (given_to k given logs) d) dropped (xs ++ payloads_to d given) numbers
 logs-more logs d dropped xs numbers k [] inside s = rw (none-more xs) s
 logs-more logs d dropped xs numbers k (g ∷ given) inside s =

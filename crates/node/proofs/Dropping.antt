@@ -23,7 +23,7 @@ taken-dropped (suc k) [] = refl
 taken-dropped (suc k) (x ∷ xs) = ap (λ l. x ∷ l) (taken-dropped k xs)
 
 -- a queue without its first messages
-kept-dropped : (q : TheQueue) (k dropped : ℕ) (xs : List Payload) (numbers : ℕ → Option ℕ) → k ≤ length q.payloads → dropped ≡ q.dropped + k → KeepsOf q q.dropped xs numbers → KeepsOf (dropped_first k q) dropped xs numbers
+pub kept-dropped : (q : TheQueue) (k dropped : ℕ) (xs : List Payload) (numbers : ℕ → Option ℕ) → k ≤ length q.payloads → dropped ≡ q.dropped + k → KeepsOf q q.dropped xs numbers → KeepsOf (dropped_first k q) dropped xs numbers
 kept-dropped q k dropped xs numbers some is s =
     let fewer : length (drop k q.payloads) ≡ length q.payloads - k = length-drop k q.payloads in
     record {

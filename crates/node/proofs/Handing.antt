@@ -6,6 +6,7 @@ use Rattle.rsn.specs.Receipts.{numbers_of}
 use Rattle.rsn.specs.declared.receipts.TheConstants.{LIMIT}
 use Rattle.theorems.proofs.Tests.{both, neither, not-false}
 use Rattle.packets.specs.declared.packet.Packet.{Packet}
+use Rattle.packets.specs.Packet.{in_range}
 use Rattle.packets.specs.declared.packet.Body as bodies
 use Rattle.packets.specs.declared.packet.Body.TheVariants as packets
 use Rattle.cluster.specs.Parcels.{Body, Delivery, Number, Acknowledgement, Ask, Resume, Saved, In, parcel}
@@ -17,7 +18,7 @@ use Rattle.node.specs.Queue.{is_kept}
 use Rattle.node.specs.Node.{TheNode, Within, MaySend, OfPeer, log_at, posts, tells, numbered, counted, covered_of}
 use Rattle.node.specs.Sending.{released}
 use Rattle.node.specs.Calls.{delivered, takes_more, recorded_by, acknowledged_by, did_work, told, is_for, handed}
-use Rattle.node.specs.Says.{WasSaid}
+use Rattle.pages.specs.Says.{WasSaid}
 use Rattle.node.specs.Stands.{Owes, Receives, Handles, IsHanded}
 use Rattle.node.proofs.Views.{none-is}
 use Rattle.node.proofs.Putting.{stays}
@@ -123,7 +124,7 @@ told-so from to (packets.Restored i j k a flags pairs) n w live low other me c s
 -- a packet is handed to a node
 pub handed-so : (x : Packet) (n : TheNode) → Within n → IsHanded x n (handed x n)
 handed-so x n w =
-    by-if (λ new. IsHanded x n new) (is_for n x) (told x.from x.body n) n (λ e. here (both (not n.frozen && (x.count == n.count) && (x.to == n.me) && nat_le x.from n.count) (not (x.from == n.me)) e)) (λ e c s put. stays n c s)
+    by-if (λ new. IsHanded x n new) (is_for n x) (told x.from x.body n) n (λ e. here (both (not n.frozen && (x.count == n.count) && (x.to == n.me) && nat_le x.from n.count) (not (x.from == n.me)) (both (not n.frozen && (x.count == n.count) && (x.to == n.me) && nat_le x.from n.count && not (x.from == n.me)) (in_range x.body) e).0)) (λ e c s put. stays n c s)
   where
     here : ((not n.frozen && (x.count == n.count) && (x.to == n.me) && nat_le x.from n.count) ≡ true) × (not (x.from == n.me) ≡ true) → IsHanded x n (told x.from x.body n)
     here t =

@@ -14,9 +14,14 @@ pub mod Sendings
 pub mod Opening
 pub mod PageLemmas
 pub mod Telling
+pub mod PairRanges
+pub mod Sendable
 pub mod Restoring
 pub mod Answering
 pub mod Handing
 pub mod Freezing
+pub mod Counting
+pub mod Keeping
 pub mod Outside
 pub mod Runs
+pub mod Releases

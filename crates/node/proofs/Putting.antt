@@ -9,7 +9,7 @@ use Rattle.node.specs.declared.job.OpenJob.{OpenJob}
 use Rattle.packets.specs.declared.packet.Body as bodies
 use Rattle.packets.specs.declared.packet.Packet.{Packet}
 use Rattle.node.specs.Node.{TheNode, posts, packet_of}
-use Rattle.node.specs.Says.{Says}
+use Rattle.pages.specs.Says.{Says}
 use Rattle.node.specs.Stands.{Stands, Goes, PutOut, phase_of, stage_of, actor}
 use Rattle.node.proofs.Lists.{all-more, all-pushed}
 

@@ -15,11 +15,11 @@ use Rattle.packets.specs.declared.page.Flags.{Flags}
 use Rattle.node.specs.declared.page.TheConstants.{PAIRS}
 use Rattle.node.specs.Node.{TheNode, covered_of}
 use Rattle.node.specs.Pages.{pairs_from}
-use Rattle.node.specs.Says.{first_number, last_behind, restored_end}
+use Rattle.pages.specs.Says.{first_number, last_behind, restored_end}
 use Rattle.node.specs.Stands.{Stands}
 use Rattle.node.proofs.Numbers.{rsn-pairs, rsn-beyond, rsn-joined}
 use Rattle.node.proofs.PageLemmas.{drop-pairs, length-cut}
-use Rattle.node.proofs.Telling.{done-is}
+use Rattle.pages.proofs.Telling.{done-is}
 
 below : (a b : ℕ) → nat_le a b ≡ true → a ≤ b
 below a b e = grind (arith, nat_tests)

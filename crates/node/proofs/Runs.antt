@@ -16,7 +16,7 @@ use Rattle.cluster.proofs.Settings.{does-count, does-handlers}
 use Rattle.cluster.proofs.Runs.{run-handlers}
 use Rattle.cluster.proofs.Promised.{nodes-keep}
 use Rattle.node.specs.Node.{TheNode}
-use Rattle.node.specs.Says.{body_of, WasSaid}
+use Rattle.pages.specs.Says.{body_of, WasSaid}
 use Rattle.node.specs.Stands.{Each, Stands, Goes, PutOut, Acts, Handles, Answers, actor, job_of, payloads_to}
 use Rattle.node.specs.Beside.{AllStand}
 use Rattle.node.specs.Runs.{Answer, Answering, state_from, sends_from, handlers_of, System, new_system, Call, Gave, Handed, Worked, Ticked, Froze, Thawed, Acted, IsOne, CameFrom, IsGateway, IsAnswer, DoesIt, with_said, after_call, Calls, after_calls, CallsRun}

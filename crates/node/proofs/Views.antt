@@ -1,8 +1,8 @@
 -- Options, and what waits to be taken
-use Rattle.std.proofs.Common.{◌≡◌, List, [], ◌∷◌, Option, Some, None, Result, Ok, Err, OnOk, is_some, false, refl, ap, subst, ◌∙◌}
+use Rattle.std.proofs.Common.{◌≡◌, List, [], ◌∷◌, Option, Some, None, Result, Ok, Err, OnOk, IfOk, is_some, false, refl, ap, subst, ◌∙◌}
 use Rattle.packets.specs.declared.packet.Packet.{Packet}
 use Rattle.cluster.specs.Cluster.{Cluster}
-use Rattle.node.specs.Outbox.{Pops}
+use Rattle.outbox.specs.Outbox.{Pops}
 use Rattle.node.specs.Node.{TheNode}
 use Rattle.node.specs.Stands.{Each, Stands, PutOut, Takes}
 
@@ -13,6 +13,14 @@ none-is (Some x) e = absurd (cc)
 pub on-ok : {X E : Type 0} (r : Result X E) (P Q : Type 0) → (P → Q) → OnOk r P → OnOk r Q
 on-ok (Ok x) P Q f h = f h
 on-ok (Err e) P Q f h = tt
+
+pub if-ok : {X E : Type 0} (r : Result X E) (P Q : X → Type 0) → ((x : X) → P x → Q x) → IfOk r P → IfOk r Q
+if-ok (Ok x) P Q f h = f x h
+if-ok (Err e) P Q f h = tt
+
+pub if-both : {X E : Type 0} (r : Result X E) (P Q : X → Type 0) → IfOk r P → IfOk r Q → IfOk r (λ x. P x × Q x)
+if-both (Ok x) P Q h g = (h, g)
+if-both (Err e) P Q h g = tt
 
 -- the first packet that waits leaves
 pub takes-so : (o : Option Packet) (n : TheNode) (rest : List Packet) → Pops o n.out rest → Takes o n (record n { out = rest })

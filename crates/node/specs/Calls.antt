@@ -5,6 +5,7 @@ use Rattle.rsn.specs.declared.receipts.TheConstants.{LIMIT}
 use Rattle.packets.specs.declared.packet.Body.{Body}
 use Rattle.packets.specs.declared.packet.Body.TheVariants.{Delivery, Number, Acknowledgement, Ask, Resume, Saved}
 use Rattle.packets.specs.declared.packet.Packet.{Packet}
+use Rattle.packets.specs.Packet.{in_range}
 use Rattle.node.specs.declared.node.TheConstants.{WINDOW, MOST_RECEIVED}
 use Rattle.node.specs.declared.job.OpenJob.{OpenJob}
 use Rattle.node.specs.declared.job.Given.{Given}
@@ -60,9 +61,9 @@ told from (Ask i k) n = asked_by from i k n
 told from (Resume i k s) n = resumed_by from i k s n
 told from body n = n
 
--- a packet is of another node of this cluster to this one, which takes what arrives
+-- a packet is of another node of this cluster to this one, which takes what arrives, and each field is in its range
 abbrev pub is_for : TheNode → Packet → Bool
-is_for n x = not n.frozen && (x.count == n.count) && (x.to == n.me) && nat_le x.from n.count && not (x.from == n.me)
+is_for n x = not n.frozen && (x.count == n.count) && (x.to == n.me) && nat_le x.from n.count && not (x.from == n.me) && in_range x.body
 
 -- a packet comes
 abbrev pub handed : Packet → TheNode → TheNode

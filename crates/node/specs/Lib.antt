@@ -1,14 +1,14 @@
 pub mod Queue
-pub mod Outbox
 pub mod Node
 pub mod Sending
 pub mod Saving
 pub mod Pages
 pub mod Asking
 pub mod Calls
-pub mod Says
 pub mod Stands
+pub mod Kept
 pub mod Beside
 pub mod Runs
 pub mod Standing
 pub mod Bytes
+pub mod Returning

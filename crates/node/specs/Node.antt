@@ -1,12 +1,15 @@
 -- What clauses see of a node
-use Rattle.std.specs.Prelude.{◌≡◌, ◌≢◌, ℕ, suc, ◌+◌, ◌-◌, ◌*◌, ◌<◌, ◌≤◌, List, [], ◌∷◌, length, Option, Some, None, is_some, Bool, true, false, slice_get, slice_index_or, slice_set, replicate}
+use Rattle.std.specs.Prelude.{◌≡◌, ◌≢◌, ℕ, suc, ◌+◌, ◌-◌, ◌*◌, ◌^◌, ◌<◌, ◌≤◌, List, [], ◌∷◌, length, Option, Some, None, is_some, Bool, true, false, slice_get, slice_index_or, slice_set, replicate, sum}
+use Rattle.std.specs.List.{AllByRecursion}
 use Rattle.rsn.specs.Receipts.{Received, accepted, acknowledged, numbers_of}
 use Rattle.rsn.specs.declared.receipts.TheConstants.{LIMIT}
 use Rattle.packets.specs.declared.packet.Body.{Body}
 use Rattle.packets.specs.declared.packet.Body.TheVariants.{Number}
 use Rattle.packets.specs.declared.packet.Packet.{Packet}
+use Rattle.packets.specs.Packet.{in_range}
+use Rattle.packets.specs.Format.{HasRoom, Fits}
 use Rattle.node.specs.Queue.{TheQueue, no_queue, appended, recorded}
-use Rattle.node.specs.Outbox.{pushed}
+use Rattle.outbox.specs.Outbox.{pushed}
 use Rattle.node.specs.declared.job.OpenJob.{OpenJob}
 use Rattle.node.specs.declared.job.Given.{Given}
 use Rattle.node.specs.declared.node.TheConstants.{MOST_GIVEN, MOST_RECEIVED}
@@ -15,6 +18,25 @@ use Rattle.node.specs.declared.node.TheConstants.{MOST_GIVEN, MOST_RECEIVED}
 abbrev pub OfPeer : ℕ → ℕ → Option OpenJob → Type 0
 OfPeer me count None = Unit {0}
 OfPeer me count (Some j) = (j.sender ≤ count) × (j.sender ≢ me)
+
+-- another process, or the gateway
+abbrev pub IsPeer : ℕ → ℕ → ℕ → Type 0
+IsPeer me count q = (q ≤ count) × (q ≢ me)
+
+-- a number of something, of which one more has room
+abbrev pub IsPositive : ℕ → Type 0
+IsPositive n = (0 < n) × (n < 2 ^ 63)
+
+-- its message has an SSN
+abbrev pub HasSsn : Option OpenJob → Type 0
+HasSsn None = Unit {0}
+HasSsn (Some j) = IsPositive j.ssn
+
+-- what it received is of its peers: all that its checkpoint covers, and each message behind
+pub record FromPeers (me count base : ℕ) (covered senders : List ℕ) : Type 0 where
+  pub total : sum covered ≡ base
+  pub none_own : slice_index_or covered me 0 ≡ 0
+  pub behind : AllByRecursion (IsPeer me count) senders
 
 -- its number, and how many processes there are; its incarnation; its state; how many messages its checkpoint covers, and how many of
 -- these are of each sender; what it received behind these; by destination the messages that it keeps; how many of its numbers aren't
@@ -43,7 +65,7 @@ log_at logs d = slice_index_or logs d no_queue
 
 -- what the node's own numbers keep, whatever the cluster is: no more than eight messages to each for each that was received; and no job is
 -- open while it is frozen
-pub record IsWithin (me count base : ℕ) (covered heard : List ℕ) (resumed : List Bool) (receipts : Received) (logs : List TheQueue) (working : Option OpenJob) (frozen : Bool) (waiting : ℕ) : Type 0 where
+pub record IsWithin (me count base : ℕ) (covered heard : List ℕ) (resumed : List Bool) (receipts : Received) (logs : List TheQueue) (working : Option OpenJob) (frozen : Bool) (waiting life : ℕ) (out : List Packet) : Type 0 where
   pub inside : 1 ≤ me
   pub within : me ≤ count
   pub few : count ≤ 15
@@ -52,17 +74,22 @@ pub record IsWithin (me count base : ℕ) (covered heard : List ℕ) (resumed : 
   pub resumed_wide : length resumed ≡ suc count
   pub logs_wide : length logs ≡ suc count
   pub counts : (q : ℕ) → slice_index_or covered q 0 ≤ base
+  pub peers : FromPeers me count base covered receipts.senders
   pub young : base + length receipts.senders ≤ MOST_RECEIVED
   pub bound : length receipts.senders ≤ LIMIT
   pub room : is_some working ≡ true → (length receipts.senders < LIMIT) × (base + length receipts.senders < MOST_RECEIVED)
   pub waits : waiting ≤ length receipts.senders
   pub own : OfPeer me count working
+  pub numbered : HasSsn working
   pub rests : frozen ≡ true → is_some working ≡ false
   pub short : (d : ℕ) → (log_at logs d).dropped + length (log_at logs d).payloads ≤ MOST_GIVEN * (base + length receipts.senders)
+  pub alive : IsPositive life
+  -- each packet that waits can be written
+  pub fit : AllByRecursion Fits out
 
 -- this node's numbers do
 abbrev pub Within : TheNode → Type 0
-Within n = IsWithin n.me n.count n.base n.covered n.heard n.resumed n.receipts n.logs n.working n.frozen n.waiting
+Within n = IsWithin n.me n.count n.base n.covered n.heard n.resumed n.receipts n.logs n.working n.frozen n.waiting n.life n.out
 
 -- how many messages of a peer its checkpoint covers
 abbrev pub covered_of : ℕ → TheNode → ℕ
@@ -71,6 +98,12 @@ covered_of q n = slice_index_or n.covered q 0
 -- a packet of the node's
 abbrev pub packet_of : TheNode → ℕ → Body → Packet
 packet_of n to body = record { count = n.count; from = n.me; to = to; body = body }
+
+-- this can be said to one: it is a peer, and each field is in its range
+pub record CanSay (n : TheNode) (to : ℕ) (body : Body) : Type 0 where
+  pub peer : IsPeer n.me n.count to
+  pub room : HasRoom body
+  pub range : in_range body ≡ true
 
 -- one more packet waits to be taken, where there is room
 abbrev pub posts : ℕ → Body → TheNode → TheNode

@@ -1,6 +1,7 @@
 //! What a node does that is up for one that comes back.
 
-ghost use Rattle.std.specs.Prelude.{◌≡◌, ◌≤◌, OnOk, OnErr};
+ghost use Rattle.std.specs.Prelude.{◌≡◌, ◌≤◌, ◌<◌, ◌^◌, OnOk, OnErr};
+ghost use Rattle.node.specs.Node.{IsPeer, IsPositive};
 ghost use Rattle.node.specs.Asking.{hears, asked_by, obeys, works_for, resumed_by};
 
 use crate::node::Node;
@@ -16,7 +17,9 @@ impl Node {
         life: u64,
         above: u64,
     ) -> Result<(), AllocError>
-        requires { from ≤ self.old.count }
+        requires peer { IsPeer self.old.me self.old.count from }
+        requires life { IsPositive life }
+        requires above { above < 2 ^ 63 }
         ensures ok { OnOk result (self.new ≡ asked_by from life above self.old) }
         ensures err { OnErr result (self.new ≡ self.old) }
     {
@@ -50,7 +53,9 @@ impl Node {
         kept: u64,
         above: u64,
     ) -> Result<(), AllocError>
-        requires { from ≤ self.old.count }
+        requires peer { IsPeer self.old.me self.old.count from }
+        requires life { IsPositive life }
+        requires above { above < 2 ^ 63 }
         ensures ok { OnOk result (self.new ≡ resumed_by from life kept above self.old) }
         ensures err { OnErr result (self.new ≡ self.old) }
     {

@@ -1,16 +1,16 @@
 //! Packets as bytes.
 
-ghost use Rattle.std.specs.Prelude.{◌≡◌, IfErr, OnOk, OnErr};
+ghost use Rattle.std.specs.Prelude.{◌≡◌, None, IfNone, IfSome, IfOk, IfErr, OnOk, OnErr};
 ghost use Rattle.packets.specs.declared.packet.Packet.{Packet};
 ghost use Rattle.packets.specs.Format.{IsPacket};
 ghost use Rattle.packets.specs.Faults.{IsReason};
 ghost use Rattle.node.specs.Calls.{handed};
-ghost use Rattle.node.specs.Stands.{IsHanded};
-ghost use Rattle.node.specs.Bytes.{IsTaken};
+ghost use Rattle.node.specs.Stands.{IsHanded, Takes};
+ghost use Rattle.node.specs.Bytes.{IsTaken, GivesBytes};
 
 use crate::node::Node;
-use packets::{PacketError, decode, one_packet};
-use std::alloc::Global;
+use packets::{PacketError, decode, encode, one_packet};
+use std::alloc::{AllocError, Global};
 
 impl Node {
     /// Bytes came. Those of a packet are taken as [`Node::receive`] takes it; any others are refused by
@@ -29,5 +29,20 @@ impl Node {
         let packet = decode(alloc, bytes)?;
         self.receive(alloc, &packet)?;
         Ok(())
+    }
+
+    /// The bytes of the packet that [`Node::take`] would give, which is taken; none, if none waits. A
+    /// refusal, for want of memory, changes nothing.
+    pub fn take_bytes(&mut self, alloc: Global) -> Result<Option<Vec<u8>>, AllocError>
+        ensures none { IfOk result (λ o. IfNone o (Takes None self.old self.new)) }
+        ensures some { IfOk result (λ o. IfSome o (λ v. GivesBytes v.items self.old self.new)) }
+        ensures err { OnErr result (self.new ≡ self.old) }
+    {
+        let Some(packet) = self.out.front() else {
+            return Ok(None);
+        };
+        let bytes = encode(alloc, packet)?;
+        let _ = self.out.pop();
+        Ok(Some(bytes))
     }
 }

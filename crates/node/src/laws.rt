@@ -1,6 +1,7 @@
 //! What holds of nodes beside one another.
 
 ghost use Rattle.node.specs.Beside.{NodesRun, OthersStand};
+ghost use Rattle.node.specs.Kept.{KeptStays};
 ghost use Rattle.node.specs.Runs.{CallsRun};
 
 /// A node stands after the acts of another one.
@@ -12,6 +13,12 @@ pub fn others_stand()
 /// which all stand.
 pub fn nodes_run()
     ensures { NodesRun }
+{}
+
+/// What is kept of a process is what its checkpoint covers until a newer one is durable, whatever
+/// happens: also if it dies.
+pub fn kept_stays()
+    ensures { KeptStays }
 {}
 
 /// Calls of nodes from their opening on, in any order, with packets handed over late, twice or never

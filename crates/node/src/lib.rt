@@ -3,16 +3,17 @@
 //! A [`Node`] knows no clock, socket, file or thread. Its host hands it the packets that came
 //! ([`Node::receive`]), sends those that it gives ([`Node::take`]), runs its handler
 //! ([`Node::work`]), now and then lets it send again what isn't answered ([`Node::tick`]), and keeps
-//! its checkpoints: [`Node::checkpoint`] makes one, [`Node::saved`] says that it is durable. Packets
-//! come as bytes, too ([`Node::receive_bytes`]), and [`Node::standing`] tells how it stands.
+//! its checkpoints: [`Node::checkpoint`] makes one, of which [`Node::kept_bytes`] are the bytes, and
+//! [`Node::saved`] says that it is durable. Packets come and go as bytes, too
+//! ([`Node::receive_bytes`], [`Node::take_bytes`]), and [`Node::standing`] tells how it stands.
 //!
 //! The promise: each call is none, one or more acts of the node's process that the rules of crate
 //! `cluster` allow, and what the node then holds is what the cluster has of that process. Acts of
 //! one node leave what the others stand for. So calls of nodes, in any order and with packets that
 //! come late, twice or never, are a run of a cluster, of which the promises of `cluster` hold.
 //!
-//! A node answers peers that come back, by pages of its log and of what it received. It never comes
-//! back itself here: the bytes of a checkpoint aren't in this crate yet.
+//! A node answers peers that come back, by pages of its log and of what it received. It doesn't come
+//! back itself here.
 //!
 //! ```text
 //! let mut node = Node::open(alloc, 1, 2, 8)?;
@@ -26,21 +27,24 @@
 mod asking;
 mod bytes;
 mod job;
+mod kept;
 mod laws;
 mod node;
-mod outbox;
 mod page;
 mod queue;
 mod receiving;
+mod returning;
 mod saving;
 mod sending;
 mod standing;
 mod working;
 
 pub use job::{Given, OpenJob};
-pub use laws::{calls_run, nodes_run, others_stand};
+pub use kept::MOST_KEPT;
+pub use laws::{calls_run, kept_stays, nodes_run, others_stand};
 pub use node::{MOST_GIVEN, MOST_RECEIVED, Node, TICK, WINDOW};
-pub use outbox::{OUTBOX, Outbox};
 pub use page::PAGE;
 pub use queue::Queue;
+pub use returning::Returned;
 pub use standing::{Stage, Standing};
+pub use working::log;

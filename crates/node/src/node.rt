@@ -1,14 +1,14 @@
 //! What a node holds in memory.
 
 ghost use Rattle.std.specs.Prelude.{◌≡◌, ◌≤◌, IfOk};
-ghost use Rattle.node.specs.Node.{new_node, posts};
+ghost use Rattle.node.specs.Node.{new_node, posts, CanSay};
 ghost use Rattle.world.specs.Handlers.{Handlers};
 ghost use Rattle.cluster.specs.Cluster.{opening};
 ghost use Rattle.node.specs.Stands.{Stands, BeginsWith, Takes};
 
 use crate::job::OpenJob;
-use crate::outbox::Outbox;
 use crate::queue::Queue;
+use outbox::Outbox;
 use packets::{Body, Packet};
 use rsn::Receipts;
 use std::alloc::{AllocError, Global};
@@ -61,7 +61,7 @@ impl Model for Node {
 
     ghost view = { λ n. record { me = n.me; count = n.count; life = n.life; state = n.state.items; base = n.base; covered = n.covered.items; receipts = n.receipts; logs = n.logs.items; waiting = n.waiting; heard = n.heard.items; resumed = n.resumed.items; exact = n.exact; working = n.working; frozen = n.frozen; out = n.out } };
 
-    ghost invariant = { λ n. IsWithin n.me n.count n.base n.covered.items n.heard.items n.resumed.items n.receipts n.logs.items n.working n.frozen n.waiting };
+    ghost invariant = { λ n. IsWithin n.me n.count n.base n.covered.items n.heard.items n.resumed.items n.receipts n.logs.items n.working n.frozen n.waiting n.life n.out };
 }
 
 impl Node {
@@ -131,6 +131,7 @@ impl Node {
 
     /// A packet waits to be taken.
     pub(crate) fn put(&mut self, to: u8, body: Body)
+        requires { CanSay self.old to body }
         ensures { self.new ≡ posts to body self.old }
     {
         let packet = Packet {

@@ -1,8 +1,8 @@
 //! What a node does with a packet.
 
-ghost use Rattle.std.specs.Prelude.{◌≡◌, ◌≢◌, ◌≤◌, ◌<◌, ◌+◌, ◌-◌, length, false, OnOk, OnErr};
+ghost use Rattle.std.specs.Prelude.{◌≡◌, ◌≤◌, ◌<◌, ◌+◌, ◌-◌, length, false, OnOk, OnErr};
 ghost use Rattle.rsn.specs.Receipts.{numbers_of};
-ghost use Rattle.node.specs.Node.{tells, counted, covered_of};
+ghost use Rattle.node.specs.Node.{IsPeer, IsPositive, tells, counted, covered_of};
 ghost use Rattle.node.specs.Calls.{delivered, recorded_by, acknowledged_by, dropped_by, handed, takes_more};
 ghost use Rattle.node.specs.Stands.{IsHanded};
 
@@ -13,8 +13,9 @@ use packets::{Body, Packet};
 use std::alloc::{AllocError, Global};
 
 impl Node {
-    /// A packet came. One that isn't of another node of this cluster to this one is dropped, and so is
-    /// any while the node waits until its checkpoint is durable. A refusal changes nothing.
+    /// A packet came. One that isn't of another node of this cluster to this one is dropped, one with a
+    /// field out of its range, and any while the node waits until its checkpoint is durable. A refusal
+    /// changes nothing.
     pub fn receive(&mut self, alloc: Global, packet: &Packet) -> Result<(), AllocError>
         ensures value { OnOk result (self.new ≡ handed packet.now self.old) }
         ensures acts { OnOk result (IsHanded packet.now self.old self.new) }
@@ -35,6 +36,7 @@ impl Node {
             || packet.to != self.me
             || from > self.count
             || from == self.me
+            || !packet.body.is_in_range()
         {
             return Ok(());
         }
@@ -69,7 +71,7 @@ impl Node {
 
     /// A message of `from`, in its incarnation `life`, came.
     fn receive_delivery(&mut self, from: u8, life: u64, ssn: u64, payload: Payload)
-        requires peer { (from ≤ self.old.count) × (from ≢ self.old.me) }
+        requires peer { IsPeer self.old.me self.old.count from }
         requires live { self.old.frozen ≡ false }
         ensures { self.new ≡ delivered from life ssn payload self.old }
     {
@@ -106,7 +108,7 @@ impl Node {
 
     /// Tells a sender the number of a message of its, which is behind the checkpoint.
     pub(crate) fn tell(&mut self, to: u8, ssn: u64)
-        requires to { to ≤ self.old.count }
+        requires to { IsPeer self.old.me self.old.count to }
         requires above { covered_of to self.old < ssn }
         requires known { ssn - covered_of to self.old - 1 < length (numbers_of to self.old.receipts) }
         ensures { self.new ≡ tells to ssn self.old }
@@ -126,7 +128,9 @@ impl Node {
 
     /// A number came: `from`, in its incarnation `life`, received this message of the node's under it.
     fn receive_number(&mut self, from: u8, life: u64, ssn: u64, rsn: u64)
-        requires { (from ≤ self.old.count) × (from ≢ self.old.me) }
+        requires peer { IsPeer self.old.me self.old.count from }
+        requires life { IsPositive life }
+        requires number { IsPositive rsn }
         ensures { self.new ≡ recorded_by from life ssn rsn self.old }
     {
         if life != self.heard[from as usize] || !self.logs[from as usize].is_kept(ssn) {

@@ -2,6 +2,7 @@
 
 ghost use Rattle.std.specs.Prelude.{◌≡◌, ◌≤◌, ◌<◌, ◌+◌, ◌^◌, ℕ, [], length, slice_index_or, true, OnOk, OnErr, IfOk};
 ghost use Rattle.rsn.specs.Receipts.{numbers_of};
+ghost use Rattle.node.specs.Node.{IsPeer};
 ghost use Rattle.node.specs.Saving.{may_freeze, froze, counts_from, thawed, says_covered, says_below, thaws, saved};
 ghost use Rattle.node.specs.Stands.{Acts};
 
@@ -90,7 +91,7 @@ impl Node {
     }
 
     fn say(&mut self, to: u8)
-        requires { to ≤ self.old.count }
+        requires { IsPeer self.old.me self.old.count to }
         ensures { self.new ≡ says_covered to self.old }
     {
         let covered = self.covered[to as usize];
@@ -101,7 +102,7 @@ impl Node {
 }
 
 /// Counts what was received by its sender.
-fn count(covered: &mut Vec<u64>, receipts: &Receipts)
+pub(crate) fn count(covered: &mut Vec<u64>, receipts: &Receipts)
     requires few { length covered.old.items ≤ 16 }
     requires room { (q : ℕ) → slice_index_or covered.old.items q 0 + length (numbers_of q receipts.now) < 2 ^ 64 }
     ensures { covered.new.items ≡ counts_from 0 receipts.now covered.old.items }

@@ -2,7 +2,7 @@
 
 ghost use Rattle.std.specs.Prelude.{◌≡◌, ◌≤◌, ◌<◌, ◌+◌, ◌^◌, length, true};
 ghost use Rattle.rsn.specs.Receipts.{numbers_of, acknowledged_of, run_of};
-ghost use Rattle.node.specs.Node.{log_at, covered_of};
+ghost use Rattle.node.specs.Node.{IsPeer, log_at, covered_of};
 ghost use Rattle.node.specs.Queue.{is_kept, number_of};
 ghost use Rattle.node.specs.Sending.{delivers, first_to_send, many_to_send, sends_on, unlocked, released_to, released, resent, renumbered, is_told_at, ticked};
 ghost use Rattle.node.specs.Stands.{Acts};
@@ -51,7 +51,7 @@ impl Node {
     }
 
     fn release_to(&mut self, to: u8)
-        requires { to ≤ self.old.count }
+        requires { IsPeer self.old.me self.old.count to }
         ensures { self.new ≡ released_to to self.old }
     {
         let above = self.unlock(to);
@@ -73,7 +73,7 @@ impl Node {
 
     /// The first messages behind this SSN are sent, as far as they are released.
     fn send(&mut self, to: u8, above: u64)
-        requires { to ≤ self.old.count }
+        requires { IsPeer self.old.me self.old.count to }
         ensures { self.new ≡ sends_on to above self.old }
     {
         let (first, many) = self.to_be_sent(to, above);
@@ -98,11 +98,13 @@ impl Node {
 
     /// A message that is kept is sent.
     fn deliver(&mut self, to: u8, ssn: u64)
-        requires to { to ≤ self.old.count }
+        requires to { IsPeer self.old.me self.old.count to }
         requires kept { is_kept ssn (log_at self.old.logs to) ≡ true }
         ensures { self.new ≡ delivers to ssn self.old }
     {
         let payload = self.logs[to as usize].payload(ssn);
+        // For the proof: its length tells the bound.
+        let _bytes = payload.len();
         let incarnation = self.life;
         self.put(
             to,
@@ -116,7 +118,7 @@ impl Node {
 
     /// The first messages that are released and have no number are sent again.
     fn resend(&mut self, to: u8)
-        requires { to ≤ self.old.count }
+        requires { IsPeer self.old.me self.old.count to }
         ensures { self.new ≡ resent to self.old }
     {
         let (first, last) = self.released_span(to);
@@ -155,7 +157,7 @@ impl Node {
 
     /// The first of a peer's numbers that aren't acknowledged are told again.
     fn renumber(&mut self, to: u8)
-        requires { to ≤ self.old.count }
+        requires { IsPeer self.old.me self.old.count to }
         ensures { self.new ≡ renumbered to self.old }
     {
         let (first, last, covered) = self.told_span(to);

@@ -58,7 +58,7 @@ impl Node {
 }
 
 /// Logs what a handler gave, under the number of its message. A refusal changes nothing.
-fn log(logs: &mut Vec<Queue>, given: &[Given], number: u64) -> Result<(), AllocError>
+pub fn log(logs: &mut Vec<Queue>, given: &[Given], number: u64) -> Result<(), AllocError>
     requires to { (i : ℕ) (s : Given) → slice_get given.now i ≡ Some s → s.to < length logs.old.items }
     requires few { length given.now ≤ 8 }
     requires room { (d : ℕ) → (log_at logs.old.items d).dropped + length (log_at logs.old.items d).payloads + 8 < 2 ^ 63 }

@@ -1,6 +1,7 @@
 //! The packets that wait to be sent.
 
-ghost use Rattle.std.specs.Prelude.{◌≡◌, [], true, IfOk};
+ghost use Rattle.std.specs.Prelude.{◌≡◌, List, [], ◌∷◌, length, true, IfOk, MatchOption};
+ghost use Rattle.packets.specs.declared.packet.Packet.{Packet};
 ghost use Rattle.outbox.specs.Outbox.{pushed, Pops};
 
 use packets::Packet;
@@ -63,5 +64,26 @@ impl Outbox {
         ensures { Pops result self.old self.new }
     {
         self.packets.pop_front()
+    }
+
+    /// The first packet; none, if there is none.
+    pub fn front(&self) -> Option<&Packet>
+        ensures { MatchOption result (self.now ≡ []) (λ x. (rest : List Packet) × (self.now ≡ x.now ∷ rest)) }
+    {
+        self.packets.front()
+    }
+
+    /// None waits any more.
+    pub fn clear(&mut self)
+        ensures { self.new ≡ [] }
+    {
+        self.packets.clear();
+    }
+
+    /// How many wait.
+    pub fn len(&self) -> usize
+        ensures { result ≡ length self.now }
+    {
+        self.packets.len()
     }
 }

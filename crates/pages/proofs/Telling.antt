@@ -1,6 +1,6 @@
 -- What a page tells is what the log has
-use Rattle.std.proofs.Common.{◌≡◌, ◌≢◌, ℕ, zero, suc, ◌+◌, ◌-◌, ◌<◌, ◌≤◌, List, [], ◌∷◌, ◌++◌, length, map, Bool, true, false, refl, sym, ap, ◌∙◌, subst, arith}
-use Rattle.std.specs.Prelude.{Option, Some, None, ◌==◌, ◌&&◌, not, nat_lt, nat_le, if◌then◌else◌, slice_index_or}
+use Rattle.std.proofs.Common.{◌≡◌, ℕ, zero, suc, ◌+◌, ◌-◌, ◌<◌, ◌≤◌, List, [], ◌∷◌, ◌++◌, length, map, Bool, true, false, refl, sym, ap, ◌∙◌, subst, arith}
+use Rattle.std.specs.Prelude.{Option, Some, None, ◌==◌, ◌&&◌, nat_lt, nat_le, if◌then◌else◌, slice_index_or}
 use Rattle.std.proofs.lemmas.Bool.Decides.{nat_tests}
 use Rattle.std.proofs.lemmas.List.{length-append}
 use Rattle.world.specs.declared.message.Message.{Message}
@@ -14,7 +14,7 @@ use Rattle.packets.specs.declared.page.Flags.{Flags}
 use Rattle.pages.specs.declared.page.TheConstants.{TOLD_BYTES}
 use Rattle.pages.specs.Pages.{entry_at, before, entries_from, entries_above, entry_size, fitting, page_of}
 use Rattle.pages.specs.Says.{first_told, last_behind, told_end}
-use Rattle.pages.proofs.PageLemmas.{Ordered, Over, or-none, or-assoc, below-none, all-ordered, all-told}
+use Rattle.pages.proofs.PageLemmas.{Ordered, Over, or-none, or-assoc, below-none, all-ordered}
 
 -- ---- the first of many
 

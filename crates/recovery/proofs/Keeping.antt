@@ -10,6 +10,7 @@ use Rattle.packets.specs.declared.kept.KeptLog.{KeptLog}
 use Rattle.packets.specs.Packet.{is_number}
 use Rattle.packets.specs.Kept.{is_log, kept_in_range}
 use Rattle.node.specs.declared.node.TheConstants.{MOST_GIVEN, MOST_RECEIVED}
+use Rattle.node.specs.Node.{FromPeers}
 use Rattle.node.specs.Queue.{TheQueue, no_queue}
 use Rattle.node.specs.Stands.{Each}
 use Rattle.recovery.specs.Own.{IsShort, with_own, is_short, is_process, comes_back, queue_of}
@@ -112,6 +113,17 @@ get-sum (x ∷ xs) (suc q) =
 -- no sender has more than all
 pub counts-low : (k : Kept) (q : ℕ) → comes_back k ≡ true → slice_index_or (with_own 0 k.me k.counts) q 0 ≤ k.length
 counts-low k q e = omega (arith, get-sum (with_own 0 k.me k.counts) q, sum-own k.me k.counts, (can-come k e).sum_is)
+
+own-none : (n : ℕ) (xs : List ℕ) → n ≤ length xs → slice_index_or (with_own 0 n xs) n 0 ≡ 0
+own-none zero xs l = refl
+own-none (suc n) [] l = absurd (omega (arith, l))
+own-none (suc n) (x ∷ xs) l = own-none n xs (omega (arith, l))
+
+-- what the checkpoint covers is of peers
+pub from-own : (k : Kept) → comes_back k ≡ true → FromPeers k.me k.count k.length (with_own 0 k.me k.counts) []
+from-own k e =
+    let t = can-come k e in
+    record { total = sum-own k.me k.counts ∙ t.sum_is; none_own = own-none k.me k.counts (omega (arith, t.own, t.counts_are)); behind = tt }
 
 -- what holds of each holds by place
 at-each : {X : Type 0} (P : X → Type 0) (xs : List X) (d : X) → P d → Each P xs → (i : ℕ) → P (slice_index_or xs i d)

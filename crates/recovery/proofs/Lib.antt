@@ -9,3 +9,11 @@ pub mod Telling
 pub mod Reviving
 pub mod Others
 pub mod Planning
+pub mod Noting
+pub mod Orders
+pub mod Moments
+pub mod Replays
+pub mod Only
+pub mod Writing
+pub mod Covered
+pub mod Had

@@ -1,6 +1,6 @@
 -- What is kept is what the cluster keeps
 use Rattle.std.proofs.Common.{Result, Ok, Err, ◌≡◌, ◌≢◌, ℕ, zero, suc, ◌+◌, ◌-◌, ◌<◌, ◌≤◌, List, [], ◌∷◌, ◌++◌, length, map, take, Bool, true, false, refl, sym, ap, ◌∙◌, subst, arith, append_assoc}
-use Rattle.std.specs.Prelude.{Option, Some, None, IfOk, IfSome, slice_index_or, slice_set, ◌&&◌, ◌||◌, ◌==◌, if◌then◌else◌}
+use Rattle.std.specs.Prelude.{Option, Some, None, IfOk, IfSome, slice_index_or, slice_set, ◌||◌, ◌==◌}
 use Rattle.std.proofs.lemmas.Bool.Decides.{nat_tests}
 use Rattle.std.proofs.lemmas.List.{append-nil, length-append, length-take, length-map, take_all, get_or-set_same, get_or-set_other}
 use Rattle.theorems.proofs.Tests.{both}
@@ -13,10 +13,10 @@ use Rattle.node.specs.declared.job.OpenJob.{OpenJob}
 use Rattle.node.specs.Stands.{job_of}
 use Rattle.node.proofs.Lists.{count-append}
 use Rattle.packets.specs.declared.page.Entry.{Entry}
-use Rattle.node.specs.Says.{first_told}
+use Rattle.pages.specs.Says.{first_told}
 use Rattle.recovery.specs.Collected.{TheCollected}
 use Rattle.recovery.specs.Collecting.{TheCollecting, told_of}
-use Rattle.recovery.specs.Stands.{IsTold, StandsCollecting, reached}
+use Rattle.recovery.specs.Stands.{StandsCollecting, reached}
 use Rattle.recovery.specs.Plan.{told_below, has_all, told_under, next_by, Follows, IsCovered, IsPlan, Plans, MayRecover, Recovering}
 
 -- The first that there is

@@ -1,12 +1,12 @@
 -- What a process has of its own, in the clusters where it acts
-use Rattle.std.proofs.Common.{◌≡◌, inl, inr, ℕ, List, ◌∷◌, refl}
+use Rattle.std.proofs.Common.{inl, inr, ℕ, List, ◌∷◌, refl}
 use Rattle.std.specs.Prelude.{Option}
 use Rattle.world.specs.declared.message.Message.{Message}
 use Rattle.cluster.specs.Parcels.{Body, parcel}
 use Rattle.cluster.specs.Cluster.{Cluster}
 use Rattle.cluster.specs.Rules.{Puts, does}
 use Rattle.packets.specs.declared.packet.Body as bodies
-use Rattle.node.specs.Says.{Says}
+use Rattle.pages.specs.Says.{Says}
 use Rattle.node.specs.Stands.{PutOut}
 use Rattle.node.proofs.Lists.{all-more, all-pushed}
 use Rattle.node.proofs.Putting.{put-still}

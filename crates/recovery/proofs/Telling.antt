@@ -15,7 +15,7 @@ use Rattle.packets.specs.declared.packet.Body as bodies
 use Rattle.packets.specs.declared.packet.Body.TheVariants as packets
 use Rattle.packets.specs.declared.packet.Packet.{Packet}
 use Rattle.recovery.specs.Own.{hears, is_for}
-use Rattle.node.specs.Says.{WasSaid, told_end, first_told}
+use Rattle.pages.specs.Says.{WasSaid, told_end, first_told}
 use Rattle.recovery.specs.Collected.{TheCollected, with_page, none_told}
 use Rattle.recovery.specs.Collecting.{TheCollecting, told_of, answers, took_page, heard, handed}
 use Rattle.recovery.specs.Stands.{IsTold, StandsCollecting, GoesTo, IsHanded}

@@ -1,11 +1,23 @@
 -- A process that comes back, beside others
-use Rattle.std.specs.Prelude.{◌≡◌, ◌≢◌, ℕ, List}
-use Rattle.cluster.specs.Cluster.{Cluster}
-use Rattle.cluster.specs.Rules.{Act, after_run}
+use Rattle.std.specs.Prelude.{◌≡◌, ◌≢◌, ℕ, ◌<◌, List}
+use Rattle.cluster.specs.Cluster.{Cluster, Dead}
+use Rattle.cluster.specs.Rules.{Act, after_run, IsNode}
+use Rattle.packets.specs.declared.kept.Kept.{Kept}
 use Rattle.node.specs.Stands.{Each, actor}
 use Rattle.recovery.specs.Collecting.{TheCollecting}
-use Rattle.recovery.specs.Stands.{StandsCollecting}
+use Rattle.recovery.specs.Stands.{StandsCollecting, IsKeptOf, GoesTo, Revives}
+use Rattle.recovery.specs.Replaying.{TheReplaying}
+use Rattle.recovery.specs.StandsReplaying.{StandsReplaying}
 
 -- it stands after the acts of another
 abbrev pub OthersStand : Type 0
 OthersStand = (n : TheCollecting) (p q : ℕ) (acts : List Act) (c : Cluster) → q ≢ p → Each (λ (a : Act). actor a ≡ q) acts → StandsCollecting n c p → StandsCollecting n (after_run c acts) p
+
+-- so does one that replays
+abbrev pub ReplayingStands : Type 0
+ReplayingStands = (n : TheReplaying) (p q : ℕ) (acts : List Act) (c : Cluster) → q ≢ p → Each (λ (a : Act). actor a ≡ q) acts → StandsReplaying n c p → StandsReplaying n (after_run c acts) p
+
+-- where k is what is kept of a process, it may die, and come back from k in an incarnation that wasn't stored yet: k stays what is kept
+abbrev pub ComesBackAgain : Type 0
+ComesBackAgain = (k : Kept) (life : ℕ) (n : TheCollecting) (c : Cluster) → Revives k life n → IsNode c k.me → c.stage k.me ≢ Dead → c.stored k.me < life → IsKeptOf k c k.me
+    → GoesTo k.me (λ d. StandsCollecting n d k.me × IsKeptOf k d k.me) c

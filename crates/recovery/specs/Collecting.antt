@@ -1,5 +1,5 @@
 -- What clauses see of a process that collects, and what the calls make of it
-use Rattle.std.specs.Prelude.{◌≡◌, ℕ, zero, suc, ◌+◌, List, length, replicate, Bool, not, ◌&&◌, ◌==◌, nat_le, if◌then◌else◌, slice_index_or, slice_set}
+use Rattle.std.specs.Prelude.{◌≡◌, ℕ, zero, suc, ◌+◌, List, [], length, replicate, Bool, not, ◌&&◌, ◌==◌, nat_le, if◌then◌else◌, slice_index_or, slice_set}
 use Rattle.packets.specs.Packet.{is_done, is_lost, in_range}
 use Rattle.packets.specs.declared.page.Entry.{Entry}
 use Rattle.packets.specs.declared.page.Flags.{Flags}
@@ -15,14 +15,16 @@ pub record TheCollecting : Type 0 where
   pub own : TheOwn
   pub told : List TheCollected
 
--- it hears each peer, and has sent no more than its checkpoint's messages made it
+abbrev pub told_of : List TheCollected → ℕ → TheCollected
+told_of told q = slice_index_or told q (none_told 0)
+
+-- it hears each peer, and not itself, and has sent no more than its checkpoint's messages made it
 pub record IsCollecting (own : TheOwn) (told : List TheCollected) : Type 0 where
   pub wide : length told ≡ suc own.count
   pub heard_wide : length own.heard ≡ suc own.count
   pub short : IsShort own.logs own.base
-
-abbrev pub told_of : List TheCollected → ℕ → TheCollected
-told_of told q = slice_index_or told q (none_told 0)
+  -- it tells itself nothing
+  pub alone : (told_of told own.me).entries ≡ []
 
 -- a peer that hasn't told all is asked for what its log holds above what it told
 abbrev pub asks : ℕ → TheCollecting → TheCollecting

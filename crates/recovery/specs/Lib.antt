@@ -4,3 +4,9 @@ pub mod Collecting
 pub mod Stands
 pub mod Plan
 pub mod Beside
+pub mod Replayed
+pub mod Entering
+pub mod Replaying
+pub mod Moment
+pub mod StandsReplaying
+pub mod Kept

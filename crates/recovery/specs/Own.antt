@@ -1,15 +1,14 @@
 -- What clauses see of what a process has of its own while it comes back
-use Rattle.std.specs.Prelude.{◌≡◌, ℕ, suc, ◌+◌, ◌*◌, ◌≤◌, List, [], ◌∷◌, ◌++◌, length, map, take, drop, replicate, slice_index_or, slice_set, Bool, not, ◌&&◌, ◌==◌, nat_lt, nat_le}
-use Rattle.std.specs.List.{list_all}
+use Rattle.std.specs.Prelude.{◌≡◌, ◌≢◌, ℕ, suc, ◌+◌, ◌*◌, ◌≤◌, List, [], length, map, replicate, slice_get, slice_index_or, slice_set, Some, Bool, not, ◌&&◌, ◌==◌, nat_le}
 use Rattle.packets.specs.declared.packet.Body.{Body}
 use Rattle.packets.specs.declared.packet.Packet.{Packet}
 use Rattle.packets.specs.declared.kept.Kept.{Kept}
-use Rattle.packets.specs.declared.kept.KeptLog.{KeptLog}
-use Rattle.packets.specs.Kept.{kept_in_range}
-use Rattle.node.specs.Queue.{TheQueue, no_queue, kept_queue}
-use Rattle.node.specs.Outbox.{pushed}
-use Rattle.node.specs.Node.{log_at}
+use Rattle.node.specs.Queue.{TheQueue, no_queue}
+use Rattle.outbox.specs.Outbox.{pushed}
+use Rattle.node.specs.declared.job.Given.{Given}
+use Rattle.node.specs.Node.{IsPositive, FromPeers, log_at, given_to}
 use Rattle.node.specs.declared.node.TheConstants.{MOST_GIVEN, MOST_RECEIVED}
+pub use Rattle.node.specs.Kept.{with_own, is_short, is_process, comes_back, queue_of}
 
 -- its number, and how many processes there are; its incarnation; its state; how many messages its checkpoint covers, and how many of
 -- these are of each sender; by destination the messages that it keeps; by peer the greatest incarnation that it heard of; the packets to be
@@ -26,7 +25,7 @@ pub record TheOwn : Type 0 where
   pub out : List Packet
 
 -- what its numbers keep
-pub record IsOwn (me count base : ℕ) (covered heard : List ℕ) (logs : List TheQueue) : Type 0 where
+pub record IsOwn (me count life base : ℕ) (covered heard : List ℕ) (logs : List TheQueue) : Type 0 where
   pub inside : 1 ≤ me
   pub within : me ≤ count
   pub few : count ≤ 15
@@ -35,6 +34,9 @@ pub record IsOwn (me count base : ℕ) (covered heard : List ℕ) (logs : List T
   pub logs_wide : length logs ≡ suc count
   pub counts : (q : ℕ) → slice_index_or covered q 0 ≤ base
   pub young : base ≤ MOST_RECEIVED
+  pub alive : IsPositive life
+  -- what its checkpoint covers is of its peers
+  pub covers : FromPeers me count base covered []
 
 -- no more than eight messages to each for each that was received
 abbrev pub IsShort : List TheQueue → ℕ → Type 0
@@ -55,26 +57,14 @@ hears q i o = record o { heard = slice_set o.heard q i }
 abbrev pub is_for : TheOwn → Packet → Bool
 is_for o x = (x.count == o.count) && (x.to == o.me) && nat_le x.from o.count && not (x.from == o.me)
 
--- What is kept
+-- what a handler gives may be sent: it isn't much, and each is to another
+pub record MayGive (o : TheOwn) (given : List Given) : Type 0 where
+  pub few : length given ≤ MOST_GIVEN
+  pub others : (i : ℕ) (s : Given) → slice_get given i ≡ Some s → (s.to ≤ o.count) × (s.to ≢ o.me)
 
--- what is there by peer, with a place for the process itself
-abbrev pub with_own : {X : Type 0} → X → ℕ → List X → List X
-with_own x me xs = take me xs ++ x ∷ drop me xs
-
--- its SSNs end below this one
-abbrev pub is_short : ℕ → KeptLog → Bool
-is_short most l = nat_lt (l.first + length l.payloads) most
-
--- what is kept is that of a process of a cluster, with counts and logs for each peer
-abbrev pub is_process : Kept → Bool
-is_process k = nat_lt 0 k.me && nat_le k.me k.count && nat_le k.count 15 && (length k.counts == k.count) && (length k.logs == k.count)
-
--- its numbers are in their ranges, and no more than eight messages to each for each that was received were sent by then
-abbrev pub comes_back : Kept → Bool
-comes_back k = is_process k && kept_in_range k && nat_le k.length MOST_RECEIVED && list_all (is_short (MOST_GIVEN * k.length + 2)) k.logs
-
-abbrev pub queue_of : KeptLog → TheQueue
-queue_of l = kept_queue l.first l.payloads
+-- the handler ran on the message with the number k: its state is taken over, and what it gave is logged
+abbrev pub ran : ℕ → List ℕ → List Given → TheOwn → TheOwn
+ran k state given o = record o { state = state; logs = given_to k given o.logs }
 
 -- what the process has that comes back in this incarnation: of the gateway it heard
 abbrev pub own_of : Kept → ℕ → TheOwn

@@ -1,14 +1,16 @@
 -- What a process keeps once all its peers have told all
-use Rattle.std.specs.Prelude.{◌≡◌, ◌≢◌, ℕ, zero, suc, ◌+◌, ◌≤◌, List, [], ◌∷◌, ◌++◌, length, map, take, Option, Some, None, Bool, true, ◌&&◌, ◌||◌, ◌==◌, if◌then◌else◌, slice_index_or}
+use Rattle.std.specs.Prelude.{◌≡◌, ℕ, zero, suc, ◌+◌, ◌-◌, ◌≤◌, min, List, [], ◌∷◌, ◌++◌, length, map, take, Option, Some, None, Bool, true, ◌&&◌, ◌||◌, ◌==◌, if◌then◌else◌, slice_index_or}
 use Rattle.world.specs.declared.message.Message.{Message}
 use Rattle.world.specs.History.{count_of}
 use Rattle.world.specs.Plan.{first_below, if_next}
 use Rattle.cluster.specs.Cluster.{Cluster}
 use Rattle.cluster.specs.Rules.{Recovers, May, kept_by}
 use Rattle.node.specs.declared.job.OpenJob.{OpenJob}
-use Rattle.node.specs.Stands.{job_of}
-use Rattle.recovery.specs.Own.{TheOwn}
-use Rattle.node.specs.Says.{first_told}
+use Rattle.rsn.specs.declared.receipts.TheConstants.{LIMIT}
+use Rattle.node.specs.declared.node.TheConstants.{MOST_RECEIVED}
+use Rattle.node.specs.Node.{IsPeer}
+use Rattle.node.specs.Stands.{Each, job_of}
+use Rattle.pages.specs.Says.{first_told}
 use Rattle.recovery.specs.Collected.{TheCollected}
 use Rattle.recovery.specs.Collecting.{TheCollecting, told_of}
 use Rattle.recovery.specs.Stands.{StandsCollecting}
@@ -47,6 +49,21 @@ pub record IsPlan (f : ℕ → Option Message) (h ms : List Message) : Type 0 wh
 
 abbrev pub Plans : TheCollecting → List OpenJob → Type 0
 Plans n jobs = (h : List Message) → IsCovered n.own.base n.own.count n.own.covered h → IsPlan (told_under n.told n.own.count) h (map job_of jobs)
+
+-- so many messages it takes behind what its checkpoint covers, at most
+abbrev pub room_of : TheCollecting → ℕ
+room_of n = min LIMIT (MOST_RECEIVED - n.own.base)
+
+-- these are no more than that, of its peers
+pub record Fits (n : TheCollecting) (jobs : List OpenJob) : Type 0 where
+  pub few : length jobs ≤ room_of n
+  pub senders : Each (λ (j : OpenJob). IsPeer n.own.me n.own.count j.sender) jobs
+
+-- one message more than that follows behind what its checkpoint covers
+pub record Overruns (n : TheCollecting) : Type 0 where
+  pub jobs : List OpenJob
+  pub many : length jobs ≡ room_of n + 1
+  pub follows : (h : List Message) → IsCovered n.own.base n.own.count n.own.covered h → Follows (told_under n.told n.own.count) h (map job_of jobs)
 
 -- where all have told, the process may recover with what its checkpoint covers and these messages behind it
 pub record MayRecover (n : TheCollecting) (jobs : List OpenJob) (c : Cluster) : Type 0 where

@@ -1,18 +1,18 @@
 -- Which clusters a process stands in that comes back, and what a call owes
-use Rattle.std.specs.Prelude.{◌≡◌, ◌≢◌, ℕ, ◌<◌, ◌≤◌, List, [], ◌∷◌, length, take, map, Option, Some, None, Bool, true, false, slice_index_or}
+use Rattle.std.specs.Prelude.{◌≡◌, ◌≢◌, ℕ, ◌<◌, ◌≤◌, List, [], ◌∷◌, length, take, Option, Some, None, Bool, true, false, slice_index_or}
 use Rattle.world.specs.declared.message.Message.{Message}
 use Rattle.world.specs.History.{count_of}
 use Rattle.cluster.specs.Parcels.{reaches}
 use Rattle.cluster.specs.Cluster.{Cluster, Collected, Dead, Collecting}
-use Rattle.cluster.specs.Rules.{Act, Run, after_run, IsNode, Asks, IsAll, entry_in}
+use Rattle.cluster.specs.Rules.{Act, Keeps, Run, after_run, IsNode, Asks, IsAll, entry_in}
 use Rattle.packets.specs.declared.packet.Packet.{Packet}
 use Rattle.packets.specs.declared.page.Entry.{Entry}
 use Rattle.packets.specs.declared.kept.Kept.{Kept}
-use Rattle.node.specs.Queue.{no_queue}
 use Rattle.node.specs.Node.{log_at}
 use Rattle.node.specs.Stands.{Each, PutOut, KeepsOf, actor}
-use Rattle.recovery.specs.Own.{TheOwn, with_own, queue_of}
-use Rattle.node.specs.Says.{WasSaid, first_told}
+use Rattle.recovery.specs.Own.{TheOwn}
+use Rattle.pages.specs.Says.{WasSaid, first_told}
+pub use Rattle.node.specs.Kept.{IsKeptOf}
 use Rattle.recovery.specs.Collected.{TheCollected}
 use Rattle.recovery.specs.Collecting.{TheCollecting, told_of}
 
@@ -52,22 +52,16 @@ pub record StandsCollecting (n : TheCollecting) (c : Cluster) (p : ℕ) : Type 0
   -- nor did it tell itself anything
   pub alone : c.told p p ≡ None
 
--- what is kept of the process p is what its checkpoint covers: its state, how many messages there are of each sender, and by destination
--- what they sent, without the entries that the log had dropped by then
-pub record IsKeptOf (k : Kept) (c : Cluster) (p : ℕ) : Type 0 where
-  pub me : k.me ≡ p
-  pub count : k.count ≡ c.count
-  pub saved : c.saved p ≡ k.length
-  pub many : k.length ≤ length (c.history p)
-  pub state : c.handlers.state p (take k.length (c.history p)) ≡ k.state
-  pub counts : (q : ℕ) → q ≤ c.count → slice_index_or (with_own 0 k.me k.counts) q 0 ≡ count_of q (take k.length (c.history p))
-  pub logs : (d : ℕ) → d ≤ c.count → d ≢ p → KeepsOf (log_at (with_own no_queue k.me (map queue_of k.logs)) d) (c.saved_trims p d) (c.handlers.sends p (take k.length (c.history p)) d) (λ _. None)
+-- whose act it is, unless a checkpoint becomes durable
+abbrev pub own_act : Act → Option ℕ
+own_act (Keeps p) = None
+own_act act = Some (actor act)
 
--- by acts of its own the process p goes from the cluster c to one of which this holds
+-- by acts of its own, and no checkpoint, the process p goes from the cluster c to one of which this holds
 pub record GoesTo (p : ℕ) (P : Cluster → Type 0) (c : Cluster) : Type 0 where
   pub acts : List Act
   pub run : Run c acts
-  pub by : Each (λ (a : Act). actor a ≡ p) acts
+  pub by : Each (λ (a : Act). own_act a ≡ Some p) acts
   pub stands : P (after_run c acts)
 
 -- what it owes that comes back: where p is dead, what is kept is what its checkpoint covers, and no incarnation from this one on was

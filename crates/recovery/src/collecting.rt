@@ -2,6 +2,7 @@
 
 ghost use Rattle.std.specs.Prelude.{◌≡◌, ◌≢◌, ◌≤◌, ◌<◌, ◌+◌, ◌^◌, true, IfOk, OnOk, OnErr};
 ghost use Rattle.std.specs.List.{list_all};
+ghost use Rattle.node.specs.Node.{IsPeer, IsPositive};
 ghost use Rattle.recovery.specs.Own.{comes_back, is_process, is_short};
 ghost use Rattle.recovery.specs.Collecting.{asks, asked, begins, revived, told_of, answers, took_page, handed};
 ghost use Rattle.recovery.specs.Stands.{Revives, Acts, IsHanded, Takes};
@@ -71,9 +72,10 @@ fn is_short(most: u64, log: &KeptLog) -> bool
 }
 
 impl Collecting {
-    /// What is kept of a process comes back in this incarnation. All its peers are asked.
+    /// What is kept of a process comes back in this incarnation; they count from 1. All its peers are asked.
     pub fn revive(alloc: Global, kept: &Kept, incarnation: u64) -> Result<Collecting, AllocError>
-        requires { comes_back kept.now ≡ true }
+        requires kept { comes_back kept.now ≡ true }
+        requires incarnation { IsPositive incarnation }
         ensures value { IfOk result (λ n. n ≡ revived kept.now incarnation) }
         ensures acts { IfOk result (λ n. Revives kept.now incarnation n) }
     {
@@ -83,7 +85,8 @@ impl Collecting {
     }
 
     fn begin(alloc: Global, kept: &Kept, incarnation: u64) -> Result<Collecting, AllocError>
-        requires { comes_back kept.now ≡ true }
+        requires kept { comes_back kept.now ≡ true }
+        requires incarnation { IsPositive incarnation }
         ensures { IfOk result (λ n. n ≡ begins kept.now incarnation) }
     {
         let own = Own::kept(alloc, kept, incarnation)?;
@@ -183,7 +186,7 @@ impl Collecting {
 
     /// A page is taken in, and the peer is asked for the next one.
     fn add(&mut self, from: u8, teller: u64, done: bool, page: &[Entry]) -> Result<(), AllocError>
-        requires { from ≤ self.old.own.count }
+        requires { IsPeer self.old.own.me self.old.own.count from }
         ensures ok { OnOk result (self.new ≡ took_page from teller done page.now self.old) }
         ensures err { OnErr result (self.new ≡ self.old) }
     {

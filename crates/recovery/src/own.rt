@@ -1,10 +1,12 @@
 //! What a process has of its own while it comes back.
 
-ghost use Rattle.std.specs.Prelude.{◌≡◌, ℕ, ◌≤◌, ◌+◌, ◌++◌, ◌^◌, length, map, true, Some, slice_get, slice_index_or, IfOk, OnOk};
+ghost use Rattle.std.specs.Prelude.{◌≡◌, ℕ, ◌≤◌, ◌+◌, ◌++◌, ◌^◌, length, map, true, Some, slice_get, slice_index_or, IfOk, OnOk, OnErr};
 ghost use Rattle.node.specs.Queue.{no_queue};
-ghost use Rattle.recovery.specs.Own.{posts, with_own, queue_of, comes_back, own_of, is_for, hears};
+ghost use Rattle.node.specs.Node.{IsPositive};
+ghost use Rattle.recovery.specs.Own.{posts, with_own, queue_of, comes_back, own_of, is_for, hears, IsShort, MayGive, ran};
 
-use node::{MOST_RECEIVED, Outbox, Queue};
+use node::{Given, MOST_RECEIVED, Queue, log};
+use outbox::Outbox;
 use packets::{Body, Kept, KeptLog, Packet};
 use std::alloc::{AllocError, Global};
 use std::marker::Model;
@@ -33,13 +35,14 @@ impl Model for Own {
 
     ghost view = { λ o. record { me = o.me; count = o.count; life = o.life; state = o.state.items; base = o.base; covered = o.covered.items; logs = o.logs.items; heard = o.heard.items; out = o.out } };
 
-    ghost invariant = { λ o. IsOwn o.me o.count o.base o.covered.items o.heard.items o.logs.items };
+    ghost invariant = { λ o. IsOwn o.me o.count o.life o.base o.covered.items o.heard.items o.logs.items };
 }
 
 impl Own {
     /// What is kept of a process, in this incarnation. Of the gateway it heard, of the others it didn't.
     pub(crate) fn kept(alloc: Global, kept: &Kept, life: u64) -> Result<Own, AllocError>
-        requires { comes_back kept.now ≡ true }
+        requires kept { comes_back kept.now ≡ true }
+        requires life { IsPositive life }
         ensures { IfOk result (λ o. o ≡ own_of kept.now life) }
     {
         let me = kept.me;
@@ -75,6 +78,7 @@ impl Own {
     pub(crate) fn count(&self) -> u8
         ensures value { result ≡ self.now.count }
         ensures few { result ≤ 15 }
+        ensures logs { length self.now.logs ≡ self.now.count + 1 }
     {
         self.count
     }
@@ -120,6 +124,25 @@ impl Own {
         ensures { self.new ≡ hears peer life self.old }
     {
         self.heard[peer as usize] = life;
+    }
+
+    /// The handler ran on the message with this number: its state is taken over, and what it gave is
+    /// logged. A refusal changes nothing.
+    pub(crate) fn run(
+        &mut self,
+        state: Vec<u8>,
+        given: &[Given],
+        number: u64,
+    ) -> Result<(), AllocError>
+        requires given { MayGive self.old given.now }
+        requires room { IsShort self.old.logs MOST_RECEIVED }
+        ensures ok { OnOk result (self.new ≡ ran number state.items given.now self.old) }
+        ensures short { OnOk result ((k : ℕ) → IsShort self.old.logs k → IsShort self.new.logs (k + 1)) }
+        ensures err { OnErr result (self.new ≡ self.old) }
+    {
+        log(&mut self.logs, given, number)?;
+        self.state = state;
+        Ok(())
     }
 
     /// A packet waits to be taken.

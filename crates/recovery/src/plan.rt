@@ -1,11 +1,12 @@
 //! What a process keeps once all its peers have told all.
 
-ghost use Rattle.std.specs.Prelude.{◌≡◌, ℕ, ◌≤◌, ◌<◌, ◌+◌, suc, List, length, map, option_map, slice_index_or, MatchOption, IfOk, IfSome};
+ghost use Rattle.std.specs.Prelude.{◌≡◌, ℕ, ◌≤◌, ◌<◌, ◌+◌, suc, List, length, map, option_map, slice_index_or, MatchOption, None, IfOk, IfSome};
+ghost use Rattle.node.specs.Node.{IsPeer};
 ghost use Rattle.node.specs.Stands.{job_of};
-ghost use Rattle.recovery.specs.Plan.{has_all, told_under, next_by, Plans, Recovering};
+ghost use Rattle.recovery.specs.Plan.{has_all, told_under, next_by, Plans, Fits, Overruns, Recovering};
 
 use crate::collecting::Collecting;
-use node::OpenJob;
+use node::{MOST_RECEIVED, OpenJob};
 use std::alloc::{AllocError, Global};
 
 impl Collecting {
@@ -24,21 +25,25 @@ impl Collecting {
     /// The messages that the process keeps behind what its checkpoint covers: those that were told
     /// under the next numbers, up to before the first number that no peer told, or whose message isn't
     /// the next of its sender. There is no plan where these are more than a process receives between
-    /// two checkpoints.
+    /// two checkpoints, or in all.
     pub fn plan(&self, alloc: Global) -> Result<Option<Vec<OpenJob>>, AllocError>
         ensures plan { IfOk result (λ o. IfSome o (λ jobs. Plans self.now jobs.items)) }
         ensures recovers { IfOk result (λ o. IfSome o (λ jobs. Recovering self.now jobs.items)) }
+        ensures none { IfOk result (λ o. o ≡ None → Overruns self.now) }
     {
         self.follow(alloc)
     }
 
-    fn follow(&self, alloc: Global) -> Result<Option<Vec<OpenJob>>, AllocError>
-        ensures { IfOk result (λ o. IfSome o (λ jobs. Plans self.now jobs.items)) }
+    pub(crate) fn follow(&self, alloc: Global) -> Result<Option<Vec<OpenJob>>, AllocError>
+        ensures plans { IfOk result (λ o. IfSome o (λ jobs. Plans self.now jobs.items)) }
+        ensures fits { IfOk result (λ o. IfSome o (λ jobs. Fits self.now jobs.items)) }
+        ensures none { IfOk result (λ o. o ≡ None → Overruns self.now) }
     {
         let mut counts = Vec::from_slice(alloc, self.own.covered())?;
         let base = self.own.base();
+        let most = (rsn::LIMIT as u64).min(MOST_RECEIVED - base);
         let mut plan = Vec::new(alloc);
-        for behind in 0..rsn::LIMIT as u64 + 1 {
+        for behind in 0..most + 1 {
             match self.next(&counts, base + behind + 1) {
                 None => return Ok(Some(plan)),
                 Some(job) => {
@@ -54,7 +59,7 @@ impl Collecting {
     fn next(&self, counts: &[u64], number: u64) -> Option<OpenJob>
         requires { self.now.own.count < length counts.now }
         ensures value { option_map job_of result ≡ next_by counts.now (told_under self.now.told self.now.own.count number) }
-        ensures sender { IfSome result (λ j. j.sender ≤ self.now.own.count) }
+        ensures sender { IfSome result (λ j. IsPeer self.now.own.me self.now.own.count j.sender) }
     {
         let job = self.find(number)?;
         if job.ssn > 0 && job.ssn - 1 == counts[job.sender as usize] {
@@ -67,7 +72,7 @@ impl Collecting {
     /// The message that was told under a number: of two, that of the lesser peer.
     fn find(&self, number: u64) -> Option<OpenJob>
         ensures value { option_map job_of result ≡ told_under self.now.told self.now.own.count number }
-        ensures sender { IfSome result (λ j. j.sender ≤ self.now.own.count) }
+        ensures sender { IfSome result (λ j. IsPeer self.now.own.me self.now.own.count j.sender) }
     {
         for sender in 0..self.own.count() + 1 {
             if let Some(job) = self.told[sender as usize].message(sender, number) {

@@ -4,11 +4,7 @@ use Rattle.std.specs.List.{AllByRecursion}
 use Rattle.cluster.specs.Parcels.{Body, Parcel, parcel, In}
 use Rattle.cluster.specs.Cluster.{Cluster}
 use Rattle.cluster.specs.Rules.{Act, Input, Puts, Starts, Shows, Works, Replays, Records, Counts, Drops, Hears, Collects, Recovers, Obeys, Enters, Restores, Greets, Freezes, Keeps, Thaws, Dies, Opens, after_run, IsNode}
-use Rattle.packets.specs.declared.packet.Body as bodies
-use Rattle.packets.specs.declared.packet.Body.TheVariants as packets
 use Rattle.packets.specs.declared.packet.Packet.{Packet}
-use Rattle.node.specs.Says as nodes
-use Rattle.pages.specs.Says as pages
 use Rattle.node.specs.Stands.{Each, actor}
 use Rattle.node.proofs.Outside.{SameOutside, outside-self, outside-still}
 use Rattle.gateway.specs.Deeds.{IsByGateway}
@@ -71,24 +67,3 @@ by-gateway (Opens p n) o = absurd o
 pub all-by-gateway : (acts : List Act) → AllByRecursion IsByGateway acts → Each (λ (a : Act). actor a ≡ 0) acts
 all-by-gateway [] h = tt
 all-by-gateway (a ∷ acts) h = (by-gateway a h.0, all-by-gateway acts h.1)
-
--- a packet says the same to nodes and to the gateway
-pub says-out : (p : ℕ) (x : bodies.Body) (b : Body) → nodes.Says p x b → pages.Says p x b
-says-out p (packets.Delivery i ssn y) b h = h
-says-out p (packets.Number i ssn k) b h = h
-says-out p (packets.Acknowledgement i k) b h = h
-says-out p (packets.Ask i k) b h = h
-says-out p (packets.Told i j k flags entries) b h = h
-says-out p (packets.Resume i k s) b h = h
-says-out p (packets.Restored i j n s flags pairs) b h = h
-says-out p (packets.Saved n) b h = h
-
-pub says-in : (p : ℕ) (x : bodies.Body) (b : Body) → pages.Says p x b → nodes.Says p x b
-says-in p (packets.Delivery i ssn y) b h = h
-says-in p (packets.Number i ssn k) b h = h
-says-in p (packets.Acknowledgement i k) b h = h
-says-in p (packets.Ask i k) b h = h
-says-in p (packets.Told i j k flags entries) b h = h
-says-in p (packets.Resume i k s) b h = h
-says-in p (packets.Restored i j n s flags pairs) b h = h
-says-in p (packets.Saved n) b h = h

@@ -11,7 +11,7 @@ use Rattle.cluster.proofs.Runs.{run-handlers}
 use Rattle.cluster.proofs.Promised.{nodes-keep}
 use Rattle.node.specs.Node.{TheNode}
 use Rattle.node.specs.Stands.{Each, Stands, Goes, PutOut, Acts, Handles, Owes, actor}
-use Rattle.node.specs.Says.{WasSaid}
+use Rattle.pages.specs.Says.{WasSaid}
 use Rattle.node.specs.Beside.{AllStand}
 use Rattle.node.specs.Runs.{Answering, handlers_of, IsOne}
 use Rattle.node.proofs.Beside.{all-stand, stands-still, count-after}
@@ -24,7 +24,7 @@ use Rattle.gateway.specs.Gateway.{TheGateway}
 use Rattle.gateway.specs.Stands as gateways
 use Rattle.gateway.proofs.Opening as gateway_opening
 use Rattle.together.specs.Together.{System, new_system, Call, Gave, Handed, Worked, Did, GaveOut, HandedOut, DidOut, IsFirst, DoesIt, after_call, Calls, after_calls, CallsRun}
-use Rattle.together.proofs.Gateways.{gateway-stands, all-by-gateway, says-out, says-in}
+use Rattle.together.proofs.Gateways.{gateway-stands, all-by-gateway}
 
 -- a packet was put out by whoever it says
 abbrev WasPut : Cluster → Packet → Type 0
@@ -87,11 +87,11 @@ from-own c p x o = subst (λ k. PutOut c.count c.parcels k x) (sym o.from) o
 
 -- what one of the gateway says
 from-gateway : (c : Cluster) (x : Packet) → gateways.PutOut c.count c.parcels x → WasPut c x
-from-gateway c x o = from-own c 0 x (record { count_is = o.count_is; from = o.from; said = (o.said.body, says-in 0 x.body o.said.body o.said.says, o.said.among) })
+from-gateway c x o = from-own c 0 x (record { count_is = o.count_is; from = o.from; said = (o.said.body, o.said.says, o.said.among) })
 
 -- and what the gateway is told by it
 to-gateway : (c : Cluster) (x : Packet) → WasPut c x → gateways.WasSaid c.parcels x.from x
-to-gateway c x o = record { body = o.said.0; says = says-out x.from x.body o.said.0 o.said.1; among = o.said.2 }
+to-gateway c x o = record { body = o.said.0; says = o.said.1; among = o.said.2 }
 
 -- each call
 call-goes : (f : Answering) (len : ℕ → ℕ) (n : ℕ) (s : System) (c : Cluster) (k : Call) → Holds (handlers_of f len) n s c → DoesIt f n s k → Onward (handlers_of f len) n c (after_call s k)

@@ -1,8 +1,9 @@
-use Rattle.std.proofs.Common.{◌≡◌, length, slice_index_or, ap, ◌∙◌, arith}
+use Rattle.std.proofs.Common.{◌≡◌, [], length, slice_index_or, ap, ◌∙◌, arith}
 use Rattle.rsn.specs.Receipts.{Received}
 use Rattle.rsn.proofs.ReceiptLemmas.{numbers_from-bound}
 use Rattle.node.specs.Saving.{counts_from}
 use Rattle.node.proofs.Freezing.{counts-length, counts-within}
+use Rattle.node.proofs.Counting.{counted-all}
 use Rattle.node.proofs.node.Node.cover.Goals as goal
 
 pub count-requires-clause-room : goal.count-requires-clause-room
@@ -16,6 +17,7 @@ invariant_of-self c =
     let old = c.self.inside in
     let counts : c.count.new.covered.items ≡ counts_from 0 old.receipts old.covered.items = c.count.ensures in
     let none : length c.args.none.senders ≡ 0 = ap (λ (r : Received). length r.senders) c.requires in
+    let senders : c.args.none.senders ≡ [] = ap (λ (r : Received). r.senders) c.requires in
     let many : c.from.result ≡ length old.receipts.senders = c.from.ensures ∙ c.length-received.ensures.value in
     record {
       inside = i.inside;
@@ -26,6 +28,7 @@ invariant_of-self c =
       resumed_wide = i.resumed_wide;
       logs_wide = i.logs_wide;
       counts = λ q. omega (arith, ap (λ ks. slice_index_or ks q 0) counts, counts-within old.base old.covered.items old.receipts q i.counts, many);
+      peers = rw (counts, many, senders) (counted-all old.me old.count old.base old.covered.items old.receipts i.wide i.within i.peers);
       young = omega (arith, none, many, i.young);
       bound = omega (arith, none);
       room = λ e. (let r = i.room e in (omega (arith, none), omega (arith, none, many, r.1)));
@@ -33,4 +36,7 @@ invariant_of-self c =
       own = i.own;
       rests = λ e. absurd (cc);
       short = λ d. omega (arith, none, many, i.short d);
+      numbered = i.numbered;
+      alive = i.alive;
+      fit = i.fit;
     }

@@ -10,7 +10,8 @@ use Rattle.node.proofs.node.Node.send.Goals as goal
 pub deliver-requires-clause-to : goal.deliver-requires-clause-to
 deliver-requires-clause-to c =
     let count : c.loop-sent.self.count ≡ c.args.self.now.count = ap (λ (n : TheNode). n.count) (c.loop-sent.invariant ∙ only-sends c.args.to c.to_be_sent-first.result.0 c.loop-sent.sent c.args.self.now) in
-    omega (arith, c.requires, count)
+    let me : c.loop-sent.self.me ≡ c.args.self.now.me = ap (λ (n : TheNode). n.me) (c.loop-sent.invariant ∙ only-sends c.args.to c.to_be_sent-first.result.0 c.loop-sent.sent c.args.self.now) in
+    (omega (arith, c.requires.0, count), λ e. c.requires.1 (e ∙ me))
 
 pub deliver-requires-clause-kept : goal.deliver-requires-clause-kept
 deliver-requires-clause-kept c =

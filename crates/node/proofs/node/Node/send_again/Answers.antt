@@ -1,4 +1,4 @@
-use Rattle.std.proofs.Common.{◌≡◌, ap, ◌∙◌, arith}
+use Rattle.std.proofs.Common.{◌≡◌, ◌≢◌, sym, ap, ◌∙◌, arith}
 use Rattle.node.specs.Node.{TheNode}
 use Rattle.node.proofs.Sendings.{only-resent, kept-ticked}
 use Rattle.node.proofs.node.Node.send_again.Goals as goal
@@ -7,11 +7,16 @@ pub resend-requires : goal.resend-requires
 resend-requires c =
     let k = kept-ticked c.args.self.now c.me-me.result c.loop-to.to in
     let count : c.loop-to.self.count ≡ c.args.self.now.count = ap (λ (n : TheNode). n.count) c.loop-to.invariant ∙ k.count in
-    omega (arith, count, c.count-to-end.ensures.value)
+    let me : c.loop-to.self.me ≡ c.args.self.now.me = ap (λ (n : TheNode). n.me) c.loop-to.invariant ∙ k.me in
+    let apart : c.loop-to.to ≢ c.me-me.result = c.if-to-me.true in
+    (omega (arith, count, c.count-to-end.ensures.value), λ e. apart (e ∙ me ∙ sym c.me-me.ensures.value))
 
 pub renumber-requires : goal.renumber-requires
 renumber-requires c =
     let k = kept-ticked c.args.self.now c.me-me.result c.loop-to.to in
     let count : c.loop-to.self.count ≡ c.args.self.now.count = ap (λ (n : TheNode). n.count) c.loop-to.invariant ∙ k.count in
     let still : c.resend.new.self.count ≡ c.loop-to.self.count = ap (λ (n : TheNode). n.count) (c.resend.ensures ∙ only-resent c.loop-to.to c.loop-to.self) in
-    omega (arith, count, still, c.count-to-end.ensures.value)
+    let me : c.loop-to.self.me ≡ c.args.self.now.me = ap (λ (n : TheNode). n.me) c.loop-to.invariant ∙ k.me in
+    let same : c.resend.new.self.me ≡ c.loop-to.self.me = ap (λ (n : TheNode). n.me) (c.resend.ensures ∙ only-resent c.loop-to.to c.loop-to.self) in
+    let apart : c.loop-to.to ≢ c.me-me.result = c.if-to-me.true in
+    (omega (arith, count, still, c.count-to-end.ensures.value), λ e. apart (e ∙ same ∙ me ∙ sym c.me-me.ensures.value))

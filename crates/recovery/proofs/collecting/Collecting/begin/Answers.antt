@@ -1,9 +1,9 @@
 use Rattle.std.proofs.Common.{rules, ◌≡◌, ◌+◌, suc, ℕ, replicate, ap, ◌∙◌, arith}
 use Rattle.std.proofs.lemmas.Grind.{common_steps}
-use Rattle.std.proofs.lemmas.List.{length-set, length-replicate}
+use Rattle.std.proofs.lemmas.List.{length-set, length-replicate, get_or-replicate}
 use Rattle.recovery.specs.Own.{own_of}
-use Rattle.recovery.specs.Collected.{none_told}
-use Rattle.recovery.proofs.Keeping.{logs-short}
+use Rattle.recovery.specs.Collected.{TheCollected, none_told}
+use Rattle.recovery.proofs.Keeping.{can-come, logs-short}
 use Rattle.recovery.proofs.collecting.Collecting.begin.Goals as goal
 
 pub invariant_of-result : goal.invariant_of-result
@@ -15,5 +15,6 @@ invariant_of-result c =
     rw (own, told) (record {
       wide = length-replicate (k.count + 1) (none_told k.length) ∙ (let e : k.count + 1 ≡ suc k.count = omega arith in e);
       heard_wide = length-set (replicate (k.count + 1) 0) 0 1 ∙ length-replicate {A = ℕ} (k.count + 1) 0 ∙ (let e : k.count + 1 ≡ suc k.count = omega arith in e);
-      short = logs-short k c.requires;
+      short = logs-short k c.requires.kept;
+      alone = ap (λ (t : TheCollected). t.entries) (get_or-replicate (k.count + 1) k.me (none_told k.length) (none_told 0) (omega (arith, (can-come k c.requires.kept).own)));
     })

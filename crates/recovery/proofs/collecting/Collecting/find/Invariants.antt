@@ -1,7 +1,7 @@
 use Rattle.std.proofs.Common.{◌≡◌}
 use Rattle.std.specs.Prelude.{None}
 use Rattle.world.specs.Plan.{first_below}
-use Rattle.node.specs.Says.{first_told}
+use Rattle.pages.specs.Says.{first_told}
 use Rattle.recovery.specs.Collecting.{told_of}
 use Rattle.recovery.proofs.collecting.Collecting.find.Given as goal
 

@@ -1,0 +1,5 @@
+use Rattle.node.proofs.Keeping.{kept-stays}
+use Rattle.node.proofs.laws.kept_stays.Goals as goal
+
+pub returns : goal.returns
+returns c = kept-stays

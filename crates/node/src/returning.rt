@@ -1,0 +1,84 @@
+//! A process that came back is a node again.
+
+ghost use Rattle.std.specs.Prelude.{◌≡◌, map};
+ghost use Rattle.node.specs.Queue.{released_all};
+ghost use Rattle.node.specs.Returning.{AreWithin, node_of};
+
+use crate::node::Node;
+use crate::queue::Queue;
+use outbox::Outbox;
+use rsn::Receipts;
+
+/// What a process has that came back: the numbers that its peers gave are in its logs again, and all
+/// that it received is acknowledged.
+#[derive(Drop)]
+pub struct Returned {
+    pub me: u8,
+    pub count: u8,
+    pub life: u64,
+    pub state: Vec<u8>,
+    /// How many messages its checkpoint covers, and how many of these are of each sender.
+    pub base: u64,
+    pub covered: Vec<u64>,
+    /// What it received behind these.
+    pub receipts: Receipts,
+    /// By destination what it sent.
+    pub logs: Vec<Queue>,
+    /// By peer the greatest incarnation that it heard of.
+    pub heard: Vec<u64>,
+    /// By peer whether it obeyed the Resume of that incarnation.
+    pub resumed: Vec<bool>,
+    /// Failures came one at a time, as far as it knows.
+    pub exact: bool,
+    pub out: Outbox,
+}
+
+impl Node {
+    /// The node of a process that came back: it is up, and all that it sent is released.
+    pub fn returned(process: Returned) -> Node
+        requires { AreWithin process }
+        ensures { result ≡ node_of process }
+    {
+        let Returned {
+            me,
+            count,
+            life,
+            state,
+            base,
+            covered,
+            receipts,
+            mut logs,
+            heard,
+            resumed,
+            exact,
+            out,
+        } = process;
+        release_all(&mut logs);
+        Node {
+            me,
+            count,
+            life,
+            state,
+            base,
+            covered,
+            receipts,
+            waiting: 0,
+            logs,
+            heard,
+            resumed,
+            exact,
+            working: None,
+            frozen: false,
+            out,
+        }
+    }
+}
+
+/// All that waits in these queues is released.
+fn release_all(logs: &mut Vec<Queue>)
+    ensures { logs.new.items ≡ map released_all logs.old.items }
+{
+    for place in 0..logs.len() {
+        logs[place].release_all();
+    }
+}

@@ -1,0 +1,83 @@
+-- In each run what recovers keeps what it had received
+use Rattle.std.proofs.Common.{◌≡◌, ℕ, ◌+◌, ◌≤◌, List, [], ◌∷◌, ◌++◌, length, map, take, drop, true, false, refl, sym, ap, ◌∙◌, arith}
+use Rattle.std.specs.Prelude.{nat_lt, if◌then◌else◌}
+use Rattle.std.proofs.lemmas.List.{length-take}
+use Rattle.world.specs.Handlers.{Handlers}
+use Rattle.world.specs.Phases.{Replaying}
+use Rattle.world.specs.World.{put}
+use Rattle.world.specs.Calls.{peers}
+use Rattle.theorems.specs.Growth.{Grows}
+use Rattle.theorems.proofs.Changes.{at-itself}
+use Rattle.cluster.specs.Cluster.{Cluster, opening, seen}
+use Rattle.cluster.specs.Rules.{Act, Recovers, Run, does, after_run, kept_by, goes_on, taken_back}
+use Rattle.cluster.specs.Promises.{RecoversAll, AllAcknowledged}
+use Rattle.cluster.proofs.Promised.{nodes-keep, nodes-recover, acknowledged-stay}
+use Rattle.node.specs.Stands.{job_of}
+use Rattle.node.proofs.Steps.{run-on}
+use Rattle.recovery.specs.Collecting.{TheCollecting}
+use Rattle.recovery.specs.Stands.{StandsCollecting}
+use Rattle.recovery.specs.Plan.{has_all, MayRecover}
+use Rattle.recovery.specs.Replaying.{TheReplaying}
+use Rattle.recovery.specs.Moment.{Recovered, HadReceived, KeepsWhatItHad}
+use Rattle.recovery.proofs.Moments.{by-cluster}
+use Rattle.recovery.proofs.Orders.{back-part}
+use Rattle.recovery.proofs.Planning.{recovering}
+
+-- what it received then is what it keeps
+recovered-history : (c : Cluster) (p k : ℕ) → (does c (Recovers p k)).history p ≡ kept_by c p k
+recovered-history c p k =
+    by-cluster (λ d. d.history p ≡ kept_by c p k) (nat_lt (c.saved p) k) (record (taken_back c p k) { phase = put c.phase p (Replaying 0 false false) }) (goes_on (taken_back c p k) p (peers (seen c) p false))
+    (λ e. back) (λ e. back)
+  where
+    back : (taken_back c p k).history p ≡ kept_by c p k
+    back = at-itself p (λ b. (if b then kept_by c p k else c.history p) ≡ kept_by c p k) refl
+
+module _ (count : ℕ) (f : Handlers) (acts : List Act) (n : TheCollecting) (r : TheReplaying) (few : count ≤ 15) (grows : Grows f) (run : Run (opening count f) acts) (s : StandsCollecting n (after_run (opening count f) acts) n.own.me)
+    (all : has_all n ≡ true) (is : Recovered n r) where
+  abbrev c : Cluster
+  c = after_run (opening count f) acts
+
+  abbrev p : ℕ
+  p = n.own.me
+
+  abbrev base : ℕ
+  base = n.own.base
+
+  abbrev k : ℕ
+  k = base + length r.plan
+
+  abbrev act : Act
+  act = Recovers p k
+
+  may-recover : MayRecover n r.plan c
+  may-recover = recovering n r.plan is.plans all c s
+
+  more : Run (opening count f) (acts ++ act ∷ [])
+  more = (run-on (opening count f) acts (act ∷ []) run (may-recover.may, tt)).0
+
+  then-is : after_run (opening count f) (acts ++ act ∷ []) ≡ does c act
+  then-is = (run-on (opening count f) acts (act ∷ []) run (may-recover.may, tt)).1
+
+  recovers : RecoversAll c p k
+  recovers = nodes-recover count f acts p k few grows more
+
+  kept-is : take base (c.history p) ++ map job_of r.plan ≡ take k (c.history p)
+  kept-is = sym may-recover.kept ∙ sym (recovered-history c p k) ∙ recovers.same
+
+  acknowledged-is : (m : ℕ) → AllAcknowledged c p m → m ≤ k
+  acknowledged-is m a =
+      let stays : take m ((after_run (opening count f) (acts ++ act ∷ [])).history p) ≡ take m (c.history p) = acknowledged-stay count f acts (act ∷ []) p m few grows more a in
+      let now : (after_run (opening count f) (acts ++ act ∷ [])).history p ≡ take k (c.history p) = ap (λ (d : Cluster). d.history p) then-is ∙ recovers.same in
+      let first : take m (take k (c.history p)) ≡ take m (c.history p) = ap (take m) (sym now) ∙ stays in
+      omega (arith, ap length first, length-take m (take k (c.history p)), length-take k (c.history p), length-take m (c.history p), a.0)
+
+  had-received : HadReceived c p base r.plan
+  had-received = record {
+    within = recovers.within;
+    same = sym (back-part (take base (c.history p)) (map job_of r.plan) base (let many : base ≤ length (take base (c.history p)) = s.own.many in omega (arith, many, length-take base (c.history p)))) ∙ ap (drop base) kept-is;
+    acknowledged = acknowledged-is;
+    in_order = (nodes-keep count f acts few grows run).2.next p;
+  }
+
+pub keeps-what-it-had : KeepsWhatItHad
+keeps-what-it-had count f acts n r few grows run s all is = had-received count f acts n r few grows run s all is

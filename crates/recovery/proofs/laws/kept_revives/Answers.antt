@@ -1,0 +1,5 @@
+use Rattle.recovery.proofs.Writing.{kept-revives}
+use Rattle.recovery.proofs.laws.kept_revives.Goals as goal
+
+pub returns : goal.returns
+returns c = kept-revives

@@ -1,0 +1,5 @@
+use Rattle.recovery.proofs.Writing.{written-revives}
+use Rattle.recovery.proofs.laws.written_revives.Goals as goal
+
+pub returns : goal.returns
+returns c = written-revives

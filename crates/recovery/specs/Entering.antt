@@ -1,0 +1,59 @@
+-- What a process that has replayed takes in of its peers, and its node
+use Rattle.std.specs.Prelude.{ℕ, suc, ◌+◌, ◌^◌, ◌<◌, List, [], ◌∷◌, length, map, Option, None, Bool, false, slice_set}
+use Rattle.world.specs.Plan.{or_else}
+use Rattle.packets.specs.declared.page.Pair.{Pair}
+use Rattle.node.specs.Queue.{TheQueue, dropped_to, released_all}
+use Rattle.node.specs.Node.{TheNode, log_at}
+use Rattle.pages.specs.Says.{first_number}
+use Rattle.recovery.specs.Own.{TheOwn}
+use Rattle.recovery.specs.Replayed.{TheReplayed}
+
+-- how many messages it keeps
+abbrev pub keeps : TheReplayed → ℕ
+keeps n = n.own.base + length n.receipts.senders
+
+-- how many messages were sent to d
+abbrev pub sent_to : ℕ → TheOwn → ℕ
+sent_to d o = (log_at o.logs d).dropped + length (log_at o.logs d).payloads
+
+-- the SSNs of a page lie above s, each above the one before
+abbrev pub AscendFrom : ℕ → List Pair → Type 0
+AscendFrom s [] = Unit {0}
+AscendFrom s (x ∷ xs) = (s < x.ssn) × AscendFrom x.ssn xs
+
+-- its number is in its range
+abbrev pub IsSmallPair : Pair → Type 0
+IsSmallPair x = x.number < 2 ^ 63
+
+-- each message behind an SSN gets the number that a page has for it, if it has one
+abbrev pub noted_from : List Pair → ℕ → List (Option ℕ) → List (Option ℕ)
+noted_from pairs ssn [] = []
+noted_from pairs ssn (k ∷ ks) = or_else (first_number pairs (suc ssn)) k ∷ noted_from pairs (suc ssn) ks
+
+abbrev pub noted : List Pair → TheQueue → TheQueue
+noted pairs q = record q { numbers = noted_from pairs q.dropped q.numbers }
+
+-- the log for d drops what is covered for good, and gets the numbers of a page
+abbrev pub takes_in : ℕ → ℕ → List Pair → TheOwn → TheOwn
+takes_in d covered pairs o = record o { logs = slice_set o.logs d (noted pairs (dropped_to covered (log_at o.logs d))) }
+
+-- its node, which obeyed the Resume of these peers: all that it sent is released, and none of its questions waits any more
+abbrev pub returns : List Bool → Bool → TheReplayed → TheNode
+returns resumed exact n =
+    record {
+      me = n.own.me;
+      count = n.own.count;
+      life = n.own.life;
+      state = n.own.state;
+      base = n.own.base;
+      covered = n.own.covered;
+      receipts = n.receipts;
+      logs = map released_all n.own.logs;
+      waiting = 0;
+      heard = n.own.heard;
+      resumed = resumed;
+      exact = exact;
+      working = None;
+      frozen = false;
+      out = [];
+    }

@@ -1,0 +1,32 @@
+-- What a process is that recovered
+use Rattle.std.specs.Prelude.{◌≡◌, ℕ, ◌+◌, ◌≤◌, List, length, map, take, drop, true}
+use Rattle.world.specs.Handlers.{Handlers}
+use Rattle.theorems.specs.Growth.{Grows}
+use Rattle.cluster.specs.Cluster.{Cluster, opening}
+use Rattle.cluster.specs.Rules.{Act, Run, after_run}
+use Rattle.cluster.specs.Promises.{AllAcknowledged}
+use Rattle.node.specs.declared.job.OpenJob.{OpenJob}
+use Rattle.node.specs.Stands.{job_of}
+use Rattle.recovery.specs.Collecting.{TheCollecting}
+use Rattle.recovery.specs.Stands.{StandsCollecting}
+use Rattle.recovery.specs.Plan.{has_all, Plans}
+use Rattle.recovery.specs.Replaying.{TheReplaying}
+use Rattle.recovery.specs.StandsReplaying.{IsInOrder}
+
+-- it has of its own what it had, keeps the messages of its plan, and has replayed none of them
+pub record Recovered (n : TheCollecting) (r : TheReplaying) : Type 0 where
+  pub own : r.own ≡ n.own
+  pub plans : Plans n r.plan
+  pub none : r.done ≡ 0
+
+-- p had received these behind what its checkpoint covers, just so, and all is among them that was acknowledged without a gap
+pub record HadReceived (c : Cluster) (p base : ℕ) (jobs : List OpenJob) : Type 0 where
+  pub within : base + length jobs ≤ length (c.history p)
+  pub same : map job_of jobs ≡ drop base (take (base + length jobs) (c.history p))
+  pub acknowledged : (k : ℕ) → AllAcknowledged c p k → k ≤ base + length jobs
+  pub in_order : IsInOrder c p
+
+-- in each run what recovers keeps what it had received
+abbrev pub KeepsWhatItHad : Type 0
+KeepsWhatItHad = (count : ℕ) (f : Handlers) (acts : List Act) (n : TheCollecting) (r : TheReplaying) → count ≤ 15 → Grows f → Run (opening count f) acts
+    → StandsCollecting n (after_run (opening count f) acts) n.own.me → has_all n ≡ true → Recovered n r → HadReceived (after_run (opening count f) acts) n.own.me n.own.base r.plan

@@ -1,0 +1,155 @@
+//! What a process that has replayed takes in of its peers.
+
+ghost use Rattle.std.specs.Prelude.{◌≡◌, ◌≤◌, ◌+◌, suc, length, slice_index_or};
+ghost use Rattle.outbox.specs.Outbox.{Pops};
+ghost use Rattle.recovery.specs.Own.{is_for, hears, posts};
+ghost use Rattle.recovery.specs.Entering.{keeps, sent_to, takes_in, noted, returns, AscendFrom, IsSmallPair};
+ghost use Rattle.std.specs.List.{AllByRecursion};
+
+use crate::own::Own;
+use crate::replayed::Replayed;
+use node::{Node, Queue, Returned};
+use packets::{Body, Packet, Pair};
+
+impl Replayed {
+    /// Its number.
+    pub fn me(&self) -> u8
+        ensures value { result ≡ self.now.own.me }
+        ensures within { (1 ≤ result) × (result ≤ self.now.own.count) }
+    {
+        self.own.me()
+    }
+
+    /// How many processes there are.
+    pub fn count(&self) -> u8
+        ensures value { result ≡ self.now.own.count }
+        ensures few { result ≤ 15 }
+        ensures wide { (length self.now.own.heard ≡ suc self.now.own.count) × (length self.now.own.logs ≡ suc self.now.own.count) }
+    {
+        self.own.count
+    }
+
+    /// Its incarnation.
+    pub fn incarnation(&self) -> u64
+        ensures { result ≡ self.now.own.life }
+    {
+        self.own.life
+    }
+
+    /// How many messages it keeps.
+    pub fn kept(&self) -> u64
+        ensures { result ≡ keeps self.now }
+    {
+        self.own.base() + u64::from(self.receipts.length())
+    }
+
+    /// Whether a packet is of another node of this cluster to this one.
+    pub fn is_for(&self, packet: &Packet) -> bool
+        ensures { result ≡ is_for self.now.own packet.now }
+    {
+        self.own.is_for(packet)
+    }
+
+    /// The greatest incarnation of a peer that it heard of.
+    pub fn heard(&self, peer: u8) -> u64
+        requires { peer ≤ self.now.own.count }
+        ensures { result ≡ slice_index_or self.now.own.heard peer 0 }
+    {
+        self.own.heard(peer)
+    }
+
+    /// It hears of this incarnation of a peer.
+    pub fn hear(&mut self, peer: u8, life: u64)
+        requires { peer ≤ self.old.own.count }
+        ensures { self.new ≡ record self.old { own = hears peer life self.old.own } }
+    {
+        self.own.hear(peer, life);
+    }
+
+    /// How many messages it sent to a peer.
+    pub fn sent(&self, to: u8) -> u64
+        requires { to ≤ self.now.own.count }
+        ensures { result ≡ sent_to to self.now.own }
+    {
+        let log = &self.own.logs[to as usize];
+        log.dropped() + log.len() as u64
+    }
+
+    /// Its log for a peer drops what is covered for good, and gets the numbers of a page of that one.
+    pub fn take_in(&mut self, to: u8, covered: u64, pairs: &[Pair])
+        requires to { to ≤ self.old.own.count }
+        requires page { AscendFrom 0 pairs.now }
+        requires numbers { AllByRecursion IsSmallPair pairs.now }
+        ensures { self.new ≡ record self.old { own = takes_in to covered pairs.now self.old.own } }
+    {
+        let log = &mut self.own.logs[to as usize];
+        log.drop_to(covered);
+        note(log, pairs);
+    }
+
+    /// A packet waits to be taken.
+    pub fn put(&mut self, to: u8, body: Body)
+        ensures { self.new ≡ record self.old { own = posts to body self.old.own } }
+    {
+        self.own.put(to, body);
+    }
+
+    /// The packet that waits first leaves; none, if there is none.
+    pub fn pop(&mut self) -> Option<Packet>
+        ensures packet { Pops result self.old.own.out self.new.own.out }
+        ensures rest { self.new ≡ record self.old { own = record self.old.own { out = self.new.own.out } } }
+    {
+        self.own.out.pop()
+    }
+
+    /// Its node, where its peers told their numbers: of which of them it obeyed the Resume, and whether
+    /// failures came one at a time as far as it knows. All that it sent is released. The packets that
+    /// wait are questions of one that comes back, and are lost.
+    pub fn into_node(self, resumed: Vec<bool>, exact: bool) -> Node
+        requires { length resumed.items ≡ suc self.own.count }
+        ensures { result ≡ returns resumed.items exact self }
+    {
+        let Replayed { own, receipts } = self;
+        let Own {
+            me,
+            count,
+            life,
+            state,
+            base,
+            covered,
+            logs,
+            heard,
+            mut out,
+        } = own;
+        out.clear();
+        Node::returned(Returned {
+            me,
+            count,
+            life,
+            state,
+            base,
+            covered,
+            receipts,
+            logs,
+            heard,
+            resumed,
+            exact,
+            out,
+        })
+    }
+}
+
+/// The messages of a page get their numbers, as far as the log has them.
+fn note(log: &mut Queue, pairs: &[Pair])
+    requires page { AscendFrom 0 pairs.now }
+    requires numbers { AllByRecursion IsSmallPair pairs.now }
+    ensures { log.new ≡ noted pairs.now log.old }
+{
+    // For the proof: as many numbers as messages.
+    let _known = log.len();
+    for pair in pairs {
+        if log.is_kept(pair.ssn) {
+            log.record(pair.ssn, pair.number);
+        }
+    }
+}

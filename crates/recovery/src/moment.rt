@@ -1,0 +1,101 @@
+//! The moment of recovery.
+
+ghost use Rattle.std.specs.Prelude.{◌≡◌, ◌≤◌, ◌<◌, length, true, IfOk, IfErr};
+ghost use Rattle.node.specs.Stands.{Each};
+ghost use Rattle.recovery.specs.Plan.{has_all, Plans, Fits, Overruns};
+ghost use Rattle.recovery.specs.Moment.{Recovered};
+ghost use Rattle.recovery.specs.Replaying.{receipts_of};
+ghost use Rattle.recovery.specs.StandsReplaying.{ComesBack};
+ghost use Rattle.recovery.specs.declared.moment.Cause.TheVariants.{TooMany};
+
+use crate::collecting::Collecting;
+use crate::replaying::Replaying;
+use node::OpenJob;
+use rsn::{LIMIT, Receipts, SENDERS};
+use std::alloc::{AllocError, Global};
+
+/// Why a process doesn't recover.
+#[derive(Clone, Copy, Debug, PartialEq, Eq)]
+pub enum Cause {
+    /// There is no memory.
+    Memory,
+    /// It would keep more messages than a process takes.
+    TooMany,
+}
+
+/// A process that doesn't recover: it goes on collecting, as it was.
+#[derive(Drop)]
+pub struct Unrecovered {
+    pub collecting: Collecting,
+    pub cause: Cause,
+}
+
+impl Collecting {
+    /// Where all peers have told all, the process keeps what its checkpoint covers and the messages of
+    /// its plan, which are to be replayed. What a refusal hands back goes on collecting.
+    pub fn recover(self, alloc: Global) -> Result<Replaying, Unrecovered>
+        requires { has_all self ≡ true }
+        ensures value { IfOk result (λ r. Recovered self r) }
+        ensures acts { IfOk result (λ r. ComesBack self r) }
+        ensures err { IfErr result (λ e. e.collecting ≡ self) }
+        ensures cause { IfErr result (λ e. e.cause ≡ TooMany → Overruns self) }
+    {
+        match self.keep(alloc) {
+            Ok((plan, receipts)) => Ok(self.turn(plan, receipts)),
+            Err(cause) => Err(Unrecovered {
+                collecting: self,
+                cause,
+            }),
+        }
+    }
+
+    /// The messages of its plan, and receipts of them.
+    fn keep(&self, alloc: Global) -> Result<(Vec<OpenJob>, Receipts), Cause>
+        ensures plans { IfOk result (λ k. Plans self.now k.0.items) }
+        ensures fits { IfOk result (λ k. Fits self.now k.0.items) }
+        ensures receipts { IfOk result (λ k. k.1 ≡ receipts_of k.0.items) }
+        ensures cause { IfErr result (λ e. e ≡ TooMany → Overruns self.now) }
+    {
+        // For the proof: asking tells that each sender has a place in receipts.
+        let _few = self.own.count();
+        let Ok(followed) = self.follow(alloc) else {
+            return Err(Cause::Memory);
+        };
+        let Some(plan) = followed else {
+            return Err(Cause::TooMany);
+        };
+        match received(alloc, plan.as_slice()) {
+            Ok(receipts) => Ok((plan, receipts)),
+            Err(_) => Err(Cause::Memory),
+        }
+    }
+
+    /// It goes on as one that replays these.
+    fn turn(self, plan: Vec<OpenJob>, receipts: Receipts) -> Replaying
+        requires fits { Fits self plan.items }
+        requires receipts { receipts ≡ receipts_of plan.items }
+        ensures { result ≡ record { own = self.own; plan = plan.items; done = 0 } }
+    {
+        let Collecting { own, told: _ } = self;
+        Replaying {
+            own,
+            plan,
+            done: 0,
+            receipts,
+        }
+    }
+}
+
+/// Receipts of messages, all of them acknowledged.
+fn received(alloc: Global, jobs: &[OpenJob]) -> Result<Receipts, AllocError>
+    requires few { length jobs.now ≤ LIMIT }
+    requires senders { Each (λ (j : OpenJob). j.sender < SENDERS) jobs.now }
+    ensures { IfOk result (λ r. r ≡ receipts_of jobs.now) }
+{
+    let mut receipts = Receipts::new(alloc, &[])?;
+    for job in jobs {
+        let number = receipts.accept(job.sender)?;
+        receipts.acknowledge(number);
+    }
+    Ok(receipts)
+}

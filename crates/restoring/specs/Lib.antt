@@ -1,0 +1,4 @@
+pub mod Restoring
+pub mod Stands
+pub mod Beside
+pub mod Fits

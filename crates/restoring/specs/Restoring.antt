@@ -1,0 +1,114 @@
+-- What clauses see of a process that restores its numbers, and what the calls make of it
+use Rattle.std.specs.Prelude.{◌≡◌, ℕ, zero, suc, ◌+◌, List, [], length, map, replicate, Bool, true, false, not, ◌&&◌, ◌==◌, nat_le, if◌then◌else◌, slice_index_or, slice_set}
+use Rattle.std.specs.List.{list_all}
+use Rattle.rsn.specs.Receipts.{Received}
+use Rattle.world.specs.Phases.{those}
+use Rattle.packets.specs.Packet.{is_done, is_exact, in_range}
+use Rattle.packets.specs.declared.page.Pair.{Pair}
+use Rattle.packets.specs.declared.page.Flags.{Flags}
+use Rattle.packets.specs.declared.packet.Body.{Body}
+use Rattle.packets.specs.declared.packet.Body.TheVariants.{Resume, Restored}
+use Rattle.packets.specs.declared.packet.Packet.{Packet}
+use Rattle.node.specs.Node.{TheNode}
+use Rattle.pages.specs.Says.{last_behind}
+use Rattle.recovery.specs.Own.{TheOwn, posts, is_for, hears}
+use Rattle.recovery.specs.Replayed.{TheReplayed}
+use Rattle.recovery.specs.Entering.{keeps, sent_to, takes_in, returns}
+
+-- what it has of its own, and what it received behind its checkpoint; by peer the SSN up to which that told the numbers, and whether it told
+-- all; whether failures came one at a time, as far as it knows
+pub record TheRestoring : Type 0 where
+  pub own : TheOwn
+  pub receipts : Received
+  pub above : List ℕ
+  pub answered : List Bool
+  pub exact : Bool
+
+-- it waits for each peer, and not for itself
+pub record IsRestoring (own : TheOwn) (above : List ℕ) (answered : List Bool) : Type 0 where
+  pub wide : length above ≡ suc own.count
+  pub answered_wide : length answered ≡ suc own.count
+  pub heard_wide : length own.heard ≡ suc own.count
+  pub logs_wide : length own.logs ≡ suc own.count
+  pub alone : slice_index_or answered own.me true ≡ true
+
+abbrev pub replayed_of : TheRestoring → TheReplayed
+replayed_of n = record { own = n.own; receipts = n.receipts }
+
+abbrev pub above_of : ℕ → TheRestoring → ℕ
+above_of q n = slice_index_or n.above q 0
+
+abbrev pub has_answered : ℕ → TheRestoring → Bool
+has_answered q n = slice_index_or n.answered q true
+
+-- the processes that haven't told all
+abbrev pub left : TheRestoring → List ℕ
+left n = those (λ q. not (has_answered q n)) n.own.count
+
+-- a peer that hasn't told all is asked for what it has behind what it told
+abbrev pub asks : ℕ → TheRestoring → TheRestoring
+asks to n = if has_answered to n then n else record n { own = posts to (Resume n.own.life (keeps (replayed_of n)) (above_of to n)) n.own }
+
+-- so is each below d
+abbrev pub asks_below : ℕ → TheRestoring → TheRestoring
+asks_below zero n = n
+asks_below (suc d) n = asks d (asks_below d n)
+
+abbrev pub asked : TheRestoring → TheRestoring
+asked n = asks_below (n.own.count + 1) n
+
+-- one that was told nothing
+abbrev pub begins : TheReplayed → TheRestoring
+begins r =
+    record {
+      own = r.own;
+      receipts = r.receipts;
+      above = replicate (r.own.count + 1) 0;
+      answered = slice_set (replicate (r.own.count + 1) false) r.own.me true;
+      exact = true;
+    }
+
+-- it asks all
+abbrev pub begun : TheReplayed → TheRestoring
+begun r = asked (begins r)
+
+-- the SSN of the last pair, behind s
+abbrev pub last_ssn : ℕ → List Pair → ℕ
+last_ssn s pairs = last_behind s (map (λ (x : Pair). x.ssn) pairs)
+
+-- a page answers what was asked last: in this incarnation, of a peer that isn't older than it was heard of; and it tells of no more than was
+-- sent to that one
+abbrev pub answers : ℕ → ℕ → ℕ → ℕ → ℕ → List Pair → TheRestoring → Bool
+answers from i j covered s pairs n =
+    (i == n.own.life) && nat_le (slice_index_or n.own.heard from 0) j && not (has_answered from n) && (s == above_of from n) && nat_le covered (sent_to from n.own)
+    && nat_le (last_ssn 0 pairs) (sent_to from n.own)
+
+-- a page of a process is taken in. It is the last one, or the process is asked for the next
+abbrev pub told : ℕ → ℕ → ℕ → ℕ → Flags → List Pair → TheRestoring → TheRestoring
+told from j covered s flags pairs n =
+    if is_done flags
+    then record n { own = hears from j (takes_in from covered pairs n.own); answered = slice_set n.answered from true; exact = n.exact && is_exact flags }
+    else asks from (record n { own = hears from j (takes_in from covered pairs n.own); above = slice_set n.above from (last_ssn s pairs); exact = n.exact && is_exact flags })
+
+-- the gateway tells how many outputs it has, and no numbers
+abbrev pub greeted : ℕ → Flags → TheRestoring → TheRestoring
+greeted covered flags n =
+    if is_done flags then record n { own = takes_in 0 covered [] n.own; answered = slice_set n.answered 0 true; exact = n.exact && is_exact flags } else n
+
+-- another one says this: what isn't an answer is dropped
+abbrev pub heard : ℕ → Body → TheRestoring → TheRestoring
+heard from (Restored i j covered s flags pairs) n =
+    if in_range (Restored i j covered s flags pairs) && answers from i j covered s pairs n then (if from == 0 then greeted covered flags n else told from j covered s flags pairs n) else n
+heard from body n = n
+
+-- a packet comes
+abbrev pub handed : Packet → TheRestoring → TheRestoring
+handed x n = if is_for n.own x then heard x.from x.body n else n
+
+-- all have answered, the gateway too
+abbrev pub is_up : TheRestoring → Bool
+is_up n = list_all (λ b. b) n.answered
+
+-- its node
+abbrev pub up : TheRestoring → TheNode
+up n = returns n.answered n.exact (replayed_of n)

@@ -1,0 +1,245 @@
+//! A process that asks its peers under which numbers they have its messages.
+
+ghost use Rattle.std.specs.Prelude.{◌≡◌, ◌≤◌, ◌+◌, ◌&&◌, length, replicate, slice_set, nat_le, true, false, IfOk, IfErr};
+ghost use Rattle.std.specs.List.{AllByRecursion};
+ghost use Rattle.recovery.specs.Entering.{AscendFrom, IsSmallPair, sent_to};
+ghost use Rattle.restoring.specs.Restoring.{asks, asked, begins, begun, answers, told, greeted, last_ssn, handed, is_up, up};
+ghost use Rattle.restoring.specs.Stands.{Begins, Acts, IsHanded, Takes, IsUp};
+
+use node::Node;
+use packets::{Body, Flags, Packet, Pair};
+use recovery::Replayed;
+use std::alloc::{AllocError, Global};
+use std::marker::Model;
+
+/// A process that has replayed all that it keeps, and what its peers told since.
+#[derive(Drop)]
+pub struct Restoring {
+    pub(crate) replayed: Replayed,
+    /// By peer the SSN up to which it told the numbers, and whether it told all. Of the process itself
+    /// there is nothing to tell.
+    pub(crate) above: Vec<u64>,
+    pub(crate) answered: Vec<bool>,
+    /// Failures came one at a time, as far as it knows.
+    pub(crate) exact: bool,
+}
+
+impl Model for Restoring {
+    ghost use Rattle.restoring.specs.Restoring.{TheRestoring, IsRestoring};
+
+    ghost Value = { TheRestoring };
+
+    ghost view = { λ n. record { own = n.replayed.own; receipts = n.replayed.receipts; above = n.above.items; answered = n.answered.items; exact = n.exact } };
+
+    ghost invariant = { λ n. IsRestoring n.replayed.own n.above.items n.answered.items };
+}
+
+impl Restoring {
+    /// A process that has replayed all that it keeps. All its peers are asked. Where memory is refused
+    /// it is given back.
+    pub fn begin(alloc: Global, replayed: Replayed) -> Result<Restoring, Replayed>
+        ensures value { IfOk result (λ n. n ≡ begun replayed) }
+        ensures acts { IfOk result (λ n. Begins replayed n) }
+        ensures err { IfErr result (λ r. r ≡ replayed) }
+    {
+        let me = replayed.me();
+        let count = replayed.count();
+        match none_told(alloc, me, count) {
+            Ok((above, answered)) => {
+                let mut node = Restoring {
+                    replayed,
+                    above,
+                    answered,
+                    exact: true,
+                };
+                node.ask_all();
+                Ok(node)
+            }
+            Err(_) => Err(replayed),
+        }
+    }
+
+    /// A packet that is to be sent, the first that waits; none, if there is none.
+    pub fn take(&mut self) -> Option<Packet>
+        ensures { Takes result self.old self.new }
+    {
+        self.replayed.pop()
+    }
+
+    /// The peers that haven't told all are asked again.
+    pub fn tick(&mut self)
+        ensures value { self.new ≡ asked self.old }
+        ensures acts { Acts self.old self.new }
+    {
+        // For the proof: reading a field tells the invariant.
+        let _known = self.exact;
+        self.ask_all();
+    }
+
+    /// A packet came. One that isn't the answer of a peer to what was asked last is dropped.
+    pub fn receive(&mut self, packet: &Packet)
+        ensures value { self.new ≡ handed packet.now self.old }
+        ensures acts { IsHanded packet.now self.old self.new }
+    {
+        // For the proof: reading a field tells the invariant.
+        let _known = self.exact;
+        self.hand(packet);
+    }
+
+    /// Whether all have told all, the gateway too.
+    pub fn is_up(&self) -> bool
+        ensures { result ≡ is_up self.now }
+    {
+        self.answered.iter().all(|answered| *answered)
+    }
+
+    /// Where all have told all, it is a node that is up. All that it sent is released: `Node::tick`
+    /// sends what has no number.
+    pub fn into_node(self) -> Node
+        requires { is_up self ≡ true }
+        ensures value { result ≡ up self }
+        ensures stands { IsUp self result }
+    {
+        let Restoring {
+            replayed,
+            above: _,
+            answered,
+            exact,
+        } = self;
+        replayed.into_node(answered, exact)
+    }
+
+    fn ask_all(&mut self)
+        ensures { self.new ≡ asked self.old }
+    {
+        for to in 0..self.replayed.count() + 1 {
+            self.ask(to);
+        }
+    }
+
+    fn ask(&mut self, to: u8)
+        requires { to ≤ self.old.own.count }
+        ensures { self.new ≡ asks to self.old }
+    {
+        if !self.answered[to as usize] {
+            let body = Body::Resume {
+                incarnation: self.replayed.incarnation(),
+                kept: self.replayed.kept(),
+                above: self.above[to as usize],
+            };
+            self.replayed.put(to, body);
+        }
+    }
+
+    fn hand(&mut self, packet: &Packet)
+        ensures { self.new ≡ handed packet.now self.old }
+    {
+        if !self.replayed.is_for(packet) || !packet.body.is_in_range() {
+            return;
+        }
+        let from = packet.from;
+        match &packet.body {
+            Body::Restored {
+                incarnation,
+                teller,
+                covered,
+                above,
+                flags,
+                pairs,
+            } => {
+                let pairs = pairs.as_slice();
+                if self.is_answer(from, *incarnation, *teller, *covered, *above, pairs) {
+                    if from == 0 {
+                        self.greet(*covered, *flags);
+                    } else {
+                        self.tell(from, *teller, *covered, *above, *flags, pairs);
+                    }
+                }
+            }
+            _ => {}
+        }
+    }
+
+    /// Whether a page answers what was asked last, and tells of no more than was sent.
+    fn is_answer(
+        &self,
+        from: u8,
+        life: u64,
+        teller: u64,
+        covered: u64,
+        above: u64,
+        pairs: &[Pair],
+    ) -> bool
+        requires { from ≤ self.now.own.count }
+        ensures { result ≡ answers from life teller covered above pairs.now self.now }
+    {
+        life == self.replayed.incarnation()
+            && self.replayed.heard(from) <= teller
+            && !self.answered[from as usize]
+            && above == self.above[from as usize]
+            && covered <= self.replayed.sent(from)
+            && last_ssn(0, pairs) <= self.replayed.sent(from)
+    }
+
+    /// A page of a process: where it isn't the last one, the process is asked for the next.
+    fn tell(
+        &mut self,
+        from: u8,
+        teller: u64,
+        covered: u64,
+        above: u64,
+        flags: Flags,
+        pairs: &[Pair],
+    )
+        requires from { from ≤ self.old.own.count }
+        requires page { AscendFrom 0 pairs.now }
+        requires numbers { AllByRecursion IsSmallPair pairs.now }
+        ensures { self.new ≡ told from teller covered above flags pairs.now self.old }
+    {
+        self.replayed.take_in(from, covered, pairs);
+        self.replayed.hear(from, teller);
+        self.exact = self.exact && flags.exact();
+        if flags.done() {
+            self.answered[from as usize] = true;
+        } else {
+            self.above[from as usize] = last_ssn(above, pairs);
+            self.ask(from);
+        }
+    }
+
+    /// The answer of the gateway: so many outputs were shown.
+    fn greet(&mut self, covered: u64, flags: Flags)
+        ensures { self.new ≡ greeted covered flags self.old }
+    {
+        if flags.done() {
+            self.replayed.take_in(0, covered, &[]);
+            self.exact = self.exact && flags.exact();
+            self.answered[0] = true;
+        }
+    }
+}
+
+/// By peer that nothing was told, and by whom: by the process itself all.
+fn none_told(alloc: Global, me: u8, count: u8) -> Result<(Vec<u64>, Vec<bool>), AllocError>
+    requires { (me ≤ count) × (count ≤ 15) }
+    ensures above { IfOk result (λ t. t.0.items ≡ replicate (count + 1) 0) }
+    ensures answered { IfOk result (λ t. t.1.items ≡ slice_set (replicate (count + 1) false) me true) }
+{
+    let wide = count as usize + 1;
+    let mut above = Vec::new(alloc);
+    above.resize(wide, 0)?;
+    let mut answered = Vec::new(alloc);
+    answered.resize(wide, false)?;
+    answered[me as usize] = true;
+    Ok((above, answered))
+}
+
+/// The SSN of the last pair, or where there is none this one.
+fn last_ssn(above: u64, pairs: &[Pair]) -> u64
+    ensures { result ≡ last_ssn above pairs.now }
+{
+    match pairs.last() {
+        Some(pair) => pair.ssn,
+        None => above,
+    }
+}
