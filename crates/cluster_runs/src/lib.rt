@@ -2,8 +2,8 @@
 //! number is recorded; packets come late or not at all.
 //!
 //! Each is a list of acts with the cluster that it leads to. That its steps may happen and that it leads
-//! there is computed from the rules of crate `cluster`: so a rule that said something else would fail
-//! one of them, and a reader sees what each rule is for.
+//! there is computed from the rules of crate `cluster`, so a reader sees what these are for. That a wrong
+//! rule is refused is shown in `cluster`, by its laws.
 //!
 //! ```text
 //! node_comes_back();
