@@ -13,7 +13,7 @@ use Rattle.cluster.specs.Parcels.{Acknowledgement, In, parcel}
 use Rattle.cluster.specs.Cluster.{Cluster, seen, waiting}
 use Rattle.cluster.specs.Rules.{Act, Counts, May, does}
 use Rattle.node.specs.Node.{TheNode, counted, log_at}
-use Rattle.node.specs.Stands.{Stands, HasReceived, IsShut, sent_by, Goes, Receives}
+use Rattle.node.specs.Stands.{Stands, HasReceived, IsShut, sent_by, GoesOn, Receives}
 use Rattle.node.proofs.Putting.{stands-takes}
 use Rattle.node.proofs.Commits.{long}
 
@@ -145,7 +145,7 @@ module _ (n : TheNode) (c : Cluster) (q i k : ℕ) (s : Stands n c n.me) (given 
         out = s.out;
       }
 
-  goes-counted : Goes n.me (counted k n) c
+  goes-counted : GoesOn n.me (counted k n) c
   goes-counted = record { acts = act ∷ []; run = (may, tt); by = (refl, tt); stands = stands-counted }
 
 -- an acknowledgement of the present life, for a number that isn't acknowledged yet, is counted

@@ -19,7 +19,7 @@ use Rattle.node.specs.declared.job.Given.{Given}
 use Rattle.cluster.specs.Parcels.{Number}
 use Rattle.node.specs.Queue.{TheQueue, appended, leading}
 use Rattle.node.specs.Node.{TheNode, posts, log_at, logged, given_to, next_number, worked, number_of, OfPeer}
-use Rattle.node.specs.Stands.{Stands, HasReceived, KeepsOf, IsShut, sent_by, Goes, Answers, IsNextAfter, payloads_to, job_of}
+use Rattle.node.specs.Stands.{Stands, HasReceived, KeepsOf, IsShut, sent_by, GoesOn, Answers, IsNextAfter, payloads_to, job_of}
 use Rattle.node.proofs.Lists.{count-append, get-behind}
 use Rattle.node.proofs.Logs.{length-push, changed-at, leading-bound, leading-push}
 use Rattle.node.proofs.Numbers.{InOrderFrom-push}
@@ -256,7 +256,7 @@ module _ (n : TheNode) (c : Cluster) (j : OpenJob) (state : List ℕ) (given : L
       let place : next_number n ≡ suc (length (c.history n.me) + 0) = omega (arith, long n.count n.base n.covered n.receipts (c.history n.me) (c.acknowledged n.me) s.received) in
       record { message = job_of j; at = ap (nth (c'.history n.me)) place ∙ ap (λ h. slice_get h (length (c.history n.me) + 0)) history-is ∙ at; sender = refl; ssn = refl }
 
-  pub goes-worked : OfPeer n.me n.count (Some j) → Goes n.me (posts j.sender (number_of j n) (worked j state given n)) c
+  pub goes-worked : OfPeer n.me n.count (Some j) → GoesOn n.me (posts j.sender (number_of j n) (worked j state given n)) c
   goes-worked peer =
       goes-on n.me (posts j.sender (number_of j n) (worked j state given n)) c act may refl
       (posted (worked j state given n) c' j.sender (number_of j n) (Number n.life j.ssn (next_number n)) refl stands-worked peer.0 peer.1 (stands-well (worked j state given n) c' n.me stands-worked, sym s.life, names))

@@ -12,7 +12,7 @@ use Rattle.cluster.specs.Rules.{Act, Drops, May, does}
 use Rattle.node.specs.Queue.{TheQueue, dropped_first, dropped_to}
 use Rattle.node.specs.Node.{TheNode, log_at}
 use Rattle.node.specs.Calls.{dropped_by}
-use Rattle.node.specs.Stands.{Stands, KeepsOf, IsShut, sent_by, Goes, Receives}
+use Rattle.node.specs.Stands.{Stands, KeepsOf, IsShut, sent_by, GoesOn, Receives}
 use Rattle.node.proofs.Logs.{changed-at}
 use Rattle.node.proofs.Putting.{stands-takes}
 use Rattle.node.proofs.Recording.{sent-is}
@@ -88,7 +88,7 @@ module _ (n : TheNode) (c : Cluster) (r k : ℕ) (s : Stands n c n.me) (low : r 
       subst P (sym same) (shut-dropped q many (length (c.history n.me)) (c.released n.me r) (sent_by c.handlers n.me (c.history n.me) r) few (s.gates r low other)))
       (λ apart. s.gates d l o)
 
-  goes-dropped : Goes n.me (dropped_by r k n) c
+  goes-dropped : GoesOn n.me (dropped_by r k n) c
   goes-dropped =
       record {
         acts = act ∷ [];

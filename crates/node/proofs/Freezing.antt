@@ -19,10 +19,10 @@ use Rattle.node.specs.declared.job.OpenJob.{OpenJob}
 use Rattle.node.specs.Node.{TheNode, Within, log_at, covered_of}
 use Rattle.node.specs.Sending.{released}
 use Rattle.node.specs.Saving.{may_freeze, froze, counts_from, thawed, says_covered, says_below, thaws, saved}
-use Rattle.node.specs.Stands.{Stands, HasReceived, IsShut, sent_by, Goes, Acts, phase_of, InOrderFrom}
+use Rattle.node.specs.Stands.{Stands, HasReceived, IsShut, sent_by, GoesOn, Acts, Saves, phase_of, InOrderFrom}
 use Rattle.node.proofs.Logs.{leading-bound}
 use Rattle.node.proofs.Putting.{stands-takes}
-use Rattle.node.proofs.Steps.{acts-self, acts-then, by-if}
+use Rattle.node.proofs.Steps.{acts-self, acts-then, goes-then, owes-at, by-if}
 use Rattle.node.proofs.Numbers.{InOrderFrom-same, InOrderFrom-joined}
 use Rattle.node.proofs.Arrivals.{counted, says-covered}
 use Rattle.node.proofs.Recording.{sent-size}
@@ -180,12 +180,15 @@ module _ (n : TheNode) (c : Cluster) (s : Stands n c n.me) (wait : n.frozen ≡ 
       ap (λ (a : ℕ → Bool). sent_by c.handlers n.me h d (run_to a (length h))) acknowledged-is ∙ ap (sent_by c.handlers n.me h d) run ∙ ap (λ (l : List Message). length (c.handlers.sends n.me l d)) (take_all (length h) h (omega arith)) in
       omega (arith, e, released-is d)
 
-  goes-thawed : Goes n.me (thawed n) c
+  may-keep : May c (Keeps n.me)
+  may-keep = (s.inside, waits-there)
+
+  goes-thawed : GoesOn n.me (thawed n) kept
   goes-thawed =
       record {
-        acts = Keeps n.me ∷ Thaws n.me ∷ [];
-        run = ((s.inside, waits-there), (may-thaw, tt));
-        by = (refl, (refl, tt));
+        acts = Thaws n.me ∷ [];
+        run = (may-thaw, tt);
+        by = (refl, tt);
         stands = record {
           me = refl;
           count = s.count;
@@ -229,11 +232,24 @@ saying-below n (suc d) low = by-if (Acts n) (d == n.me) (says_below n.me d n) (s
     acts-then n m (says_covered d m) (saying-below n d (omega (arith, low)))
     (by-if (Acts m) (nat_lt 0 (covered_of d m)) _ m (λ f. says-covered m d (omega (arith, low, count)) (λ g. apart (g ∙ me))) (λ f. acts-self m)))
 
-pub saves : (n : TheNode) → Within n → Acts n (saved n)
-saves n w = by-if (Acts n) n.frozen (thaws n) n here (λ e. acts-self n)
+pub saves : (n : TheNode) → Within n → Saves n (saved n)
+saves n w = (stays_so, here)
   where
-    here : n.frozen ≡ true → Acts n (thaws n)
-    here e =
-        let m = released (thawed n) in
-        acts-then n (thawed n) (thaws n) (λ c s u. goes-thawed n c s e w.wide)
-        (acts-then (thawed n) m (thaws n) (releasing (thawed n) w.logs_wide) (saying-below m (m.count + 1) (omega arith)))
+    stays_so : n.frozen ≡ false → saved n ≡ n
+    stays_so e = by-if (λ m. m ≡ n) n.frozen (thaws n) n (λ f. absurd (cc (e, f))) (λ f. refl)
+
+    m : TheNode
+    m = released (thawed n)
+
+    behind : Acts (thawed n) (thaws n)
+    behind = acts-then (thawed n) m (thaws n) (releasing (thawed n) w.logs_wide) (saying-below m (m.count + 1) (omega arith))
+
+    here : n.frozen ≡ true → (c : Cluster) → Stands n c n.me → May c (Keeps n.me) × GoesOn n.me (saved n) (does c (Keeps n.me))
+    here e c s =
+        let kept : Cluster = does c (Keeps n.me) in
+        let thaw : GoesOn n.me (thawed n) kept = goes-thawed n c s e w.wide in (
+          may-keep n c s e w.wide,
+          by-if (λ x. GoesOn n.me x kept) n.frozen (thaws n) n
+              (λ f. goes-then n.me (thawed n) (thaws n) kept thaw (λ d t. owes-at (λ z. Unit {0}) (thawed n) (thaws n) d n.me behind t tt))
+              (λ f. absurd (cc (e, f))),
+        )

@@ -26,7 +26,7 @@ use Rattle.node.specs.Queue.{TheQueue, no_queue}
 use Rattle.node.specs.Node.{TheNode, Within, log_at}
 use Rattle.node.specs.Saving.{counts_from}
 use Rattle.node.specs.Stands.{Stands, KeepsOf}
-use Rattle.node.specs.Kept.{with_own, without_own, log_of, kept_of, is_short, is_process, comes_back, queue_of, IsKeptOf, Covers, KeptStays}
+use Rattle.node.specs.Kept.{with_own, without_own, log_of, kept_of, is_short, is_process, comes_back, queue_of, resting, IsKeptOf, Covers, KeptStays}
 use Rattle.node.proofs.Arrivals.{counted}
 use Rattle.node.proofs.Commits.{long}
 use Rattle.node.proofs.Freezing.{counts-at, counts-length}
@@ -168,7 +168,7 @@ module _ (n : TheNode) (w : Within n) where
       ∙ get_or-map queue_of (map log_of n.logs) d (log_of no_queue) no_queue (omega (arith, wide-logs, low))
       ∙ ap queue_of (get_or-map log_of n.logs d no_queue (log_of no_queue) (omega (arith, w.logs_wide, low)))
 
-  module _ (c : Cluster) (s : Stands n c n.me) where
+  module _ (c : Cluster) (s : Stands (resting n) c n.me) where
     abbrev h : List Message
     h = c.history n.me
 
@@ -185,7 +185,7 @@ module _ (n : TheNode) (w : Within n) where
     counts-are q l =
         let inside : q < length n.covered = omega (arith, w.wide, l, s.count) in
         let low : q ≤ n.count = omega (arith, l, s.count) in
-        counts-at 0 q n.receipts n.covered inside ∙ ap (λ z. slice_index_or n.covered q 0 + length (numbers_of z n.receipts)) (let e : 0 + q ≡ q = omega arith in e) ∙ counted n c n.me q s low
+        counts-at 0 q n.receipts n.covered inside ∙ ap (λ z. slice_index_or n.covered q 0 + length (numbers_of z n.receipts)) (let e : 0 + q ≡ q = omega arith in e) ∙ counted (resting n) c n.me q s low
 
     logs-are : (d : ℕ) → d ≤ c.count → d ≢ n.me → KeepsOf (queue_of (log_of (log_at n.logs d))) (durable.saved_trims n.me d) (c.handlers.sends n.me h d) (λ _. None)
     logs-are d low apart =
@@ -203,7 +203,7 @@ module _ (n : TheNode) (w : Within n) where
           beyond = λ i l. refl;
         }
 
-    kept-of : IsKeptOf k durable n.me
+    pub kept-of : IsKeptOf k durable n.me
     kept-of =
         record {
           me = refl;
@@ -216,17 +216,41 @@ module _ (n : TheNode) (w : Within n) where
         }
 
 pub kept-covers : (n : TheNode) → Within n → Covers (kept_of n) n
-kept-covers n w wait c s = ((s.inside, s.stage ∙ rw wait refl), kept-of n w c s)
+kept-covers n w c s = ((s.inside, s.stage), kept-of n w c s)
+
+-- a node that waits for its checkpoint stands whatever it has still to send
+pub resting-stands : (n : TheNode) (c : Cluster) → n.frozen ≡ true → Stands n c n.me → Stands (resting n) c n.me
+resting-stands n c wait s =
+    record {
+      me = refl;
+      count = s.count;
+      inside = s.inside;
+      stage = s.stage ∙ rw wait refl;
+      greeted = s.greeted;
+      phase = s.phase;
+      works = s.works;
+      life = s.life;
+      state = s.state;
+      saved = s.saved;
+      received = s.received;
+      waits = s.waits;
+      logs = s.logs;
+      gates = s.gates;
+      free = s.free;
+      heard = s.heard;
+      resumed = s.resumed;
+      out = tt;
+    }
 
 -- ---- what is kept stays that
 
 -- of p the cluster d has the checkpoint of c, and the messages that it covers
-record SameKept (c d : Cluster) (p : ℕ) : Type 0 where
-  count : c.count ≡ d.count
-  handlers : c.handlers ≡ d.handlers
-  saved : c.saved p ≡ d.saved p
-  saved_trims : (r : ℕ) → c.saved_trims p r ≡ d.saved_trims p r
-  history : c.saved p ≤ length (c.history p) → (take (c.saved p) (d.history p) ≡ take (c.saved p) (c.history p)) × (c.saved p ≤ length (d.history p))
+pub record SameKept (c d : Cluster) (p : ℕ) : Type 0 where
+  pub count : c.count ≡ d.count
+  pub handlers : c.handlers ≡ d.handlers
+  pub saved : c.saved p ≡ d.saved p
+  pub saved_trims : (r : ℕ) → c.saved_trims p r ≡ d.saved_trims p r
+  pub history : c.saved p ≤ length (c.history p) → (take (c.saved p) (d.history p) ≡ take (c.saved p) (c.history p)) × (c.saved p ≤ length (d.history p))
 
 holds : {c d : Cluster} {p : ℕ} → c.count ≡ d.count → c.handlers ≡ d.handlers → c.saved p ≡ d.saved p → ((r : ℕ) → c.saved_trims p r ≡ d.saved_trims p r)
     → (c.saved p ≤ length (c.history p) → (take (c.saved p) (d.history p) ≡ take (c.saved p) (c.history p)) × (c.saved p ≤ length (d.history p))) → SameKept c d p
@@ -299,7 +323,7 @@ kept-same c p (Thaws q) other = holds refl refl refl (λ r. refl) (λ l. (refl, 
 kept-same c p (Dies q) other = holds refl refl refl (λ r. refl) (λ l. (refl, l))
 kept-same c p (Opens q n) other = holds refl refl refl (λ r. refl) (λ l. (refl, l))
 
-kept-still : (k : Kept) (c d : Cluster) (p : ℕ) → SameKept c d p → IsKeptOf k c p → IsKeptOf k d p
+pub kept-still : (k : Kept) (c d : Cluster) (p : ℕ) → SameKept c d p → IsKeptOf k c p → IsKeptOf k d p
 kept-still k c d p e s =
     let within : c.saved p ≤ length (c.history p) = omega (arith, s.saved, s.many) in
     let h = e.history within in

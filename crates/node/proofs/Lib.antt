@@ -12,6 +12,7 @@ pub mod Acknowledging
 pub mod Dropping
 pub mod Sendings
 pub mod Opening
+pub mod Opened
 pub mod PageLemmas
 pub mod Telling
 pub mod PairRanges

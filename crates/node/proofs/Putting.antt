@@ -10,7 +10,7 @@ use Rattle.packets.specs.declared.packet.Body as bodies
 use Rattle.packets.specs.declared.packet.Packet.{Packet}
 use Rattle.node.specs.Node.{TheNode, posts, packet_of}
 use Rattle.pages.specs.Says.{Says}
-use Rattle.node.specs.Stands.{Stands, Goes, PutOut, phase_of, stage_of, actor}
+use Rattle.node.specs.Stands.{Stands, Goes, GoesOn, PutOut, phase_of, stage_of, actor, own_act, Each}
 use Rattle.node.proofs.Lists.{all-more, all-pushed}
 
 up-with : (o : Option OpenJob) → is_up (phase_of o) ≡ true
@@ -62,7 +62,7 @@ stands-posted n c p to x b says s =
     }
 
 -- to put out what the cluster lets it
-pub posted : (n : TheNode) (c : Cluster) (to : ℕ) (x : bodies.Body) (b : Body) → Says n.me x b → Stands n c n.me → to ≤ n.count → to ≢ n.me → MayPut c n.me to b → Goes n.me (posts to x n) c
+pub posted : (n : TheNode) (c : Cluster) (to : ℕ) (x : bodies.Body) (b : Body) → Says n.me x b → Stands n c n.me → to ≤ n.count → to ≢ n.me → MayPut c n.me to b → GoesOn n.me (posts to x n) c
 posted n c to x b says s low other may =
     let within : to ≤ c.count = omega (arith, low, s.count) in
     record {
@@ -73,9 +73,9 @@ posted n c to x b says s low other may =
     }
 
 -- to do nothing
-pub stays : (n : TheNode) (c : Cluster) → Stands n c n.me → Goes n.me n c
+pub stays : (n : TheNode) (c : Cluster) → Stands n c n.me → GoesOn n.me n c
 stays n c s = record { acts = []; run = tt; by = tt; stands = s }
 
 -- after one more act
-pub goes-on : (p : ℕ) (n : TheNode) (c : Cluster) (a : Act) → May c a → actor a ≡ p → Goes p n (does c a) → Goes p n c
+pub goes-on : (p : ℕ) (n : TheNode) (c : Cluster) (a : Act) → May c a → own_act a ≡ Some p → GoesOn p n (does c a) → GoesOn p n c
 goes-on p n c a may by g = record { acts = a ∷ g.acts; run = (may, g.run); by = (by, g.by); stands = g.stands }

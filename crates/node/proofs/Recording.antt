@@ -16,7 +16,7 @@ use Rattle.cluster.specs.Rules.{Act, Records, May, does}
 use Rattle.packets.specs.declared.packet.Body.TheVariants as packets
 use Rattle.node.specs.Queue.{TheQueue, recorded, is_kept}
 use Rattle.node.specs.Node.{TheNode, posts, packet_of, log_at, numbered}
-use Rattle.node.specs.Stands.{Stands, KeepsOf, IsShut, sent_by, Goes, Receives, PutOut}
+use Rattle.node.specs.Stands.{Stands, KeepsOf, IsShut, sent_by, GoesOn, Receives, PutOut}
 use Rattle.node.proofs.Logs.{changed-at}
 use Rattle.node.proofs.Lists.{all-more, all-pushed}
 use Rattle.node.proofs.Putting.{stands-takes, is-up, put-still}
@@ -139,7 +139,7 @@ module _ (n : TheNode) (c : Cluster) (r i ssn k : ℕ) (s : Stands n c n.me) (lo
             (record { count_is = s.count; from = refl; said = (Acknowledgement i k, refl, inl refl) });
       }
 
-  goes-recorded : Goes n.me (posts r (packets.Acknowledgement i k) (numbered r ssn k n)) c
+  goes-recorded : GoesOn n.me (posts r (packets.Acknowledgement i k) (numbered r ssn k n)) c
   goes-recorded = record { acts = act ∷ []; run = (may, tt); by = (refl, tt); stands = stands-recorded }
 
 -- a number for a message that is still logged is noted, and its acknowledgement is put out

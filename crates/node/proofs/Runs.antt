@@ -24,11 +24,11 @@ use Rattle.node.proofs.Lists.{all-more}
 use Rattle.node.proofs.Putting.{put-still}
 use Rattle.node.proofs.Beside.{same, all-stand, stands-still, count-after}
 use Rattle.node.proofs.Opening.{stands-opened}
-use Rattle.node.proofs.Steps.{run-on, owes-at}
+use Rattle.node.proofs.Steps.{run-on, owes-at, on-goes, saves-goes}
 use Rattle.node.proofs.Outside.{SameOutside, outside-self, outside-still, may-too, outside-too}
 
 -- one message more is answered in the state that the others left
-state-more : (f : Answering) (p : ℕ) (s : List ℕ) (h : List Message) (m : Message) → state_from f p s (h ++ m ∷ []) ≡ (f p (state_from f p s h) m).state
+pub state-more : (f : Answering) (p : ℕ) (s : List ℕ) (h : List Message) (m : Message) → state_from f p s (h ++ m ∷ []) ≡ (f p (state_from f p s h) m).state
 state-more f p s [] m = refl
 state-more f p s (x ∷ h) m = state-more f p (f p s x).state h m
 
@@ -36,7 +36,7 @@ none-more : {X : Type 0} (xs : List X) → xs ++ [] ≡ xs
 none-more [] = refl
 none-more (x ∷ xs) = ap (λ l. x ∷ l) (none-more xs)
 
-sends-more : (f : Answering) (p : ℕ) (s : List ℕ) (h : List Message) (m : Message) (d : ℕ) → sends_from f p s (h ++ m ∷ []) d ≡ sends_from f p s h d ++ payloads_to d (f p (state_from f p s h) m).given
+pub sends-more : (f : Answering) (p : ℕ) (s : List ℕ) (h : List Message) (m : Message) (d : ℕ) → sends_from f p s (h ++ m ∷ []) d ≡ sends_from f p s h d ++ payloads_to d (f p (state_from f p s h) m).given
 sends-more f p s [] m d = none-more (payloads_to d (f p s m).given)
 sends-more f p s (x ∷ h) m d =
     ap (λ l. payloads_to d (f p s x).given ++ l) (sends-more f p (f p s x).state h m d)
@@ -162,7 +162,7 @@ of-gateway (Opens q n) o = absurd o
 acts-on : (f : Answering) (len : ℕ → ℕ) (s : System) (c : Cluster) (p : ℕ) (new : TheNode) → Holds (handlers_of f len) s c → 0 < p → p ≤ s.outside.count → Acts (s.nodes p) new → Onward (handlers_of f len) c (record s { nodes = put s.nodes p new })
 acts-on f len s c p new h some low owed =
     let at : Stands (s.nodes p) c p = stands-at (handlers_of f len) s c p some low h in
-    node-goes (handlers_of f len) s c p new some h (owes-at (λ d. Unit {0}) (s.nodes p) new c p owed at tt)
+    node-goes (handlers_of f len) s c p new some h (on-goes p new c (owes-at (λ d. Unit {0}) (s.nodes p) new c p owed at tt))
 
 -- each call
 call-goes : (f : Answering) (len : ℕ → ℕ) (s : System) (c : Cluster) (k : Call) → Holds (handlers_of f len) s c → DoesIt f s k → Onward (handlers_of f len) c (after_call s k)
@@ -200,13 +200,13 @@ call-goes f len s c (Gave p x new) h m =
 call-goes f len s c (Handed p x new) h m =
     let at : Stands (s.nodes p) c p = stands-at (handlers_of f len) s c p m.0 m.1 h in
     node-goes (handlers_of f len) s c p new m.0 h
-    (owes-at (λ d. WasSaid d.parcels x.from x.to x.body) (s.nodes p) new c p m.3 at (put-out (handlers_of f len) s c x h m.2).said)
+    (on-goes p new c (owes-at (λ d. WasSaid d.parcels x.from x.to x.body) (s.nodes p) new c p m.3 at (put-out (handlers_of f len) s c x h m.2).said))
 call-goes f len s c (Worked p a new) h m =
     let at : Stands (s.nodes p) c p = stands-at (handlers_of f len) s c p m.0 m.1 h in
-    node-goes (handlers_of f len) s c p new m.0 h (owes-at (Handles a.state a.given (s.nodes p)) (s.nodes p) new c p m.3 at (answers f len (s.nodes p) c p a h.handlers at m.2))
+    node-goes (handlers_of f len) s c p new m.0 h (on-goes p new c (owes-at (Handles a.state a.given (s.nodes p)) (s.nodes p) new c p m.3 at (answers f len (s.nodes p) c p a h.handlers at m.2)))
 call-goes f len s c (Ticked p new) h m = acts-on f len s c p new h m.0 m.1 m.2
 call-goes f len s c (Froze p new) h m = acts-on f len s c p new h m.0 m.1 m.2
-call-goes f len s c (Thawed p new) h m = acts-on f len s c p new h m.0 m.1 m.2
+call-goes f len s c (Thawed p new) h m = node-goes (handlers_of f len) s c p new m.0 h (saves-goes (s.nodes p) new c p m.2 (stands-at (handlers_of f len) s c p m.0 m.1 h))
 call-goes f len s c (Acted a) h m =
     record {
       acts = a ∷ [];

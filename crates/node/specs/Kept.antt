@@ -1,5 +1,5 @@
 -- What is kept of a process: what a node gives for it, which of it can come back, and what of a cluster it is
-use Rattle.std.specs.Prelude.{◌≡◌, ◌≢◌, ℕ, suc, ◌+◌, ◌*◌, ◌≤◌, List, ◌∷◌, ◌++◌, length, map, take, drop, slice_index_or, None, Bool, true, ◌&&◌, ◌==◌, nat_lt, nat_le}
+use Rattle.std.specs.Prelude.{◌≡◌, ◌≢◌, ℕ, suc, ◌+◌, ◌*◌, ◌≤◌, List, [], ◌∷◌, ◌++◌, length, map, take, drop, slice_index_or, None, Bool, true, ◌&&◌, ◌==◌, nat_lt, nat_le}
 use Rattle.std.specs.List.{list_all}
 use Rattle.world.specs.History.{count_of}
 use Rattle.cluster.specs.Cluster.{Cluster}
@@ -71,10 +71,14 @@ pub record IsKeptOf (k : Kept) (c : Cluster) (p : ℕ) : Type 0 where
   pub counts : (q : ℕ) → q ≤ c.count → slice_index_or (with_own 0 k.me k.counts) q 0 ≡ count_of q (take k.length (c.history p))
   pub logs : (d : ℕ) → d ≤ c.count → d ≢ p → KeepsOf (log_at (with_own no_queue k.me (map queue_of k.logs)) d) (c.saved_trims p d) (c.handlers.sends p (take k.length (c.history p)) d) (λ _. None)
 
--- a node waits for its checkpoint, and this is what it has: in each cluster in which it stands that may be durable, and is what the
--- checkpoint covers then
+-- the node as it waits for its checkpoint, whatever it has still to send
+abbrev pub resting : TheNode → TheNode
+resting n = record n { frozen = true; out = [] }
+
+-- this is what a node has: in each cluster in which it stands and waits for its checkpoint that may be durable, and is what the checkpoint
+-- covers then
 abbrev pub Covers : Kept → TheNode → Type 0
-Covers k n = n.frozen ≡ true → (c : Cluster) → Stands n c n.me → May c (Keeps n.me) × IsKeptOf k (does c (Keeps n.me)) n.me
+Covers k n = (c : Cluster) → Stands (resting n) c n.me → May c (Keeps n.me) × IsKeptOf k (does c (Keeps n.me)) n.me
 
 -- what is kept of p stays that, whatever happens but that a newer checkpoint of p is durable: at p too, and if it dies
 abbrev pub KeptStays : Type 0

@@ -12,7 +12,7 @@ use Rattle.cluster.specs.Promises.{NoOrphanNode, OutputOnce, ReceivedOnce}
 use Rattle.node.specs.declared.job.OpenJob.{OpenJob}
 use Rattle.node.specs.declared.job.Given.{Given}
 use Rattle.node.specs.Node.{TheNode, new_node}
-use Rattle.node.specs.Stands.{PutOut, Owes, Acts, Handles, Takes, IsHanded, job_of, payloads_to}
+use Rattle.node.specs.Stands.{PutOut, Owes, Acts, Saves, Handles, Takes, IsHanded, job_of, payloads_to}
 use Rattle.pages.specs.Says.{body_of}
 use Rattle.node.specs.Beside.{AllStand}
 
@@ -100,7 +100,7 @@ DoesIt f s (Handed p x new) = (0 < p) × (p ≤ s.outside.count) × CameFrom s x
 DoesIt f s (Worked p a new) = (0 < p) × (p ≤ s.outside.count) × IsAnswer f p (s.nodes p) a × Owes (Handles a.state a.given (s.nodes p)) (s.nodes p) new
 DoesIt f s (Ticked p new) = (0 < p) × (p ≤ s.outside.count) × Acts (s.nodes p) new
 DoesIt f s (Froze p new) = (0 < p) × (p ≤ s.outside.count) × Acts (s.nodes p) new
-DoesIt f s (Thawed p new) = (0 < p) × (p ≤ s.outside.count) × Acts (s.nodes p) new
+DoesIt f s (Thawed p new) = (0 < p) × (p ≤ s.outside.count) × Saves (s.nodes p) new
 DoesIt f s (Acted act) = IsGateway act × May s.outside act
 
 -- what a packet says is among the parcels that the gateway may take: none of these is a page

@@ -9,7 +9,7 @@ use Rattle.world.specs.World.{put}
 use Rattle.world.specs.Logs.{run_to}
 use Rattle.cluster.specs.Parcels.{Body, Parcel, parcel, In}
 use Rattle.cluster.specs.Cluster.{Cluster, Stage, Live, Frozen, waiting}
-use Rattle.cluster.specs.Rules.{Act, Input, Puts, Starts, Shows, Works, Replays, Records, Counts, Drops, Hears, Collects, Recovers, Obeys, Enters, Restores, Greets, Freezes, Keeps, Thaws, Dies, Opens, Run, after_run, IsNode, message}
+use Rattle.cluster.specs.Rules.{Act, Input, Puts, Starts, Shows, Works, Replays, Records, Counts, Drops, Hears, Collects, Recovers, Obeys, Enters, Restores, Greets, Freezes, Keeps, Thaws, Dies, Opens, May, does, Run, after_run, IsNode, message}
 use Rattle.packets.specs.declared.packet.Packet.{Packet}
 use Rattle.node.specs.declared.job.OpenJob.{OpenJob}
 use Rattle.node.specs.declared.job.Given.{Given}
@@ -141,9 +141,26 @@ pub record Goes (p : ℕ) (new : TheNode) (c : Cluster) : Type 0 where
   pub by : Each (λ (a : Act). actor a ≡ p) acts
   pub stands : Stands new (after_run c acts) p
 
+-- whose act it is, unless it changes what is stored durably
+abbrev pub own_act : Act → Option ℕ
+own_act (Keeps p) = None
+own_act (Opens p n) = None
+own_act act = Some (actor act)
+
+-- by acts of its own that leave what is stored durably, the process p goes from the cluster c to one of which this holds
+pub record GoesTo (p : ℕ) (P : Cluster → Type 0) (c : Cluster) : Type 0 where
+  pub acts : List Act
+  pub run : Run c acts
+  pub by : Each (λ (a : Act). own_act a ≡ Some p) acts
+  pub stands : P (after_run c acts)
+
+-- to one in which the new node stands
+abbrev pub GoesOn : ℕ → TheNode → Cluster → Type 0
+GoesOn p new c = GoesTo p (λ d. Stands new d p) c
+
 -- what a call owes, in each cluster in which the node stands, and which this holds of
 abbrev pub Owes : (Cluster → Type 0) → TheNode → TheNode → Type 0
-Owes given old new = (c : Cluster) → Stands old c old.me → given c → Goes old.me new c
+Owes given old new = (c : Cluster) → Stands old c old.me → given c → GoesOn old.me new c
 
 -- what one owes that is handed a packet of another that says this
 abbrev pub Receives : ℕ → Body → TheNode → TheNode → Type 0
@@ -152,6 +169,10 @@ Receives from body old new = Owes (λ c. In (parcel from old.me body) c.parcels)
 -- what one owes that is told nothing
 abbrev pub Acts : TheNode → TheNode → Type 0
 Acts old new = Owes (λ c. Unit {0}) old new
+
+-- what one owes that is told that its checkpoint is durable: where it waits for that, that may be, and it goes on from there
+abbrev pub Saves : TheNode → TheNode → Type 0
+Saves old new = (old.frozen ≡ false → new ≡ old) × (old.frozen ≡ true → (c : Cluster) → Stands old c old.me → May c (Keeps old.me) × GoesOn old.me new (does c (Keeps old.me)))
 
 -- the payloads of what a handler gives
 abbrev pub payloads_to : ℕ → List Given → List Payload

@@ -4,7 +4,7 @@ ghost use Rattle.std.specs.Prelude.{◌≡◌, ◌≤◌, ◌<◌, ◌+◌, ◌^
 ghost use Rattle.rsn.specs.Receipts.{numbers_of};
 ghost use Rattle.node.specs.Node.{IsPeer};
 ghost use Rattle.node.specs.Saving.{may_freeze, froze, counts_from, thawed, says_covered, says_below, thaws, saved};
-ghost use Rattle.node.specs.Stands.{Acts};
+ghost use Rattle.node.specs.Stands.{Acts, Saves};
 
 use crate::node::Node;
 use packets::Body;
@@ -42,7 +42,7 @@ impl Node {
     pub fn saved(&mut self, alloc: Global) -> Result<bool, AllocError>
         ensures waited { IfOk result (λ b. b ≡ self.old.frozen) }
         ensures value { OnOk result (self.new ≡ saved self.old) }
-        ensures acts { OnOk result (Acts self.old self.new) }
+        ensures acts { OnOk result (Saves self.old self.new) }
         ensures err { OnErr result (self.new ≡ self.old) }
     {
         // For the proof: reading a field tells the invariant.

@@ -18,12 +18,12 @@ use Rattle.node.proofs.Beside.{all-stand, stands-still, count-after}
 use Rattle.node.proofs.Lists.{all-more}
 use Rattle.node.proofs.Putting.{put-still}
 use Rattle.node.proofs.Opening.{stands-opened}
-use Rattle.node.proofs.Steps.{run-on, owes-at}
+use Rattle.node.proofs.Steps.{run-on, owes-at, on-goes, saves-goes}
 use Rattle.node.proofs.Runs.{grows, parcels-stay, one-was, answers}
 use Rattle.gateway.specs.Gateway.{TheGateway}
 use Rattle.gateway.specs.Stands as gateways
 use Rattle.gateway.proofs.Opening as gateway_opening
-use Rattle.together.specs.Together.{System, new_system, Call, Gave, Handed, Worked, Did, GaveOut, HandedOut, DidOut, IsFirst, DoesIt, after_call, Calls, after_calls, CallsRun}
+use Rattle.together.specs.Together.{System, new_system, Call, Gave, Handed, Worked, Did, Saved, GaveOut, HandedOut, DidOut, IsFirst, DoesIt, after_call, Calls, after_calls, CallsRun}
 use Rattle.together.proofs.Gateways.{gateway-stands, all-by-gateway}
 
 -- a packet was put out by whoever it says
@@ -113,13 +113,14 @@ call-goes f len n s c (Gave p x new) h m =
 call-goes f len n s c (Handed p x new) h m =
     let at : Stands (s.nodes p) c p = stands-at (handlers_of f len) n s c p m.0 h in
     node-goes (handlers_of f len) n s c p new m.0.0 h
-    (owes-at (λ d. WasSaid d.parcels x.from x.to x.body) (s.nodes p) new c p m.1.1 at (let o : WasPut c x = one-was (WasPut c) x s.given h.given m.1.0 in o.said))
+    (on-goes p new c (owes-at (λ d. WasSaid d.parcels x.from x.to x.body) (s.nodes p) new c p m.1.1 at (let o : WasPut c x = one-was (WasPut c) x s.given h.given m.1.0 in o.said)))
 call-goes f len n s c (Worked p a new) h m =
     let at : Stands (s.nodes p) c p = stands-at (handlers_of f len) n s c p m.0 h in
-    node-goes (handlers_of f len) n s c p new m.0.0 h (owes-at (Handles a.state a.given (s.nodes p)) (s.nodes p) new c p m.1.1 at (answers f len (s.nodes p) c p a h.handlers at m.1.0))
+    node-goes (handlers_of f len) n s c p new m.0.0 h (on-goes p new c (owes-at (Handles a.state a.given (s.nodes p)) (s.nodes p) new c p m.1.1 at (answers f len (s.nodes p) c p a h.handlers at m.1.0)))
 call-goes f len n s c (Did p new) h m =
     let at : Stands (s.nodes p) c p = stands-at (handlers_of f len) n s c p m.0 h in
-    node-goes (handlers_of f len) n s c p new m.0.0 h (owes-at (λ d. Unit {0}) (s.nodes p) new c p m.1 at tt)
+    node-goes (handlers_of f len) n s c p new m.0.0 h (on-goes p new c (owes-at (λ d. Unit {0}) (s.nodes p) new c p m.1 at tt))
+call-goes f len n s c (Saved p new) h m = node-goes (handlers_of f len) n s c p new m.0.0 h (saves-goes (s.nodes p) new c p m.1 (stands-at (handlers_of f len) n s c p m.0 h))
 call-goes f len n s c (GaveOut x new) h m =
     let took = m.1 c h.gateway in
     record {

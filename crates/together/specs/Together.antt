@@ -32,8 +32,10 @@ pub data Call : Type 0 where
   Handed : ℕ → Packet → TheNode → Call
   -- its handler answered
   Worked : ℕ → Answer → TheNode → Call
-  -- it sent again what isn't answered, made a checkpoint, or heard that this is durable
+  -- it sent again what isn't answered, or made a checkpoint
   Did : ℕ → TheNode → Call
+  -- it was told that this is durable
+  Saved : ℕ → TheNode → Call
   -- the gateway gave this packet
   GaveOut : Packet → TheGateway → Call
   -- it was handed this packet
@@ -51,6 +53,7 @@ DoesIt f n s (Gave p x new) = IsFirst n p × nodes.Takes (Some x) (s.nodes p) ne
 DoesIt f n s (Handed p x new) = IsFirst n p × (IsOne x s.given × nodes.IsHanded x (s.nodes p) new)
 DoesIt f n s (Worked p a new) = IsFirst n p × (IsAnswer f p (s.nodes p) a × nodes.Owes (nodes.Handles a.state a.given (s.nodes p)) (s.nodes p) new)
 DoesIt f n s (Did p new) = IsFirst n p × nodes.Acts (s.nodes p) new
+DoesIt f n s (Saved p new) = IsFirst n p × nodes.Saves (s.nodes p) new
 DoesIt f n s (GaveOut x new) = gateways.Takes (Some x) s.gateway new
 DoesIt f n s (HandedOut x new) = IsOne x s.given × gateways.IsHanded x s.gateway new
 DoesIt f n s (DidOut new) = gateways.Acts s.gateway new
@@ -60,6 +63,7 @@ after_call s (Gave p x new) = record s { nodes = put s.nodes p new; given = x �
 after_call s (Handed p x new) = record s { nodes = put s.nodes p new }
 after_call s (Worked p a new) = record s { nodes = put s.nodes p new }
 after_call s (Did p new) = record s { nodes = put s.nodes p new }
+after_call s (Saved p new) = record s { nodes = put s.nodes p new }
 after_call s (GaveOut x new) = record s { gateway = new; given = x ∷ s.given }
 after_call s (HandedOut x new) = record s { gateway = new }
 after_call s (DidOut new) = record s { gateway = new }

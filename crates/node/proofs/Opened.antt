@@ -1,0 +1,105 @@
+-- What is kept of a new node is what the opening's checkpoint covers
+use Rattle.std.proofs.Common.{◌≡◌, ℕ, zero, suc, ◌+◌, ◌^◌, ◌<◌, ◌≤◌, List, [], length, take, true, false, refl, sym, subst, arith}
+use Rattle.std.specs.Prelude.{None, replicate, sum, slice_index_or, is_some, if◌then◌else◌}
+use Rattle.std.proofs.lemmas.List.{length-replicate}
+use Rattle.theorems.proofs.Changes.{at-itself}
+use Rattle.world.specs.Handlers.{Handlers}
+use Rattle.cluster.specs.Cluster.{Cluster, Live, Frozen, opening}
+use Rattle.cluster.specs.Rules.{Freezes, Keeps, does}
+use Rattle.node.specs.Queue.{TheQueue, no_queue}
+use Rattle.node.specs.Node.{TheNode, Within, log_at, new_node}
+use Rattle.node.specs.Stands.{Stands, BeginsWith}
+use Rattle.node.specs.Kept.{kept_of, resting, IsKeptOf}
+use Rattle.node.proofs.Opening.{stands-opened}
+use Rattle.node.proofs.Keeping.{kept-of, kept-still}
+
+abbrev zeros : ℕ → List ℕ
+zeros n = replicate n 0
+
+none-counted : (n q : ℕ) → slice_index_or (zeros n) q 0 ≡ 0
+none-counted zero q = refl
+none-counted (suc n) zero = refl
+none-counted (suc n) (suc q) = none-counted n q
+
+none-summed : (n : ℕ) → sum (zeros n) ≡ 0
+none-summed zero = refl
+none-summed (suc n) = none-summed n
+
+none-logged : (n d : ℕ) → log_at (replicate n no_queue) d ≡ no_queue
+none-logged zero d = refl
+none-logged (suc n) zero = refl
+none-logged (suc n) (suc d) = none-logged n d
+
+module _ (me count len : ℕ) (some : 1 ≤ me) (low : me ≤ count) (few : count ≤ 15) where
+  abbrev n : TheNode
+  n = new_node me count len
+
+  -- its numbers are in their ranges
+  pub opened-within : Within n
+  opened-within =
+      record {
+        inside = some;
+        within = low;
+        few = few;
+        wide = omega (arith, length-replicate {A = ℕ} (count + 1) 0);
+        heard_wide = omega (arith, length-replicate {A = ℕ} (count + 1) 1);
+        resumed_wide = omega (arith, length-replicate (count + 1) true);
+        logs_wide = omega (arith, length-replicate (count + 1) no_queue);
+        counts = λ q. omega (arith, none-counted (count + 1) q);
+        peers = record { total = none-summed (count + 1); none_own = none-counted (count + 1) me; behind = tt };
+        young = omega arith;
+        bound = omega arith;
+        room = λ e. absurd (cc (e));
+        waits = omega arith;
+        own = tt;
+        numbered = tt;
+        rests = λ e. refl;
+        short = λ d. (let e : (log_at (replicate (count + 1) no_queue) d).dropped + length (log_at (replicate (count + 1) no_queue) d).payloads ≡ 0 = subst (λ (q : TheQueue). q.dropped + length q.payloads ≡ 0) (sym (none-logged (count + 1) d)) refl in omega (arith, e));
+        alive = (omega arith, omega arith);
+        fit = tt;
+      }
+
+  module _ (f : Handlers) (begins : BeginsWith f me len) where
+    abbrev c : Cluster
+    c = opening count f
+
+    abbrev waits : Cluster
+    waits = does c (Freezes me)
+
+    stands : Stands n c me
+    stands = stands-opened me count len f some low begins
+
+    stands-resting : Stands (resting n) waits me
+    stands-resting =
+        record {
+          me = refl;
+          count = refl;
+          inside = stands.inside;
+          stage = at-itself me (λ b. (if b then Frozen else Live) ≡ Frozen) refl;
+          greeted = refl;
+          phase = refl;
+          works = tt;
+          life = refl;
+          state = stands.state;
+          saved = refl;
+          received = stands.received;
+          waits = stands.waits;
+          logs = stands.logs;
+          gates = stands.gates;
+          free = stands.free;
+          heard = stands.heard;
+          resumed = stands.resumed;
+          out = tt;
+        }
+
+    pub kept-opened : IsKeptOf (kept_of n) c me
+    kept-opened =
+        kept-still (kept_of n) (does waits (Keeps me)) c me
+        (record {
+          count = refl;
+          handlers = refl;
+          saved = at-itself me (λ b. (if b then length (c.history me) else c.saved me) ≡ 0) refl;
+          saved_trims = λ r. at-itself me (λ b. (if b then c.trims me else c.saved_trims me) r ≡ 0) refl;
+          history = λ l. (refl, l);
+        })
+        (kept-of n opened-within waits stands-resting)
