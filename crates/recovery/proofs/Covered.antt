@@ -3,12 +3,11 @@ use Rattle.std.proofs.Common.{◌≡◌, ◌≢◌, ℕ, ◌<◌, [], ◌∷◌,
 use Rattle.std.specs.Prelude.{Some, None, if◌then◌else◌}
 use Rattle.theorems.proofs.Changes.{at-itself}
 use Rattle.cluster.specs.Cluster.{Cluster, Dead}
-use Rattle.cluster.specs.Rules.{Act, Keeps, Dies, IsNode}
+use Rattle.cluster.specs.Rules.{Act, Keeps, Dies, Opens, does}
 use Rattle.packets.specs.declared.kept.Kept.{Kept}
 use Rattle.node.proofs.Keeping.{kept-stays}
-use Rattle.recovery.specs.Stands.{IsKeptOf, StandsCollecting, own_act, GoesTo}
+use Rattle.recovery.specs.Stands.{IsKeptOf, StandsCollecting, own_act, GoesTo, Reopens}
 use Rattle.recovery.specs.Beside.{ComesBackAgain}
-use Rattle.recovery.proofs.Acts.{goes-one, goes-then}
 use Rattle.recovery.proofs.Lists.{each-more}
 
 -- an act of its own that isn't a checkpoint
@@ -25,15 +24,22 @@ kept-along k p P c s g =
       stands = (g.stands, kept-stays k p g.acts c (each-more (λ (a : Act). own_act a ≡ Some p) (λ (a : Act). a ≢ Keeps p) g.acts (λ a e. not-kept p a e) g.by) s);
     }
 
--- it is dead, and may come back from k
-abbrev MayRevive : Kept → ℕ → Cluster → Type 0
-MayRevive k life d = (d.stage k.me ≡ Dead) × (d.stored k.me < life) × IsKeptOf k d k.me × IsNode d k.me
+-- nor does it change when p is opened
+pub kept-reopened : (k : Kept) (p life : ℕ) (P : Cluster → Type 0) (c : Cluster) → IsKeptOf k c p → Reopens p life P c → Reopens p life (λ d. P d × IsKeptOf k d p) c
+kept-reopened k p life P c s r =
+    record {
+      skipped = r.skipped;
+      opens = r.opens;
+      incarnation = r.incarnation;
+      goes = kept-along k p P (does c (Opens p r.skipped)) (kept-stays k p (Opens p r.skipped ∷ []) c ((λ e. absurd (cc)), tt) s) r.goes;
+    }
 
 pub comes-again : ComesBackAgain
 comes-again k life n c revives inside alive early s =
     let me = k.me in
-    let died : GoesTo me (MayRevive k life) c =
-    goes-one me (MayRevive k life) c (Dies me) (inside, alive) refl
-    (at-itself me (λ b. (if b then Dead else c.stage me) ≡ Dead) refl, early, kept-stays k me (Dies me ∷ []) c ((λ e. absurd (cc)), tt) s, inside) in
-    goes-then me (MayRevive k life) (λ d. StandsCollecting n d me × IsKeptOf k d me) c died
-    (λ d t. kept-along k me (λ e. StandsCollecting n e me) d t.2 (revives d t.0 t.1 t.2 t.3))
+    let dead : Cluster = does c (Dies me) in
+    let kept : IsKeptOf k dead me = kept-stays k me (Dies me ∷ []) c ((λ e. absurd (cc)), tt) s in (
+      (inside, alive),
+      kept-reopened k me life (λ e. StandsCollecting n e me) dead kept
+          (revives dead (at-itself me (λ b. (if b then Dead else c.stage me) ≡ Dead) refl) early kept inside),
+    )

@@ -11,8 +11,7 @@ use Rattle.cluster.specs.Rules.{Opens, IsNode, does}
 use Rattle.packets.specs.declared.kept.Kept.{Kept}
 use Rattle.recovery.specs.Collected.{none_told}
 use Rattle.recovery.specs.Collecting.{told_of, begins, revived}
-use Rattle.recovery.specs.Stands.{IsTold, StandsCollecting, IsKeptOf, GoesTo, Revives}
-use Rattle.recovery.proofs.Acts.{goes-one, goes-then}
+use Rattle.recovery.specs.Stands.{IsTold, StandsCollecting, IsKeptOf, Reopens, Revives}
 use Rattle.recovery.proofs.Told.{told-none}
 use Rattle.recovery.proofs.Asking.{At, asking}
 
@@ -84,9 +83,8 @@ module _ (k : Kept) (life : ℕ) (c : Cluster) (dead : c.stage k.me ≡ Dead) (e
     alone = at-itself me (λ b. (if b then (λ _. None) else c.told me) me ≡ None) refl;
   }
 
-  goes-revived : GoesTo me (At (revived k life) me) c
-  goes-revived = goes-then me (At (begins k life) me) (At (revived k life) me) c (goes-one me (At (begins k life) me) c (Opens me skipped) (inside, dead) refl stands-begun)
-      (λ d t. asking (begins k life) d t tt)
+  goes-revived : Reopens me life (At (revived k life) me) c
+  goes-revived = record { skipped = skipped; opens = (inside, dead); incarnation = omega (arith, early); goes = asking (begins k life) c' stands-begun tt }
 
 pub revives : (k : Kept) (life : ℕ) → Revives k life (revived k life)
 revives k life c dead early s inside = goes-revived k life c dead early s inside

@@ -7,9 +7,9 @@ use Rattle.cluster.specs.Rules.{Keeps, Dies, May, IsNode, does, after_run}
 use Rattle.node.specs.Node.{TheNode, Within}
 use Rattle.node.specs.Stands.{Stands}
 use Rattle.node.specs.Kept.{kept_of, IsKeptOf}
-use Rattle.node.proofs.Keeping.{kept-covers, kept-stays}
+use Rattle.node.proofs.Keeping.{kept-covers, kept-stays, resting-stands}
 use Rattle.recovery.specs.Collecting.{revived}
-use Rattle.recovery.specs.Stands.{StandsCollecting, GoesTo}
+use Rattle.recovery.specs.Stands.{StandsCollecting, Reopens}
 use Rattle.recovery.specs.Kept.{WrittenRevives, KeptRevives}
 use Rattle.recovery.proofs.Reviving.{revives}
 
@@ -25,7 +25,7 @@ module _ (n : TheNode) (life : ℕ) (c : Cluster) (w : Within n) (s : Stands n c
   dead = does durable (Dies n.me)
 
   covers : May c (Keeps n.me) × IsKeptOf (kept_of n) durable n.me
-  covers = kept-covers n w wait c s
+  covers = kept-covers n w c (resting-stands n c wait s)
 
   may-die : May durable (Dies n.me)
   may-die = (s.inside, not-dead c n.me (s.stage ∙ rw wait refl))
@@ -36,7 +36,7 @@ module _ (n : TheNode) (life : ℕ) (c : Cluster) (w : Within n) (s : Stands n c
   still-kept : IsKeptOf (kept_of n) dead n.me
   still-kept = kept-stays (kept_of n) n.me (Dies n.me ∷ []) durable ((λ e. absurd (cc)), tt) covers.1
 
-  pub goes-written : May c (Keeps n.me) × May durable (Dies n.me) × GoesTo n.me (λ d. StandsCollecting (revived (kept_of n) life) d n.me) dead
+  pub goes-written : May c (Keeps n.me) × May durable (Dies n.me) × Reopens n.me life (λ d. StandsCollecting (revived (kept_of n) life) d n.me) dead
   goes-written = (covers.0, may-die, revives (kept_of n) life dead is-dead early still-kept s.inside)
 
 pub written-revives : WrittenRevives
@@ -46,5 +46,5 @@ pub kept-revives : KeptRevives
 kept-revives k life p acts c s others inside dead early =
     let still = kept-stays k p acts c others s in
     let me : k.me ≡ p = s.me in
-    let P : ℕ → Type 0 = λ q. (after_run c acts).stage q ≡ Dead → (after_run c acts).stored q < life → IsKeptOf k (after_run c acts) q → IsNode (after_run c acts) q → GoesTo q (λ d. StandsCollecting (revived k life) d q) (after_run c acts) in
+    let P : ℕ → Type 0 = λ q. (after_run c acts).stage q ≡ Dead → (after_run c acts).stored q < life → IsKeptOf k (after_run c acts) q → IsNode (after_run c acts) q → Reopens q life (λ d. StandsCollecting (revived k life) d q) (after_run c acts) in
     subst P me (revives k life (after_run c acts)) dead early still inside

@@ -1,11 +1,11 @@
 -- A process that comes back, beside others
 use Rattle.std.specs.Prelude.{◌≡◌, ◌≢◌, ℕ, ◌<◌, List}
 use Rattle.cluster.specs.Cluster.{Cluster, Dead}
-use Rattle.cluster.specs.Rules.{Act, after_run, IsNode}
+use Rattle.cluster.specs.Rules.{Act, Dies, May, does, after_run, IsNode}
 use Rattle.packets.specs.declared.kept.Kept.{Kept}
 use Rattle.node.specs.Stands.{Each, actor}
 use Rattle.recovery.specs.Collecting.{TheCollecting}
-use Rattle.recovery.specs.Stands.{StandsCollecting, IsKeptOf, GoesTo, Revives}
+use Rattle.recovery.specs.Stands.{StandsCollecting, IsKeptOf, Reopens, Revives}
 use Rattle.recovery.specs.Replaying.{TheReplaying}
 use Rattle.recovery.specs.StandsReplaying.{StandsReplaying}
 
@@ -17,7 +17,7 @@ OthersStand = (n : TheCollecting) (p q : ℕ) (acts : List Act) (c : Cluster) �
 abbrev pub ReplayingStands : Type 0
 ReplayingStands = (n : TheReplaying) (p q : ℕ) (acts : List Act) (c : Cluster) → q ≢ p → Each (λ (a : Act). actor a ≡ q) acts → StandsReplaying n c p → StandsReplaying n (after_run c acts) p
 
--- where k is what is kept of a process, it may die, and come back from k in an incarnation that wasn't stored yet: k stays what is kept
+-- where k is what is kept of a process, it may die, and is opened from k in an incarnation that wasn't stored yet: k stays what is kept
 abbrev pub ComesBackAgain : Type 0
 ComesBackAgain = (k : Kept) (life : ℕ) (n : TheCollecting) (c : Cluster) → Revives k life n → IsNode c k.me → c.stage k.me ≢ Dead → c.stored k.me < life → IsKeptOf k c k.me
-    → GoesTo k.me (λ d. StandsCollecting n d k.me × IsKeptOf k d k.me) c
+    → May c (Dies k.me) × Reopens k.me life (λ d. StandsCollecting n d k.me × IsKeptOf k d k.me) (does c (Dies k.me))

@@ -1,15 +1,16 @@
 -- Which clusters a process stands in that comes back, and what a call owes
-use Rattle.std.specs.Prelude.{◌≡◌, ◌≢◌, ℕ, ◌<◌, ◌≤◌, List, [], ◌∷◌, length, take, Option, Some, None, Bool, true, false, slice_index_or}
+use Rattle.std.specs.Prelude.{◌≡◌, ◌≢◌, ℕ, suc, ◌+◌, ◌<◌, ◌≤◌, List, [], ◌∷◌, length, take, Option, Some, None, Bool, true, false, slice_index_or}
 use Rattle.world.specs.declared.message.Message.{Message}
 use Rattle.world.specs.History.{count_of}
 use Rattle.cluster.specs.Parcels.{reaches}
 use Rattle.cluster.specs.Cluster.{Cluster, Collected, Dead, Collecting}
-use Rattle.cluster.specs.Rules.{Act, Keeps, Run, after_run, IsNode, Asks, IsAll, entry_in}
+use Rattle.cluster.specs.Rules.{Opens, May, does, IsNode, Asks, IsAll, entry_in}
 use Rattle.packets.specs.declared.packet.Packet.{Packet}
 use Rattle.packets.specs.declared.page.Entry.{Entry}
 use Rattle.packets.specs.declared.kept.Kept.{Kept}
 use Rattle.node.specs.Node.{log_at}
-use Rattle.node.specs.Stands.{Each, PutOut, KeepsOf, actor}
+use Rattle.node.specs.Stands.{Each, PutOut, KeepsOf}
+pub use Rattle.node.specs.Stands.{own_act, GoesTo}
 use Rattle.recovery.specs.Own.{TheOwn}
 use Rattle.pages.specs.Says.{WasSaid, first_told}
 pub use Rattle.node.specs.Kept.{IsKeptOf}
@@ -52,22 +53,17 @@ pub record StandsCollecting (n : TheCollecting) (c : Cluster) (p : ℕ) : Type 0
   -- nor did it tell itself anything
   pub alone : c.told p p ≡ None
 
--- whose act it is, unless a checkpoint becomes durable
-abbrev pub own_act : Act → Option ℕ
-own_act (Keeps p) = None
-own_act act = Some (actor act)
-
--- by acts of its own, and no checkpoint, the process p goes from the cluster c to one of which this holds
-pub record GoesTo (p : ℕ) (P : Cluster → Type 0) (c : Cluster) : Type 0 where
-  pub acts : List Act
-  pub run : Run c acts
-  pub by : Each (λ (a : Act). own_act a ≡ Some p) acts
-  pub stands : P (after_run c acts)
+-- p is opened in this incarnation, those before it are skipped that weren't stored yet, and it goes on from there
+pub record Reopens (p life : ℕ) (P : Cluster → Type 0) (c : Cluster) : Type 0 where
+  pub skipped : ℕ
+  pub opens : May c (Opens p skipped)
+  pub incarnation : suc (skipped + c.stored p) ≡ life
+  pub goes : GoesTo p P (does c (Opens p skipped))
 
 -- what it owes that comes back: where p is dead, what is kept is what its checkpoint covers, and no incarnation from this one on was
--- stored, it goes on to one in which it stands
+-- stored, it is opened in this one, and goes on to a cluster in which it stands
 abbrev pub Revives : Kept → ℕ → TheCollecting → Type 0
-Revives k life n = (c : Cluster) → c.stage k.me ≡ Dead → c.stored k.me < life → IsKeptOf k c k.me → IsNode c k.me → GoesTo k.me (λ d. StandsCollecting n d k.me) c
+Revives k life n = (c : Cluster) → c.stage k.me ≡ Dead → c.stored k.me < life → IsKeptOf k c k.me → IsNode c k.me → Reopens k.me life (λ d. StandsCollecting n d k.me) c
 
 -- what a call owes of one that collects: from each cluster in which it stood, and of which this holds, to one in which it stands
 abbrev pub Owes : (Cluster → Type 0) → TheCollecting → TheCollecting → Type 0
