@@ -1,0 +1,43 @@
+-- The gateway, as it is durable and as it is
+use Rattle.std.proofs.Common.{◌++◌, sym, subst}
+use Rattle.cluster.specs.Parcels.{Parcel, In}
+use Rattle.cluster.specs.Cluster.{Cluster}
+use Rattle.cluster.specs.Rules.{after_run}
+use Rattle.gateway.specs.Deeds.{IsByGateway}
+use Rattle.gateway.specs.Gateway.{TheGateway}
+use Rattle.gateway.specs.Stands.{Stands, Goes, Owes}
+use Rattle.gateway.proofs.Steps.{stays, all-append}
+use Rattle.node.proofs.Steps.{run-on}
+use Rattle.node.proofs.Runs.{parcels-stay}
+
+-- all that was put out in the one was put out in the other
+abbrev pub PutsMore : Cluster → Cluster → Type 0
+PutsMore c d = (x : Parcel) → In x c.parcels → In x d.parcels
+
+-- wherever the one stands, and all was put out that was here, the gateway goes on to the other: its acts wait until they are durable
+abbrev pub Ahead : TheGateway → TheGateway → Cluster → Type 0
+Ahead durable now c = (d : Cluster) → Stands durable d → PutsMore c d → Goes now d
+
+pub ahead-none : (g : TheGateway) (c : Cluster) → Ahead g g c
+ahead-none g c d s more = stays g d s
+
+-- where more was put out
+pub ahead-still : (durable now : TheGateway) (b c : Cluster) → PutsMore b c → Ahead durable now b → Ahead durable now c
+ahead-still durable now b c more h d s all = h d s (λ x i. all x (more x i))
+
+-- it goes on from where it went
+goes-behind : (mid new : TheGateway) (c : Cluster) → (g : Goes mid c) → Goes new (after_run c g.acts) → Goes new c
+goes-behind mid new c g m =
+    let both = run-on c g.acts m.acts g.run m.run in
+    record {
+      acts = g.acts ++ m.acts;
+      run = both.0;
+      by = all-append IsByGateway g.acts m.acts g.by m.by;
+      stands = subst (Stands new) (sym both.1) m.stands;
+    }
+
+-- after a call, where what it is given holds wherever all this was put out
+pub ahead-acts : (given : Cluster → Type 0) (durable now new : TheGateway) (c : Cluster) → ((d : Cluster) → PutsMore c d → given d) → Owes given now new → Ahead durable now c → Ahead durable new c
+ahead-acts given durable now new c holds owed h d s all =
+    let g : Goes now d = h d s all in
+    goes-behind now new d g (owed (after_run d g.acts) g.stands (holds (after_run d g.acts) (λ x i. parcels-stay d g.acts x (all x i))))

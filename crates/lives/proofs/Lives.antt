@@ -1,0 +1,262 @@
+-- Calls of processes and of the gateway, one after another
+use Rattle.std.proofs.Common.{◌≡◌, ◌≢◌, ℕ, ◌≤◌, List, [], ◌∷◌, ◌++◌, Bool, true, false, refl, sym, ◌∙◌, subst, arith}
+use Rattle.std.specs.Prelude.{◌==◌, if◌then◌else◌}
+use Rattle.std.proofs.lemmas.Bool.Decides.{nat_tests}
+use Rattle.theorems.proofs.Changes.{at-itself}
+use Rattle.world.specs.Handlers.{Handlers}
+use Rattle.world.specs.World.{put}
+use Rattle.packets.specs.declared.packet.Packet.{Packet}
+use Rattle.cluster.specs.Parcels.{parcel}
+use Rattle.cluster.specs.Cluster.{Cluster, opening}
+use Rattle.cluster.specs.Rules.{Act, Run, does, after_run}
+use Rattle.cluster.proofs.Runs as worlds
+use Rattle.cluster.proofs.Promised.{nodes-keep}
+use Rattle.node.specs.Node.{new_node}
+use Rattle.node.specs.Kept.{kept_of}
+use Rattle.node.specs.Stands.{Each, PutOut, actor, BeginsWith}
+use Rattle.node.specs.Runs.{Answering, handlers_of}
+use Rattle.node.proofs.Beside.{count-after}
+use Rattle.node.proofs.Lists.{all-more}
+use Rattle.node.proofs.Opening.{stands-opened}
+use Rattle.node.proofs.Opened.{kept-opened}
+use Rattle.node.proofs.Putting.{put-still}
+use Rattle.node.proofs.Steps.{run-on}
+use Rattle.node.proofs.Runs.{grows, parcels-stay, one-was}
+use Rattle.gateway.specs.Gateway.{TheGateway, new_gateway}
+use Rattle.gateway.specs.Stands as gateways
+use Rattle.gateway.proofs.Opening as gateway_opening
+use Rattle.together.specs.Together.{IsFirst}
+use Rattle.together.proofs.Gateways.{gateway-stands, all-by-gateway}
+use Rattle.lives.specs.Process.{Process, Collects, Killed, StandsAs, covered}
+use Rattle.lives.specs.System.{System, new_system, AreStored, Call, Gave, Handed, Worked, Did, Stored, Saved, Died, Revived, GaveOut, HandedOut, DidOut, StoredOut, RevivedOut, DoesIt, after_call, Calls, after_calls, AreStoredOf, AllStand, LivesRun}
+use Rattle.lives.proofs.Moves.{Moves, stands-still, stored-still, lives-still}
+use Rattle.lives.proofs.Steps.{giving, hearing, working, acting, storing, telling, dying, reviving}
+use Rattle.lives.proofs.Gateways.{Ahead, PutsMore, ahead-none, ahead-still, ahead-acts}
+
+-- a packet was put out by whoever it says
+abbrev WasPut : Cluster → Packet → Type 0
+WasPut c x = PutOut c.count c.parcels x.from x
+
+-- a cluster of n in which all of a system stand, of which a lawful world is believed, and in which was put out what was given
+pub record Holds (f : Handlers) (n : ℕ) (s : System) (c : Cluster) : Type 0 where
+  pub count : c.count ≡ n
+  pub few : n ≤ 15
+  pub believed : worlds.Holds c
+  pub processes : (p : ℕ) → IsFirst n p → StandsAs (s.processes p) c p
+  pub stored : (p : ℕ) → IsFirst n p → AreStoredOf (s.stored p) (s.processes p) c p
+  pub lives : (p : ℕ) → IsFirst n p → c.stored p ≤ s.lives p
+  pub durable : gateways.Stands s.durable c
+  pub ahead : Ahead s.durable s.gateway c
+  pub given : Each (WasPut c) s.given
+  pub handlers : c.handlers ≡ f
+
+-- the cluster runs on to one that does
+pub record Onward (f : Handlers) (n : ℕ) (c : Cluster) (s : System) : Type 0 where
+  pub acts : List Act
+  pub run : Run c acts
+  pub holds : Holds f n s (after_run c acts)
+
+-- what is believed is after a run
+believed-along : (c : Cluster) (ran : List Act) → c.count ≤ 15 → worlds.Holds c → Run c ran → worlds.Holds (after_run c ran)
+believed-along c [] few h r = h
+believed-along c (a ∷ ran) few h r = let t = worlds.step-holds c a few h r.0 in believed-along (does c a) ran t.1 t.0 r.1
+
+given-still : (c : Cluster) (ran : List Act) (xs : List Packet) → Each (WasPut c) xs → Each (WasPut (after_run c ran)) xs
+given-still c ran xs h = all-more (WasPut c) (WasPut (after_run c ran)) xs (λ x o. put-still c (after_run c ran) x.from x (sym (count-after c ran)) (λ b i. parcels-stay c ran (parcel x.from x.to b) i) o) h
+
+-- of a function that is changed at p, what holds at each place
+at-each : {X : Type 0} (P : ℕ → X → Type 0) (f : ℕ → X) (p q : ℕ) (x : X) → (q ≢ p → P q (f q)) → P p x → P q (put f p x q)
+at-each {X} P f p q x others here = split (q == p) refl
+  where
+    split : (b : Bool) → (q == p) ≡ b → P q (if b then x else f q)
+    split true e = let same : p ≡ q = grind (arith, nat_tests) in subst (λ k. P k x) same here
+    split false e = others (let apart : q ≢ p = grind (arith, nat_tests) in apart)
+
+module _ (f : Handlers) (n : ℕ) (s : System) (c : Cluster) (h : Holds f n s c) where
+  small : c.count ≤ 15
+  small = subst (λ k. k ≤ 15) (sym h.count) h.few
+
+  -- a process goes on, and these are stored of all
+  pub process-goes : (p : ℕ) (new : Process) (stored : ℕ → List ℕ) (lives : ℕ → ℕ) → ((q : ℕ) → q ≢ p → stored q ≡ s.stored q) → ((q : ℕ) → q ≢ p → lives q ≡ s.lives q) → IsFirst n p → Moves p new (stored p) (lives p) c
+      → Onward f n c (record s { processes = put s.processes p new; stored = stored; lives = lives })
+  process-goes p new stored lives same_stored same_lives first m =
+      record {
+        acts = m.acts;
+        run = m.run;
+        holds = record {
+          count = count-after c m.acts ∙ h.count;
+          few = h.few;
+          believed = believed-along c m.acts small h.believed m.run;
+          processes = λ q l. at-each (λ k z. StandsAs z (after_run c m.acts) k) s.processes p q new (λ o. stands-still (s.processes q) q p m.acts c (λ e. o (sym e)) m.by (h.processes q l)) m.stands;
+          stored = λ q l. at-each (λ k z. AreStoredOf (stored k) z (after_run c m.acts) k) s.processes p q new
+              (λ o. subst (λ bytes. AreStoredOf bytes (s.processes q) (after_run c m.acts) q) (sym (same_stored q o)) (stored-still (s.stored q) (s.processes q) q p m.acts c (λ e. o (sym e)) m.by (h.stored q l))) m.stored;
+          lives = λ q l. at-each (λ k z. (after_run c m.acts).stored k ≤ lives k) s.processes p q new
+              (λ o. subst (λ life. (after_run c m.acts).stored q ≤ life) (sym (same_lives q o)) (lives-still (s.lives q) q p m.acts c (λ e. o (sym e)) m.by (h.lives q l))) m.lives;
+          durable = gateway-stands s.durable c p m.acts first.0 m.by h.durable;
+          ahead = ahead-still s.durable s.gateway c (after_run c m.acts) (parcels-stay c m.acts) h.ahead;
+          given = given-still c m.acts s.given h.given;
+          handlers = worlds.run-handlers c m.acts ∙ h.handlers;
+        };
+      }
+
+  -- where nothing is stored
+  process-acts : (p : ℕ) (new : Process) → IsFirst n p → Moves p new (s.stored p) (s.lives p) c → Onward f n c (record s { processes = put s.processes p new })
+  process-acts p new first m = process-goes p new s.stored s.lives (λ q o. refl) (λ q o. refl) first m
+
+  -- the gateway goes on, and is durable so
+  gateway-goes : (new : TheGateway) → gateways.Goes new c → Onward f n c (record s { gateway = new; durable = new })
+  gateway-goes new g =
+      let by : Each (λ (a : Act). actor a ≡ 0) g.acts = all-by-gateway g.acts g.by in
+      record {
+        acts = g.acts;
+        run = g.run;
+        holds = record {
+          count = count-after c g.acts ∙ h.count;
+          few = h.few;
+          believed = believed-along c g.acts small h.believed g.run;
+          processes = λ q l. stands-still (s.processes q) q 0 g.acts c (λ e. absurd (omega (arith, l.0, e))) by (h.processes q l);
+          stored = λ q l. stored-still (s.stored q) (s.processes q) q 0 g.acts c (λ e. absurd (omega (arith, l.0, e))) by (h.stored q l);
+          lives = λ q l. lives-still (s.lives q) q 0 g.acts c (λ e. absurd (omega (arith, l.0, e))) by (h.lives q l);
+          durable = g.stands;
+          ahead = ahead-none new (after_run c g.acts);
+          given = given-still c g.acts s.given h.given;
+          handlers = worlds.run-handlers c g.acts ∙ h.handlers;
+        };
+      }
+
+  -- it goes on, and isn't durable yet
+  gateway-waits : (new : TheGateway) → Ahead s.durable new c → Onward f n c (record s { gateway = new })
+  gateway-waits new a =
+      record {
+        acts = [];
+        run = tt;
+        holds = record { count = h.count; few = h.few; believed = h.believed; processes = h.processes; stored = h.stored; lives = h.lives; durable = h.durable; ahead = a; given = h.given; handlers = h.handlers };
+      }
+
+-- a packet more was given
+given-more : (f : Handlers) (n : ℕ) (c : Cluster) (s : System) (x : Packet) → WasPut c x → Onward f n c s → Onward f n c (record s { given = x ∷ s.given })
+given-more f n c s x o w =
+    let h = w.holds in
+    record {
+      acts = w.acts;
+      run = w.run;
+      holds = record {
+        count = h.count;
+        few = h.few;
+        believed = h.believed;
+        processes = h.processes;
+        stored = h.stored;
+        lives = h.lives;
+        durable = h.durable;
+        ahead = h.ahead;
+        given = ((given-still c w.acts (x ∷ []) (o, tt)).0, h.given);
+        handlers = h.handlers;
+      };
+    }
+
+-- what a packet of a process says, as one of its own number
+from-own : (c : Cluster) (p : ℕ) (x : Packet) → PutOut c.count c.parcels p x → WasPut c x
+from-own c p x o = subst (λ k. PutOut c.count c.parcels k x) (sym o.from) o
+
+-- what one of the gateway says
+from-gateway : (c : Cluster) (x : Packet) → gateways.PutOut c.count c.parcels x → WasPut c x
+from-gateway c x o = from-own c 0 x (record { count_is = o.count_is; from = o.from; said = (o.said.body, o.said.says, o.said.among) })
+
+-- and what the gateway is told by it, wherever all was put out that was here
+to-gateway : (c d : Cluster) (x : Packet) → PutsMore c d → WasPut c x → gateways.WasSaid d.parcels x.from x
+to-gateway c d x more o = record { body = o.said.0; says = o.said.1; among = more (parcel x.from x.to o.said.0) o.said.2 }
+
+-- what is changed at p alone
+elsewhere : {X : Type 0} (f : ℕ → X) (p q : ℕ) (x : X) → q ≢ p → put f p x q ≡ f q
+elsewhere f p q x other = let e : (q == p) ≡ false = grind (arith, nat_tests) in rw e refl
+
+-- each call
+call-goes : (f : Answering) (len : ℕ → ℕ) (n : ℕ) (s : System) (c : Cluster) (k : Call) → Holds (handlers_of f len) n s c → DoesIt f n s k → Onward (handlers_of f len) n c (after_call s k)
+call-goes f len n s c (Gave p x new) h m =
+    let g = giving c p (s.stored p) (s.lives p) (h.lives p m.0) x (s.processes p) new m.1 (h.processes p m.0) (h.stored p m.0) in
+    given-more (handlers_of f len) n c (record s { processes = put s.processes p new }) x (from-own c p x g.0) (process-acts (handlers_of f len) n s c h p new m.0 g.1)
+call-goes f len n s c (Handed p x new) h m =
+    let o : WasPut c x = one-was (WasPut c) x s.given h.given m.1.0 in
+    process-acts (handlers_of f len) n s c h p new m.0 (hearing c p (s.stored p) (s.lives p) (h.lives p m.0) x (s.processes p) new m.1.1 o.said (h.processes p m.0) (h.stored p m.0))
+call-goes f len n s c (Worked p a new) h m =
+    process-acts (handlers_of f len) n s c h p new m.0 (working c p (s.stored p) (s.lives p) (h.lives p m.0) f len a (s.processes p) new m.1 h.handlers h.believed (h.processes p m.0) (h.stored p m.0))
+call-goes f len n s c (Did p new) h m =
+    process-acts (handlers_of f len) n s c h p new m.0 (acting c p (s.stored p) (s.lives p) (h.lives p m.0) (s.processes p) new m.1 h.believed (h.processes p m.0) (h.stored p m.0))
+call-goes f len n s c (Stored p bytes) h m =
+    let P : List ℕ → Type 0 = λ b. Moves p (covered (s.processes p)) b (s.lives p) c in
+    process-goes (handlers_of f len) n s c h p (covered (s.processes p)) (put s.stored p bytes) s.lives (λ q o. elsewhere s.stored p q bytes o) (λ q o. refl) m.0
+    (at-itself p (λ b. P (if b then bytes else s.stored p)) (storing c p bytes (s.lives p) (h.lives p m.0) (s.stored p) (s.processes p) m.1 (h.processes p m.0) (h.stored p m.0)))
+call-goes f len n s c (Saved p new) h m =
+    process-acts (handlers_of f len) n s c h p new m.0 (telling c p (s.stored p) (s.lives p) (h.lives p m.0) (s.processes p) new m.1 (h.processes p m.0) (h.stored p m.0))
+call-goes f len n s c (Died p) h m = process-acts (handlers_of f len) n s c h p Killed m (dying c p (s.stored p) (s.lives p) (s.processes p) (h.lives p m) (h.processes p m) (h.stored p m))
+call-goes f len n s c (Revived p life new) h m =
+    let P : ℕ → Type 0 = λ l. Moves p (Collects new) (s.stored p) l c in
+    process-goes (handlers_of f len) n s c h p (Collects new) s.stored (put s.lives p life) (λ q o. refl) (λ q o. elsewhere s.lives p q life o) m.0
+    (at-itself p (λ b. P (if b then life else s.lives p)) (reviving c p (s.stored p) (s.processes p) (s.lives p) life new m.1.0 (h.lives p m.0) m.1.1.0 m.1.1.1 (h.processes p m.0) (h.stored p m.0)))
+call-goes f len n s c (GaveOut x new) h m =
+    let took = m.1.1 c (subst (λ g. gateways.Stands g c) m.0 h.durable) in
+    given-more (handlers_of f len) n c (record s { gateway = new; durable = new }) x (from-gateway c x took.0)
+    (gateway-goes (handlers_of f len) n s c h new (record { acts = []; run = tt; by = tt; stands = took.1 }))
+call-goes f len n s c (HandedOut x new) h m =
+    let o : WasPut c x = one-was (WasPut c) x s.given h.given m.0 in
+    gateway-waits (handlers_of f len) n s c h new (ahead-acts (λ d. gateways.WasSaid d.parcels x.from x) s.durable s.gateway new c (λ d more. to-gateway c d x more o) m.1 h.ahead)
+call-goes f len n s c (DidOut new) h m = gateway-waits (handlers_of f len) n s c h new (ahead-acts (λ d. Unit {0}) s.durable s.gateway new c (λ d more. tt) m h.ahead)
+call-goes f len n s c StoredOut h m = gateway-goes (handlers_of f len) n s c h s.gateway (h.ahead c h.durable (λ x i. i))
+call-goes f len n s c (RevivedOut new) h m =
+    gateway-goes (handlers_of f len) n s c h new (record { acts = []; run = tt; by = tt; stands = (m s.durable refl).0 c h.durable })
+
+pub calls-go : (f : Answering) (len : ℕ → ℕ) (n : ℕ) (s : System) (c : Cluster) (ks : List Call) → Holds (handlers_of f len) n s c → Calls f n s ks → Onward (handlers_of f len) n c (after_calls s ks)
+calls-go f len n s c [] h m = record { acts = []; run = tt; holds = h }
+calls-go f len n s c (k ∷ ks) h m =
+    let one = call-goes f len n s c k h m.0 in
+    let rest = calls-go f len n (after_call s k) (after_run c one.acts) ks one.holds m.1 in
+    let both = run-on c one.acts rest.acts one.run rest.run in
+    record {
+      acts = one.acts ++ rest.acts;
+      run = both.0;
+      holds = subst (Holds (handlers_of f len) n (after_calls (after_call s k) ks)) (sym both.1) rest.holds;
+    }
+
+-- at the opening all stand
+pub begins : (f : Answering) (n page tick : ℕ) (len : ℕ → ℕ) (bytes : ℕ → List ℕ) → n ≤ 15 → AreStored n len bytes → Holds (handlers_of f len) n (new_system n len bytes page tick) (opening n (handlers_of f len))
+begins f n page tick len bytes few stored =
+    let g : Handlers = handlers_of f len in
+    let begin : (p : ℕ) → BeginsWith g p (len p) = λ p. record { state_is = refl; sends_are = λ d. refl } in
+    record {
+      count = refl;
+      few = few;
+      believed = worlds.opens-holds n g (grows f len);
+      processes = λ p l. stands-opened p n (len p) g l.0 l.1 (begin p);
+      stored = λ p l. (kept_of (new_node p n (len p)), (stored p l, kept-opened p n (len p) l.0 l.1 few g (begin p)));
+      lives = λ p l. (let e : 1 ≤ 1 = omega arith in e);
+      durable = gateway_opening.stands-opened n page tick g;
+      ahead = ahead-none (new_gateway n page tick) (opening n g);
+      given = tt;
+      handlers = refl;
+    }
+
+-- where all hold, all stand
+pub all-stand : (f : Handlers) (n : ℕ) (s : System) (c : Cluster) → Holds f n s c → AllStand n s c
+all-stand f n s c h =
+    record {
+      processes = h.processes;
+      stored = h.stored;
+      lives = h.lives;
+      durable = h.durable;
+      gateway = h.ahead c h.durable (λ x i. i);
+      shown = λ p first. h.durable.shown p (first.0, subst (λ k. p ≤ k) (sym h.count) first.1);
+    }
+
+pub lives-run : LivesRun
+lives-run f n page tick len bytes calls few stored m =
+    let g : Handlers = handlers_of f len in
+    let all = calls-go f len n (new_system n len bytes page tick) (opening n g) calls (begins f n page tick len bytes few stored) m in
+    let keeps = nodes-keep n g all.acts few (grows f len) all.run in
+    record {
+      acts = all.acts;
+      run = all.run;
+      stand = all-stand g n (after_calls (new_system n len bytes page tick) calls) (after_run (opening n g) all.acts) all.holds;
+      no_orphan = keeps.0;
+      output_once = keeps.1;
+      received_once = keeps.2;
+    }

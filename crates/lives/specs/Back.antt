@@ -1,0 +1,59 @@
+-- What comes back of a process is what was lost
+use Rattle.std.specs.Prelude.{◌≡◌, ℕ, ◌+◌, ◌≤◌, List, ◌∷◌, ◌++◌, length, take}
+use Rattle.world.specs.declared.message.Message.{Message}
+use Rattle.world.specs.Handlers.{Handlers}
+use Rattle.cluster.specs.Cluster.{opening}
+use Rattle.cluster.specs.Rules.{Act, Run, after_run}
+use Rattle.node.specs.Node.{TheNode}
+use Rattle.node.specs.Sending.{run_at}
+use Rattle.node.specs.Runs.{Answering, handlers_of}
+use Rattle.recovery.specs.Collecting.{TheCollecting}
+use Rattle.recovery.specs.Replaying.{TheReplaying}
+use Rattle.recovery.specs.Moment.{HadReceived}
+use Rattle.together.specs.Together.{IsFirst}
+use Rattle.lives.specs.Process.{Up, Collects, Replays}
+use Rattle.lives.specs.System.{System, new_system, AreStored, Call, Did, Calls, after_calls, AllStand}
+
+-- how many messages a node received
+abbrev pub length_of : TheNode → ℕ
+length_of n = n.base + length n.receipts.senders
+
+-- the process p is up as the node a, and later as b: the state of each is the one after its messages, and up to the number up to which all
+-- are acknowledged at a they are the same. So where all are, and b has no more, it has the state that was
+pub record HasBack (f : Handlers) (p : ℕ) (a b : TheNode) : Type 0 where
+  pub was : List Message
+  pub is : List Message
+  pub many_was : length was ≡ length_of a
+  pub many_is : length is ≡ length_of b
+  pub state_was : f.state p was ≡ a.state
+  pub state_is : f.state p is ≡ b.state
+  pub within : run_at a ≤ length_of b
+  pub same : take (run_at a) is ≡ take (run_at a) was
+  pub back : run_at a ≡ length_of a → length_of b ≡ length_of a → b.state ≡ a.state
+
+-- whatever happens between the two moments
+abbrev pub NothingIsLost : Type 0
+NothingIsLost = (f : Answering) (n page tick : ℕ) (len : ℕ → ℕ) (bytes : ℕ → List ℕ) (calls more : List Call) (p : ℕ) (a b : TheNode) → n ≤ 15 → AreStored n len bytes → IsFirst n p
+    → Calls f n (new_system n len bytes page tick) (calls ++ more) → (after_calls (new_system n len bytes page tick) calls).processes p ≡ Up a
+    → (after_calls (new_system n len bytes page tick) (calls ++ more)).processes p ≡ Up b → HasBack (handlers_of f len) p a b
+
+-- how many messages it keeps that recovers
+abbrev pub kept_of : TheCollecting → TheReplaying → ℕ
+kept_of old new = old.own.base + length new.plan
+
+-- p recovers in the system s, which goes on to t: it had received what it keeps, and all is among that which was acknowledged without a gap;
+-- these stay its first messages; and where it is up with just as many, its state is the one that it had after them
+pub record IsBack (n : ℕ) (f : Handlers) (s t : System) (p : ℕ) (old : TheCollecting) (new : TheReplaying) : Type 0 where
+  pub acts : List Act
+  pub more : List Act
+  pub run : Run (opening n f) (acts ++ more)
+  pub before : AllStand n s (after_run (opening n f) acts)
+  pub after : AllStand n t (after_run (opening n f) (acts ++ more))
+  pub had : HadReceived (after_run (opening n f) acts) p old.own.base new.plan
+  pub stays : take (kept_of old new) ((after_run (opening n f) (acts ++ more)).history p) ≡ take (kept_of old new) ((after_run (opening n f) acts).history p)
+  pub back : (m : TheNode) → t.processes p ≡ Up m → length_of m ≡ kept_of old new → f.state p (take (kept_of old new) ((after_run (opening n f) acts).history p)) ≡ m.state
+
+abbrev pub RecoversExactly : Type 0
+RecoversExactly = (f : Answering) (n page tick : ℕ) (len : ℕ → ℕ) (bytes : ℕ → List ℕ) (calls more : List Call) (p : ℕ) (old : TheCollecting) (new : TheReplaying) → n ≤ 15 → AreStored n len bytes
+    → Calls f n (new_system n len bytes page tick) (calls ++ Did p (Replays new) ∷ more) → (after_calls (new_system n len bytes page tick) calls).processes p ≡ Collects old
+    → IsBack n (handlers_of f len) (after_calls (new_system n len bytes page tick) calls) (after_calls (new_system n len bytes page tick) (calls ++ Did p (Replays new) ∷ more)) p old new

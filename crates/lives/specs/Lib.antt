@@ -1,0 +1,4 @@
+pub mod Process
+pub mod System
+pub mod Back
+pub mod Worked

@@ -1,0 +1,133 @@
+-- A process in the stages of its life, and what its calls make of it
+use Rattle.std.specs.Prelude.{◌≡◌, ◌⊎◌, ℕ, List, Some, true, false}
+use Rattle.cluster.specs.Cluster.{Cluster, Dead}
+use Rattle.cluster.specs.Rules.{Keeps, May, does, IsNode}
+use Rattle.packets.specs.declared.packet.Packet.{Packet}
+use Rattle.packets.specs.declared.kept.Kept.{Kept}
+use Rattle.packets.specs.Kept.{IsKept}
+use Rattle.outbox.specs.Outbox.{Pops}
+use Rattle.node.specs.declared.job.OpenJob.{OpenJob}
+use Rattle.node.specs.Node.{TheNode}
+use Rattle.node.specs.Calls.{handed, did_work}
+use Rattle.node.specs.Sending.{ticked}
+use Rattle.node.specs.Saving.{froze}
+use Rattle.node.specs.Kept.{kept_of, Covers, IsKeptOf}
+use Rattle.node.specs.Stands as nodes
+use Rattle.node.specs.Runs.{Answer, Answering, IsAnswer}
+use Rattle.recovery.specs.Collecting.{TheCollecting}
+use Rattle.recovery.specs.Replaying.{TheReplaying, next_job}
+use Rattle.recovery.specs.Replayed.{TheReplayed, StandsReplayed}
+use Rattle.recovery.specs.Stands as collecting
+use Rattle.recovery.specs.StandsReplaying as replaying
+use Rattle.recovery.specs.Plan.{has_all}
+use Rattle.recovery.specs.Moment.{Recovered}
+use Rattle.restoring.specs.Restoring.{TheRestoring}
+use Rattle.restoring.specs.Stands as restoring
+
+pub data Process : Type 0 where
+  Up : TheNode → Process
+  -- a node that waits for its checkpoint: that is durable, and it wasn't told so
+  Covered : TheNode → Process
+  -- it came back, and asks its peers what their logs hold
+  Collects : TheCollecting → Process
+  -- it recovered, and its handler runs again on what it keeps
+  Replays : TheReplaying → Process
+  Replayed : TheReplayed → Process
+  -- it asks its peers under which numbers they have its messages
+  Restores : TheRestoring → Process
+  Killed : Process
+
+-- what it holds is what the cluster has of p, and one that was killed is dead there
+abbrev pub StandsAs : Process → Cluster → ℕ → Type 0
+StandsAs (Up n) c p = nodes.Stands n c p
+StandsAs (Covered n) c p = (n.frozen ≡ true) × nodes.Stands n c p
+StandsAs (Collects n) c p = collecting.StandsCollecting n c p
+StandsAs (Replays n) c p = replaying.StandsReplaying n c p
+StandsAs (Replayed n) c p = StandsReplayed n c p
+StandsAs (Restores n) c p = restoring.StandsRestoring n c p
+StandsAs Killed c p = IsNode c p × (c.stage p ≡ Dead)
+
+-- this is what its checkpoint covers, or will cover where that is durable and the node wasn't told so
+abbrev pub IsStoredOf : Kept → Process → Cluster → ℕ → Type 0
+IsStoredOf k (Covered n) c p = May c (Keeps p) × IsKeptOf k (does c (Keeps p)) p
+IsStoredOf k process c p = IsKeptOf k c p
+
+-- ---- its calls, each as its function's contract says
+
+-- it becomes this process, as one of the stage that is named, of which this holds
+abbrev pub Becomes : {X : Type 0} → (X → Process) → Process → (X → Type 0) → Type 0
+Becomes {X} stage new P = (it : X) × ((new ≡ stage it) × P it)
+
+-- it gave this packet
+abbrev pub Gives : Packet → Process → Process → Type 0
+Gives x (Up n) new = Becomes Up new (λ m. nodes.Takes (Some x) n m)
+Gives x (Covered n) new = Becomes Covered new (λ m. nodes.Takes (Some x) n m)
+Gives x (Collects n) new = Becomes Collects new (λ m. collecting.Takes (Some x) n m)
+Gives x (Replays n) new = Becomes Replays new (λ m. replaying.Takes (Some x) n m)
+Gives x (Replayed n) new = Becomes Replayed new (λ m. Pops (Some x) n.own.out m.own.out × (m ≡ record n { own = record n.own { out = m.own.out } }))
+Gives x (Restores n) new = Becomes Restores new (λ m. restoring.Takes (Some x) n m)
+Gives x Killed new = ⊥
+
+-- it was handed this packet: one that replays takes none
+abbrev pub Hears : Packet → Process → Process → Type 0
+Hears x (Up n) new = Becomes Up new (λ m. nodes.IsHanded x n m)
+Hears x (Covered n) new = Becomes Covered new (λ m. m ≡ handed x n)
+Hears x (Collects n) new = Becomes Collects new (λ m. collecting.IsHanded x n m)
+Hears x (Restores n) new = Becomes Restores new (λ m. restoring.IsHanded x n m)
+Hears x process new = ⊥
+
+-- the answer is that of the handler, where a message is to be replayed
+abbrev pub IsAnswerAgain : Answering → ℕ → TheReplaying → Answer → Type 0
+IsAnswerAgain f p n a = (j : OpenJob) → next_job n ≡ Some j → a ≡ f p n.own.state (nodes.job_of j)
+
+-- its handler answered this
+abbrev pub Works : Answering → ℕ → Answer → Process → Process → Type 0
+Works f p a (Up n) new = IsAnswer f p n a × Becomes Up new (λ m. nodes.Owes (nodes.Handles a.state a.given n) n m)
+Works f p a (Covered n) new = Becomes Covered new (λ m. m ≡ did_work a.state a.given n.working n)
+Works f p a (Replays n) new = IsAnswerAgain f p n a × Becomes Replays new (λ m. replaying.Owes (replaying.Handles a.state a.given n) n m)
+Works f p a process new = ⊥
+
+-- all have told one that collects, and it recovers
+pub record Recovers (n : TheCollecting) (r : TheReplaying) : Type 0 where
+  pub all : has_all n ≡ true
+  pub is : Recovered n r
+  pub acts : replaying.ComesBack n r
+
+-- it sent again what isn't answered, or made a checkpoint; or it went on to its next stage
+abbrev pub Acts : Process → Process → Type 0
+Acts (Up n) new = Becomes Up new (λ m. nodes.Acts n m)
+Acts (Covered n) new = Becomes Covered new (λ m. (m ≡ ticked n) ⊎ (m ≡ froze n))
+Acts (Collects n) new = Becomes Collects new (λ m. collecting.Acts n m) ⊎ Becomes Replays new (λ m. Recovers n m)
+Acts (Replays n) new = Becomes Replayed new (λ m. replaying.Ends n m)
+Acts (Replayed n) new = Becomes Restores new (λ m. restoring.Begins n m)
+Acts (Restores n) new = Becomes Restores new (λ m. restoring.Acts n m) ⊎ Becomes Up new (λ m. restoring.IsUp n m)
+Acts Killed new = ⊥
+
+-- these bytes are what a node gave to be kept
+abbrev pub AreOf : List ℕ → TheNode → Type 0
+AreOf bytes n = IsKept (kept_of n) bytes × Covers (kept_of n) n
+
+-- it waits for its checkpoint, and these bytes are that
+abbrev pub WaitsFor : List ℕ → Process → Type 0
+WaitsFor bytes (Up n) = (n.frozen ≡ true) × AreOf bytes n
+WaitsFor bytes (Covered n) = AreOf bytes n
+WaitsFor bytes process = ⊥
+
+-- its checkpoint is durable
+abbrev pub covered : Process → Process
+covered (Up n) = Covered n
+covered process = process
+
+-- it was told that its checkpoint is durable. One that waits for none is as it was
+abbrev pub IsTold : Process → Process → Type 0
+IsTold (Up n) new = (n.frozen ≡ false) × Becomes Up new (λ m. nodes.Saves n m)
+IsTold (Covered n) new = Becomes Up new (λ m. nodes.Saves n m)
+IsTold process new = ⊥
+
+abbrev pub IsKilled : Process → Type 0
+IsKilled Killed = Unit {0}
+IsKilled process = ⊥
+
+-- what these bytes are of came back in this incarnation
+abbrev pub ComesFrom : List ℕ → ℕ → TheCollecting → Type 0
+ComesFrom bytes life n = (k : Kept) × (IsKept k bytes × collecting.Revives k life n)

@@ -1,0 +1,147 @@
+-- Calls of processes in any stage, and of the gateway, one after another
+use Rattle.std.specs.Prelude.{◌≡◌, ℕ, ◌<◌, ◌≤◌, List, [], ◌∷◌, Some}
+use Rattle.world.specs.History.{count_of}
+use Rattle.world.specs.Handlers.{Handlers}
+use Rattle.world.specs.World.{put}
+use Rattle.packets.specs.declared.packet.Packet.{Packet}
+use Rattle.packets.specs.declared.kept.Kept.{Kept}
+use Rattle.packets.specs.Kept.{IsKept}
+use Rattle.cluster.specs.Cluster.{Cluster, opening}
+use Rattle.cluster.specs.Rules.{Act, Run, after_run}
+use Rattle.cluster.specs.Promises.{NoOrphanNode, OutputOnce, ReceivedOnce}
+use Rattle.node.specs.Node.{new_node}
+use Rattle.node.specs.Kept.{kept_of}
+use Rattle.node.specs.Runs.{Answer, Answering, handlers_of, IsOne}
+use Rattle.recovery.specs.Collecting.{TheCollecting}
+use Rattle.gateway.specs.Gateway.{TheGateway, new_gateway, peer_of}
+use Rattle.gateway.specs.Stands as gateways
+use Rattle.gateway.specs.Since.{StandsFor}
+use Rattle.together.specs.Together.{IsFirst}
+use Rattle.lives.specs.Process.{Process, Up, Collects, Killed, StandsAs, IsStoredOf, Gives, Hears, Works, Acts, WaitsFor, covered, IsTold, IsKilled, ComesFrom}
+
+-- the processes by number; of each the bytes that are stored durably, and the greatest incarnation; the gateway, and as what it is durable;
+-- and the packets that were given
+pub record System : Type 0 where
+  pub processes : ℕ → Process
+  pub stored : ℕ → List ℕ
+  pub lives : ℕ → ℕ
+  pub gateway : TheGateway
+  pub durable : TheGateway
+  pub given : List Packet
+
+-- n new processes and their gateway
+abbrev pub new_system : ℕ → (ℕ → ℕ) → (ℕ → List ℕ) → ℕ → ℕ → System
+new_system n len bytes page tick =
+    record {
+      processes = λ p. Up (new_node p n (len p));
+      stored = bytes;
+      lives = λ _. 1;
+      gateway = new_gateway n page tick;
+      durable = new_gateway n page tick;
+      given = [];
+    }
+
+-- of each of them its bytes are stored before it opens
+abbrev pub AreStored : ℕ → (ℕ → ℕ) → (ℕ → List ℕ) → Type 0
+AreStored n len bytes = (p : ℕ) → IsFirst n p → IsKept (kept_of (new_node p n (len p))) (bytes p)
+
+-- a call that isn't refused, and what the process or the gateway is then; or what happens to it
+pub data Call : Type 0 where
+  -- a process gave this packet
+  Gave : ℕ → Packet → Process → Call
+  -- it was handed this packet
+  Handed : ℕ → Packet → Process → Call
+  -- its handler answered
+  Worked : ℕ → Answer → Process → Call
+  -- it sent again what isn't answered, made a checkpoint, or went on to its next stage
+  Did : ℕ → Process → Call
+  -- these bytes, which it gave, are stored durably in place of the others
+  Stored : ℕ → List ℕ → Call
+  -- and it was told so
+  Saved : ℕ → Process → Call
+  -- it was killed
+  Died : ℕ → Call
+  -- it came back in this incarnation
+  Revived : ℕ → ℕ → TheCollecting → Call
+  -- the gateway gave this packet
+  GaveOut : Packet → TheGateway → Call
+  -- it was handed this packet
+  HandedOut : Packet → TheGateway → Call
+  -- it took an input, gave an output, sent again what isn't answered, or told what happened
+  DidOut : TheGateway → Call
+  -- all that happened to it is stored durably
+  StoredOut : Call
+  -- it was killed, and came back from what is
+  RevivedOut : TheGateway → Call
+
+-- each call does what the contract of its function says. What is handed over was given, whenever, or is handed over again. What comes back
+-- does so from the bytes that are stored, in an incarnation above all that were. What the gateway gives is sent once all that happened to
+-- it is durable
+abbrev pub DoesIt : Answering → ℕ → System → Call → Type 0
+DoesIt f n s (Gave p x new) = IsFirst n p × Gives x (s.processes p) new
+DoesIt f n s (Handed p x new) = IsFirst n p × (IsOne x s.given × Hears x (s.processes p) new)
+DoesIt f n s (Worked p a new) = IsFirst n p × Works f p a (s.processes p) new
+DoesIt f n s (Did p new) = IsFirst n p × Acts (s.processes p) new
+DoesIt f n s (Stored p bytes) = IsFirst n p × WaitsFor bytes (s.processes p)
+DoesIt f n s (Saved p new) = IsFirst n p × IsTold (s.processes p) new
+DoesIt f n s (Died p) = IsFirst n p
+DoesIt f n s (Revived p life new) = IsFirst n p × (IsKilled (s.processes p) × ((s.lives p < life) × ComesFrom (s.stored p) life new))
+DoesIt f n s (GaveOut x new) = (s.durable ≡ s.gateway) × gateways.Takes (Some x) s.gateway new
+DoesIt f n s (HandedOut x new) = IsOne x s.given × gateways.IsHanded x s.gateway new
+DoesIt f n s (DidOut new) = gateways.Acts s.gateway new
+DoesIt f n s StoredOut = Unit {0}
+DoesIt f n s (RevivedOut new) = StandsFor s.durable.store new
+
+abbrev pub after_call : System → Call → System
+after_call s (Gave p x new) = record s { processes = put s.processes p new; given = x ∷ s.given }
+after_call s (Handed p x new) = record s { processes = put s.processes p new }
+after_call s (Worked p a new) = record s { processes = put s.processes p new }
+after_call s (Did p new) = record s { processes = put s.processes p new }
+after_call s (Stored p bytes) = record s { processes = put s.processes p (covered (s.processes p)); stored = put s.stored p bytes }
+after_call s (Saved p new) = record s { processes = put s.processes p new }
+after_call s (Died p) = record s { processes = put s.processes p Killed }
+after_call s (Revived p life new) = record s { processes = put s.processes p (Collects new); lives = put s.lives p life }
+after_call s (GaveOut x new) = record s { gateway = new; durable = new; given = x ∷ s.given }
+after_call s (HandedOut x new) = record s { gateway = new }
+after_call s (DidOut new) = record s { gateway = new }
+after_call s StoredOut = record s { durable = s.gateway }
+after_call s (RevivedOut new) = record s { gateway = new; durable = new }
+
+-- calls one after another
+abbrev pub Calls : Answering → ℕ → System → List Call → Type 0
+Calls f n s [] = Unit {0}
+Calls f n s (k ∷ ks) = DoesIt f n s k × Calls f n (after_call s k) ks
+
+abbrev pub after_calls : System → List Call → System
+after_calls s [] = s
+after_calls s (k ∷ ks) = after_calls (after_call s k) ks
+
+-- these bytes of a process are what its checkpoint covers
+abbrev pub AreStoredOf : List ℕ → Process → Cluster → ℕ → Type 0
+AreStoredOf bytes process c p = (k : Kept) × (IsKept k bytes × IsStoredOf k process c p)
+
+-- in a cluster of n all these processes stand, what is stored of each is what its checkpoint covers, and no incarnation was opened above those
+-- that are stored; the gateway stands as it is durable, and by acts of its own it is what it is
+pub record AllStand (n : ℕ) (s : System) (c : Cluster) : Type 0 where
+  pub processes : (p : ℕ) → IsFirst n p → StandsAs (s.processes p) c p
+  pub stored : (p : ℕ) → IsFirst n p → AreStoredOf (s.stored p) (s.processes p) c p
+  pub lives : (p : ℕ) → IsFirst n p → c.stored p ≤ s.lives p
+  pub durable : gateways.Stands s.durable c
+  pub gateway : gateways.Goes s.gateway c
+  -- what the gateway counts as shown of a process is what was shown of it
+  pub shown : (p : ℕ) → IsFirst n p → (peer_of p s.durable).shown ≡ count_of p c.shown
+
+-- the cluster runs from its opening to one in which all stand; and what is promised of runs holds of it
+pub record IsRunOf (n : ℕ) (f : Handlers) (s : System) : Type 0 where
+  pub acts : List Act
+  pub run : Run (opening n f) acts
+  pub stand : AllStand n s (after_run (opening n f) acts)
+  pub no_orphan : NoOrphanNode (after_run (opening n f) acts)
+  pub output_once : OutputOnce (after_run (opening n f) acts)
+  pub received_once : ReceivedOnce (after_run (opening n f) acts)
+
+-- calls of processes and the gateway in any order, with packets handed over late, twice or never, and each killed and brought back at any
+-- moment, are a run of a cluster
+abbrev pub LivesRun : Type 0
+LivesRun = (f : Answering) (n page tick : ℕ) (len : ℕ → ℕ) (bytes : ℕ → List ℕ) (calls : List Call) → n ≤ 15 → AreStored n len bytes → Calls f n (new_system n len bytes page tick) calls
+    → IsRunOf n (handlers_of f len) (after_calls (new_system n len bytes page tick) calls)

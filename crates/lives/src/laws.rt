@@ -1,0 +1,32 @@
+//! What holds of processes in all their lives.
+
+ghost use Rattle.lives.specs.Back.{NothingIsLost, RecoversExactly};
+ghost use Rattle.lives.specs.System.{LivesRun};
+ghost use Rattle.lives.specs.Worked.{ComesBackUp};
+
+/// Calls of processes in any stage and of the gateway, from their opening on, in any order, with
+/// packets handed over late, twice or never, each process killed at any moment and brought back from
+/// the bytes that are stored of it, and the gateway from its store, are a run of a cluster. So no
+/// message of it is an orphan, each output is shown once and each message received once, and what is
+/// stored of a process is what its checkpoint covers.
+pub fn lives_run()
+    ensures { LivesRun }
+{}
+
+/// Where a process is up at two moments of such calls, it has at the second all that was acknowledged
+/// without a gap at the first, just so, and the state of each moment is the one after its messages.
+pub fn nothing_is_lost()
+    ensures { NothingIsLost }
+{}
+
+/// What a process keeps when it recovers it had received; that stays the first that it has, and where
+/// it is up with no more, its state is the one that it had after these messages.
+pub fn recovers_exactly()
+    ensures { RecoversExactly }
+{}
+
+/// The only process of a cluster is killed, comes back from the bytes of its opening, collects,
+/// recovers, replays, restores its numbers and is up: these are such calls.
+pub fn comes_back_up()
+    ensures { ComesBackUp }
+{}

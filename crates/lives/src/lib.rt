@@ -1,0 +1,15 @@
+//! Processes in all their lives, and the gateway: what holds of their calls together.
+//!
+//! A process is a [`node::Node`] while it is up. It may be killed at any moment, and comes back from
+//! the bytes that are stored of it, stage by stage: [`recovery::Collecting`], [`recovery::Replaying`],
+//! [`restoring::Restoring`], until it is a node again. Each call of a stage owes acts of that process,
+//! in any cluster in which it stands. Here these come together: calls of processes in any stage and of
+//! a [`gateway::Gateway`], in any order, with packets handed over late, twice or never, and each of
+//! them killed and brought back at any moment, are a run of a cluster ([`lives_run`]). So its promises
+//! are promises of this code, and what comes back is the process that was lost ([`nothing_is_lost`],
+//! [`recovers_exactly`]).
+#![tactic(auto)]
+
+mod laws;
+
+pub use laws::{comes_back_up, lives_run, nothing_is_lost, recovers_exactly};
