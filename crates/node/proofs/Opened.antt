@@ -1,6 +1,6 @@
 -- What is kept of a new node is what the opening's checkpoint covers
-use Rattle.std.proofs.Common.{◌≡◌, ℕ, zero, suc, ◌+◌, ◌^◌, ◌<◌, ◌≤◌, List, [], length, take, true, false, refl, sym, subst, arith}
-use Rattle.std.specs.Prelude.{None, replicate, sum, slice_index_or, is_some, if◌then◌else◌}
+use Rattle.std.proofs.Common.{◌≡◌, ℕ, zero, suc, ◌+◌, ◌≤◌, List, length, true, refl, sym, subst, arith}
+use Rattle.std.specs.Prelude.{replicate, sum, slice_index_or, if◌then◌else◌}
 use Rattle.std.proofs.lemmas.List.{length-replicate}
 use Rattle.theorems.proofs.Changes.{at-itself}
 use Rattle.world.specs.Handlers.{Handlers}

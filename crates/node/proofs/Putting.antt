@@ -10,7 +10,7 @@ use Rattle.packets.specs.declared.packet.Body as bodies
 use Rattle.packets.specs.declared.packet.Packet.{Packet}
 use Rattle.node.specs.Node.{TheNode, posts, packet_of}
 use Rattle.pages.specs.Says.{Says}
-use Rattle.node.specs.Stands.{Stands, Goes, GoesOn, PutOut, phase_of, stage_of, actor, own_act, Each}
+use Rattle.node.specs.Stands.{Stands, GoesOn, PutOut, phase_of, stage_of, own_act}
 use Rattle.node.proofs.Lists.{all-more, all-pushed}
 
 up-with : (o : Option OpenJob) → is_up (phase_of o) ≡ true

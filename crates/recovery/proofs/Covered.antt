@@ -1,5 +1,5 @@
 -- What is kept of a process that comes back stays that
-use Rattle.std.proofs.Common.{◌≡◌, ◌≢◌, ℕ, ◌<◌, [], ◌∷◌, refl, ap}
+use Rattle.std.proofs.Common.{◌≡◌, ◌≢◌, ℕ, [], ◌∷◌, refl, ap}
 use Rattle.std.specs.Prelude.{Some, None, if◌then◌else◌}
 use Rattle.theorems.proofs.Changes.{at-itself}
 use Rattle.cluster.specs.Cluster.{Cluster, Dead}
