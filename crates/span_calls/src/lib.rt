@@ -1,6 +1,5 @@
 //! Calls of form 3 in eleven words and one array, as definitions: what such a call does, and why it is
-//! the call of the configurations of `spans`. There is no code of such calls yet: no handler of form 3 can
-//! be run.
+//! the call of the configurations of `spans`. The code of such calls is `span_interp`.
 //!
 //! The array has the message and zeros behind it, the state, and the stack (`specs/Concrete`). A place
 //! is its address there, modulo 2 ^ 64 where it lies outside of its region, and a place in a word of the

@@ -1,4 +1,4 @@
-//! Image files of form 3: code that is verified once. No handler of form 3 can be run yet.
+//! Image files of form 3: code that is verified once. `span_interp` calls a handler of it.
 //!
 //! [`load`] reads a file that begins with `SBI3` and goes on as those of forms 1 and 2; it answers a
 //! [`SpanImage`] exactly where the code is typable in form 3, or where memory runs out an error that says

@@ -1,5 +1,5 @@
 //! The verifier of form 3 of images: one pass over the slots gives the least typing of code, or the
-//! one slot and rule of its refusal. No handler of form 3 can be run yet.
+//! one slot and rule of its refusal.
 //!
 //! [`frames_of`] makes the pass: it tells what is known at each slot of registers and of the stack's
 //! words, also of code that is refused, and [`verify`] answers the frames of typable code alone. Code is
