@@ -2,7 +2,7 @@ ghost use Rattle.std.specs.Prelude.{◌≤◌, ◌+◌, length};
 ghost use Rattle.sender_log.specs.Log.{IsDestination, queue_of};
 
 use helpers::{Payload, Who};
-use replay::{Job, Plan, Ticket, collect, collect_from, resync};
+use replay::{Job, Plan, Spare, Ticket, collect, collect_from, resync};
 use rsn::Receipts;
 use sender_log::Log;
 use std::alloc::Global;
@@ -39,8 +39,12 @@ fn message(sender: u8, ssn: u32, byte: u8) -> Message {
     }
 }
 
-/// Runs the next job of a plan, and goes on behind it.
-fn replay_one(alloc: Global, plan: &mut Plan) -> Result<Option<Message>, Fail> {
+/// Runs the next job of a plan, in the places of the one before it, and goes on behind it.
+fn replay_one(
+    alloc: Global,
+    plan: &mut Plan,
+    spare: &mut Option<Spare>,
+) -> Result<Option<Message>, Fail> {
     let Some((rsn, message)) = plan.next_job() else {
         return Ok(None);
     };
@@ -60,9 +64,11 @@ fn replay_one(alloc: Global, plan: &mut Plan) -> Result<Option<Message>, Fail> {
         count: 2,
     };
     let handed = message;
-    let job = Job::new(alloc, ticket, Arc::new(alloc, image)?, &state, handed, who)?;
+    let image = Arc::new(alloc, image)?;
+    let job = Job::new(alloc, spare.take(), ticket, image, &state, handed, who)?;
     let done = job.run();
     plan.advance(&done);
+    *spare = Some(done.into_spare());
     Ok(Some(message))
 }
 
@@ -75,13 +81,23 @@ fn three_messages_by_five_probes(rt: HostRuntime) -> Result<(), Fail> {
     keep(&mut outside, 1, 30, 3)?;
     let receipts = Receipts::new(rt.alloc(), &[])?;
     let mut plan = collect(rt.alloc(), &[outside, own], 1, &receipts)?;
+    let mut spare = None;
     assert_eq!(rt; plan.len(), 3);
     assert_eq!(rt; plan.probes(), 5);
     assert_eq!(rt; plan.next_job(), Some((1, message(0, 1, 10))));
-    assert_eq!(rt; replay_one(rt.alloc(), &mut plan)?, Some(message(0, 1, 10)));
-    assert_eq!(rt; replay_one(rt.alloc(), &mut plan)?, Some(message(0, 2, 20)));
+    assert_eq!(rt;
+        replay_one(rt.alloc(), &mut plan, &mut spare)?,
+        Some(message(0, 1, 10))
+    );
+    assert_eq!(rt;
+        replay_one(rt.alloc(), &mut plan, &mut spare)?,
+        Some(message(0, 2, 20))
+    );
     assert_eq!(rt; plan.next_job(), Some((3, message(0, 3, 30))));
-    assert_eq!(rt; replay_one(rt.alloc(), &mut plan)?, Some(message(0, 3, 30)));
+    assert_eq!(rt;
+        replay_one(rt.alloc(), &mut plan, &mut spare)?,
+        Some(message(0, 3, 30))
+    );
     assert_eq!(rt; plan.next_job(), None);
     assert_eq!(rt; plan.len(), 3);
     assert_eq!(rt; plan.is_empty(), false);
@@ -129,7 +145,10 @@ fn the_least_of_two_with_one_number(rt: HostRuntime) -> Result<(), Fail> {
     let mut plan = collect(rt.alloc(), &[outside, own, other], 1, &receipts)?;
     assert_eq!(rt; plan.len(), 2);
     assert_eq!(rt; plan.probes(), 5);
-    assert_eq!(rt; replay_one(rt.alloc(), &mut plan)?, Some(message(0, 1, 10)));
+    assert_eq!(rt;
+        replay_one(rt.alloc(), &mut plan, &mut None)?,
+        Some(message(0, 1, 10))
+    );
     assert_eq!(rt; plan.next_job(), Some((2, message(0, 2, 20))));
     Ok(())
 }
@@ -161,7 +180,10 @@ fn a_plan_goes_on_behind_the_receipts(rt: HostRuntime) -> Result<(), Fail> {
     assert_eq!(rt; plan.len(), 2);
     assert_eq!(rt; plan.probes(), 7);
     assert_eq!(rt; plan.next_job(), Some((3, message(2, 2, 40))));
-    assert_eq!(rt; replay_one(rt.alloc(), &mut plan)?, Some(message(2, 2, 40)));
+    assert_eq!(rt;
+        replay_one(rt.alloc(), &mut plan, &mut None)?,
+        Some(message(2, 2, 40))
+    );
     assert_eq!(rt; plan.next_job(), Some((4, message(0, 2, 20))));
     Ok(())
 }

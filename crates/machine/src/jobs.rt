@@ -33,7 +33,9 @@ impl Machine {
         };
         let given = &message;
         let handed = *given;
-        let job = Job::new(self.alloc, ticket, image, process.state(), handed, who)?;
+        let spare = self.spare.take();
+        let begun = &self.processes[place];
+        let job = Job::new(self.alloc, spare, ticket, image, begun.state(), handed, who)?;
         let process = &mut self.processes[place];
         process.begin(message);
         self.started += 1;
@@ -52,9 +54,9 @@ impl Machine {
             return false;
         }
         let process = self.process(me);
-        let message = task.message();
+        let message = task.message_ref();
         let from = message.sender;
-        if process.working() != Some(message)
+        if !process.works_on(message)
             || process.incarnation() != task.incarnation()
             || process.length() + 1 != task.rsn()
             || process.state() != task.state()
@@ -107,6 +109,7 @@ impl Machine {
             return Err((Refusal::Memory, done));
         };
         self.calls += 1;
+        self.spare = Some(done.into_spare());
         Ok(Finished::Committed { rsn, key })
     }
 
@@ -129,6 +132,7 @@ impl Machine {
             self.settle(me, alone);
         }
         self.calls += 1;
+        self.spare = Some(done.into_spare());
         Ok(Finished::Replayed(rsn))
     }
 }

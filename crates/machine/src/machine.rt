@@ -16,6 +16,7 @@ use crate::stage::Stage;
 use crate::wire::Wire;
 use helpers::Who;
 use limits::PROCESSES;
+use replay::Spare;
 use rsn::Receipts;
 use send_gate::Gate;
 use sender_log::Log;
@@ -35,6 +36,8 @@ pub struct Machine {
     pub(crate) wire: Wire,
     pub(crate) started: u32,
     pub(crate) calls: u32,
+    /// The places of the job that was finished last.
+    pub(crate) spare: Option<Spare>,
 }
 
 impl Model for Machine {
@@ -82,6 +85,7 @@ impl Machine {
             wire: Wire::new(alloc),
             started: 0,
             calls: 0,
+            spare: None,
         })
     }
 

@@ -1,8 +1,10 @@
 //! Handler calls that were made.
 
 ghost use Rattle.std.specs.Prelude.{◌≡◌};
+ghost use Rattle.std.specs.Box.{box_value};
 ghost use Rattle.replay.specs.Task.{TheTask, IsAnswer, answer_of};
 
+use crate::spare::Spare;
 use crate::task::Task;
 use helpers::Effects;
 use interp::CallEnd;
@@ -14,23 +16,24 @@ use std::marker::Model;
 pub struct Done {
     task: Task,
     next: Vec<u8>,
-    effects: Effects,
+    effects: Box<Effects>,
     end: CallEnd,
 }
 
 impl Model for Done {
+    ghost use Rattle.std.specs.Box.{box_value};
     ghost use Rattle.replay.specs.Task.{TheTask, IsAnswer};
 
     ghost Value = { TheTask };
 
     ghost view = { λ d. d.task };
 
-    ghost invariant = { λ d. IsAnswer d.task (record { state = d.next.items; effects = d.effects; r0 = d.end.r0; steps = d.end.steps }) };
+    ghost invariant = { λ d. IsAnswer d.task (record { state = d.next.items; effects = box_value d.effects; r0 = d.end.r0; steps = d.end.steps }) };
 }
 
 impl Done {
-    pub(crate) fn new(task: Task, next: Vec<u8>, effects: Effects, end: CallEnd) -> Done
-        requires { IsAnswer task (record { state = next.items; effects = effects; r0 = end.r0; steps = end.steps }) }
+    pub(crate) fn new(task: Task, next: Vec<u8>, effects: Box<Effects>, end: CallEnd) -> Done
+        requires { IsAnswer task (record { state = next.items; effects = box_value effects; r0 = end.r0; steps = end.steps }) }
         ensures { result ≡ task }
     {
         Done {
@@ -71,5 +74,22 @@ impl Done {
         ensures answer { IsAnswer self.now (answer_of self.now) }
     {
         self.end
+    }
+
+    /// Its places, for a later job.
+    pub fn into_spare(self) -> Spare {
+        let Done {
+            task,
+            next,
+            effects,
+            ..
+        } = self;
+        let (state, message) = task.into_places();
+        Spare {
+            state,
+            next,
+            message,
+            effects,
+        }
     }
 }

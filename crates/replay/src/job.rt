@@ -1,13 +1,14 @@
 //! Handler calls that are to be made.
 
-ghost use Rattle.std.specs.Prelude.{◌≡◌, IfOk, length};
+ghost use Rattle.std.specs.Prelude.{◌≡◌, IfOk, OnOk, length};
 ghost use Rattle.std.specs.Arc.{arc_value};
 ghost use Rattle.interp.specs.Configuration.{IsLong};
 ghost use Rattle.replay.specs.Task.{TheTask, MayCall};
 ghost use Rattle.world.specs.Fold.{seen};
 
 use crate::done::Done;
-use crate::task::{Task, Ticket, copied};
+use crate::spare::Spare;
+use crate::task::{Task, Ticket};
 use helpers::{Effects, Payload, Who};
 use interp::call;
 use regtypes::ImageForm;
@@ -22,6 +23,7 @@ use world::Message;
 pub struct Job {
     task: Task,
     next: Vec<u8>,
+    effects: Box<Effects>,
 }
 
 impl Model for Job {
@@ -46,11 +48,20 @@ fn seen<'a>(image: &Image, payload: &'a Payload) -> &'a [u8]
     }
 }
 
+// Has a list the bytes of a state.
+fn refill(list: &mut Vec<u8>, state: &[u8]) -> Result<(), AllocError>
+    ensures { OnOk result (list.new.items ≡ state.now) }
+{
+    list.clear();
+    list.extend_from_slice(state)
+}
+
 impl Job {
-    /// The call of an image with a copy of this state. The places are made here, so that running
-    /// takes no memory.
+    /// The call of an image with a copy of this state. It takes over the places of an earlier job,
+    /// or makes them here, so that running takes no memory.
     pub fn new(
         alloc: Global,
+        spare: Option<Spare>,
         ticket: Ticket,
         image: Arc<Image>,
         state: &[u8],
@@ -60,9 +71,25 @@ impl Job {
         requires { MayCall (arc_value image) state.now who }
         ensures { IfOk result (λ j. j ≡ record { serial = ticket.serial; incarnation = ticket.incarnation; rsn = ticket.rsn; image = arc_value image; state = state.now; message = message; who = who }) }
     {
-        let next = copied(alloc, state)?;
-        let task = Task::new(alloc, ticket, image, state, message, who)?;
-        Ok(Job { task, next })
+        let spare = match spare {
+            Some(spare) => spare,
+            None => Spare::new(alloc)?,
+        };
+        let Spare {
+            state: mut before,
+            mut next,
+            message: mut place,
+            effects,
+        } = spare;
+        refill(&mut before, state)?;
+        refill(&mut next, state)?;
+        *place = message;
+        let task = Task::new(ticket, image, before, place, who);
+        Ok(Job {
+            task,
+            next,
+            effects,
+        })
     }
 
     /// All that the call takes.
@@ -76,8 +103,12 @@ impl Job {
     pub fn run(self) -> Done
         ensures { result ≡ self }
     {
-        let Job { task, mut next } = self;
-        let mut effects = Effects::new();
+        let Job {
+            task,
+            mut next,
+            mut effects,
+        } = self;
+        effects.clear();
         let end = call(
             task.image(),
             next.as_mut_slice(),

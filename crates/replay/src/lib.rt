@@ -27,6 +27,7 @@ mod done;
 mod job;
 mod plan;
 mod resyncing;
+mod spare;
 mod task;
 
 pub use agreement::{plan_is_gathered, same_is_found};
@@ -35,4 +36,5 @@ pub use done::Done;
 pub use job::Job;
 pub use plan::Plan;
 pub use resyncing::resync;
+pub use spare::Spare;
 pub use task::{Task, Ticket};

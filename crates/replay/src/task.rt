@@ -1,11 +1,11 @@
 //! All that a handler call takes.
 
-ghost use Rattle.std.specs.Prelude.{◌≡◌, IfOk};
+ghost use Rattle.std.specs.Prelude.{◌≡◌};
 ghost use Rattle.std.specs.Arc.{arc_value};
+ghost use Rattle.std.specs.Box.{box_value};
 ghost use Rattle.replay.specs.Task.{TheTask, MayCall};
 
 use helpers::{Payload, Who};
-use std::alloc::{AllocError, Global};
 use std::marker::Model;
 use std::sync::Arc;
 use verifier::Image;
@@ -52,36 +52,30 @@ impl Model for Task {
     ghost invariant = { λ t. MayCall (arc_value t.image) t.state.items t.who };
 }
 
-// A copy of a state.
-pub(crate) fn copied(alloc: Global, state: &[u8]) -> Result<Vec<u8>, AllocError>
-    ensures { IfOk result (λ v. v.items ≡ state.now) }
-{
-    let mut copy = Vec::new(alloc);
-    copy.extend_from_slice(state)?;
-    Ok(copy)
-}
-
 impl Task {
     pub(crate) fn new(
-        alloc: Global,
         ticket: Ticket,
         image: Arc<Image>,
-        state: &[u8],
-        message: Message,
+        state: Vec<u8>,
+        message: Box<Message>,
         who: Who,
-    ) -> Result<Task, AllocError>
-        requires { MayCall (arc_value image) state.now who }
-        ensures { IfOk result (λ t. t ≡ record { serial = ticket.serial; incarnation = ticket.incarnation; rsn = ticket.rsn; image = arc_value image; state = state.now; message = message; who = who }) }
+    ) -> Task
+        requires { MayCall (arc_value image) state.items who }
+        ensures { result ≡ record { serial = ticket.serial; incarnation = ticket.incarnation; rsn = ticket.rsn; image = arc_value image; state = state.items; message = box_value message; who = who } }
     {
-        let state = copied(alloc, state)?;
-        let message = Box::new(alloc, message)?;
-        Ok(Task {
+        Task {
             ticket,
             image,
             state,
             message,
             who,
-        })
+        }
+    }
+
+    // Its places for a state and a message.
+    pub(crate) fn into_places(self) -> (Vec<u8>, Box<Message>) {
+        let Task { state, message, .. } = self;
+        (state, message)
     }
 
     /// The job's place, from 1, among the jobs that the session started.
@@ -131,6 +125,13 @@ impl Task {
         ensures { result ≡ self.now.message }
     {
         *self.message
+    }
+
+    /// The message, where it lies.
+    pub fn message_ref(&self) -> &Message
+        ensures { result.now ≡ self.now.message }
+    {
+        &self.message
     }
 
     // What it says, where it lies.

@@ -23,7 +23,10 @@ new-requires c =
     let inside : me - 1 < length c.self.inside.images.items = omega (arith, c.self.invariant.images, within, positive) in
     let image = arc_value c.in_ok-image.image in
     let image_is : slice_index_or m.images (me - 1) image ≡ image = get_or-map arc_value c.self.inside.images.items (me - 1) c.index.result.now image inside ∙ ap arc_value (sym c.index.ensures) ∙ sym c.in_ok-image.ensures in
-    let state_is : c.state.result.now ≡ (process_at m me).state = c.state.ensures ∙ ap (λ (x : TheProcess). x.state) c.process-process.ensures.value ∙ ap (λ (v : TheMachine). (process_at v me).state) (sym c.self.view_is) in
+    let xs = c.self.inside.processes.items in
+    let begun = c.index-begun.result.now in
+    let at : begun ≡ process_at m me = c.index-begun.ensures ∙ get_or_default xs (me - 1) begun (idle_process 0 0 0) (omega (arith, within, positive)) in
+    let state_is : c.state.result.now ≡ (process_at m me).state = c.state.ensures ∙ ap (λ (x : TheProcess). x.state) at in
     let few = c.self.invariant.few in
     let back : is_lost (process_at m me).stage ≡ false = subst (λ (v : TheMachine). is_lost (process_at v me).stage ≡ false) (sym c.self.view_is) c.requires.back in
     let called : TheMachine → Who = λ v. record { me = me; from = c.args.message.sender; count = length v.processes } in
@@ -31,8 +34,14 @@ new-requires c =
     let len : length c.state.result.now ≡ image.len = ap length state_is ∙ (sound_at c.self.inside c.self.invariant me (idle_process 0 0 0) image positive within).state back ∙ ap (λ (e : Typed). e.len) image_is in
     rw who (record { state_len = len; inside = positive; within = within; few = few; sender = sender; other = c.requires.other })
 
+-- where the job isn't made, the places of the last one are gone, and nothing else
 pub invariant_of-self : goal.invariant_of-self
 invariant_of-self c =
+    let i = c.self.invariant in
+    record { some = i.some; few = i.few; images = i.images; processes = i.processes; outside = i.outside; calls = i.calls; started = i.started; inputs = i.inputs; shown = i.shown; wire = i.wire; keys = i.keys }
+
+pub invariant_of-self-2 : goal.invariant_of-self-2
+invariant_of-self-2 c =
     let m = view_of c.self.inside in
     let me = c.args.me in
     let i = c.self.invariant in

@@ -150,7 +150,8 @@ invariant_of-self-2 c =
       | in-Some b ↦ ap calls (c.self-2.view_is ∙ b.self-is ∙ b.settle.ensures.becomes)
       | in_default b ↦ ap calls (c.self-2.view_is ∙ b.self-is)
     ] in
-    count-sound c.self-2.inside c.self-2.invariant (omega (arith, same, before, c.requires.calls))
+    let i = count-sound c.self-2.inside c.self-2.invariant (omega (arith, same, before, c.requires.calls)) in
+    record { some = i.some; few = i.few; images = i.images; processes = i.processes; outside = i.outside; calls = i.calls; started = i.started; inputs = i.inputs; shown = i.shown; wire = i.wire; keys = i.keys }
 
 pub returns-clause-step : goal.returns-clause-step
 returns-clause-step c w s =
