@@ -7,7 +7,7 @@ ghost use Rattle.runner.specs.Results.{outputs_text, process_text_of, processes_
 
 use indexmap::IndexMap;
 use scenario::{Process, name_at, push_exact, push_output, push_process, trace_text};
-use sessions::Service;
+use sessions::{Service, copied};
 use std::alloc::{AllocError, Global};
 use world::Message;
 
@@ -66,7 +66,8 @@ fn results(
     requires { length processes.now.entries ≡ length session.now.images }
     ensures { IfOk result (λ text. string_bytes text ≡ results_text (names_of processes.now) session.now.images session.now.entries) }
 {
-    let mut text = trace_text(alloc, session.journal())?;
+    let entries = copied(alloc, session.journal())?;
+    let mut text = trace_text(alloc, entries.as_slice())?;
     push_processes(&mut text, processes, session)?;
     push_outputs(&mut text, processes, session.shown_since(0))?;
     push_exact(&mut text, session.exact())?;

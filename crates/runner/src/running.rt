@@ -12,6 +12,7 @@ use crate::player::Player;
 use crate::results::push_results;
 use itoa::Buffer;
 use scenario::{Scenario, Step};
+use sessions::copied;
 use std::alloc::{AllocError, Global};
 use std::sync::Arc;
 use verifier::Image;
@@ -146,6 +147,6 @@ pub fn journal_of(
 {
     let mut lines = String::new(alloc);
     let player = played(alloc, scenario.steps.as_slice(), images, &mut lines)?;
-    let entries = player.session.journal().to_vec(alloc)?;
+    let entries = copied(alloc, player.session.journal())?;
     Ok(entries)
 }

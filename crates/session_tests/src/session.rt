@@ -281,10 +281,10 @@ impl<L: Ledger> Stage<L> {
     fn has_one_message(&self, value: u8) -> bool {
         match self.session.service().journal() {
             [input, transmit, arrive, finish] => {
-                is_input(input, value)
-                    && is_transmit(transmit)
-                    && is_arrive(arrive)
-                    && is_finish(finish)
+                is_input(&input.entry(), value)
+                    && is_transmit(&transmit.entry())
+                    && is_arrive(&arrive.entry())
+                    && is_finish(&finish.entry())
             }
             _ => false,
         }
@@ -496,8 +496,8 @@ fn seats<L: Ledger>(rt: &impl Abort, stage: Stage<L>) -> Result<(), Fail> {
     assert_eq!(rt; seat.answered(), 1);
     stage.session.rise(seat);
     let workers = [0, 0, 16];
-    for (entry, worker) in stage.session.service().journal().iter().zip(workers) {
-        assert_eq!(rt; entry.worker, worker);
+    for (slip, worker) in stage.session.service().journal().iter().zip(workers) {
+        assert_eq!(rt; slip.entry().worker, worker);
     }
     assert_eq!(rt; stage.entries(), 3);
     Ok(())

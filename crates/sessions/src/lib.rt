@@ -37,9 +37,11 @@ mod seat;
 mod service;
 mod session;
 mod share;
+mod slip;
 
 pub use machine::{Finished, Reply};
 pub use seat::Seat;
 pub use service::Service;
 pub use session::Session;
 pub use share::{End, Share};
+pub use slip::{Slip, copied};

@@ -11,8 +11,9 @@ ghost use Rattle.sessions.specs.Journal.{IsExact, IsLegal, is_exact, world_at};
 ghost use Rattle.sessions.specs.Service.{KeepsPromises};
 
 use crate::service::Service;
+use crate::slip::Slip;
 use limits::{ENTRIES, PROCESSES};
-use world::{Entry, Message, PhaseName};
+use world::{Message, PhaseName};
 
 impl Service {
     /// How many processes there are, 1 to 15.
@@ -24,7 +25,7 @@ impl Service {
     }
 
     /// The accepted calls with their answers, the first one first.
-    pub fn journal(&self) -> &[Entry]
+    pub fn journal(&self) -> &[Slip]
         ensures entries { result.now ≡ self.now.entries }
         ensures bound { length self.now.entries ≤ ENTRIES }
         ensures legal { IsLegal self.now }

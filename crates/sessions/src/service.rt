@@ -10,6 +10,7 @@ ghost use Rattle.sessions.specs.Driving.{StartsJob};
 ghost use Rattle.sessions.specs.Service.{OpensAlone, Owes, OwesAs, Returns, own_seat, seat_of};
 
 use crate::journal::Journal;
+use crate::slip::Brief;
 use limits::ENTRIES;
 use machine::{Finished, Machine, Reply};
 use replay::Done;
@@ -92,14 +93,14 @@ impl Service {
         ensures bound { length self.new.entries ≤ ENTRIES }
     {
         let room = self.journal.room();
-        if !self.journal.reserve() {
+        let Some(brief) = self.journal.prepare(call) else {
             let cause = self.machine.cause(room, call);
             return Err(cause.unwrap_or(Refusal::Memory));
-        }
+        };
         let single = self.machine.keeps_single(call);
         let reply = self.machine.step(room, call)?;
         self.exact = self.exact && single;
-        self.journal.append(worker, call, reply.answer);
+        self.journal.append(worker, brief, reply.answer);
         Ok(reply)
     }
 
@@ -116,8 +117,8 @@ impl Service {
         }
         let process = done.task().process();
         let finished = self.machine.finish(done)?;
-        let call = Call::Finish { process };
-        self.journal.append(worker, &call, finished.answer());
+        let call = Brief::Finish { process };
+        self.journal.append(worker, call, finished.answer());
         Ok(finished)
     }
 }

@@ -105,7 +105,7 @@ impl<L: Ledger> Stage<L> {
             Step::Keeps(p, length, place, value) => self.keeps(p, length, place, value),
             Step::Saves(p, head, zeros) => self.saves(p, head, zeros),
             Step::Answered(place, answer) => {
-                matches!(self.session.service().journal().get(place), Some(entry) if entry.answer == answer)
+                matches!(self.session.service().journal().get(place), Some(slip) if slip.entry().answer == answer)
             }
             Step::Has(entries) => self.entries() == entries,
             Step::IsExact(exact) => self.session.service().exact() == exact,

@@ -4,7 +4,7 @@ ghost use Rattle.std.specs.Prelude.{◌≡◌};
 
 use helpers::Payload;
 use limits::SEATS;
-use sessions::Session;
+use sessions::{Session, copied};
 use std::alloc::Global;
 use std::marker::Brand;
 use std::sync::ledger::{Blank, Ledger};
@@ -152,8 +152,8 @@ fn is_counted<L: Ledger>(journal: &[Entry], share: &Share<L>) -> bool {
     entries == share.seat.answered()
 }
 
-fn left_by<L: Ledger>(closed: &Closed<L>, before: &[Entry]) -> Left {
-    let journal = closed.session.service().journal();
+fn left_by<L: Ledger>(alloc: Global, closed: &Closed<L>, before: &[Entry]) -> Result<Left, Fail> {
+    let journal = copied(alloc, closed.session.service().journal())?;
     let mut left = Left {
         entries: journal.len(),
         quiet: 0,
@@ -162,7 +162,7 @@ fn left_by<L: Ledger>(closed: &Closed<L>, before: &[Entry]) -> Left {
         first: place_of(&closed.session, 1),
         second: place_of(&closed.session, 2),
         is_counted: true,
-        is_kept: journal.starts_with(before),
+        is_kept: journal.as_slice().starts_with(before),
     };
     for share in &closed.shares {
         match share.end {
@@ -171,9 +171,9 @@ fn left_by<L: Ledger>(closed: &Closed<L>, before: &[Entry]) -> Left {
             _ => {}
         }
         left.doubled = left.doubled.saturating_add(share.doubled);
-        left.is_counted = left.is_counted && is_counted(journal, share);
+        left.is_counted = left.is_counted && is_counted(journal.as_slice(), share);
     }
-    left
+    Ok(left)
 }
 
 fn follow_in<L: Ledger + Send + Sync, R: Threads + Wait + Sync, G: Turnstile>(
@@ -188,7 +188,7 @@ fn follow_in<L: Ledger + Send + Sync, R: Threads + Wait + Sync, G: Turnstile>(
 {
     let mut session: Session<L> = Session::open(alloc, blank, adders(alloc, case.processes)?)?;
     prepare(&mut session, case.before)?;
-    let before = session.service().journal().to_vec(alloc)?;
+    let before = copied(alloc, session.service().journal())?;
     let feeds = feeds_of(alloc, case.feeds)?;
     match run(
         rt,
@@ -199,7 +199,7 @@ fn follow_in<L: Ledger + Send + Sync, R: Threads + Wait + Sync, G: Turnstile>(
         case.budget,
         turnstile,
     ) {
-        Ok(closed) => Ok(Outcome::Ran(left_by(&closed, before.as_slice()))),
+        Ok(closed) => Ok(Outcome::Ran(left_by(alloc, &closed, before.as_slice())?)),
         Err((error, session)) => Ok(Outcome::Refused(
             error.number(),
             session.service().journal().len(),

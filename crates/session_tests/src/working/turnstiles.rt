@@ -1,13 +1,13 @@
 //! Turnstiles that look at what goes on beside a job.
 
 use replay::{Done, Job};
-use sessions::Session;
+use sessions::{Session, Slip};
 use std::sync::atomic::{AtomicBool, AtomicU32, Ordering};
 use std::sync::ledger::Ledger;
 use std::sync::{Mutex, Wait};
 use std::{hint, thread};
 use workers::Turnstile;
-use world::{Call, Entry};
+use world::Call;
 
 /// How often the first job's worker looks whether the second result was accepted.
 const TURNS: u32 = 1_000_000;
@@ -153,10 +153,10 @@ impl<'a, L: Ledger> Watcher<'a, L> {
 }
 
 /// How many results are in a journal.
-fn results(journal: &[Entry]) -> u32 {
+fn results(journal: &[Slip]) -> u32 {
     let mut results = 0u32;
-    for entry in journal {
-        if matches!(entry.call, Call::Finish { .. }) {
+    for slip in journal {
+        if matches!(slip.entry().call, Call::Finish { .. }) {
             results = results.saturating_add(1);
         }
     }

@@ -15,5 +15,5 @@ returns c =
     let images = map arc_value c.args.images.items in
     let end = position_of c.in_ok-player.player in
     let played = subst (λ (xs : List Step). ArePlayed xs (beginning images) end (string_bytes c.new-lines.result) (string_bytes c.played.new.out)) c.as_slice.ensures.value c.in_ok-player.ensures.done in
-    let same : c.in_ok-entries.entries.items ≡ end.entries = c.in_ok-entries.ensures.items_if_clones_equal (λ x y is. is) ∙ c.journal.ensures.entries in
+    let same : c.in_ok-entries.entries.items ≡ end.entries = c.in_ok-entries.ensures ∙ c.journal.ensures.entries in
     (played.0, subst (λ (es : List Entry). AreCarriedOut images steps played.0 es) (sym same) (played-out images end steps (string_bytes c.new-lines.result) (string_bytes c.played.new.out) played c.journal.ensures.legal))

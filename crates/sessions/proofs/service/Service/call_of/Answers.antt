@@ -24,7 +24,7 @@ done c =
     let w = here m es in
     let room_is : c.room-room.result ≡ ENTRIES - length es = c.room-room.ensures.value in
     let step = rw room_is at c.in_ok-reply.ensures.step in
-    let items : c.append.new.self.entries ≡ es ++ entry c.args.worker call answer ∷ [] = c.append.ensures ∙ ap (λ xs. xs ++ entry c.args.worker call answer ∷ []) c.reserve.ensures.entries in
+    let items : c.append.new.self.entries ≡ es ++ entry c.args.worker call answer ∷ [] = c.append.ensures ∙ (λ i. c.prepare.ensures.entries i ++ entry c.args.worker (c.in-Some.ensures.call i) answer ∷ []) in
     let taken = step w c.self.invariant.0.leads in
     let place = room-of w (ENTRIES - length es) call answer c.requires.result taken.accepted taken.answered in
     let may = ap (λ (v : TheSession). may_call (world_at v) c.args.worker call) c.self.view_is ∙ c.requires.may in
@@ -53,13 +53,13 @@ returns-clause-exactly c =
     let d = done (goal.at.returns-clause-exactly c).After-append in
     rw (← c.self.view_is) (returns c.args.worker (service m es) (service c.step.new.self c.append.new.self.entries) c.args.call.now c.in_ok-reply.reply.answer d.1.1)
 
-pub returns-then-not-reserve-clause-adds : goal.returns-then-not-reserve-clause-adds
-returns-then-not-reserve-clause-adds c =
+pub returns-in_default-clause-adds : goal.returns-in_default-clause-adds
+returns-in_default-clause-adds c =
     let m = c.self.inside.machine in
     let es = c.self.inside.journal.entries in
     let w = here m es in
     let cause = caused w c.room-room.result c.args.call.now c.cause-cause.result c.unwrap_or.result (c.cause-cause.ensures.cause w c.self.invariant.0.leads) c.unwrap_or.ensures in
-    stays c.args.worker c.args.self.now m m es c.reserve.new.self.entries c.args.call.now c.unwrap_or.result c.room-room.result (Err c.unwrap_or.result) c.self.view_is refl c.reserve.ensures.entries c.room-room.ensures.value cause refl
+    stays c.args.worker c.args.self.now m m es c.prepare.new.self.entries c.args.call.now c.unwrap_or.result c.room-room.result (Err c.unwrap_or.result) c.self.view_is refl c.prepare.ensures.entries c.room-room.ensures.value cause refl
 
 pub returns-in_err-reply-clause-adds : goal.returns-in_err-reply-clause-adds
 returns-in_err-reply-clause-adds c =
@@ -70,7 +70,7 @@ returns-in_err-reply-clause-adds c =
     let step = c.in_err-reply.ensures.step in
     let out = err_from_is_err_and c.from_residual.result c.from_residual.ensures.1 in
     let told = out.1 ∙ ap Err out.2 in
-    stays c.args.worker c.args.self.now m c.step.new.self es c.reserve.new.self.entries c.args.call.now refusal c.room-room.result (answering answer_in c.from_residual.result) c.self.view_is step.0 c.reserve.ensures.entries c.room-room.ensures.value (step.1 w c.self.invariant.0.leads) (ap (answering answer_in) told)
+    stays c.args.worker c.args.self.now m c.step.new.self es c.prepare.new.self.entries c.args.call.now refusal c.room-room.result (answering answer_in c.from_residual.result) c.self.view_is step.0 c.prepare.ensures.entries c.room-room.ensures.value (step.1 w c.self.invariant.0.leads) (ap (answering answer_in) told)
 
 pub returns-clause-job : goal.returns-clause-job
 returns-clause-job c =
