@@ -1,5 +1,6 @@
 mod AsmLemmas
 mod CauseLemmas
+mod EndLemmas
 mod HeadLemmas
 mod JudgedLemmas
 mod PackLemmas

@@ -1,5 +1,6 @@
 -- What the functions of this crate say to one another.
-use Rattle.std.specs.Prelude.{◌≡◌, ◌⊎◌, ℕ, Bool, true, List, Some, String}
+use Rattle.std.specs.Prelude.{◌≡◌, ◌≢◌, ◌⊎◌, ℕ, Bool, true, List, [], Option, Some, Result, Ok, Err, String}
+use Rattle.std.specs.Io.KnownBytes.{Appends}
 use Rattle.std.specs.declared.alloc.Global.{Global}
 use Rattle.std.specs.String.{string_bytes}
 use Rattle.cli.specs.Asks.{AsksFor, Order, own_input_text}
@@ -10,9 +11,10 @@ use Rattle.scenario.specs.Scenario.{IsScenario}
 use Rattle.scenario.specs.declared.order.Allowed.{Allowed}
 use Rattle.scenario.specs.declared.process.Process.{Process}
 use Rattle.scenario.specs.declared.scenario.Scenario.{Scenario}
-use Rattle.tracer.specs.Fault.{fault_of_image}
+use Rattle.tracer.specs.Fault.{fault_of_image, status_of}
 use Rattle.tracer.specs.Files.{Content}
-use Rattle.tracer.specs.Program.{IsFault, IsShort, Sameness, WritesOver}
+use Rattle.tracer.specs.Program.{IsFault, IsShort, Sameness, Tells, WritesOver}
+use Rattle.tracer.specs.Said.{IsToldAs}
 use Rattle.tracer.specs.Stage.{AreLoaded, AreRefused}
 use Rattle.tracer.specs.declared.fault.Fault.{Fault}
 use Rattle.tracer.specs.declared.fault.Fault.TheVariants.{Usage, Memory, InputOutput}
@@ -58,3 +60,30 @@ IsStagedAs content allowed path s images = IsReadAs content allowed path s × Ar
 -- the words ask for a run that memory ended, which has this text
 abbrev pub EndsShort : List (List ℕ) → Content → List ℕ → Type 0
 EndsShort words content text = (order : Order) × AsksFor words order × IsShort content order text
+
+-- a stream failed while this text was printed
+abbrev pub IsStreamFault : List ℕ → Bool → Fault → Type 0
+IsStreamFault text failed f = (text ≢ []) × (failed ≡ true) × ((f ≡ Memory) ⊎ (f ≡ InputOutput))
+
+-- a command that ended so has this fault: its own, or that of a stream
+abbrev pub HasFault : {T : Type 0} → Result T Fault → List ℕ → Bool → Fault → Type 0
+HasFault (Ok done) text failed f = IsStreamFault text failed f
+HasFault (Err own) text failed f = (f ≡ own) ⊎ IsStreamFault text failed f
+
+-- its fault was told, with this status
+pub record IsEnd {T : Type 0} (ended : Result T Fault) (text : List ℕ) (failed deaf : Bool) (err err' : Option (List ℕ)) (status : ℕ)
+    : Type 0 where
+  pub fault : Fault
+  pub has : HasFault ended text failed fault
+  pub words : List ℕ
+  pub said : IsToldAs fault words
+  pub told : Tells fault words deaf err err' status
+
+-- it came to a fault of this status, and has a text, which was printed
+pub record IsHalf {T : Type 0} (ended : Result T Fault) (text : List ℕ) (deaf : Bool) (out out' : Option (List ℕ)) (status : ℕ)
+    : Type 0 where
+  pub own : Fault
+  pub is : ended ≡ Err own
+  pub status_is : (status ≡ status_of own) ⊎ (deaf ≡ true)
+  pub some : text ≢ []
+  pub printed : Appends out out' text

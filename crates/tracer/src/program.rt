@@ -1,16 +1,16 @@
 //! The program as a function of its words, its files and two streams.
 
-ghost use Rattle.std.specs.Prelude.{◌≡◌, ◌≢◌, ◌≤◌, ◌⊎◌, ◌||◌, true, [], IfErr, IsOk, OnErr, OnOk, map, string_bytes};
-ghost use Rattle.std.specs.Io.KnownBytes.{Appends};
+ghost use Rattle.std.specs.Prelude.{◌≡◌, ◌≢◌, ◌≤◌, ◌⊎◌, ◌||◌, true, [], IfErr, OnErr, OnOk, map, string_bytes};
 ghost use Rattle.cli.specs.Asks.{Asm, IsInRange, Pack, order_of};
 ghost use Rattle.tracer.specs.Inside.{EndsShort, IsWriteFault};
 ghost use Rattle.tracer.specs.Program.{IsAnswer, IsAnswered, IsCause, IsCutShort, IsDone, IsShort, IsTold, Leaves};
-ghost use Rattle.tracer.specs.declared.fault.Fault.TheVariants.{InputOutput, Memory};
+ghost use Rattle.tracer.specs.declared.fault.Fault.TheVariants.{Memory};
 
 use crate::asm::{SOURCE_LIMIT, asm};
 use crate::check::check;
 use crate::dis::dis;
 use crate::drawing::draw_scenario;
+use crate::ending::finish;
 use crate::explaining::explain_image;
 use crate::fault::Fault;
 use crate::files::Files;
@@ -76,9 +76,8 @@ fn write_packed<F: Files>(
     Ok(())
 }
 
-/// Carries out what is asked for, and puts what is to be printed into an empty text.
-fn answer<R: Threads + Wait + Sync, F: Files>(
-    rt: &R,
+/// Carries out what is asked for without a thread, and puts what is to be printed into an empty text.
+fn answer_alone<F: Files>(
     alloc: Global,
     request: Request<'_>,
     files: &mut F,
@@ -98,11 +97,8 @@ fn answer<R: Threads + Wait + Sync, F: Files>(
 {
     match request {
         Request::Run { scenario } => run_scenario(alloc, scenario, files, site, text),
-        Request::Live {
-            scenario,
-            workers,
-            budget,
-        } => live_scenario(rt, alloc, scenario, workers, budget, files, site, text),
+        // No thread can be started.
+        Request::Live { .. } => Err(Fault::Memory),
         Request::Draw { scenario, picture } => draw_scenario(alloc, scenario, picture, files, site),
         Request::Check { image } => {
             let accepted = check(alloc, image, files, site)?;
@@ -132,6 +128,58 @@ fn answer<R: Threads + Wait + Sync, F: Files>(
     }
 }
 
+/// Carries out what is asked for, and puts what is to be printed into an empty text.
+fn answer<R: Threads + Wait + Sync, F: Files>(
+    rt: &R,
+    alloc: Global,
+    request: Request<'_>,
+    files: &mut F,
+    site: &mut Site,
+    text: &mut String,
+) -> Result<(), Fault>
+    requires range { IsInRange (order_of request) }
+    requires empty { string_bytes text.old ≡ [] }
+    ensures report { OnOk result (IsAnswer (F.content files.old) (order_of request.entry) (string_bytes text.new)) }
+    ensures left { OnOk result (Leaves (order_of request.entry)
+        (F.content files.old) (F.content files.new)) }
+    ensures fault { IfErr result (IsWriteFault F.may_be_one (F.content files.old) (F.failed files.new) (order_of request.entry)) }
+    ensures kept { OnErr result (F.content files.new ≡ F.content files.old) }
+    ensures short { IfErr result (λ f. (string_bytes text.new ≡ [])
+        ⊎ ((f ≡ Memory) × IsShort (F.content files.old) (order_of request.entry) (string_bytes text.new))) }
+    ensures either { (F.content files.new ≡ F.content files.old) ⊎ (string_bytes text.new ≡ []) }
+{
+    match request {
+        Request::Live {
+            scenario,
+            workers,
+            budget,
+        } => live_scenario(rt, alloc, scenario, workers, budget, files, site, text),
+        request => answer_alone(alloc, request, files, site, text),
+    }
+}
+
+/// Carries out what the words ask for without a thread, and puts what is to be printed into an empty
+/// text.
+fn carry_out_alone<S: AsStr, F: Files>(
+    alloc: Global,
+    words: &[S],
+    files: &mut F,
+    site: &mut Site,
+    text: &mut String,
+) -> Result<(), Fault>
+    requires { string_bytes text.old ≡ [] }
+    ensures report { OnOk result (IsAnswered (map S.text words.now)
+        (F.content files.old) (F.content files.new) (string_bytes text.new)) }
+    ensures fault { IfErr result (IsCause (map S.text words.now) (F.content files.old) F.may_be_one (F.failed files.new)) }
+    ensures kept { OnErr result (F.content files.new ≡ F.content files.old) }
+    ensures short { IfErr result (λ f. (string_bytes text.new ≡ [])
+        ⊎ ((f ≡ Memory) × EndsShort (map S.text words.now) (F.content files.old) (string_bytes text.new))) }
+    ensures either { (F.content files.new ≡ F.content files.old) ⊎ (string_bytes text.new ≡ []) }
+{
+    let request = parse_words(alloc, words)?;
+    answer_alone(alloc, request, files, site, text)
+}
+
 /// Carries out what the words ask for, and puts what is to be printed into an empty text.
 fn carry_out<R: Threads + Wait + Sync, S: AsStr, F: Files>(
     rt: &R,
@@ -152,20 +200,6 @@ fn carry_out<R: Threads + Wait + Sync, S: AsStr, F: Files>(
 {
     let request = parse_words(alloc, words)?;
     answer(rt, alloc, request, files, site, text)
-}
-
-/// Prints a text, if it is not empty.
-fn show<O: Stream>(text: &str, out: &mut O) -> Result<(), Fault>
-    ensures printed { OnOk result (Appends (O.contents out.old) (O.contents out.new) text.now) }
-    ensures failed { OnErr result (O.failed out.new ≡ true) }
-    ensures fault { IfErr result (λ f. (f ≡ Memory) ⊎ (f ≡ InputOutput)) }
-    ensures none { text.now ≡ [] → IsOk result × (out.new ≡ out.old) }
-{
-    if text.is_empty() {
-        return Ok(());
-    }
-    out.print(text)?;
-    Ok(())
 }
 
 /// Carries out one command line, given without the program's own name, and answers the exit status:
@@ -196,14 +230,33 @@ pub fn sblog<R: Threads + Wait + Sync, S: AsStr, F: Files, O: Stream, E: Stream>
 {
     let mut text = String::new(alloc);
     let mut site = Site::new(alloc);
-    match carry_out(rt, alloc, words, files, &mut site, &mut text) {
-        Ok(()) => match show(text.as_str(), out) {
-            Ok(()) => 0,
-            Err(fault) => fault.tell(err),
-        },
-        Err(fault) => match show(text.as_str(), out) {
-            Ok(()) => fault.tell_at(&site, err),
-            Err(failure) => failure.tell(err),
-        },
-    }
+    let ended = carry_out(rt, alloc, words, files, &mut site, &mut text);
+    finish(ended, text.as_str(), &site, out, err)
+}
+
+/// As [`sblog`], where no thread can be started: `live` ends for want of memory.
+pub fn sblog_alone<S: AsStr, F: Files, O: Stream, E: Stream>(
+    alloc: Global,
+    words: &[S],
+    files: &mut F,
+    out: &mut O,
+    err: &mut E,
+) -> u8
+    // With status 0 the words ask for an order that was carried out, and its text was printed.
+    ensures done { result ≡ 0 → IsDone (map S.text words.now) (F.content files.old) (F.content files.new)
+        (O.contents out.old) (O.contents out.new) × (err.new ≡ err.old) }
+    // With every other status they come to a fault of this status, which was told; unless `err` has failed.
+    ensures told { result ≢ 0 → IsTold (map S.text words.now) (F.content files.old) F.may_be_one
+        (F.failed files.new || O.failed out.new) (E.failed err.new) (E.contents err.old) (E.contents err.new) result }
+    // Then no file has changed, and nothing was printed but of a run that memory ended; unless `out` has failed.
+    ensures kept { result ≢ 0 → F.content files.new ≡ F.content files.old }
+    ensures silent { result ≢ 0 → (out.new ≡ out.old) ⊎ ((O.failed out.new ≡ true)
+        ⊎ (((result ≡ 5) ⊎ (E.failed err.new ≡ true))
+        × IsCutShort (map S.text words.now) (F.content files.old) (O.contents out.old) (O.contents out.new))) }
+    ensures status { (result ≡ 0) ⊎ ((2 ≤ result) × (result ≤ 6)) }
+{
+    let mut text = String::new(alloc);
+    let mut site = Site::new(alloc);
+    let ended = carry_out_alone(alloc, words, files, &mut site, &mut text);
+    finish(ended, text.as_str(), &site, out, err)
 }

@@ -1,36 +1,40 @@
-use Rattle.std.proofs.Common.{◌∙◌, inl, inr, map, refl, string_bytes, sym, true≢false}
-use Rattle.tracer.specs.Fault.{fault_text}
-use Rattle.tracer.specs.Said.{told_text}
-use Rattle.tracer.proofs.CauseLemmas.{cause_beside, failure_cause, stream_cause}
+use Rattle.std.proofs.Common.{◌≡◌, ◌⊎◌, ℕ, List, inl, inr, map, string_bytes, subst}
+use Rattle.std.specs.Io.KnownBytes.{Appends}
+use Rattle.tracer.specs.Inside.{IsEnd, IsHalf}
+use Rattle.tracer.proofs.EndLemmas.{cut_of, done_of, kept_of, told_of}
 use Rattle.tracer.proofs.program.sblog.Goals as goal
 
-pub returns-in-Ok-clause-told : goal.returns-in-Ok-clause-told
-returns-in-Ok-clause-told g c = λ other. record {
-  fault = c.in-Err-show.fault;
-  cause = stream_cause (map g.S.AsStr.text c.args.words.now) (g.F.Files.content c.args.files.now) g.F.Files.may_be_one (g.F.Files.failed c.carry_out.new.files) (g.O.Stream.failed c.show.new.out)
-      c.in-Ok.ensures.report.order c.in-Err-show.fault c.in-Ok.ensures.report.asked c.in-Err-show.ensures.failed c.in-Err-show.ensures.fault;
-  text = fault_text c.in-Err-show.fault;
-  said = inl refl;
-  told = c.tell.ensures;
-}
-
-pub returns-in-Ok-show-2-clause-told : goal.returns-in-Ok-show-2-clause-told
-returns-in-Ok-show-2-clause-told g c = λ other. record {
-  fault = c.in-Err.fault;
-  cause = cause_beside (map g.S.AsStr.text c.args.words.now) (g.F.Files.content c.args.files.now) g.F.Files.may_be_one (g.F.Files.failed c.carry_out.new.files) (g.O.Stream.failed c.show-in-Err.new.out)
-      c.in-Err.fault c.in-Err.ensures.fault;
-  text = told_text c.carry_out.new.site c.in-Err.fault;
-  said = inr (c.carry_out.new.site, refl);
-  told = c.tell_at.ensures;
-}
+pub returns-clause-done : goal.returns-clause-done
+returns-clause-done g c = λ zero_is.
+    let done = c.finish.ensures.done zero_is in (
+      done_of c.carry_out-ended.result (map g.S.AsStr.text c.args.words.now) (g.F.Files.content c.args.files.now) (g.F.Files.content c.carry_out-ended.new.files) (string_bytes c.carry_out-ended.new.text)
+          (g.O.Stream.contents c.args.out.now) (g.O.Stream.contents c.finish.new.out)
+          done.0 c.carry_out-ended.ensures.report (subst (Appends (g.O.Stream.contents c.args.out.now) (g.O.Stream.contents c.finish.new.out)) c.as_str.ensures.value done.1),
+      done.2,
+    )
 
 pub returns-clause-told : goal.returns-clause-told
-returns-clause-told g c = λ other. record {
-  fault = c.in-Err-show-2.failure;
-  cause = failure_cause (map g.S.AsStr.text c.args.words.now) (g.F.Files.content c.args.files.now) g.F.Files.may_be_one (g.F.Files.failed c.carry_out.new.files)
-      (g.O.Stream.failed c.show-in-Err.new.out) c.in-Err.fault c.in-Err-show-2.failure (string_bytes c.carry_out.new.text) c.in-Err.ensures.short
-      (λ none. true≢false (sym (c.in-Err-show-2.ensures.none (c.as_str-in-Err.ensures.value ∙ none)).0)) c.in-Err-show-2.ensures.failed c.in-Err-show-2.ensures.fault;
-  text = fault_text c.in-Err-show-2.failure;
-  said = inl refl;
-  told = c.tell-in-Err-show-2.ensures;
-}
+returns-clause-told g c = λ other.
+    told_of c.carry_out-ended.result (map g.S.AsStr.text c.args.words.now) (g.F.Files.content c.args.files.now) (g.F.Files.content c.carry_out-ended.new.files) g.F.Files.may_be_one
+    (g.F.Files.failed c.carry_out-ended.new.files) (g.O.Stream.failed c.finish.new.out) (g.E.Stream.failed c.finish.new.err) (string_bytes c.carry_out-ended.new.text)
+    (g.E.Stream.contents c.args.err.now) (g.E.Stream.contents c.finish.new.err) c.finish.result
+    c.carry_out-ended.ensures.report c.carry_out-ended.ensures.fault c.carry_out-ended.ensures.short
+    (subst (λ (t : List ℕ). IsEnd c.carry_out-ended.result t (g.O.Stream.failed c.finish.new.out) (g.E.Stream.failed c.finish.new.err) (g.E.Stream.contents c.args.err.now) (g.E.Stream.contents c.finish.new.err) c.finish.result) c.as_str.ensures.value (c.finish.ensures.told other))
+
+pub returns-clause-kept : goal.returns-clause-kept
+returns-clause-kept g c = λ other.
+    kept_of c.carry_out-ended.result (g.F.Files.content c.args.files.now) (g.F.Files.content c.carry_out-ended.new.files) (string_bytes c.carry_out-ended.new.text) (g.O.Stream.failed c.finish.new.out) (g.E.Stream.failed c.finish.new.err)
+    (g.E.Stream.contents c.args.err.now) (g.E.Stream.contents c.finish.new.err) c.finish.result c.carry_out-ended.ensures.kept c.carry_out-ended.ensures.either
+    (subst (λ (t : List ℕ). IsEnd c.carry_out-ended.result t (g.O.Stream.failed c.finish.new.out) (g.E.Stream.failed c.finish.new.err) (g.E.Stream.contents c.args.err.now) (g.E.Stream.contents c.finish.new.err) c.finish.result) c.as_str.ensures.value (c.finish.ensures.told other))
+
+pub returns-clause-silent : goal.returns-clause-silent
+returns-clause-silent g c = λ other.
+    elim (c.finish.ensures.silent other) [
+      | inl same ↦ inl same
+      | inr more ↦ elim more [
+        | inl failed ↦ inr (inl failed)
+        | inr half ↦ inr (inr (cut_of c.carry_out-ended.result (map g.S.AsStr.text c.args.words.now) (g.F.Files.content c.args.files.now) (string_bytes c.carry_out-ended.new.text) (g.E.Stream.failed c.finish.new.err) (g.O.Stream.contents c.args.out.now) (g.O.Stream.contents c.finish.new.out) c.finish.result
+            c.carry_out-ended.ensures.short
+            (subst (λ (t : List ℕ). IsHalf c.carry_out-ended.result t (g.E.Stream.failed c.finish.new.err) (g.O.Stream.contents c.args.out.now) (g.O.Stream.contents c.finish.new.out) c.finish.result) c.as_str.ensures.value half)))
+      ]
+    ]

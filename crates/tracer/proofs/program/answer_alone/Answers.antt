@@ -1,0 +1,48 @@
+use Rattle.std.proofs.Common.{ap, inl, subst, sym}
+use Rattle.std.proofs.lemmas.Result.{IfErr-weaker, on_ok_weaker}
+use Rattle.cli.specs.Asks.{order_of}
+use Rattle.tracer.specs.Inside.{IsWriteFault}
+use Rattle.tracer.specs.Program.{IsFault, Leaves}
+use Rattle.tracer.proofs.program.answer_alone.Goals as goal
+
+pub returns-in-Asm-clause-left : goal.returns-in-Asm-clause-left
+returns-in-Asm-clause-left g c =
+    on_ok_weaker c.write_image.result
+    (λ left. subst (λ o. Leaves o (g.F.Files.content c.args.files.now) (g.F.Files.content c.write_image.new.files)) (sym (ap order_of c.in-Asm.is)) left)
+    c.write_image.ensures.left
+
+pub returns-in-Asm-clause-fault : goal.returns-in-Asm-clause-fault
+returns-in-Asm-clause-fault g c =
+    IfErr-weaker c.write_image.result _ _
+    (λ f fault. subst (λ o. IsWriteFault g.F.Files.may_be_one (g.F.Files.content c.args.files.now) (g.F.Files.failed c.write_image.new.files) o f) (sym (ap order_of c.in-Asm.is)) fault)
+    c.write_image.ensures.fault
+
+pub returns-in-Run-clause-fault : goal.returns-in-Run-clause-fault
+returns-in-Run-clause-fault g c =
+    IfErr-weaker c.run_scenario.result _ _
+    (λ f fault. inl (subst (λ o. IsFault (g.F.Files.content c.args.files.now) (g.F.Files.failed c.run_scenario.new.files) o f) (sym (ap order_of c.in-Run.is)) fault))
+    c.run_scenario.ensures.fault
+
+pub returns-in-Draw-clause-left : goal.returns-in-Draw-clause-left
+returns-in-Draw-clause-left g c =
+    on_ok_weaker c.draw_scenario.result
+    (λ left. subst (λ o. Leaves o (g.F.Files.content c.args.files.now) (g.F.Files.content c.draw_scenario.new.files)) (sym (ap order_of c.in-Draw.is)) left)
+    c.draw_scenario.ensures.left
+
+pub returns-in-Draw-clause-fault : goal.returns-in-Draw-clause-fault
+returns-in-Draw-clause-fault g c =
+    IfErr-weaker c.draw_scenario.result _ _
+    (λ f fault. subst (λ o. IsWriteFault g.F.Files.may_be_one (g.F.Files.content c.args.files.now) (g.F.Files.failed c.draw_scenario.new.files) o f) (sym (ap order_of c.in-Draw.is)) fault)
+    c.draw_scenario.ensures.fault
+
+pub returns-in-Pack-clause-left : goal.returns-in-Pack-clause-left
+returns-in-Pack-clause-left g c =
+    on_ok_weaker c.write_packed.result
+    (λ left. subst (λ o. Leaves o (g.F.Files.content c.args.files.now) (g.F.Files.content c.write_packed.new.files)) (sym (ap order_of c.in-Pack.is)) left)
+    c.write_packed.ensures.left
+
+pub returns-in-Pack-clause-fault : goal.returns-in-Pack-clause-fault
+returns-in-Pack-clause-fault g c =
+    IfErr-weaker c.write_packed.result _ _
+    (λ f fault. subst (λ o. IsWriteFault g.F.Files.may_be_one (g.F.Files.content c.args.files.now) (g.F.Files.failed c.write_packed.new.files) o f) (sym (ap order_of c.in-Pack.is)) fault)
+    c.write_packed.ensures.fault
