@@ -5,3 +5,4 @@ pub mod StoredLemmas
 pub mod StoreLemmas
 pub mod ChangeCodecs
 pub mod ApplyLemmas
+pub mod Entries
