@@ -7,3 +7,6 @@ pub mod Handing
 pub mod Views
 pub mod Opening
 pub mod Since
+pub mod Sendable
+pub mod PageRoom
+pub mod Taking

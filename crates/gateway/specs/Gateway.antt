@@ -1,15 +1,18 @@
 -- What clauses see of the gateway, and what it sends
-use Rattle.std.specs.Prelude.{ℕ, zero, suc, ◌+◌, ◌≤◌, List, [], ◌∷◌, ◌++◌, length, take, replicate, is_none, nat_lt, if◌then◌else◌}
+use Rattle.std.specs.Prelude.{◌≡◌, ℕ, zero, suc, ◌+◌, ◌<◌, ◌≤◌, ◌^◌, List, [], ◌∷◌, ◌++◌, length, take, replicate, is_none, nat_lt, true, if◌then◌else◌}
+use Rattle.std.specs.List.{AllByRecursion}
 use Rattle.packets.specs.declared.packet.Body.{Body}
 use Rattle.packets.specs.declared.packet.Body.TheVariants.{Delivery}
 use Rattle.packets.specs.declared.packet.Packet.{Packet}
+use Rattle.packets.specs.Packet.{in_range}
+use Rattle.packets.specs.Format.{HasRoom, Fits}
 use Rattle.outbox.specs.Outbox.{pushed}
 use Rattle.pages.specs.declared.page.TheConstants.{LEAST_PAGE}
 use Rattle.stores.specs.declared.peer.Logged.{Logged}
 use Rattle.stores.specs.declared.change.Change.{Change}
 use Rattle.stores.specs.declared.change.Change.TheVariants.{Input, Taken}
 use Rattle.stores.specs.Peer.{ThePeer, no_peer, last_of, payload_of}
-use Rattle.stores.specs.Store.{TheStore, peer_at, applied}
+use Rattle.stores.specs.Store.{TheStore, IsOf, peer_at, applied}
 
 -- how many bytes a packet has at most, and how many messages one tick makes for a process; what is kept durably, and what happened to it
 -- since that was asked; the packets to be taken
@@ -20,9 +23,11 @@ pub record TheGateway : Type 0 where
   pub changes : List Change
   pub out : List Packet
 
-pub record IsGateway (page tick : ℕ) : Type 0 where
+pub record IsGateway (page tick : ℕ) (out : List Packet) : Type 0 where
   pub room : LEAST_PAGE ≤ page
   pub some : 1 ≤ tick
+  -- each packet that waits can be written
+  pub fit : AllByRecursion Fits out
 
 -- the gateway of so many processes, of which nothing came
 abbrev pub new_gateway : ℕ → ℕ → ℕ → TheGateway
@@ -39,6 +44,16 @@ packet_of g to body = record { count = length g.store.peers; from = 0; to = to; 
 -- one more packet waits to be taken, where there is room
 abbrev pub posts : ℕ → Body → TheGateway → TheGateway
 posts to body g = record g { out = pushed (packet_of g to body) g.out }
+
+-- a number that counts from 1, of which one more has room
+abbrev pub IsPositive : ℕ → Type 0
+IsPositive n = (0 < n) × (n < 2 ^ 63)
+
+-- this can be said to one: it is a process, and each field is in its range
+pub record CanSay (g : TheGateway) (to : ℕ) (body : Body) : Type 0 where
+  pub process : IsOf to g.store
+  pub room : HasRoom body
+  pub range : in_range body ≡ true
 
 -- a change happens
 abbrev pub happens : Change → TheGateway → TheGateway

@@ -4,3 +4,4 @@ pub mod Deeds
 pub mod Stands
 pub mod Since
 pub mod Bytes
+pub mod Written

@@ -5,7 +5,7 @@ ghost use Rattle.world.specs.Handlers.{Handlers};
 ghost use Rattle.cluster.specs.Cluster.{opening};
 ghost use Rattle.stores.specs.Peer.{last_of, is_kept, number_of};
 ghost use Rattle.stores.specs.Store.{Fits, IsOf};
-ghost use Rattle.gateway.specs.Gateway.{new_gateway, peer_of, posts, happens, delivers, puts_in, hands_out, resent, ticked};
+ghost use Rattle.gateway.specs.Gateway.{CanSay, new_gateway, peer_of, posts, happens, delivers, puts_in, hands_out, resent, ticked};
 ghost use Rattle.gateway.specs.Stands.{Stands, Acts, Takes};
 ghost use Rattle.gateway.specs.Since.{Since, KeepsSince};
 
@@ -38,7 +38,7 @@ impl Model for Gateway {
 
     ghost view = { λ g. record { page = g.page; tick = g.tick; store = g.store; changes = g.changes.items; out = g.out } };
 
-    ghost invariant = { λ g. IsGateway g.page g.tick };
+    ghost invariant = { λ g. IsGateway g.page g.tick g.out };
 }
 
 impl Gateway {
@@ -212,7 +212,11 @@ impl Gateway {
         requires kept { is_kept ssn (peer_of process self.old) ≡ true }
         ensures { self.new ≡ delivers process ssn self.old }
     {
-        let payload = self.store.peer(process).payload(ssn);
+        let peer = self.store.peer(process);
+        let payload = peer.payload(ssn);
+        // For the proof: these tell how great they are at most.
+        let _last = peer.last();
+        let _len = payload.len();
         self.put(
             process,
             Body::Delivery {
@@ -237,6 +241,7 @@ impl Gateway {
 
     /// A packet waits to be taken.
     pub(crate) fn put(&mut self, to: u8, body: Body)
+        requires { CanSay self.old to body }
         ensures { self.new ≡ posts to body self.old }
     {
         let packet = Packet {

@@ -31,6 +31,7 @@ mod gateway;
 mod receiving;
 mod reviving;
 mod telling;
+mod written;
 
 pub use gateway::Gateway;
 pub use stores::{Change, Logged, Output, Peer, Store};

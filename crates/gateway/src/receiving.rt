@@ -2,6 +2,7 @@
 
 ghost use Rattle.std.specs.Prelude.{◌≡◌, ◌≤◌, ◌<◌, ◌^◌, length, OnOk, OnErr};
 ghost use Rattle.stores.specs.Store.{IsOf};
+ghost use Rattle.gateway.specs.Gateway.{IsPositive};
 ghost use Rattle.gateway.specs.Calls.{is_for, arrived, says_shown, recorded_by, dropped_by, handed};
 ghost use Rattle.gateway.specs.Stands.{IsHanded};
 ghost use Rattle.gateway.specs.Since.{KeepsSince, IsShort};
@@ -117,6 +118,7 @@ impl Gateway {
         number: u64,
     ) -> Result<(), AllocError>
         requires of { IsOf process self.old.store }
+        requires incarnation { IsPositive incarnation }
         requires positive { 0 < number }
         requires small { number < 2 ^ 63 }
         ensures ok { OnOk result (self.new ≡ recorded_by process incarnation ssn number self.old) }

@@ -1,0 +1,14 @@
+-- What the gateway gives its host, as bytes
+use Rattle.std.specs.Prelude.{◌≡◌, ℕ, List, ◌∷◌, Some}
+use Rattle.packets.specs.declared.packet.Packet.{Packet}
+use Rattle.packets.specs.Format.{IsPacket}
+use Rattle.gateway.specs.Gateway.{TheGateway}
+use Rattle.gateway.specs.Stands.{Takes}
+
+-- the packet that waits first is to this process, and these are its bytes
+abbrev pub Waits : ℕ → List ℕ → TheGateway → Type 0
+Waits to bytes g = (x : Packet) × (rest : List Packet) × (g.out ≡ x ∷ rest) × IsPacket x bytes × (x.to ≡ to)
+
+-- what is given are the bytes of the packet that waited first, and the gateway is without it
+abbrev pub GivesBytes : List ℕ → TheGateway → TheGateway → Type 0
+GivesBytes bytes old new = (x : Packet) × IsPacket x bytes × Takes (Some x) old new
