@@ -1,6 +1,7 @@
 /* Image files of BPF handlers, checked once and called with no test for a fault while they run; and sessions
-   of them, which survive the loss of a process inside the program that holds them. docs/EMBEDDING.md
-   describes each function, its codes, and the bytes of a report and of an entry. */
+   of them, which survive the loss of a process inside the program that holds them; and the gateway of a
+   cluster whose processes are programs of their own. docs/EMBEDDING.md describes each function, its codes,
+   and the bytes of a report and of an entry. */
 #ifndef SBLOG_H
 #define SBLOG_H
 
@@ -274,6 +275,79 @@ uint32_t sblog_session_journal(sblog_session *handle, size_t *count);
 uint32_t sblog_session_entry(sblog_session *handle, size_t place, sblog_entry *entry);
 uint32_t sblog_session_entries(sblog_session *handle, size_t from, sblog_entry *out,
                                size_t out_len, size_t *count);
+
+#endif
+
+/* ---- the gateway of a cluster whose processes are programs of their own: its way in and out, node 0. The
+   bytes of packets, store and changes: docs/FORMATS.md. */
+
+#ifndef SBLOG_GATEWAY_H
+#define SBLOG_GATEWAY_H
+
+enum sblog_gateway_code {
+    SBLOG_GATEWAY_DONE = 0,
+    SBLOG_GATEWAY_MEMORY = 15,  /* memory ran out */
+    SBLOG_GATEWAY_HANDLE = 16,  /* the handle is closed; to open one, it is open */
+    SBLOG_GATEWAY_PAYLOAD = 18, /* a payload has more than 256 bytes */
+    SBLOG_GATEWAY_ROOM = 19,    /* the buffer is too short; the size says what it takes, and nothing is taken */
+    SBLOG_GATEWAY_ABSENT = 20,  /* there is none */
+    SBLOG_GATEWAY_BYTES = 21,   /* the bytes are refused; the fault says by what */
+    SBLOG_GATEWAY_EARLY = 22,   /* not now: something waits to be sent or to be made durable */
+    SBLOG_GATEWAY_RANGE = 23    /* a limit or a number of a process is out of range */
+};
+
+/* Why changes are refused (21). */
+enum sblog_gateway_fault {
+    SBLOG_GATEWAY_NOT_CHANGES = 1, /* the bytes are not those of changes */
+    SBLOG_GATEWAY_UNFIT = 2        /* a change can't happen to the store as it is then */
+};
+
+/* What a program holds of a gateway: zeros are a closed handle, sblog_gateway gateway = {0}. A program
+   writes no other bytes into it, and makes no copy of an open one. */
+typedef struct {
+    void *at;
+    bool held;
+} sblog_gateway;
+
+#ifdef __cplusplus
+#define SBLOG_GATEWAY_ASSERT(holds, why) static_assert(holds, why)
+#else
+#define SBLOG_GATEWAY_ASSERT(holds, why) _Static_assert(holds, why)
+#endif
+SBLOG_GATEWAY_ASSERT(sizeof(sblog_gateway) == 16, "size of sblog_gateway");
+SBLOG_GATEWAY_ASSERT(offsetof(sblog_gateway, at) == 0, "place of at");
+SBLOG_GATEWAY_ASSERT(offsetof(sblog_gateway, held) == 8, "place of held");
+#undef SBLOG_GATEWAY_ASSERT
+
+/* n processes, 1 to 15. A packet has at most `page` bytes, 512 to 65,535; one tick makes at most `tick`
+   messages for a process, 1 or more. */
+uint32_t sblog_gateway_open(uint8_t n, uint32_t page, uint32_t tick, sblog_gateway *gateway);
+/* A gateway that comes back with a store; where the bytes are refused, by fault 1 to 7. */
+uint32_t sblog_gateway_revive(const uint8_t *store, size_t store_len, uint32_t page, uint32_t tick,
+                              sblog_gateway *gateway, uint32_t *fault);
+/* The changes that were made durable behind that store happen; before anything else is asked of it. */
+uint32_t sblog_gateway_apply(sblog_gateway *gateway, const uint8_t *changes, size_t changes_len,
+                             uint32_t *fault);
+uint32_t sblog_gateway_close(sblog_gateway *gateway);
+
+/* A message of 0 to 256 bytes for a process. */
+uint32_t sblog_gateway_input(sblog_gateway *gateway, uint8_t process, const uint8_t *payload,
+                             size_t payload_len, uint64_t *ssn);
+/* Bytes came; where they are no packet's, by fault 1 to 8. */
+uint32_t sblog_gateway_receive(sblog_gateway *gateway, const uint8_t *packet, size_t packet_len,
+                               uint32_t *fault);
+/* The next packet that is to be sent, and to which process; 20 where none waits. */
+uint32_t sblog_gateway_take(sblog_gateway *gateway, uint8_t *out, size_t out_len, size_t *size,
+                            uint8_t *to);
+/* What isn't answered is sent again. */
+uint32_t sblog_gateway_tick(sblog_gateway *gateway);
+/* The next output; 20 where there is none. */
+uint32_t sblog_gateway_output(sblog_gateway *gateway, uint8_t *process, uint64_t *ssn, uint8_t *out,
+                              size_t out_len, size_t *size);
+uint32_t sblog_gateway_store(sblog_gateway *gateway, uint8_t *out, size_t out_len, size_t *size);
+/* What happened to the store since this was asked, 0 bytes where nothing did. It is to be durable before what
+   the calls put out is sent. */
+uint32_t sblog_gateway_changes(sblog_gateway *gateway, uint8_t *out, size_t out_len, size_t *size);
 
 #endif
 

@@ -1,0 +1,45 @@
+-- What the exports answer (docs/EMBEDDING.md, "A gateway")
+use Rattle.std.specs.Prelude.{◌≡◌, ◌⊎◌, ℕ, ◌<◌, ◌≤◌, List, length, Option, Some, None}
+use Rattle.operations.specs.Bytes.{overwritten}
+use Rattle.gateway.specs.Gateway.{TheGateway}
+use Rattle.embed_gateway.specs.declared.fault.Fault.{Fault}
+use Rattle.embed_gateway.specs.declared.fault.Fault.TheVariants.{Memory, Handle, Payload, Room, Absent, Bytes, Early, Range}
+
+-- the code of a fault, 15 to 23
+abbrev pub fault_number : Fault → ℕ
+fault_number Memory = 15
+fault_number Handle = 16
+fault_number Payload = 18
+fault_number Room = 19
+fault_number Absent = 20
+fault_number Bytes = 21
+fault_number Early = 22
+fault_number Range = 23
+
+-- what a code says: 0 that this was done, any other number why it was not
+abbrev pub Answers : ℕ → Type 0 → (Fault → Type 0) → Type 0
+Answers code done refused = ((code ≡ 0) × done) ⊎ ((why : Fault) × (code ≡ fault_number why) × refused why)
+
+-- the handle is open, and this holds of its gateway
+abbrev pub OfOpen : Option TheGateway → (TheGateway → Type 0) → Type 0
+OfOpen handle holds = (g : TheGateway) × (handle ≡ Some g) × holds g
+
+-- an open handle's gateway was called: this holds of it before and after
+abbrev pub Calls : Option TheGateway → Option TheGateway → (TheGateway → TheGateway → Type 0) → Type 0
+Calls old new holds = (g h : TheGateway) × (old ≡ Some g) × (new ≡ Some h) × holds g h
+
+-- why it was not: the handle is closed, and nothing is written; or this holds of its gateway
+abbrev pub Refuses : Option TheGateway → Type 0 → (TheGateway → Fault → Type 0) → Fault → Type 0
+Refuses handle untouched holds why = ((why ≡ Handle) × (handle ≡ None) × untouched) ⊎ OfOpen handle (λ g. holds g why)
+
+-- the buffer begins with these bytes, and their number is told
+abbrev pub IsCopied : List ℕ → List ℕ → List ℕ → ℕ → Type 0
+IsCopied bytes old new size = (length bytes ≤ length old) × (new ≡ overwritten old 0 bytes) × (size ≡ length bytes)
+
+-- the buffer is too short for them and unchanged, and their number is told
+abbrev pub IsUncopied : List ℕ → List ℕ → List ℕ → ℕ → Type 0
+IsUncopied bytes old new size = (length old < length bytes) × (new ≡ old) × (size ≡ length bytes)
+
+-- nothing is written
+abbrev pub IsUntouched : List ℕ → List ℕ → ℕ → ℕ → Type 0
+IsUntouched old new was size = (new ≡ old) × (size ≡ was)

@@ -1,0 +1,57 @@
+-- What the host tells a gateway
+use Rattle.std.specs.Prelude.{◌≡◌, ℕ, ◌+◌, ◌<◌, ◌≤◌, List, length, Option}
+use Rattle.limits.specs.declared.TheConstants.{PAYLOAD_BYTES}
+use Rattle.packets.specs.declared.fault.PacketFault.{PacketFault}
+use Rattle.packets.specs.declared.packet.Packet.{Packet}
+use Rattle.packets.specs.Faults as packets
+use Rattle.packets.specs.Format.{IsPacket}
+use Rattle.stores.specs.Peer.{last_of}
+use Rattle.stores.specs.Store.{IsOf}
+use Rattle.gateway.specs.Gateway.{TheGateway, peer_of, puts_in, ticked}
+use Rattle.gateway.specs.Calls.{handed}
+use Rattle.gateway.specs.Since.{KeepsSince}
+use Rattle.gateway.specs.Stands.{Acts, IsHanded}
+use Rattle.embed_gateway.specs.declared.fault.Fault.{Fault}
+use Rattle.embed_gateway.specs.declared.fault.Fault.TheVariants.{Memory, Payload, Bytes, Range}
+use Rattle.embed_gateway.specs.Answers.{Calls, Refuses}
+
+-- a payload that isn't too long is logged for one of its processes, and sent; the number is its SSN
+abbrev pub Logs : ℕ → List ℕ → ℕ → TheGateway → TheGateway → Type 0
+Logs p payload ssn g h =
+    (length payload ≤ PAYLOAD_BYTES) × IsOf p g.store × (ssn ≡ last_of (peer_of p g) + 1) × (h ≡ puts_in p payload g) × KeepsSince g h × Acts g h
+
+-- why it isn't: it is too long, there is no such process, or memory ran out; the first of these
+abbrev pub LogsNot : ℕ → List ℕ → TheGateway → Fault → Type 0
+LogsNot p payload g Payload = PAYLOAD_BYTES < length payload
+LogsNot p payload g Range = (length payload ≤ PAYLOAD_BYTES) × (¬ IsOf p g.store)
+LogsNot p payload g Memory = (length payload ≤ PAYLOAD_BYTES) × IsOf p g.store
+LogsNot p payload g other = ⊥
+
+abbrev pub IsLogged : ℕ → List ℕ → Option TheGateway → Option TheGateway → ℕ → Type 0
+IsLogged p payload old new ssn = Calls old new (Logs p payload ssn)
+
+abbrev pub IsUnlogged : ℕ → List ℕ → Option TheGateway → ℕ → ℕ → Fault → Type 0
+IsUnlogged p payload old was ssn why = Refuses old (ssn ≡ was) (λ g w. LogsNot p payload g w × (ssn ≡ was)) why
+
+-- the packet of these bytes is handed in
+abbrev pub Receives : List ℕ → TheGateway → TheGateway → Type 0
+Receives bytes g h = (x : Packet) × IsPacket x bytes × (h ≡ handed x g) × KeepsSince g h × IsHanded x g h
+
+-- why none is: the bytes are no packet's by their first fault, or memory ran out
+abbrev pub ReceivesNot : List ℕ → ℕ → ℕ → Fault → Type 0
+ReceivesNot bytes was fault Bytes = (f : PacketFault) × packets.IsFirst f bytes × (fault ≡ packets.fault_number f)
+ReceivesNot bytes was fault Memory = fault ≡ was
+ReceivesNot bytes was fault other = ⊥
+
+abbrev pub IsReceived : List ℕ → Option TheGateway → Option TheGateway → ℕ → ℕ → Type 0
+IsReceived bytes old new was fault = Calls old new (λ g h. Receives bytes g h × (fault ≡ was))
+
+abbrev pub IsUnreceived : List ℕ → Option TheGateway → ℕ → ℕ → Fault → Type 0
+IsUnreceived bytes old was fault why = Refuses old (fault ≡ was) (λ g w. ReceivesNot bytes was fault w) why
+
+-- what isn't answered is sent again
+abbrev pub Ticks : TheGateway → TheGateway → Type 0
+Ticks g h = (h ≡ ticked g) × KeepsSince g h × Acts g h
+
+abbrev pub IsTicked : Option TheGateway → Option TheGateway → Type 0
+IsTicked old new = Calls old new Ticks

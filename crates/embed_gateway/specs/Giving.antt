@@ -1,0 +1,84 @@
+-- What a gateway gives its host
+use Rattle.std.specs.Prelude.{◌≡◌, ℕ, List, [], Option, Some, None, slice_get}
+use Rattle.packets.specs.declared.packet.Packet.{Packet}
+use Rattle.packets.specs.Format.{IsPacket}
+use Rattle.stores.specs.declared.change.Output.{Output}
+use Rattle.stores.specs.Changes.{AreChanges}
+use Rattle.stores.specs.Format.{IsStoreBytes}
+use Rattle.gateway.specs.Gateway.{TheGateway, hands_out}
+use Rattle.gateway.specs.Since.{Since, KeepsSince}
+use Rattle.gateway.specs.Stands.{Acts, Takes}
+use Rattle.gateway.specs.Written.{Waits}
+use Rattle.embed_gateway.specs.declared.fault.Fault.{Fault}
+use Rattle.embed_gateway.specs.declared.fault.Fault.TheVariants.{Memory, Room, Absent}
+use Rattle.embed_gateway.specs.Answers.{OfOpen, Calls, Refuses, IsCopied, IsUncopied, IsUntouched}
+
+-- ---- packets
+
+-- the packet that waited first is taken: its bytes, and whom it is to
+abbrev pub Gives : List ℕ → List ℕ → ℕ → ℕ → TheGateway → TheGateway → Type 0
+Gives out new size to g h = (x : Packet) × (bytes : List ℕ) × IsPacket x bytes × (x.to ≡ to) × Takes (Some x) g h × IsCopied bytes out new size
+
+-- why none is: none waits, memory ran out, or the buffer is too short for its bytes
+abbrev pub GivesNot : List ℕ → List ℕ → ℕ → ℕ → TheGateway → Fault → Type 0
+GivesNot out new was size g Absent = (g.out ≡ []) × IsUntouched out new was size
+GivesNot out new was size g Memory = IsUntouched out new was size
+GivesNot out new was size g Room = (to : ℕ) × (bytes : List ℕ) × Waits to bytes g × IsUncopied bytes out new size
+GivesNot out new was size g other = ⊥
+
+abbrev pub IsTaken : Option TheGateway → Option TheGateway → List ℕ → List ℕ → ℕ → ℕ → Type 0
+IsTaken old new out out' size to = Calls old new (Gives out out' size to)
+
+-- the same of a handle, where what is kept stays beside it
+abbrev pub IsUntaken : Option TheGateway → List ℕ → List ℕ → ℕ → ℕ → Type 0 → Fault → Type 0
+IsUntaken old out new was size kept why = Refuses old (IsUntouched out new was size × kept) (λ g w. GivesNot out new was size g w × kept) why
+
+-- ---- outputs
+
+-- the output that was shown first is taken: its process, its SSN and its bytes
+abbrev pub Shows : ℕ → ℕ → List ℕ → List ℕ → ℕ → TheGateway → TheGateway → Type 0
+Shows process ssn out new size g h =
+    ((o : Output) × (slice_get g.store.outputs 0 ≡ Some o) × (process ≡ o.process) × (ssn ≡ o.ssn) × IsCopied o.payload out new size)
+    × (h ≡ hands_out g) × KeepsSince g h × Acts g h
+
+-- why none is: there is none, the buffer is too short for it, or memory ran out
+abbrev pub ShowsNot : List ℕ → List ℕ → ℕ → ℕ → TheGateway → Fault → Type 0
+ShowsNot out new was size g Absent = (slice_get g.store.outputs 0 ≡ None) × IsUntouched out new was size
+ShowsNot out new was size g Memory = IsUntouched out new was size
+ShowsNot out new was size g Room = (o : Output) × (slice_get g.store.outputs 0 ≡ Some o) × IsUncopied o.payload out new size
+ShowsNot out new was size g other = ⊥
+
+abbrev pub IsShown : Option TheGateway → Option TheGateway → ℕ → ℕ → List ℕ → List ℕ → ℕ → Type 0
+IsShown old new process ssn out out' size = Calls old new (Shows process ssn out out' size)
+
+abbrev pub IsUnshown : Option TheGateway → List ℕ → List ℕ → ℕ → ℕ → Type 0 → Fault → Type 0
+IsUnshown old out new was size kept why = Refuses old (IsUntouched out new was size × kept) (λ g w. ShowsNot out new was size g w × kept) why
+
+-- ---- what is kept durably
+
+-- the buffer begins with the bytes of its store
+abbrev pub Spells : List ℕ → List ℕ → ℕ → TheGateway → Type 0
+Spells out new size g = (bytes : List ℕ) × IsStoreBytes g.store bytes × IsCopied bytes out new size
+
+abbrev pub IsStored : Option TheGateway → List ℕ → List ℕ → ℕ → Type 0
+IsStored old out new size = OfOpen old (Spells out new size)
+
+-- the buffer is too short for bytes of which this holds, or memory ran out
+abbrev pub WritesNot : (List ℕ → Type 0) → List ℕ → List ℕ → ℕ → ℕ → Fault → Type 0
+WritesNot Is out new was size Memory = IsUntouched out new was size
+WritesNot Is out new was size Room = (bytes : List ℕ) × Is bytes × IsUncopied bytes out new size
+WritesNot Is out new was size other = ⊥
+
+abbrev pub IsUnstored : Option TheGateway → List ℕ → List ℕ → ℕ → ℕ → Fault → Type 0
+IsUnstored old out new was size why = Refuses old (IsUntouched out new was size) (λ g w. WritesNot (IsStoreBytes g.store) out new was size w) why
+
+-- the changes since are taken: the buffer begins with their bytes
+abbrev pub Tells : List ℕ → List ℕ → ℕ → TheGateway → TheGateway → Type 0
+Tells out new size g h =
+    ((bytes : List ℕ) × AreChanges g.changes bytes × IsCopied bytes out new size) × (h ≡ record g { changes = [] }) × Since h.store h × Acts g h
+
+abbrev pub IsTold : Option TheGateway → Option TheGateway → List ℕ → List ℕ → ℕ → Type 0
+IsTold old new out out' size = Calls old new (Tells out out' size)
+
+abbrev pub IsUntold : Option TheGateway → List ℕ → List ℕ → ℕ → ℕ → Fault → Type 0
+IsUntold old out new was size why = Refuses old (IsUntouched out new was size) (λ g w. WritesNot (AreChanges g.changes) out new was size w) why

@@ -1,0 +1,2 @@
+-- What no caller needs
+pub mod Held

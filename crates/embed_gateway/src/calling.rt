@@ -1,0 +1,89 @@
+//! What the host tells the gateway of a handle.
+
+ghost use Rattle.std.specs.Prelude.{◌≡◌, MatchResult, None};
+ghost use Rattle.embed_gateway.specs.declared.fault.Fault.TheVariants.{Handle as Closed};
+ghost use Rattle.embed_gateway.specs.Calls.{IsLogged, IsReceived, IsTicked, IsUnlogged, IsUnreceived, Logs, LogsNot, Receives, ReceivesNot};
+
+use crate::fault::Fault;
+use crate::handle::GatewayHandle;
+use gateway::Gateway;
+use helpers::Payload;
+use limits::PAYLOAD_BYTES;
+use packets::PacketError;
+use std::alloc::Global;
+
+/// Hands a message in for a process, and writes its SSN.
+fn log(gateway: &mut Gateway, process: u8, payload: &[u8], ssn: &mut u64) -> Result<(), Fault>
+    ensures { MatchResult result (λ _. Logs process payload.now ssn.new gateway.old gateway.new) (λ why. (LogsNot process payload.now gateway.old why × (ssn.new ≡ ssn.old)) × (gateway.new ≡ gateway.old)) }
+{
+    if payload.len() > PAYLOAD_BYTES {
+        return Err(Fault::Payload);
+    }
+    if process == 0 || process > gateway.store().count() {
+        return Err(Fault::Range);
+    }
+    let number = gateway.input(process, Payload::from_slice(payload))?;
+    *ssn = number;
+    Ok(())
+}
+
+/// The same for the gateway of a handle.
+pub(crate) fn input(
+    alloc: Global,
+    handle: &mut GatewayHandle,
+    process: u8,
+    payload: &[u8],
+    ssn: &mut u64,
+) -> Result<(), Fault>
+    ensures { MatchResult result (λ _. IsLogged process payload.now handle.old.gateway.value handle.new.gateway.value ssn.new) (λ why. IsUnlogged process payload.now handle.old.gateway.value ssn.old ssn.new why × (handle.new.gateway.value ≡ handle.old.gateway.value)) }
+{
+    let Some(mut gateway) = handle.take(alloc) else {
+        return Err(Fault::Handle);
+    };
+    let done = log(&mut gateway, process, payload, ssn);
+    handle.put(gateway);
+    done
+}
+
+/// Hands the bytes of a packet in. The number of their first fault is written where they are refused.
+fn hear(alloc: Global, gateway: &mut Gateway, packet: &[u8], fault: &mut u32) -> Result<(), Fault>
+    ensures { MatchResult result (λ _. Receives packet.now gateway.old gateway.new × (fault.new ≡ fault.old)) (λ why. ReceivesNot packet.now fault.old fault.new why × (gateway.new ≡ gateway.old)) }
+{
+    match gateway.receive_bytes(alloc, packet) {
+        Ok(()) => Ok(()),
+        Err(PacketError::Memory) => Err(Fault::Memory),
+        Err(PacketError::Fault(why)) => {
+            *fault = u32::from(why.number());
+            Err(Fault::Bytes)
+        }
+    }
+}
+
+/// The same for the gateway of a handle.
+pub(crate) fn receive(
+    alloc: Global,
+    handle: &mut GatewayHandle,
+    packet: &[u8],
+    fault: &mut u32,
+) -> Result<(), Fault>
+    ensures { MatchResult result (λ _. IsReceived packet.now handle.old.gateway.value handle.new.gateway.value fault.old fault.new) (λ why. IsUnreceived packet.now handle.old.gateway.value fault.old fault.new why × (handle.new.gateway.value ≡ handle.old.gateway.value)) }
+{
+    let Some(mut gateway) = handle.take(alloc) else {
+        return Err(Fault::Handle);
+    };
+    let done = hear(alloc, &mut gateway, packet, fault);
+    handle.put(gateway);
+    done
+}
+
+/// What isn't answered is sent again.
+pub(crate) fn tick(alloc: Global, handle: &mut GatewayHandle) -> Result<(), Fault>
+    ensures { MatchResult result (λ _. IsTicked handle.old.gateway.value handle.new.gateway.value) (λ why. (why ≡ Closed) × (handle.old.gateway.value ≡ None) × (handle.new.gateway.value ≡ handle.old.gateway.value)) }
+{
+    let Some(mut gateway) = handle.take(alloc) else {
+        return Err(Fault::Handle);
+    };
+    gateway.tick();
+    handle.put(gateway);
+    Ok(())
+}

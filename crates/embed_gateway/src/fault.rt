@@ -1,0 +1,76 @@
+//! Why a function did nothing.
+
+ghost use Rattle.std.specs.Prelude.{◌≡◌, IfErr, IfOk};
+ghost use Rattle.embed_gateway.specs.Answers.{fault_number};
+
+use std::alloc::AllocError;
+use thiserror::Error;
+
+/// Why a function did nothing, by number.
+#[derive(Clone, Copy, Debug, PartialEq, Eq, Error)]
+pub enum Fault {
+    /// 15: memory ran out.
+    #[error("out of memory")]
+    Memory,
+    /// 16: the handle is closed, or where one is to be opened, it is open.
+    #[error("the handle is closed; to open one, it is open")]
+    Handle,
+    /// 18: a payload has more than 256 bytes.
+    #[error("a payload has more than 256 bytes")]
+    Payload,
+    /// 19: the buffer is too short.
+    #[error("the buffer is too short")]
+    Room,
+    /// 20: there is none.
+    #[error("there is none")]
+    Absent,
+    /// 21: bytes are refused.
+    #[error("the bytes are refused")]
+    Bytes,
+    /// 22: not now: something waits to be sent or to be made durable.
+    #[error("something waits to be sent or to be made durable")]
+    Early,
+    /// 23: a limit or a number of a process is out of range.
+    #[error("a limit or a number of a process is out of range")]
+    Range,
+}
+
+impl Fault {
+    /// Its number, 15 to 23.
+    pub fn number(self) -> u32
+        ensures { result ≡ fault_number self }
+    {
+        match self {
+            Fault::Memory => 15,
+            Fault::Handle => 16,
+            Fault::Payload => 18,
+            Fault::Room => 19,
+            Fault::Absent => 20,
+            Fault::Bytes => 21,
+            Fault::Early => 22,
+            Fault::Range => 23,
+        }
+    }
+}
+
+impl From<AllocError> for Fault {
+    ghost use Rattle.std.specs.Prelude.{◌≡◌};
+    ghost use Rattle.embed_gateway.specs.declared.fault.Fault.TheVariants.{Memory};
+
+    ghost from_gives = { λ _ e. e ≡ Memory };
+
+    fn from(_e: AllocError) -> Fault {
+        Fault::Memory
+    }
+}
+
+/// The code of what was done or wasn't: 0, or the number of the fault.
+pub(crate) fn code(done: Result<(), Fault>) -> u32
+    ensures done { IfOk done (λ _. result ≡ 0) }
+    ensures fault { IfErr done (λ why. result ≡ fault_number why) }
+{
+    match done {
+        Ok(()) => 0,
+        Err(fault) => fault.number(),
+    }
+}

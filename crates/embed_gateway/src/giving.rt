@@ -1,0 +1,144 @@
+//! What the gateway of a handle gives its host.
+
+ghost use Rattle.std.specs.Prelude.{◌≡◌, MatchResult};
+ghost use Rattle.embed_gateway.specs.Giving.{Gives, GivesNot, IsShown, IsStored, IsTaken, IsTold, IsUnshown, IsUnstored, IsUntaken, IsUntold, Shows, ShowsNot, Spells, Tells, WritesNot};
+ghost use Rattle.stores.specs.Format.{IsStoreBytes};
+ghost use Rattle.stores.specs.Changes.{AreChanges};
+
+use crate::fault::Fault;
+use crate::handle::GatewayHandle;
+use crate::output::{copy, measure, write};
+use gateway::Gateway;
+use std::alloc::Global;
+
+/// Writes the bytes of the first packet that waits, how many they are and whom it is to, and takes it.
+fn give(
+    alloc: Global,
+    gateway: &mut Gateway,
+    out: &mut [u8],
+    size: &mut usize,
+    to: &mut u8,
+) -> Result<(), Fault>
+    ensures { MatchResult result (λ _. Gives out.old out.new size.new to.new gateway.old gateway.new) (λ why. (GivesNot out.old out.new size.old size.new gateway.old why × (to.new ≡ to.old)) × (gateway.new ≡ gateway.old)) }
+{
+    let Some((name, bytes)) = gateway.first_bytes(alloc)? else {
+        return Err(Fault::Absent);
+    };
+    copy(&bytes, out, size)?;
+    *to = name;
+    let _ = gateway.take();
+    Ok(())
+}
+
+/// The same for the gateway of a handle.
+pub(crate) fn take(
+    alloc: Global,
+    handle: &mut GatewayHandle,
+    out: &mut [u8],
+    size: &mut usize,
+    to: &mut u8,
+) -> Result<(), Fault>
+    ensures { MatchResult result (λ _. IsTaken handle.old.gateway.value handle.new.gateway.value out.old out.new size.new to.new) (λ why. IsUntaken handle.old.gateway.value out.old out.new size.old size.new (to.new ≡ to.old) why × (handle.new.gateway.value ≡ handle.old.gateway.value)) }
+{
+    let Some(mut gateway) = handle.take(alloc) else {
+        return Err(Fault::Handle);
+    };
+    let done = give(alloc, &mut gateway, out, size, to);
+    handle.put(gateway);
+    done
+}
+
+/// Writes the first output that wasn't taken: its process, its SSN, its bytes and how many these are,
+/// and takes it.
+fn show(
+    gateway: &mut Gateway,
+    process: &mut u8,
+    ssn: &mut u64,
+    out: &mut [u8],
+    size: &mut usize,
+) -> Result<(), Fault>
+    ensures { MatchResult result (λ _. Shows process.new ssn.new out.old out.new size.new gateway.old gateway.new) (λ why. (ShowsNot out.old out.new size.old size.new gateway.old why × ((process.new ≡ process.old) × (ssn.new ≡ ssn.old))) × (gateway.new ≡ gateway.old)) }
+{
+    let Some(output) = gateway.store().first_output() else {
+        return Err(Fault::Absent);
+    };
+    let bytes = output.payload.as_slice();
+    measure(bytes, out, size)?;
+    let _ = gateway.output()?;
+    write(bytes, out, size);
+    *process = output.process;
+    *ssn = output.ssn;
+    Ok(())
+}
+
+/// The same for the gateway of a handle.
+pub(crate) fn output(
+    alloc: Global,
+    handle: &mut GatewayHandle,
+    process: &mut u8,
+    ssn: &mut u64,
+    out: &mut [u8],
+    size: &mut usize,
+) -> Result<(), Fault>
+    ensures { MatchResult result (λ _. IsShown handle.old.gateway.value handle.new.gateway.value process.new ssn.new out.old out.new size.new) (λ why. IsUnshown handle.old.gateway.value out.old out.new size.old size.new ((process.new ≡ process.old) × (ssn.new ≡ ssn.old)) why × (handle.new.gateway.value ≡ handle.old.gateway.value)) }
+{
+    let Some(mut gateway) = handle.take(alloc) else {
+        return Err(Fault::Handle);
+    };
+    let done = show(&mut gateway, process, ssn, out, size);
+    handle.put(gateway);
+    done
+}
+
+/// Writes the bytes of a gateway's store, and how many they are.
+fn spell(alloc: Global, gateway: &Gateway, out: &mut [u8], size: &mut usize) -> Result<(), Fault>
+    ensures { MatchResult result (λ _. Spells out.old out.new size.new gateway.now) (WritesNot (IsStoreBytes gateway.now.store) out.old out.new size.old size.new) }
+{
+    let bytes = gateway.store_bytes(alloc)?;
+    copy(&bytes, out, size)
+}
+
+/// The same for the gateway of a handle.
+pub(crate) fn store(
+    alloc: Global,
+    handle: &mut GatewayHandle,
+    out: &mut [u8],
+    size: &mut usize,
+) -> Result<(), Fault>
+    ensures same { handle.new.gateway.value ≡ handle.old.gateway.value }
+    ensures read { MatchResult result (λ _. IsStored handle.old.gateway.value out.old out.new size.new) (IsUnstored handle.old.gateway.value out.old out.new size.old size.new) }
+{
+    let Some(gateway) = handle.take(alloc) else {
+        return Err(Fault::Handle);
+    };
+    let done = spell(alloc, &gateway, out, size);
+    handle.put(gateway);
+    done
+}
+
+/// Writes the bytes of what happened to a gateway's store, and how many they are, and forgets it.
+fn tell(alloc: Global, gateway: &mut Gateway, out: &mut [u8], size: &mut usize) -> Result<(), Fault>
+    ensures { MatchResult result (λ _. Tells out.old out.new size.new gateway.old gateway.new) (λ why. WritesNot (AreChanges gateway.old.changes) out.old out.new size.old size.new why × (gateway.new ≡ gateway.old)) }
+{
+    let bytes = gateway.changes_bytes(alloc)?;
+    copy(&bytes, out, size)?;
+    let _ = gateway.changes(alloc);
+    Ok(())
+}
+
+/// The same for the gateway of a handle.
+pub(crate) fn changes(
+    alloc: Global,
+    handle: &mut GatewayHandle,
+    out: &mut [u8],
+    size: &mut usize,
+) -> Result<(), Fault>
+    ensures { MatchResult result (λ _. IsTold handle.old.gateway.value handle.new.gateway.value out.old out.new size.new) (λ why. IsUntold handle.old.gateway.value out.old out.new size.old size.new why × (handle.new.gateway.value ≡ handle.old.gateway.value)) }
+{
+    let Some(mut gateway) = handle.take(alloc) else {
+        return Err(Fault::Handle);
+    };
+    let done = tell(alloc, &mut gateway, out, size);
+    handle.put(gateway);
+    done
+}

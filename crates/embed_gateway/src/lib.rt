@@ -1,0 +1,31 @@
+//! The gateway of a cluster for programs in C: a static library over [`gateway`].
+//!
+//! [`exports`] has the functions that cross. A program holds a gateway by a handle, two words of its
+//! own that it makes of zeros: closed. `sblog_gateway_open` and `sblog_gateway_revive` open it, the
+//! others are calls of its host, and `sblog_gateway_close` gives all memory back. Code 0 says that it is
+//! done, any other why not. docs/EMBEDDING.md describes functions and codes.
+//!
+//! The promise: each function owes what the gateway's call owes, word for word; packets, store and
+//! changes are the bytes that docs/FORMATS.md describes; and any code but 0 leaves the gateway as it was.
+//! A buffer that is too short is told how many bytes it takes, and nothing is taken.
+//!
+//! ```c
+//! sblog_gateway gateway = {0};
+//! uint32_t code = sblog_gateway_open(2, 60000, 8, &gateway);
+//! code = sblog_gateway_input(&gateway, 1, payload, 8, &ssn);
+//! code = sblog_gateway_changes(&gateway, out, sizeof out, &size); /* durable before what follows */
+//! while (sblog_gateway_take(&gateway, out, sizeof out, &size, &to) == 0) send_to(to, out, size);
+//! ```
+#![tactic(auto)]
+
+mod calling;
+mod exports;
+mod fault;
+mod giving;
+mod handle;
+mod loose;
+mod opening;
+mod output;
+mod parts;
+#[cfg(test)]
+mod tests;
