@@ -9,7 +9,7 @@ ghost use Rattle.emulator.specs.Emulation.{Does, IsPush, state_of};
 use crate::comparing::asks;
 use crate::machine::{Block, Machine, Next, Value};
 use crate::registers::is_named;
-use crate::words::{self, low};
+use crate::words::{self, low, spread};
 use decode::{Extension, Width};
 use operations::extended;
 use std::alloc::AllocError;
@@ -113,6 +113,11 @@ impl Machine {
                 condition,
                 distance,
             } => self.branch(condition, distance),
+            Instr::JumpShort { distance } => Next::Leaps(spread(distance)),
+            Instr::JumpIfShort {
+                condition,
+                distance,
+            } => self.branch(condition, spread(distance)),
             Instr::Push { reg } => self.push(reg)?,
             Instr::Pop { reg } => self.pop(reg),
             Instr::CopyBytes => self.copy_bytes(),

@@ -28,6 +28,17 @@ pub(crate) fn extended(word: u64) -> u64
     }
 }
 
+// the low 8 bits, sign-extended to 32
+pub(crate) fn spread(distance: u8) -> u64
+    ensures { result ≡ x86.spread distance }
+{
+    if distance < 0x80 {
+        distance as u64
+    } else {
+        distance as u64 + 0xffff_ff00
+    }
+}
+
 // the number whose highest bit alone is set
 pub(crate) fn half(width: Width) -> u64
     ensures { result ≡ 2 ^ (bits_of width - 1) }

@@ -563,6 +563,31 @@ jumps =
     (condition.Greater, 0x0f ∷ 0x8f ∷ 0x07 ∷ 0x00 ∷ 0x00 ∷ 0x00 ∷ [], 0x3003) ∷
     []
 
+-- the same by short jumps
+abbrev pub short_jumps : List Asked
+short_jumps =
+    -- jb
+    (condition.Below, 0x72 ∷ 0x07 ∷ [], 0xaaaa) ∷
+    -- jae
+    (condition.AboveEqual, 0x73 ∷ 0x07 ∷ [], 0x5555) ∷
+    -- je
+    (condition.Equal, 0x74 ∷ 0x07 ∷ [], 0xcccc) ∷
+    -- jne
+    (condition.NotEqual, 0x75 ∷ 0x07 ∷ [], 0x3333) ∷
+    -- jbe
+    (condition.BelowEqual, 0x76 ∷ 0x07 ∷ [], 0xeeee) ∷
+    -- ja
+    (condition.Above, 0x77 ∷ 0x07 ∷ [], 0x1111) ∷
+    -- jl
+    (condition.Less, 0x7c ∷ 0x07 ∷ [], 0x0ff0) ∷
+    -- jge
+    (condition.GreaterEqual, 0x7d ∷ 0x07 ∷ [], 0xf00f) ∷
+    -- jle
+    (condition.LessEqual, 0x7e ∷ 0x07 ∷ [], 0xcffc) ∷
+    -- jg
+    (condition.Greater, 0x7f ∷ 0x07 ∷ [], 0x3003) ∷
+    []
+
 -- {disp32} jmp 1f; 2: rex mov eax, 5; ret; 1: {disp32} jmp 2b
 abbrev pub program : List ℕ
 program = 0xe9 ∷ 0x07 ∷ 0x00 ∷ 0x00 ∷ 0x00 ∷ 0x40 ∷ 0xb8 ∷ 0x05 ∷ 0x00 ∷ 0x00 ∷ 0x00 ∷ 0xc3 ∷ 0xe9 ∷ 0xf4 ∷ 0xff ∷ 0xff ∷ 0xff ∷ []
@@ -570,3 +595,11 @@ program = 0xe9 ∷ 0x07 ∷ 0x00 ∷ 0x00 ∷ 0x00 ∷ 0x40 ∷ 0xb8 ∷ 0x05 �
 -- the rax with which it returns
 abbrev pub program_answer : ℕ
 program_answer = 0x5
+
+-- jmp 1f; 2: rex mov eax, 6; ret; 1: jmp 2b
+abbrev pub short_program : List ℕ
+short_program = 0xeb ∷ 0x07 ∷ 0x40 ∷ 0xb8 ∷ 0x06 ∷ 0x00 ∷ 0x00 ∷ 0x00 ∷ 0xc3 ∷ 0xeb ∷ 0xf7 ∷ []
+
+-- the rax with which it returns
+abbrev pub short_program_answer : ℕ
+short_program_answer = 0x6

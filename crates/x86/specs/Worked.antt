@@ -6,7 +6,7 @@ use Rattle.operations.specs.Bytes.{overwritten}
 use Rattle.x86.specs.declared.instruction.Condition.{Condition}
 use Rattle.x86.specs.declared.instruction.Instr.{Instr}
 use Rattle.x86.specs.declared.instruction.Instr.TheVariants as instr
-use Rattle.x86.specs.declared.instruction.Instr.TheVariants.{JumpIf}
+use Rattle.x86.specs.declared.instruction.Instr.TheVariants.{JumpIf, JumpIfShort}
 use Rattle.x86.specs.declared.instruction.Alu.TheVariants as alu
 use Rattle.x86.specs.declared.instruction.Shift.TheVariants as shift
 use Rattle.x86.specs.declared.instruction.Condition.TheVariants as condition
@@ -55,6 +55,13 @@ AreDone begin rows =
     map {B = List ℕ × Outcome} (λ (is, bs, before, after). (codes is, acts is (changed_by begin before))) rows
     ≡ map {B = List ℕ × Outcome} (λ (is, bs, before, after). (bs, Goes (changed_by (changed_by begin before) after))) rows
 
+-- jumps over 7 bytes
+abbrev pub long_jump : Condition → Instr
+long_jump x = JumpIf x 7
+
+abbrev pub short_jump : Condition → Instr
+short_jump x = JumpIfShort x 7
+
 -- a condition, the bytes of its jump over 7 bytes, and its answers: bit k where carry, zero, sign and overflow are bits
 -- 0 to 3 of k
 abbrev pub Asked : Type 0
@@ -63,9 +70,9 @@ Asked = Condition × List ℕ × ℕ
 abbrev pub answers : Condition → ℕ
 answers x = word_of_bits (λ k. if asks x (bit_at k 0 == 1) (bit_at k 1 == 1) (bit_at k 2 == 1) (bit_at k 3 == 1) then 1 else 0) 16
 
-abbrev pub AreAsked : List Asked → Type 0
-AreAsked rows =
-    map {B = List ℕ × ℕ} (λ (x, bs, n). (bytes_of (JumpIf x 7), answers x)) rows ≡ map {B = List ℕ × ℕ} (λ (x, bs, n). (bs, n)) rows
+abbrev pub AreAsked : (Condition → Instr) → List Asked → Type 0
+AreAsked jump rows =
+    map {B = List ℕ × ℕ} (λ (x, bs, n). (bytes_of (jump x), answers x)) rows ≡ map {B = List ℕ × ℕ} (λ (x, bs, n). (bs, n)) rows
 
 -- the code returns after four steps, with this rax
 abbrev pub IsRun : State → List ℕ → ℕ → Type 0
@@ -84,6 +91,7 @@ unsaid =
     (instr.SignedDiv W32 1, Reg 0 (Word (2 ^ 31)) ∷ Reg 1 (Word (2 ^ 32 - 1)) ∷ Reg 2 (Word (2 ^ 32 - 1)) ∷ []) ∷
     -- flags behind arithmetic
     (JumpIf condition.Equal 7, Sets Unknown ∷ []) ∷
+    (JumpIfShort condition.Equal 7, Sets Unknown ∷ []) ∷
     -- a shift of 32 bits by 0
     (instr.Shift shift.Left W32 10 0, []) ∷
     (instr.ShiftBy shift.Right W32 10, Reg 1 (Word 32) ∷ []) ∷

@@ -470,6 +470,17 @@ impl Instr {
                 condition,
                 distance,
             } => put_jump_if(code, condition, distance),
+            Instr::JumpShort { distance } => {
+                put(code, 0xeb)?;
+                put(code, distance)
+            }
+            Instr::JumpIfShort {
+                condition,
+                distance,
+            } => {
+                put(code, 0x70 + code_of(condition))?;
+                put(code, distance)
+            }
             Instr::Push { reg } => put_named(code, Width::W32, 0x50, reg),
             Instr::Pop { reg } => put_named(code, Width::W32, 0x58, reg),
             Instr::CopyBytes => {

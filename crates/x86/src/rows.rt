@@ -1,6 +1,6 @@
 //! What instructions did on a processor, checked by computation alone.
 
-ghost use Rattle.x86.specs.Worked.{AreAsked, AreDone, AreUnsaid, IsRun, unsaid};
+ghost use Rattle.x86.specs.Worked.{AreAsked, AreDone, AreUnsaid, IsRun, long_jump, short_jump, unsaid};
 ghost use Rattle.x86.specs.Observed as observed;
 ghost use Rattle.x86.specs.Observed.{begin};
 
@@ -13,8 +13,10 @@ pub fn forms_are_as_observed()
     ensures quotients { AreDone begin observed.quotients }
     ensures signs { AreDone begin observed.signs }
     ensures memory { AreDone begin observed.memory }
-    ensures jumps { AreAsked observed.jumps }
+    ensures jumps { AreAsked long_jump observed.jumps }
+    ensures short_jumps { AreAsked short_jump observed.short_jumps }
     ensures program { IsRun begin observed.program observed.program_answer }
+    ensures short_program { IsRun begin observed.short_program observed.short_program_answer }
 {}
 
 /// The definitions don't say more than they are to.

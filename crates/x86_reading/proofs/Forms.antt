@@ -279,6 +279,18 @@ indexed to base index disp rest h k i ne l =
     by_modrm 141 W64 to index base (memory_by to base index disp ++ rest) rest (MemoryBy base index disp) (λ p bs. refl)
     (modrm_memory_by (rex_by W64 to index base) to base index disp rest x.r x.x x.b h k i ne l)
 
+short_if : (x : Condition) (distance : ℕ) (rest : List ℕ) → read (bytes_of (instr.JumpIfShort x distance) ++ rest) ≡ Some (instr.JumpIfShort x (distance % 256), rest)
+short_if condition.Below distance rest = refl
+short_if condition.AboveEqual distance rest = refl
+short_if condition.Equal distance rest = refl
+short_if condition.NotEqual distance rest = refl
+short_if condition.BelowEqual distance rest = refl
+short_if condition.Above distance rest = refl
+short_if condition.Less distance rest = refl
+short_if condition.GreaterEqual distance rest = refl
+short_if condition.LessEqual distance rest = refl
+short_if condition.Greater distance rest = refl
+
 -- each instruction is read in its bytes
 pub reads_back : ReadsBack
 reads_back (instr.Mov w to from) rest h = registers 137 w from to rest (λ p bs. refl) h.1 h.0
@@ -313,6 +325,12 @@ reads_back (instr.Jump distance) rest h = word_behind distance rest (λ distance
 reads_back (instr.JumpIf x distance) rest h =
     ap (λ o. with_op o (λ x. behind (four_bytes (le_bytes 4 distance ++ rest)) (λ distance. whole (instr.JumpIf x distance)))) (condition_again x)
     ∙ word_behind distance rest (λ distance. instr.JumpIf x distance) h
+reads_back (instr.JumpShort distance) rest h =
+    let e : distance % 256 ≡ distance = omega arith in
+    ap (λ d. Some (instr.JumpShort d, rest)) e
+reads_back (instr.JumpIfShort x distance) rest h =
+    let e : distance % 256 ≡ distance = omega arith in
+    short_if x distance rest ∙ ap (λ d. Some (instr.JumpIfShort x d, rest)) e
 reads_back (instr.Push r) rest h = push r rest h
 reads_back (instr.Pop r) rest h = pop r rest h
 reads_back instr.CopyBytes rest h = refl

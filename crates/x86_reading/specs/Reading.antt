@@ -113,7 +113,7 @@ alu_of n =
 abbrev pub shift_of : ℕ → Option Shift
 shift_of n = if n == 4 then Some shift.Left else if n == 5 then Some shift.Right else if n == 7 then Some shift.RightSigned else None
 
--- the condition of 0F 80 + n
+-- the condition of 0F 80 + n and 70 + n
 abbrev pub condition_of : ℕ → Option Condition
 condition_of n =
     if n == 2 then Some condition.Below else if n == 3 then Some condition.AboveEqual else if n == 4 then Some condition.Equal
@@ -236,6 +236,8 @@ abbrev pub without_rex : ℕ → List ℕ → Reading Instr
 without_rex b bs =
     if b == 102 then behind_66 bs
     else if b == 233 then behind (four_bytes bs) (λ distance. whole (instr.Jump distance))  -- E9 cd
+    else if b == 235 then behind (one bs) (λ distance. whole (instr.JumpShort distance))  -- EB cb
+    else if b / 16 == 7 then with_op (condition_of (b - 112)) (λ x. behind (one bs) (λ distance. whole (instr.JumpIfShort x distance)))  -- 70+cc cb
     else if b == 15 then behind (one bs) (λ c bs. with_op (condition_of (c - 128)) (λ x. behind (four_bytes bs) (λ distance. whole (instr.JumpIf x distance))))  -- 0F 80+cc cd
     else if b == 243 then behind (one bs) (λ op bs. if op == 164 then whole instr.CopyBytes bs else None)  -- F3 A4
     else if b == 195 then whole instr.Return bs  -- C3
@@ -294,6 +296,8 @@ IsPlain (instr.Lea to base disp) = IsReg to × IsReg base × IsNumber disp
 IsPlain (instr.LeaBy to base index disp) = IsReg to × IsReg base × IsReg index × (index ≢ 4) × IsNumber disp
 IsPlain (instr.Jump distance) = IsNumber distance
 IsPlain (instr.JumpIf x distance) = IsNumber distance
+IsPlain (instr.JumpShort distance) = distance < 2 ^ 8
+IsPlain (instr.JumpIfShort x distance) = distance < 2 ^ 8
 IsPlain (instr.Push reg) = IsReg reg
 IsPlain (instr.Pop reg) = IsReg reg
 IsPlain instr.CopyBytes = Unit {0}

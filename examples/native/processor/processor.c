@@ -6,7 +6,7 @@
 #include <string.h>
 #include <sys/mman.h>
 
-enum { BLOCK = 64, LONGEST = 16, DEEPEST = 4, GUARD = 64, REGION = 1 << 20, STACK = 64, FORMS = 34, PER_FORM = 4000, SHOWN = 20 };
+enum { BLOCK = 64, LONGEST = 16, DEEPEST = 4, GUARD = 64, REGION = 1 << 20, STACK = 64, FORMS = 36, PER_FORM = 4000, SHOWN = 20 };
 enum { GOES, LEAPS, RETURNS, STUCK };
 enum { WORD, ARRAY, RECORD };
 enum { DIRECTION_BIT = 1 << 10, FLAG_BITS = 1 | 1 << 6 | 1 << 7 | 1 << 11 };
@@ -95,13 +95,14 @@ static void fill(uint8_t *bytes, size_t size) {
 static const char *const NAMES[FORMS] = {
     "Mov", "MovImm", "MovSigned", "MovWide", "MovSx", "MovZx", "Alu", "AluImm", "Test", "TestImm", "Mul", "MulImm",
     "Neg", "Shift", "ShiftBy", "SwapLow", "Swap", "Div", "SignedDiv", "Spread", "Load", "LoadSx", "Store", "StoreImm",
-    "LoadLong", "StoreLong", "Lea", "LeaBy", "Jump", "JumpIf", "Push", "Pop", "CopyBytes", "Return"};
+    "LoadLong", "StoreLong", "Lea", "LeaBy", "Jump", "JumpIf", "Push", "Pop", "CopyBytes", "Return",
+    "JumpShort", "JumpIfShort"};
 
 // How many operations, sizes, conditions or extensions a form has; whether it has a width; how many registers it names.
-static const int KINDS[FORMS] = {[4] = 5, [6] = 6, [7] = 6, [13] = 3, [14] = 3, [20] = 4, [21] = 3, [22] = 4, [23] = 4, [29] = 10};
+static const int KINDS[FORMS] = {[4] = 5, [6] = 6, [7] = 6, [13] = 3, [14] = 3, [20] = 4, [21] = 3, [22] = 4, [23] = 4, [29] = 10, [35] = 10};
 static const int IS_WIDE[FORMS] = {[0] = 1, [6] = 1, 1, 1, 1, 1, 1, 1, 1, 1, [16] = 1, 1, 1, 1};
 static const int NAMED[FORMS] = {2, 1, 1, 1, 2, 2, 2, 1, 2, 1, 2, 2, 1, 1, 1, 1, 1, 1, 1, 0,
-                                 2, 2, 2, 2, 2, 2, 2, 3, 0, 0, 1, 1, 0, 0};
+                                 2, 2, 2, 2, 2, 2, 2, 3, 0, 0, 1, 1, 0, 0, 0, 0};
 
 static void point(struct sample *s, uint64_t reg) {
     s->blocks[reg] = 1 + below(2);
