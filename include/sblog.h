@@ -29,7 +29,6 @@ enum sblog_code {
     SBLOG_ROOM = 8,    /* the buffer for the answer is too short */
     SBLOG_FORM = 9,    /* the image is an SBI2, which these functions only check */
     SBLOG_HANDLE = 10, /* the handle is null */
-    SBLOG_NATIVE = 11, /* there is no machine code for the image */
     SBLOG_RECORD = 12  /* no call of form 1 leaves such a record */
 };
 

@@ -58,6 +58,17 @@ static void adder(handler *code) {
     expect("adder's record differs", memcmp(record, expected, RECORD) != 0, 0);
 }
 
+static void greatest(handler *code) {
+    for (uint64_t less = 0; less < 2; less++) {
+        uint64_t state = 0x0807060504030200 + less;
+        put(array + STATE, state);
+        expect("greatest's r0", called(code, 1, 2, 0), 0);
+        expect("greatest's state", word(array + STATE), 0x0807060504030201);
+        put(expected + STEPS, less ? 5 : 6);
+        expect("greatest's record differs", memcmp(record, expected, RECORD) != 0, 0);
+    }
+}
+
 static void relay_refused(handler *code, uint64_t me, uint64_t count, uint64_t sends, uint64_t answer) {
     expect("relay's r0", called(code, me, count, sends), answer);
     put(expected + STEPS, 4);
@@ -83,7 +94,8 @@ static void relay(handler *code) {
 
 int main(void) {
     adder(mapped("adder.bin"));
+    greatest(mapped("greatest.bin"));
     relay(mapped("relay.bin"));
-    puts("examples/native: both codes do on this processor what the handlers say");
+    puts("examples/native: the codes do on this processor what the handlers say");
     return 0;
 }

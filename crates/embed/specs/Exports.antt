@@ -14,7 +14,7 @@ use Rattle.verifier.specs.ImageFile.{IsRefusal}
 use Rattle.operations.specs.Bytes.{overwritten}
 use Rattle.embed.specs.declared.calling.TheConstants.{MESSAGE}
 use Rattle.embed.specs.declared.refusal.Refusal.{Refusal}
-use Rattle.embed.specs.declared.refusal.Refusal.TheVariants.{Image, State, Message, Who as NotSeat, Room, Form, Handle, Native, Record}
+use Rattle.embed.specs.declared.refusal.Refusal.TheVariants.{Image, State, Message, Who as NotSeat, Room, Form, Handle, Record}
 use Rattle.embed.specs.declared.report.TheConstants.{FAULT_SIZE, REPORT_LIMIT}
 use Rattle.embed.specs.Layout.{fault_bytes}
 use Rattle.embed.specs.Calls.{IsTypableFile, IsSeat, IsReported, AreReported}
@@ -28,7 +28,7 @@ error_number (error.Header fault) = 2
 error_number (error.Decode rule slot) = 3
 error_number (error.Verify rule slot) = 4
 
--- the code of a refusal, 1 to 12
+-- the code of a refusal, 1 to 10 or 12
 abbrev pub refusal_number : Refusal → ℕ
 refusal_number (Image e) = error_number e
 refusal_number State = 5
@@ -37,7 +37,6 @@ refusal_number NotSeat = 7
 refusal_number Room = 8
 refusal_number Form = 9
 refusal_number Handle = 10
-refusal_number Native = 11
 refusal_number Record = 12
 
 -- the broken rule, 0 where there is none
@@ -79,7 +78,6 @@ IsUnchecked file out written NotSeat = ⊥
 IsUnchecked file out written Room = (length out < FAULT_SIZE) × (written ≡ out)
 IsUnchecked file out written Form = ⊥
 IsUnchecked file out written Handle = ⊥
-IsUnchecked file out written Native = ⊥
 IsUnchecked file out written Record = ⊥
 
 -- calls by whole messages, with room for their reports, are done on a state as long as the file says, by its code, which

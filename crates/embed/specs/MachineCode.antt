@@ -5,7 +5,7 @@ use Rattle.verifier.specs.Typed.{Typed}
 use Rattle.verifier.specs.declared.fault.ImageError.TheVariants.{Memory}
 use Rattle.native.specs.Correct.{IsNative}
 use Rattle.embed.specs.declared.refusal.Refusal.{Refusal}
-use Rattle.embed.specs.declared.refusal.Refusal.TheVariants.{Image, Room, Handle, Native}
+use Rattle.embed.specs.declared.refusal.Refusal.TheVariants.{Image, Room, Handle}
 use Rattle.embed.specs.Exports.{Answers}
 
 -- these bytes are machine code of the image, and the size is how many they are
@@ -20,10 +20,9 @@ pub record IsCompiled (image : Typed) (out written : List ℕ) (size : ℕ) : Ty
   pub fits : length code ≤ length out
   pub written_is : written ≡ overwritten out 0 code
 
--- why it wasn't: it is longer than the buffer, there is none, or memory ran out
+-- why it wasn't: it is longer than the buffer, or memory ran out
 abbrev pub IsUncompiled : Typed → List ℕ → ℕ → ℕ → Refusal → Type 0
 IsUncompiled image out was size Room = (code : List ℕ) × IsCodeOf image size code × (length out < length code)
-IsUncompiled image out was size Native = size ≡ was
 IsUncompiled image out was size (Image Memory) = size ≡ was
 IsUncompiled image out was size why = ⊥
 

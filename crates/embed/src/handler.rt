@@ -31,7 +31,7 @@ impl Model for Handler {
 }
 
 impl Handler {
-    ghost use Rattle.std.specs.Prelude.{◌≡◌, ◌≤◌, ◌*◌, ◌/◌, ◌%◌, IfOk, IfSome, length};
+    ghost use Rattle.std.specs.Prelude.{◌≡◌, ◌≤◌, ◌*◌, ◌/◌, ◌%◌, IfOk, length};
     ghost use Rattle.regtypes.specs.declared.image_form.ImageForm.TheVariants.{Sbi1};
     ghost use Rattle.native.specs.Correct.{IsNative};
     ghost use Rattle.embed.specs.Calls.{AreReported};
@@ -57,9 +57,9 @@ impl Handler {
         self.image.form()
     }
 
-    /// The machine code of its image. `None`: the image has operations for which there is none.
-    pub fn compile(&self, alloc: Global) -> Result<Option<Vec<u8>>, AllocError>
-        ensures { IfOk result (λ o. IfSome o (λ code. IsNative self.now.form self.now.slots self.now.len code.items)) }
+    /// The machine code of its image.
+    pub fn compile(&self, alloc: Global) -> Result<Vec<u8>, AllocError>
+        ensures { IfOk result (λ code. IsNative self.now.form self.now.slots self.now.len code.items) }
     {
         compile(alloc, &self.image)
     }

@@ -16,10 +16,8 @@ fn write(alloc: Global, handler: &Handler, out: &mut [u8], size: &mut usize) -> 
     ensures refused { IfErr result (IsUncompiled handler.now out.old size.old size.new) }
     ensures unchanged { OnErr result (out.new ≡ out.old) }
 {
-    let code = match handler.compile(alloc) {
-        Ok(Some(code)) => code,
-        Ok(None) => return Err(Refusal::Native),
-        Err(_) => return Err(Refusal::Image(ImageError::Memory)),
+    let Ok(code) = handler.compile(alloc) else {
+        return Err(Refusal::Image(ImageError::Memory));
     };
     *size = code.len();
     if out.len() < code.len() {

@@ -7,7 +7,7 @@ use Rattle.native.specs.declared.saved.Saved.TheVariants.{NoWord, R5, ToR6, ToR2
 
 -- r0, r1, r3 and r4 stand in registers that no caller minds; r5, r6, r2, r7, r8 and r9, in this order, in the caller's own
 abbrev pub rank : ℕ → ℕ
-rank r = slice_index (0 ∷ 0 ∷ 3 ∷ 0 ∷ 0 ∷ 1 ∷ 2 ∷ 4 ∷ 5 ∷ 6 ∷ 7 ∷ []) r
+rank r = slice_index (0 ∷ 0 ∷ 3 ∷ 0 ∷ 0 ∷ 1 ∷ 2 ∷ 4 ∷ 5 ∷ 6 ∷ []) r
 
 -- the code writes no register of a higher rank
 abbrev pub highest : Saved → ℕ

@@ -14,8 +14,7 @@ use x86::{Alu, Instr, Shift};
 /// The instructions of a task that has no jump.
 #[derive(Clone, Copy)]
 pub(crate) enum Body {
-    /// There are none.
-    Refused,
+    Empty,
     One(Instr),
     Two(Instr, Instr),
     Three(Instr, Instr, Instr),
@@ -44,12 +43,6 @@ pub(crate) fn number(imm: i32) -> u64
     word_of_imm(imm)
 }
 
-fn by_word(reg: Reg, body: Body) -> Body
-    ensures { result ≡ codes.by_word reg.number body }
-{
-    if reg.number < 10 { body } else { Body::Refused }
-}
-
 fn alu_code(op: Alu, width: Width, to: u8, operand: Operand) -> Body
     ensures value { result ≡ codes.alu_code op width to operand }
     ensures short { IsShort operand }
@@ -61,15 +54,12 @@ fn alu_code(op: Alu, width: Width, to: u8, operand: Operand) -> Body
             to,
             imm: number(imm),
         }),
-        Operand::Reg(src) => by_word(
-            src,
-            Body::One(Instr::Alu {
-                op,
-                width,
-                to,
-                from: gpr(src),
-            }),
-        ),
+        Operand::Reg(src) => Body::One(Instr::Alu {
+            op,
+            width,
+            to,
+            from: gpr(src),
+        }),
     }
 }
 
@@ -84,14 +74,11 @@ fn mul_code(width: Width, to: u8, operand: Operand) -> Body
             from: to,
             imm: number(imm),
         }),
-        Operand::Reg(src) => by_word(
-            src,
-            Body::One(Instr::Mul {
-                width,
-                to,
-                from: gpr(src),
-            }),
-        ),
+        Operand::Reg(src) => Body::One(Instr::Mul {
+            width,
+            to,
+            from: gpr(src),
+        }),
     }
 }
 
@@ -140,18 +127,15 @@ fn shift_code(op: Shift, width: Width, to: u8, operand: Operand) -> Body
                 from: gpr(src),
             };
             match width {
-                Width::W64 => by_word(src, Body::Two(count, Instr::ShiftBy { op, width, to })),
-                Width::W32 => by_word(
-                    src,
-                    Body::Three(
-                        count,
-                        Instr::Mov {
-                            width,
-                            to,
-                            from: to,
-                        },
-                        Instr::ShiftBy { op, width, to },
-                    ),
+                Width::W64 => Body::Two(count, Instr::ShiftBy { op, width, to }),
+                Width::W32 => Body::Three(
+                    count,
+                    Instr::Mov {
+                        width,
+                        to,
+                        from: to,
+                    },
+                    Instr::ShiftBy { op, width, to },
                 ),
             }
         }
@@ -211,7 +195,7 @@ fn compute_code(op: AluOp, width: Width, to: u8, operand: Operand) -> Body
         _ => {
             // Its clause says that the operand's number has 32 bits.
             let _short = alu_code(Alu::Add, width, to, operand);
-            Body::Refused
+            Body::Empty
         }
     }
 }
@@ -271,21 +255,21 @@ fn extend_code(extension: Extension, dst: Reg, src: Reg) -> Body
         to: gpr(dst),
         from: gpr(src),
     };
-    by_word(dst, by_word(src, Body::One(extend)))
+    Body::One(extend)
 }
 
 fn negate_code(width: Width, dst: Reg) -> Body
     ensures { result ≡ codes.body_of (Task.Negate width dst) }
 {
     let to = gpr(dst);
-    by_word(dst, Body::One(Instr::Neg { width, to }))
+    Body::One(Instr::Neg { width, to })
 }
 
 fn wide_code(dst: Reg, value: u64) -> Body
     ensures { result ≡ codes.body_of (Task.Wide dst value) }
 {
     let to = gpr(dst);
-    by_word(dst, Body::One(Instr::MovWide { to, imm: value }))
+    Body::One(Instr::MovWide { to, imm: value })
 }
 
 fn load_code(size: Size, dst: Reg, at: u16) -> Body
@@ -297,7 +281,7 @@ fn load_code(size: Size, dst: Reg, at: u16) -> Body
         base: 7,
         disp: seen(at as u64),
     };
-    by_word(dst, Body::One(load))
+    Body::One(load)
 }
 
 fn load_sx_code(size: SignedSize, dst: Reg, at: u16) -> Body
@@ -309,7 +293,7 @@ fn load_sx_code(size: SignedSize, dst: Reg, at: u16) -> Body
         base: 7,
         disp: seen(at as u64),
     };
-    by_word(dst, Body::One(load))
+    Body::One(load)
 }
 
 fn store_code(size: Size, src: Reg, at: u16) -> Body
@@ -321,7 +305,7 @@ fn store_code(size: Size, src: Reg, at: u16) -> Body
         disp: seen(at as u64),
         from: gpr(src),
     };
-    by_word(src, Body::One(store))
+    Body::One(store)
 }
 
 fn store_imm_code(size: Size, at: u16, imm: i32) -> Body
@@ -359,14 +343,14 @@ pub(crate) fn body_of(task: Task) -> Body
             width,
             dst,
             operand,
-        } => by_word(dst, compute_code(op, width, gpr(dst), operand)),
+        } => compute_code(op, width, gpr(dst), operand),
         Task::Extend {
             extension,
             dst,
             src,
         } => extend_code(extension, dst, src),
         Task::Negate { width, dst } => negate_code(width, dst),
-        Task::Reorder { order, bits, dst } => by_word(dst, reorder_code(order, bits, gpr(dst))),
+        Task::Reorder { order, bits, dst } => reorder_code(order, bits, gpr(dst)),
         Task::Load { size, dst, at } => load_code(size, dst, at),
         Task::LoadSx { size, dst, at } => load_sx_code(size, dst, at),
         Task::Store { size, src, at } => store_code(size, src, at),
@@ -377,14 +361,14 @@ pub(crate) fn body_of(task: Task) -> Body
         Task::Branch { operand, .. } => {
             // The same.
             let _short = alu_code(Alu::Add, Width::W64, 0, operand);
-            Body::Refused
+            Body::Empty
         }
-        Task::Leap { .. } => Body::Refused,
-        Task::Send { .. } => Body::Refused,
-        Task::Output { .. } => Body::Refused,
-        Task::SendSized { .. } => Body::Refused,
-        Task::OutputSized { .. } => Body::Refused,
-        Task::Exit => Body::Refused,
-        Task::Dead => Body::Refused,
+        Task::Leap { .. } => Body::Empty,
+        Task::Send { .. } => Body::Empty,
+        Task::Output { .. } => Body::Empty,
+        Task::SendSized { .. } => Body::Empty,
+        Task::OutputSized { .. } => Body::Empty,
+        Task::Exit => Body::Empty,
+        Task::Dead => Body::Empty,
     }
 }

@@ -1,6 +1,6 @@
 //! What a conditional jump compares, and what it asks of the flags.
 
-ghost use Rattle.std.specs.Prelude.{◌≡◌, IfSome};
+ghost use Rattle.std.specs.Prelude.{◌≡◌};
 ghost use Rattle.native.specs.Code as codes;
 ghost use Rattle.native.specs.Code.{IsShort};
 
@@ -8,73 +8,52 @@ use crate::body::{gpr, number};
 use decode::{Condition, Operand, Reg, Width};
 use x86::{Alu, Instr};
 
-fn test_code(width: Width, a: u8, operand: Operand) -> Option<Instr>
+fn test_code(width: Width, a: u8, operand: Operand) -> Instr
     ensures value { result ≡ codes.test_code width a operand }
     ensures short { IsShort operand }
 {
     match operand {
-        Operand::Imm(imm) => Some(Instr::TestImm {
+        Operand::Imm(imm) => Instr::TestImm {
             width,
             a,
             imm: number(imm),
-        }),
-        Operand::Reg(src) => {
-            if src.number < 10 {
-                Some(Instr::Test {
-                    width,
-                    a,
-                    b: gpr(src),
-                })
-            } else {
-                None
-            }
-        }
+        },
+        Operand::Reg(src) => Instr::Test {
+            width,
+            a,
+            b: gpr(src),
+        },
     }
 }
 
-fn cmp_code(width: Width, to: u8, operand: Operand) -> Option<Instr>
+fn cmp_code(width: Width, to: u8, operand: Operand) -> Instr
     ensures value { result ≡ codes.cmp_code width to operand }
     ensures short { IsShort operand }
 {
     match operand {
-        Operand::Imm(imm) => Some(Instr::AluImm {
+        Operand::Imm(imm) => Instr::AluImm {
             op: Alu::Cmp,
             width,
             to,
             imm: number(imm),
-        }),
-        Operand::Reg(src) => {
-            if src.number < 10 {
-                Some(Instr::Alu {
-                    op: Alu::Cmp,
-                    width,
-                    to,
-                    from: gpr(src),
-                })
-            } else {
-                None
-            }
-        }
+        },
+        Operand::Reg(src) => Instr::Alu {
+            op: Alu::Cmp,
+            width,
+            to,
+            from: gpr(src),
+        },
     }
 }
 
 /// The instruction that compares for a jump.
-pub(crate) fn compare_code(
-    condition: Condition,
-    width: Width,
-    dst: Reg,
-    operand: Operand,
-) -> Option<Instr>
+pub(crate) fn compare_code(condition: Condition, width: Width, dst: Reg, operand: Operand) -> Instr
     ensures value { result ≡ codes.compare_code condition width dst.number operand }
-    ensures short { IfSome result (λ _. IsShort operand) }
+    ensures short { IsShort operand }
 {
-    if dst.number < 10 {
-        match condition {
-            Condition::Set => test_code(width, gpr(dst), operand),
-            _ => cmp_code(width, gpr(dst), operand),
-        }
-    } else {
-        None
+    match condition {
+        Condition::Set => test_code(width, gpr(dst), operand),
+        _ => cmp_code(width, gpr(dst), operand),
     }
 }
 

@@ -11,7 +11,7 @@ use std::alloc::AllocError;
 use x86::{Alu, Condition, Instr};
 
 /// The divisor to rcx.
-pub(crate) fn divisor_code(width: Width, operand: Operand) -> Option<Instr>
+pub(crate) fn divisor_code(width: Width, operand: Operand) -> Instr
     ensures value { result ≡ specs.divisor_code width operand }
     ensures short { IsShort operand }
 {
@@ -19,21 +19,15 @@ pub(crate) fn divisor_code(width: Width, operand: Operand) -> Option<Instr>
         Operand::Imm(imm) => {
             let imm = number(imm);
             match width {
-                Width::W64 => Some(Instr::MovSigned { to: 1, imm }),
-                Width::W32 => Some(Instr::MovImm { to: 1, imm }),
+                Width::W64 => Instr::MovSigned { to: 1, imm },
+                Width::W32 => Instr::MovImm { to: 1, imm },
             }
         }
-        Operand::Reg(src) => {
-            if src.number < 10 {
-                Some(Instr::Mov {
-                    width,
-                    to: 1,
-                    from: gpr(src),
-                })
-            } else {
-                None
-            }
-        }
+        Operand::Reg(src) => Instr::Mov {
+            width,
+            to: 1,
+            from: gpr(src),
+        },
     }
 }
 

@@ -1,6 +1,9 @@
 //! Which of the caller's registers the code keeps on the stack.
 
-ghost use Rattle.std.specs.Prelude.{◌≡◌, ◌≤◌, ℕ, ◌++◌, OnOk};
+ghost use Rattle.std.specs.Prelude.{◌≡◌, ◌≤◌, ℕ, ◌++◌, Some, OnOk};
+ghost use Rattle.native.specs.declared.task.Task.{Task as IsTask};
+ghost use Rattle.native.specs.Operations.{task_for};
+ghost use Rattle.native.specs.Laid.{SaveAll};
 ghost use Rattle.native.specs.Code.{codes};
 ghost use Rattle.native.specs.Saved as specs;
 ghost use Rattle.native.specs.Tasks.{WritesUpTo};
@@ -44,15 +47,17 @@ impl Saved {
 
 // How many registers of the caller's are kept where this one is written.
 fn rank(reg: Reg) -> u8
-    ensures { result ≡ specs.rank reg.number }
+    ensures value { result ≡ specs.rank reg.number }
+    ensures few { result ≤ 6 }
 {
-    let table = [0u8, 0, 3, 0, 0, 1, 2, 4, 5, 6, 7];
+    let table = [0u8, 0, 3, 0, 0, 1, 2, 4, 5, 6, 0];
     table[reg.number as usize]
 }
 
 /// The rank of the register that a task writes; 0 where it writes none, and for a helper's answer.
 pub(crate) fn rank_written(task: &Task) -> u8
-    ensures { (n : ℕ) → result ≤ n → WritesUpTo n task.now }
+    ensures writes { (n : ℕ) → result ≤ n → WritesUpTo n task.now }
+    ensures few { result ≤ 6 }
 {
     match *task {
         Task::Compute { dst, .. } => rank(dst),
@@ -66,14 +71,22 @@ pub(crate) fn rank_written(task: &Task) -> u8
     }
 }
 
-/// What operations need. Nothing rests on it: a task that writes a register of a higher rank is refused.
-pub(crate) fn saved_of(ops: &[Op], pool: &[u64]) -> Saved {
-    let mut highest = 0;
-    for op in ops {
-        if let Some(task) = task_of(*op, pool) {
-            highest = rank_written(&task).max(highest);
-        }
+// The same of an operation.
+fn rank_of(op: Op, pool: &[u64]) -> u8
+    ensures writes { (t : IsTask) → task_for pool.now op ≡ Some t → (n : ℕ) → result ≤ n → WritesUpTo n t }
+    ensures few { result ≤ 6 }
+{
+    match task_of(op, pool) {
+        Some(task) => rank_written(&task),
+        None => 0,
     }
+}
+
+// What is kept where this is the highest rank.
+fn saved_for(highest: u8) -> Saved
+    requires { highest ≤ 6 }
+    ensures { highest ≤ specs.highest result }
+{
     match highest {
         0 => Saved::NoWord,
         1 => Saved::R5,
@@ -83,6 +96,17 @@ pub(crate) fn saved_of(ops: &[Op], pool: &[u64]) -> Saved {
         5 => Saved::ToR8,
         _ => Saved::ToR9,
     }
+}
+
+/// What operations need.
+pub(crate) fn saved_of(ops: &[Op], pool: &[u64]) -> Saved
+    ensures { SaveAll ops.now pool.now result }
+{
+    let mut highest = 0;
+    for op in ops {
+        highest = rank_of(*op, pool).max(highest);
+    }
+    saved_for(highest)
 }
 
 /// Pushes what is kept.

@@ -1,9 +1,10 @@
 //! The code of each slot.
 
-ghost use Rattle.std.specs.Prelude.{◌≡◌, ◌<◌, ◌≤◌, ◌+◌, ◌^◌, [], ◌++◌, length, slice_index, IfSome, IfOk, OnOk};
+ghost use Rattle.std.specs.Prelude.{◌≡◌, ◌<◌, ◌≤◌, ◌+◌, ◌-◌, ◌^◌, true, [], ◌++◌, ℕ, length, slice_index, OnOk};
 ghost use Rattle.x86.specs.declared.instruction.Instr as machine;
-ghost use Rattle.native.specs.Code.{Emits, codes, flushed, leaving, entering, taken, IsBody, IsCall, IsQuotient, IsSigned, IsDone, Counts, Reaches, Plain, Forks, Jumps, Ends, Serves};
+ghost use Rattle.native.specs.Code.{Emits, codes, flushed, skipped, leaving, entering, taken, IsBody, IsCall, IsQuotient, IsSigned, IsDone, IsBalanced, IsBehind, Counts, Reaches, Plain, Forks, Jumps, Ends, Serves};
 ghost use Rattle.native.specs.Code as specs;
+ghost use Rattle.native.specs.Tasks.{is_apt};
 
 use crate::body::{Body, body_of, gpr};
 use crate::comparison::{compare_code, condition_of};
@@ -25,30 +26,51 @@ pub(crate) fn at(list: &[u64], index: usize) -> u64
 }
 
 // How much is added to the steps where the call goes on at another slot.
-fn count(pends: &[u64], slot: usize, to: usize) -> Option<u64>
-    ensures { IfSome result (λ k. Counts pends.now slot to k) }
+fn count(pends: &[u64], slot: usize, to: usize) -> u64
+    requires small { slice_index pends.now slot < 2 ^ 31 - 1 }
+    requires less { slice_index pends.now to ≤ slice_index pends.now slot + 1 }
+    ensures { Counts pends.now slot to result }
 {
-    let steps = at(pends, slot).checked_add(1)?;
-    let k = steps.checked_sub(at(pends, to))?;
-    if k < 0x8000_0000 { Some(k) } else { None }
+    at(pends, slot) + 1 - at(pends, to)
 }
 
-// The same where it may go on at either of two slots.
-fn count_both(pends: &[u64], slot: usize, to: usize, other: usize) -> Option<u64>
-    ensures first { IfSome result (λ k. Counts pends.now slot to k) }
-    ensures second { IfSome result (λ k. Counts pends.now slot other k) }
+// How far it is from behind a slot's code to a later one's.
+fn distance(tails: &[u64], slot: usize, to: usize) -> u64
+    requires few { slot < SLOTS }
+    requires later { slot < to }
+    requires behind { IsBehind tails.now slot }
+    ensures { Reaches tails.now slot to result }
 {
-    let k = count(pends, slot, to)?;
-    let also = count(pends, slot, other)?;
-    if also == k { Some(k) } else { None }
+    at(tails, slot + 1) - at(tails, to)
 }
 
-// How far it is from behind a jump to a slot.
-fn distance(places: &[u64], behind: u64, to: usize) -> Option<u64>
-    ensures { IfSome result (λ d. Reaches places.now behind to d) }
+// A jump forward.
+fn jump_code(distance: u64) -> Instr
+    ensures { result ≡ specs.jump_code distance }
 {
-    let d = at(places, to).checked_sub(behind)?;
-    if d < 0x8000_0000 { Some(d) } else { None }
+    if distance < 128 {
+        Instr::JumpShort {
+            distance: distance as u8,
+        }
+    } else {
+        Instr::Jump { distance }
+    }
+}
+
+fn jump_if_code(condition: x86::Condition, distance: u64) -> Instr
+    ensures { result ≡ specs.jump_if_code condition distance }
+{
+    if distance < 128 {
+        Instr::JumpIfShort {
+            condition,
+            distance: distance as u8,
+        }
+    } else {
+        Instr::JumpIf {
+            condition,
+            distance,
+        }
+    }
 }
 
 // Adds to the steps.
@@ -67,49 +89,52 @@ fn flush(code: &mut Vec<u8>, k: u64) -> Result<(), AllocError>
     }
 }
 
-// The instructions of a task without jumps. `false`: there are none.
-fn emit_body(code: &mut Vec<u8>, body: Body) -> Result<bool, AllocError>
-    ensures { IfOk result (Emits (IsBody body) code.old.items code.new.items) }
+// Jumps past a wide instruction's second slot, where something stands there.
+fn skip(code: &mut Vec<u8>, distance: u64) -> Result<(), AllocError>
+    ensures { OnOk result (code.new.items ≡ code.old.items ++ codes (skipped distance)) }
+{
+    if distance == 0 {
+        Ok(())
+    } else {
+        jump_code(distance).write(code)
+    }
+}
+
+// The instructions of a task without jumps.
+fn emit_body(code: &mut Vec<u8>, body: Body) -> Result<(), AllocError>
+    ensures { OnOk result (Emits (IsBody body) code.old.items code.new.items) }
 {
     match body {
-        Body::Refused => Ok(false),
+        Body::Empty => Ok(()),
         Body::One(i) => {
             write_all(code, &[i])?;
-            Ok(true)
+            Ok(())
         }
         Body::Two(i, j) => {
             write_all(code, &[i, j])?;
-            Ok(true)
+            Ok(())
         }
         Body::Three(i, j, k) => {
             write_all(code, &[i, j, k])?;
-            Ok(true)
+            Ok(())
         }
     }
 }
 
-// A helper that emits. `false`: it is too long.
-fn emit_helper(
-    alloc: Global,
-    code: &mut Vec<u8>,
-    helper: Helper,
-    at: u16,
-) -> Result<bool, AllocError>
-    ensures { IfOk result (Emits (IsCall (specs.tests_of helper) (specs.good_of helper at) (specs.end_of helper)) code.old.items code.new.items) }
+// A helper that emits.
+fn emit_helper(alloc: Global, code: &mut Vec<u8>, helper: Helper, at: u16) -> Result<(), AllocError>
+    ensures { OnOk result (Emits (IsCall (specs.tests_of helper) (specs.good_of helper at) (specs.end_of helper)) code.old.items code.new.items) }
 {
     let mut good = Vec::new(alloc);
     write_good(&mut good, helper, at as u64)?;
     let size = good.len() as u64;
-    if size >= 1000 {
-        return Ok(false);
-    }
     write_tests(code, helper, size)?;
     write_good(code, helper, at as u64)?;
     write_end(code, helper)?;
-    Ok(true)
+    Ok(())
 }
 
-// A quotient or a remainder. `false`: it can't be written.
+// A quotient or a remainder.
 fn emit_quotient(
     code: &mut Vec<u8>,
     width: Width,
@@ -118,20 +143,15 @@ fn emit_quotient(
     from: u8,
     none: Instr,
     size: u64,
-) -> Result<bool, AllocError>
-    ensures { IfOk result (Emits (IsQuotient width dst.number operand from none size) code.old.items code.new.items) }
+) -> Result<(), AllocError>
+    ensures { OnOk result (Emits (IsQuotient width dst.number operand from none size) code.old.items code.new.items) }
 {
-    if dst.number >= 10 {
-        return Ok(false);
-    }
-    let Some(first) = divisor_code(width, operand) else {
-        return Ok(false);
-    };
+    let first = divisor_code(width, operand);
     write_quotient(code, first, width, gpr(dst), from, none, size)?;
-    Ok(true)
+    Ok(())
 }
 
-// A signed one. `false`: it can't be written.
+// A signed one.
 fn emit_signed(
     code: &mut Vec<u8>,
     width: Width,
@@ -139,27 +159,17 @@ fn emit_signed(
     operand: Operand,
     from: u8,
     ways: Ways,
-) -> Result<bool, AllocError>
-    ensures { IfOk result (Emits (IsSigned width dst.number operand from ways.minus ways.minus_size ways.none ways.none_size) code.old.items code.new.items) }
+) -> Result<(), AllocError>
+    ensures { OnOk result (Emits (IsSigned width dst.number operand from ways.minus ways.minus_size ways.none ways.none_size) code.old.items code.new.items) }
 {
-    if dst.number >= 10 {
-        return Ok(false);
-    }
-    let Some(first) = divisor_code(width, operand) else {
-        return Ok(false);
-    };
+    let first = divisor_code(width, operand);
     write_signed(code, first, width, gpr(dst), from, ways)?;
-    Ok(true)
+    Ok(())
 }
 
-// A signed quotient. `false`: it can't be written.
-fn emit_sdiv(
-    code: &mut Vec<u8>,
-    width: Width,
-    dst: Reg,
-    operand: Operand,
-) -> Result<bool, AllocError>
-    ensures { IfOk result (Emits (IsDone (Task.Compute AluOp.Sdiv width dst operand)) code.old.items code.new.items) }
+// A signed quotient.
+fn emit_sdiv(code: &mut Vec<u8>, width: Width, dst: Reg, operand: Operand) -> Result<(), AllocError>
+    ensures { OnOk result (Emits (IsDone (Task.Compute AluOp.Sdiv width dst operand)) code.old.items code.new.items) }
 {
     let to = gpr(dst);
     let ways = Ways {
@@ -171,14 +181,9 @@ fn emit_sdiv(
     emit_signed(code, width, dst, operand, 0, ways)
 }
 
-// A signed remainder. `false`: it can't be written.
-fn emit_smod(
-    code: &mut Vec<u8>,
-    width: Width,
-    dst: Reg,
-    operand: Operand,
-) -> Result<bool, AllocError>
-    ensures { IfOk result (Emits (IsDone (Task.Compute AluOp.Smod width dst operand)) code.old.items code.new.items) }
+// A signed remainder.
+fn emit_smod(code: &mut Vec<u8>, width: Width, dst: Reg, operand: Operand) -> Result<(), AllocError>
+    ensures { OnOk result (Emits (IsDone (Task.Compute AluOp.Smod width dst operand)) code.old.items code.new.items) }
 {
     let to = gpr(dst);
     let ways = Ways {
@@ -194,15 +199,15 @@ fn emit_smod(
     emit_signed(code, width, dst, operand, 2, ways)
 }
 
-// Arithmetic. `false`: it can't be written.
+// Arithmetic.
 fn emit_compute(
     code: &mut Vec<u8>,
     op: AluOp,
     width: Width,
     dst: Reg,
     operand: Operand,
-) -> Result<bool, AllocError>
-    ensures { IfOk result (Emits (IsDone (Task.Compute op width dst operand)) code.old.items code.new.items) }
+) -> Result<(), AllocError>
+    ensures { OnOk result (Emits (IsDone (Task.Compute op width dst operand)) code.old.items code.new.items) }
 {
     let to = gpr(dst);
     let zero = Instr::MovImm { to, imm: 0 };
@@ -223,15 +228,15 @@ fn emit_compute(
                 dst,
                 operand,
             };
-            let done = emit_body(code, body_of(task))?;
-            Ok(done)
+            emit_body(code, body_of(task))?;
+            Ok(())
         }
     }
 }
 
-// What a task that always goes on does. `false`: it can't be written.
-fn emit_done(alloc: Global, code: &mut Vec<u8>, task: Task) -> Result<bool, AllocError>
-    ensures { IfOk result (Emits (IsDone task) code.old.items code.new.items) }
+// What a task that always goes on does.
+fn emit_done(alloc: Global, code: &mut Vec<u8>, task: Task) -> Result<(), AllocError>
+    ensures { OnOk result (Emits (IsDone task) code.old.items code.new.items) }
 {
     match task {
         Task::Send { at } => emit_helper(alloc, code, Helper::Send, at),
@@ -245,8 +250,8 @@ fn emit_done(alloc: Global, code: &mut Vec<u8>, task: Task) -> Result<bool, Allo
             operand,
         } => emit_compute(code, op, width, dst, operand),
         _ => {
-            let done = emit_body(code, body_of(task))?;
-            Ok(done)
+            emit_body(code, body_of(task))?;
+            Ok(())
         }
     }
 }
@@ -262,119 +267,89 @@ fn taken(task: Task) -> usize
     }
 }
 
-/// A task that always goes on. `false`: it can't be written.
+/// A task that always goes on.
 fn emit_plain(
     alloc: Global,
     code: &mut Vec<u8>,
     pends: &[u64],
-    places: &[u64],
+    tails: &[u64],
     slot: usize,
     task: Task,
-) -> Result<bool, AllocError>
-    requires { slot < SLOTS }
-    ensures { IfOk result (Emits (Plain pends.now places.now slot (length code.old.items) task) code.old.items code.new.items) }
+) -> Result<(), AllocError>
+    requires few { slot < SLOTS }
+    requires small { slice_index pends.now slot < 2 ^ 31 - 1 }
+    requires balanced { slice_index pends.now (slot + taken task) ≤ slice_index pends.now slot + 1 }
+    requires behind { IsBehind tails.now slot }
+    ensures { OnOk result (Emits (Plain pends.now tails.now slot task) code.old.items code.new.items) }
 {
     let next = slot + taken(task);
-    let Some(k) = count(pends, slot, next) else {
-        return Ok(false);
-    };
-    let behind = at(places, next);
-    let place = at(places, slot + 1);
-    if behind != place {
-        return Ok(false);
-    }
+    let steps = count(pends, slot, next);
+    let past = distance(tails, slot, next);
     // Its clause says that the task's number has 32 bits.
     let _short = body_of(task);
-    let done = emit_done(alloc, code, task)?;
-    if !done {
-        return Ok(false);
-    }
-    flush(code, k)?;
-    // A vector's length is below 2 to the 64th.
-    let _fits = code.len();
-    Ok(true)
+    emit_done(alloc, code, task)?;
+    flush(code, steps)?;
+    skip(code, past)?;
+    Ok(())
 }
 
 /// A conditional jump.
 fn emit_branch(
     code: &mut Vec<u8>,
     pends: &[u64],
-    places: &[u64],
+    tails: &[u64],
     slot: usize,
     condition: Condition,
     width: Width,
     dst: Reg,
     operand: Operand,
     to: u16,
-) -> Result<bool, AllocError>
-    requires { slot < SLOTS }
-    ensures { IfOk result (Emits (Forks pends.now places.now slot (length code.old.items) condition width dst.number operand to) code.old.items code.new.items) }
+) -> Result<(), AllocError>
+    requires few { slot < SLOTS }
+    requires later { slot < to }
+    requires small { slice_index pends.now slot < 2 ^ 31 - 1 }
+    requires balanced { IsBalanced pends.now slot (Task.Branch condition width dst operand to) }
+    requires behind { IsBehind tails.now slot }
+    ensures { OnOk result (Emits (Forks pends.now tails.now slot condition width dst.number operand to) code.old.items code.new.items) }
 {
-    let Some(compare) = compare_code(condition, width, dst, operand) else {
-        return Ok(false);
-    };
-    let met = condition_of(condition);
-    let Some(k) = count_both(pends, slot, slot + 1, to as usize) else {
-        return Ok(false);
-    };
-    flush(code, k)?;
-    compare.write(code)?;
-    let Some(behind) = (code.len() as u64).checked_add(6) else {
-        return Ok(false);
-    };
-    let Some(distance) = distance(places, behind, to as usize) else {
-        return Ok(false);
-    };
-    Instr::JumpIf {
-        condition: met,
-        distance,
-    }
-    .write(code)?;
-    Ok(true)
+    let steps = count(pends, slot, slot + 1);
+    let distance = distance(tails, slot, to as usize);
+    flush(code, steps)?;
+    let jump = jump_if_code(condition_of(condition), distance);
+    write_all(code, &[compare_code(condition, width, dst, operand), jump])?;
+    Ok(())
 }
 
 /// A jump.
 fn emit_leap(
     code: &mut Vec<u8>,
     pends: &[u64],
-    places: &[u64],
+    tails: &[u64],
     slot: usize,
     to: u16,
-) -> Result<bool, AllocError>
-    ensures { IfOk result (Emits (Jumps pends.now places.now slot (length code.old.items) to) code.old.items code.new.items) }
+) -> Result<(), AllocError>
+    requires few { slot < SLOTS }
+    requires later { slot < to }
+    requires small { slice_index pends.now slot < 2 ^ 31 - 1 }
+    requires balanced { slice_index pends.now to ≤ slice_index pends.now slot + 1 }
+    requires behind { IsBehind tails.now slot }
+    ensures { OnOk result (Emits (Jumps pends.now tails.now slot to) code.old.items code.new.items) }
 {
-    let Some(k) = count(pends, slot, to as usize) else {
-        return Ok(false);
-    };
-    flush(code, k)?;
-    let Some(behind) = (code.len() as u64).checked_add(5) else {
-        return Ok(false);
-    };
-    let Some(distance) = distance(places, behind, to as usize) else {
-        return Ok(false);
-    };
-    Instr::Jump { distance }.write(code)?;
-    Ok(true)
+    let steps = count(pends, slot, to as usize);
+    let distance = distance(tails, slot, to as usize);
+    flush(code, steps)?;
+    write_all(code, &[jump_code(distance)])?;
+    Ok(())
 }
 
 /// The end.
-fn emit_exit(
-    code: &mut Vec<u8>,
-    pends: &[u64],
-    saved: Saved,
-    slot: usize,
-) -> Result<bool, AllocError>
-    ensures { IfOk result (Emits (Ends pends.now saved slot) code.old.items code.new.items) }
+fn emit_exit(code: &mut Vec<u8>, pends: &[u64], saved: Saved, slot: usize) -> Result<(), AllocError>
+    requires { slice_index pends.now slot < 2 ^ 31 - 1 }
+    ensures { OnOk result (Emits (Ends pends.now saved slot) code.old.items code.new.items) }
 {
-    let Some(k) = at(pends, slot).checked_add(1) else {
-        return Ok(false);
-    };
-    if k >= 0x8000_0000 {
-        return Ok(false);
-    }
-    flush(code, k)?;
+    flush(code, at(pends, slot) + 1)?;
     emit_leaving(code, saved)?;
-    Ok(true)
+    Ok(())
 }
 
 // Tells the steps, and returns.
@@ -413,18 +388,22 @@ pub(crate) fn emit_entry(code: &mut Vec<u8>, saved: Saved) -> Result<(), AllocEr
     write_all(code, &begin)
 }
 
-/// The code of a task. `false`: it can't be written.
+/// The code of a task.
 pub(crate) fn emit(
     alloc: Global,
     code: &mut Vec<u8>,
     pends: &[u64],
-    places: &[u64],
+    tails: &[u64],
     saved: Saved,
     slot: usize,
     task: Task,
-) -> Result<bool, AllocError>
-    requires { slot < SLOTS }
-    ensures { IfOk result (Emits (Serves pends.now places.now saved slot (length code.old.items) task) code.old.items code.new.items) }
+) -> Result<(), AllocError>
+    requires few { slot < SLOTS }
+    requires apt { is_apt slot task ≡ true }
+    requires small { slice_index pends.now slot < 2 ^ 31 - 1 }
+    requires balanced { IsBalanced pends.now slot task }
+    requires behind { IsBehind tails.now slot }
+    ensures { OnOk result (Emits (Serves pends.now tails.now saved slot task) code.old.items code.new.items) }
 {
     match task {
         Task::Branch {
@@ -433,14 +412,10 @@ pub(crate) fn emit(
             dst,
             operand,
             to,
-        } => {
-            emit_branch(
-                code, pends, places, slot, condition, width, dst, operand, to,
-            )
-        }
-        Task::Leap { to } => emit_leap(code, pends, places, slot, to),
+        } => { emit_branch(code, pends, tails, slot, condition, width, dst, operand, to) }
+        Task::Leap { to } => emit_leap(code, pends, tails, slot, to),
         Task::Exit => emit_exit(code, pends, saved, slot),
-        Task::Dead => Ok(true),
-        _ => emit_plain(alloc, code, pends, places, slot, task),
+        Task::Dead => Ok(()),
+        _ => emit_plain(alloc, code, pends, tails, slot, task),
     }
 }

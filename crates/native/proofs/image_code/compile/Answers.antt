@@ -1,30 +1,44 @@
-use Rattle.std.proofs.Common.{◌≡◌, ◌<◌, length, IsTrue, Some, sym, ap, ◌∙◌, subst, arith, rules}
-use Rattle.std.specs.Prelude.{slice_get}
-use Rattle.std.proofs.lemmas.Option.{slice_get-get_or}
-use Rattle.native.specs.Laid.{Lays}
-use Rattle.native.proofs.Native.{laid_next, native}
+use Rattle.std.proofs.Common.{◌≡◌, ℕ, ◌<◌, ◌+◌, ◌-◌, ◌++◌, length, reverse, sym, ap, ◌∙◌, subst, arith}
+use Rattle.native.specs.Code.{codes, entering}
+use Rattle.native.specs.Laid.{LaidFrom}
+use Rattle.native.proofs.Native.{laid_none, native}
 use Rattle.native.proofs.image_code.compile.Goals as goal
 
-pub loop-slot-preserved : goal.loop-slot-preserved
-loop-slot-preserved c =
+pub slots-init : goal.slots-init
+slots-init c =
+    laid_none c.operations.result.0.now c.operations.result.1.now c.in_ok-pends.pends.items c.in_ok-tails.tails.items c.saved_of-saved.result (reverse c.new-back.result.items) c.min-count.result c.in_ok-tails.ensures (ap reverse c.new-back.ensures.items)
+
+pub lay_slot-requires-clause-laid : goal.lay_slot-requires-clause-laid
+lay_slot-requires-clause-laid c =
     let ops = c.operations.result.0.now in
     let pool = c.operations.result.1.now in
-    let pends = c.in_ok-pends.pends.items in
-    let places = c.in_ok-places.places.items in
-    let o = c.index-ops-slot.result in
-    let slot = c.loop-slot.slot in
-    let old = c.loop-slot.code.items in
-    let new = c.emit_slot.new.code.items in
-    let w : slot < length ops = omega (arith, c.loop-slot-test.true) in
-    let f : slice_get ops slot ≡ Some o = slice_get-get_or ops slot o w ∙ ap Some (sym c.index-ops-slot.is) in
-    let d : IsTrue c.in_ok-done.done = search (rules, c.if-not-done.false) in
-    let l = c.in_ok-done.ensures d in
-    let l1 = subst (λ x. Lays pool x c.as_slice-in-loop-slot-2.result.now c.saved_of-saved.result slot o old new) c.as_slice-in-loop-slot.ensures.value l in
-    let l2 = subst (λ x. Lays pool pends x c.saved_of-saved.result slot o old new) c.as_slice-in-loop-slot-2.ensures.value l1 in
-    laid_next ops pool pends places c.saved_of-saved.result old new slot o f c.loop-slot.invariant l2
+    let tails = c.slots.tails.items in
+    let back = reverse c.slots.back.items in
+    let next = c.slots.slot - 1 + 1 in
+    let e : c.slots.slot ≡ next = omega (arith, c.slots-test.true) in
+    subst (λ p. LaidFrom ops pool p tails c.saved_of-saved.result back c.min-count.result next) (sym c.as_slice.ensures.value)
+    (subst (λ k. LaidFrom ops pool c.in_ok-pends.pends.items tails c.saved_of-saved.result back c.min-count.result k) e c.slots.invariant)
+
+pub slots-preserved : goal.slots-preserved
+slots-preserved c =
+    subst (λ p. LaidFrom c.operations.result.0.now c.operations.result.1.now p c.lay_slot.new.tails.items c.saved_of-saved.result (reverse c.lay_slot.new.back.items) c.min-count.result (c.slots.slot - 1)) c.as_slice.ensures.value c.in_ok-lay_slot.ensures
 
 pub returns : goal.returns
 returns c =
     let b = c.begin-begin.ensures in
     let p = c.args.image.now in
-    native p.form p.slots p.table p.len p.low c.operations.result.0.now c.operations.result.1.now c.in_ok-pends.pends.items c.in_ok-places.places.items c.saved_of-saved.result c.loop-slot.code.items c.loop-slot.slot b.typing b.short b.state c.operations.ensures.dense c.operations.ensures.sparing b.from b.to (omega (arith, c.loop-slot-test.false)) c.loop-slot.invariant
+    let ops = c.operations.result.0.now in
+    let pool = c.operations.result.1.now in
+    let pends = c.in_ok-pends.pends.items in
+    let tails = c.slots.tails.items in
+    let saved = c.saved_of-saved.result in
+    let rest = reverse c.slots.back.items in
+    let count = c.min-count.result in
+    let code = c.extend_from_slice.new.self.items in
+    let e : code ≡ codes (entering saved) ++ rest =
+    c.in_ok-extend_from_slice.ensures.items
+    ∙ ap (λ x. c.emit_entry.new.code.items ++ x) (c.as_slice-2.ensures.value ∙ c.reverse.ensures.items)
+    ∙ ap (λ x. x ++ rest) (c.in_ok-emit_entry.ensures ∙ ap (λ x. x ++ codes (entering saved)) c.new-code.ensures.items) in
+    let n : c.len-fits.result ≡ length code = c.len-fits.ensures ∙ c.extend_from_slice.new.self.ok.0 in
+    let done : c.slots.slot ≡ 0 = omega (arith, c.slots-test.false) in
+    native p.form p.slots p.table p.len p.low ops pool pends tails saved code rest count c.kinds_at-frame.ensures.typing b.short b.state c.operations.ensures.dense c.operations.ensures.sparing b.from b.to c.in_ok-pends.ensures c.saved_of-saved.ensures (λ j l m. omega (arith, l, m, c.min-count.ensures, b.short)) e (omega (arith, n, c.len-fits.type_inv)) (subst (λ k. LaidFrom ops pool pends tails saved rest count k) done c.slots.invariant)

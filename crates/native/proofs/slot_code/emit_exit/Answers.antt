@@ -5,14 +5,8 @@ use Rattle.native.proofs.slot_code.emit_exit.Goals as goal
 
 pub returns : goal.returns
 returns c =
-    let k = c.in-Some.k in
-    λ _. (
+    let k = c.at.result + 1 in (
       flushed k ++ leaving c.args.saved,
-      record {
-        k = k;
-        is_are = refl;
-        short = omega (arith, c.if-k-ge2147483648.false);
-        sums = c.in-Some.ensures.1 ∙ ap (λ x. x + 1) c.at.ensures;
-      },
+      record { k = k; is_are = refl; short = omega (arith, c.at.ensures, c.requires); sums = ap (λ x. x + 1) c.at.ensures },
       some_then c.args.code.now.items c.flush.new.code.items c.emit_leaving.new.code.items (flushed k) (leaving c.args.saved) c.in_ok-flush.ensures c.in_ok-emit_leaving.ensures,
     )

@@ -1,6 +1,7 @@
-use Rattle.std.proofs.Common.{◌++◌, ap, ◌∙◌, length, arith}
+use Rattle.std.proofs.Common.{◌++◌, ap, ◌∙◌, sym, length, arith, subst, ◌<◌}
 use Rattle.native.specs.Code as specs
 use Rattle.native.proofs.Emitted.{call_is}
+use Rattle.native.proofs.Lengths.{good_few}
 use Rattle.native.proofs.slot_code.emit_helper.Goals as goal
 
 pub returns : goal.returns
@@ -9,4 +10,12 @@ returns c =
     let good = specs.good_of h c.args.at in
     let written = c.in_ok-write_good.ensures ∙ ap (λ l. l ++ specs.codes good) c.new-good.ensures.items in
     let size = c.len-size.ensures ∙ c.write_good.new.code.ok.0 ∙ ap length written in
-    λ _. call_is (specs.tests_of h) good (specs.end_of h) c.len-size.result c.args.code.now.items c.write_tests.new.code.items c.write_good-2.new.code.items c.write_end.new.code.items size (omega (arith, c.if-size-ge1000.false)) c.in_ok-write_tests.ensures c.in_ok-write_good-2.ensures c.in_ok-write_end.ensures
+    call_is (specs.tests_of h) good (specs.end_of h) c.len-size.result c.args.code.now.items c.write_tests.new.code.items c.write_good-2.new.code.items c.write_end.new.code.items size c.in_ok-write_tests.ensures c.in_ok-write_good-2.ensures c.in_ok-write_end.ensures
+
+pub write_tests-requires : goal.write_tests-requires
+write_tests-requires c =
+    let h = c.args.helper in
+    let good = specs.good_of h c.args.at in
+    let written = c.in_ok-write_good.ensures ∙ ap (λ l. l ++ specs.codes good) c.new-good.ensures.items in
+    let size = c.len-size.ensures ∙ c.write_good.new.code.ok.0 ∙ ap length written in
+    subst (λ n. n < 1000) (sym size) (good_few h c.args.at)
