@@ -1,0 +1,72 @@
+/* Kills its program before the n-th call that changes a file: write, sync, rename, truncate, unlink. It is loaded in front of the
+   C library, and DIE_AT is n. A write of an even n is cut in half first. */
+#include <dlfcn.h>
+#include <signal.h>
+#include <stdlib.h>
+#include <sys/stat.h>
+#include <sys/types.h>
+#include <unistd.h>
+
+static long calls;
+
+/* Whether this is the call to die at. */
+static int is_last(void) {
+    static long at = -1;
+    if (at < 0) at = getenv("DIE_AT") ? atol(getenv("DIE_AT")) : 0;
+    return at > 0 && ++calls == at;
+}
+
+static void die(void) {
+    kill(getpid(), SIGKILL);
+    for (;;) pause();
+}
+
+static void *next(const char *name) { return dlsym(RTLD_NEXT, name); }
+
+static int is_file(int file) {
+    struct stat about;
+    return fstat(file, &about) == 0 && S_ISREG(about.st_mode);
+}
+
+ssize_t write(int file, const void *bytes, size_t size) {
+    ssize_t (*real)(int, const void *, size_t) = next("write");
+    if (is_file(file) && is_last()) {
+        if (calls % 2 == 0) real(file, bytes, size / 2);
+        die();
+    }
+    return real(file, bytes, size);
+}
+
+ssize_t pwrite64(int file, const void *bytes, size_t size, off_t at) {
+    ssize_t (*real)(int, const void *, size_t, off_t) = next("pwrite64");
+    if (is_last()) {
+        if (calls % 2 == 0) real(file, bytes, size / 2, at);
+        die();
+    }
+    return real(file, bytes, size, at);
+}
+
+int fsync(int file) {
+    if (is_last()) die();
+    return ((int (*)(int))next("fsync"))(file);
+}
+
+int fdatasync(int file) {
+    if (is_last()) die();
+    return ((int (*)(int))next("fdatasync"))(file);
+}
+
+int renameat(int from, const char *old, int to, const char *new) {
+    if (is_last()) die();
+    return ((int (*)(int, const char *, int, const char *))next("renameat"))(from, old, to, new);
+}
+
+int ftruncate64(int file, off_t size) {
+    if (is_last()) die();
+    return ((int (*)(int, off_t))next("ftruncate64"))(file, size);
+}
+
+int unlink(const char *path) {
+    if (is_last()) die();
+    return ((int (*)(const char *))next("unlink"))(path);
+}

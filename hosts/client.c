@@ -1,0 +1,148 @@
+#include "client.h"
+
+#include "report.h"
+
+#include <errno.h>
+#include <inttypes.h>
+#include <stdarg.h>
+#include <stdio.h>
+#include <stdlib.h>
+#include <string.h>
+#include <unistd.h>
+
+enum { AT_ONCE = 4096, LONGEST_ANSWER = 1024 }; /* bytes that a pipe takes whole once it is free; of one answer */
+
+void client_open(struct client *client, int in, int out) {
+    client->in = in;
+    client->out = out;
+    client->takes_outputs = client->is_broken = false;
+    client->line = 0;
+    client->from = client->have = client->answers = 0;
+}
+
+void client_close(struct client *client) {
+    if (client->in >= 0 && client->in != client->out) close(client->in);
+    if (client->out >= 0) close(client->out);
+    client_open(client, -1, -1);
+}
+
+static bool is_ready(int file, short events) {
+    struct pollfd state = {.fd = file, .events = events};
+    return file >= 0 && poll(&state, 1, 0) == 1;
+}
+
+void client_read(struct client *client) {
+    client->have -= client->from;
+    memmove(client->text, client->text + client->from, client->have);
+    client->from = 0;
+    size_t room = sizeof client->text - client->have;
+    if (room == 0 || !is_ready(client->in, POLLIN)) return;
+    ssize_t size = read(client->in, client->text + client->have, room);
+    if (size > 0) client->have += (size_t)size;
+    if (size > 0 || (size < 0 && (errno == EINTR || errno == EAGAIN))) return;
+    client->in = -1; /* no more inputs; outputs may still come */
+}
+
+static int digit(char of) {
+    if (of >= '0' && of <= '9') return of - '0';
+    if (of >= 'a' && of <= 'f') return of - 'a' + 10;
+    return of >= 'A' && of <= 'F' ? of - 'A' + 10 : -1;
+}
+
+/* Pairs of digits, or - for none. */
+static const char *read_hex(const char *hex, struct line *line) {
+    size_t digits = strcmp(hex, "-") ? strlen(hex) : 0;
+    if (digits % 2) return "HEX has two digits a byte";
+    if (digits / 2 > PAYLOAD_LIMIT) return "a message has at most 256 bytes";
+    for (line->size = 0; line->size < digits / 2; line->size++) {
+        int high = digit(hex[2 * line->size]), low = digit(hex[2 * line->size + 1]);
+        if (high < 0 || low < 0) return "HEX has the digits 0 to 9 and a to f";
+        line->payload[line->size] = (uint8_t)(high << 4 | low);
+    }
+    return NULL;
+}
+
+/* A number below 2^64, as eight bytes, the lowest first. */
+static const char *read_word(const char *word, struct line *line) {
+    char *end;
+    errno = 0;
+    uint64_t number = strtoull(word, &end, 10);
+    if (*word < '0' || *word > '9' || *end || errno) return "WORD is a number below 2^64";
+    for (line->size = 0; line->size < 8; line->size++) line->payload[line->size] = (uint8_t)(number >> 8 * line->size);
+    return NULL;
+}
+
+/* Why a line isn't taken; null where it is. */
+static const char *read_order(char *text, const struct cluster *cluster, struct line *line) {
+    char *rest = NULL, *word = strtok_r(text, " \t\r", &rest), *name = strtok_r(NULL, " \t\r", &rest);
+    char *last = strtok_r(NULL, " \t\r", &rest);
+    if (!word || *word == '#') return NULL;
+    if (!strcmp(word, "outputs") && !name) {
+        line->order = ORDER_OUTPUTS;
+        return NULL;
+    }
+    bool is_bytes = !strcmp(word, "bytes"), is_input = !strcmp(word, "input");
+    if (!is_bytes && !is_input) return "a line is: bytes NAME HEX, or: input NAME WORD";
+    if (!name || (is_input && !last) || strtok_r(NULL, " \t\r", &rest)) return "a line is: bytes NAME HEX, or: input NAME WORD";
+    line->process = cluster_find(cluster, name);
+    if (line->process == 0) return "no process has this name";
+    line->order = ORDER_INPUT;
+    return is_bytes ? read_hex(last ? last : "-", line) : read_word(last, line);
+}
+
+bool client_line(struct client *client, const struct cluster *cluster, struct line *line) {
+    char *text = client->text + client->from;
+    size_t left = client->have - client->from;
+    if (client->answers + LONGEST_ANSWER > sizeof client->answer) return false;
+    char *end = memchr(text, '\n', left);
+    *line = (struct line){.order = ORDER_NONE};
+    if (!end && left < sizeof client->text) return false;
+    size_t size = end ? (size_t)(end - text) : left;
+    client->from += end ? size + 1 : size;
+    client->line++;
+    if (end) *end = 0;
+    if (!end) line->why = "a line is too long";
+    else if (strlen(text) != size) line->why = "a line has a zero byte";
+    else line->why = read_order(text, cluster, line);
+    if (line->why) line->order = ORDER_REFUSED;
+    return true;
+}
+
+void client_answer(struct client *client, const char *format, ...) {
+    va_list arguments;
+    va_start(arguments, format);
+    if (client->out >= 0 && client->answers + LONGEST_ANSWER <= sizeof client->answer)
+        client->answers += (size_t)vsnprintf(client->answer + client->answers, LONGEST_ANSWER, format, arguments);
+    va_end(arguments);
+}
+
+void client_write(struct client *client) {
+    while (client->answers > 0 && is_ready(client->out, POLLOUT)) {
+        size_t some = client->answers < AT_ONCE ? client->answers : AT_ONCE;
+        ssize_t size = write(client->out, client->answer, some);
+        if (size < 0 && (errno == EINTR || errno == EAGAIN)) return;
+        if (size < 0) {
+            client->is_broken = true;
+            return;
+        }
+        client->answers -= (size_t)size;
+        memmove(client->answer, client->answer + size, client->answers);
+    }
+}
+
+bool client_is_over(const struct client *client) {
+    if (client->out < 0) return false;
+    return client->is_broken || (client->in < 0 && is_ready(client->out, 0));
+}
+
+bool client_is_done(const struct client *client) {
+    bool has_line = memchr(client->text + client->from, '\n', client->have - client->from) != NULL;
+    return client->out >= 0 && client->in < 0 && !has_line && client->answers == 0 && !client->takes_outputs;
+}
+
+bool client_is_free(struct client *client) { return client->answers == 0 && is_ready(client->out, POLLOUT); }
+
+void client_watch(const struct client *client, bool reads, bool writes, struct watch *watch) {
+    if (reads && client->have - client->from < sizeof client->text) watch_file(watch, client->in, POLLIN);
+    if (writes || client->answers > 0) watch_file(watch, client->out, POLLOUT);
+}

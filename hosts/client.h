@@ -1,0 +1,60 @@
+/* A program that hands in inputs and takes outputs, line by line: standard input and output, or a connection. */
+#ifndef CLIENT_H
+#define CLIENT_H
+
+#include "cluster.h"
+#include "watch.h"
+
+#include <stdbool.h>
+#include <stddef.h>
+#include <stdint.h>
+
+enum { PAYLOAD_LIMIT = 256, CLIENT_ROOM = 1 << 16, ANSWER_ROOM = 1 << 16 };
+
+struct client {
+    int in, out; /* -1: closed */
+    bool takes_outputs, is_broken;
+    uint64_t line;
+    size_t from, have; /* where the bytes begin that were read and not taken yet, and where they end */
+    size_t answers;    /* bytes that are to be written */
+    char text[CLIENT_ROOM], answer[ANSWER_ROOM];
+};
+
+/* What a line asks for. */
+enum order { ORDER_NONE, ORDER_INPUT, ORDER_OUTPUTS, ORDER_REFUSED };
+
+struct line {
+    enum order order;
+    int process;
+    size_t size;
+    uint8_t payload[PAYLOAD_LIMIT];
+    const char *why; /* it is refused */
+};
+
+void client_open(struct client *client, int in, int out);
+void client_close(struct client *client);
+
+/* Reads what is there. */
+void client_read(struct client *client);
+
+/* The next whole line; false where there is none, or its answer has no place. */
+bool client_line(struct client *client, const struct cluster *cluster, struct line *line);
+
+/* An answer, which is written when there is room. */
+void client_answer(struct client *client, const char *format, ...) __attribute__((format(printf, 2, 3)));
+
+/* Writes answers as far as that doesn't block. */
+void client_write(struct client *client);
+
+/* Whether nobody reads what is written any more. */
+bool client_is_over(const struct client *client);
+
+/* Whether it has said all that it had to say, was answered, and waits for nothing. */
+bool client_is_done(const struct client *client);
+
+/* Whether a line can be written now, whole, behind all answers. */
+bool client_is_free(struct client *client);
+
+void client_watch(const struct client *client, bool reads, bool writes, struct watch *watch);
+
+#endif

@@ -1,0 +1,154 @@
+#include "cluster.h"
+
+#include "report.h"
+
+#include <ctype.h>
+#include <stdbool.h>
+#include <stdio.h>
+#include <stdlib.h>
+#include <string.h>
+#include <sys/un.h>
+
+enum { LINE_LIMIT = 4096, WORD_LIMIT = 5 };
+
+/* What is being read, for sentences about it. */
+struct reading {
+    const char *path;
+    int line;
+    bool has_name, has_gateway;
+};
+
+static int refused(const struct reading *at, const char *why, const char *word) {
+    report("%s, line %d: %s%s%s", at->path, at->line, why, *word ? ": " : "", word);
+    return STATUS_CLUSTER;
+}
+
+/* Letters, digits, - and _, so that a name is a word of a line and of a NATS subject. */
+static bool is_name(const char *word) {
+    size_t size = strlen(word);
+    if (size == 0 || size > NAME_LIMIT) return false;
+    for (const char *at = word; *at; at++)
+        if (!isalnum((unsigned char)*at) && *at != '-' && *at != '_') return false;
+    return true;
+}
+
+static bool is_host_and_port(const char *where) {
+    const char *colon = strrchr(where, ':');
+    if (!colon || colon == where || !colon[1] || strlen(colon + 1) > 5) return false;
+    for (const char *at = colon + 1; *at; at++)
+        if (!isdigit((unsigned char)*at)) return false;
+    int port = atoi(colon + 1);
+    return port >= 1 && port <= 65535;
+}
+
+static int read_address(const struct reading *at, const char *word, struct address *address) {
+    static const char *const carriers[] = {"unix:", "tcp:", "nats:"};
+    for (int carrier = CARRIER_UNIX; carrier <= CARRIER_NATS; carrier++) {
+        size_t size = strlen(carriers[carrier]);
+        if (strncmp(word, carriers[carrier], size) != 0) continue;
+        const char *where = word + size;
+        if (!*where) return refused(at, "nothing stands behind the colon", word);
+        if (carrier == CARRIER_UNIX && strlen(where) >= sizeof((struct sockaddr_un *)0)->sun_path)
+            return refused(at, "the path of a socket has at most 107 bytes", where);
+        if (carrier == CARRIER_TCP && !is_host_and_port(where))
+            return refused(at, "an address of tcp is tcp:HOST:PORT", word);
+        address->carrier = (enum carrier)carrier;
+        address->where = strdup(where);
+        return address->where ? STATUS_DONE : STATUS_MEMORY;
+    }
+    return refused(at, "an address begins with unix:, tcp: or nats:", word);
+}
+
+/* An image is named from where the cluster file is. */
+static char *beside(const char *path, const char *image) {
+    const char *slash = strrchr(path, '/');
+    size_t folder = *image == '/' || !slash ? 0 : (size_t)(slash - path) + 1;
+    char *joined = malloc(folder + strlen(image) + 1);
+    if (!joined) return NULL;
+    memcpy(joined, path, folder);
+    strcpy(joined + folder, image);
+    return joined;
+}
+
+static int read_process(struct reading *at, char *const words[], int count, struct cluster *cluster) {
+    if (count != 4) return refused(at, "such a line is: process NAME IMAGE ADDRESS", "");
+    if (!is_name(words[1])) return refused(at, "a name has 1 to 32 letters, digits, - and _", words[1]);
+    if (!strcmp(words[1], "gateway")) return refused(at, "no process is called so", words[1]);
+    if (cluster_find(cluster, words[1])) return refused(at, "there are two processes of this name", words[1]);
+    if (cluster->count == PROCESS_LIMIT) return refused(at, "a cluster has at most 15 processes", words[1]);
+    struct process *process = &cluster->processes[++cluster->count];
+    strcpy(process->name, words[1]);
+    process->image = beside(at->path, words[2]);
+    return process->image ? read_address(at, words[3], &process->address) : STATUS_MEMORY;
+}
+
+static int read_words(struct reading *at, char *const words[], int count, struct cluster *cluster) {
+    if (!strcmp(words[0], "process")) return read_process(at, words, count, cluster);
+    if (!strcmp(words[0], "cluster")) {
+        if (count != 2 || !is_name(words[1])) return refused(at, "such a line is: cluster NAME", "");
+        if (at->has_name) return refused(at, "the cluster has a name already", words[1]);
+        at->has_name = true;
+        strcpy(cluster->name, words[1]);
+        return STATUS_DONE;
+    }
+    if (!strcmp(words[0], "gateway")) {
+        if (count != 2) return refused(at, "such a line is: gateway ADDRESS", "");
+        if (at->has_gateway) return refused(at, "there are two gateways", words[1]);
+        at->has_gateway = true;
+        return read_address(at, words[1], &cluster->processes[0].address);
+    }
+    return refused(at, "a line begins with cluster, gateway or process, not with", words[0]);
+}
+
+static int read_line(struct reading *at, char *line, struct cluster *cluster) {
+    char *words[WORD_LIMIT + 1], *rest = NULL;
+    int count = 0;
+    for (char *word = strtok_r(line, " \t\r\n", &rest); word; word = strtok_r(NULL, " \t\r\n", &rest)) {
+        if (count == WORD_LIMIT) break;
+        words[count++] = word;
+    }
+    if (count == 0 || *words[0] == '#') return STATUS_DONE;
+    return read_words(at, words, count, cluster);
+}
+
+/* Addresses of unix and tcp are of one process each; those of nats may be the same server. */
+static int judge(const struct reading *at, const struct cluster *cluster) {
+    const char *missing = !at->has_name ? "cluster NAME" : !at->has_gateway ? "gateway ADDRESS" : "process NAME IMAGE ADDRESS";
+    if (!at->has_name || !at->has_gateway || cluster->count == 0) {
+        report("%s: there is no line: %s", at->path, missing);
+        return STATUS_CLUSTER;
+    }
+    for (int p = 0; p <= cluster->count; p++)
+        for (int q = 0; q < p; q++) {
+            const struct address *a = &cluster->processes[p].address, *b = &cluster->processes[q].address;
+            if (a->carrier == CARRIER_NATS || a->carrier != b->carrier || strcmp(a->where, b->where) != 0) continue;
+            report("%s: two have the same address: %s", at->path, a->where);
+            return STATUS_CLUSTER;
+        }
+    return STATUS_DONE;
+}
+
+int cluster_read(const char *path, struct cluster *cluster) {
+    struct reading at = {.path = path};
+    char line[LINE_LIMIT];
+    FILE *file = fopen(path, "r");
+    if (!file) {
+        report_fault("%s", path);
+        return STATUS_IO;
+    }
+    memset(cluster, 0, sizeof *cluster);
+    strcpy(cluster->processes[0].name, "gateway");
+    int status = STATUS_DONE;
+    while (status == STATUS_DONE && fgets(line, sizeof line, file)) {
+        at.line++;
+        status = read_line(&at, line, cluster);
+    }
+    fclose(file);
+    return status == STATUS_DONE ? judge(&at, cluster) : status;
+}
+
+int cluster_find(const struct cluster *cluster, const char *name) {
+    for (int p = 1; p <= cluster->count; p++)
+        if (!strcmp(cluster->processes[p].name, name)) return p;
+    return 0;
+}

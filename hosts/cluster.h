@@ -1,0 +1,33 @@
+/* The cluster file: who there is, with which image, and where. */
+#ifndef CLUSTER_H
+#define CLUSTER_H
+
+enum { PROCESS_LIMIT = 15, NAME_LIMIT = 32 };
+
+enum carrier { CARRIER_UNIX, CARRIER_TCP, CARRIER_NATS };
+
+struct address {
+    enum carrier carrier;
+    char *where; /* what stands behind the carrier: PATH, HOST:PORT or URL */
+};
+
+struct process {
+    char name[NAME_LIMIT + 1];
+    char *image; /* none of the gateway */
+    struct address address;
+};
+
+/* Process 0 is the gateway. */
+struct cluster {
+    char name[NAME_LIMIT + 1];
+    int count;
+    struct process processes[PROCESS_LIMIT + 1];
+};
+
+/* Reads a file; a status, and the first line that isn't taken is reported. */
+int cluster_read(const char *path, struct cluster *cluster);
+
+/* The number of a process, 0 if there is none of this name. */
+int cluster_find(const struct cluster *cluster, const char *name);
+
+#endif

@@ -1,0 +1,67 @@
+#include "figures.h"
+
+#include "report.h"
+#include "unix_path.h"
+
+#include <errno.h>
+#include <inttypes.h>
+#include <stdio.h>
+#include <sys/socket.h>
+#include <unistd.h>
+
+enum { TEXT_LIMIT = 8192, LINE_LIMIT = 1024, REQUEST_LIMIT = 4096, WAITING = 16 };
+
+void figures_line(const char *process, const struct figure *figures, size_t count) {
+    char line[LINE_LIMIT];
+    int size = snprintf(line, sizeof line, "status %s", process);
+    for (size_t i = 0; i < count; i++) {
+        size_t room = sizeof line - (size_t)size;
+        if (figures[i].word) size += snprintf(line + size, room, " %s %s", figures[i].name, figures[i].word);
+        else size += snprintf(line + size, room, " %s %" PRIu64, figures[i].name, figures[i].value);
+    }
+    fprintf(stderr, "%s\n", line);
+}
+
+int metrics_open(struct metrics *metrics, const char *path) {
+    *metrics = (struct metrics){.path = path, .file = -1};
+    for (int i = 0; i < READER_LIMIT; i++) metrics->readers[i] = -1;
+    if (!path) return STATUS_DONE;
+    metrics->file = unix_path_take(SOCK_STREAM, path);
+    return metrics->file >= 0 && listen(metrics->file, WAITING) == 0 ? STATUS_DONE : STATUS_IO;
+}
+
+void metrics_watch(const struct metrics *metrics, struct watch *watch) {
+    watch_file(watch, metrics->file, POLLIN);
+    for (int i = 0; i < READER_LIMIT; i++) watch_file(watch, metrics->readers[i], POLLIN);
+}
+
+static void answer(int reader, const char *process, const struct figure *figures, size_t count) {
+    char text[TEXT_LIMIT];
+    int size = snprintf(text, sizeof text, "HTTP/1.0 200 OK\r\nContent-Type: text/plain; version=0.0.4\r\n\r\n");
+    for (size_t i = 0; i < count; i++) {
+        const struct figure *figure = &figures[i];
+        size += snprintf(text + size, sizeof text - (size_t)size,
+                         "# HELP sblog_%s %s\n# TYPE sblog_%s gauge\nsblog_%s{process=\"%s\"} %" PRIu64 "\n", figure->name,
+                         figure->help, figure->name, figure->name, process, figure->value);
+    }
+    send(reader, text, (size_t)size, MSG_NOSIGNAL | MSG_DONTWAIT);
+}
+
+void metrics_serve(struct metrics *metrics, const char *process, const struct figure *figures, size_t count) {
+    char request[REQUEST_LIMIT];
+    if (metrics->file < 0) return;
+    for (int i = 0; i < READER_LIMIT; i++) {
+        int *reader = &metrics->readers[i];
+        if (*reader < 0) *reader = accept4(metrics->file, NULL, NULL, SOCK_NONBLOCK | SOCK_CLOEXEC);
+        if (*reader < 0) continue;
+        ssize_t size = recv(*reader, request, sizeof request, 0);
+        if (size < 0 && errno == EAGAIN) continue;
+        if (size > 0) answer(*reader, process, figures, count);
+        close(*reader);
+        *reader = -1;
+    }
+}
+
+void metrics_close(struct metrics *metrics) {
+    if (metrics->file >= 0) unlink(metrics->path);
+}

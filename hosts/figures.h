@@ -1,0 +1,36 @@
+/* How a program stands, in figures: a line for people, and text for Prometheus by HTTP on a socket. */
+#ifndef FIGURES_H
+#define FIGURES_H
+
+#include "watch.h"
+
+#include <stdbool.h>
+#include <stddef.h>
+#include <stdint.h>
+
+struct figure {
+    const char *name;
+    uint64_t value;
+    const char *word; /* in the line, where a word says more than the value */
+    const char *help;
+};
+
+/* A line on standard error. */
+void figures_line(const char *process, const struct figure *figures, size_t count);
+
+enum { READER_LIMIT = 8 };
+
+/* Programs that read figures: each is answered once when it has asked. */
+struct metrics {
+    const char *path;
+    int file; /* -1: none is asked for */
+    int readers[READER_LIMIT];
+};
+
+/* Takes the path; a status, and why is reported. */
+int metrics_open(struct metrics *metrics, const char *path);
+void metrics_watch(const struct metrics *metrics, struct watch *watch);
+void metrics_serve(struct metrics *metrics, const char *process, const struct figure *figures, size_t count);
+void metrics_close(struct metrics *metrics);
+
+#endif

@@ -1,0 +1,125 @@
+/* Subjects of a NATS server, which does routing, reconnection and TLS. A thread of the client's library hands what comes to a
+   pair of datagram sockets, from which it is taken like any other packet. */
+#include "report.h"
+#include "transport.h"
+
+#ifdef WITH_NATS
+
+#include <errno.h>
+#include <nats/nats.h>
+#include <stdio.h>
+#include <stdlib.h>
+#include <string.h>
+#include <sys/socket.h>
+
+enum { SUBJECT_LIMIT = 2 * NAME_LIMIT, AGAIN = 100, STASH = 1 << 20 }; /* milliseconds; bytes */
+
+/* One connection for each server that is named. */
+struct nats_link {
+    struct nats_link *next;
+    const char *url;
+    natsConnection *connection;
+};
+
+/* A server's address without name and password. */
+static const char *shown(const char *url) { return strchr(url, '@') ? strchr(url, '@') + 1 : url; }
+
+/* With it the first connection is made in a thread, too, and the program doesn't wait for a server that is away. */
+static void connected(natsConnection *connection, void *url) {
+    (void)connection;
+    report("nats server %s: it answers", shown(url));
+}
+
+static natsStatus connect_to(natsConnection **connection, const char *url) {
+    natsOptions *options = NULL;
+    natsStatus status = natsOptions_Create(&options);
+    if (status == NATS_OK) status = natsOptions_SetURL(options, url);
+    if (status == NATS_OK) status = natsOptions_SetMaxReconnect(options, -1);
+    if (status == NATS_OK) status = natsOptions_SetReconnectWait(options, AGAIN);
+    if (status == NATS_OK) status = natsOptions_SetReconnectJitter(options, AGAIN, AGAIN);
+    if (status == NATS_OK) status = natsOptions_SetReconnectBufSize(options, STASH);
+    if (status == NATS_OK) status = natsOptions_SetRetryOnFailedConnect(options, true, connected, (void *)url);
+    if (status == NATS_OK) status = natsOptions_SetSendAsap(options, true);
+    if (status == NATS_OK) status = natsConnection_Connect(connection, options);
+    natsOptions_Destroy(options);
+    return status;
+}
+
+static struct nats_link *link_to(struct transport *transport, const char *url) {
+    for (struct nats_link *link = transport->links; link; link = link->next)
+        if (!strcmp(link->url, url)) return link;
+    struct nats_link *link = calloc(1, sizeof *link);
+    if (!link) return NULL;
+    natsStatus status = connect_to(&link->connection, url);
+    if (status != NATS_OK && status != NATS_NOT_YET_CONNECTED) {
+        report("nats server %s: %s", shown(url), natsStatus_GetText(status));
+        free(link);
+        return NULL;
+    }
+    if (status == NATS_NOT_YET_CONNECTED) report("nats server %s: it doesn't answer yet", shown(url));
+    link->url = url;
+    link->next = transport->links;
+    transport->links = link;
+    return link;
+}
+
+/* In a thread of the client's library, which waits where the main thread doesn't keep up. */
+static void arrived(natsConnection *connection, natsSubscription *subscription, natsMsg *message, void *socket) {
+    (void)connection, (void)subscription;
+    int size = natsMsg_GetDataLength(message);
+    if (size > 0 && size <= PACKET_LIMIT)
+        send((int)(intptr_t)socket, natsMsg_GetData(message), (size_t)size, MSG_NOSIGNAL);
+    natsMsg_Destroy(message);
+}
+
+static int nats_open(struct transport *transport, const struct address *own) {
+    char subject[SUBJECT_LIMIT];
+    int end;
+    natsSubscription *subscription;
+    struct nats_link *link = link_to(transport, own->where);
+    if (!link) return STATUS_IO;
+    transport->file = pair_open(&end);
+    if (transport->file < 0) {
+        report_fault("nats server %s", shown(own->where));
+        return STATUS_IO;
+    }
+    snprintf(subject, sizeof subject, "sblog.%s.%d", transport->cluster->name, transport->me);
+    void *closure = (void *)(intptr_t)end;
+    natsStatus status = natsConnection_Subscribe(&subscription, link->connection, subject, arrived, closure);
+    if (status != NATS_OK) {
+        report("nats server %s: %s: %s", shown(own->where), subject, natsStatus_GetText(status));
+        return STATUS_IO;
+    }
+    return STATUS_DONE;
+}
+
+/* While the server is away the client's library keeps what fits its buffer. */
+void nats_serve(struct transport *transport, struct way *way) {
+    char subject[SUBJECT_LIMIT];
+    if (!way->link) way->link = link_to(transport, way->address->where);
+    snprintf(subject, sizeof subject, "sblog.%s.%d", transport->cluster->name, (int)(way - transport->ways));
+    while (way->queue.count > 0) {
+        const struct waiting *first = way->queue.first;
+        natsStatus status = NATS_NO_SERVER;
+        if (way->link) status = natsConnection_Publish(way->link->connection, subject, first->bytes, (int)first->size);
+        if (status != NATS_OK) transport->lost++;
+        queue_drop(&way->queue);
+    }
+}
+
+#else
+
+static int nats_open(struct transport *transport, const struct address *own) {
+    (void)transport, (void)own;
+    report("nats: this program was built where the NATS client's library isn't");
+    return STATUS_IO;
+}
+
+void nats_serve(struct transport *transport, struct way *way) {
+    transport->lost += way->queue.count;
+    queue_clear(&way->queue);
+}
+
+#endif
+
+const struct inlet nats_inlet = {nats_open, pair_receive, pair_watch};

@@ -1,0 +1,123 @@
+#include "options.h"
+
+#include "report.h"
+
+#include <getopt.h>
+#include <stdio.h>
+#include <stdlib.h>
+#include <string.h>
+
+enum { THOUSAND = 1000, EVERY = 256, EVERY_LIMIT = 65536, TICK = 5, TICK_LIMIT = 10000, ME_LIMIT = 15 };
+
+static const char USAGE[] =
+    "usage: sblog-node --cluster FILE --me N --store DIR [WORDS]\n"
+    "\n"
+    "Runs process N of a cluster, or its gateway where N is 0.\n"
+    "\n"
+    "  --cluster FILE         who there is, with which image, and where\n"
+    "  --me N                 the process's number in the file, 1 to 15, or 0\n"
+    "  --store DIR            its store, which is made where it isn't there\n"
+    "  --checkpoint-every K   a checkpoint after K messages (1 to 65536; 256)\n"
+    "  --durable              what it sends waits for a checkpoint that covers it\n"
+    "  --tick MS              what isn't answered goes again after MS milliseconds or more (1 to 10000; 5)\n"
+    "  --listen unix:PATH     the gateway takes lines of programs that connect there\n"
+    "  --metrics unix:PATH    figures for Prometheus, by HTTP\n"
+    "  --status               a line of figures a second, on standard error\n"
+    "\n"
+    "SIGUSR1 prints that line once. SIGTERM and SIGINT end it, a process behind a checkpoint.\n"
+    "Statuses: 0; 2 the command line; 3 a refused image; 4 a refused cluster file; 5 want of memory;\n"
+    "6 input and output; 7 a store that isn't this process's, or is in use.\n";
+
+enum { CLUSTER = 1, ME, STORE, CHECKPOINT_EVERY, DURABLE, EVERY_TICK, LISTEN, METRICS, STATUS, HELP };
+
+static const struct option OPTIONS[] = {
+    {"cluster", required_argument, NULL, CLUSTER}, {"me", required_argument, NULL, ME},
+    {"store", required_argument, NULL, STORE},     {"checkpoint-every", required_argument, NULL, CHECKPOINT_EVERY},
+    {"durable", no_argument, NULL, DURABLE},       {"tick", required_argument, NULL, EVERY_TICK},
+    {"listen", required_argument, NULL, LISTEN},   {"metrics", required_argument, NULL, METRICS},
+    {"status", no_argument, NULL, STATUS},         {"help", no_argument, NULL, HELP},
+    {NULL, 0, NULL, 0},
+};
+
+/* A number in its range. */
+static bool read_number(const char *text, uint64_t least, uint64_t most, uint64_t *number) {
+    char *end;
+    if (*text < '0' || *text > '9') return false;
+    *number = strtoull(text, &end, 10);
+    return !*end && *number >= least && *number <= most;
+}
+
+/* The path of unix:PATH. */
+static bool read_path(const char *text, const char **path) {
+    *path = text + strlen("unix:");
+    return !strncmp(text, "unix:", strlen("unix:")) && **path && strlen(*path) < 108;
+}
+
+static bool read_option(int option, const char *text, struct options *options) {
+    uint64_t number = 0;
+    bool is_taken = true;
+    switch (option) {
+    case CLUSTER: options->cluster = text; break;
+    case STORE: options->store = text; break;
+    case DURABLE: options->durable = true; break;
+    case STATUS: options->status = true; break;
+    case LISTEN: return read_path(text, &options->listen);
+    case METRICS: return read_path(text, &options->metrics);
+    case ME:
+        is_taken = read_number(text, 0, ME_LIMIT, &number);
+        options->me = (int)number;
+        break;
+    case CHECKPOINT_EVERY:
+        is_taken = read_number(text, 1, EVERY_LIMIT, &number);
+        options->checkpoint_every = (uint32_t)number;
+        break;
+    case EVERY_TICK:
+        is_taken = read_number(text, 1, TICK_LIMIT, &number);
+        options->tick = number * THOUSAND;
+        break;
+    }
+    return is_taken;
+}
+
+int options_read(int argc, char **argv, struct options *options) {
+    int option, at;
+    *options = (struct options){.me = -1, .checkpoint_every = EVERY, .tick = TICK * THOUSAND};
+    while ((option = getopt_long(argc, argv, "", OPTIONS, &at)) != -1) {
+        if (option == HELP) {
+            fputs(USAGE, stdout);
+            exit(STATUS_DONE);
+        }
+        if (option == '?') return STATUS_COMMAND;
+        if (read_option(option, optarg, options)) continue;
+        report("--%s doesn't take %s", OPTIONS[at].name, optarg);
+        return STATUS_COMMAND;
+    }
+    if (optind < argc) report("%s is no option", argv[optind]);
+    else if (!options->cluster || options->me < 0 || !options->store) report("--cluster, --me and --store are needed; see --help");
+    else if (options->listen && options->me != 0) report("--listen is of the gateway alone");
+    else if (options->durable && options->me == 0) report("--durable is of processes alone: the gateway always is");
+    else return STATUS_DONE;
+    return STATUS_COMMAND;
+}
+
+volatile sig_atomic_t signal_stop, signal_status;
+
+static void stop(int signal) {
+    (void)signal;
+    signal_stop = 1;
+}
+
+static void status(int signal) {
+    (void)signal;
+    signal_status = 1;
+}
+
+void signals_take(void) {
+    struct sigaction action = {.sa_handler = stop};
+    sigaction(SIGTERM, &action, NULL);
+    sigaction(SIGINT, &action, NULL);
+    action.sa_handler = status;
+    sigaction(SIGUSR1, &action, NULL);
+    action.sa_handler = SIG_IGN;
+    sigaction(SIGPIPE, &action, NULL);
+}

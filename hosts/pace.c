@@ -1,0 +1,140 @@
+#include "pace.h"
+
+#include <string.h>
+
+/* Kinds of packets, and where their fields begin (docs/FORMATS.md, "Packet"). */
+enum { DELIVERY = 1, NUMBER = 2, ACKNOWLEDGEMENT = 3, RESUME = 6, SAVED = 8 };
+enum { KIND = 4, FROM = 6, FIELDS = 8, WORD = 8, SHORTEST_PACKET = 12 };
+
+/* Numbers that a node may have open, of which a quarter is left for those on their way; messages of a tick; the longest pause,
+   in shortest ones; how often the pause is doubled. */
+enum { NUMBERS = 256, OF_TICK = 8, LEAST_WINDOW = 8, PAUSE = 32, DOUBLES = 5, SOON = 1000 };
+
+void pace_begin(struct pace *pace, struct transport *transport, uint64_t shortest) {
+    memset(pace, 0, sizeof *pace);
+    pace->transport = transport;
+    pace->shortest = shortest;
+    pace->longest = PAUSE * shortest;
+    pace->window = (uint64_t)(NUMBERS * 3 / 4 / transport->cluster->count);
+    if (pace->window < LEAST_WINDOW) pace->window = LEAST_WINDOW;
+}
+
+/* A field by its place; 0 where the packet has none there. */
+static uint64_t field(const uint8_t *packet, size_t size, size_t place) {
+    uint64_t number = 0;
+    if (size < SHORTEST_PACKET + WORD * (place + 1)) return 0;
+    for (int i = WORD - 1; i >= 0; i--) number = number << 8 | packet[FIELDS + WORD * place + (size_t)i];
+    return number;
+}
+
+static bool is_open(const struct flow *flow) { return flow->sent > flow->answered || flow->told > flow->acknowledged; }
+
+/* One message goes: where nothing is timed, its answer is. */
+static void goes(struct pace *pace, int to, const uint8_t *packet, size_t size, uint64_t now) {
+    struct flow *flow = &pace->flows[to];
+    uint64_t ssn = field(packet, size, 1);
+    if (!is_open(flow)) flow->since = now;
+    if (ssn > flow->sent) {
+        flow->sent = ssn;
+        if (flow->timed == 0) {
+            flow->timed = ssn;
+            flow->timed_at = now;
+        }
+    }
+    transport_send(pace->transport, to, packet, size);
+}
+
+void pace_send(struct pace *pace, int to, const uint8_t *packet, size_t size, uint64_t now) {
+    if (to < 0 || to > pace->transport->cluster->count || size < SHORTEST_PACKET) return;
+    struct flow *flow = &pace->flows[to];
+    if (packet[KIND] == NUMBER) {
+        uint64_t number = field(packet, size, 2);
+        if (!is_open(flow)) flow->since = now;
+        if (number > flow->told) flow->told = number;
+    }
+    if (packet[KIND] != DELIVERY) {
+        transport_send(pace->transport, to, packet, size);
+        return;
+    }
+    uint64_t ssn = field(packet, size, 1);
+    if (!flow->is_known) flow->answered = ssn - 1;
+    flow->is_known = true;
+    if (ssn > flow->answered + pace->window) queue_put(&flow->held, packet, size);
+    else goes(pace, to, packet, size, now);
+}
+
+/* How long an answer took goes into what is usual by an eighth. */
+static void is_answered(struct flow *flow, uint64_t ssn, uint64_t now) {
+    if (ssn > flow->answered) flow->answered = ssn;
+    if (flow->timed == 0 || ssn < flow->timed) return;
+    uint64_t took = now - flow->timed_at;
+    flow->usual = flow->usual == 0 ? took : flow->usual - flow->usual / 8 + took / 8;
+    flow->timed = 0;
+}
+
+static void send_held(struct pace *pace, int to, uint64_t now) {
+    struct flow *flow = &pace->flows[to];
+    while (flow->held.count > 0) {
+        const struct waiting *first = flow->held.first;
+        uint64_t ssn = field(first->bytes, first->size, 1);
+        if (ssn > flow->answered + pace->window) return;
+        if (ssn > flow->answered) goes(pace, to, first->bytes, first->size, now);
+        queue_drop(&flow->held);
+    }
+}
+
+void pace_hear(struct pace *pace, const uint8_t *packet, size_t size, uint64_t now) {
+    int from = packet[FROM], kind = packet[KIND];
+    if (from > pace->transport->cluster->count) return;
+    struct flow *flow = &pace->flows[from];
+    uint64_t number = field(packet, size, kind == SAVED ? 0 : 1);
+    if (kind == ACKNOWLEDGEMENT && number > flow->acknowledged) flow->acknowledged = number;
+    if (kind == NUMBER || kind == SAVED) is_answered(flow, number, now);
+    if (kind == RESUME) flow->is_back = true;
+    if (kind != NUMBER && kind != SAVED && kind != ACKNOWLEDGEMENT) return;
+    flow->since = now;
+    flow->tries = 0;
+    send_held(pace, from, now);
+}
+
+void pace_tick_begins(struct pace *pace, uint64_t now) {
+    pace->last = now;
+    for (int p = 0; p <= pace->transport->cluster->count; p++) {
+        struct flow *flow = &pace->flows[p];
+        if (is_open(flow) && flow->tries < DOUBLES) flow->tries++;
+        flow->timed = 0; /* an answer may be to either of two packets now */
+        flow->since = now;
+        flow->refill = 0;
+        flow->is_back = false;
+    }
+}
+
+void pace_tick_sends(struct pace *pace, int to, const uint8_t *packet, size_t size, int place, uint64_t now) {
+    struct flow *flow = &pace->flows[to];
+    if (packet[KIND] == DELIVERY) {
+        uint64_t ssn = field(packet, size, 1);
+        if (place == 0) flow->answered = ssn - 1; /* it is the first one that has no number */
+        if (place == OF_TICK - 1) flow->refill = ssn;
+        flow->is_known = true;
+    }
+    pace_send(pace, to, packet, size, now);
+}
+
+/* What is open goes again when its answer takes twice as long as usual, then four times, and so on. */
+static uint64_t due(const struct pace *pace, const struct flow *flow) {
+    uint64_t pause = 2 * flow->usual;
+    if (flow->refill > 0 && flow->answered >= flow->refill) return pace->last + SOON;
+    if (flow->is_back) return pace->last + pace->shortest;
+    if (!is_open(flow)) return UINT64_MAX;
+    if (pause < pace->shortest) pause = pace->shortest;
+    return flow->since + (pause << flow->tries);
+}
+
+uint64_t pace_due(const struct pace *pace) {
+    uint64_t first = pace->last + pace->longest;
+    for (int p = 0; p <= pace->transport->cluster->count; p++) {
+        uint64_t one = due(pace, &pace->flows[p]);
+        if (one < first) first = one;
+    }
+    return first;
+}

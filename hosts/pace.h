@@ -1,0 +1,45 @@
+/* How fast messages go to each peer, and when what isn't answered goes again. A peer that has too much to do drops messages, and
+   each one that was sent too early has to be sent again: so some wait here until those before them are answered. */
+#ifndef PACE_H
+#define PACE_H
+
+#include "transport.h"
+
+/* The messages to one peer, and the numbers that it was told. */
+struct flow {
+    uint64_t sent, answered;     /* the last SSN that was sent, and that the peer has */
+    uint64_t told, acknowledged; /* the last number that it was told, and acknowledged */
+    uint64_t timed, timed_at;    /* an SSN whose answer is timed, and since when; 0 for none */
+    uint64_t usual;              /* microseconds that an answer takes */
+    uint64_t since;              /* when it answered last, or what is open was sent */
+    uint64_t refill;             /* the SSN behind which a tick has more to send; 0 for none */
+    int tries;                   /* ticks since it answered */
+    bool is_known;               /* whether answered is */
+    bool is_back;                /* it came back: it may have forgotten what it had, and takes it again */
+    struct queue held;
+};
+
+struct pace {
+    struct transport *transport;
+    uint64_t shortest, longest; /* microseconds between ticks */
+    uint64_t window;            /* messages without an answer */
+    uint64_t last;              /* when it ticked */
+    struct flow flows[PROCESS_LIMIT + 1];
+};
+
+void pace_begin(struct pace *pace, struct transport *transport, uint64_t shortest);
+
+/* Sends a packet that the library put out, or keeps it until its time has come. */
+void pace_send(struct pace *pace, int to, const uint8_t *packet, size_t size, uint64_t now);
+
+/* Learns from a packet that the library took, and sends what may go now. */
+void pace_hear(struct pace *pace, const uint8_t *packet, size_t size, uint64_t now);
+
+/* A tick is made; and sends its packets, of which place counts those for one peer. */
+void pace_tick_begins(struct pace *pace, uint64_t now);
+void pace_tick_sends(struct pace *pace, int to, const uint8_t *packet, size_t size, int place, uint64_t now);
+
+/* When the next tick is due. */
+uint64_t pace_due(const struct pace *pace);
+
+#endif

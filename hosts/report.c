@@ -1,0 +1,55 @@
+#include "report.h"
+
+#include <errno.h>
+#include <stdarg.h>
+#include <stdio.h>
+#include <string.h>
+
+static const char *speaker;
+
+void report_as(const char *name) { speaker = name; }
+
+static void sentence(const char *cause, const char *format, va_list arguments) {
+    char line[1024];
+    int size = snprintf(line, sizeof line, "sblog-node: %s%s", speaker ? speaker : "", speaker ? ": " : "");
+    size += vsnprintf(line + size, sizeof line - (size_t)size, format, arguments);
+    if (size >= (int)sizeof line) size = sizeof line - 1;
+    if (cause) snprintf(line + size, sizeof line - (size_t)size, ": %s", cause);
+    fprintf(stderr, "%s\n", line);
+}
+
+void report(const char *format, ...) {
+    va_list arguments;
+    va_start(arguments, format);
+    sentence(NULL, format, arguments);
+    va_end(arguments);
+}
+
+void report_fault(const char *format, ...) {
+    const char *cause = strerror(errno);
+    va_list arguments;
+    va_start(arguments, format);
+    sentence(cause, format, arguments);
+    va_end(arguments);
+}
+
+const char *code_words(uint32_t code) {
+    switch (code) {
+    case 15: return "there is no memory";
+    case 16: return "the handle is closed, or open already";
+    case 17: return "the file is no image, as sblog check says";
+    case 18: return "a payload has more than 256 bytes";
+    case 19: return "a buffer is too short";
+    case 20: return "there is none";
+    case 21: return "the bytes are refused";
+    case 22: return "not now";
+    case 23: return "a limit is out of this library's range";
+    default: return "an unknown code";
+    }
+}
+
+enum status code_status(uint32_t code) {
+    if (code == 15) return STATUS_MEMORY;
+    if (code == 17) return STATUS_IMAGE;
+    return code == 21 ? STATUS_STORE : STATUS_COMMAND;
+}

@@ -1,0 +1,32 @@
+/* Sentences for people, on standard error, and what the program ends with. */
+#ifndef REPORT_H
+#define REPORT_H
+
+#include <stdint.h>
+
+enum status {
+    STATUS_DONE = 0,
+    STATUS_COMMAND = 2, /* a command line that isn't taken */
+    STATUS_IMAGE = 3,   /* a refused image */
+    STATUS_CLUSTER = 4, /* a refused cluster file */
+    STATUS_MEMORY = 5,
+    STATUS_IO = 6,   /* input and output: files, sockets, the store */
+    STATUS_STORE = 7 /* the store isn't this process's, or is in use */
+};
+
+/* Who speaks, once that is known. */
+void report_as(const char *name);
+
+/* Writes one sentence behind the name. */
+void report(const char *format, ...) __attribute__((format(printf, 1, 2)));
+
+/* The same, and what the system says of the last fault. */
+void report_fault(const char *format, ...) __attribute__((format(printf, 1, 2)));
+
+/* What a code of the library says, in words. */
+const char *code_words(uint32_t code);
+
+/* The status that a code of the library ends the program with. */
+enum status code_status(uint32_t code);
+
+#endif

@@ -1,0 +1,22 @@
+/* A process of a cluster as a program of its own, or the cluster's gateway (docs/CLUSTER.md). The library does the thinking;
+   this carries it. Nothing here is proved. */
+#include "cluster.h"
+#include "gateway_host.h"
+#include "node_host.h"
+#include "options.h"
+#include "report.h"
+
+int main(int argc, char **argv) {
+    static struct cluster cluster;
+    struct options options;
+    int status = options_read(argc, argv, &options);
+    if (status == STATUS_DONE) status = cluster_read(options.cluster, &cluster);
+    if (status != STATUS_DONE) return status;
+    if (options.me > cluster.count) {
+        report("%s has %d processes, and none of the number %d", options.cluster, cluster.count, options.me);
+        return STATUS_CLUSTER;
+    }
+    report_as(cluster.processes[options.me].name);
+    signals_take();
+    return options.me == 0 ? gateway_run(&options, &cluster) : node_run(&options, &cluster);
+}

@@ -1,0 +1,199 @@
+#include "store.h"
+
+#include "report.h"
+
+#include <errno.h>
+#include <fcntl.h>
+#include <inttypes.h>
+#include <stdio.h>
+#include <stdlib.h>
+#include <string.h>
+#include <sys/file.h>
+#include <sys/stat.h>
+#include <unistd.h>
+
+enum { IDENTITY_LIMIT = 1024, NUMBER_TEXT = 32, MODE = 0600 };
+
+static const char *const IDENTITY = "identity", *const INCARNATION = "incarnation";
+
+/* The lines of the file `identity`, in their order, and what another one means. */
+static const struct {
+    const char *word, *otherwise;
+} LINES[] = {
+    {"sblog-store", "it is of another version of this program"},
+    {"cluster", "it is the store of another cluster"},
+    {"process", "it is the store of another process"},
+    {"processes", "the cluster had other processes when this store began"},
+    {"image", "the image isn't the one that this process began with"},
+    {"durable", "whether the process is durable was fixed when this store began"},
+};
+enum { LINE_COUNT = sizeof LINES / sizeof *LINES };
+
+static void identity_of(const struct owner *owner, char text[LINE_COUNT][IDENTITY_LIMIT]) {
+    const struct cluster *cluster = owner->cluster;
+    strcpy(text[0], "1");
+    strcpy(text[1], cluster->name);
+    snprintf(text[2], IDENTITY_LIMIT, "%d %s", owner->me, cluster->processes[owner->me].name);
+    *text[3] = 0;
+    for (int p = 1; p <= cluster->count; p++) {
+        if (p > 1) strcat(text[3], " ");
+        strcat(text[3], cluster->processes[p].name);
+    }
+    if (owner->image) snprintf(text[4], IDENTITY_LIMIT, "sha256 %s", owner->image);
+    else strcpy(text[4], "none");
+    strcpy(text[5], owner->durable ? "yes" : "no");
+}
+
+/* Compares the stored lines with those that they have to be, and reports the first that is another one. */
+static int compare(const struct store *store, const struct owner *owner, char *stored) {
+    static char wanted[LINE_COUNT][IDENTITY_LIMIT];
+    char *rest = NULL, *line = strtok_r(stored, "\n", &rest);
+    identity_of(owner, wanted);
+    for (int i = 0; i < LINE_COUNT; i++, line = strtok_r(NULL, "\n", &rest)) {
+        size_t size = strlen(LINES[i].word);
+        bool is_line = line && !strncmp(line, LINES[i].word, size) && line[size] == ' ';
+        if (is_line && !strcmp(line + size + 1, wanted[i])) continue;
+        if (!is_line) report("%s/%s: the line is missing: %s", store->path, IDENTITY, LINES[i].word);
+        else report("%s: %s: %s is stored, and %s was asked for", store->path, LINES[i].otherwise, line + size + 1, wanted[i]);
+        return STATUS_STORE;
+    }
+    return STATUS_DONE;
+}
+
+int store_claim(const struct store *store, const struct owner *owner) {
+    static char lines[LINE_COUNT][IDENTITY_LIMIT], text[LINE_COUNT * IDENTITY_LIMIT];
+    identity_of(owner, lines);
+    char *at = text;
+    for (int i = 0; i < LINE_COUNT; i++) at += sprintf(at, "%s %s\n", LINES[i].word, lines[i]);
+    return store_write(store, IDENTITY, text, (size_t)(at - text));
+}
+
+/* A folder that was made is there after a loss of power, too. */
+static int make_folder(const char *path) {
+    if (mkdir(path, 0700) != 0) {
+        if (errno == EEXIST) return STATUS_DONE;
+        report_fault("%s", path);
+        return STATUS_IO;
+    }
+    int made = open(path, O_RDONLY | O_DIRECTORY | O_CLOEXEC);
+    int above = made < 0 ? -1 : openat(made, "..", O_RDONLY | O_DIRECTORY | O_CLOEXEC);
+    bool synced = above >= 0 && fsync(above) == 0;
+    if (!synced) report_fault("%s", path);
+    if (above >= 0) close(above);
+    if (made >= 0) close(made);
+    return synced ? STATUS_DONE : STATUS_IO;
+}
+
+static int take_lock(struct store *store) {
+    store->lock = openat(store->folder, "lock", O_RDWR | O_CREAT | O_CLOEXEC, MODE);
+    if (store->lock < 0) {
+        report_fault("%s/lock", store->path);
+        return STATUS_IO;
+    }
+    if (flock(store->lock, LOCK_EX | LOCK_NB) == 0) return STATUS_DONE;
+    if (errno == EWOULDBLOCK) {
+        report("%s: another life of this process has the store", store->path);
+        return STATUS_STORE;
+    }
+    report_fault("%s/lock", store->path);
+    return STATUS_IO;
+}
+
+int store_open(struct store *store, const char *path, const struct owner *owner, bool *is_new) {
+    uint8_t *stored = NULL;
+    size_t size;
+    *store = (struct store){.path = path, .folder = -1, .lock = -1};
+    int status = make_folder(path);
+    if (status != STATUS_DONE) return status;
+    store->folder = open(path, O_RDONLY | O_DIRECTORY | O_CLOEXEC);
+    if (store->folder < 0) {
+        report_fault("%s", path);
+        return STATUS_IO;
+    }
+    status = take_lock(store);
+    if (status == STATUS_DONE) status = store_read(store, IDENTITY, &stored, &size);
+    *is_new = !stored;
+    if (status == STATUS_DONE && stored) status = compare(store, owner, (char *)stored);
+    free(stored);
+    return status;
+}
+
+static bool write_all(int file, const uint8_t *bytes, size_t size) {
+    while (size > 0) {
+        ssize_t count = write(file, bytes, size);
+        if (count < 0 && errno == EINTR) continue;
+        if (count <= 0) return false;
+        bytes += count;
+        size -= (size_t)count;
+    }
+    return true;
+}
+
+int store_write(const struct store *store, const char *name, const void *bytes, size_t size) {
+    char beside[64];
+    snprintf(beside, sizeof beside, "%s.new", name);
+    int file = openat(store->folder, beside, O_WRONLY | O_CREAT | O_TRUNC | O_CLOEXEC, MODE);
+    bool stored = file >= 0 && write_all(file, bytes, size) && fsync(file) == 0;
+    if (file >= 0 && close(file) != 0) stored = false;
+    stored = stored && renameat(store->folder, beside, store->folder, name) == 0 && fsync(store->folder) == 0;
+    if (stored) return STATUS_DONE;
+    report_fault("%s/%s can't be written", store->path, name);
+    return STATUS_IO;
+}
+
+static bool read_all(int file, uint8_t *bytes, size_t size) {
+    while (size > 0) {
+        ssize_t count = read(file, bytes, size);
+        if (count < 0 && errno == EINTR) continue;
+        if (count <= 0) return false;
+        bytes += count;
+        size -= (size_t)count;
+    }
+    return true;
+}
+
+int store_read(const struct store *store, const char *name, uint8_t **bytes, size_t *size) {
+    struct stat about;
+    *bytes = NULL;
+    *size = 0;
+    int file = openat(store->folder, name, O_RDONLY | O_CLOEXEC);
+    if (file < 0 && errno == ENOENT) return STATUS_DONE;
+    bool is_there = file >= 0 && fstat(file, &about) == 0;
+    uint8_t *room = is_there ? malloc((size_t)about.st_size + 1) : NULL;
+    if (room && read_all(file, room, (size_t)about.st_size)) {
+        room[about.st_size] = 0;
+        *bytes = room;
+        *size = (size_t)about.st_size;
+        close(file);
+        return STATUS_DONE;
+    }
+    report_fault("%s/%s can't be read", store->path, name);
+    free(room);
+    if (file >= 0) close(file);
+    return STATUS_IO;
+}
+
+int store_read_incarnation(const struct store *store, uint64_t *incarnation) {
+    uint8_t *text;
+    size_t size;
+    *incarnation = 0;
+    int status = store_read(store, INCARNATION, &text, &size);
+    if (status != STATUS_DONE || !text) return status;
+    char *end;
+    errno = 0;
+    uint64_t number = strtoull((char *)text, &end, 10);
+    bool is_number = errno == 0 && end != (char *)text && !strcmp(end, "\n") && number >= 1 && number < (uint64_t)1 << 62;
+    free(text);
+    if (!is_number) {
+        report("%s/%s holds no incarnation", store->path, INCARNATION);
+        return STATUS_STORE;
+    }
+    *incarnation = number;
+    return STATUS_DONE;
+}
+
+int store_write_incarnation(const struct store *store, uint64_t incarnation) {
+    char text[NUMBER_TEXT];
+    int size = snprintf(text, sizeof text, "%" PRIu64 "\n", incarnation);
+    return store_write(store, INCARNATION, text, (size_t)size);
+}

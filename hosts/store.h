@@ -1,0 +1,41 @@
+/* The folder of a process: whose it is, a lock that one life has at a time, and files that are replaced whole or not at all. */
+#ifndef STORE_H
+#define STORE_H
+
+#include "cluster.h"
+
+#include <stdbool.h>
+#include <stddef.h>
+#include <stdint.h>
+
+struct store {
+    const char *path;
+    int folder, lock;
+};
+
+/* Who may use a store: all of it has to be as it was in the first life. */
+struct owner {
+    const struct cluster *cluster;
+    int me;
+    const char *image; /* the image's hash; none of the gateway */
+    bool durable;
+};
+
+/* Makes the folder where there is none, takes its lock, and compares whose it is; a status, and why is reported. Where nobody's
+   name stands in it yet, is_new is true. */
+int store_open(struct store *store, const char *path, const struct owner *owner, bool *is_new);
+
+/* Writes down whose the store is. */
+int store_claim(const struct store *store, const struct owner *owner);
+
+/* Replaces a file: written beside, synced, renamed, and the folder synced. */
+int store_write(const struct store *store, const char *name, const void *bytes, size_t size);
+
+/* Reads a whole file into memory of its own; no bytes where there is no such file. */
+int store_read(const struct store *store, const char *name, uint8_t **bytes, size_t *size);
+
+/* The incarnation that is stored, 0 for none. */
+int store_read_incarnation(const struct store *store, uint64_t *incarnation);
+int store_write_incarnation(const struct store *store, uint64_t incarnation);
+
+#endif

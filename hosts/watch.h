@@ -1,0 +1,31 @@
+/* What a program waits for: files that can be read or written, and a time. */
+#ifndef WATCH_H
+#define WATCH_H
+
+#include <poll.h>
+#include <stdint.h>
+
+enum { WATCH_LIMIT = 256 };
+
+struct watch {
+    struct pollfd files[WATCH_LIMIT];
+    int count;
+    uint64_t until; /* in microseconds of the clock */
+};
+
+/* Microseconds of a clock that never goes back. */
+uint64_t clock_now(void);
+
+/* Begins anew, with a time to wake up at. */
+void watch_begin(struct watch *watch, uint64_t until);
+
+/* Wakes up for this file, too. One more than there is place for is looked at when time is up. */
+void watch_file(struct watch *watch, int file, short events);
+
+/* Wakes up at this time, or before. */
+void watch_time(struct watch *watch, uint64_t until);
+
+/* Waits. A signal ends it as well. */
+void watch_wait(struct watch *watch);
+
+#endif
