@@ -1,0 +1,37 @@
+"""A NATS server of one's own."""
+import socket
+import subprocess
+import time
+
+import lives
+
+
+class Server:
+    """It runs in the `with`, if one is wanted."""
+
+    def __init__(self, is_wanted, port):
+        self.is_wanted, self.port = is_wanted, port
+
+    def start(self):
+        words = ["nats-server", "-a", "127.0.0.1", "-p", str(self.port)]
+        self.child = subprocess.Popen(words, stdout=subprocess.DEVNULL, stderr=subprocess.DEVNULL)
+        lives.running.add(self.child)
+
+    def kill(self):
+        self.child.kill()
+        self.child.wait()
+
+    def answers(self):
+        with socket.socket() as out:
+            return out.connect_ex(("127.0.0.1", self.port)) == 0
+
+    def __enter__(self):
+        if self.is_wanted:
+            self.start()
+            while not self.answers():
+                time.sleep(0.01)
+        return self
+
+    def __exit__(self, *_):
+        if self.is_wanted:
+            self.kill()
