@@ -51,7 +51,7 @@ is_short most l = nat_lt (l.first + length l.payloads) most
 abbrev pub is_process : Kept → Bool
 is_process k = nat_lt 0 k.me && nat_le k.me k.count && nat_le k.count 15 && (length k.counts == k.count) && (length k.logs == k.count)
 
--- its numbers are in their ranges, and no more than eight messages to each for each that was received were sent by then
+-- its numbers are in their ranges, and no more than sixteen messages to each for each that was received were sent by then
 abbrev pub comes_back : Kept → Bool
 comes_back k = is_process k && kept_in_range k && nat_le k.length MOST_RECEIVED && list_all (is_short (MOST_GIVEN * k.length + 2)) k.logs
 

@@ -63,7 +63,7 @@ pub record TheNode : Type 0 where
 abbrev pub log_at : List TheQueue → ℕ → TheQueue
 log_at logs d = slice_index_or logs d no_queue
 
--- what the node's own numbers keep, whatever the cluster is: no more than eight messages to each for each that was received; and no job is
+-- what the node's own numbers keep, whatever the cluster is: no more than sixteen messages to each for each that was received; and no job is
 -- open while it is frozen
 pub record IsWithin (me count base : ℕ) (covered heard : List ℕ) (resumed : List Bool) (receipts : Received) (logs : List TheQueue) (working : Option OpenJob) (frozen : Bool) (waiting life : ℕ) (out : List Packet) : Type 0 where
   pub inside : 1 ≤ me

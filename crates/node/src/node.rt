@@ -20,11 +20,12 @@ pub const WINDOW: u32 = 256;
 /// So many messages, and as many numbers, one call sends again to a peer, at most.
 pub const TICK: u64 = 8;
 
-/// So many messages one message makes a handler give, at most.
-pub const MOST_GIVEN: usize = 8;
+/// So many messages one message makes a handler give, at most: to others, and to the outside.
+pub const MOST_GIVEN: usize = 16;
+const _: () = prove!(MOST_GIVEN == 2 * limits::EFFECTS);
 
 /// So many messages a process receives in all its lives, at most.
-pub const MOST_RECEIVED: u64 = 0x0800_0000_0000_0000;
+pub const MOST_RECEIVED: u64 = 0x0400_0000_0000_0000;
 
 /// One process of a cluster.
 #[derive(Drop)]

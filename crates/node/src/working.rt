@@ -5,6 +5,7 @@ ghost use Rattle.node.specs.Queue.{TheQueue};
 ghost use Rattle.node.specs.Node.{MaySend, given_to, log_at};
 ghost use Rattle.node.specs.Calls.{did_work};
 ghost use Rattle.node.specs.Stands.{Owes, Handles};
+ghost use Rattle.node.specs.declared.node.TheConstants.{MOST_GIVEN};
 
 use crate::job::Given;
 use crate::node::Node;
@@ -60,8 +61,8 @@ impl Node {
 /// Logs what a handler gave, under the number of its message. A refusal changes nothing.
 pub fn log(logs: &mut Vec<Queue>, given: &[Given], number: u64) -> Result<(), AllocError>
     requires to { (i : ℕ) (s : Given) → slice_get given.now i ≡ Some s → s.to < length logs.old.items }
-    requires few { length given.now ≤ 8 }
-    requires room { (d : ℕ) → (log_at logs.old.items d).dropped + length (log_at logs.old.items d).payloads + 8 < 2 ^ 63 }
+    requires few { length given.now ≤ MOST_GIVEN }
+    requires room { (d : ℕ) → (log_at logs.old.items d).dropped + length (log_at logs.old.items d).payloads + MOST_GIVEN < 2 ^ 63 }
     ensures ok { OnOk result (logs.new.items ≡ given_to number given.now logs.old.items) }
     ensures err { OnErr result (logs.new.items ≡ logs.old.items) }
 {

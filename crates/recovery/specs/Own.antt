@@ -38,7 +38,7 @@ pub record IsOwn (me count life base : ℕ) (covered heard : List ℕ) (logs : L
   -- what its checkpoint covers is of its peers
   pub covers : FromPeers me count base covered []
 
--- no more than eight messages to each for each that was received
+-- no more than sixteen messages to each for each that was received
 abbrev pub IsShort : List TheQueue → ℕ → Type 0
 IsShort logs received = (d : ℕ) → (log_at logs d).dropped + length (log_at logs d).payloads ≤ MOST_GIVEN * received
 

@@ -16,7 +16,7 @@ pub record TheReplayed : Type 0 where
   pub own : TheOwn
   pub receipts : Received
 
--- what its numbers keep: it received no more than a process does, all of its peers, and no more than eight messages to each were sent for
+-- what its numbers keep: it received no more than a process does, all of its peers, and no more than sixteen messages to each were sent for
 -- each of these
 pub record IsReplayed (own : TheOwn) (receipts : Received) : Type 0 where
   pub young : own.base + length receipts.senders ≤ MOST_RECEIVED
