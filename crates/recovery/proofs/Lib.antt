@@ -12,6 +12,7 @@ pub mod Planning
 pub mod Noting
 pub mod Orders
 pub mod Moments
+pub mod Bits
 pub mod Replays
 pub mod Only
 pub mod Writing

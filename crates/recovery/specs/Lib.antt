@@ -10,3 +10,4 @@ pub mod Replaying
 pub mod Moment
 pub mod StandsReplaying
 pub mod Kept
+pub mod Reading

@@ -39,6 +39,7 @@ mod laws;
 mod moment;
 mod own;
 mod plan;
+mod reading;
 mod replayed;
 mod replaying;
 

@@ -26,6 +26,7 @@
 #![tactic(auto)]
 
 mod laws;
+mod reading;
 mod restoring;
 
 pub use laws::{pages_fit, replayed_stands, restoring_stands};

@@ -1,0 +1,14 @@
+-- What a host reads of a process that restores its numbers
+use Rattle.std.specs.Prelude.{ℕ, ◌+◌, Bool, not}
+use Rattle.node.specs.declared.standing.Stage.TheVariants as stage
+use Rattle.node.specs.declared.standing.Standing.{Standing}
+use Rattle.recovery.specs.Reading.{bits_of, replayed_standing}
+use Rattle.restoring.specs.Restoring.{TheRestoring, has_answered, replayed_of}
+
+-- a peer hasn't told all
+abbrev pub is_asked : TheRestoring → ℕ → Bool
+is_asked n q = not (has_answered q n)
+
+-- it waits for these
+abbrev pub restoring_standing : TheRestoring → Standing
+restoring_standing n = record (replayed_standing (replayed_of n)) { stage = stage.Resuming; exact = n.exact; waited_for = bits_of (is_asked n) (n.own.count + 1) }
