@@ -1,0 +1,6 @@
+mod Settled
+mod Giving
+mod Passings
+mod Openings
+mod Fronts
+mod Workings

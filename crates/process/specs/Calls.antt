@@ -1,0 +1,96 @@
+-- What the calls of a process are, by its stage: each is the call of that stage
+use Rattle.std.specs.Prelude.{◌≡◌, ℕ, List, [], ◌∷◌, Option, Some, None, Bool, true, false}
+use Rattle.packets.specs.declared.packet.Packet.{Packet}
+use Rattle.node.specs.declared.standing.Standing.{Standing}
+use Rattle.node.specs.declared.standing.Stage.TheVariants as stage
+use Rattle.node.specs.Calls as up
+use Rattle.node.specs.Stands as up_owes
+use Rattle.node.specs.Sending.{ticked}
+use Rattle.node.specs.Standing.{standing_of}
+use Rattle.node.specs.Saving as saving
+use Rattle.recovery.specs.Collecting as collecting
+use Rattle.recovery.specs.Stands as collecting_owes
+use Rattle.recovery.specs.StandsReplaying as replaying_owes
+use Rattle.recovery.specs.Reading.{collecting_standing, replaying_standing, replayed_standing}
+use Rattle.restoring.specs.Restoring as restoring
+use Rattle.restoring.specs.Stands as restoring_owes
+use Rattle.restoring.specs.Reading.{restoring_standing}
+use Rattle.process.specs.declared.course.Course.{Course}
+use Rattle.process.specs.declared.course.Course.TheVariants.{Up, Collecting, Replaying, Replayed, Restoring, Passing}
+use Rattle.process.specs.Process.{TheProcess, state_of, out_of}
+use Rattle.process.specs.Passing.{Passes}
+
+-- a packet comes
+abbrev pub IsHanded : Packet → Course → Course → Type 0
+IsHanded x (Up old) (Up new) = (new ≡ up.handed x old) × up_owes.IsHanded x old new
+IsHanded x (Collecting old) (Collecting new) = (new ≡ collecting.handed x old) × collecting_owes.IsHanded x old new
+IsHanded x (Restoring old) (Restoring new) = (new ≡ restoring.handed x old) × restoring_owes.IsHanded x old new
+-- while messages are to be replayed it is dropped
+IsHanded x (Replaying old) new = new ≡ Replaying old
+IsHanded x (Replayed old) new = new ≡ Replayed old
+IsHanded x Passing new = new ≡ Passing
+IsHanded x old new = ⊥
+
+-- what isn't answered is sent again
+abbrev pub Ticks : Course → Course → Type 0
+Ticks (Up old) (Up new) = (new ≡ ticked old) × up_owes.Acts old new
+Ticks (Collecting old) (Collecting new) = (new ≡ collecting.asked old) × collecting_owes.Acts old new
+Ticks (Restoring old) (Restoring new) = (new ≡ restoring.asked old) × restoring_owes.Acts old new
+Ticks (Replaying old) new = new ≡ Replaying old
+Ticks (Replayed old) new = new ≡ Replayed old
+Ticks Passing new = new ≡ Passing
+Ticks old new = ⊥
+
+-- one call of the stage, and then it passes on; the image stays
+pub record Calls (Does : Course → Course → Type 0) (old new : TheProcess) : Type 0 where
+  pub image : new.image ≡ old.image
+  pub mid : Course
+  pub does : Does old.course mid
+  pub passes : Passes mid new.course
+
+-- one call of the stage, which it stays in; the image stays
+pub record Stays (Does : Course → Course → Type 0) (old new : TheProcess) : Type 0 where
+  pub image : new.image ≡ old.image
+  pub does : Does old.course new.course
+
+-- the packet that waits first is taken. One that has replayed all owes nothing beside
+abbrev pub Takes : Option Packet → Course → Course → Type 0
+Takes o (Up old) (Up new) = up_owes.Takes o old new
+Takes o (Collecting old) (Collecting new) = collecting_owes.Takes o old new
+Takes o (Replaying old) (Replaying new) = replaying_owes.Takes o old new
+Takes None (Replayed old) (Replayed new) = (old.own.out ≡ []) × (new ≡ old)
+Takes (Some x) (Replayed old) (Replayed new) = old ≡ record new { own = record new.own { out = x ∷ new.own.out } }
+Takes o (Restoring old) (Restoring new) = restoring_owes.Takes o old new
+Takes o Passing new = (o ≡ None) × (new ≡ Passing)
+Takes o old new = ⊥
+
+-- a checkpoint can be made: it is up, with no job open, and waits for none
+abbrev pub may_freeze : Course → Bool
+may_freeze (Up n) = saving.may_freeze n
+may_freeze other = false
+
+-- it waits for one
+abbrev pub is_frozen : Course → Bool
+is_frozen (Up n) = n.frozen
+is_frozen other = false
+
+-- one is made
+abbrev pub Freezes : Course → Course → Type 0
+Freezes (Up old) (Up new) = (new ≡ saving.froze old) × up_owes.Acts old new
+Freezes (Up old) new = ⊥
+Freezes old new = new ≡ old
+
+-- that one is durable
+abbrev pub Thaws : Course → Course → Type 0
+Thaws (Up old) (Up new) = (new ≡ saving.saved old) × up_owes.Acts old new
+Thaws (Up old) new = ⊥
+Thaws old new = new ≡ old
+
+-- how it stands
+abbrev pub standing_at : Course → Standing
+standing_at (Up n) = standing_of n
+standing_at (Collecting n) = collecting_standing n
+standing_at (Replaying n) = replaying_standing n
+standing_at (Replayed n) = replayed_standing n
+standing_at (Restoring n) = restoring_standing n
+standing_at Passing = record { length = 0; base = 0; incarnation = 0; stage = stage.Up; exact = true; receipts = 0; entries = 0; packets = 0; replays = 0; waited_for = 0 }

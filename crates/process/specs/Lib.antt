@@ -1,0 +1,7 @@
+pub mod Process
+pub mod Calls
+pub mod Passing
+pub mod Reviving
+pub mod Working
+pub mod Packets
+pub mod Saving

@@ -1,0 +1,42 @@
+-- How a process passes from one stage to the next
+use Rattle.std.specs.Prelude.{◌≡◌, true, false}
+use Rattle.recovery.specs.Plan.{has_all}
+use Rattle.recovery.specs.Moment.{Recovered}
+use Rattle.recovery.specs.Replaying.{is_over}
+use Rattle.recovery.specs.StandsReplaying.{ComesBack, Ends, replayed_of}
+use Rattle.restoring.specs.Restoring.{begun, is_up, up}
+use Rattle.restoring.specs.Stands.{Begins, IsUp}
+use Rattle.process.specs.declared.course.Course.{Course}
+use Rattle.process.specs.declared.course.Course.TheVariants.{Up, Collecting, Replaying, Replayed, Restoring, Passing}
+
+-- where all peers have told all, one that collects recovers; or memory is refused, or it keeps too much
+abbrev pub Recovers : Course → Course → Type 0
+Recovers (Collecting n) (Replaying r) = (has_all n ≡ true) × Recovered n r × ComesBack n r
+Recovers old new = new ≡ old
+
+-- where nothing is left to be replayed, one that replays has replayed all
+abbrev pub Finishes : Course → Course → Type 0
+Finishes (Replaying n) (Replayed r) = (is_over n ≡ true) × (r ≡ replayed_of n) × Ends n r
+Finishes (Replaying n) new = (is_over n ≡ false) × (new ≡ Replaying n)
+Finishes old new = new ≡ old
+
+-- one that has replayed all asks its peers for its numbers; or memory is refused
+abbrev pub Begun : Course → Course → Type 0
+Begun (Replayed r) (Restoring n) = (n ≡ begun r) × Begins r n
+Begun old new = new ≡ old
+
+-- where all peers have answered, it is up
+abbrev pub Returns : Course → Course → Type 0
+Returns (Restoring n) (Up m) = (is_up n ≡ true) × (m ≡ up n) × IsUp n m
+Returns (Restoring n) new = (is_up n ≡ false) × (new ≡ Restoring n)
+Returns old new = new ≡ old
+
+-- it passes on as far as it can: each stage once, in their order
+pub record Passes (old new : Course) : Type 0 where
+  pub told : Course
+  pub ran : Course
+  pub asks : Course
+  pub recovers : Recovers old told
+  pub finishes : Finishes told ran
+  pub begins : Begun ran asks
+  pub returns : Returns asks new

@@ -1,0 +1,39 @@
+-- What clauses see of a process
+use Rattle.std.specs.Prelude.{◌≡◌, ℕ, List, [], length, Bool, true, false}
+use Rattle.verifier.specs.Typed.{Typed}
+use Rattle.packets.specs.declared.packet.Packet.{Packet}
+use Rattle.process.specs.declared.course.Course.{Course}
+use Rattle.process.specs.declared.course.Course.TheVariants.{Up, Collecting, Replaying, Replayed, Restoring, Passing}
+
+-- the image of its handler; and its stage, with what it holds then
+pub record TheProcess : Type 0 where
+  pub image : Typed
+  pub course : Course
+
+-- it isn't between two stages
+abbrev pub is_settled : Course → Bool
+is_settled Passing = false
+is_settled other = true
+
+-- the state that its handler left last; of one that collects, the state that its checkpoint kept
+abbrev pub state_of : Course → List ℕ
+state_of (Up n) = n.state
+state_of (Collecting n) = n.own.state
+state_of (Replaying n) = n.own.state
+state_of (Replayed n) = n.own.state
+state_of (Restoring n) = n.own.state
+state_of Passing = []
+
+-- the packets to be taken
+abbrev pub out_of : Course → List Packet
+out_of (Up n) = n.out
+out_of (Collecting n) = n.own.out
+out_of (Replaying n) = n.own.out
+out_of (Replayed n) = n.own.out
+out_of (Restoring n) = n.own.out
+out_of Passing = []
+
+-- it is up
+abbrev pub is_node : Course → Bool
+is_node (Up n) = true
+is_node other = false

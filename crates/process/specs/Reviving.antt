@@ -1,0 +1,56 @@
+-- Processes that begin
+use Rattle.std.specs.Prelude.{◌≡◌, ◌≢◌, ◌⊎◌, ℕ, List, length, true, false, ⊤}
+use Rattle.verifier.specs.Typed.{Typed}
+use Rattle.packets.specs.declared.kept.Kept.{Kept}
+use Rattle.packets.specs.declared.kept_fault.KeptFault.TheVariants.{Range}
+use Rattle.packets.specs.Kept.{IsKept}
+use Rattle.packets.specs.KeptFaults.{IsFirstKept}
+use Rattle.node.specs.Node.{TheNode, IsPositive}
+use Rattle.world.specs.Handlers.{Handlers}
+use Rattle.cluster.specs.Cluster.{opening}
+use Rattle.node.specs.Stands.{Stands, BeginsWith}
+use Rattle.node.specs.Node.{new_node}
+use Rattle.recovery.specs.Own.{comes_back}
+use Rattle.recovery.specs.Collecting.{revived}
+use Rattle.recovery.specs.Stands.{Revives}
+use Rattle.process.specs.declared.course.Course.TheVariants.{Up, Collecting}
+use Rattle.process.specs.declared.fault.Unrevived.{Unrevived}
+use Rattle.process.specs.declared.fault.Unrevived.TheVariants as why
+use Rattle.process.specs.Process.{TheProcess}
+
+-- a process that received nothing: it stands in the opening, where its handler begins with a state of zeros
+pub record IsOpened (image : Typed) (me count : ℕ) (p : TheProcess) : Type 0 where
+  pub image_is : p.image ≡ image
+  pub course_is : p.course ≡ Up (new_node me count image.len)
+  pub stands : (f : Handlers) → BeginsWith f me image.len → Stands (new_node me count image.len) (opening count f) me
+
+-- these bytes keep a process that may come back, with a state as long as the image's
+pub record IsKeptFor (image : Typed) (k : Kept) (bytes : List ℕ) : Type 0 where
+  pub bytes_are : IsKept k bytes
+  pub comes : comes_back k ≡ true
+  pub long : length k.state ≡ image.len
+
+-- what they keep comes back
+pub record IsRevived (image : Typed) (bytes : List ℕ) (life : ℕ) (p : TheProcess) : Type 0 where
+  pub kept : Kept
+  pub is_kept : IsKeptFor image kept bytes
+  pub image_is : p.image ≡ image
+  pub course_is : p.course ≡ Collecting (revived kept life)
+  pub revives : Revives kept life (revived kept life)
+
+-- they keep something that doesn't come back: more than a process can have received or sent
+abbrev pub IsOver : List ℕ → Type 0
+IsOver bytes = (k : Kept) × IsKept k bytes × (comes_back k ≡ false)
+
+-- why bytes aren't what is kept of a process that comes back
+abbrev pub IsUnread : List ℕ → Unrevived → Type 0
+IsUnread bytes why.Memory = ⊤
+IsUnread bytes (why.Kept f) = IsFirstKept f bytes ⊎ ((f ≡ Range) × IsOver bytes)
+IsUnread bytes other = ⊥
+
+-- why nothing comes back
+abbrev pub IsUnrevived : Typed → List ℕ → ℕ → Unrevived → Type 0
+IsUnrevived image bytes life why.Memory = ⊤
+IsUnrevived image bytes life (why.Kept f) = IsPositive life × IsUnread bytes (why.Kept f)
+IsUnrevived image bytes life why.State = IsPositive life × ((k : Kept) × IsKept k bytes × (comes_back k ≡ true) × (length k.state ≢ image.len))
+IsUnrevived image bytes life why.Incarnation = ¬ IsPositive life

@@ -1,0 +1,88 @@
+-- What the handler of a process is run on, and what comes of it
+use Rattle.std.specs.Prelude.{◌≡◌, ◌≢◌, ◌⊎◌, ℕ, List, [], ◌∷◌, ◌++◌, length, map, Option, Some, None, Bool, not, nat_lt, nat_le, ◌&&◌, ◌==◌, if◌then◌else◌}
+use Rattle.helpers.specs.declared.effects.Who.{Who}
+use Rattle.helpers.specs.declared.effects.Sent.{Sent}
+use Rattle.helpers.specs.Effects.{Emitted}
+use Rattle.verifier.specs.Typed.{Typed}
+use Rattle.interp.specs.HandlerCall.{Handled, handled_by}
+use Rattle.world.specs.Fold.{seen}
+use Rattle.world.specs.History.{Payload}
+use Rattle.node.specs.declared.job.OpenJob.{OpenJob}
+use Rattle.node.specs.declared.job.Given.{Given}
+use Rattle.node.specs.Node.{MaySend}
+use Rattle.node.specs.Calls.{did_work}
+use Rattle.recovery.specs.Own.{MayGive}
+use Rattle.node.specs.Stands as up_owes
+use Rattle.recovery.specs.Replaying.{next_job, did_replay}
+use Rattle.recovery.specs.StandsReplaying as replaying_owes
+use Rattle.process.specs.declared.course.Course.{Course}
+use Rattle.process.specs.declared.course.Course.TheVariants.{Up, Collecting, Replaying, Replayed, Restoring, Passing}
+use Rattle.process.specs.Process.{TheProcess, state_of}
+use Rattle.process.specs.Passing.{Passes}
+
+-- a message that the handler is to run on, and as whom
+abbrev pub job_as : ℕ → ℕ → Option OpenJob → Option (OpenJob × Who)
+job_as me count None = None
+job_as me count (Some j) = Some (j, record { me = me; from = j.sender; count = count })
+
+-- that of the open job, or the next one that is replayed
+abbrev pub job_at : Course → Option (OpenJob × Who)
+job_at (Up n) = job_as n.me n.count n.working
+job_at (Replaying n) = job_as n.own.me n.own.count (next_job n)
+job_at other = None
+
+-- another process
+abbrev pub is_other : Who → ℕ → Bool
+is_other who to = nat_lt 0 to && nat_le to who.count && not (to == who.me)
+
+-- the messages that a handler gives for others
+abbrev pub sent_by : Who → List Sent → List Given
+sent_by who [] = []
+sent_by who (s ∷ sends) = (if is_other who s.dst then record { to = s.dst; payload = s.payload } ∷ [] else []) ++ sent_by who sends
+
+-- an output, for the gateway
+abbrev pub shown_of : Payload → Given
+shown_of x = record { to = 0; payload = x }
+
+-- the outputs that it gives; the gateway gives itself none
+abbrev pub shown_by : Who → List Payload → List Given
+shown_by who outputs = if who.me == 0 then [] else map shown_of outputs
+
+-- what a handler gives: its messages, and behind them its outputs
+abbrev pub given_of : Who → Emitted → List Given
+given_of who e = sent_by who e.sends ++ shown_by who e.outputs
+
+-- the handler left this state, and gave this
+abbrev pub TakesIn : List ℕ → List Given → Course → Course → Type 0
+TakesIn state given (Up old) (Up new) = (new ≡ did_work state given old.working old) × up_owes.Owes (up_owes.Handles state given old) old new
+TakesIn state given (Replaying old) (Replaying new) =
+    (new ≡ did_replay state given (next_job old) old) × replaying_owes.Owes (replaying_owes.Handles state given old) old new
+TakesIn state given (Up old) new = ⊥
+TakesIn state given (Replaying old) new = ⊥
+TakesIn state given old new = new ≡ old
+
+-- what is given may be sent
+abbrev pub MayTakeIn : Course → List Given → Type 0
+MayTakeIn (Up n) given = MaySend n given
+MayTakeIn (Replaying n) given = MayGive n.own given
+MayTakeIn other given = Unit {0}
+
+-- there is nothing to run on, or its state isn't that of the image
+abbrev pub Rests : TheProcess → Type 0
+Rests p = (job_at p.course ≡ None) ⊎ (length (state_of p.course) ≢ p.image.len)
+
+-- what the handler answers to a message, where it is run as this one on this state
+abbrev pub answer_to : Typed → Who → List ℕ → OpenJob → Option Handled
+answer_to image who state j = handled_by image.form image.slots who state (seen image.form j.payload)
+
+-- the handler ran on the message that was next, and its answer is taken in; then the process passes on
+pub record Works (old new : TheProcess) : Type 0 where
+  pub job : OpenJob
+  pub who : Who
+  pub answer : Handled
+  pub mid : Course
+  pub image : new.image ≡ old.image
+  pub next : job_at old.course ≡ Some (job, who)
+  pub answers : answer_to old.image who (state_of old.course) job ≡ Some answer
+  pub takes : TakesIn answer.state (given_of who answer.effects) old.course mid
+  pub passes : Passes mid new.course

@@ -1,0 +1,170 @@
+//! Packets that come and go, and what is sent again.
+
+ghost use Rattle.std.specs.Prelude.{◌≡◌, ◌∷◌, List, IfOk, IfErr, IfNone, IfSome, OnOk, OnErr, MatchOption};
+ghost use Rattle.packets.specs.declared.packet.Packet.{Packet};
+ghost use Rattle.packets.specs.Format.{Fits, IsPacket};
+ghost use Rattle.packets.specs.Faults.{IsReason};
+ghost use Rattle.node.specs.Bytes.{IsTaken};
+ghost use Rattle.process.specs.Process.{out_of};
+ghost use Rattle.process.specs.Calls.{Calls, Stays, IsHanded, Ticks, Takes};
+ghost use Rattle.process.specs.Packets.{IsFront, IsStuck, GivesBytes};
+ghost use Rattle.process.specs.Passing.{Passes};
+
+use crate::course::Course;
+use crate::process::Process;
+use crate::writable::is_question;
+use packets::{Packet, PacketError, decode, encode, one_packet};
+use std::alloc::{AllocError, Global};
+use std::mem::replace;
+
+impl Process {
+    /// Bytes came. Those of a packet are taken as [`Process::receive`] takes it; any others are refused by
+    /// the first of their faults. A refusal changes nothing.
+    pub fn receive_bytes(&mut self, alloc: Global, bytes: &[u8]) -> Result<(), PacketError>
+        // What is taken are the bytes of a packet, and of one only.
+        ensures found { OnOk result ((p : Packet) × IsPacket p bytes.now) }
+        ensures calls { OnOk result ((p : Packet) → IsPacket p bytes.now → Calls (IsHanded p) self.old self.new) }
+        // Those of a packet are taken, unless memory runs out.
+        ensures only { (p : Packet) → IsPacket p bytes.now → IsTaken result }
+        ensures refused { IfErr result (λ e. IsReason e bytes.now) }
+        ensures err { OnErr result (self.new ≡ self.old) }
+    {
+        one_packet();
+        let packet = decode(alloc, bytes)?;
+        self.receive(alloc, &packet)?;
+        Ok(())
+    }
+
+    /// A packet came. While messages are to be replayed it is dropped. A refusal changes nothing.
+    pub fn receive(&mut self, alloc: Global, packet: &Packet) -> Result<(), AllocError>
+        ensures calls { OnOk result (Calls (IsHanded packet.now) self.old self.new) }
+        ensures err { OnErr result (self.new ≡ self.old) }
+    {
+        self.course.hand(alloc, packet)?;
+        self.pass(alloc);
+        Ok(())
+    }
+
+    /// What isn't answered is sent again.
+    pub fn tick(&mut self, alloc: Global)
+        ensures { Calls Ticks self.old self.new }
+    {
+        self.course.send_again();
+        self.pass(alloc);
+    }
+
+    /// A packet that is to be sent, the first that waits; none, if there is none.
+    pub fn take(&mut self) -> Option<Packet>
+        ensures { Stays (Takes result) self.old self.new }
+    {
+        self.course.pop()
+    }
+
+    /// The bytes of the packet that [`Process::take`] would give, which is taken; none, if none waits. A
+    /// refusal, for want of memory, changes nothing.
+    pub fn take_bytes(&mut self, alloc: Global) -> Result<Option<Vec<u8>>, AllocError>
+        ensures none { IfOk result (λ o. IfNone o ((self.new ≡ self.old) × IsStuck self.old)) }
+        ensures some { IfOk result (λ o. IfSome o (λ v. GivesBytes v.items self.old self.new)) }
+        ensures err { OnErr result (self.new ≡ self.old) }
+    {
+        match self.front_bytes(alloc)? {
+            Some(bytes) => {
+                self.discard();
+                Ok(Some(bytes))
+            }
+            None => Ok(None),
+        }
+    }
+
+    /// The packet that waits first is taken, and nobody gets it.
+    fn discard(&mut self)
+        ensures { (x : Packet) (rest : List Packet) → out_of self.old.course ≡ x ∷ rest → Stays (Takes (Some x)) self.old self.new }
+    {
+        let _packet = self.take();
+    }
+
+    /// The bytes of the packet that waits first, which stays; none, if none waits.
+    pub fn front_bytes(&self, alloc: Global) -> Result<Option<Vec<u8>>, AllocError>
+        ensures none { IfOk result (λ o. IfNone o (IsStuck self.now)) }
+        ensures some { IfOk result (λ o. IfSome o (λ v. IsFront self.now v.items)) }
+    {
+        if let Course::Up(node) = &self.course {
+            return match node.front() {
+                Some(packet) => written(alloc, packet),
+                None => Ok(None),
+            };
+        }
+        match self.front() {
+            Some(packet) if is_question(packet) => written(alloc, packet),
+            _ => Ok(None),
+        }
+    }
+
+    /// It passes on to the next stage where the one that it is in is over.
+    pub(crate) fn pass(&mut self, alloc: Global)
+        ensures { Stays Passes self.old self.new }
+    {
+        if self.course.is_up() {
+            return;
+        }
+        let course = replace(&mut self.course, Course::Passing);
+        self.course = course.passed(alloc);
+    }
+}
+
+impl Course {
+    /// A packet came. A refusal changes nothing.
+    fn hand(&mut self, alloc: Global, packet: &Packet) -> Result<(), AllocError>
+        ensures ok { OnOk result (IsHanded packet.now self.old self.new) }
+        ensures err { OnErr result (self.new ≡ self.old) }
+    {
+        match self {
+            Course::Up(process) => process.receive(alloc, packet),
+            Course::Collecting(process) => process.receive(packet),
+            Course::Restoring(process) => {
+                process.receive(packet);
+                Ok(())
+            }
+            Course::Replaying(_) => Ok(()),
+            Course::Replayed(_) => Ok(()),
+            Course::Passing => Ok(()),
+        }
+    }
+
+    /// What isn't answered is sent again.
+    fn send_again(&mut self)
+        ensures { Ticks self.old self.new }
+    {
+        match self {
+            Course::Up(process) => process.tick(),
+            Course::Collecting(process) => process.tick(),
+            Course::Restoring(process) => process.tick(),
+            Course::Replaying(_) => {}
+            Course::Replayed(_) => {}
+            Course::Passing => {}
+        }
+    }
+
+    /// The packet that waits first leaves; none, if there is none.
+    fn pop(&mut self) -> Option<Packet>
+        ensures { Takes result self.old self.new }
+    {
+        match self {
+            Course::Up(process) => process.take(),
+            Course::Collecting(process) => process.take(),
+            Course::Replaying(process) => process.take(),
+            Course::Replayed(process) => process.pop(),
+            Course::Restoring(process) => process.take(),
+            Course::Passing => None,
+        }
+    }
+}
+
+/// The bytes of a packet.
+fn written(alloc: Global, packet: &Packet) -> Result<Option<Vec<u8>>, AllocError>
+    requires { Fits packet.now }
+    ensures { IfOk result (λ o. MatchOption o ⊥ (λ v. IsPacket packet.now v.items)) }
+{
+    let bytes = encode(alloc, packet)?;
+    Ok(Some(bytes))
+}

@@ -1,0 +1,36 @@
+//! A process as one value, through all its stages.
+//!
+//! A [`Process`] holds the image of its handler and is a node that is up, or one that comes back:
+//! it collects what its peers' logs hold, replays that, and restores its numbers. Its host makes the
+//! same calls in each stage: it hands it the packets that came ([`Process::receive_bytes`]), sends those
+//! that it gives ([`Process::take_bytes`]), has its handler run ([`Process::work`]), now and then lets it
+//! send again what isn't answered ([`Process::tick`]), and keeps its checkpoints
+//! ([`Process::checkpoint`], [`Process::saved`]). What was kept comes back by [`Process::revive`].
+//!
+//! The promise: each call is the call of the stage that the process is in, word for word, and then the
+//! process passes on to the next stage where that one is over: when all peers have told all it recovers,
+//! when nothing is left to replay it restores its numbers, when all have answered it is up. A refusal
+//! changes nothing.
+//!
+//! ```text
+//! let mut process = Process::revive(alloc, image, &kept, incarnation)?;
+//! process.receive_bytes(alloc, &bytes)?;
+//! while process.work(alloc)? {}
+//! while let Some(bytes) = process.take_bytes(alloc)? {
+//!     send(bytes);
+//! }
+//! ```
+#![tactic(auto)]
+
+mod course;
+mod fault;
+mod handing;
+mod process;
+mod reading;
+mod saving;
+mod working;
+mod writable;
+
+pub use course::Course;
+pub use fault::Unrevived;
+pub use process::Process;

@@ -1,0 +1,94 @@
+//! A process, and how it begins.
+
+ghost use Rattle.std.specs.Prelude.{◌≡◌, ◌≤◌, true, IfOk, IfErr};
+ghost use Rattle.std.specs.Arc.{arc_value};
+ghost use Rattle.packets.specs.Kept.{IsKept};
+ghost use Rattle.recovery.specs.Own.{comes_back};
+ghost use Rattle.process.specs.Reviving.{IsOpened, IsRevived, IsUnrevived, IsUnread};
+
+use crate::course::Course;
+use crate::fault::Unrevived;
+use node::Node;
+use packets::{Kept, KeptError, KeptFault, NUMBER_LIMIT, decode_kept};
+use recovery::{Collecting, comes_back};
+use std::alloc::{AllocError, Global};
+use std::marker::Model;
+use std::sync::Arc;
+use verifier::Image;
+
+/// A process of a cluster, with the image of its handler.
+#[derive(Drop)]
+pub struct Process {
+    pub(crate) image: Arc<Image>,
+    pub(crate) course: Course,
+}
+
+impl Model for Process {
+    ghost use Rattle.std.specs.Prelude.{◌≡◌, true};
+    ghost use Rattle.std.specs.Arc.{arc_value};
+    ghost use Rattle.process.specs.Process.{TheProcess, is_settled};
+
+    ghost Value = { TheProcess };
+
+    ghost view = { λ p. record { image = arc_value p.image; course = p.course } };
+
+    ghost invariant = { λ p. is_settled p.course ≡ true };
+}
+
+impl Process {
+    /// The process `me` of `count`, which received nothing.
+    pub fn open(alloc: Global, image: Arc<Image>, me: u8, count: u8) -> Result<Process, AllocError>
+        requires own { (1 ≤ me) × (me ≤ count) }
+        requires few { count ≤ 15 }
+        ensures { IfOk result (IsOpened (arc_value image) me count) }
+    {
+        let node = Node::open(alloc, me, count, image.state_len())?;
+        Ok(Process {
+            image,
+            course: Course::Up(node),
+        })
+    }
+
+    /// What these bytes keep of a process comes back in this incarnation; they count from 1. All its peers
+    /// are asked.
+    pub fn revive(
+        alloc: Global,
+        image: Arc<Image>,
+        kept: &[u8],
+        incarnation: u64,
+    ) -> Result<Process, Unrevived>
+        ensures revived { IfOk result (IsRevived (arc_value image) kept.now incarnation) }
+        ensures refused { IfErr result (IsUnrevived (arc_value image) kept.now incarnation) }
+    {
+        if incarnation < 1 || incarnation >= NUMBER_LIMIT {
+            return Err(Unrevived::Incarnation);
+        }
+        let kept = kept_of(alloc, kept)?;
+        if kept.state.as_slice().len() != image.state_len() as usize {
+            return Err(Unrevived::State);
+        }
+        match Collecting::revive(alloc, &kept, incarnation) {
+            Ok(process) => Ok(Process {
+                image,
+                course: Course::Collecting(process),
+            }),
+            Err(_) => Err(Unrevived::Memory),
+        }
+    }
+}
+
+/// What bytes keep of a process, where that can come back.
+fn kept_of(alloc: Global, bytes: &[u8]) -> Result<Kept, Unrevived>
+    ensures kept { IfOk result (λ k. IsKept k bytes.now × (comes_back k ≡ true)) }
+    ensures refused { IfErr result (IsUnread bytes.now) }
+{
+    let kept = match decode_kept(alloc, bytes) {
+        Ok(kept) => kept,
+        Err(KeptError::Memory) => return Err(Unrevived::Memory),
+        Err(KeptError::Fault(fault)) => return Err(Unrevived::Kept(fault)),
+    };
+    if !comes_back(&kept) {
+        return Err(Unrevived::Kept(KeptFault::Range));
+    }
+    Ok(kept)
+}

@@ -1,0 +1,70 @@
+//! Checkpoints of a process.
+
+ghost use Rattle.std.specs.Prelude.{◌≡◌, ◌⊎◌, ◌≤◌, ◌<◌, length, false, true, IfOk, IfNone, IfSome, OnOk, OnErr};
+ghost use Rattle.packets.specs.Kept.{IsKept};
+ghost use Rattle.process.specs.Calls.{Stays, Freezes, Thaws, may_freeze, is_frozen};
+ghost use Rattle.process.specs.Saving.{IsSavable, Keeps};
+
+use crate::course::Course;
+use crate::process::Process;
+use limits::STATE_BYTES;
+use node::Stage;
+use std::alloc::{AllocError, Global};
+
+impl Process {
+    /// The bytes that a checkpoint made now is to keep; none, where none can be made.
+    pub fn kept_bytes(&self, alloc: Global) -> Result<Option<Vec<u8>>, AllocError>
+        ensures none { IfOk result (λ o. IfNone o (¬ IsSavable self.now.course)) }
+        ensures some { IfOk result (λ o. IfSome o (λ v. IsSavable self.now.course × Keeps self.now.course v.items)) }
+    {
+        match &self.course {
+            Course::Up(node) => {
+                if node.standing().stage != Stage::Up || node.state().len() > STATE_BYTES {
+                    return Ok(None);
+                }
+                let bytes = node.kept_bytes(alloc)?;
+                Ok(Some(bytes))
+            }
+            _ => Ok(None),
+        }
+    }
+
+    /// A checkpoint is made, and the process waits for it until [`Process::saved`]. Answers whether one was
+    /// made: it has to be up, with no job open, and wait for none.
+    pub fn freeze(&mut self) -> bool
+        ensures made { result ≡ may_freeze self.old.course }
+        ensures stays { Stays Freezes self.old self.new }
+    {
+        match &mut self.course {
+            Course::Up(node) => node.checkpoint(),
+            _ => false,
+        }
+    }
+
+    /// A checkpoint is made, of which these are the bytes; none, where none can be made. A refusal changes
+    /// nothing.
+    pub fn checkpoint(&mut self, alloc: Global) -> Result<Option<Vec<u8>>, AllocError>
+        ensures none { IfOk result (λ o. IfNone o (¬ IsSavable self.old.course × (self.new ≡ self.old))) }
+        ensures some { IfOk result (λ o. IfSome o (λ v. IsSavable self.old.course × Keeps self.old.course v.items × Stays Freezes self.old self.new)) }
+        ensures err { OnErr result (self.new ≡ self.old) }
+    {
+        let bytes = self.kept_bytes(alloc)?;
+        if bytes.is_some() {
+            let _made = self.freeze();
+        }
+        Ok(bytes)
+    }
+
+    /// The checkpoint that was made is durable. Answers whether the process waited for it. A refusal changes
+    /// nothing.
+    pub fn saved(&mut self, alloc: Global) -> Result<bool, AllocError>
+        ensures waited { IfOk result (λ b. b ≡ is_frozen self.old.course) }
+        ensures stays { OnOk result (Stays Thaws self.old self.new) }
+        ensures err { OnErr result (self.new ≡ self.old) }
+    {
+        match &mut self.course {
+            Course::Up(node) => node.saved(alloc),
+            _ => Ok(false),
+        }
+    }
+}

@@ -1,0 +1,140 @@
+//! What a process does when its handler is to run.
+
+ghost use Rattle.std.specs.Prelude.{◌≡◌, ◌++◌, ◌≤◌, length, map, true, false, IfOk, OnOk, OnErr};
+ghost use Rattle.interp.specs.Configuration.{IsLong};
+ghost use Rattle.node.specs.declared.node.TheConstants.{MOST_GIVEN};
+ghost use Rattle.world.specs.Fold.{seen};
+ghost use Rattle.process.specs.Working.{job_at, is_other, given_of, sent_by, shown_of, TakesIn, MayTakeIn, Works, Rests};
+
+use crate::course::Course;
+use crate::process::Process;
+use helpers::{Effects, Payload, Sent, Who};
+use interp::call;
+use node::{Given, OpenJob};
+use regtypes::ImageForm;
+use std::alloc::{AllocError, Global};
+use verifier::Image;
+
+impl Process {
+    /// The message that the handler is to run on, and as whom: that of the open job, or the next one that is
+    /// replayed; none, if there is none.
+    pub fn job(&self) -> Option<(OpenJob, Who)>
+        ensures { result ≡ job_at self.now.course }
+    {
+        match &self.course {
+            Course::Up(node) => {
+                let job = node.job()?;
+                Some((job, node.who(job.sender)))
+            }
+            Course::Replaying(process) => {
+                let job = process.job()?;
+                Some((job, process.who(job.sender)))
+            }
+            _ => None,
+        }
+    }
+
+    /// The handler runs on the message of the open job, or on the next one that is replayed. Answers whether
+    /// there was one. A refusal changes nothing.
+    pub fn work(&mut self, alloc: Global) -> Result<bool, AllocError>
+        ensures works { IfOk result (λ b. b ≡ true → Works self.old self.new) }
+        ensures rests { IfOk result (λ b. b ≡ false → Rests self.old × (self.new ≡ self.old)) }
+        ensures err { OnErr result (self.new ≡ self.old) }
+    {
+        let Some((job, who)) = self.job() else {
+            return Ok(false);
+        };
+        let mut state = Vec::from_slice(alloc, self.state())?;
+        if state.len() != self.image.state_len() as usize {
+            return Ok(false);
+        }
+        let mut effects = Effects::new();
+        let message = seen(&self.image, &job.payload);
+        let _end = call(
+            &self.image,
+            state.as_mut_slice(),
+            message,
+            who,
+            &mut effects,
+        );
+        let given = given(alloc, who, &effects)?;
+        self.course.take_in(state, &given)?;
+        self.pass(alloc);
+        Ok(true)
+    }
+}
+
+impl Course {
+    /// The handler left this state, and gave this. A refusal changes nothing.
+    fn take_in(&mut self, state: Vec<u8>, given: &[Given]) -> Result<(), AllocError>
+        requires { MayTakeIn self.old given.now }
+        ensures ok { OnOk result (TakesIn state.items given.now self.old self.new) }
+        ensures err { OnErr result (self.new ≡ self.old) }
+    {
+        match self {
+            Course::Up(node) => node.work(state, given),
+            Course::Replaying(process) => process.work(state, given),
+            _ => Ok(()),
+        }
+    }
+}
+
+/// What the handler of an image sees of a payload.
+fn seen<'a>(image: &Image, payload: &'a Payload) -> &'a [u8]
+    ensures value { result.now ≡ seen image.now.form payload.now }
+    ensures size { IsLong image.now.form (length result.now) }
+{
+    match image.form() {
+        ImageForm::Sbi1 => payload.view64(),
+        ImageForm::Sbi2 => payload.as_slice(),
+    }
+}
+
+/// The messages that a handler gave for others, and behind them its outputs, which are for the gateway.
+fn given(alloc: Global, who: Who, effects: &Effects) -> Result<Vec<Given>, AllocError>
+    ensures value { IfOk result (λ v. v.items ≡ given_of who effects.now) }
+    ensures few { IfOk result (λ v. length v.items ≤ MOST_GIVEN) }
+{
+    let (sends, outputs) = (effects.sends(), effects.outputs());
+    let mut given = Vec::new(alloc);
+    add_sent(&mut given, who, sends)?;
+    if who.me != 0 {
+        add_shown(&mut given, outputs)?;
+    }
+    Ok(given)
+}
+
+/// Behind what was given, the messages for other processes.
+fn add_sent(given: &mut Vec<Given>, who: Who, sends: &[Sent]) -> Result<(), AllocError>
+    ensures { OnOk result (given.new.items ≡ given.old.items ++ sent_by who sends.now) }
+{
+    for sent in sends {
+        if is_other(who, sent.dst) {
+            given.push(Given {
+                to: sent.dst,
+                payload: sent.payload,
+            })?;
+        }
+    }
+    Ok(())
+}
+
+/// Behind what was given, the outputs.
+fn add_shown(given: &mut Vec<Given>, outputs: &[Payload]) -> Result<(), AllocError>
+    ensures { OnOk result (given.new.items ≡ given.old.items ++ map shown_of outputs.now) }
+{
+    for payload in outputs {
+        given.push(Given {
+            to: 0,
+            payload: *payload,
+        })?;
+    }
+    Ok(())
+}
+
+/// Whether this is another process.
+fn is_other(who: Who, to: u8) -> bool
+    ensures { result ≡ is_other who to }
+{
+    0 < to && to <= who.count && to != who.me
+}
