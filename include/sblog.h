@@ -350,6 +350,98 @@ uint32_t sblog_gateway_changes(sblog_gateway *gateway, uint8_t *out, size_t out_
 
 #endif
 
+/* ---- nodes: one process of a cluster, as a value that its host calls (docs/EMBEDDING.md, "A node"). */
+
+#ifndef SBLOG_NODE_H
+#define SBLOG_NODE_H
+
+enum sblog_node_code {
+    SBLOG_NODE_DONE = 0,
+    SBLOG_NODE_MEMORY = 15, /* memory ran out */
+    SBLOG_NODE_HANDLE = 16, /* the handle is closed; to open one, it is open */
+    SBLOG_NODE_IMAGE = 17,  /* the image is none */
+    SBLOG_NODE_ROOM = 19,   /* the buffer is too short; the size says what it takes */
+    SBLOG_NODE_ABSENT = 20, /* there is none */
+    SBLOG_NODE_BYTES = 21,  /* the bytes are refused; the fault says by what */
+    SBLOG_NODE_UNREADY = 22, /* not now */
+    SBLOG_NODE_LIMIT = 23   /* a limit, me, n or an incarnation is out of its range */
+};
+
+enum sblog_node_stage {
+    SBLOG_NODE_UP = 0,
+    SBLOG_NODE_BUSY = 1,
+    SBLOG_NODE_FROZEN = 2,
+    SBLOG_NODE_COLLECTING = 3,
+    SBLOG_NODE_REPLAYING = 4,
+    SBLOG_NODE_RESUMING = 5
+};
+
+/* How a node stands. */
+typedef struct {
+    uint64_t length;      /* messages that it received */
+    uint64_t base;        /* of these, that its checkpoint covers */
+    uint64_t incarnation;
+    uint64_t stage;       /* enum sblog_node_stage */
+    uint64_t exact;       /* 1 where failures came one at a time, as far as it knows, else 0 */
+    uint64_t receipts;    /* messages behind the checkpoint */
+    uint64_t entries;     /* messages that its log keeps */
+    uint64_t packets;     /* packets that wait to be taken */
+    uint64_t replays;     /* messages that it still has to replay */
+    uint64_t waited_for;  /* peers whose answers it waits for: bit q of peer q */
+} sblog_standing;
+
+/* What a program holds of a node: zeros are a closed handle, sblog_node node = {0}. A program writes no other
+   bytes into it, and makes no copy of an open one. */
+typedef struct {
+    void *at;
+    bool held;
+} sblog_node;
+
+#ifdef __cplusplus
+#define SBLOG_NODE_ASSERT(holds, why) static_assert(holds, why)
+#else
+#define SBLOG_NODE_ASSERT(holds, why) _Static_assert(holds, why)
+#endif
+SBLOG_NODE_ASSERT(sizeof(sblog_standing) == 80, "size of sblog_standing");
+SBLOG_NODE_ASSERT(offsetof(sblog_standing, length) == 0, "place of length");
+SBLOG_NODE_ASSERT(offsetof(sblog_standing, base) == 8, "place of base");
+SBLOG_NODE_ASSERT(offsetof(sblog_standing, incarnation) == 16, "place of incarnation");
+SBLOG_NODE_ASSERT(offsetof(sblog_standing, stage) == 24, "place of stage");
+SBLOG_NODE_ASSERT(offsetof(sblog_standing, exact) == 32, "place of exact");
+SBLOG_NODE_ASSERT(offsetof(sblog_standing, receipts) == 40, "place of receipts");
+SBLOG_NODE_ASSERT(offsetof(sblog_standing, entries) == 48, "place of entries");
+SBLOG_NODE_ASSERT(offsetof(sblog_standing, packets) == 56, "place of packets");
+SBLOG_NODE_ASSERT(offsetof(sblog_standing, replays) == 64, "place of replays");
+SBLOG_NODE_ASSERT(offsetof(sblog_standing, waited_for) == 72, "place of waited_for");
+SBLOG_NODE_ASSERT(sizeof(sblog_node) == 16, "size of sblog_node");
+SBLOG_NODE_ASSERT(offsetof(sblog_node, at) == 0, "place of at");
+SBLOG_NODE_ASSERT(offsetof(sblog_node, held) == 8, "place of held");
+#undef SBLOG_NODE_ASSERT
+
+/* page is 60000, tick 8, numbers 256, receipts 65536 and durable 0: other values are refused so far (23). */
+uint32_t sblog_node_open(const uint8_t *image, size_t image_len, uint8_t me, uint8_t n, uint32_t page,
+                         uint32_t tick, uint32_t numbers, uint32_t receipts, uint32_t durable,
+                         sblog_node *node);
+/* From what was kept, in an incarnation that is higher than any before it. */
+uint32_t sblog_node_revive(const uint8_t *image, size_t image_len, const uint8_t *kept, size_t kept_len,
+                           uint64_t incarnation, uint32_t page, uint32_t tick, uint32_t numbers,
+                           uint32_t receipts, uint32_t durable, sblog_node *node, uint32_t *fault);
+uint32_t sblog_node_close(sblog_node *node);
+uint32_t sblog_node_receive(sblog_node *node, const uint8_t *packet, size_t packet_len, uint32_t *fault);
+/* A packet to be sent, and to whom (0: the gateway); 20, if there is none. */
+uint32_t sblog_node_take(sblog_node *node, uint8_t *out, size_t out_len, size_t *size, uint8_t *to);
+/* The handler runs; 20, if there is nothing to work on. */
+uint32_t sblog_node_work(sblog_node *node);
+uint32_t sblog_node_tick(sblog_node *node);
+/* Bytes to be kept durably; 22 where it isn't up, works on a message, or waits for another checkpoint. */
+uint32_t sblog_node_checkpoint(sblog_node *node, uint8_t *out, size_t out_len, size_t *size);
+/* They are kept; 22 where it doesn't wait for that. */
+uint32_t sblog_node_saved(sblog_node *node);
+uint32_t sblog_node_standing(sblog_node *node, sblog_standing *out);
+uint32_t sblog_node_state(sblog_node *node, uint8_t *out, size_t out_len, size_t *size);
+
+#endif
+
 #ifdef __cplusplus
 }
 #endif

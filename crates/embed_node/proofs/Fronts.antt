@@ -1,0 +1,83 @@
+-- What is taken is the packet that waits first
+use Rattle.std.proofs.Common.{◌≡◌, List, [], ◌∷◌, refl, sym, ap, ◌∙◌, subst}
+use Rattle.std.specs.Prelude.{Option, Some, None}
+use Rattle.packets.specs.declared.packet.Packet.{Packet}
+use Rattle.process.specs.declared.course.Course.{Course}
+use Rattle.process.specs.declared.course.Course.TheVariants.{Up, Collecting, Replaying, Replayed, Restoring, Passing}
+use Rattle.process.specs.Process.{TheProcess, out_of}
+use Rattle.process.specs.Calls.{Takes, Stays}
+
+-- of a list that begins with y, whose first element is x
+same-first : (out rest more : List Packet) (x y : Packet) → out ≡ y ∷ more → out ≡ x ∷ rest → Some y ≡ Some x
+same-first out rest more x y a b = let both : y ∷ more ≡ x ∷ rest = sym a ∙ b in cc
+
+none-first : (out rest : List Packet) (x : Packet) → out ≡ [] → out ≡ x ∷ rest → None ≡ Some x
+none-first out rest x a b = let both : [] ≡ x ∷ rest = sym a ∙ b in absurd (cc)
+
+pub taken : (o : Option Packet) (a b : Course) (x : Packet) (rest : List Packet) → Takes o a b → out_of a ≡ x ∷ rest → o ≡ Some x
+taken None (Up n) (Up m) x rest h e = none-first n.out rest x h.0 e
+taken (Some y) (Up n) (Up m) x rest h e = same-first n.out rest m.out x y (ap (λ v. v.out) h.0) e
+taken None (Collecting n) (Collecting m) x rest h e = none-first n.own.out rest x h.0 e
+taken (Some y) (Collecting n) (Collecting m) x rest h e = same-first n.own.out rest m.own.out x y (ap (λ v. v.own.out) h.0) e
+taken None (Replaying n) (Replaying m) x rest h e = none-first n.own.out rest x h.0 e
+taken (Some y) (Replaying n) (Replaying m) x rest h e = same-first n.own.out rest m.own.out x y (ap (λ v. v.own.out) h.0) e
+taken None (Replayed n) (Replayed m) x rest h e = none-first n.own.out rest x h.0 e
+taken (Some y) (Replayed n) (Replayed m) x rest h e = same-first n.own.out rest m.own.out x y (ap (λ v. v.own.out) h) e
+taken None (Restoring n) (Restoring m) x rest h e = none-first n.own.out rest x h.0 e
+taken (Some y) (Restoring n) (Restoring m) x rest h e = same-first n.own.out rest m.own.out x y (ap (λ v. v.own.out) h.0) e
+taken None (Up n) (Collecting m) x rest h e = absurd h
+taken (Some y) (Up n) (Collecting m) x rest h e = absurd h
+taken None (Up n) (Replaying m) x rest h e = absurd h
+taken (Some y) (Up n) (Replaying m) x rest h e = absurd h
+taken None (Up n) (Replayed m) x rest h e = absurd h
+taken (Some y) (Up n) (Replayed m) x rest h e = absurd h
+taken None (Up n) (Restoring m) x rest h e = absurd h
+taken (Some y) (Up n) (Restoring m) x rest h e = absurd h
+taken None (Up n) Passing x rest h e = absurd h
+taken (Some y) (Up n) Passing x rest h e = absurd h
+taken None (Collecting n) (Up m) x rest h e = absurd h
+taken (Some y) (Collecting n) (Up m) x rest h e = absurd h
+taken None (Collecting n) (Replaying m) x rest h e = absurd h
+taken (Some y) (Collecting n) (Replaying m) x rest h e = absurd h
+taken None (Collecting n) (Replayed m) x rest h e = absurd h
+taken (Some y) (Collecting n) (Replayed m) x rest h e = absurd h
+taken None (Collecting n) (Restoring m) x rest h e = absurd h
+taken (Some y) (Collecting n) (Restoring m) x rest h e = absurd h
+taken None (Collecting n) Passing x rest h e = absurd h
+taken (Some y) (Collecting n) Passing x rest h e = absurd h
+taken None (Replaying n) (Up m) x rest h e = absurd h
+taken (Some y) (Replaying n) (Up m) x rest h e = absurd h
+taken None (Replaying n) (Collecting m) x rest h e = absurd h
+taken (Some y) (Replaying n) (Collecting m) x rest h e = absurd h
+taken None (Replaying n) (Replayed m) x rest h e = absurd h
+taken (Some y) (Replaying n) (Replayed m) x rest h e = absurd h
+taken None (Replaying n) (Restoring m) x rest h e = absurd h
+taken (Some y) (Replaying n) (Restoring m) x rest h e = absurd h
+taken None (Replaying n) Passing x rest h e = absurd h
+taken (Some y) (Replaying n) Passing x rest h e = absurd h
+taken None (Replayed n) (Up m) x rest h e = absurd h
+taken (Some y) (Replayed n) (Up m) x rest h e = absurd h
+taken None (Replayed n) (Collecting m) x rest h e = absurd h
+taken (Some y) (Replayed n) (Collecting m) x rest h e = absurd h
+taken None (Replayed n) (Replaying m) x rest h e = absurd h
+taken (Some y) (Replayed n) (Replaying m) x rest h e = absurd h
+taken None (Replayed n) (Restoring m) x rest h e = absurd h
+taken (Some y) (Replayed n) (Restoring m) x rest h e = absurd h
+taken None (Replayed n) Passing x rest h e = absurd h
+taken (Some y) (Replayed n) Passing x rest h e = absurd h
+taken None (Restoring n) (Up m) x rest h e = absurd h
+taken (Some y) (Restoring n) (Up m) x rest h e = absurd h
+taken None (Restoring n) (Collecting m) x rest h e = absurd h
+taken (Some y) (Restoring n) (Collecting m) x rest h e = absurd h
+taken None (Restoring n) (Replaying m) x rest h e = absurd h
+taken (Some y) (Restoring n) (Replaying m) x rest h e = absurd h
+taken None (Restoring n) (Replayed m) x rest h e = absurd h
+taken (Some y) (Restoring n) (Replayed m) x rest h e = absurd h
+taken None (Restoring n) Passing x rest h e = absurd h
+taken (Some y) (Restoring n) Passing x rest h e = absurd h
+taken o Passing b x rest h e = absurd (cc)
+
+pub stays-front : (o : Option Packet) (p q : TheProcess) (x : Packet) (rest : List Packet) → Stays (Takes o) p q → out_of p.course ≡ x ∷ rest → Stays (Takes (Some x)) p q
+stays-front o p q x rest s e =
+    let P : Option Packet → Type 0 = λ v. Stays (Takes v) p q in
+    subst P (taken o p.course q.course x rest s.does e) s

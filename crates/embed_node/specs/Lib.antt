@@ -1,0 +1,4 @@
+pub mod Inside
+pub mod Node
+pub mod Opening
+pub mod Reading

@@ -1,0 +1,79 @@
+//! Calls of the process of a handle.
+
+ghost use Rattle.std.specs.Prelude.{MatchResult};
+ghost use Rattle.embed_node.specs.Node.{IsClosed, WasClosed, IsReceived, IsUnreceived, HasWorked, HasNotWorked, HasTicked, HasSaved, HasNotSaved};
+
+use crate::fault::Fault;
+use crate::handle::NodeHandle;
+use packets::PacketError;
+use std::alloc::Global;
+
+/// Closes a handle, and gives the memory of its process back.
+pub(crate) fn close(alloc: Global, handle: &mut NodeHandle) -> Result<(), Fault>
+    ensures { MatchResult result (λ _. IsClosed handle.old.process.value handle.new.process.value) (WasClosed handle.old.process.value handle.new.process.value) }
+{
+    match handle.take(alloc) {
+        Some(_process) => Ok(()),
+        None => Err(Fault::Handle),
+    }
+}
+
+/// Hands it a packet that came.
+pub(crate) fn receive(alloc: Global, handle: &mut NodeHandle, packet: &[u8]) -> Result<(), Fault>
+    ensures { MatchResult result (λ _. IsReceived packet.now handle.old.process.value handle.new.process.value) (IsUnreceived packet.now handle.old.process.value handle.new.process.value) }
+{
+    let Some(mut process) = handle.take(alloc) else {
+        return Err(Fault::Handle);
+    };
+    let received = process.receive_bytes(alloc, packet);
+    handle.put(process);
+    match received {
+        Ok(()) => Ok(()),
+        Err(PacketError::Memory) => Err(Fault::Memory),
+        Err(PacketError::Fault(fault)) => Err(Fault::Bytes(fault.number())),
+    }
+}
+
+/// Has its handler run.
+pub(crate) fn work(alloc: Global, handle: &mut NodeHandle) -> Result<(), Fault>
+    ensures { MatchResult result (λ _. HasWorked handle.old.process.value handle.new.process.value) (HasNotWorked handle.old.process.value handle.new.process.value) }
+{
+    let Some(mut process) = handle.take(alloc) else {
+        return Err(Fault::Handle);
+    };
+    let worked = process.work(alloc);
+    handle.put(process);
+    match worked {
+        Ok(true) => Ok(()),
+        Ok(false) => Err(Fault::Absent),
+        Err(_) => Err(Fault::Memory),
+    }
+}
+
+/// Has it send again what isn't answered.
+pub(crate) fn tick(alloc: Global, handle: &mut NodeHandle) -> Result<(), Fault>
+    ensures { MatchResult result (λ _. HasTicked handle.old.process.value handle.new.process.value) (WasClosed handle.old.process.value handle.new.process.value) }
+{
+    let Some(mut process) = handle.take(alloc) else {
+        return Err(Fault::Handle);
+    };
+    process.tick(alloc);
+    handle.put(process);
+    Ok(())
+}
+
+/// Tells it that its checkpoint is durable.
+pub(crate) fn saved(alloc: Global, handle: &mut NodeHandle) -> Result<(), Fault>
+    ensures { MatchResult result (λ _. HasSaved handle.old.process.value handle.new.process.value) (HasNotSaved handle.old.process.value handle.new.process.value) }
+{
+    let Some(mut process) = handle.take(alloc) else {
+        return Err(Fault::Handle);
+    };
+    let saved = process.saved(alloc);
+    handle.put(process);
+    match saved {
+        Ok(true) => Ok(()),
+        Ok(false) => Err(Fault::Unready),
+        Err(_) => Err(Fault::Memory),
+    }
+}

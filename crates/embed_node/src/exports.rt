@@ -1,0 +1,167 @@
+//! What C calls. A code of 0 says that it is done, any other is the number of a fault, and what either
+//! says of handle and buffers stands in the contracts.
+
+ghost use Rattle.std.specs.Prelude.{◌≡◌};
+ghost use Rattle.embed_node.specs.Node.{Answers, written, IsClosed, WasClosed, IsReceived, IsUnreceived, HasWorked, HasNotWorked, HasTicked, HasSaved, HasNotSaved};
+ghost use Rattle.embed_node.specs.Opening.{Opens, DoesNotOpen, Revives, DoesNotRevive};
+ghost use Rattle.embed_node.specs.Reading.{IsTaken, IsUntaken, IsMade, IsUnmade, IsStanding, IsRead, IsUnread};
+
+use crate::fault::{code, code_of_bytes};
+use crate::handle::NodeHandle;
+use crate::opening::Limits;
+use crate::standing::NodeStanding;
+use crate::{calling, opening, standing, writing};
+use std::alloc::Global;
+
+/// Opens the process `me` of `n`, which received nothing, by the image file of its handler. The handle has
+/// to be closed.
+#[unsafe(no_mangle)]
+pub extern "C" fn sblog_node_open(
+    alloc: Global,
+    image: &[u8],
+    me: u8,
+    n: u8,
+    page: u32,
+    tick: u32,
+    numbers: u32,
+    receipts: u32,
+    durable: u32,
+    node: &mut NodeHandle,
+) -> u32
+    ensures { Answers result (Opens image.now me n (record { page = page; tick = tick; numbers = numbers; receipts = receipts; durable = durable }) node.old.process.value node.new.process.value) (DoesNotOpen image.now me n (record { page = page; tick = tick; numbers = numbers; receipts = receipts; durable = durable }) node.old.process.value node.new.process.value) }
+{
+    let limits = Limits {
+        page,
+        tick,
+        numbers,
+        receipts,
+        durable,
+    };
+    code(opening::open(alloc, image, me, n, limits, node))
+}
+
+/// Opens a process by the image file of its handler, from what was kept of it, in this incarnation. Where
+/// the kept bytes are refused, the number of their fault is written.
+#[unsafe(no_mangle)]
+pub extern "C" fn sblog_node_revive(
+    alloc: Global,
+    image: &[u8],
+    kept: &[u8],
+    incarnation: u64,
+    page: u32,
+    tick: u32,
+    numbers: u32,
+    receipts: u32,
+    durable: u32,
+    node: &mut NodeHandle,
+    fault: &mut u32,
+) -> u32
+    ensures { Answers result (Revives image.now kept.now incarnation (record { page = page; tick = tick; numbers = numbers; receipts = receipts; durable = durable }) node.old.process.value node.new.process.value × (fault.new ≡ fault.old)) (λ why. DoesNotRevive image.now kept.now incarnation (record { page = page; tick = tick; numbers = numbers; receipts = receipts; durable = durable }) node.old.process.value node.new.process.value why × (fault.new ≡ written why fault.old)) }
+{
+    let limits = Limits {
+        page,
+        tick,
+        numbers,
+        receipts,
+        durable,
+    };
+    let done = opening::revive(alloc, image, kept, incarnation, limits, node);
+    code_of_bytes(done, fault)
+}
+
+/// Closes a handle, and gives the memory of its process back.
+#[unsafe(no_mangle)]
+pub extern "C" fn sblog_node_close(alloc: Global, node: &mut NodeHandle) -> u32
+    ensures { Answers result (IsClosed node.old.process.value node.new.process.value) (WasClosed node.old.process.value node.new.process.value) }
+{
+    code(calling::close(alloc, node))
+}
+
+/// Hands it a packet that came. Where the bytes are no packet, the number of their fault is written.
+#[unsafe(no_mangle)]
+pub extern "C" fn sblog_node_receive(
+    alloc: Global,
+    node: &mut NodeHandle,
+    packet: &[u8],
+    fault: &mut u32,
+) -> u32
+    ensures { Answers result (IsReceived packet.now node.old.process.value node.new.process.value × (fault.new ≡ fault.old)) (λ why. IsUnreceived packet.now node.old.process.value node.new.process.value why × (fault.new ≡ written why fault.old)) }
+{
+    code_of_bytes(calling::receive(alloc, node, packet), fault)
+}
+
+/// Writes the packet that waits first, how many bytes it has, and to whom it goes, and takes it.
+#[unsafe(no_mangle)]
+pub extern "C" fn sblog_node_take(
+    alloc: Global,
+    node: &mut NodeHandle,
+    out: &mut [u8],
+    size: &mut usize,
+    to: &mut u8,
+) -> u32
+    ensures { Answers result (IsTaken node.old.process.value node.new.process.value (record { bytes = out.old; size = size.old }) (record { bytes = out.new; size = size.new }) to.new) (λ why. IsUntaken node.old.process.value node.new.process.value (record { bytes = out.old; size = size.old }) (record { bytes = out.new; size = size.new }) why × (to.new ≡ to.old)) }
+{
+    code(writing::take(alloc, node, out, size, to))
+}
+
+/// Has its handler run on the message that it received, or on the next one that is replayed.
+#[unsafe(no_mangle)]
+pub extern "C" fn sblog_node_work(alloc: Global, node: &mut NodeHandle) -> u32
+    ensures { Answers result (HasWorked node.old.process.value node.new.process.value) (HasNotWorked node.old.process.value node.new.process.value) }
+{
+    code(calling::work(alloc, node))
+}
+
+/// Has it send again what isn't answered.
+#[unsafe(no_mangle)]
+pub extern "C" fn sblog_node_tick(alloc: Global, node: &mut NodeHandle) -> u32
+    ensures { Answers result (HasTicked node.old.process.value node.new.process.value) (WasClosed node.old.process.value node.new.process.value) }
+{
+    code(calling::tick(alloc, node))
+}
+
+/// Writes the bytes of a checkpoint, and how many they are. It waits until `sblog_node_saved` then.
+#[unsafe(no_mangle)]
+pub extern "C" fn sblog_node_checkpoint(
+    alloc: Global,
+    node: &mut NodeHandle,
+    out: &mut [u8],
+    size: &mut usize,
+) -> u32
+    ensures { Answers result (IsMade node.old.process.value node.new.process.value (record { bytes = out.old; size = size.old }) (record { bytes = out.new; size = size.new })) (IsUnmade node.old.process.value node.new.process.value (record { bytes = out.old; size = size.old }) (record { bytes = out.new; size = size.new })) }
+{
+    code(writing::checkpoint(alloc, node, out, size))
+}
+
+/// Tells it that its checkpoint is durable.
+#[unsafe(no_mangle)]
+pub extern "C" fn sblog_node_saved(alloc: Global, node: &mut NodeHandle) -> u32
+    ensures { Answers result (HasSaved node.old.process.value node.new.process.value) (HasNotSaved node.old.process.value node.new.process.value) }
+{
+    code(calling::saved(alloc, node))
+}
+
+/// Writes how it stands.
+#[unsafe(no_mangle)]
+pub extern "C" fn sblog_node_standing(
+    alloc: Global,
+    node: &mut NodeHandle,
+    out: &mut NodeStanding,
+) -> u32
+    ensures { Answers result (IsStanding node.old.process.value node.new.process.value out.new) (λ why. WasClosed node.old.process.value node.new.process.value why × (out.new ≡ out.old)) }
+{
+    code(standing::standing(alloc, node, out))
+}
+
+/// Writes the state that its handler left last, and how many bytes it has.
+#[unsafe(no_mangle)]
+pub extern "C" fn sblog_node_state(
+    alloc: Global,
+    node: &mut NodeHandle,
+    out: &mut [u8],
+    size: &mut usize,
+) -> u32
+    ensures { Answers result (IsRead node.old.process.value node.new.process.value (record { bytes = out.old; size = size.old }) (record { bytes = out.new; size = size.new })) (IsUnread node.old.process.value node.new.process.value (record { bytes = out.old; size = size.old }) (record { bytes = out.new; size = size.new })) }
+{
+    code(writing::state(alloc, node, out, size))
+}

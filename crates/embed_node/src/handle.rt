@@ -1,0 +1,66 @@
+//! What a program in C holds of a node.
+
+ghost use Rattle.std.specs.Prelude.{◌≡◌, IfNone, IfSome, Some, None, false, is_some};
+ghost use Rattle.std.specs.Ptr.{null_ptr};
+
+use crate::loose::LooseProcess;
+use crate::parts::Parts;
+use process::Process;
+use std::alloc::Global;
+use std::mem::replace;
+
+/// A process, or none where it is closed. A program makes it of zeros, and leaves its bytes alone.
+#[repr(C)]
+#[derive(Drop)]
+pub struct NodeHandle {
+    pub process: LooseProcess,
+    held: bool,
+    ghost held_is: { held ≡ is_some process.value },
+}
+
+impl NodeHandle {
+    /// A handle without a process, as zeros are: null, and a mark of 0.
+    #[inline(always)]
+    pub(crate) fn closed(alloc: Global) -> NodeHandle
+        ensures closed { result.process.value ≡ None }
+        ensures zeros { (result.process.at ≡ null_ptr) × (result.held ≡ false) }
+    {
+        NodeHandle {
+            process: LooseProcess::empty(alloc),
+            held: false,
+        }
+    }
+
+    /// Takes the process out, which leaves the handle closed.
+    #[inline(always)]
+    pub(crate) fn take(&mut self, alloc: Global) -> Option<Box<Process>>
+        ensures closed { self.new.process.value ≡ None }
+        ensures none { IfNone result (self.old.process.value ≡ None) }
+        ensures some { IfSome result (λ b. self.old.process.value ≡ Some b.value) }
+    {
+        if !self.held {
+            return None;
+        }
+        let NodeHandle { process, held: _ } = replace(self, NodeHandle::closed(alloc));
+        Some(process.into_parts().into_box())
+    }
+
+    /// Puts a process into a closed handle.
+    #[inline(always)]
+    pub(crate) fn put(&mut self, process: Box<Process>)
+        ensures { self.new.process.value ≡ Some process.value }
+    {
+        *self = NodeHandle {
+            process: LooseProcess::of(Parts::of(process)),
+            held: true,
+        };
+    }
+
+    /// Whether it is open.
+    pub(crate) fn is_open(&mut self) -> bool
+        ensures same { self.new.process.value ≡ self.old.process.value }
+        ensures open { result ≡ is_some self.old.process.value }
+    {
+        self.held
+    }
+}

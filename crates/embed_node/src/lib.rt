@@ -1,0 +1,30 @@
+//! Nodes for programs in C and Rust: a static library over [`process`].
+//!
+//! [`exports`] has the functions that cross. A program holds a node by a handle, two words of its own
+//! that it makes of zeros: closed. `sblog_node_open` opens one that received nothing, `sblog_node_revive`
+//! one from what was kept of it, the other functions make its calls, and `sblog_node_close` gives all
+//! memory back. Code 0 says that a call was made or something was read; the numbers from 15 on say why
+//! not. docs/EMBEDDING.md describes the functions and codes.
+//!
+//! The promise: each function that makes a call of the process owes what that call owes, word for word;
+//! each that reads gives what the process's contract says; and any code but 0 leaves the process as it was.
+//!
+//! ```c
+//! sblog_node node = {0};
+//! uint32_t code = sblog_node_open(image, image_len, 1, 2, 60000, 8, 256, 65536, 0, &node);
+//! code = sblog_node_receive(&node, packet, packet_len, &fault);
+//! while (sblog_node_work(&node) == 0);
+//! while (sblog_node_take(&node, out, sizeof out, &size, &to) == 0) send_to(to, out, size);
+//! ```
+#![tactic(auto)]
+
+mod calling;
+mod exports;
+mod fault;
+mod handle;
+mod loose;
+mod opening;
+mod output;
+mod parts;
+mod standing;
+mod writing;

@@ -1,0 +1,61 @@
+//! A process on the heap as a pointer that says nothing of what it points to, since only plain types cross to C.
+
+ghost use Rattle.std.specs.Prelude.{◌≡◌, Option, Some, None};
+ghost use Rattle.std.specs.Ptr.{null_ptr};
+ghost use Rattle.process.specs.Process.{TheProcess};
+ghost use Rattle.embed_node.specs.Inside.Held.{held};
+
+use crate::parts::Parts;
+use process::Process;
+use std::alloc::Global;
+use std::marker::Model;
+use std::ptr::null_mut;
+
+/// A process, or nothing.
+#[repr(C)]
+#[derive(Drop)]
+pub struct LooseProcess {
+    at: *mut u8,
+    alloc: Global,
+    pub ghost value: { Option TheProcess },
+}
+
+impl Model for LooseProcess {
+    ghost also_owns = { λ l. held l.alloc l.at l.value };
+}
+
+impl LooseProcess {
+    /// Nothing, at null.
+    pub(crate) fn empty(alloc: Global) -> LooseProcess
+        ensures { (result.value ≡ None) × (result.at ≡ null_ptr) }
+    {
+        LooseProcess {
+            at: null_mut(),
+            alloc,
+        }
+    }
+
+    /// The process of a box.
+    pub(crate) fn of(parts: Parts<Process, Global>) -> LooseProcess
+        ensures { result.value ≡ Some parts.value }
+    {
+        let Parts { ptr, alloc } = parts;
+        LooseProcess {
+            at: ptr as *mut u8,
+            alloc,
+        }
+    }
+
+    /// The box again.
+    pub(crate) fn into_parts(self) -> Parts<Process, Global>
+        ghost v: { TheProcess }
+        requires { self.value ≡ Some v }
+        ensures { result.value ≡ v }
+    {
+        let LooseProcess { at, alloc } = self;
+        Parts {
+            ptr: at as *mut Process,
+            alloc,
+        }
+    }
+}

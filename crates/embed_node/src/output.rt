@@ -1,0 +1,21 @@
+//! Bytes written into a buffer of the caller's.
+
+ghost use Rattle.std.specs.Prelude.{◌≡◌, IfErr, OnOk};
+ghost use Rattle.embed_node.specs.declared.fault.Fault.TheVariants.{Room};
+ghost use Rattle.embed_node.specs.Reading.{IsCopied, IsUncopied};
+
+use crate::fault::Fault;
+
+/// Writes bytes in front of a buffer, and how many they are. A buffer that is too short is left as it
+/// was (`Room`), and tells how many there are too.
+pub(crate) fn copy(bytes: &[u8], out: &mut [u8], size: &mut usize) -> Result<(), Fault>
+    ensures done { OnOk result (IsCopied bytes.now out.old out.new size.new) }
+    ensures room { IfErr result (λ why. (why ≡ Room) × IsUncopied bytes.now out.old out.new size.new) }
+{
+    *size = bytes.len();
+    if bytes.len() > out.len() {
+        return Err(Fault::Room);
+    }
+    out[..bytes.len()].copy_from_slice(bytes);
+    Ok(())
+}

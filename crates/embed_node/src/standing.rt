@@ -1,0 +1,71 @@
+//! How the process of a handle stands, in numbers.
+
+ghost use Rattle.std.specs.Prelude.{◌≡◌, MatchResult};
+ghost use Rattle.embed_node.specs.Node.{WasClosed};
+ghost use Rattle.embed_node.specs.Reading.{words_of, IsStanding};
+
+use crate::fault::Fault;
+use crate::handle::NodeHandle;
+use node::Standing;
+use std::alloc::Global;
+
+/// How a node stands, as a program in C reads it: ten words of 8 bytes.
+#[repr(C)]
+#[derive(Clone, Copy)]
+pub struct NodeStanding {
+    /// How many messages it received.
+    pub length: u64,
+    /// How many of these its checkpoint covers.
+    pub base: u64,
+    pub incarnation: u64,
+    /// 0 up, 1 busy, 2 frozen, 3 collecting, 4 replaying, 5 resuming.
+    pub stage: u64,
+    /// 1 where failures came one at a time, as far as it knows, else 0.
+    pub exact: u64,
+    /// Messages behind the checkpoint.
+    pub receipts: u64,
+    /// Messages that its log keeps.
+    pub entries: u64,
+    /// Packets that wait to be taken.
+    pub packets: u64,
+    /// Messages that it still has to replay.
+    pub replays: u64,
+    /// Peers whose answers it waits for: bit q of peer q.
+    pub waited_for: u64,
+}
+
+impl NodeStanding {
+    fn of(standing: &Standing) -> NodeStanding
+        ensures { result ≡ words_of standing.now }
+    {
+        NodeStanding {
+            length: standing.length,
+            base: standing.base,
+            incarnation: standing.incarnation,
+            stage: u64::from(standing.stage.number()),
+            exact: u64::from(standing.exact),
+            receipts: standing.receipts,
+            entries: standing.entries,
+            packets: standing.packets,
+            replays: standing.replays,
+            waited_for: standing.waited_for,
+        }
+    }
+}
+
+/// Writes how it stands.
+pub(crate) fn standing(
+    alloc: Global,
+    handle: &mut NodeHandle,
+    out: &mut NodeStanding,
+) -> Result<(), Fault>
+    ensures { MatchResult result (λ _. IsStanding handle.old.process.value handle.new.process.value out.new) (λ why. WasClosed handle.old.process.value handle.new.process.value why × (out.new ≡ out.old)) }
+{
+    let Some(process) = handle.take(alloc) else {
+        return Err(Fault::Handle);
+    };
+    let standing = process.standing();
+    *out = NodeStanding::of(&standing);
+    handle.put(process);
+    Ok(())
+}
