@@ -13,7 +13,7 @@ pub put-revives : (r : Result (Unit {0}) Fault) (file kept : List ℕ) (life : �
     → IfErr r (λ why. (why ≡ Memory) × (new ≡ old)) → old ≡ None → AreKnown l → IsImageIn file image → IsRevived image kept life p
     → MatchResult r (λ x. Revives file kept life l old new) (DoesNotRevive file kept life l old new)
 put-revives (Ok u) file kept life l old new image p ok err was known is revived =
-    record { was = was; known = known; image = image; image_is = is; process = p; is = ok; revived = revived; }
+    record { was = was; known = known; image = image; image_is = is; process = p; is = ok; revived = revived }
 put-revives (Err why) file kept life l old new image p ok err was known is revived =
     let P : Fault → Type 0 = λ f. DoesNotRevive file kept life l old new f in
     subst P (sym err.0) (was, err.1 ∙ was)

@@ -22,6 +22,7 @@ pub const TICK: u64 = 8;
 
 /// So many messages one message makes a handler give, at most: to others, and to the outside.
 pub const MOST_GIVEN: usize = 16;
+
 const _: () = prove!(MOST_GIVEN == 2 * limits::EFFECTS);
 
 /// So many messages a process receives in all its lives, at most.

@@ -14,9 +14,9 @@ returns c =
     let given : c.take.result ≡ Some x = taken c.take.result c.args.process.now.course c.take.new.self.course x front.2.0 c.take.ensures.does front.2.1 in
     let copied : IsCopied c.in-Ok-Some.bytes.items c.args.out.now c.copy.new.out c.copy.new.size = first_of (search rules, grind (arith, common_steps)) in
     let to : c.match-take.to ≡ x.to = elim c.match-take.branch [
-        in-Some+in-Told-1 w ↦ first_of (search rules, grind (arith, common_steps), cc)
+      | in-Some+in-Told-1 w ↦ first_of (search rules, grind (arith, common_steps), cc)
       | in-Some+in-Restored-1 w ↦ first_of (search rules, grind (arith, common_steps), cc)
       | in-Some+in-Delivery-1 w ↦ first_of (search rules, grind (arith, common_steps), cc)
       | in_default w ↦ first_of (search rules, grind (arith, common_steps), cc)
-      ] in
+    ] in
     (x, (c.in-Ok-Some.bytes.items, front.1, copied, to, stays-front c.take.result c.args.process.now c.take.new.self x front.2.0 c.take.ensures front.2.1))

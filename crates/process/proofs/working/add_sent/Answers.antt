@@ -16,13 +16,13 @@ loop-sent-preserved c =
     let was = c.args.given.now.items in
     let sofar = sent_by who (take k xs) in
     elim c.if-is_other.branch [
-      then-is_other+in_ok-push w ↦
-        let g : Given = record { to = s.dst; payload = s.payload } in
-        let e : is_other who s.dst ≡ true = first_of (search rules, grind (arith, common_steps)) in
-        let items : c.if-is_other.given.items ≡ c.loop-sent.given.items ++ g ∷ [] = first_of (search rules, grind (arith, common_steps)) in
-        items ∙ ap (λ (v : List Given). v ++ g ∷ []) c.loop-sent.invariant ∙ append_assoc was sofar (g ∷ []) ∙ ap (λ (v : List Given). was ++ v) (sym (sent-more who xs k s c.loop-sent-test.true c.sent-item.is e))
-    | else-is_other w ↦
-        let e : is_other who s.dst ≡ false = first_of (search rules, grind (arith, common_steps)) in
-        let items : c.if-is_other.given.items ≡ c.loop-sent.given.items = first_of (search rules, grind (arith, common_steps)) in
-        items ∙ c.loop-sent.invariant ∙ ap (λ (v : List Given). was ++ v) (sym (sent-same who xs k s c.loop-sent-test.true c.sent-item.is e))
+      | then-is_other+in_ok-push w ↦
+          let g : Given = record { to = s.dst; payload = s.payload } in
+          let e : is_other who s.dst ≡ true = first_of (search rules, grind (arith, common_steps)) in
+          let items : c.if-is_other.given.items ≡ c.loop-sent.given.items ++ g ∷ [] = first_of (search rules, grind (arith, common_steps)) in
+          items ∙ ap (λ (v : List Given). v ++ g ∷ []) c.loop-sent.invariant ∙ append_assoc was sofar (g ∷ []) ∙ ap (λ (v : List Given). was ++ v) (sym (sent-more who xs k s c.loop-sent-test.true c.sent-item.is e))
+      | else-is_other w ↦
+          let e : is_other who s.dst ≡ false = first_of (search rules, grind (arith, common_steps)) in
+          let items : c.if-is_other.given.items ≡ c.loop-sent.given.items = first_of (search rules, grind (arith, common_steps)) in
+          items ∙ c.loop-sent.invariant ∙ ap (λ (v : List Given). was ++ v) (sym (sent-same who xs k s c.loop-sent-test.true c.sent-item.is e))
     ]

@@ -16,9 +16,10 @@ pub loop-peer-preserved : goal.loop-peer-preserved
 loop-peer-preserved c =
     let f = is_asked c.args.self.now in
     let d = c.loop-peer.peer in
-    let is = c.loop-peer.invariant.0 in
-    ( elim c.if-is_asked.branch [
-        then-is_asked w ↦ bits-more f d c.loop-peer.peers is c.if-is_asked.peers (first_of (search rules, grind (arith, common_steps))) (w.peers-is ∙ ap (λ k. c.loop-peer.peers + k) c.loop-peer.invariant.1)
-      | else-is_asked w ↦ bits-same f d c.loop-peer.peers is c.if-is_asked.peers (first_of (search rules, grind (arith, common_steps))) w.peers-is
+    let is = c.loop-peer.invariant.0 in (
+      elim c.if-is_asked.branch [
+        | then-is_asked w ↦ bits-more f d c.loop-peer.peers is c.if-is_asked.peers (first_of (search rules, grind (arith, common_steps))) (w.peers-is ∙ ap (λ k. c.loop-peer.peers + k) c.loop-peer.invariant.1)
+        | else-is_asked w ↦ bits-same f d c.loop-peer.peers is c.if-is_asked.peers (first_of (search rules, grind (arith, common_steps))) w.peers-is
       ],
-      bit-next d c.loop-peer.bit c.loop-peer.invariant.1 )
+      bit-next d c.loop-peer.bit c.loop-peer.invariant.1,
+    )
