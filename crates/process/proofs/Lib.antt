@@ -1,4 +1,3 @@
-mod Settled
 mod Giving
 mod Passings
 mod Openings

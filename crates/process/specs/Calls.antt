@@ -82,7 +82,7 @@ Freezes old new = new ≡ old
 
 -- that one is durable
 abbrev pub Thaws : Course → Course → Type 0
-Thaws (Up old) (Up new) = (new ≡ saving.saved old) × up_owes.Acts old new
+Thaws (Up old) (Up new) = (new ≡ saving.saved old) × up_owes.Saves old new
 Thaws (Up old) new = ⊥
 Thaws old new = new ≡ old
 
