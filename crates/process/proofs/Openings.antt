@@ -1,12 +1,17 @@
--- A node that received nothing is a process that did
-use Rattle.std.proofs.Common.{◌≡◌, ◌∙◌, ap, refl, subst, ℕ}
+-- A node that received nothing is a process that did, and what comes back is one that does
+use Rattle.std.proofs.Common.{◌≡◌, ◌∙◌, ap, refl, subst, ℕ, List, length, true}
 use Rattle.verifier.specs.Typed.{Typed}
 use Rattle.world.specs.Handlers.{Handlers}
 use Rattle.cluster.specs.Cluster.{opening}
 use Rattle.node.specs.Node.{TheNode, new_node}
 use Rattle.node.specs.Stands.{Stands, BeginsWith}
-use Rattle.process.specs.declared.course.Course.TheVariants.{Up}
-use Rattle.process.specs.Reviving.{IsOpened}
+use Rattle.packets.specs.declared.kept.Kept.{Kept}
+use Rattle.packets.specs.Kept.{IsKept}
+use Rattle.recovery.specs.Own.{comes_back}
+use Rattle.recovery.specs.Collecting.{TheCollecting, revived}
+use Rattle.recovery.specs.Stands.{Revives}
+use Rattle.process.specs.declared.course.Course.TheVariants.{Up, Collecting}
+use Rattle.process.specs.Reviving.{IsOpened, IsRevived}
 
 pub opened : (image : Typed) (me count len : ℕ) (n : TheNode) → n ≡ new_node me count len → len ≡ image.len → ((f : Handlers) → BeginsWith f me len → Stands n (opening count f) me)
     → IsOpened image me count (record { image = image; course = Up n })
@@ -16,4 +21,16 @@ opened image me count len n is e s =
       image_is = refl;
       course_is = ap Up (is ∙ ap (λ (k : ℕ). new_node me count k) e);
       stands = subst P e (λ f b. let Q : TheNode → Type 0 = λ v. Stands v (opening count f) me in subst Q is (s f b));
+    }
+
+-- what bytes keep is a process that came back
+pub came-back : (image : Typed) (bytes : List ℕ) (life : ℕ) (k : Kept) (n : TheCollecting) → IsKept k bytes → comes_back k ≡ true → length k.state ≡ image.len → n ≡ revived k life → Revives k life n
+    → IsRevived image bytes life (record { image = image; course = Collecting n })
+came-back image bytes life k n b e l is r =
+    record {
+      kept = k;
+      is_kept = record { bytes_are = b; comes = e; long = l };
+      image_is = refl;
+      course_is = ap Collecting is;
+      revives = let P : TheCollecting → Type 0 = λ m. Revives k life m in subst P is r;
     }
