@@ -32,6 +32,15 @@ fn settle(alloc: Global, gateway: &mut Gateway, process: &mut Process) -> Result
     Ok(())
 }
 
+/// A word for the counter comes in.
+fn count(gateway: &mut Gateway, word: u8) -> Result<(), Fail> {
+    if gateway.store().count() < 1 {
+        return Err("the gateway has no process")?;
+    }
+    gateway.input(1, Payload::from_slice(&[word]))?;
+    Ok(())
+}
+
 fn image(alloc: Global) -> Result<Arc<Image>, Fail> {
     let image = load(alloc, &COUNTER)?;
     Ok(Arc::new(alloc, image)?)
@@ -51,7 +60,7 @@ fn a_counter_counts_on_after_it_died(rt: HostRuntime) -> Result<(), Fail> {
     };
     assert!(rt; process.saved(alloc)?);
     for word in 1..4u8 {
-        gateway.input(1, Payload::from_slice(&[word]))?;
+        count(&mut gateway, word)?;
         settle(alloc, &mut gateway, &mut process)?;
     }
     assert_eq!(rt; process.state(), [6, 0, 0, 0, 0, 0, 0, 0].as_slice());
@@ -65,7 +74,7 @@ fn a_counter_counts_on_after_it_died(rt: HostRuntime) -> Result<(), Fail> {
     assert!(rt; process.standing().stage == Stage::Up);
     assert_eq!(rt; process.standing().length, 3);
     assert_eq!(rt; process.state(), [6, 0, 0, 0, 0, 0, 0, 0].as_slice());
-    gateway.input(1, Payload::from_slice(&[4]))?;
+    count(&mut gateway, 4)?;
     settle(alloc, &mut gateway, &mut process)?;
     assert_eq!(rt; process.state(), [10, 0, 0, 0, 0, 0, 0, 0].as_slice());
     for _ in 0..4 {
