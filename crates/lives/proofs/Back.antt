@@ -28,7 +28,7 @@ use Rattle.recovery.proofs.Had.{keeps-what-it-had}
 use Rattle.recovery.proofs.Replays as replays
 use Rattle.together.specs.Together.{IsFirst}
 use Rattle.lives.specs.Process.{Process, Up, Collects, Replays, StandsAs, Recovers, Acts}
-use Rattle.lives.specs.System.{System, new_system, Call, Did, Calls, after_call, after_calls, AllStand}
+use Rattle.lives.specs.System.{System, new_system, Call, Did, Calls, after_call, after_calls, StayExact, AllStand}
 use Rattle.lives.specs.Back.{length_of, HasBack, NothingIsLost, kept_of, RecoversExactly}
 use Rattle.lives.proofs.Lives.{Holds, Onward, calls-go, begins, all-stand}
 
@@ -47,10 +47,15 @@ calls-parts : (f : Answering) (n : ℕ) (s : System) (ks ls : List Call) → Cal
 calls-parts f n s [] ls m = (tt, (m, refl))
 calls-parts f n s (k ∷ ks) ls m = let t = calls-parts f n (after_call s k) ks ls m.1 in ((m.0, t.0), (t.1.0, t.1.1))
 
-goes-on : (f : Answering) (len : ℕ → ℕ) (n : ℕ) (s : System) (acts : List Act) (ks : List Call) → Reached (handlers_of f len) n s acts → Calls f n s ks → GoesOn (handlers_of f len) n (after_calls s ks) acts
-goes-on f len n s acts ks r m =
+-- and where each stays exact
+exact-parts : (n : ℕ) (s : System) (ks ls : List Call) → StayExact n s (ks ++ ls) → StayExact n s ks × StayExact n (after_calls s ks) ls
+exact-parts n s [] ls e = (tt, e)
+exact-parts n s (k ∷ ks) ls e = let t = exact-parts n (after_call s k) ks ls e.1 in ((e.0, t.0), t.1)
+
+goes-on : (f : Answering) (len : ℕ → ℕ) (n : ℕ) (s : System) (acts : List Act) (ks : List Call) → Reached (handlers_of f len) n s acts → Calls f n s ks → StayExact n s ks → GoesOn (handlers_of f len) n (after_calls s ks) acts
+goes-on f len n s acts ks r m exact =
     let g : Handlers = handlers_of f len in
-    let all : Onward g n (after_run (opening n g) acts) (after_calls s ks) = calls-go f len n s (after_run (opening n g) acts) ks r.holds m in
+    let all : Onward g n (after_run (opening n g) acts) (after_calls s ks) = calls-go f len n s (after_run (opening n g) acts) ks r.holds m exact in
     let both = run-on (opening n g) acts all.acts r.run all.run in
     record { more = all.acts; reached = record { run = both.0; holds = subst (Holds g n (after_calls s ks)) (sym both.1) all.holds } }
 
@@ -124,12 +129,13 @@ stands-known : (f : Handlers) (n : ℕ) (s : System) (c : Cluster) (p : ℕ) (pr
 stands-known f n s c p process h first e = subst (λ z. StandsAs z c p) e (h.processes p first)
 
 pub nothing-is-lost : NothingIsLost
-nothing-is-lost f n page tick len bytes calls more p a b few stored first m is_a is_b =
+nothing-is-lost f n page tick len bytes calls more p a b few stored first m exact is_a is_b =
     let g : Handlers = handlers_of f len in
     let o : System = new_system n len bytes page tick in
     let parts = calls-parts f n o calls more m in
-    let one = goes-on f len n o [] calls (record { run = tt; holds = begins f n page tick len bytes few stored }) parts.0 in
-    let two = goes-on f len n (after_calls o calls) one.more more one.reached parts.1.0 in
+    let sure = exact-parts n o calls more exact in
+    let one = goes-on f len n o [] calls (record { run = tt; holds = begins f n page tick len bytes few stored }) parts.0 sure.0 in
+    let two = goes-on f len n (after_calls o calls) one.more more one.reached parts.1.0 sure.1 in
     let c : Cluster = after_run (opening n g) one.more in
     let d : Cluster = after_run (opening n g) (one.more ++ two.more) in
     let s : Stands a c p = stands-known g n (after_calls o calls) c p (Up a) one.reached.holds first is_a in
@@ -191,16 +197,17 @@ recovery-is old new (inl g) = let e : Replays new ≡ Collects g.0 = g.1.0 in ab
 recovery-is old new (inr g) = let e : new ≡ g.0 = (let z : Replays new ≡ Replays g.0 = g.1.0 in cc (z)) in subst (Recovers old) (sym e) g.1.1
 
 pub recovers-exactly : RecoversExactly
-recovers-exactly f n page tick len bytes calls more p old new few stored m is_old =
+recovers-exactly f n page tick len bytes calls more p old new few stored m exact is_old =
     let g : Handlers = handlers_of f len in
     let o : System = new_system n len bytes page tick in
     let k : Call = Did p (Replays new) in
     let s : System = after_calls o calls in
     let parts = calls-parts f n o calls (k ∷ more) m in
+    let sure = exact-parts n o calls (k ∷ more) exact in
     let first : IsFirst n p = parts.1.0.0.0 in
-    let one = goes-on f len n o [] calls (record { run = tt; holds = begins f n page tick len bytes few stored }) parts.0 in
-    let two = goes-on f len n s one.more (k ∷ []) one.reached (parts.1.0.0, tt) in
-    let three = goes-on f len n (after_call s k) (one.more ++ two.more) more two.reached parts.1.0.1 in
+    let one = goes-on f len n o [] calls (record { run = tt; holds = begins f n page tick len bytes few stored }) parts.0 sure.0 in
+    let two = goes-on f len n s one.more (k ∷ []) one.reached (parts.1.0.0, tt) (sure.1.0, tt) in
+    let three = goes-on f len n (after_call s k) (one.more ++ two.more) more two.reached parts.1.0.1 sure.1.1 in
     let c : Cluster = after_run (opening n g) one.more in
     let b : Cluster = after_run (opening n g) (one.more ++ two.more) in
     let collects : StandsCollecting old c p = stands-known g n s c p (Collects old) one.reached.holds first is_old in

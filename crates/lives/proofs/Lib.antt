@@ -5,3 +5,4 @@ pub mod Gateways
 pub mod Lives
 pub mod Back
 pub mod Worked
+pub mod Losses

@@ -19,7 +19,9 @@ use Rattle.node.proofs.Beside.{count-after}
 use Rattle.node.proofs.Lists.{all-more}
 use Rattle.node.proofs.Opening.{stands-opened}
 use Rattle.node.proofs.Opened.{kept-opened}
-use Rattle.node.proofs.Putting.{put-still}
+use Rattle.recovery.specs.Meeting.{is_loss}
+use Rattle.recovery.specs.Stands.{IsSent}
+use Rattle.recovery.proofs.Posting.{sent-still}
 use Rattle.node.proofs.Steps.{run-on}
 use Rattle.node.proofs.Runs.{grows, parcels-stay, one-was}
 use Rattle.gateway.specs.Gateway.{TheGateway, new_gateway}
@@ -27,15 +29,15 @@ use Rattle.gateway.specs.Stands as gateways
 use Rattle.gateway.proofs.Opening as gateway_opening
 use Rattle.together.specs.Together.{IsFirst}
 use Rattle.together.proofs.Gateways.{gateway-stands, all-by-gateway}
-use Rattle.lives.specs.Process.{Process, Collects, Killed, StandsAs, covered}
-use Rattle.lives.specs.System.{System, new_system, AreStored, Call, Gave, Handed, Worked, Did, Stored, Saved, Died, Revived, GaveOut, HandedOut, DidOut, StoredOut, RevivedOut, DoesIt, after_call, Calls, after_calls, AreStoredOf, AllStand, LivesRun}
+use Rattle.lives.specs.Process.{Process, Collects, Killed, StandsAs, is_exact, covered}
+use Rattle.lives.specs.System.{System, new_system, AreStored, Call, Gave, Handed, Worked, Did, Stored, Saved, Died, Revived, GaveOut, HandedOut, DidOut, StoredOut, RevivedOut, DoesIt, after_call, Calls, after_calls, AreStoredOf, AreExact, StayExact, AllStand, LivesRun}
 use Rattle.lives.proofs.Moves.{Moves, stands-still, stored-still, lives-still}
 use Rattle.lives.proofs.Steps.{giving, hearing, working, acting, storing, telling, dying, reviving}
 use Rattle.lives.proofs.Gateways.{Ahead, PutsMore, ahead-none, ahead-still, ahead-acts}
 
--- a packet was put out by whoever it says
+-- a packet was put out by whoever it says, unless it says that all is lost
 abbrev WasPut : Cluster → Packet → Type 0
-WasPut c x = PutOut c.count c.parcels x.from x
+WasPut c x = IsSent c.count c.parcels x.from x
 
 -- a cluster of n in which all of a system stand, of which a lawful world is believed, and in which was put out what was given
 pub record Holds (f : Handlers) (n : ℕ) (s : System) (c : Cluster) : Type 0 where
@@ -62,7 +64,7 @@ believed-along c [] few h r = h
 believed-along c (a ∷ ran) few h r = let t = worlds.step-holds c a few h r.0 in believed-along (does c a) ran t.1 t.0 r.1
 
 given-still : (c : Cluster) (ran : List Act) (xs : List Packet) → Each (WasPut c) xs → Each (WasPut (after_run c ran)) xs
-given-still c ran xs h = all-more (WasPut c) (WasPut (after_run c ran)) xs (λ x o. put-still c (after_run c ran) x.from x (sym (count-after c ran)) (λ b i. parcels-stay c ran (parcel x.from x.to b) i) o) h
+given-still c ran xs h = all-more (WasPut c) (WasPut (after_run c ran)) xs (λ x o. sent-still c (after_run c ran) x.from x (sym (count-after c ran)) (λ b i. parcels-stay c ran (parcel x.from x.to b) i) o) h
 
 -- of a function that is changed at p, what holds at each place
 at-each : {X : Type 0} (P : ℕ → X → Type 0) (f : ℕ → X) (p q : ℕ) (x : X) → (q ≢ p → P q (f q)) → P p x → P q (put f p x q)
@@ -155,61 +157,67 @@ given-more f n c s x o w =
     }
 
 -- what a packet of a process says, as one of its own number
-from-own : (c : Cluster) (p : ℕ) (x : Packet) → PutOut c.count c.parcels p x → WasPut c x
-from-own c p x o = subst (λ k. PutOut c.count c.parcels k x) (sym o.from) o
+from-own : (c : Cluster) (p : ℕ) (x : Packet) → IsSent c.count c.parcels p x → WasPut c x
+from-own c p x o e = let put = o e in subst (λ k. PutOut c.count c.parcels k x) (sym put.from) put
 
 -- what one of the gateway says
 from-gateway : (c : Cluster) (x : Packet) → gateways.PutOut c.count c.parcels x → WasPut c x
-from-gateway c x o = from-own c 0 x (record { count_is = o.count_is; from = o.from; said = (o.said.body, o.said.says, o.said.among) })
+from-gateway c x o = from-own c 0 x (λ e. record { count_is = o.count_is; from = o.from; said = (o.said.body, o.said.says, o.said.among) })
 
 -- and what the gateway is told by it, wherever all was put out that was here
-to-gateway : (c d : Cluster) (x : Packet) → PutsMore c d → WasPut c x → gateways.WasSaid d.parcels x.from x
+to-gateway : (c d : Cluster) (x : Packet) → PutsMore c d → PutOut c.count c.parcels x.from x → gateways.WasSaid d.parcels x.from x
 to-gateway c d x more o = record { body = o.said.0; says = o.said.1; among = more (parcel x.from x.to o.said.0) o.said.2 }
+
+-- a packet comes to the gateway: it drops one that says that all is lost
+handing-out : (s : System) (c : Cluster) (x : Packet) (new : TheGateway) (loss : Bool) → is_loss x.body ≡ loss → WasPut c x → gateways.IsHanded x s.gateway new × (is_loss x.body ≡ true → new ≡ s.gateway) → Ahead s.durable s.gateway c
+    → Ahead s.durable new c
+handing-out s c x new true e o g a = subst (λ z. Ahead s.durable z c) (sym (g.1 e)) a
+handing-out s c x new false e o g a = ahead-acts (λ d. gateways.WasSaid d.parcels x.from x) s.durable s.gateway new c (λ d more. to-gateway c d x more (o e)) g.0 a
 
 -- what is changed at p alone
 elsewhere : {X : Type 0} (f : ℕ → X) (p q : ℕ) (x : X) → q ≢ p → put f p x q ≡ f q
 elsewhere f p q x other = let e : (q == p) ≡ false = grind (arith, nat_tests) in rw e refl
 
 -- each call
-call-goes : (f : Answering) (len : ℕ → ℕ) (n : ℕ) (s : System) (c : Cluster) (k : Call) → Holds (handlers_of f len) n s c → DoesIt f n s k → Onward (handlers_of f len) n c (after_call s k)
-call-goes f len n s c (Gave p x new) h m =
+call-goes : (f : Answering) (len : ℕ → ℕ) (n : ℕ) (s : System) (c : Cluster) (k : Call) → Holds (handlers_of f len) n s c → DoesIt f n s k → AreExact n (after_call s k) → Onward (handlers_of f len) n c (after_call s k)
+call-goes f len n s c (Gave p x new) h m exact =
     let g = giving c p (s.stored p) (s.lives p) (h.lives p m.0) x (s.processes p) new m.1 (h.processes p m.0) (h.stored p m.0) in
     given-more (handlers_of f len) n c (record s { processes = put s.processes p new }) x (from-own c p x g.0) (process-acts (handlers_of f len) n s c h p new m.0 g.1)
-call-goes f len n s c (Handed p x new) h m =
+call-goes f len n s c (Handed p x new) h m exact =
     let o : WasPut c x = one-was (WasPut c) x s.given h.given m.1.0 in
-    process-acts (handlers_of f len) n s c h p new m.0 (hearing c p (s.stored p) (s.lives p) (h.lives p m.0) x (s.processes p) new m.1.1 o.said (h.processes p m.0) (h.stored p m.0))
-call-goes f len n s c (Worked p a new) h m =
+    process-acts (handlers_of f len) n s c h p new m.0 (hearing c p (s.stored p) (s.lives p) (h.lives p m.0) x (s.processes p) new m.1.1 (at-itself p (λ b. is_exact (if b then new else s.processes p) ≡ true → is_exact new ≡ true) (λ e. e) (exact p m.0)) (λ e. (o e).said) (h.processes p m.0) (h.stored p m.0))
+call-goes f len n s c (Worked p a new) h m exact =
     process-acts (handlers_of f len) n s c h p new m.0 (working c p (s.stored p) (s.lives p) (h.lives p m.0) f len a (s.processes p) new m.1 h.handlers h.believed (h.processes p m.0) (h.stored p m.0))
-call-goes f len n s c (Did p new) h m =
+call-goes f len n s c (Did p new) h m exact =
     process-acts (handlers_of f len) n s c h p new m.0 (acting c p (s.stored p) (s.lives p) (h.lives p m.0) (s.processes p) new m.1 h.believed (h.processes p m.0) (h.stored p m.0))
-call-goes f len n s c (Stored p bytes) h m =
+call-goes f len n s c (Stored p bytes) h m exact =
     let P : List ℕ → Type 0 = λ b. Moves p (covered (s.processes p)) b (s.lives p) c in
     process-goes (handlers_of f len) n s c h p (covered (s.processes p)) (put s.stored p bytes) s.lives (λ q o. elsewhere s.stored p q bytes o) (λ q o. refl) m.0
     (at-itself p (λ b. P (if b then bytes else s.stored p)) (storing c p bytes (s.lives p) (h.lives p m.0) (s.stored p) (s.processes p) m.1 (h.processes p m.0) (h.stored p m.0)))
-call-goes f len n s c (Saved p new) h m =
+call-goes f len n s c (Saved p new) h m exact =
     process-acts (handlers_of f len) n s c h p new m.0 (telling c p (s.stored p) (s.lives p) (h.lives p m.0) (s.processes p) new m.1 (h.processes p m.0) (h.stored p m.0))
-call-goes f len n s c (Died p) h m = process-acts (handlers_of f len) n s c h p Killed m (dying c p (s.stored p) (s.lives p) (s.processes p) (h.lives p m) (h.processes p m) (h.stored p m))
-call-goes f len n s c (Revived p life new) h m =
+call-goes f len n s c (Died p) h m exact = process-acts (handlers_of f len) n s c h p Killed m (dying c p (s.stored p) (s.lives p) (s.processes p) (h.lives p m) (h.processes p m) (h.stored p m))
+call-goes f len n s c (Revived p life new) h m exact =
     let P : ℕ → Type 0 = λ l. Moves p (Collects new) (s.stored p) l c in
     process-goes (handlers_of f len) n s c h p (Collects new) s.stored (put s.lives p life) (λ q o. refl) (λ q o. elsewhere s.lives p q life o) m.0
     (at-itself p (λ b. P (if b then life else s.lives p)) (reviving c p (s.stored p) (s.processes p) (s.lives p) life new m.1.0 (h.lives p m.0) m.1.1.0 m.1.1.1 (h.processes p m.0) (h.stored p m.0)))
-call-goes f len n s c (GaveOut x new) h m =
+call-goes f len n s c (GaveOut x new) h m exact =
     let took = m.1.1 c (subst (λ g. gateways.Stands g c) m.0 h.durable) in
     given-more (handlers_of f len) n c (record s { gateway = new; durable = new }) x (from-gateway c x took.0)
     (gateway-goes (handlers_of f len) n s c h new (record { acts = []; run = tt; by = tt; stands = took.1 }))
-call-goes f len n s c (HandedOut x new) h m =
+call-goes f len n s c (HandedOut x new) h m exact =
     let o : WasPut c x = one-was (WasPut c) x s.given h.given m.0 in
-    gateway-waits (handlers_of f len) n s c h new (ahead-acts (λ d. gateways.WasSaid d.parcels x.from x) s.durable s.gateway new c (λ d more. to-gateway c d x more o) m.1 h.ahead)
-call-goes f len n s c (DidOut new) h m = gateway-waits (handlers_of f len) n s c h new (ahead-acts (λ d. Unit {0}) s.durable s.gateway new c (λ d more. tt) m h.ahead)
-call-goes f len n s c StoredOut h m = gateway-goes (handlers_of f len) n s c h s.gateway (h.ahead c h.durable (λ x i. i))
-call-goes f len n s c (RevivedOut new) h m =
+    gateway-waits (handlers_of f len) n s c h new (handing-out s c x new (is_loss x.body) refl o m.1 h.ahead)
+call-goes f len n s c (DidOut new) h m exact = gateway-waits (handlers_of f len) n s c h new (ahead-acts (λ d. Unit {0}) s.durable s.gateway new c (λ d more. tt) m h.ahead)
+call-goes f len n s c StoredOut h m exact = gateway-goes (handlers_of f len) n s c h s.gateway (h.ahead c h.durable (λ x i. i))
+call-goes f len n s c (RevivedOut new) h m exact =
     gateway-goes (handlers_of f len) n s c h new (record { acts = []; run = tt; by = tt; stands = (m s.durable refl).0 c h.durable })
 
-pub calls-go : (f : Answering) (len : ℕ → ℕ) (n : ℕ) (s : System) (c : Cluster) (ks : List Call) → Holds (handlers_of f len) n s c → Calls f n s ks → Onward (handlers_of f len) n c (after_calls s ks)
-calls-go f len n s c [] h m = record { acts = []; run = tt; holds = h }
-calls-go f len n s c (k ∷ ks) h m =
-    let one = call-goes f len n s c k h m.0 in
-    let rest = calls-go f len n (after_call s k) (after_run c one.acts) ks one.holds m.1 in
+pub calls-go : (f : Answering) (len : ℕ → ℕ) (n : ℕ) (s : System) (c : Cluster) (ks : List Call) → Holds (handlers_of f len) n s c → Calls f n s ks → StayExact n s ks → Onward (handlers_of f len) n c (after_calls s ks)
+calls-go f len n s c [] h m exact = record { acts = []; run = tt; holds = h }
+calls-go f len n s c (k ∷ ks) h m exact =
+    let one = call-goes f len n s c k h m.0 exact.0 in
+    let rest = calls-go f len n (after_call s k) (after_run c one.acts) ks one.holds m.1 exact.1 in
     let both = run-on c one.acts rest.acts one.run rest.run in
     record {
       acts = one.acts ++ rest.acts;
@@ -248,9 +256,9 @@ all-stand f n s c h =
     }
 
 pub lives-run : LivesRun
-lives-run f n page tick len bytes calls few stored m =
+lives-run f n page tick len bytes calls few stored m exact =
     let g : Handlers = handlers_of f len in
-    let all = calls-go f len n (new_system n len bytes page tick) (opening n g) calls (begins f n page tick len bytes few stored) m in
+    let all = calls-go f len n (new_system n len bytes page tick) (opening n g) calls (begins f n page tick len bytes few stored) m exact in
     let keeps = nodes-keep n g all.acts few (grows f len) all.run in
     record {
       acts = all.acts;

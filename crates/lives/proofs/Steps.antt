@@ -20,20 +20,22 @@ use Rattle.node.specs.Calls.{handed, did_work}
 use Rattle.node.specs.Sending.{ticked}
 use Rattle.node.specs.Saving.{froze}
 use Rattle.node.specs.Kept.{kept_of, Covers, IsKeptOf}
-use Rattle.node.specs.Stands.{Each, Stands, GoesTo, PutOut, Handles, actor, phase_of, stage_of, job_of, payloads_to}
+use Rattle.node.specs.Stands.{Each, Stands, GoesTo, PutOut, IsHanded, Handles, actor, phase_of, stage_of, job_of, payloads_to}
 use Rattle.node.specs.Runs.{Answer, Answering, handlers_of, state_from, sends_from}
 use Rattle.node.proofs.Steps.{owes-at, saves-at}
 use Rattle.node.proofs.Keeping.{kept-stays, resting-stands}
 use Rattle.node.proofs.Runs.{answers, state-more, sends-more}
 use Rattle.recovery.specs.Collecting.{TheCollecting}
-use Rattle.recovery.specs.Stands.{StandsCollecting, Reopens}
+use Rattle.recovery.specs.Meeting.{is_loss}
+use Rattle.recovery.specs.Stands.{StandsCollecting, IsSaid, IsSent, Reopens}
 use Rattle.recovery.specs.Replaying.{TheReplaying}
-use Rattle.recovery.specs.Replayed.{TheReplayed, StandsReplayed}
+use Rattle.recovery.specs.Replayed.{StandsReplayed}
 use Rattle.recovery.specs.StandsReplaying.{StandsReplaying, IsInOrder, AnswersAfter}
 use Rattle.recovery.specs.StandsReplaying as replaying
-use Rattle.recovery.proofs.Acts.{goes-one}
+use Rattle.recovery.proofs.Acts.{goes-self, goes-one}
+use Rattle.recovery.proofs.Posting.{replayed-out}
 use Rattle.restoring.specs.Stands.{StandsRestoring}
-use Rattle.lives.specs.Process.{Process, Up, Covered, Collects, Replays, Replayed, Restores, Killed, StandsAs, Gives, Hears, Works, Acts, WaitsFor, covered, IsTold, IsKilled, ComesFrom, IsAnswerAgain}
+use Rattle.lives.specs.Process.{Process, Up, Covered, Collects, Replays, Replayed, Restores, Killed, StandsAs, is_exact, Gives, Hears, Works, Acts, WaitsFor, covered, IsTold, IsKilled, ComesFrom, IsAnswerAgain}
 use Rattle.lives.specs.System.{AreStoredOf}
 use Rattle.lives.proofs.Moves.{Moves, IsPlain, moves-own, moves-none}
 
@@ -92,75 +94,58 @@ module _ (c : Cluster) (p : ℕ) (bytes : List ℕ) (life : ℕ) (low : c.stored
   own new k plain are g = moves-own p new bytes life c k plain are.0 are.1 low g
 
   -- a packet is taken
-  pub giving : (x : Packet) (old new : Process) → Gives x old new → StandsAs old c p → AreStoredOf bytes old c p → PutOut c.count c.parcels p x × Goes new
+  pub giving : (x : Packet) (old new : Process) → Gives x old new → StandsAs old c p → AreStoredOf bytes old c p → IsSent c.count c.parcels p x × Goes new
   giving x (Up n) new g s are =
       let P : ℕ → Type 0 = λ q. PutOut c.count c.parcels q x × Stands g.0 c q in
       let took : P p = subst P s.me (g.1.1.1 c (subst (Stands n c) (sym s.me) s)) in
-      (took.0, becomes p (Up g.0) new bytes life c g.1.0 (moves-none p (Up g.0) bytes life c took.1 are low))
+      (λ e. took.0, becomes p (Up g.0) new bytes life c g.1.0 (moves-none p (Up g.0) bytes life c took.1 are low))
   giving x (Covered n) new g s are =
       let P : ℕ → Type 0 = λ q. PutOut c.count c.parcels q x × Stands g.0 c q in
       let took : P p = subst P s.1.me (g.1.1.1 c (subst (Stands n c) (sym s.1.me) s.1)) in
       let waits : g.0.frozen ≡ true = sym (ap (λ (z : TheNode). z.frozen) g.1.1.0) ∙ s.0 in
-      (took.0, becomes p (Covered g.0) new bytes life c g.1.0 (moves-none p (Covered g.0) bytes life c (waits, took.1) are low))
+      (λ e. took.0, becomes p (Covered g.0) new bytes life c g.1.0 (moves-none p (Covered g.0) bytes life c (waits, took.1) are low))
   giving x (Collects n) new g s are =
-      let P : ℕ → Type 0 = λ q. PutOut c.count c.parcels q x × StandsCollecting g.0 c q in
+      let P : ℕ → Type 0 = λ q. IsSent c.count c.parcels q x × StandsCollecting g.0 c q in
       let took : P p = subst P s.own.me (g.1.1.1 c (subst (StandsCollecting n c) (sym s.own.me) s)) in
       (took.0, becomes p (Collects g.0) new bytes life c g.1.0 (moves-none p (Collects g.0) bytes life c took.1 are low))
   giving x (Replays n) new g s are =
-      let P : ℕ → Type 0 = λ q. PutOut c.count c.parcels q x × StandsReplaying g.0 c q in
+      let P : ℕ → Type 0 = λ q. IsSent c.count c.parcels q x × StandsReplaying g.0 c q in
       let took : P p = subst P s.own.me (g.1.1.1 c (subst (StandsReplaying n c) (sym s.own.me) s)) in
       (took.0, becomes p (Replays g.0) new bytes life c g.1.0 (moves-none p (Replays g.0) bytes life c took.1 are low))
   giving x (Restores n) new g s are =
-      let P : ℕ → Type 0 = λ q. PutOut c.count c.parcels q x × StandsRestoring g.0 c q in
+      let P : ℕ → Type 0 = λ q. IsSent c.count c.parcels q x × StandsRestoring g.0 c q in
       let took : P p = subst P s.own.me (g.1.1.1 c (subst (StandsRestoring n c) (sym s.own.me) s)) in
       (took.0, becomes p (Restores g.0) new bytes life c g.1.0 (moves-none p (Restores g.0) bytes life c took.1 are low))
   giving x (Replayed n) new g s are =
-      let out : Each (PutOut c.count c.parcels p) (x ∷ g.0.own.out) = subst (Each (PutOut c.count c.parcels p)) g.1.1.0 s.own.out in
-      (out.0, becomes p (Replayed g.0) new bytes life c g.1.0 (moves-none p (Replayed g.0) bytes life c (subst (λ z. StandsReplayed z c p) (sym g.1.1.1) (with-less n g.0.own.out s out.1)) are low))
-    where
-      with-less : (n : TheReplayed) (rest : List Packet) → StandsReplayed n c p → Each (PutOut c.count c.parcels p) rest → StandsReplayed (record n { own = record n.own { out = rest } }) c p
-      with-less n rest s out =
-          record {
-            stage = s.stage;
-            greeted = s.greeted;
-            phase = s.phase;
-            life = s.life;
-            own = record {
-              me = s.own.me;
-              count = s.own.count;
-              inside = s.own.inside;
-              saved = s.own.saved;
-              many = s.own.many;
-              state = s.own.state;
-              covered = s.own.covered;
-              logs = s.own.logs;
-              heard = s.own.heard;
-              out = out;
-            };
-            received = s.received;
-            acknowledged = s.acknowledged;
-            numbers = s.numbers;
-            resumed = s.resumed;
-            restoring = s.restoring;
-            released = s.released;
-          }
+      let out : Each (IsSent c.count c.parcels p) (x ∷ g.0.own.out) = subst (Each (IsSent c.count c.parcels p)) g.1.1.0 s.own.out in
+      (out.0, becomes p (Replayed g.0) new bytes life c g.1.0 (moves-none p (Replayed g.0) bytes life c (subst (λ z. StandsReplayed z c p) (sym g.1.1.1) (replayed-out n c p g.0.own.out out.1 s)) are low))
   giving x Killed new g s are = absurd g
 
-  -- a packet comes
-  pub hearing : (x : Packet) (old new : Process) → Hears x old new → WasSaid c.parcels x.from x.to x.body → StandsAs old c p → AreStoredOf bytes old c p → Goes new
-  hearing x (Up n) new g said s are =
-      becomes p (Up g.0) new bytes life c g.1.0 (own (Up g.0) are.0 (λ k d z. z) are.1 (owes-at (λ d. WasSaid d.parcels x.from x.to x.body) n g.0 c p g.1.1 s said))
-  hearing x (Covered n) new g said s are =
+  -- a packet comes to a node that is up: it drops one that says that all is lost
+  hearing-up : (x : Packet) (n new : TheNode) (loss : Bool) → is_loss x.body ≡ loss → IsHanded x n new × (is_loss x.body ≡ true → new ≡ n) → IsSaid c.parcels x.from x.to x.body → Stands n c p → GoesTo p (λ d. Stands new d p) c
+  hearing-up x n new true e g said s = goes-self p (λ d. Stands new d p) c (subst (λ z. Stands z c p) (sym (g.1 e)) s)
+  hearing-up x n new false e g said s = owes-at (λ d. WasSaid d.parcels x.from x.to x.body) n new c p g.0 s (said e)
+
+  -- a packet comes, and the process stays exact
+  pub hearing : (x : Packet) (old new : Process) → Hears x old new → is_exact new ≡ true → IsSaid c.parcels x.from x.to x.body → StandsAs old c p → AreStoredOf bytes old c p → Goes new
+  hearing x (Up n) new g exact said s are = becomes p (Up g.0) new bytes life c g.1.0 (own (Up g.0) are.0 (λ k d z. z) are.1 (hearing-up x n g.0 (is_loss x.body) refl g.1.1 said s))
+  hearing x (Covered n) new g exact said s are =
       becomes p (Covered n) new bytes life c (g.1.0 ∙ ap Covered (g.1.1 ∙ handed-rests x n s.0)) (moves-none p (Covered n) bytes life c s are low)
-  hearing x (Collects n) new g said s are =
+  hearing x (Collects n) new g exact said s are =
       let P : ℕ → Type 0 = λ q. GoesTo q (λ d. StandsCollecting g.0 d q) c in
-      becomes p (Collects g.0) new bytes life c g.1.0 (own (Collects g.0) are.0 (λ k d z. z) are.1 (subst P s.own.me (g.1.1 c (subst (StandsCollecting n c) (sym s.own.me) s) said)))
-  hearing x (Restores n) new g said s are =
+      let here : g.0.own.exact ≡ true = sym (ap is_exact g.1.0) ∙ exact in
+      becomes p (Collects g.0) new bytes life c g.1.0 (own (Collects g.0) are.0 (λ k d z. z) are.1 (subst P s.own.me (g.1.1 here c (subst (StandsCollecting n c) (sym s.own.me) s) said)))
+  hearing x (Replays n) new g exact said s are =
+      let here : g.0.own.exact ≡ true = sym (ap is_exact g.1.0) ∙ exact in
+      becomes p (Replays g.0) new bytes life c g.1.0 (moves-none p (Replays g.0) bytes life c (g.1.1 here c p s) are low)
+  hearing x (Replayed n) new g exact said s are =
+      let here : g.0.own.exact ≡ true = sym (ap is_exact g.1.0) ∙ exact in
+      becomes p (Replayed g.0) new bytes life c g.1.0 (moves-none p (Replayed g.0) bytes life c (g.1.1 here c p s) are low)
+  hearing x (Restores n) new g exact said s are =
       let P : ℕ → Type 0 = λ q. GoesTo q (λ d. StandsRestoring g.0 d q) c in
-      becomes p (Restores g.0) new bytes life c g.1.0 (own (Restores g.0) are.0 (λ k d z. z) are.1 (subst P s.own.me (g.1.1 c (subst (StandsRestoring n c) (sym s.own.me) s) said)))
-  hearing x (Replays n) new g said s are = absurd g
-  hearing x (Replayed n) new g said s are = absurd g
-  hearing x Killed new g said s are = absurd g
+      let here : g.0.own.exact ≡ true = sym (ap is_exact g.1.0) ∙ exact in
+      becomes p (Restores g.0) new bytes life c g.1.0 (own (Restores g.0) are.0 (λ k d z. z) are.1 (subst P s.own.me (g.1.1 here c (subst (StandsRestoring n c) (sym s.own.me) s) said)))
+  hearing x Killed new g exact said s are = absurd g
 
   -- its handler answered
   pub working : (f : Answering) (len : ℕ → ℕ) (a : Answer) (old new : Process) → Works f p a old new → c.handlers ≡ handlers_of f len → worlds.Holds c → StandsAs old c p → AreStoredOf bytes old c p → Goes new

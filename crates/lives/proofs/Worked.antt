@@ -1,20 +1,15 @@
 -- The worked list of calls
-use Rattle.std.proofs.Common.{◌≡◌, inl, inr, ℕ, ◌<◌, List, [], ◌∷◌, refl, ap, subst, arith}
+use Rattle.std.proofs.Common.{◌≡◌, inl, inr, ℕ, ◌<◌, List, [], ◌∷◌, true, false, refl, subst, arith}
 use Rattle.std.specs.Prelude.{Some}
-use Rattle.packets.specs.declared.packet.Packet.{Packet}
 use Rattle.packets.specs.Packet.{entries_in_range, pairs_in_range}
-use Rattle.cluster.specs.Cluster.{Cluster}
 use Rattle.node.specs.Node.{new_node}
-use Rattle.node.specs.Stands.{Each, PutOut}
 use Rattle.node.specs.Kept.{kept_of}
-use Rattle.recovery.specs.Collecting.{TheCollecting}
-use Rattle.recovery.specs.Stands.{StandsCollecting, Takes}
 use Rattle.recovery.specs.Plan.{Plans}
 use Rattle.recovery.specs.StandsReplaying.{replayed_of}
 use Rattle.recovery.proofs.Reviving.{revives}
 use Rattle.recovery.proofs.Telling as collecting
 use Rattle.recovery.proofs.Moments.{comes-back}
-use Rattle.recovery.proofs.Replays.{ends-so}
+use Rattle.recovery.proofs.Replays.{ends-so, collecting-takes}
 use Rattle.restoring.specs.Restoring.{IsRestoring, up}
 use Rattle.restoring.proofs.Beginning.{beginning}
 use Rattle.restoring.proofs.Telling as restoring
@@ -23,35 +18,19 @@ use Rattle.gateway.specs.Gateway.{new_gateway}
 use Rattle.gateway.proofs.Views as gateways
 use Rattle.gateway.proofs.Handing.{handed-so}
 use Rattle.together.specs.Together.{IsFirst}
-use Rattle.lives.specs.Process.{Recovers}
-use Rattle.lives.specs.Worked.{ask, told, resume, restored, sent, asked, resumed, comes, asks, has_all, replays, begins, resumes, has_answer, ComesBackUp}
+use Rattle.lives.specs.Process.{is_exact, Recovers}
+use Rattle.lives.specs.System.{System, new_system, Call, after_call, StayExact}
+use Rattle.lives.specs.Worked.{ask, told, resume, restored, sent, asked, resumed, comes, asks, has_all, replays, begins, resumes, has_answer, worked, ComesBackUp}
 
--- the first packet that waits leaves
-collecting-takes : (x : Packet) (n : TheCollecting) (rest : List Packet) → n.own.out ≡ x ∷ rest → Takes (Some x) n (record n { own = record n.own { out = rest } })
-collecting-takes x n rest e = (ap (λ xs. record n { own = record n.own { out = xs } }) e, λ c s. taken c s (subst (Each (PutOut c.count c.parcels n.own.me)) e s.own.out))
-  where
-    taken : (c : Cluster) → StandsCollecting n c n.own.me → Each (PutOut c.count c.parcels n.own.me) (x ∷ rest) → PutOut c.count c.parcels n.own.me x × StandsCollecting (record n { own = record n.own { out = rest } }) c n.own.me
-    taken c s out = (
-      out.0,
-      record {
-        stage = s.stage;
-        life = s.life;
-        own = record {
-          me = s.own.me;
-          count = s.own.count;
-          inside = s.own.inside;
-          saved = s.own.saved;
-          many = s.own.many;
-          state = s.own.state;
-          covered = s.own.covered;
-          logs = s.own.logs;
-          heard = s.own.heard;
-          out = out.1;
-        };
-        told = s.told;
-        alone = s.alone;
-      },
-    )
+-- the only process is the first
+abbrev FirstExact : System → List Call → Type 0
+FirstExact s [] = Unit {0}
+FirstExact s (k ∷ ks) = (is_exact ((after_call s k).processes 1) ≡ true) × FirstExact (after_call s k) ks
+
+stays-exact : (s : System) (ks : List Call) → FirstExact s ks → StayExact 1 s ks
+stays-exact s [] e = tt
+stays-exact s (k ∷ ks) e =
+    ((λ p first. let one : 1 ≡ p = omega (arith, first.0, first.1) in let P : ℕ → Type 0 = λ q. is_exact ((after_call s k).processes q) ≡ true in subst P one e.0), stays-exact (after_call s k) ks e.1)
 
 -- nothing was told, so nothing is planned
 none-planned : (len : ℕ) → Plans (has_all len) []
@@ -75,7 +54,8 @@ unfolding entries_in_range pairs_in_range
 comes-back-up f len page tick bytes stored =
     let early : 1 < 2 = omega arith in
     record {
-      calls = (first, ((first, (tt, (early, (kept_of (new_node 1 1 len), (stored 1 first, revives (kept_of (new_node 1 1 len)) 2))))), ((first, (asks len, (refl, collecting-takes ask (comes len) [] refl))), ((inl refl, handed-so ask (new_gateway 1 page tick)), (tt, ((refl, gateways.takes-so (Some told) (asked page tick) [] refl), ((first, (inl refl, (has_all len, (refl, collecting.handing (asks len) told refl refl)))), ((first, inr (replays len, (refl, recovers len))), ((first, (replayed_of (replays len), (refl, ends-so (replays len) refl (omega arith)))), ((first, (begins len, (refl, beginning (replayed_of (replays len))))), ((first, (resumes len, (refl, returns.takes-so (Some resume) (begins len) [] refl))), ((inl refl, handed-so resume (sent (asked page tick))), (tt, ((refl, gateways.takes-so (Some restored) (resumed page tick) [] refl), ((first, (inl refl, (has_answer len, (refl, restoring.handing (resumes len) restored (is-restoring len))))), ((first, inr (up (has_answer len), (refl, returns.is-up (has_answer len) refl))), tt))))))))))))))));
+      calls = (first, ((first, (tt, (early, (kept_of (new_node 1 1 len), (stored 1 first, revives (kept_of (new_node 1 1 len)) 2))))), ((first, (asks len, (refl, collecting-takes (Some ask) (comes len) [] refl))), ((inl refl, (handed-so ask (new_gateway 1 page tick), λ e. absurd (let z : false ≡ true = e in cc))), (tt, ((refl, gateways.takes-so (Some told) (asked page tick) [] refl), ((first, (inl refl, (has_all len, (refl, collecting.handing (asks len) told refl refl)))), ((first, inr (replays len, (refl, recovers len))), ((first, (replayed_of (replays len), (refl, ends-so (replays len) refl (omega arith)))), ((first, (begins len, (refl, beginning (replayed_of (replays len))))), ((first, (resumes len, (refl, returns.takes-so (Some resume) (begins len) [] refl))), ((inl refl, (handed-so resume (sent (asked page tick)), λ e. absurd (let z : false ≡ true = e in cc))), (tt, ((refl, gateways.takes-so (Some restored) (resumed page tick) [] refl), ((first, (inl refl, (has_answer len, (refl, restoring.handing (resumes len) restored (is-restoring len))))), ((first, inr (up (has_answer len), (refl, returns.is-up (has_answer len) refl))), tt))))))))))))))));
+      exact = stays-exact (new_system 1 (λ _. len) bytes page tick) (worked len page tick) (refl, (refl, (refl, (refl, (refl, (refl, (refl, (refl, (refl, (refl, (refl, (refl, (refl, (refl, (refl, (refl, tt))))))))))))))));
       node = up (has_answer len);
       is_up = refl;
       life = refl;

@@ -12,7 +12,7 @@ use Rattle.recovery.specs.Replaying.{TheReplaying}
 use Rattle.recovery.specs.Moment.{HadReceived}
 use Rattle.together.specs.Together.{IsFirst}
 use Rattle.lives.specs.Process.{Up, Collects, Replays}
-use Rattle.lives.specs.System.{System, new_system, AreStored, Call, Did, Calls, after_calls, AllStand}
+use Rattle.lives.specs.System.{System, new_system, AreStored, Call, Did, Calls, after_calls, StayExact, AllStand}
 
 -- how many messages a node received
 abbrev pub length_of : TheNode → ℕ
@@ -31,10 +31,11 @@ pub record HasBack (f : Handlers) (p : ℕ) (a b : TheNode) : Type 0 where
   pub same : take (run_at a) is ≡ take (run_at a) was
   pub back : run_at a ≡ length_of a → length_of b ≡ length_of a → b.state ≡ a.state
 
--- whatever happens between the two moments
+-- whatever happens between the two moments, where each that is alive stays exact
 abbrev pub NothingIsLost : Type 0
 NothingIsLost = (f : Answering) (n page tick : ℕ) (len : ℕ → ℕ) (bytes : ℕ → List ℕ) (calls more : List Call) (p : ℕ) (a b : TheNode) → n ≤ 15 → AreStored n len bytes → IsFirst n p
-    → Calls f n (new_system n len bytes page tick) (calls ++ more) → (after_calls (new_system n len bytes page tick) calls).processes p ≡ Up a
+    → Calls f n (new_system n len bytes page tick) (calls ++ more) → StayExact n (new_system n len bytes page tick) (calls ++ more)
+    → (after_calls (new_system n len bytes page tick) calls).processes p ≡ Up a
     → (after_calls (new_system n len bytes page tick) (calls ++ more)).processes p ≡ Up b → HasBack (handlers_of f len) p a b
 
 -- how many messages it keeps that recovers
@@ -55,5 +56,6 @@ pub record IsBack (n : ℕ) (f : Handlers) (s t : System) (p : ℕ) (old : TheCo
 
 abbrev pub RecoversExactly : Type 0
 RecoversExactly = (f : Answering) (n page tick : ℕ) (len : ℕ → ℕ) (bytes : ℕ → List ℕ) (calls more : List Call) (p : ℕ) (old : TheCollecting) (new : TheReplaying) → n ≤ 15 → AreStored n len bytes
-    → Calls f n (new_system n len bytes page tick) (calls ++ Did p (Replays new) ∷ more) → (after_calls (new_system n len bytes page tick) calls).processes p ≡ Collects old
+    → Calls f n (new_system n len bytes page tick) (calls ++ Did p (Replays new) ∷ more) → StayExact n (new_system n len bytes page tick) (calls ++ Did p (Replays new) ∷ more)
+    → (after_calls (new_system n len bytes page tick) calls).processes p ≡ Collects old
     → IsBack n (handlers_of f len) (after_calls (new_system n len bytes page tick) calls) (after_calls (new_system n len bytes page tick) (calls ++ Did p (Replays new) ∷ more)) p old new

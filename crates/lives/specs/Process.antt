@@ -1,5 +1,5 @@
 -- A process in the stages of its life, and what its calls make of it
-use Rattle.std.specs.Prelude.{◌≡◌, ◌⊎◌, ℕ, List, Some, true, false}
+use Rattle.std.specs.Prelude.{◌≡◌, ◌⊎◌, ℕ, List, Some, Bool, true, false}
 use Rattle.cluster.specs.Cluster.{Cluster, Dead}
 use Rattle.cluster.specs.Rules.{Keeps, May, does, IsNode}
 use Rattle.packets.specs.declared.packet.Packet.{Packet}
@@ -16,7 +16,9 @@ use Rattle.node.specs.Stands as nodes
 use Rattle.node.specs.Runs.{Answer, Answering, IsAnswer}
 use Rattle.recovery.specs.Collecting.{TheCollecting}
 use Rattle.recovery.specs.Replaying.{TheReplaying, next_job}
+use Rattle.recovery.specs.Meeting.{is_loss}
 use Rattle.recovery.specs.Replayed.{TheReplayed, StandsReplayed}
+use Rattle.recovery.specs.Replayed as replayed
 use Rattle.recovery.specs.Stands as collecting
 use Rattle.recovery.specs.StandsReplaying as replaying
 use Rattle.recovery.specs.Plan.{has_all}
@@ -52,6 +54,16 @@ abbrev pub IsStoredOf : Kept → Process → Cluster → ℕ → Type 0
 IsStoredOf k (Covered n) c p = May c (Keeps p) × IsKeptOf k (does c (Keeps p)) p
 IsStoredOf k process c p = IsKeptOf k c p
 
+-- as far as it knows, failures came one at a time; one that was killed knows nothing
+abbrev pub is_exact : Process → Bool
+is_exact (Up n) = n.exact
+is_exact (Covered n) = n.exact
+is_exact (Collects n) = n.own.exact
+is_exact (Replays n) = n.own.exact
+is_exact (Replayed n) = n.own.exact
+is_exact (Restores n) = n.own.exact
+is_exact Killed = true
+
 -- ---- its calls, each as its function's contract says
 
 -- it becomes this process, as one of the stage that is named, of which this holds
@@ -68,13 +80,15 @@ Gives x (Replayed n) new = Becomes Replayed new (λ m. Pops (Some x) n.own.out m
 Gives x (Restores n) new = Becomes Restores new (λ m. restoring.Takes (Some x) n m)
 Gives x Killed new = ⊥
 
--- it was handed this packet: one that replays takes none
+-- it was handed this packet: a node drops one that says that all is lost
 abbrev pub Hears : Packet → Process → Process → Type 0
-Hears x (Up n) new = Becomes Up new (λ m. nodes.IsHanded x n m)
+Hears x (Up n) new = Becomes Up new (λ m. nodes.IsHanded x n m × (is_loss x.body ≡ true → m ≡ n))
 Hears x (Covered n) new = Becomes Covered new (λ m. m ≡ handed x n)
 Hears x (Collects n) new = Becomes Collects new (λ m. collecting.IsHanded x n m)
+Hears x (Replays n) new = Becomes Replays new (λ m. replaying.Stays n m)
+Hears x (Replayed n) new = Becomes Replayed new (λ m. replayed.Stays n m)
 Hears x (Restores n) new = Becomes Restores new (λ m. restoring.IsHanded x n m)
-Hears x process new = ⊥
+Hears x Killed new = ⊥
 
 -- the answer is that of the handler, where a message is to be replayed
 abbrev pub IsAnswerAgain : Answering → ℕ → TheReplaying → Answer → Type 0

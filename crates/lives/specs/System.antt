@@ -1,5 +1,5 @@
 -- Calls of processes in any stage, and of the gateway, one after another
-use Rattle.std.specs.Prelude.{◌≡◌, ℕ, ◌<◌, ◌≤◌, List, [], ◌∷◌, Some}
+use Rattle.std.specs.Prelude.{◌≡◌, ℕ, ◌<◌, ◌≤◌, List, [], ◌∷◌, Some, true}
 use Rattle.world.specs.History.{count_of}
 use Rattle.world.specs.Handlers.{Handlers}
 use Rattle.world.specs.World.{put}
@@ -9,15 +9,18 @@ use Rattle.packets.specs.Kept.{IsKept}
 use Rattle.cluster.specs.Cluster.{Cluster, opening}
 use Rattle.cluster.specs.Rules.{Act, Run, after_run}
 use Rattle.cluster.specs.Promises.{NoOrphanNode, OutputOnce, ReceivedOnce}
-use Rattle.node.specs.Node.{new_node}
+use Rattle.node.specs.Node.{TheNode, new_node}
+use Rattle.node.specs.Calls as nodes
 use Rattle.node.specs.Kept.{kept_of}
 use Rattle.node.specs.Runs.{Answer, Answering, handlers_of, IsOne}
+use Rattle.recovery.specs.Meeting.{is_loss}
 use Rattle.recovery.specs.Collecting.{TheCollecting}
 use Rattle.gateway.specs.Gateway.{TheGateway, new_gateway, peer_of}
+use Rattle.gateway.specs.Calls as outside
 use Rattle.gateway.specs.Stands as gateways
 use Rattle.gateway.specs.Since.{StandsFor}
 use Rattle.together.specs.Together.{IsFirst}
-use Rattle.lives.specs.Process.{Process, Up, Collects, Killed, StandsAs, IsStoredOf, Gives, Hears, Works, Acts, WaitsFor, covered, IsTold, IsKilled, ComesFrom}
+use Rattle.lives.specs.Process.{Process, Up, Collects, Killed, StandsAs, IsStoredOf, is_exact, Gives, Hears, Works, Acts, WaitsFor, covered, IsTold, IsKilled, ComesFrom}
 
 -- the processes by number; of each the bytes that are stored durably, and the greatest incarnation; the gateway, and as what it is durable;
 -- and the packets that were given
@@ -87,7 +90,7 @@ DoesIt f n s (Saved p new) = IsFirst n p × IsTold (s.processes p) new
 DoesIt f n s (Died p) = IsFirst n p
 DoesIt f n s (Revived p life new) = IsFirst n p × (IsKilled (s.processes p) × ((s.lives p < life) × ComesFrom (s.stored p) life new))
 DoesIt f n s (GaveOut x new) = (s.durable ≡ s.gateway) × gateways.Takes (Some x) s.gateway new
-DoesIt f n s (HandedOut x new) = IsOne x s.given × gateways.IsHanded x s.gateway new
+DoesIt f n s (HandedOut x new) = IsOne x s.given × (gateways.IsHanded x s.gateway new × (is_loss x.body ≡ true → new ≡ s.gateway))
 DoesIt f n s (DidOut new) = gateways.Acts s.gateway new
 DoesIt f n s StoredOut = Unit {0}
 DoesIt f n s (RevivedOut new) = StandsFor s.durable.store new
@@ -107,6 +110,10 @@ after_call s (DidOut new) = record s { gateway = new }
 after_call s StoredOut = record s { durable = s.gateway }
 after_call s (RevivedOut new) = record s { gateway = new; durable = new }
 
+-- nodes that are up and the gateway drop a packet that says that all is lost, as their functions say
+abbrev pub LossIsDropped : Type 0
+LossIsDropped = ((x : Packet) (n : TheNode) → is_loss x.body ≡ true → nodes.handed x n ≡ n) × ((x : Packet) (g : TheGateway) → is_loss x.body ≡ true → outside.handed x g ≡ g)
+
 -- calls one after another
 abbrev pub Calls : Answering → ℕ → System → List Call → Type 0
 Calls f n s [] = Unit {0}
@@ -115,6 +122,14 @@ Calls f n s (k ∷ ks) = DoesIt f n s k × Calls f n (after_call s k) ks
 abbrev pub after_calls : System → List Call → System
 after_calls s [] = s
 after_calls s (k ∷ ks) = after_calls (after_call s k) ks
+
+-- each process that is alive is exact, at the end of each of these calls
+abbrev pub AreExact : ℕ → System → Type 0
+AreExact n s = (p : ℕ) → IsFirst n p → is_exact (s.processes p) ≡ true
+
+abbrev pub StayExact : ℕ → System → List Call → Type 0
+StayExact n s [] = Unit {0}
+StayExact n s (k ∷ ks) = AreExact n (after_call s k) × StayExact n (after_call s k) ks
 
 -- these bytes of a process are what its checkpoint covers
 abbrev pub AreStoredOf : List ℕ → Process → Cluster → ℕ → Type 0
@@ -141,7 +156,7 @@ pub record IsRunOf (n : ℕ) (f : Handlers) (s : System) : Type 0 where
   pub received_once : ReceivedOnce (after_run (opening n f) acts)
 
 -- calls of processes and the gateway in any order, with packets handed over late, twice or never, and each killed and brought back at any
--- moment, are a run of a cluster
+-- moment, are a run of a cluster, where each that is alive stays exact
 abbrev pub LivesRun : Type 0
 LivesRun = (f : Answering) (n page tick : ℕ) (len : ℕ → ℕ) (bytes : ℕ → List ℕ) (calls : List Call) → n ≤ 15 → AreStored n len bytes → Calls f n (new_system n len bytes page tick) calls
-    → IsRunOf n (handlers_of f len) (after_calls (new_system n len bytes page tick) calls)
+    → StayExact n (new_system n len bytes page tick) calls → IsRunOf n (handlers_of f len) (after_calls (new_system n len bytes page tick) calls)

@@ -1,16 +1,22 @@
 //! What holds of processes in all their lives.
 
 ghost use Rattle.lives.specs.Back.{NothingIsLost, RecoversExactly};
-ghost use Rattle.lives.specs.System.{LivesRun};
+ghost use Rattle.lives.specs.System.{LivesRun, LossIsDropped};
 ghost use Rattle.lives.specs.Worked.{ComesBackUp};
 
 /// Calls of processes in any stage and of the gateway, from their opening on, in any order, with
 /// packets handed over late, twice or never, each process killed at any moment and brought back from
-/// the bytes that are stored of it, and the gateway from its store, are a run of a cluster. So no
-/// message of it is an orphan, each output is shown once and each message received once, and what is
-/// stored of a process is what its checkpoint covers.
+/// the bytes that are stored of it, and the gateway from its store, are a run of a cluster, where at
+/// the end of each call all processes that are alive are exact. So no message of it is an orphan, each
+/// output is shown once and each message received once, and what is stored of a process is what its
+/// checkpoint covers.
 pub fn lives_run()
     ensures { LivesRun }
+{}
+
+/// A node that is up drops a packet that says that all is lost, and so does the gateway.
+pub fn loss_is_dropped()
+    ensures { LossIsDropped }
 {}
 
 /// Where a process is up at two moments of such calls, it has at the second all that was acknowledged
@@ -26,7 +32,7 @@ pub fn recovers_exactly()
 {}
 
 /// The only process of a cluster is killed, comes back from the bytes of its opening, collects,
-/// recovers, replays, restores its numbers and is up: these are such calls.
+/// recovers, replays, restores its numbers and is up: these are such calls, and it stays exact.
 pub fn comes_back_up()
     ensures { ComesBackUp }
 {}

@@ -5,11 +5,11 @@
 //! [`restoring::Restoring`], until it is a node again. Each call of a stage owes acts of that process,
 //! in any cluster in which it stands. Here these come together: calls of processes in any stage and of
 //! a [`gateway::Gateway`], in any order, with packets handed over late, twice or never, and each of
-//! them killed and brought back at any moment, are a run of a cluster ([`lives_run`]). So its promises
-//! are promises of this code, and what comes back is the process that was lost ([`nothing_is_lost`],
+//! them killed and brought back at any moment, are a run of a cluster ([`lives_run`]), as long as each
+//! process that is alive tells that it is exact. So its promises are promises of this code, and what comes back is the process that was lost ([`nothing_is_lost`],
 //! [`recovers_exactly`]).
 #![tactic(auto)]
 
 mod laws;
 
-pub use laws::{comes_back_up, lives_run, nothing_is_lost, recovers_exactly};
+pub use laws::{comes_back_up, lives_run, loss_is_dropped, nothing_is_lost, recovers_exactly};

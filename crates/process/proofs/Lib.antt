@@ -3,3 +3,4 @@ mod Passings
 mod Openings
 mod Fronts
 mod Workings
+pub mod Rooms

@@ -10,7 +10,9 @@ use Rattle.node.specs.Standing.{standing_of}
 use Rattle.node.specs.Saving as saving
 use Rattle.recovery.specs.Collecting as collecting
 use Rattle.recovery.specs.Stands as collecting_owes
+use Rattle.recovery.specs.Meeting as meeting
 use Rattle.recovery.specs.StandsReplaying as replaying_owes
+use Rattle.recovery.specs.Replayed as replayed_owes
 use Rattle.recovery.specs.Reading.{collecting_standing, replaying_standing, replayed_standing}
 use Rattle.restoring.specs.Restoring as restoring
 use Rattle.restoring.specs.Stands as restoring_owes
@@ -25,9 +27,8 @@ abbrev pub IsHanded : Packet → Course → Course → Type 0
 IsHanded x (Up old) (Up new) = (new ≡ up.handed x old) × up_owes.IsHanded x old new
 IsHanded x (Collecting old) (Collecting new) = (new ≡ collecting.handed x old) × collecting_owes.IsHanded x old new
 IsHanded x (Restoring old) (Restoring new) = (new ≡ restoring.handed x old) × restoring_owes.IsHanded x old new
--- while messages are to be replayed it is dropped
-IsHanded x (Replaying old) new = new ≡ Replaying old
-IsHanded x (Replayed old) new = new ≡ Replayed old
+IsHanded x (Replaying old) (Replaying new) = (new ≡ record old { own = meeting.handed x old.own }) × replaying_owes.Stays old new
+IsHanded x (Replayed old) (Replayed new) = (new ≡ record old { own = meeting.handed x old.own }) × replayed_owes.Stays old new
 IsHanded x Passing new = new ≡ Passing
 IsHanded x old new = ⊥
 

@@ -12,7 +12,7 @@ ghost use Rattle.process.specs.Passing.{Passes};
 
 use crate::course::Course;
 use crate::process::Process;
-use crate::writable::is_question;
+use crate::writable::is_written;
 use packets::{Packet, PacketError, decode, encode, one_packet};
 use std::alloc::{AllocError, Global};
 use std::mem::replace;
@@ -35,7 +35,8 @@ impl Process {
         Ok(())
     }
 
-    /// A packet came. While messages are to be replayed it is dropped. A refusal changes nothing.
+    /// A packet came. While messages are to be replayed it is dropped, but a peer that comes back too is
+    /// answered in each stage. A refusal changes nothing.
     pub fn receive(&mut self, alloc: Global, packet: &Packet) -> Result<(), AllocError>
         ensures calls { OnOk result (Calls (IsHanded packet.now) self.old self.new) }
         ensures err { OnErr result (self.new ≡ self.old) }
@@ -95,7 +96,7 @@ impl Process {
             };
         }
         match self.front() {
-            Some(packet) if is_question(packet) => written(alloc, packet),
+            Some(packet) if is_written(packet) => written(alloc, packet),
             _ => Ok(None),
         }
     }
@@ -120,13 +121,19 @@ impl Course {
     {
         match self {
             Course::Up(process) => process.receive(alloc, packet),
-            Course::Collecting(process) => process.receive(packet),
-            Course::Restoring(process) => {
-                process.receive(packet);
+            Course::Collecting(process) => process.receive(alloc, packet),
+            Course::Replaying(process) => {
+                process.receive(alloc, packet);
                 Ok(())
             }
-            Course::Replaying(_) => Ok(()),
-            Course::Replayed(_) => Ok(()),
+            Course::Replayed(process) => {
+                process.receive(alloc, packet);
+                Ok(())
+            }
+            Course::Restoring(process) => {
+                process.receive(alloc, packet);
+                Ok(())
+            }
             Course::Passing => Ok(()),
         }
     }

@@ -41,7 +41,7 @@ fn count(gateway: &mut Gateway, word: u8) -> Result<(), Fail> {
     Ok(())
 }
 
-fn image(alloc: Global) -> Result<Arc<Image>, Fail> {
+pub(crate) fn image(alloc: Global) -> Result<Arc<Image>, Fail> {
     let image = load(alloc, &COUNTER)?;
     Ok(Arc::new(alloc, image)?)
 }

@@ -5,3 +5,5 @@
 
 #[cfg(test)]
 mod counting;
+#[cfg(test)]
+mod meeting;

@@ -50,7 +50,7 @@ OnlyPosts old new = new ≡ record old { own = record old.own { out = new.own.ou
 only-then : (a b c : TheCollecting) → OnlyPosts a b → OnlyPosts b c → OnlyPosts a c
 only-then a b c e f = f ∙ ap (λ (z : TheCollecting). record z { own = record z.own { out = c.own.out } }) e
 
-only-asks : (n : TheCollecting) (to : ℕ) → OnlyPosts n (asks to n)
+pub only-asks : (n : TheCollecting) (to : ℕ) → OnlyPosts n (asks to n)
 only-asks n to = by-branch (OnlyPosts n) (told_of n.told to).done n _ (λ e. refl) (λ e. refl)
 
 pub only-below : (n : TheCollecting) (me d : ℕ) → OnlyPosts n (asks_below me d n)

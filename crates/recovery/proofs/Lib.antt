@@ -4,6 +4,7 @@ pub mod Keeping
 pub mod Pages
 pub mod Told
 pub mod Posting
+pub mod Meetings
 pub mod Asking
 pub mod Telling
 pub mod Reviving

@@ -121,6 +121,7 @@ module _ (n : TheCollecting) (jobs : List OpenJob) (all : has_all n ≡ true) (p
                 covered = s.own.covered;
                 logs = λ e l o. at-itself me (λ b. KeepsOf (log_at n.own.logs e) ((if b then c.saved_trims me else c.trims me) e) (c.handlers.sends me h e) ((if b then (λ _ _. None) else c.numbers me) e)) (s.own.logs e l o);
                 heard = s.own.heard;
+                sure = s.own.sure;
                 out = s.own.out;
               }));
           behind = ap (drop base) history-is ∙ back-part h ms base long;

@@ -7,16 +7,16 @@ use Rattle.world.specs.Logs.{sent_in_all}
 use Rattle.world.specs.Calls.{peers}
 use Rattle.cluster.specs.Cluster.{Cluster, seen}
 use Rattle.cluster.specs.Rules.{does}
-use Rattle.node.specs.Stands.{HasReceived, PutOut, actor}
+use Rattle.node.specs.Stands.{HasReceived, actor}
 use Rattle.node.proofs.Lists.{all-more}
-use Rattle.node.proofs.Putting.{put-still}
 use Rattle.node.proofs.Beside.{Same, same}
 use Rattle.recovery.specs.Own.{TheOwn}
 use Rattle.recovery.specs.Collecting.{TheCollecting}
 use Rattle.recovery.specs.Replaying.{TheReplaying, receipts_of}
-use Rattle.recovery.specs.Stands.{HasOwn, StandsCollecting}
+use Rattle.recovery.specs.Stands.{HasOwn, IsSent, StandsCollecting}
 use Rattle.recovery.specs.StandsReplaying.{StandsReplaying, phase_of}
 use Rattle.recovery.specs.Beside.{OthersStand, ReplayingStands}
+use Rattle.recovery.proofs.Posting.{sent-still}
 
 -- where the cluster has the same of it, what it has of its own is what the cluster has
 pub own-same : (o : TheOwn) (c d : Cluster) (p : ℕ) (h : List Message) (t u : ℕ → ℕ) (f g : ℕ → ℕ → Option ℕ) → Same c d p → ((k : ℕ) → t k ≡ u k) → ((k : ℕ) → f k ≡ g k) → HasOwn o c p h t f → HasOwn o d p h u g
@@ -31,7 +31,8 @@ own-same o c d p h t u f g e a b s =
       covered = λ q l. s.covered q (subst (λ m. q ≤ m) (sym e.count) l);
       logs = λ k l o. rw (sym e.handlers, sym (a k), sym (b k)) (s.logs k (subst (λ m. k ≤ m) (sym e.count) l) o);
       heard = λ q l. rw (sym (e.heard q)) (s.heard q (subst (λ m. q ≤ m) (sym e.count) l));
-      out = all-more (PutOut c.count c.parcels p) (PutOut d.count d.parcels p) o.out (λ x. put-still c d p x e.count (λ y i. e.parcels _ i)) s.out;
+      sure = s.sure;
+      out = all-more (IsSent c.count c.parcels p) (IsSent d.count d.parcels p) o.out (λ x. sent-still c d p x e.count (λ y i. e.parcels _ i)) s.out;
     }
 
 -- so it stands

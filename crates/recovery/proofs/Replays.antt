@@ -17,14 +17,16 @@ use Rattle.node.specs.declared.job.OpenJob.{OpenJob}
 use Rattle.node.specs.declared.job.Given.{Given}
 use Rattle.outbox.specs.Outbox.{Pops}
 use Rattle.node.specs.Node.{log_at, given_to}
-use Rattle.node.specs.Stands.{Each, PutOut, KeepsOf, job_of}
+use Rattle.node.specs.Stands.{Each, KeepsOf, job_of}
 use Rattle.node.proofs.Commits.{logs-more}
 use Rattle.recovery.specs.Own.{ran, MayGive}
-use Rattle.recovery.specs.Stands.{HasOwn, GoesTo}
+use Rattle.recovery.specs.Collecting.{TheCollecting}
+use Rattle.recovery.specs.Stands.{HasOwn, IsSent, GoesTo, Takes as CollectingTakes}
 use Rattle.recovery.specs.Replaying.{TheReplaying, next_job, next_number, is_over, did_replay}
 use Rattle.recovery.specs.StandsReplaying.{StandsReplaying, AnswersAfter, Handles, Owes, Takes, Ends, phase_of, replayed_of}
 use Rattle.recovery.proofs.Acts.{goes-self, goes-one}
 use Rattle.recovery.proofs.Moments.{AtReplaying, by-cluster}
+use Rattle.recovery.proofs.Posting.{replaying-out, collecting-out}
 
 get-inside : {X : Type 0} (xs : List X) (i : ℕ) (x : X) → slice_get xs i ≡ Some x → i < length xs
 get-inside [] i x e = absurd (cc)
@@ -111,6 +113,7 @@ module _ (n : TheReplaying) (c : Cluster) (j : OpenJob) (state : List ℕ) (give
                 covered = λ q l. s.own.covered q l ∙ ap (count_of q) (sym (take-append-le base h (job_of j ∷ []) s.own.many));
                 logs = logs-ran;
                 heard = s.own.heard;
+                sure = s.own.sure;
                 out = s.own.out;
               }));
           behind = s.behind;
@@ -186,35 +189,15 @@ ends-so n over within c p s =
 pub replaying-takes : (o : Option Packet) (n : TheReplaying) (rest : List Packet) → Pops o n.own.out rest → Takes o n (record n { own = record n.own { out = rest } })
 replaying-takes None n rest e =
     (e.0, ap (λ xs. record n { own = record n.own { out = xs } }) e.1 ∙ ap (λ xs. record n { own = record n.own { out = xs } }) (let back : [] ≡ n.own.out = (cc) in back))
-replaying-takes (Some x) n rest e = (ap (λ xs. record n { own = record n.own { out = xs } }) e, λ c s. taken c s (subst (Each (PutOut c.count c.parcels n.own.me)) e s.own.out))
-  where
-    taken : (c : Cluster) → StandsReplaying n c n.own.me → Each (PutOut c.count c.parcels n.own.me) (x ∷ rest) → PutOut c.count c.parcels n.own.me x × StandsReplaying (record n { own = record n.own { out = rest } }) c n.own.me
-    taken c s out = (
-      out.0,
-      record {
-        stage = s.stage;
-        greeted = s.greeted;
-        phase = s.phase;
-        life = s.life;
-        own = record {
-          me = s.own.me;
-          count = s.own.count;
-          inside = s.own.inside;
-          saved = s.own.saved;
-          many = s.own.many;
-          state = s.own.state;
-          covered = s.own.covered;
-          logs = s.own.logs;
-          heard = s.own.heard;
-          out = out.1;
-        };
-        behind = s.behind;
-        received = s.received;
-        acknowledged = s.acknowledged;
-        numbers = s.numbers;
-        resumed = s.resumed;
-        restoring = s.restoring;
-        shut = s.shut;
-        released = s.released;
-      },
-    )
+replaying-takes (Some x) n rest e = (
+  ap (λ xs. record n { own = record n.own { out = xs } }) e,
+  λ c s. (let out : Each (IsSent c.count c.parcels n.own.me) (x ∷ rest) = subst (Each (IsSent c.count c.parcels n.own.me)) e s.own.out in (out.0, replaying-out n c n.own.me rest out.1 s)),
+)
+
+pub collecting-takes : (o : Option Packet) (n : TheCollecting) (rest : List Packet) → Pops o n.own.out rest → CollectingTakes o n (record n { own = record n.own { out = rest } })
+collecting-takes None n rest e =
+    (e.0, ap (λ xs. record n { own = record n.own { out = xs } }) e.1 ∙ ap (λ xs. record n { own = record n.own { out = xs } }) (let back : [] ≡ n.own.out = (cc) in back))
+collecting-takes (Some x) n rest e = (
+  ap (λ xs. record n { own = record n.own { out = xs } }) e,
+  λ c s. (let out : Each (IsSent c.count c.parcels n.own.me) (x ∷ rest) = subst (Each (IsSent c.count c.parcels n.own.me)) e s.own.out in (out.0, collecting-out n c n.own.me rest out.1 s)),
+)

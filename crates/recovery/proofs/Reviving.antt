@@ -1,5 +1,5 @@
 -- What is kept of a process comes back
-use Rattle.std.proofs.Common.{◌≡◌, ◌≢◌, ℕ, zero, suc, ◌+◌, ◌-◌, ◌<◌, ◌≤◌, List, length, take, false, refl, sym, ap, ◌∙◌, arith}
+use Rattle.std.proofs.Common.{◌≡◌, ◌≢◌, ℕ, zero, suc, ◌+◌, ◌-◌, ◌<◌, ◌≤◌, List, length, take, true, false, refl, sym, ap, ◌∙◌, arith}
 use Rattle.std.specs.Prelude.{None, slice_index_or, slice_set, replicate, ◌==◌, if◌then◌else◌}
 use Rattle.std.proofs.lemmas.Bool.Decides.{nat_tests}
 use Rattle.std.proofs.lemmas.List.{get_or-replicate, get_or-set_same, get_or-set_other, length-replicate, take_all, length-take}
@@ -77,6 +77,7 @@ module _ (k : Kept) (life : ℕ) (c : Cluster) (dead : c.stage k.me ≡ Dead) (e
       covered = λ q l. s.counts q l ∙ ap (count_of q) (sym (take_all k.length h (omega (arith, long))));
       logs = s.logs;
       heard = λ q l. heard-is q;
+      sure = record { exact_is = refl; none_lost = λ q l. get_or-replicate (k.count + 1) q false true (omega (arith, l)) };
       out = tt;
     };
     told = told-is;

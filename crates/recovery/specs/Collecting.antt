@@ -1,13 +1,14 @@
 -- What clauses see of a process that collects, and what the calls make of it
-use Rattle.std.specs.Prelude.{◌≡◌, ℕ, zero, suc, ◌+◌, List, [], length, replicate, Bool, not, ◌&&◌, ◌==◌, nat_le, if◌then◌else◌, slice_index_or, slice_set}
-use Rattle.packets.specs.Packet.{is_done, is_lost, in_range}
+use Rattle.std.specs.Prelude.{◌≡◌, ℕ, zero, suc, ◌+◌, List, [], length, replicate, Bool, false, not, ◌&&◌, ◌==◌, nat_lt, nat_le, if◌then◌else◌, slice_index_or, slice_set}
+use Rattle.packets.specs.Packet.{is_done, in_range}
 use Rattle.packets.specs.declared.page.Entry.{Entry}
 use Rattle.packets.specs.declared.page.Flags.{Flags}
 use Rattle.packets.specs.declared.kept.Kept.{Kept}
 use Rattle.packets.specs.declared.packet.Body.{Body}
 use Rattle.packets.specs.declared.packet.Body.TheVariants.{Ask, Told}
 use Rattle.packets.specs.declared.packet.Packet.{Packet}
-use Rattle.recovery.specs.Own.{TheOwn, IsShort, posts, is_for, hears, own_of}
+use Rattle.recovery.specs.Own.{TheOwn, IsShort, posts, is_for, hears, learns, own_of}
+use Rattle.recovery.specs.Meeting.{heard_of, tells_loss}
 use Rattle.recovery.specs.Collected.{TheCollected, none_told, with_page}
 
 -- what it has of its own, and by peer what that told
@@ -46,19 +47,31 @@ begins k life = record { own = own_of k life; told = replicate (k.count + 1) (no
 abbrev pub revived : Kept → ℕ → TheCollecting
 revived k life = asked (begins k life)
 
--- a page answers what was asked last: in this incarnation, of a peer that isn't older than it was heard of and is up
-abbrev pub answers : ℕ → ℕ → ℕ → ℕ → Flags → TheCollecting → Bool
-answers from i j k flags n =
-    (i == n.own.life) && nat_le (slice_index_or n.own.heard from 0) j && not (told_of n.told from).done && (k == (told_of n.told from).cursor) && not (is_lost flags)
+-- a page answers what was asked last: in this incarnation, of a peer that isn't older than it was heard of
+abbrev pub answers : ℕ → ℕ → ℕ → ℕ → TheCollecting → Bool
+answers from i j k n =
+    (i == n.own.life) && nat_le (heard_of from n.own) j && not (told_of n.told from).done && (k == (told_of n.told from).cursor)
 
 -- it is taken in, and the peer is asked for the next one
-abbrev pub took_page : ℕ → ℕ → Bool → List Entry → TheCollecting → TheCollecting
-took_page from j done page n =
-    asks from (record { own = hears from j n.own; told = slice_set n.told from (with_page done page (told_of n.told from)) })
+abbrev pub took_page : ℕ → ℕ → Flags → List Entry → TheCollecting → TheCollecting
+took_page from j flags page n =
+    asks from (record { own = learns from j flags n.own; told = slice_set n.told from (with_page (is_done flags) page (told_of n.told from)) })
 
--- another one says this: what isn't an answer is dropped
+-- it hears of a newer incarnation of a peer, and asks it anew: that has told nothing, and not that anything is lost
+abbrev pub asks_anew : ℕ → ℕ → TheCollecting → TheCollecting
+asks_anew q i n =
+    asks q (record { own = record (hears q i n.own) { lost = slice_set n.own.lost q false }; told = slice_set n.told q (none_told n.own.base) })
+
+-- the Ask of a peer that comes back too: one of an incarnation that is over is dropped; any other is answered, that all is lost
+abbrev pub asked_by : ℕ → ℕ → ℕ → TheCollecting → TheCollecting
+asked_by q i k n =
+    if nat_lt i (heard_of q n.own) then n
+    else (let m : TheCollecting = if nat_lt (heard_of q n.own) i then asks_anew q i n else n in record m { own = tells_loss q i k m.own })
+
+-- another one says this: what isn't an answer, nor an Ask, is dropped
 abbrev pub heard : ℕ → Body → TheCollecting → TheCollecting
-heard from (Told i j k flags entries) n = if in_range (Told i j k flags entries) && answers from i j k flags n then took_page from j (is_done flags) entries n else n
+heard from (Told i j k flags entries) n = if in_range (Told i j k flags entries) && answers from i j k n then took_page from j flags entries n else n
+heard from (Ask i k) n = if in_range (Ask i k) then asked_by from i k n else n
 heard from body n = n
 
 -- a packet comes

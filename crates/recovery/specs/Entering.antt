@@ -1,6 +1,8 @@
 -- What a process that has replayed takes in of its peers, and its node
-use Rattle.std.specs.Prelude.{ℕ, suc, ◌+◌, ◌^◌, ◌<◌, List, [], ◌∷◌, length, map, Option, None, Bool, false, slice_set}
+use Rattle.std.specs.Prelude.{ℕ, suc, ◌+◌, ◌^◌, ◌<◌, List, [], ◌∷◌, length, map, Option, None, Bool, false, ◌&&◌, slice_set}
 use Rattle.world.specs.Plan.{or_else}
+use Rattle.packets.specs.Packet.{is_exact}
+use Rattle.packets.specs.declared.page.Flags.{Flags}
 use Rattle.packets.specs.declared.page.Pair.{Pair}
 use Rattle.node.specs.Queue.{TheQueue, dropped_to, released_all}
 use Rattle.node.specs.Node.{TheNode, log_at}
@@ -37,9 +39,13 @@ noted pairs q = record q { numbers = noted_from pairs q.dropped q.numbers }
 abbrev pub takes_in : ℕ → ℕ → List Pair → TheOwn → TheOwn
 takes_in d covered pairs o = record o { logs = slice_set o.logs d (noted pairs (dropped_to covered (log_at o.logs d))) }
 
+-- a page says whether its teller is exact
+abbrev pub trusts : Flags → TheOwn → TheOwn
+trusts flags o = record o { exact = o.exact && is_exact flags }
+
 -- its node, which obeyed the Resume of these peers: all that it sent is released, and none of its questions waits any more
-abbrev pub returns : List Bool → Bool → TheReplayed → TheNode
-returns resumed exact n =
+abbrev pub returns : List Bool → TheReplayed → TheNode
+returns resumed n =
     record {
       me = n.own.me;
       count = n.own.count;
@@ -52,7 +58,7 @@ returns resumed exact n =
       waiting = 0;
       heard = n.own.heard;
       resumed = resumed;
-      exact = exact;
+      exact = n.own.exact;
       working = None;
       frozen = false;
       out = [];

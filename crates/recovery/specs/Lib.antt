@@ -1,4 +1,5 @@
 pub mod Own
+pub mod Meeting
 pub mod Collected
 pub mod Collecting
 pub mod Stands

@@ -1,5 +1,5 @@
 -- What a host reads of a process that comes back
-use Rattle.std.specs.Prelude.{ℕ, zero, suc, ◌+◌, ◌^◌, ◌-◌, List, length, Bool, true, not, ◌&&◌, ◌==◌, if◌then◌else◌}
+use Rattle.std.specs.Prelude.{ℕ, zero, suc, ◌+◌, ◌^◌, ◌-◌, length, Bool, not, ◌&&◌, ◌==◌, if◌then◌else◌}
 use Rattle.node.specs.declared.standing.Stage.{Stage}
 use Rattle.node.specs.declared.standing.Stage.TheVariants as stage
 use Rattle.node.specs.declared.standing.Standing.{Standing}
@@ -14,7 +14,7 @@ abbrev pub bits_of : (ℕ → Bool) → ℕ → ℕ
 bits_of f zero = 0
 bits_of f (suc d) = bits_of f d + (if f d then 2 ^ d else 0)
 
--- how it stands in a stage, with so many messages behind its checkpoint, and so many to be replayed: nothing tells it of failures that met
+-- how it stands in a stage, with so many messages behind its checkpoint, and so many to be replayed
 abbrev pub standing_in : Stage → ℕ → ℕ → TheOwn → Standing
 standing_in at receipts replays o =
     record {
@@ -22,7 +22,7 @@ standing_in at receipts replays o =
       base = o.base;
       incarnation = o.life;
       stage = at;
-      exact = true;
+      exact = o.exact;
       receipts = receipts;
       entries = entries_kept o.logs;
       packets = length o.out;

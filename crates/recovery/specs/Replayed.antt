@@ -38,3 +38,7 @@ pub record StandsReplayed (n : TheReplayed) (c : Cluster) (p : ℕ) : Type 0 whe
   pub resumed : (q : ℕ) → c.resumed p q ≡ true
   pub restoring : (q : ℕ) → c.restoring p q ≡ 0
   pub released : peers (seen c) p false ≡ [] → (d : ℕ) → c.released p d ≡ sent_in_all (seen c) p d
+
+-- what it owes that is handed a packet: it stands where it stood, or isn't exact any more
+abbrev pub Stays : TheReplayed → TheReplayed → Type 0
+Stays old new = new.own.exact ≡ true → (c : Cluster) (p : ℕ) → StandsReplayed old c p → StandsReplayed new c p

@@ -3,8 +3,10 @@ use Rattle.std.specs.Prelude.{◌≡◌, ◌≢◌, ℕ, suc, ◌+◌, ◌<◌, 
 use Rattle.world.specs.declared.message.Message.{Message}
 use Rattle.world.specs.History.{count_of}
 use Rattle.cluster.specs.Parcels.{reaches}
+use Rattle.cluster.specs.Parcels.{Parcel}
 use Rattle.cluster.specs.Cluster.{Cluster, Collected, Dead, Collecting}
 use Rattle.cluster.specs.Rules.{Opens, May, does, IsNode, Asks, IsAll, entry_in}
+use Rattle.packets.specs.declared.packet.Body.{Body}
 use Rattle.packets.specs.declared.packet.Packet.{Packet}
 use Rattle.packets.specs.declared.page.Entry.{Entry}
 use Rattle.packets.specs.declared.kept.Kept.{Kept}
@@ -12,10 +14,24 @@ use Rattle.node.specs.Node.{log_at}
 use Rattle.node.specs.Stands.{Each, PutOut, KeepsOf}
 pub use Rattle.node.specs.Stands.{own_act, GoesTo}
 use Rattle.recovery.specs.Own.{TheOwn}
+use Rattle.recovery.specs.Meeting.{is_loss}
 use Rattle.pages.specs.Says.{WasSaid, first_told}
 pub use Rattle.node.specs.Kept.{IsKeptOf}
 use Rattle.recovery.specs.Collected.{TheCollected}
 use Rattle.recovery.specs.Collecting.{TheCollecting, told_of}
+
+-- what the packet says was put out, unless it says that all is lost: of that no cluster tells
+abbrev pub IsSaid : List Parcel → ℕ → ℕ → Body → Type 0
+IsSaid parcels from to body = is_loss body ≡ false → WasSaid parcels from to body
+
+-- it was put out, as a packet of the process p of so many, unless it says that
+abbrev pub IsSent : ℕ → List Parcel → ℕ → Packet → Type 0
+IsSent count parcels p x = is_loss x.body ≡ false → PutOut count parcels p x
+
+-- as far as it knows failures came one at a time, and so no peer told that what it had is lost
+pub record IsSure (count : ℕ) (lost : List Bool) (exact : Bool) : Type 0 where
+  pub exact_is : exact ≡ true
+  pub none_lost : (q : ℕ) → q ≤ count → slice_index_or lost q true ≡ false
 
 -- what a process has of its own is what the cluster has of p, whose state has the messages h, and its log these numbers, with so many
 -- entries dropped
@@ -29,7 +45,8 @@ pub record HasOwn (o : TheOwn) (c : Cluster) (p : ℕ) (h : List Message) (trims
   pub covered : (q : ℕ) → q ≤ c.count → slice_index_or o.covered q 0 ≡ count_of q (take o.base h)
   pub logs : (d : ℕ) → d ≤ c.count → d ≢ p → KeepsOf (log_at o.logs d) (trims d) (c.handlers.sends p h d) (numbers d)
   pub heard : (q : ℕ) → q ≤ c.count → c.heard p q ≡ slice_index_or o.heard q 0
-  pub out : Each (PutOut c.count c.parcels p) o.out
+  pub sure : IsSure o.count o.lost o.exact
+  pub out : Each (IsSent c.count c.parcels p) o.out
 
 -- up to where a peer told: nothing goes anywhere
 abbrev pub reached : Option Collected → ℕ → Bool
@@ -73,11 +90,11 @@ Owes given old new = (c : Cluster) → StandsCollecting old c old.own.me → giv
 abbrev pub Acts : TheCollecting → TheCollecting → Type 0
 Acts old new = Owes (λ c. Unit {0}) old new
 
--- one that is handed a packet, if that was put out
+-- one that is handed a packet, if that was put out; it owes nothing where it isn't exact any more
 abbrev pub IsHanded : Packet → TheCollecting → TheCollecting → Type 0
-IsHanded x old new = Owes (λ c. WasSaid c.parcels x.from x.to x.body) old new
+IsHanded x old new = new.own.exact ≡ true → Owes (λ c. IsSaid c.parcels x.from x.to x.body) old new
 
 -- what take owes: the packet that waited first, which was put out; the process is without it
 abbrev pub Takes : Option Packet → TheCollecting → TheCollecting → Type 0
 Takes None old new = (old.own.out ≡ []) × (new ≡ old)
-Takes (Some x) old new = (old ≡ record new { own = record new.own { out = x ∷ new.own.out } }) × ((c : Cluster) → StandsCollecting old c old.own.me → PutOut c.count c.parcels old.own.me x × StandsCollecting new c old.own.me)
+Takes (Some x) old new = (old ≡ record new { own = record new.own { out = x ∷ new.own.out } }) × ((c : Cluster) → StandsCollecting old c old.own.me → IsSent c.count c.parcels old.own.me x × StandsCollecting new c old.own.me)

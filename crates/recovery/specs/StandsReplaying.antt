@@ -12,9 +12,9 @@ use Rattle.cluster.specs.Rules.{Act, Replays, Puts, Dies, May}
 use Rattle.packets.specs.declared.packet.Packet.{Packet}
 use Rattle.node.specs.declared.job.OpenJob.{OpenJob}
 use Rattle.node.specs.declared.job.Given.{Given}
-use Rattle.node.specs.Stands.{PutOut, HasReceived, actor, job_of, payloads_to}
+use Rattle.node.specs.Stands.{HasReceived, actor, job_of, payloads_to}
 use Rattle.recovery.specs.Collecting.{TheCollecting}
-use Rattle.recovery.specs.Stands.{HasOwn, StandsCollecting, GoesTo}
+use Rattle.recovery.specs.Stands.{HasOwn, IsSent, StandsCollecting, GoesTo}
 use Rattle.recovery.specs.Replaying.{TheReplaying, receipts_of, next_job, is_over}
 use Rattle.recovery.specs.Replayed.{TheReplayed, StandsReplayed}
 
@@ -63,7 +63,11 @@ Handles state given n c = (j : OpenJob) → next_job n ≡ Some j → AnswersAft
 -- what take owes: the packet that waited first, which was put out; the process is without it
 abbrev pub Takes : Option Packet → TheReplaying → TheReplaying → Type 0
 Takes None old new = (old.own.out ≡ []) × (new ≡ old)
-Takes (Some x) old new = (old ≡ record new { own = record new.own { out = x ∷ new.own.out } }) × ((c : Cluster) → StandsReplaying old c old.own.me → PutOut c.count c.parcels old.own.me x × StandsReplaying new c old.own.me)
+Takes (Some x) old new = (old ≡ record new { own = record new.own { out = x ∷ new.own.out } }) × ((c : Cluster) → StandsReplaying old c old.own.me → IsSent c.count c.parcels old.own.me x × StandsReplaying new c old.own.me)
+
+-- what it owes that is handed a packet: it stands where it stood, or isn't exact any more
+abbrev pub Stays : TheReplaying → TheReplaying → Type 0
+Stays old new = new.own.exact ≡ true → (c : Cluster) (p : ℕ) → StandsReplaying old c p → StandsReplaying new c p
 
 -- one that has replayed all has this of its own, and has received these messages
 abbrev pub replayed_of : TheReplaying → TheReplayed

@@ -4,7 +4,7 @@ ghost use Rattle.std.specs.Prelude.{◌≡◌, ◌≢◌, ◌≤◌, ◌<◌, �
 ghost use Rattle.std.specs.List.{list_all};
 ghost use Rattle.node.specs.Node.{IsPeer, IsPositive};
 ghost use Rattle.recovery.specs.Own.{comes_back, is_process, is_short};
-ghost use Rattle.recovery.specs.Collecting.{asks, asked, begins, revived, told_of, answers, took_page, handed};
+ghost use Rattle.recovery.specs.Collecting.{asks, asked, begins, revived, answers, took_page, asks_anew, asked_by, handed};
 ghost use Rattle.recovery.specs.Stands.{Revives, Acts, IsHanded, Takes};
 
 use crate::collected::Collected;
@@ -101,7 +101,7 @@ impl Collecting {
     pub fn take(&mut self) -> Option<Packet>
         ensures { Takes result self.old self.new }
     {
-        self.own.out.pop()
+        self.own.pop()
     }
 
     /// The peers that haven't told all are asked again.
@@ -112,16 +112,16 @@ impl Collecting {
         self.ask_all();
     }
 
-    /// A packet came. One that isn't the answer of a peer to what was asked last is dropped. A refusal
-    /// changes nothing.
-    pub fn receive(&mut self, packet: &Packet) -> Result<(), AllocError>
+    /// A packet came. The answer of a peer to what was asked last is taken in, and the Ask of a peer that
+    /// comes back too is answered; anything else is dropped. A refusal changes nothing.
+    pub fn receive(&mut self, alloc: Global, packet: &Packet) -> Result<(), AllocError>
         ensures value { OnOk result (self.new ≡ handed packet.now self.old) }
         ensures acts { OnOk result (IsHanded packet.now self.old self.new) }
         ensures err { OnErr result (self.new ≡ self.old) }
     {
         // For the proof: reading a field tells the invariant.
         let _known = self.told.len();
-        self.hand(packet)
+        self.hand(alloc, packet)
     }
 
     fn ask_all(&mut self)
@@ -147,7 +147,7 @@ impl Collecting {
         }
     }
 
-    fn hand(&mut self, packet: &Packet) -> Result<(), AllocError>
+    fn hand(&mut self, alloc: Global, packet: &Packet) -> Result<(), AllocError>
         ensures ok { OnOk result (self.new ≡ handed packet.now self.old) }
         ensures err { OnErr result (self.new ≡ self.old) }
     {
@@ -162,9 +162,13 @@ impl Collecting {
                 flags,
                 entries,
             } => {
-                if self.is_answer(packet.from, *incarnation, *teller, *above, *flags) {
-                    self.add(packet.from, *teller, flags.done(), entries.as_slice())?;
+                if self.is_answer(packet.from, *incarnation, *teller, *above) {
+                    self.add(packet.from, *teller, *flags, entries.as_slice())?;
                 }
+                Ok(())
+            }
+            Body::Ask { incarnation, above } => {
+                self.receive_ask(alloc, packet.from, *incarnation, *above);
                 Ok(())
             }
             _ => Ok(()),
@@ -172,27 +176,52 @@ impl Collecting {
     }
 
     /// Whether a page answers what was asked last.
-    fn is_answer(&self, from: u8, life: u64, teller: u64, above: u64, flags: Flags) -> bool
+    fn is_answer(&self, from: u8, life: u64, teller: u64, above: u64) -> bool
         requires { from ≤ self.now.own.count }
-        ensures { result ≡ answers from life teller above flags self.now }
+        ensures { result ≡ answers from life teller above self.now }
     {
         let told = &self.told[from as usize];
         life == self.own.life
             && self.own.heard(from) <= teller
             && !told.done
             && above == told.cursor
-            && !flags.lost()
     }
 
     /// A page is taken in, and the peer is asked for the next one.
-    fn add(&mut self, from: u8, teller: u64, done: bool, page: &[Entry]) -> Result<(), AllocError>
+    fn add(&mut self, from: u8, teller: u64, flags: Flags, page: &[Entry]) -> Result<(), AllocError>
         requires { IsPeer self.old.own.me self.old.own.count from }
-        ensures ok { OnOk result (self.new ≡ took_page from teller done page.now self.old) }
+        ensures ok { OnOk result (self.new ≡ took_page from teller flags page.now self.old) }
         ensures err { OnErr result (self.new ≡ self.old) }
     {
-        self.told[from as usize].add(page, done)?;
-        self.own.hear(from, teller);
+        self.told[from as usize].add(page, flags.done())?;
+        self.own.learn(from, teller, flags);
         self.ask(from);
         Ok(())
+    }
+
+    /// `from` comes back too, in its incarnation `life`, and asks what the log holds for it above this
+    /// number. It is told that all that is lost; one of an incarnation that is over is dropped.
+    fn receive_ask(&mut self, alloc: Global, from: u8, life: u64, above: u64)
+        requires { IsPeer self.old.own.me self.old.own.count from }
+        ensures { self.new ≡ asked_by from life above self.old }
+    {
+        let heard = self.own.heard(from);
+        if life < heard {
+            return;
+        }
+        if heard < life {
+            self.ask_anew(alloc, from, life);
+        }
+        self.own.lose(alloc, from, life, above);
+    }
+
+    /// A peer comes back in this incarnation, which is newer: it has told nothing yet, and is asked anew.
+    fn ask_anew(&mut self, alloc: Global, from: u8, life: u64)
+        requires { IsPeer self.old.own.me self.old.own.count from }
+        ensures { self.new ≡ asks_anew from life self.old }
+    {
+        self.told[from as usize] = Collected::new(alloc, self.own.base());
+        self.own.hear_anew(from, life);
+        self.ask(from);
     }
 }

@@ -3,13 +3,15 @@
 ghost use Rattle.std.specs.Prelude.{◌≡◌, ◌≤◌, ◌+◌, suc, length, slice_index_or};
 ghost use Rattle.outbox.specs.Outbox.{Pops};
 ghost use Rattle.recovery.specs.Own.{is_for, hears, posts};
-ghost use Rattle.recovery.specs.Entering.{keeps, sent_to, takes_in, noted, returns, AscendFrom, IsSmallPair};
+ghost use Rattle.recovery.specs.Meeting.{asked_by};
+ghost use Rattle.recovery.specs.Entering.{keeps, sent_to, takes_in, trusts, noted, returns, AscendFrom, IsSmallPair};
 ghost use Rattle.std.specs.List.{AllByRecursion};
 
 use crate::own::Own;
 use crate::replayed::Replayed;
 use node::{Node, Queue, Returned};
-use packets::{Body, Packet, Pair};
+use packets::{Body, Flags, Packet, Pair};
+use std::alloc::Global;
 
 impl Replayed {
     /// Its number.
@@ -25,6 +27,7 @@ impl Replayed {
         ensures value { result ≡ self.now.own.count }
         ensures few { result ≤ 15 }
         ensures wide { (length self.now.own.heard ≡ suc self.now.own.count) × (length self.now.own.logs ≡ suc self.now.own.count) }
+        ensures lost { length self.now.own.lost ≡ suc self.now.own.count }
     {
         self.own.count
     }
@@ -66,6 +69,36 @@ impl Replayed {
         self.own.hear(peer, life);
     }
 
+    /// By peer whether it told that what it had is lost.
+    pub fn lost(&self) -> &[bool]
+        ensures { result.now ≡ self.now.own.lost }
+    {
+        self.own.lost.as_slice()
+    }
+
+    /// Whether failures came one at a time, as far as it knows.
+    pub fn is_exact(&self) -> bool
+        ensures { result ≡ self.now.own.exact }
+    {
+        self.own.exact
+    }
+
+    /// A page came, which says whether its teller is exact.
+    pub fn trust(&mut self, flags: Flags)
+        ensures { self.new ≡ record self.old { own = trusts flags self.old.own } }
+    {
+        self.own.exact = self.own.exact && flags.exact();
+    }
+
+    /// A peer that comes back in its incarnation `life` asks what the log holds for it above this
+    /// number: it is told that all that is lost.
+    pub fn receive_ask(&mut self, alloc: Global, from: u8, life: u64, above: u64)
+        requires { from ≤ self.old.own.count }
+        ensures { self.new ≡ record self.old { own = asked_by from life above self.old.own } }
+    {
+        self.own.receive_ask(alloc, from, life, above);
+    }
+
     /// How many messages it sent to a peer.
     pub fn sent(&self, to: u8) -> u64
         requires { to ≤ self.now.own.count }
@@ -99,15 +132,14 @@ impl Replayed {
         ensures packet { Pops result self.old.own.out self.new.own.out }
         ensures rest { self.new ≡ record self.old { own = record self.old.own { out = self.new.own.out } } }
     {
-        self.own.out.pop()
+        self.own.pop()
     }
 
-    /// Its node, where its peers told their numbers: of which of them it obeyed the Resume, and whether
-    /// failures came one at a time as far as it knows. All that it sent is released. The packets that
-    /// wait are questions of one that comes back, and are lost.
-    pub fn into_node(self, resumed: Vec<bool>, exact: bool) -> Node
+    /// Its node, where its peers told their numbers: of which of them it obeyed the Resume. All that it
+    /// sent is released. The packets that wait are those of one that comes back, and are lost.
+    pub fn into_node(self, resumed: Vec<bool>) -> Node
         requires { length resumed.items ≡ suc self.own.count }
-        ensures { result ≡ returns resumed.items exact self }
+        ensures { result ≡ returns resumed.items self }
     {
         let Replayed { own, receipts } = self;
         let Own {
@@ -119,6 +151,8 @@ impl Replayed {
             covered,
             logs,
             heard,
+            lost: _,
+            exact,
             mut out,
         } = own;
         out.clear();

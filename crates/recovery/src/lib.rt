@@ -11,16 +11,17 @@
 //! allow, and what it then holds is what the cluster has of it. A call that is refused memory changes
 //! nothing.
 //!
-//! It is for failures that come one at a time: one that collects doesn't answer another that asks it,
-//! and takes no answer of one that is coming back itself. Such packets are dropped. While one
-//! replays, the rules let it take no packet at all.
+//! Two that come back at the same time meet: one that hears the Ask of another answers that all that
+//! its log held for it is lost, and the other doesn't wait for it. One that was told so isn't exact any
+//! more, nor is one that had recovered already when it heard of the other: it owes no acts then. Its
+//! calls stay what the definitions say.
 //!
 //! ```text
 //! let mut node = Collecting::revive(alloc, &kept, incarnation)?;
 //! while let Some(packet) = node.take() {
 //!     send(packet);
 //! }
-//! node.receive(&packet)?;
+//! node.receive(alloc, &packet)?;
 //! if node.has_all() {
 //!     let mut node = node.recover(alloc)?;
 //!     while let Some(job) = node.job() {
@@ -36,6 +37,7 @@ mod collected;
 mod collecting;
 mod entering;
 mod laws;
+mod meeting;
 mod moment;
 mod own;
 mod plan;

@@ -1,13 +1,14 @@
 //! What a process has of its own while it comes back.
 
-ghost use Rattle.std.specs.Prelude.{◌≡◌, ℕ, ◌≤◌, ◌+◌, ◌++◌, ◌^◌, length, map, true, Some, slice_get, slice_index_or, IfOk, OnOk, OnErr};
+ghost use Rattle.std.specs.Prelude.{◌≡◌, ℕ, ◌≤◌, ◌+◌, ◌++◌, ◌^◌, length, map, true, false, Some, slice_get, slice_index_or, slice_set, IfOk, OnOk, OnErr};
+ghost use Rattle.outbox.specs.Outbox.{Pops};
 ghost use Rattle.node.specs.Queue.{no_queue};
 ghost use Rattle.node.specs.Node.{IsPositive};
-ghost use Rattle.recovery.specs.Own.{posts, with_own, queue_of, comes_back, own_of, is_for, hears, IsShort, MayGive, ran};
+ghost use Rattle.recovery.specs.Own.{posts, with_own, queue_of, comes_back, own_of, is_for, hears, learns, IsShort, MayGive, ran};
 
 use node::{Given, MOST_RECEIVED, Queue, log};
 use outbox::Outbox;
-use packets::{Body, Kept, KeptLog, Packet};
+use packets::{Body, Flags, Kept, KeptLog, Packet};
 use std::alloc::{AllocError, Global};
 use std::marker::Model;
 
@@ -25,6 +26,10 @@ pub(crate) struct Own {
     pub(crate) logs: Vec<Queue>,
     /// By peer the greatest incarnation that it heard of.
     pub(crate) heard: Vec<u64>,
+    /// By peer whether it told that what it had is lost.
+    pub(crate) lost: Vec<bool>,
+    /// Failures came one at a time, as far as it knows.
+    pub(crate) exact: bool,
     pub(crate) out: Outbox,
 }
 
@@ -33,9 +38,9 @@ impl Model for Own {
 
     ghost Value = { TheOwn };
 
-    ghost view = { λ o. record { me = o.me; count = o.count; life = o.life; state = o.state.items; base = o.base; covered = o.covered.items; logs = o.logs.items; heard = o.heard.items; out = o.out } };
+    ghost view = { λ o. record { me = o.me; count = o.count; life = o.life; state = o.state.items; base = o.base; covered = o.covered.items; logs = o.logs.items; heard = o.heard.items; lost = o.lost.items; exact = o.exact; out = o.out } };
 
-    ghost invariant = { λ o. IsOwn o.me o.count o.life o.base o.covered.items o.heard.items o.logs.items };
+    ghost invariant = { λ o. IsOwn o.me o.count o.life o.base o.covered.items o.heard.items o.lost.items o.logs.items };
 }
 
 impl Own {
@@ -52,6 +57,8 @@ impl Own {
         let mut heard = Vec::new(alloc);
         heard.resize(kept.count as usize + 1, 0)?;
         heard[0] = 1;
+        let mut lost = Vec::new(alloc);
+        lost.resize(kept.count as usize + 1, false)?;
         let out = Outbox::new(alloc)?;
         Ok(Own {
             me,
@@ -62,6 +69,8 @@ impl Own {
             covered,
             logs,
             heard,
+            lost,
+            exact: true,
             out,
         })
     }
@@ -126,6 +135,26 @@ impl Own {
         self.heard[peer as usize] = life;
     }
 
+    /// It hears of this incarnation of a peer, which hasn't told yet that anything is lost.
+    pub(crate) fn hear_anew(&mut self, peer: u8, life: u64)
+        requires { peer ≤ self.old.count }
+        ensures { self.new ≡ record (hears peer life self.old) { lost = slice_set self.old.lost peer false } }
+    {
+        self.hear(peer, life);
+        self.lost[peer as usize] = false;
+    }
+
+    /// A Told of this incarnation of a peer came. Where what that had is lost, or it isn't exact, neither
+    /// is this one.
+    pub(crate) fn learn(&mut self, peer: u8, life: u64, flags: Flags)
+        requires { peer ≤ self.old.count }
+        ensures { self.new ≡ learns peer life flags self.old }
+    {
+        self.hear(peer, life);
+        self.exact = self.exact && !flags.lost() && flags.exact();
+        self.lost[peer as usize] = flags.lost();
+    }
+
     /// The handler ran on the message with this number: its state is taken over, and what it gave is
     /// logged. A refusal changes nothing.
     pub(crate) fn run(
@@ -143,6 +172,14 @@ impl Own {
         log(&mut self.logs, given, number)?;
         self.state = state;
         Ok(())
+    }
+
+    /// The packet that waits first leaves; none, if there is none.
+    pub(crate) fn pop(&mut self) -> Option<Packet>
+        ensures packet { Pops result self.old.out self.new.out }
+        ensures rest { self.new ≡ record self.old { out = self.new.out } }
+    {
+        self.out.pop()
     }
 
     /// A packet waits to be taken.

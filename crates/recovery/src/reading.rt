@@ -25,7 +25,7 @@ impl Own {
             base,
             incarnation: self.life,
             stage,
-            exact: true,
+            exact: self.exact,
             receipts,
             entries: entries(&self.logs),
             packets: self.out.len() as u64,

@@ -1,10 +1,13 @@
 //! A process that has replayed all that it keeps.
 
 ghost use Rattle.std.specs.Prelude.{◌≡◌};
-ghost use Rattle.recovery.specs.Replayed.{IsReplayed};
+ghost use Rattle.recovery.specs.Meeting.{handed};
+ghost use Rattle.recovery.specs.Replayed.{IsReplayed, Stays};
 
 use crate::own::Own;
+use packets::Packet;
 use rsn::Receipts;
+use std::alloc::Global;
 use std::marker::Model;
 
 /// What it has of its own, and what it received behind its checkpoint: all that is acknowledged.
@@ -31,5 +34,14 @@ impl Replayed {
         ensures { result ≡ record { own = own; receipts = receipts } }
     {
         Replayed { own, receipts }
+    }
+
+    /// A packet came. The Ask of a peer that comes back too is answered: what the log held for it is
+    /// lost. Anything else is dropped.
+    pub fn receive(&mut self, alloc: Global, packet: &Packet)
+        ensures value { self.new ≡ record self.old { own = handed packet.now self.old.own } }
+        ensures stands { Stays self.old self.new }
+    {
+        self.own.receive(alloc, packet);
     }
 }

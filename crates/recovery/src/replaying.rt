@@ -3,18 +3,19 @@
 ghost use Rattle.std.specs.Prelude.{◌≡◌, ◌-◌, length, true, OnOk, OnErr};
 ghost use Rattle.recovery.specs.Own.{MayGive};
 ghost use Rattle.recovery.specs.Replaying.{next_job, is_over, did_replay};
-ghost use Rattle.recovery.specs.StandsReplaying.{Owes, Handles, Takes, Ends, replayed_of};
+ghost use Rattle.recovery.specs.Meeting.{handed};
+ghost use Rattle.recovery.specs.StandsReplaying.{Owes, Handles, Takes, Stays, Ends, replayed_of};
 
 use crate::own::Own;
 use crate::replayed::Replayed;
 use node::{Given, OpenJob};
 use packets::Packet;
 use rsn::Receipts;
-use std::alloc::AllocError;
+use std::alloc::{AllocError, Global};
 use std::marker::Model;
 
 /// A process that recovered: its handler runs again on the messages that it keeps behind what its
-/// checkpoint covers. It answers nobody meanwhile, and nothing that comes changes it.
+/// checkpoint covers. Of what comes it takes nothing meanwhile, but it answers a peer that comes back too.
 #[derive(Drop)]
 pub struct Replaying {
     pub(crate) own: Own,
@@ -82,7 +83,16 @@ impl Replaying {
     pub fn take(&mut self) -> Option<Packet>
         ensures { Takes result self.old self.new }
     {
-        self.own.out.pop()
+        self.own.pop()
+    }
+
+    /// A packet came. The Ask of a peer that comes back too is answered: what the log held for it is
+    /// lost. Anything else is dropped.
+    pub fn receive(&mut self, alloc: Global, packet: &Packet)
+        ensures value { self.new ≡ record self.old { own = handed packet.now self.old.own } }
+        ensures stands { Stays self.old self.new }
+    {
+        self.own.receive(alloc, packet);
     }
 
     /// Where all are replayed, it is one that has replayed all.

@@ -1,5 +1,5 @@
 -- A process that restores its numbers asks its peers
-use Rattle.std.proofs.Common.{◌≡◌, ◌≢◌, ℕ, zero, suc, ◌+◌, ◌<◌, ◌≤◌, length, Bool, true, false, refl, sym, ap, ◌∙◌, subst, arith}
+use Rattle.std.proofs.Common.{◌≡◌, ◌≢◌, ℕ, zero, suc, ◌+◌, ◌<◌, ◌≤◌, List, length, Bool, true, false, refl, sym, ap, ◌∙◌, subst, arith}
 use Rattle.std.specs.Prelude.{slice_index_or, not, if◌then◌else◌}
 use Rattle.world.specs.Phases.{is_up, has}
 use Rattle.theorems.proofs.Replays.{has-those}
@@ -10,9 +10,11 @@ use Rattle.packets.specs.declared.packet.Body.TheVariants as packets
 use Rattle.node.proofs.Commits.{long}
 use Rattle.recovery.specs.Own.{posts}
 use Rattle.recovery.specs.Entering.{keeps}
-use Rattle.recovery.specs.Stands.{GoesTo}
+use Rattle.packets.specs.declared.packet.Packet.{Packet}
+use Rattle.node.specs.Stands.{Each}
+use Rattle.recovery.specs.Stands.{IsSent, GoesTo}
 use Rattle.recovery.proofs.Acts.{goes-self, goes-one, goes-then}
-use Rattle.recovery.proofs.Posting.{own-posted}
+use Rattle.recovery.proofs.Posting.{own-out, own-posted}
 use Rattle.restoring.specs.Restoring.{TheRestoring, replayed_of, above_of, has_answered, left, asks, asks_below, asked}
 use Rattle.restoring.specs.Stands.{StandsRestoring, Acts}
 use Rattle.restoring.proofs.Left.{not-off, both-off, waits-on}
@@ -36,6 +38,23 @@ not-well n c p zero s low open_is = let e : c.greeted p ≡ false = s.greeted �
 not-well n c p (suc q) s low open_is =
     let e : is_up (c.phase p) ≡ false = ap is_up s.phase ∙ waits-on (left n) (suc q) (left-has n (suc q) (omega arith) low open_is) in
     rw (s.stage, e) (both-off (c.greeted p))
+
+-- with other packets that were put out
+pub restoring-out : (n : TheRestoring) (c : Cluster) (p : ℕ) (rest : List Packet) → Each (IsSent c.count c.parcels p) rest → StandsRestoring n c p → StandsRestoring (record n { own = record n.own { out = rest } }) c p
+restoring-out n c p rest out s =
+    record {
+      stage = s.stage;
+      greeted = s.greeted;
+      phase = s.phase;
+      life = s.life;
+      own = own-out n.own c p _ _ _ rest out s.own;
+      received = s.received;
+      acknowledged = s.acknowledged;
+      fresh = s.fresh;
+      resumed = s.resumed;
+      restoring = s.restoring;
+      released = s.released;
+    }
 
 -- one peer is asked for what it has behind what it told
 asks-one : (n : TheRestoring) (c : Cluster) (to : ℕ) → StandsRestoring n c n.own.me → to ≤ n.own.count → slice_index_or n.answered n.own.me true ≡ true → has_answered to n ≡ false

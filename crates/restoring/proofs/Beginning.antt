@@ -1,12 +1,13 @@
 -- A process that has replayed asks its peers
-use Rattle.std.proofs.Common.{◌≡◌, ◌≢◌, ℕ, ◌+◌, ◌<◌, ◌≤◌, Bool, true, false, refl, sym, ap, ◌∙◌, subst, arith}
-use Rattle.std.specs.Prelude.{not, replicate, slice_index_or, slice_set, ◌&&◌, ◌||◌, ◌==◌}
+use Rattle.std.proofs.Common.{◌≡◌, ◌≢◌, ℕ, ◌+◌, ◌<◌, ◌≤◌, List, length, Bool, true, false, refl, sym, ap, ◌∙◌, subst, arith}
+use Rattle.std.specs.Prelude.{not, slice_index_or, slice_set, ◌&&◌, ◌||◌, ◌==◌}
 use Rattle.std.proofs.lemmas.Bool.Decides.{nat_tests}
-use Rattle.std.proofs.lemmas.List.{get_or-replicate, get_or-set_same, get_or-set_other, length-replicate}
+use Rattle.std.proofs.lemmas.List.{get_or-replicate, get_or-set_same, get_or-set_other}
 use Rattle.world.specs.Phases.{those, is_up}
 use Rattle.world.specs.Calls.{phase_with, peers}
 use Rattle.cluster.specs.Cluster.{Cluster, seen}
 use Rattle.recovery.specs.Stands.{GoesTo}
+use Rattle.recovery.proofs.Meetings.{inside-off}
 use Rattle.recovery.specs.Replayed.{TheReplayed, StandsReplayed}
 use Rattle.restoring.specs.Restoring.{TheRestoring, has_answered, left, begins, begun}
 use Rattle.restoring.specs.Stands.{StandsRestoring, Begins}
@@ -14,11 +15,12 @@ use Rattle.restoring.proofs.Left.{those-same}
 use Rattle.restoring.proofs.Asking.{At, asking}
 
 -- it waits for each but itself
-pub alone-begins : (me count : ℕ) → me ≤ count → slice_index_or (slice_set (replicate (count + 1) false) me true) me true ≡ true
-alone-begins me count low = get_or-set_same (replicate (count + 1) false) me true true (omega (arith, length-replicate {A = Bool} (count + 1) false, low))
+pub alone-begins : (lost : List Bool) (me : ℕ) → me < length lost → slice_index_or (slice_set lost me true) me true ≡ true
+alone-begins lost me inside = get_or-set_same lost me true true inside
 
-open-begins : (me count q : ℕ) → q ≤ count → q ≢ me → slice_index_or (slice_set (replicate (count + 1) false) me true) q true ≡ false
-open-begins me count q low other = get_or-set_other (replicate (count + 1) false) me q true true other ∙ get_or-replicate (count + 1) q false true (omega (arith, low))
+-- where no peer told that what it had is lost
+open-begins : (lost : List Bool) (me q : ℕ) → slice_index_or lost q true ≡ false → q ≢ me → slice_index_or (slice_set lost me true) q true ≡ false
+open-begins lost me q off other = get_or-set_other lost me q true true other ∙ off
 
 module _ (r : TheReplayed) (c : Cluster) (s : StandsReplayed r c r.own.me) where
   abbrev p : ℕ
@@ -30,6 +32,9 @@ module _ (r : TheReplayed) (c : Cluster) (s : StandsReplayed r c r.own.me) where
   low : p ≤ r.own.count
   low = let e = s.own.inside.1 in omega (arith, e, s.own.count)
 
+  alone : has_answered p n ≡ true
+  alone = alone-begins r.own.lost p (inside-off r.own.lost p (s.own.sure.none_lost p low))
+
   left-is : left n ≡ peers (seen c) p false
   left-is = ap (those (λ q. not (has_answered q n))) s.own.count ∙ those-same (λ q. not (has_answered q n)) (λ q. not (q == p) && (not false || is_up (c.phase q))) c.count (λ q some l. each q (omega (arith, l, s.own.count)) (q == p) refl)
     where
@@ -37,11 +42,11 @@ module _ (r : TheReplayed) (c : Cluster) (s : StandsReplayed r c r.own.me) where
       each q l true e =
           let same : q ≡ p = grind (arith, nat_tests) in
           let P : ℕ → Type 0 = λ z. has_answered z n ≡ true in
-          let is : has_answered q n ≡ true = subst P (sym same) (alone-begins p r.own.count low) in
+          let is : has_answered q n ≡ true = subst P (sym same) alone in
           rw (is, e) refl
       each q l false e =
           let other : q ≢ p = grind (arith, nat_tests) in
-          rw (open-begins p r.own.count q l other, e) refl
+          rw (open-begins r.own.lost p q (s.own.sure.none_lost q l) other, e) refl
 
   some : 0 < p
   some = s.own.inside.0
@@ -49,7 +54,7 @@ module _ (r : TheReplayed) (c : Cluster) (s : StandsReplayed r c r.own.me) where
   stands-begun : StandsRestoring n c p
   stands-begun = record {
     stage = s.stage;
-    greeted = s.greeted ∙ sym (open-begins p r.own.count 0 (omega arith) (λ e. absurd (omega (arith, e, some))));
+    greeted = s.greeted ∙ sym (open-begins r.own.lost p 0 (s.own.sure.none_lost 0 (omega arith)) (λ e. absurd (omega (arith, e, some))));
     phase = s.phase ∙ ap phase_with (sym left-is);
     life = s.life;
     own = s.own;
@@ -62,7 +67,7 @@ module _ (r : TheReplayed) (c : Cluster) (s : StandsReplayed r c r.own.me) where
   }
 
   goes-begun : GoesTo p (At (begun r) p) c
-  goes-begun = asking n (alone-begins p r.own.count low) c stands-begun tt
+  goes-begun = asking n alone c stands-begun tt
 
 pub beginning : (r : TheReplayed) → Begins r (begun r)
 beginning r c s = goes-begun r c s

@@ -15,11 +15,13 @@ use Rattle.packets.specs.declared.packet.Packet.{Packet}
 use Rattle.node.specs.Queue.{TheQueue, released_all}
 use Rattle.node.specs.Node.{log_at}
 use Rattle.outbox.specs.Outbox.{Pops}
-use Rattle.node.specs.Stands.{Each, PutOut, KeepsOf, Stands, sent_by}
+use Rattle.node.specs.Stands.{Each, KeepsOf, Stands, sent_by}
+use Rattle.recovery.specs.Stands.{IsSent}
 use Rattle.node.proofs.Releases.{log-released}
 use Rattle.restoring.specs.Restoring.{TheRestoring, has_answered, left, is_up, up}
 use Rattle.restoring.specs.Stands.{StandsRestoring, IsUp, Takes}
 use Rattle.restoring.proofs.Left.{those-none}
+use Rattle.restoring.proofs.Asking.{restoring-out}
 
 all-at : (xs : List Bool) (q : ℕ) → list_all (λ b. b) xs ≡ true → slice_index_or xs q true ≡ true
 all-at [] q e = refl
@@ -103,33 +105,7 @@ is-up n all c s = stands-up n c s all
 -- the first packet that waits leaves
 pub takes-so : (o : Option Packet) (n : TheRestoring) (rest : List Packet) → Pops o n.own.out rest → Takes o n (record n { own = record n.own { out = rest } })
 takes-so None n rest e = (e.0, ap (λ xs. record n { own = record n.own { out = xs } }) e.1 ∙ ap (λ xs. record n { own = record n.own { out = xs } }) (let back : [] ≡ n.own.out = (cc) in back))
-takes-so (Some x) n rest e = (ap (λ xs. record n { own = record n.own { out = xs } }) e, λ c s. taken c s (subst (Each (PutOut c.count c.parcels n.own.me)) e s.own.out))
-  where
-    taken : (c : Cluster) → StandsRestoring n c n.own.me → Each (PutOut c.count c.parcels n.own.me) (x ∷ rest) → PutOut c.count c.parcels n.own.me x × StandsRestoring (record n { own = record n.own { out = rest } }) c n.own.me
-    taken c s out = (
-      out.0,
-      record {
-        stage = s.stage;
-        greeted = s.greeted;
-        phase = s.phase;
-        life = s.life;
-        own = record {
-          me = s.own.me;
-          count = s.own.count;
-          inside = s.own.inside;
-          saved = s.own.saved;
-          many = s.own.many;
-          state = s.own.state;
-          covered = s.own.covered;
-          logs = s.own.logs;
-          heard = s.own.heard;
-          out = out.1;
-        };
-        received = s.received;
-        acknowledged = s.acknowledged;
-        fresh = s.fresh;
-        resumed = s.resumed;
-        restoring = s.restoring;
-        released = s.released;
-      },
-    )
+takes-so (Some x) n rest e = (
+  ap (λ xs. record n { own = record n.own { out = xs } }) e,
+  λ c s. (let out : Each (IsSent c.count c.parcels n.own.me) (x ∷ rest) = subst (Each (IsSent c.count c.parcels n.own.me)) e s.own.out in (out.0, restoring-out n c n.own.me rest out.1 s)),
+)

@@ -23,16 +23,19 @@ use Rattle.pages.specs.Says.{WasSaid, restored_end, first_number}
 use Rattle.node.specs.Stands.{KeepsOf}
 use Rattle.node.proofs.Logs.{changed-at}
 use Rattle.recovery.specs.Own.{TheOwn, hears, is_for}
-use Rattle.recovery.specs.Entering.{sent_to, noted, takes_in, AscendFrom}
-use Rattle.recovery.specs.Stands.{HasOwn, GoesTo}
+use Rattle.recovery.specs.Meeting.{heard_of}
+use Rattle.recovery.specs.Meeting as meeting
+use Rattle.recovery.specs.Entering.{sent_to, noted, takes_in, trusts, AscendFrom}
+use Rattle.recovery.specs.Stands.{HasOwn, IsSaid, GoesTo}
+use Rattle.recovery.proofs.Meetings.{asks as ask-tells, newer-doubts}
 use Rattle.recovery.proofs.Lists.{at-changed}
 use Rattle.recovery.proofs.Acts.{goes-self, goes-one, goes-then}
 use Rattle.recovery.proofs.Noting.{keeps-page, keeps-covered, last-above}
-use Rattle.restoring.specs.Restoring.{TheRestoring, IsRestoring, above_of, has_answered, left, asks, last_ssn, answers, told, greeted, heard, handed}
+use Rattle.restoring.specs.Restoring.{TheRestoring, IsRestoring, above_of, has_answered, left, asks, last_ssn, answers, told, greeted, waits_anew, asked_by, heard, handed}
 use Rattle.restoring.specs.Stands.{StandsRestoring, IsHanded}
 use Rattle.restoring.proofs.Left.{without-those, those-same, todo-is, not-replaying}
 use Rattle.restoring.proofs.Pages.{page-in-range}
-use Rattle.restoring.proofs.Asking.{At, by-branch, left-has, asks-at}
+use Rattle.restoring.proofs.Asking.{At, by-branch, left-has, only-asks, asks-at, restoring-out}
 
 -- what a page has that answers what was asked last
 pub record IsAnswer (n : TheRestoring) (from i j covered s : ℕ) (pairs : List Pair) : Type 0 where
@@ -99,7 +102,7 @@ module _ (n : TheRestoring) (c : Cluster) (from i j covered s : ℕ) (flags : Fl
 -- a page of a process
 module _ (n : TheRestoring) (c : Cluster) (from i j covered s : ℕ) (flags : Flags) (pairs : List Pair) (f : ℕ → Option ℕ) (st : StandsRestoring n c n.own.me) (low : from ≤ n.own.count) (some : 0 < from) (w : IsRestoring n.own n.above n.answered)
     (ok : IsAnswer n from i j covered s pairs) (page : AscendFrom s pairs) (given : In (parcel from n.own.me (Restored i j covered s (restored_end flags s pairs) f)) c.parcels)
-    (says : (ssn : ℕ) → s < ssn → covered < ssn → reaches (restored_end flags s pairs) ssn ≡ true → f ssn ≡ first_number pairs ssn) where
+    (says : (ssn : ℕ) → s < ssn → covered < ssn → reaches (restored_end flags s pairs) ssn ≡ true → f ssn ≡ first_number pairs ssn) (exact : n.own.exact && is_exact flags ≡ true) where
   abbrev p : ℕ
   p = n.own.me
 
@@ -111,7 +114,7 @@ module _ (n : TheRestoring) (c : Cluster) (from i j covered s : ℕ) (flags : Fl
   t = taken_in c p from j covered s upto f
 
   abbrev own : TheOwn
-  own = hears from j (takes_in from covered pairs n.own)
+  own = trusts flags (hears from j (takes_in from covered pairs n.own))
 
   from-in : from ≤ c.count
   from-in = omega (arith, low, st.own.count)
@@ -157,7 +160,7 @@ module _ (n : TheRestoring) (c : Cluster) (from i j covered s : ℕ) (flags : Fl
     c' = does c last
 
     abbrev m : TheRestoring
-    m = record n { own = own; answered = slice_set n.answered from true; exact = n.exact && is_exact flags }
+    m = record n { own = own; answered = slice_set n.answered from true }
 
     end-is : upto ≡ None
     end-is = rw done refl
@@ -187,6 +190,7 @@ module _ (n : TheRestoring) (c : Cluster) (from i j covered s : ℕ) (flags : Fl
         covered = st.own.covered;
         logs = logs-are;
         heard = heard-is;
+        sure = record { exact_is = exact; none_lost = st.own.sure.none_lost };
         out = st.own.out;
       }));
       received = st.received;
@@ -223,7 +227,7 @@ module _ (n : TheRestoring) (c : Cluster) (from i j covered s : ℕ) (flags : Fl
     cn = does c next
 
     abbrev mn : TheRestoring
-    mn = record n { own = own; above = slice_set n.above from u; exact = n.exact && is_exact flags }
+    mn = record n { own = own; above = slice_set n.above from u }
 
     end-next : upto ≡ Some u
     end-next = rw more refl
@@ -251,6 +255,7 @@ module _ (n : TheRestoring) (c : Cluster) (from i j covered s : ℕ) (flags : Fl
         covered = st.own.covered;
         logs = logs-are;
         heard = heard-is;
+        sure = record { exact_is = exact; none_lost = st.own.sure.none_lost };
         out = st.own.out;
       }));
       received = st.received;
@@ -285,7 +290,7 @@ module _ (n : TheRestoring) (c : Cluster) (from i j covered s : ℕ) (flags : Fl
 
 -- the answer of the gateway
 module _ (n : TheRestoring) (c : Cluster) (i j covered s : ℕ) (flags : Flags) (pairs : List Pair) (f : ℕ → Option ℕ) (st : StandsRestoring n c n.own.me) (w : IsRestoring n.own n.above n.answered) (ok : IsAnswer n 0 i j covered s pairs)
-    (given : In (parcel 0 n.own.me (Restored i j covered s (restored_end flags s pairs) f)) c.parcels) (done : is_done flags ≡ true) where
+    (given : In (parcel 0 n.own.me (Restored i j covered s (restored_end flags s pairs) f)) c.parcels) (done : is_done flags ≡ true) (exact : n.own.exact && is_exact flags ≡ true) where
   abbrev g : ℕ
   g = n.own.me
 
@@ -296,10 +301,10 @@ module _ (n : TheRestoring) (c : Cluster) (i j covered s : ℕ) (flags : Flags) 
   d' = does c greets
 
   abbrev o : TheOwn
-  o = takes_in 0 covered [] n.own
+  o = trusts flags (takes_in 0 covered [] n.own)
 
   abbrev r : TheRestoring
-  r = record n { own = o; answered = slice_set n.answered 0 true; exact = n.exact && is_exact flags }
+  r = record n { own = o; answered = slice_set n.answered 0 true }
 
   may-greet : May c greets
   may-greet =
@@ -342,6 +347,7 @@ module _ (n : TheRestoring) (c : Cluster) (i j covered s : ℕ) (flags : Flags) 
       covered = st.own.covered;
       logs = logs-greeted;
       heard = st.own.heard;
+      sure = record { exact_is = exact; none_lost = st.own.sure.none_lost };
       out = st.own.out;
     };
     received = st.received;
@@ -361,44 +367,69 @@ module _ (n : TheRestoring) (c : Cluster) (i j covered s : ℕ) (flags : Flags) 
   goes-greeted : GoesTo g (At r g) c
   goes-greeted = goes-one g (At r g) c greets may-greet refl stands-greeted
 
+-- where it stays exact, it goes on to where it stands
+abbrev pub Onward : ℕ → Cluster → TheRestoring → Type 0
+Onward p c m = m.own.exact ≡ true → GoesTo p (At m p) c
+
 -- what is said to it
-hearing : (n : TheRestoring) (c : Cluster) (from : ℕ) (x : bodies.Body) → StandsRestoring n c n.own.me → from ≤ n.own.count → IsRestoring n.own n.above n.answered → WasSaid c.parcels from n.own.me x
-    → GoesTo n.own.me (At (heard from x n) n.own.me) c
-hearing n c from (packets.Restored i j covered s flags pairs) st low w said =
-    let me = n.own.me in
-    let f = said.1.0 in
-    let given : In (parcel from me (Restored i j covered s (restored_end flags s pairs) f)) c.parcels = (let P : Body → Type 0 = λ b. In (parcel from me b) c.parcels in subst P said.1.1 said.2) in
-    let says = said.1.2 in
-    by-branch (λ m. GoesTo me (At m me) c) (in_range (packets.Restored i j covered s flags pairs) && answers from i j covered s pairs n) (if from == 0 then greeted covered flags n else told from j covered s flags pairs n) n
-    (λ e. let two = both (in_range (packets.Restored i j covered s flags pairs)) (answers from i j covered s pairs n) e in
-    let ok = is-answer n from i j covered s pairs two.1 in
-    by-branch (λ m. GoesTo me (At m me) c) (from == 0) (greeted covered flags n) (told from j covered s flags pairs n)
-    (λ z. let none : from ≡ 0 = grind (arith, nat_tests) in
-    let P : ℕ → Type 0 = λ k. In (parcel k me (Restored i j covered s (restored_end flags s pairs) f)) c.parcels in
-    let Q : ℕ → Type 0 = λ k. IsAnswer n k i j covered s pairs in
-    by-branch (λ m. GoesTo me (At m me) c) (is_done flags) _ n (λ d. goes-greeted n c i j covered s flags pairs f st w (subst Q none ok) (subst P none given) d) (λ d. goes-self me (At n me) c st))
-    (λ z. let some : 0 < from = grind (arith, nat_tests) in
-    goes-page n c from i j covered s flags pairs f st low some w ok (page-in-range i j covered s flags pairs two.0) given says))
-    (λ e. goes-self me (At n me) c st)
-hearing n c from (packets.Delivery i ssn x) st low w said = goes-self n.own.me (At n n.own.me) c st
-hearing n c from (packets.Number i ssn k) st low w said = goes-self n.own.me (At n n.own.me) c st
-hearing n c from (packets.Acknowledgement i k) st low w said = goes-self n.own.me (At n n.own.me) c st
-hearing n c from (packets.Ask i k) st low w said = goes-self n.own.me (At n n.own.me) c st
-hearing n c from (packets.Resume i k t) st low w said = goes-self n.own.me (At n n.own.me) c st
-hearing n c from (packets.Told i j k flags entries) st low w said = goes-self n.own.me (At n n.own.me) c st
-hearing n c from (packets.Saved k) st low w said = goes-self n.own.me (At n n.own.me) c st
+module _ (n : TheRestoring) (c : Cluster) (from : ℕ) (st : StandsRestoring n c n.own.me) (low : from ≤ n.own.count) (w : IsRestoring n.own n.above n.answered) where
+  none-heard : Onward n.own.me c n
+  none-heard e = goes-self n.own.me (At n n.own.me) c st
+
+  exact-told : (j covered s : ℕ) (flags : Flags) (pairs : List Pair) → (told from j covered s flags pairs n).own.exact ≡ n.own.exact && is_exact flags
+  exact-told j covered s flags pairs =
+      by-branch (λ z. z.own.exact ≡ n.own.exact && is_exact flags) (is_done flags) _ _ (λ e. refl)
+      (λ e. ap (λ (z : TheRestoring). z.own.exact) (only-asks (record n { own = trusts flags (hears from j (takes_in from covered pairs n.own)); above = slice_set n.above from (last_ssn s pairs) }) from))
+
+  page-heard : (i j covered s : ℕ) (flags : Flags) (pairs : List Pair) → IsSaid c.parcels from n.own.me (packets.Restored i j covered s flags pairs) → Onward n.own.me c (heard from (packets.Restored i j covered s flags pairs) n)
+  page-heard i j covered s flags pairs said =
+      let me = n.own.me in
+      let was : WasSaid c.parcels from me (packets.Restored i j covered s flags pairs) = said refl in
+      let f = was.1.0 in
+      let given : In (parcel from me (Restored i j covered s (restored_end flags s pairs) f)) c.parcels = (let P : Body → Type 0 = λ b. In (parcel from me b) c.parcels in subst P was.1.1 was.2) in
+      let says = was.1.2 in
+      by-branch (Onward me c) (in_range (packets.Restored i j covered s flags pairs) && answers from i j covered s pairs n) (if from == 0 then greeted covered flags n else told from j covered s flags pairs n) n
+      (λ e. let two = both (in_range (packets.Restored i j covered s flags pairs)) (answers from i j covered s pairs n) e in
+      let ok = is-answer n from i j covered s pairs two.1 in
+      by-branch (Onward me c) (from == 0) (greeted covered flags n) (told from j covered s flags pairs n)
+      (λ z. let none : from ≡ 0 = grind (arith, nat_tests) in
+      let P : ℕ → Type 0 = λ k. In (parcel k me (Restored i j covered s (restored_end flags s pairs) f)) c.parcels in
+      let Q : ℕ → Type 0 = λ k. IsAnswer n k i j covered s pairs in
+      by-branch (Onward me c) (is_done flags) _ n (λ d exact. goes-greeted n c i j covered s flags pairs f st w (subst Q none ok) (subst P none given) d exact) (λ d. none-heard))
+      (λ z exact. let some : 0 < from = grind (arith, nat_tests) in
+      goes-page n c from i j covered s flags pairs f st low some w ok (page-in-range i j covered s flags pairs two.0) given says (sym (exact-told j covered s flags pairs) ∙ exact)))
+      (λ e. none-heard)
+
+  -- a peer that comes back too asks: where that is no news, it only tells that all is lost
+  asking-heard : (i k : ℕ) → Onward n.own.me c (asked_by from i k n)
+  asking-heard i k =
+      by-branch (λ m. Onward n.own.me c (record m { own = meeting.asked_by from i k n.own })) (nat_lt (heard_of from n.own) i) (waits_anew from n) n
+      (λ newer exact. absurd (let e : (meeting.asked_by from i k n.own).exact ≡ false = newer-doubts from i k n.own newer in let f : false ≡ true = sym e ∙ exact in cc))
+      (λ old exact. let t = ask-tells n.own c n.own.me st.own.out from i k exact in
+      let P : TheOwn → Type 0 = λ o. StandsRestoring (record n { own = o }) c n.own.me in
+      goes-self n.own.me (At (record n { own = meeting.asked_by from i k n.own }) n.own.me) c (subst P (sym t.1.0) (restoring-out n c n.own.me t.0 t.1.1 st)))
+
+  hearing : (x : bodies.Body) → IsSaid c.parcels from n.own.me x → Onward n.own.me c (heard from x n)
+  hearing (packets.Restored i j covered s flags pairs) said = page-heard i j covered s flags pairs said
+  hearing (packets.Ask i k) said = by-branch (Onward n.own.me c) (in_range (packets.Ask i k)) (asked_by from i k n) n (λ e. asking-heard i k) (λ e. none-heard)
+  hearing (packets.Delivery i ssn x) said = none-heard
+  hearing (packets.Number i ssn k) said = none-heard
+  hearing (packets.Acknowledgement i k) said = none-heard
+  hearing (packets.Resume i k t) said = none-heard
+  hearing (packets.Told i j k flags entries) said = none-heard
+  hearing (packets.Saved k) said = none-heard
 
 -- a packet comes
 pub handing : (n : TheRestoring) (x : Packet) → IsRestoring n.own n.above n.answered → IsHanded x n (handed x n)
-handing n x w c st said =
+handing n x w exact c st said =
     let me = n.own.me in
     let o = n.own in
-    by-branch (λ m. GoesTo me (At m me) c) (is_for o x) (heard x.from x.body n) n
+    by-branch (Onward me c) (is_for o x) (heard x.from x.body n) n
     (λ e. let a = both ((x.count == o.count) && (x.to == o.me) && nat_le x.from o.count) (not (x.from == o.me)) e in
     let b = both ((x.count == o.count) && (x.to == o.me)) (nat_le x.from o.count) a.0 in
     let d = both (x.count == o.count) (x.to == o.me) b.0 in
     let to : x.to ≡ me = (let z : (x.to == o.me) ≡ true = d.1 in grind (arith, nat_tests)) in
     let low : x.from ≤ o.count = (let z : nat_le x.from o.count ≡ true = b.1 in grind (arith, nat_tests)) in
-    let P : ℕ → Type 0 = λ z. WasSaid c.parcels x.from z x.body in
-    hearing n c x.from x.body st low w (subst P to said))
-    (λ e. goes-self me (At n me) c st)
+    let P : ℕ → Type 0 = λ z. IsSaid c.parcels x.from z x.body in
+    hearing n c x.from st low w x.body (subst P to said))
+    (λ e z. goes-self me (At n me) c st) exact

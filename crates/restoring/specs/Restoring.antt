@@ -1,28 +1,29 @@
 -- What clauses see of a process that restores its numbers, and what the calls make of it
-use Rattle.std.specs.Prelude.{◌≡◌, ℕ, zero, suc, ◌+◌, List, [], length, map, replicate, Bool, true, false, not, ◌&&◌, ◌==◌, nat_le, if◌then◌else◌, slice_index_or, slice_set}
+use Rattle.std.specs.Prelude.{◌≡◌, ℕ, zero, suc, ◌+◌, List, [], length, map, replicate, Bool, true, false, not, ◌&&◌, ◌==◌, nat_lt, nat_le, if◌then◌else◌, slice_index_or, slice_set}
 use Rattle.std.specs.List.{list_all}
 use Rattle.rsn.specs.Receipts.{Received}
 use Rattle.world.specs.Phases.{those}
-use Rattle.packets.specs.Packet.{is_done, is_exact, in_range}
+use Rattle.packets.specs.Packet.{is_done, in_range}
 use Rattle.packets.specs.declared.page.Pair.{Pair}
 use Rattle.packets.specs.declared.page.Flags.{Flags}
 use Rattle.packets.specs.declared.packet.Body.{Body}
-use Rattle.packets.specs.declared.packet.Body.TheVariants.{Resume, Restored}
+use Rattle.packets.specs.declared.packet.Body.TheVariants.{Ask, Resume, Restored}
 use Rattle.packets.specs.declared.packet.Packet.{Packet}
 use Rattle.node.specs.Node.{TheNode}
 use Rattle.pages.specs.Says.{last_behind}
 use Rattle.recovery.specs.Own.{TheOwn, posts, is_for, hears}
 use Rattle.recovery.specs.Replayed.{TheReplayed}
-use Rattle.recovery.specs.Entering.{keeps, sent_to, takes_in, returns}
+use Rattle.recovery.specs.Meeting.{heard_of}
+use Rattle.recovery.specs.Meeting as meeting
+use Rattle.recovery.specs.Entering.{keeps, sent_to, takes_in, trusts, returns}
 
 -- what it has of its own, and what it received behind its checkpoint; by peer the SSN up to which that told the numbers, and whether it told
--- all; whether failures came one at a time, as far as it knows
+-- all
 pub record TheRestoring : Type 0 where
   pub own : TheOwn
   pub receipts : Received
   pub above : List ℕ
   pub answered : List Bool
-  pub exact : Bool
 
 -- it waits for each peer, and not for itself
 pub record IsRestoring (own : TheOwn) (above : List ℕ) (answered : List Bool) : Type 0 where
@@ -57,15 +58,14 @@ asks_below (suc d) n = asks d (asks_below d n)
 abbrev pub asked : TheRestoring → TheRestoring
 asked n = asks_below (n.own.count + 1) n
 
--- one that was told nothing
+-- one that was told nothing; it waits for nobody that told that what it had is lost
 abbrev pub begins : TheReplayed → TheRestoring
 begins r =
     record {
       own = r.own;
       receipts = r.receipts;
       above = replicate (r.own.count + 1) 0;
-      answered = slice_set (replicate (r.own.count + 1) false) r.own.me true;
-      exact = true;
+      answered = slice_set r.own.lost r.own.me true;
     }
 
 -- it asks all
@@ -87,18 +87,29 @@ answers from i j covered s pairs n =
 abbrev pub told : ℕ → ℕ → ℕ → ℕ → Flags → List Pair → TheRestoring → TheRestoring
 told from j covered s flags pairs n =
     if is_done flags
-    then record n { own = hears from j (takes_in from covered pairs n.own); answered = slice_set n.answered from true; exact = n.exact && is_exact flags }
-    else asks from (record n { own = hears from j (takes_in from covered pairs n.own); above = slice_set n.above from (last_ssn s pairs); exact = n.exact && is_exact flags })
+    then record n { own = trusts flags (hears from j (takes_in from covered pairs n.own)); answered = slice_set n.answered from true }
+    else asks from (record n { own = trusts flags (hears from j (takes_in from covered pairs n.own)); above = slice_set n.above from (last_ssn s pairs) })
 
 -- the gateway tells how many outputs it has, and no numbers
 abbrev pub greeted : ℕ → Flags → TheRestoring → TheRestoring
 greeted covered flags n =
-    if is_done flags then record n { own = takes_in 0 covered [] n.own; answered = slice_set n.answered 0 true; exact = n.exact && is_exact flags } else n
+    if is_done flags then record n { own = trusts flags (takes_in 0 covered [] n.own); answered = slice_set n.answered 0 true } else n
 
--- another one says this: what isn't an answer is dropped
+-- a peer comes back too: it is waited for, and will be asked anew
+abbrev pub waits_anew : ℕ → TheRestoring → TheRestoring
+waits_anew q n = record n { above = slice_set n.above q 0; answered = slice_set n.answered q false }
+
+-- its Ask: one of an incarnation that is over is dropped, any other is answered, that all is lost
+abbrev pub asked_by : ℕ → ℕ → ℕ → TheRestoring → TheRestoring
+asked_by q i k n =
+    let m : TheRestoring = if nat_lt (heard_of q n.own) i then waits_anew q n else n in
+    record m { own = meeting.asked_by q i k n.own }
+
+-- another one says this: what isn't an answer, nor an Ask, is dropped
 abbrev pub heard : ℕ → Body → TheRestoring → TheRestoring
 heard from (Restored i j covered s flags pairs) n =
     if in_range (Restored i j covered s flags pairs) && answers from i j covered s pairs n then (if from == 0 then greeted covered flags n else told from j covered s flags pairs n) else n
+heard from (Ask i k) n = if in_range (Ask i k) then asked_by from i k n else n
 heard from body n = n
 
 -- a packet comes
@@ -111,4 +122,4 @@ is_up n = list_all (λ b. b) n.answered
 
 -- its node
 abbrev pub up : TheRestoring → TheNode
-up n = returns n.answered n.exact (replayed_of n)
+up n = returns n.answered (replayed_of n)

@@ -4,10 +4,9 @@ use Rattle.world.specs.Logs.{sent_in_all}
 use Rattle.world.specs.Calls.{phase_with}
 use Rattle.cluster.specs.Cluster.{Cluster, Live, seen}
 use Rattle.packets.specs.declared.packet.Packet.{Packet}
-use Rattle.pages.specs.Says.{WasSaid}
 use Rattle.node.specs.Node.{TheNode}
-use Rattle.node.specs.Stands.{PutOut, HasReceived, Stands}
-use Rattle.recovery.specs.Stands.{HasOwn, GoesTo}
+use Rattle.node.specs.Stands.{HasReceived, Stands}
+use Rattle.recovery.specs.Stands.{HasOwn, IsSaid, IsSent, GoesTo}
 use Rattle.recovery.specs.Replayed.{TheReplayed, StandsReplayed}
 use Rattle.restoring.specs.Restoring.{TheRestoring, above_of, has_answered, left}
 
@@ -38,14 +37,14 @@ Owes given old new = (c : Cluster) → StandsRestoring old c old.own.me → give
 abbrev pub Acts : TheRestoring → TheRestoring → Type 0
 Acts old new = Owes (λ c. Unit {0}) old new
 
--- one that is handed a packet, if that was put out
+-- one that is handed a packet, if that was put out; it owes nothing where it isn't exact any more
 abbrev pub IsHanded : Packet → TheRestoring → TheRestoring → Type 0
-IsHanded x old new = Owes (λ c. WasSaid c.parcels x.from x.to x.body) old new
+IsHanded x old new = new.own.exact ≡ true → Owes (λ c. IsSaid c.parcels x.from x.to x.body) old new
 
 -- what take owes: the packet that waited first, which was put out; the process is without it
 abbrev pub Takes : Option Packet → TheRestoring → TheRestoring → Type 0
 Takes None old new = (old.own.out ≡ []) × (new ≡ old)
-Takes (Some x) old new = (old ≡ record new { own = record new.own { out = x ∷ new.own.out } }) × ((c : Cluster) → StandsRestoring old c old.own.me → PutOut c.count c.parcels old.own.me x × StandsRestoring new c old.own.me)
+Takes (Some x) old new = (old ≡ record new { own = record new.own { out = x ∷ new.own.out } }) × ((c : Cluster) → StandsRestoring old c old.own.me → IsSent c.count c.parcels old.own.me x × StandsRestoring new c old.own.me)
 
 -- its node stands where it stood
 abbrev pub IsUp : TheRestoring → TheNode → Type 0

@@ -30,7 +30,6 @@ impl Restoring {
     {
         let mut standing = self.replayed.standing();
         standing.stage = Stage::Resuming;
-        standing.exact = self.exact;
         standing.waited_for = self.waited_for();
         standing
     }

@@ -1,9 +1,9 @@
 //! A process that asks its peers under which numbers they have its messages.
 
-ghost use Rattle.std.specs.Prelude.{◌≡◌, ◌≤◌, ◌+◌, ◌&&◌, length, replicate, slice_set, nat_le, true, false, IfOk, IfErr};
+ghost use Rattle.std.specs.Prelude.{◌≡◌, ◌≢◌, ◌≤◌, ◌<◌, ◌+◌, ◌&&◌, length, replicate, slice_set, nat_le, true, IfOk, IfErr};
 ghost use Rattle.std.specs.List.{AllByRecursion};
 ghost use Rattle.recovery.specs.Entering.{AscendFrom, IsSmallPair, sent_to};
-ghost use Rattle.restoring.specs.Restoring.{asks, asked, begins, begun, answers, told, greeted, last_ssn, handed, is_up, up};
+ghost use Rattle.restoring.specs.Restoring.{asks, asked, begins, begun, answers, told, greeted, last_ssn, waits_anew, asked_by, handed, is_up, up};
 ghost use Rattle.restoring.specs.Stands.{Begins, Acts, IsHanded, Takes, IsUp};
 
 use node::Node;
@@ -20,8 +20,6 @@ pub struct Restoring {
     /// there is nothing to tell.
     pub(crate) above: Vec<u64>,
     pub(crate) answered: Vec<bool>,
-    /// Failures came one at a time, as far as it knows.
-    pub(crate) exact: bool,
 }
 
 impl Model for Restoring {
@@ -29,14 +27,14 @@ impl Model for Restoring {
 
     ghost Value = { TheRestoring };
 
-    ghost view = { λ n. record { own = n.replayed.own; receipts = n.replayed.receipts; above = n.above.items; answered = n.answered.items; exact = n.exact } };
+    ghost view = { λ n. record { own = n.replayed.own; receipts = n.replayed.receipts; above = n.above.items; answered = n.answered.items } };
 
     ghost invariant = { λ n. IsRestoring n.replayed.own n.above.items n.answered.items };
 }
 
 impl Restoring {
-    /// A process that has replayed all that it keeps. All its peers are asked. Where memory is refused
-    /// it is given back.
+    /// A process that has replayed all that it keeps. All its peers are asked, but those that told that
+    /// what they had is lost. Where memory is refused it is given back.
     pub fn begin(alloc: Global, replayed: Replayed) -> Result<Restoring, Replayed>
         ensures value { IfOk result (λ n. n ≡ begun replayed) }
         ensures acts { IfOk result (λ n. Begins replayed n) }
@@ -44,13 +42,12 @@ impl Restoring {
     {
         let me = replayed.me();
         let count = replayed.count();
-        match none_told(alloc, me, count) {
+        match none_told(alloc, me, count, replayed.lost()) {
             Ok((above, answered)) => {
                 let mut node = Restoring {
                     replayed,
                     above,
                     answered,
-                    exact: true,
                 };
                 node.ask_all();
                 Ok(node)
@@ -72,18 +69,19 @@ impl Restoring {
         ensures acts { Acts self.old self.new }
     {
         // For the proof: reading a field tells the invariant.
-        let _known = self.exact;
+        let _known = self.answered.len();
         self.ask_all();
     }
 
-    /// A packet came. One that isn't the answer of a peer to what was asked last is dropped.
-    pub fn receive(&mut self, packet: &Packet)
+    /// A packet came. The answer of a peer to what was asked last is taken in, and the Ask of a peer that
+    /// comes back too is answered; anything else is dropped.
+    pub fn receive(&mut self, alloc: Global, packet: &Packet)
         ensures value { self.new ≡ handed packet.now self.old }
         ensures acts { IsHanded packet.now self.old self.new }
     {
         // For the proof: reading a field tells the invariant.
-        let _known = self.exact;
-        self.hand(packet);
+        let _known = self.answered.len();
+        self.hand(alloc, packet);
     }
 
     /// Whether all have told all, the gateway too.
@@ -104,9 +102,8 @@ impl Restoring {
             replayed,
             above: _,
             answered,
-            exact,
         } = self;
-        replayed.into_node(answered, exact)
+        replayed.into_node(answered)
     }
 
     fn ask_all(&mut self)
@@ -131,7 +128,7 @@ impl Restoring {
         }
     }
 
-    fn hand(&mut self, packet: &Packet)
+    fn hand(&mut self, alloc: Global, packet: &Packet)
         ensures { self.new ≡ handed packet.now self.old }
     {
         if !self.replayed.is_for(packet) || !packet.body.is_in_range() {
@@ -155,6 +152,9 @@ impl Restoring {
                         self.tell(from, *teller, *covered, *above, *flags, pairs);
                     }
                 }
+            }
+            Body::Ask { incarnation, above } => {
+                self.receive_ask(alloc, from, *incarnation, *above);
             }
             _ => {}
         }
@@ -198,7 +198,7 @@ impl Restoring {
     {
         self.replayed.take_in(from, covered, pairs);
         self.replayed.hear(from, teller);
-        self.exact = self.exact && flags.exact();
+        self.replayed.trust(flags);
         if flags.done() {
             self.answered[from as usize] = true;
         } else {
@@ -213,23 +213,51 @@ impl Restoring {
     {
         if flags.done() {
             self.replayed.take_in(0, covered, &[]);
-            self.exact = self.exact && flags.exact();
+            self.replayed.trust(flags);
             self.answered[0] = true;
         }
     }
+
+    /// `from` comes back too, in its incarnation `life`, and asks what the log holds for it above this
+    /// number. It is told that all that is lost, and is waited for again.
+    fn receive_ask(&mut self, alloc: Global, from: u8, life: u64, above: u64)
+        requires low { from ≤ self.old.own.count }
+        requires other { from ≢ self.old.own.me }
+        ensures { self.new ≡ asked_by from life above self.old }
+    {
+        if self.replayed.heard(from) < life {
+            self.wait_anew(from);
+        }
+        self.replayed.receive_ask(alloc, from, life, above);
+    }
+
+    fn wait_anew(&mut self, from: u8)
+        requires low { from ≤ self.old.own.count }
+        requires other { from ≢ self.old.own.me }
+        ensures { self.new ≡ waits_anew from self.old }
+    {
+        self.above[from as usize] = 0;
+        self.answered[from as usize] = false;
+    }
 }
 
-/// By peer that nothing was told, and by whom: by the process itself all.
-fn none_told(alloc: Global, me: u8, count: u8) -> Result<(Vec<u64>, Vec<bool>), AllocError>
-    requires { (me ≤ count) × (count ≤ 15) }
+/// By peer that nothing was told, and of whom nothing is waited for: of the process itself, and of those
+/// that lost what they had.
+fn none_told(
+    alloc: Global,
+    me: u8,
+    count: u8,
+    lost: &[bool],
+) -> Result<(Vec<u64>, Vec<bool>), AllocError>
+    requires few { (me ≤ count) × (count ≤ 15) }
+    requires wide { me < length lost.now }
     ensures above { IfOk result (λ t. t.0.items ≡ replicate (count + 1) 0) }
-    ensures answered { IfOk result (λ t. t.1.items ≡ slice_set (replicate (count + 1) false) me true) }
+    ensures answered { IfOk result (λ t. t.1.items ≡ slice_set lost.now me true) }
 {
     let wide = count as usize + 1;
     let mut above = Vec::new(alloc);
     above.resize(wide, 0)?;
-    let mut answered = Vec::new(alloc);
-    answered.resize(wide, false)?;
+    let mut answered = Vec::from_slice(alloc, lost)?;
     answered[me as usize] = true;
     Ok((above, answered))
 }

@@ -45,7 +45,7 @@ fn what_was_acknowledged_comes_back(rt: HostRuntime) -> Result<(), Fail> {
         gateway.receive(alloc, &packet)?;
     }
     if let Some(packet) = gateway.take() {
-        process.receive(&packet)?;
+        process.receive(alloc, &packet)?;
     }
     if !process.has_all() {
         return Err("the gateway didn't tell")?;
@@ -72,7 +72,7 @@ fn what_was_acknowledged_comes_back(rt: HostRuntime) -> Result<(), Fail> {
         gateway.receive(alloc, &packet)?;
     }
     if let Some(packet) = gateway.take() {
-        process.receive(&packet);
+        process.receive(alloc, &packet);
     }
     if !process.is_up() {
         return Err("the gateway didn't answer")?;

@@ -1,6 +1,6 @@
 use Rattle.std.proofs.Common.{◌≡◌, ◌≢◌, sym, ap, ◌∙◌}
 use Rattle.std.proofs.lemmas.List.{length-set, get_or-set_other}
-use Rattle.recovery.specs.Own.{hears}
+use Rattle.recovery.specs.Own.{learns}
 use Rattle.recovery.specs.Collected.{TheCollected, none_told}
 use Rattle.recovery.specs.Collecting.{TheCollecting}
 use Rattle.recovery.proofs.collecting.Collecting.add.Goals as goal
@@ -11,7 +11,7 @@ invariant_of-self-2 c =
     let old = c.self.inside in
     let from = c.args.from in
     let told = old.told.items in
-    let own : c.hear.new.self ≡ hears from c.args.teller old.own = c.hear.ensures in
+    let own : c.learn.new.self ≡ learns from c.args.teller c.args.flags old.own = c.learn.ensures in
     let apart : old.own.me ≢ from = λ e. c.requires.1 (sym e ∙ ap (λ (z : TheCollecting). z.own.me) c.self.view_is) in
     rw own (record {
       wide = length-set told from c.add.new.self ∙ i.wide;

@@ -18,6 +18,7 @@ invariant_of-self-2 c =
       few = i.few;
       wide = i.wide;
       heard_wide = i.heard_wide;
+      lost_wide = i.lost_wide;
       logs_wide = ap length logs ∙ given-length c.args.number c.args.given.now old.logs.items ∙ i.logs_wide;
       counts = i.counts;
       young = i.young;

@@ -12,7 +12,7 @@ returns c =
     let old = c.args.self.now in
     let was = c.self.inside in
     let out = c.pop.new.self.own.out in
-    let with_rest : TheReplayed → TheRestoring = λ r. record { own = r.own; receipts = r.receipts; above = was.above.items; answered = was.answered.items; exact = was.exact } in
+    let with_rest : TheReplayed → TheRestoring = λ r. record { own = r.own; receipts = r.receipts; above = was.above.items; answered = was.answered.items } in
     let is : with_rest c.pop.new.self ≡ record old { own = record old.own { out = out } } = ap with_rest c.pop.ensures.rest ∙ ap (λ (z : TheRestoring). record z { own = record z.own { out = out } }) c.self.view_is in
     let R : List Packet → Type 0 = λ xs. Pops c.pop.result xs out in
     let pops : Pops c.pop.result old.own.out out = subst R (ap (λ (z : TheRestoring). z.own.out) c.self.view_is) c.pop.ensures.packet in
