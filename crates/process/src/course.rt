@@ -97,7 +97,7 @@ impl Course {
         }
     }
 
-    /// Where all peers have answered, it is up.
+    /// Where all peers have answered, it is up, and sends what it released.
     fn returned(self) -> Course
         ensures { Returns self result }
     {
@@ -106,7 +106,9 @@ impl Course {
                 if !process.is_up() {
                     return Course::Restoring(process);
                 }
-                Course::Up(process.into_node())
+                let mut node = process.into_node();
+                node.tick();
+                Course::Up(node)
             }
             other => other,
         }
