@@ -1,5 +1,5 @@
 -- What the exports answer (docs/EMBEDDING.md, "A gateway")
-use Rattle.std.specs.Prelude.{◌≡◌, ◌⊎◌, ℕ, ◌<◌, ◌≤◌, List, length, Option, Some, None}
+use Rattle.std.specs.Prelude.{◌≡◌, ◌⊎◌, ℕ, ◌<◌, ◌≤◌, List, length, Option, Some, None, Result, MatchResult}
 use Rattle.operations.specs.Bytes.{overwritten}
 use Rattle.gateway.specs.Gateway.{TheGateway}
 use Rattle.embed_gateway.specs.declared.fault.Fault.{Fault}
@@ -16,9 +16,19 @@ fault_number Bytes = 21
 fault_number Early = 22
 fault_number Range = 23
 
--- what a code says: 0 that this was done, any other number why it was not
-abbrev pub Answers : ℕ → Type 0 → (Fault → Type 0) → Type 0
-Answers code done refused = ((code ≡ 0) × done) ⊎ ((why : Fault) × (code ≡ fault_number why) × refused why)
+-- what a code says of a handle, which held one thing before and holds another now: 0 that this was done, any other number why it was not,
+-- and the handle is as it was
+abbrev pub Answers : ℕ → Option TheGateway → Option TheGateway → (Option TheGateway → Option TheGateway → Type 0) → (Option TheGateway → Fault → Type 0) → Type 0
+Answers code old new done refused = ((code ≡ 0) × done old new) ⊎ ((why : Fault) × (code ≡ fault_number why) × refused old why × (new ≡ old))
+
+-- the same of a result
+abbrev pub Results : Result (Unit {0}) Fault → Option TheGateway → Option TheGateway → (Option TheGateway → Option TheGateway → Type 0) → (Option TheGateway → Fault → Type 0)
+    → Type 0
+Results result old new done refused = MatchResult result (λ u. done old new) (λ why. refused old why × (new ≡ old))
+
+-- where a code tells a fault, this holds
+abbrev pub OnFault : ℕ → Type 0 → Type 0
+OnFault code kept = (code ≡ 0) ⊎ kept
 
 -- the handle is open, and this holds of its gateway
 abbrev pub OfOpen : Option TheGateway → (TheGateway → Type 0) → Type 0

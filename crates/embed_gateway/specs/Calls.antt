@@ -27,11 +27,11 @@ LogsNot p payload g Range = (length payload ≤ PAYLOAD_BYTES) × (¬ IsOf p g.s
 LogsNot p payload g Memory = (length payload ≤ PAYLOAD_BYTES) × IsOf p g.store
 LogsNot p payload g other = ⊥
 
-abbrev pub IsLogged : ℕ → List ℕ → Option TheGateway → Option TheGateway → ℕ → Type 0
-IsLogged p payload old new ssn = Calls old new (Logs p payload ssn)
+abbrev pub IsLogged : ℕ → List ℕ → ℕ → Option TheGateway → Option TheGateway → Type 0
+IsLogged p payload ssn old new = Calls old new (Logs p payload ssn)
 
-abbrev pub IsUnlogged : ℕ → List ℕ → Option TheGateway → ℕ → ℕ → Fault → Type 0
-IsUnlogged p payload old was ssn why = Refuses old (ssn ≡ was) (λ g w. LogsNot p payload g w × (ssn ≡ was)) why
+abbrev pub IsUnlogged : ℕ → List ℕ → ℕ → ℕ → Option TheGateway → Fault → Type 0
+IsUnlogged p payload was ssn old why = Refuses old (ssn ≡ was) (λ g w. LogsNot p payload g w × (ssn ≡ was)) why
 
 -- the packet of these bytes is handed in
 abbrev pub Receives : List ℕ → TheGateway → TheGateway → Type 0
@@ -43,11 +43,11 @@ ReceivesNot bytes was fault Bytes = (f : PacketFault) × packets.IsFirst f bytes
 ReceivesNot bytes was fault Memory = fault ≡ was
 ReceivesNot bytes was fault other = ⊥
 
-abbrev pub IsReceived : List ℕ → Option TheGateway → Option TheGateway → ℕ → ℕ → Type 0
-IsReceived bytes old new was fault = Calls old new (λ g h. Receives bytes g h × (fault ≡ was))
+abbrev pub IsReceived : List ℕ → ℕ → ℕ → Option TheGateway → Option TheGateway → Type 0
+IsReceived bytes was fault old new = Calls old new (λ g h. Receives bytes g h × (fault ≡ was))
 
-abbrev pub IsUnreceived : List ℕ → Option TheGateway → ℕ → ℕ → Fault → Type 0
-IsUnreceived bytes old was fault why = Refuses old (fault ≡ was) (λ g w. ReceivesNot bytes was fault w) why
+abbrev pub IsUnreceived : List ℕ → ℕ → ℕ → Option TheGateway → Fault → Type 0
+IsUnreceived bytes was fault old why = Refuses old (fault ≡ was) (λ g w. ReceivesNot bytes was fault w) why
 
 -- what isn't answered is sent again
 abbrev pub Ticks : TheGateway → TheGateway → Type 0

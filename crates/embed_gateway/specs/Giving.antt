@@ -26,12 +26,11 @@ GivesNot out new was size g Memory = IsUntouched out new was size
 GivesNot out new was size g Room = (to : ℕ) × (bytes : List ℕ) × Waits to bytes g × IsUncopied bytes out new size
 GivesNot out new was size g other = ⊥
 
-abbrev pub IsTaken : Option TheGateway → Option TheGateway → List ℕ → List ℕ → ℕ → ℕ → Type 0
-IsTaken old new out out' size to = Calls old new (Gives out out' size to)
+abbrev pub IsTaken : List ℕ → List ℕ → ℕ → ℕ → Option TheGateway → Option TheGateway → Type 0
+IsTaken out out' size to old new = Calls old new (Gives out out' size to)
 
--- the same of a handle, where what is kept stays beside it
-abbrev pub IsUntaken : Option TheGateway → List ℕ → List ℕ → ℕ → ℕ → Type 0 → Fault → Type 0
-IsUntaken old out new was size kept why = Refuses old (IsUntouched out new was size × kept) (λ g w. GivesNot out new was size g w × kept) why
+abbrev pub IsUntaken : List ℕ → List ℕ → ℕ → ℕ → Option TheGateway → Fault → Type 0
+IsUntaken out new was size old why = Refuses old (IsUntouched out new was size) (λ g w. GivesNot out new was size g w) why
 
 -- ---- outputs
 
@@ -48,11 +47,11 @@ ShowsNot out new was size g Memory = IsUntouched out new was size
 ShowsNot out new was size g Room = (o : Output) × (slice_get g.store.outputs 0 ≡ Some o) × IsUncopied o.payload out new size
 ShowsNot out new was size g other = ⊥
 
-abbrev pub IsShown : Option TheGateway → Option TheGateway → ℕ → ℕ → List ℕ → List ℕ → ℕ → Type 0
-IsShown old new process ssn out out' size = Calls old new (Shows process ssn out out' size)
+abbrev pub IsShown : ℕ → ℕ → List ℕ → List ℕ → ℕ → Option TheGateway → Option TheGateway → Type 0
+IsShown process ssn out out' size old new = Calls old new (Shows process ssn out out' size)
 
-abbrev pub IsUnshown : Option TheGateway → List ℕ → List ℕ → ℕ → ℕ → Type 0 → Fault → Type 0
-IsUnshown old out new was size kept why = Refuses old (IsUntouched out new was size × kept) (λ g w. ShowsNot out new was size g w × kept) why
+abbrev pub IsUnshown : List ℕ → List ℕ → ℕ → ℕ → Option TheGateway → Fault → Type 0
+IsUnshown out new was size old why = Refuses old (IsUntouched out new was size) (λ g w. ShowsNot out new was size g w) why
 
 -- ---- what is kept durably
 
@@ -60,8 +59,8 @@ IsUnshown old out new was size kept why = Refuses old (IsUntouched out new was s
 abbrev pub Spells : List ℕ → List ℕ → ℕ → TheGateway → Type 0
 Spells out new size g = (bytes : List ℕ) × IsStoreBytes g.store bytes × IsCopied bytes out new size
 
-abbrev pub IsStored : Option TheGateway → List ℕ → List ℕ → ℕ → Type 0
-IsStored old out new size = OfOpen old (Spells out new size)
+abbrev pub IsStored : List ℕ → List ℕ → ℕ → Option TheGateway → Option TheGateway → Type 0
+IsStored out out' size old new = OfOpen old (Spells out out' size) × (new ≡ old)
 
 -- the buffer is too short for bytes of which this holds, or memory ran out
 abbrev pub WritesNot : (List ℕ → Type 0) → List ℕ → List ℕ → ℕ → ℕ → Fault → Type 0
@@ -69,16 +68,16 @@ WritesNot Is out new was size Memory = IsUntouched out new was size
 WritesNot Is out new was size Room = (bytes : List ℕ) × Is bytes × IsUncopied bytes out new size
 WritesNot Is out new was size other = ⊥
 
-abbrev pub IsUnstored : Option TheGateway → List ℕ → List ℕ → ℕ → ℕ → Fault → Type 0
-IsUnstored old out new was size why = Refuses old (IsUntouched out new was size) (λ g w. WritesNot (IsStoreBytes g.store) out new was size w) why
+abbrev pub IsUnstored : List ℕ → List ℕ → ℕ → ℕ → Option TheGateway → Fault → Type 0
+IsUnstored out new was size old why = Refuses old (IsUntouched out new was size) (λ g w. WritesNot (IsStoreBytes g.store) out new was size w) why
 
 -- the changes since are taken: the buffer begins with their bytes
 abbrev pub Tells : List ℕ → List ℕ → ℕ → TheGateway → TheGateway → Type 0
 Tells out new size g h =
     ((bytes : List ℕ) × AreChanges g.changes bytes × IsCopied bytes out new size) × (h ≡ record g { changes = [] }) × Since h.store h × Acts g h
 
-abbrev pub IsTold : Option TheGateway → Option TheGateway → List ℕ → List ℕ → ℕ → Type 0
-IsTold old new out out' size = Calls old new (Tells out out' size)
+abbrev pub IsTold : List ℕ → List ℕ → ℕ → Option TheGateway → Option TheGateway → Type 0
+IsTold out out' size old new = Calls old new (Tells out out' size)
 
-abbrev pub IsUntold : Option TheGateway → List ℕ → List ℕ → ℕ → ℕ → Fault → Type 0
-IsUntold old out new was size why = Refuses old (IsUntouched out new was size) (λ g w. WritesNot (AreChanges g.changes) out new was size w) why
+abbrev pub IsUntold : List ℕ → List ℕ → ℕ → ℕ → Option TheGateway → Fault → Type 0
+IsUntold out new was size old why = Refuses old (IsUntouched out new was size) (λ g w. WritesNot (AreChanges g.changes) out new was size w) why

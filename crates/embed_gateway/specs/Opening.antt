@@ -38,18 +38,18 @@ IsUnopened n page tick old Range = (old ≡ None) × (¬ AreInside n page tick)
 IsUnopened n page tick old Memory = (old ≡ None) × AreInside n page tick
 IsUnopened n page tick old other = ⊥
 
--- a closed handle is open now, with the gateway that has the store of these bytes
-abbrev pub IsRevived : List ℕ → ℕ → ℕ → Option TheGateway → Option TheGateway → Type 0
-IsRevived store page tick old new =
-    (old ≡ None) × AreLimits page tick × ((s : TheStore) × IsStoreBytes s store × OfOpen new (λ g. (g ≡ revived page tick s) × StandsFor s g))
+-- a closed handle is open now, with the gateway that has the store of these bytes; no fault is told
+abbrev pub IsRevived : List ℕ → ℕ → ℕ → ℕ → ℕ → Option TheGateway → Option TheGateway → Type 0
+IsRevived store page tick was fault old new =
+    ((old ≡ None) × AreLimits page tick × ((s : TheStore) × IsStoreBytes s store × OfOpen new (λ g. (g ≡ revived page tick s) × StandsFor s g))) × (fault ≡ was)
 
 -- why it isn't: it was open, a limit is out of its range, the bytes are no store's by their first fault, or memory ran out
-abbrev pub IsUnrevived : List ℕ → ℕ → ℕ → Option TheGateway → ℕ → ℕ → Fault → Type 0
-IsUnrevived store page tick old was fault Handle = (old ≢ None) × (fault ≡ was)
-IsUnrevived store page tick old was fault Range = (old ≡ None) × (¬ AreLimits page tick) × (fault ≡ was)
-IsUnrevived store page tick old was fault Bytes = (old ≡ None) × AreLimits page tick × ((f : StoreFault) × IsFirstFault f store × (fault ≡ store_fault_number f))
-IsUnrevived store page tick old was fault Memory = (old ≡ None) × AreLimits page tick × (fault ≡ was)
-IsUnrevived store page tick old was fault other = ⊥
+abbrev pub IsUnrevived : List ℕ → ℕ → ℕ → ℕ → ℕ → Option TheGateway → Fault → Type 0
+IsUnrevived store page tick was fault old Handle = (old ≢ None) × (fault ≡ was)
+IsUnrevived store page tick was fault old Range = (old ≡ None) × (¬ AreLimits page tick) × (fault ≡ was)
+IsUnrevived store page tick was fault old Bytes = (old ≡ None) × AreLimits page tick × ((f : StoreFault) × IsFirstFault f store × (fault ≡ store_fault_number f))
+IsUnrevived store page tick was fault old Memory = (old ≡ None) × AreLimits page tick × (fault ≡ was)
+IsUnrevived store page tick was fault old other = ⊥
 
 -- nothing waits to be sent or to be made durable
 abbrev pub IsFresh : TheGateway → Type 0
@@ -60,8 +60,8 @@ abbrev pub IsLater : List ℕ → TheGateway → TheGateway → Type 0
 IsLater changes g h =
     IsFresh g × ((ks : List Change) × AreChanges ks changes × FitAll ks g.store × (h ≡ revived g.page g.tick (applied_all ks g.store)) × StandsFor (applied_all ks g.store) h)
 
-abbrev pub IsApplied : List ℕ → Option TheGateway → Option TheGateway → ℕ → ℕ → Type 0
-IsApplied changes old new was fault = Calls old new (λ g h. IsLater changes g h × (fault ≡ was))
+abbrev pub IsApplied : List ℕ → ℕ → ℕ → Option TheGateway → Option TheGateway → Type 0
+IsApplied changes was fault old new = Calls old new (λ g h. IsLater changes g h × (fault ≡ was))
 
 -- they aren't those of changes, or one of these can't happen
 abbrev pub AreMisfit : List ℕ → TheStore → ℕ → Type 0
@@ -75,13 +75,13 @@ IsUnlater changes g was fault Bytes = IsFresh g × AreMisfit changes g.store fau
 IsUnlater changes g was fault Memory = IsFresh g × (fault ≡ was)
 IsUnlater changes g was fault other = ⊥
 
-abbrev pub IsUnapplied : List ℕ → Option TheGateway → ℕ → ℕ → Fault → Type 0
-IsUnapplied changes old was fault why = Refuses old (fault ≡ was) (λ g w. IsUnlater changes g was fault w) why
+abbrev pub IsUnapplied : List ℕ → ℕ → ℕ → Option TheGateway → Fault → Type 0
+IsUnapplied changes was fault old why = Refuses old (fault ≡ was) (λ g w. IsUnlater changes g was fault w) why
 
 -- an open handle is closed now
 abbrev pub IsClosed : Option TheGateway → Option TheGateway → Type 0
 IsClosed old new = OfOpen old (λ g. Unit {0}) × (new ≡ None)
 
--- it was closed before, and is
-abbrev pub WasClosed : Option TheGateway → Option TheGateway → Fault → Type 0
-WasClosed old new why = (why ≡ Handle) × (old ≡ None) × (new ≡ None)
+-- it was closed before
+abbrev pub WasClosed : Option TheGateway → Fault → Type 0
+WasClosed old why = (why ≡ Handle) × (old ≡ None)

@@ -1,8 +1,9 @@
 //! What the host tells the gateway of a handle.
 
-ghost use Rattle.std.specs.Prelude.{◌≡◌, MatchResult, None};
-ghost use Rattle.embed_gateway.specs.declared.fault.Fault.TheVariants.{Handle as Closed};
+ghost use Rattle.std.specs.Prelude.{◌≡◌, MatchResult};
+ghost use Rattle.embed_gateway.specs.Answers.{Results};
 ghost use Rattle.embed_gateway.specs.Calls.{IsLogged, IsReceived, IsTicked, IsUnlogged, IsUnreceived, Logs, LogsNot, Receives, ReceivesNot};
+ghost use Rattle.embed_gateway.specs.Opening.{WasClosed};
 
 use crate::fault::Fault;
 use crate::handle::GatewayHandle;
@@ -35,7 +36,7 @@ pub(crate) fn input(
     payload: &[u8],
     ssn: &mut u64,
 ) -> Result<(), Fault>
-    ensures { MatchResult result (λ _. IsLogged process payload.now handle.old.gateway.value handle.new.gateway.value ssn.new) (λ why. IsUnlogged process payload.now handle.old.gateway.value ssn.old ssn.new why × (handle.new.gateway.value ≡ handle.old.gateway.value)) }
+    ensures { Results result handle.old.gateway.value handle.new.gateway.value (IsLogged process payload.now ssn.new) (IsUnlogged process payload.now ssn.old ssn.new) }
 {
     let Some(mut gateway) = handle.take(alloc) else {
         return Err(Fault::Handle);
@@ -66,7 +67,7 @@ pub(crate) fn receive(
     packet: &[u8],
     fault: &mut u32,
 ) -> Result<(), Fault>
-    ensures { MatchResult result (λ _. IsReceived packet.now handle.old.gateway.value handle.new.gateway.value fault.old fault.new) (λ why. IsUnreceived packet.now handle.old.gateway.value fault.old fault.new why × (handle.new.gateway.value ≡ handle.old.gateway.value)) }
+    ensures { Results result handle.old.gateway.value handle.new.gateway.value (IsReceived packet.now fault.old fault.new) (IsUnreceived packet.now fault.old fault.new) }
 {
     let Some(mut gateway) = handle.take(alloc) else {
         return Err(Fault::Handle);
@@ -78,7 +79,7 @@ pub(crate) fn receive(
 
 /// What isn't answered is sent again.
 pub(crate) fn tick(alloc: Global, handle: &mut GatewayHandle) -> Result<(), Fault>
-    ensures { MatchResult result (λ _. IsTicked handle.old.gateway.value handle.new.gateway.value) (λ why. (why ≡ Closed) × (handle.old.gateway.value ≡ None) × (handle.new.gateway.value ≡ handle.old.gateway.value)) }
+    ensures { Results result handle.old.gateway.value handle.new.gateway.value IsTicked WasClosed }
 {
     let Some(mut gateway) = handle.take(alloc) else {
         return Err(Fault::Handle);

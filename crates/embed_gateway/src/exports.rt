@@ -1,9 +1,8 @@
 //! What C calls. A code of 0 says that it is done, any other is the number of a fault, and what either
 //! says of handle and buffers stands in the contracts.
 
-ghost use Rattle.std.specs.Prelude.{◌≡◌, None};
-ghost use Rattle.embed_gateway.specs.declared.fault.Fault.TheVariants.{Handle as Closed};
-ghost use Rattle.embed_gateway.specs.Answers.{Answers};
+ghost use Rattle.std.specs.Prelude.{◌≡◌};
+ghost use Rattle.embed_gateway.specs.Answers.{Answers, OnFault};
 ghost use Rattle.embed_gateway.specs.Opening.{IsApplied, IsClosed, IsOpened, IsRevived, IsUnapplied, IsUnopened, IsUnrevived, WasClosed};
 ghost use Rattle.embed_gateway.specs.Calls.{IsLogged, IsReceived, IsTicked, IsUnlogged, IsUnreceived};
 ghost use Rattle.embed_gateway.specs.Giving.{IsShown, IsStored, IsTaken, IsTold, IsUnshown, IsUnstored, IsUntaken, IsUntold};
@@ -23,7 +22,7 @@ pub extern "C" fn sblog_gateway_open(
     tick: u32,
     handle: &mut GatewayHandle,
 ) -> u32
-    ensures { Answers result (IsOpened n page tick handle.old.gateway.value handle.new.gateway.value) (λ why. IsUnopened n page tick handle.old.gateway.value why × (handle.new.gateway.value ≡ handle.old.gateway.value)) }
+    ensures { Answers result handle.old.gateway.value handle.new.gateway.value (IsOpened n page tick) (IsUnopened n page tick) }
 {
     code(opening::open(alloc, n, page, tick, handle))
 }
@@ -39,7 +38,7 @@ pub extern "C" fn sblog_gateway_revive(
     handle: &mut GatewayHandle,
     fault: &mut u32,
 ) -> u32
-    ensures { Answers result (IsRevived store.now page tick handle.old.gateway.value handle.new.gateway.value × (fault.new ≡ fault.old)) (λ why. IsUnrevived store.now page tick handle.old.gateway.value fault.old fault.new why × (handle.new.gateway.value ≡ handle.old.gateway.value)) }
+    ensures { Answers result handle.old.gateway.value handle.new.gateway.value (IsRevived store.now page tick fault.old fault.new) (IsUnrevived store.now page tick fault.old fault.new) }
 {
     code(opening::revive(alloc, store, page, tick, handle, fault))
 }
@@ -53,7 +52,7 @@ pub extern "C" fn sblog_gateway_apply(
     changes: &[u8],
     fault: &mut u32,
 ) -> u32
-    ensures { Answers result (IsApplied changes.now handle.old.gateway.value handle.new.gateway.value fault.old fault.new) (λ why. IsUnapplied changes.now handle.old.gateway.value fault.old fault.new why × (handle.new.gateway.value ≡ handle.old.gateway.value)) }
+    ensures { Answers result handle.old.gateway.value handle.new.gateway.value (IsApplied changes.now fault.old fault.new) (IsUnapplied changes.now fault.old fault.new) }
 {
     code(opening::apply(alloc, handle, changes, fault))
 }
@@ -61,7 +60,7 @@ pub extern "C" fn sblog_gateway_apply(
 /// Closes a handle, and gives the memory of its gateway back.
 #[unsafe(no_mangle)]
 pub extern "C" fn sblog_gateway_close(alloc: Global, handle: &mut GatewayHandle) -> u32
-    ensures { Answers result (IsClosed handle.old.gateway.value handle.new.gateway.value) (WasClosed handle.old.gateway.value handle.new.gateway.value) }
+    ensures { Answers result handle.old.gateway.value handle.new.gateway.value IsClosed WasClosed }
 {
     code(opening::close(alloc, handle))
 }
@@ -75,7 +74,7 @@ pub extern "C" fn sblog_gateway_input(
     payload: &[u8],
     ssn: &mut u64,
 ) -> u32
-    ensures { Answers result (IsLogged process payload.now handle.old.gateway.value handle.new.gateway.value ssn.new) (λ why. IsUnlogged process payload.now handle.old.gateway.value ssn.old ssn.new why × (handle.new.gateway.value ≡ handle.old.gateway.value)) }
+    ensures { Answers result handle.old.gateway.value handle.new.gateway.value (IsLogged process payload.now ssn.new) (IsUnlogged process payload.now ssn.old ssn.new) }
 {
     code(calling::input(alloc, handle, process, payload, ssn))
 }
@@ -89,7 +88,7 @@ pub extern "C" fn sblog_gateway_receive(
     packet: &[u8],
     fault: &mut u32,
 ) -> u32
-    ensures { Answers result (IsReceived packet.now handle.old.gateway.value handle.new.gateway.value fault.old fault.new) (λ why. IsUnreceived packet.now handle.old.gateway.value fault.old fault.new why × (handle.new.gateway.value ≡ handle.old.gateway.value)) }
+    ensures { Answers result handle.old.gateway.value handle.new.gateway.value (IsReceived packet.now fault.old fault.new) (IsUnreceived packet.now fault.old fault.new) }
 {
     code(calling::receive(alloc, handle, packet, fault))
 }
@@ -103,7 +102,8 @@ pub extern "C" fn sblog_gateway_take(
     size: &mut usize,
     to: &mut u8,
 ) -> u32
-    ensures { Answers result (IsTaken handle.old.gateway.value handle.new.gateway.value out.old out.new size.new to.new) (λ why. IsUntaken handle.old.gateway.value out.old out.new size.old size.new (to.new ≡ to.old) why × (handle.new.gateway.value ≡ handle.old.gateway.value)) }
+    ensures taken { Answers result handle.old.gateway.value handle.new.gateway.value (IsTaken out.old out.new size.new to.new) (IsUntaken out.old out.new size.old size.new) }
+    ensures kept { OnFault result (to.new ≡ to.old) }
 {
     code(giving::take(alloc, handle, out, size, to))
 }
@@ -111,7 +111,7 @@ pub extern "C" fn sblog_gateway_take(
 /// What isn't answered yet is sent again.
 #[unsafe(no_mangle)]
 pub extern "C" fn sblog_gateway_tick(alloc: Global, handle: &mut GatewayHandle) -> u32
-    ensures { Answers result (IsTicked handle.old.gateway.value handle.new.gateway.value) (λ why. (why ≡ Closed) × (handle.old.gateway.value ≡ None) × (handle.new.gateway.value ≡ handle.old.gateway.value)) }
+    ensures { Answers result handle.old.gateway.value handle.new.gateway.value IsTicked WasClosed }
 {
     code(calling::tick(alloc, handle))
 }
@@ -127,7 +127,8 @@ pub extern "C" fn sblog_gateway_output(
     out: &mut [u8],
     size: &mut usize,
 ) -> u32
-    ensures { Answers result (IsShown handle.old.gateway.value handle.new.gateway.value process.new ssn.new out.old out.new size.new) (λ why. IsUnshown handle.old.gateway.value out.old out.new size.old size.new ((process.new ≡ process.old) × (ssn.new ≡ ssn.old)) why × (handle.new.gateway.value ≡ handle.old.gateway.value)) }
+    ensures shown { Answers result handle.old.gateway.value handle.new.gateway.value (IsShown process.new ssn.new out.old out.new size.new) (IsUnshown out.old out.new size.old size.new) }
+    ensures kept { OnFault result ((process.new ≡ process.old) × (ssn.new ≡ ssn.old)) }
 {
     code(giving::output(alloc, handle, process, ssn, out, size))
 }
@@ -140,7 +141,7 @@ pub extern "C" fn sblog_gateway_store(
     out: &mut [u8],
     size: &mut usize,
 ) -> u32
-    ensures { Answers result (IsStored handle.old.gateway.value out.old out.new size.new × (handle.new.gateway.value ≡ handle.old.gateway.value)) (λ why. IsUnstored handle.old.gateway.value out.old out.new size.old size.new why × (handle.new.gateway.value ≡ handle.old.gateway.value)) }
+    ensures { Answers result handle.old.gateway.value handle.new.gateway.value (IsStored out.old out.new size.new) (IsUnstored out.old out.new size.old size.new) }
 {
     code(giving::store(alloc, handle, out, size))
 }
@@ -154,7 +155,7 @@ pub extern "C" fn sblog_gateway_changes(
     out: &mut [u8],
     size: &mut usize,
 ) -> u32
-    ensures { Answers result (IsTold handle.old.gateway.value handle.new.gateway.value out.old out.new size.new) (λ why. IsUntold handle.old.gateway.value out.old out.new size.old size.new why × (handle.new.gateway.value ≡ handle.old.gateway.value)) }
+    ensures { Answers result handle.old.gateway.value handle.new.gateway.value (IsTold out.old out.new size.new) (IsUntold out.old out.new size.old size.new) }
 {
     code(giving::changes(alloc, handle, out, size))
 }

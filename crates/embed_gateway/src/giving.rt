@@ -1,6 +1,7 @@
 //! What the gateway of a handle gives its host.
 
-ghost use Rattle.std.specs.Prelude.{◌≡◌, MatchResult};
+ghost use Rattle.std.specs.Prelude.{◌≡◌, MatchResult, OnErr};
+ghost use Rattle.embed_gateway.specs.Answers.{Results};
 ghost use Rattle.embed_gateway.specs.Giving.{Gives, GivesNot, IsShown, IsStored, IsTaken, IsTold, IsUnshown, IsUnstored, IsUntaken, IsUntold, Shows, ShowsNot, Spells, Tells, WritesNot};
 ghost use Rattle.stores.specs.Format.{IsStoreBytes};
 ghost use Rattle.stores.specs.Changes.{AreChanges};
@@ -19,7 +20,8 @@ fn give(
     size: &mut usize,
     to: &mut u8,
 ) -> Result<(), Fault>
-    ensures { MatchResult result (λ _. Gives out.old out.new size.new to.new gateway.old gateway.new) (λ why. (GivesNot out.old out.new size.old size.new gateway.old why × (to.new ≡ to.old)) × (gateway.new ≡ gateway.old)) }
+    ensures given { MatchResult result (λ _. Gives out.old out.new size.new to.new gateway.old gateway.new) (λ why. GivesNot out.old out.new size.old size.new gateway.old why × (gateway.new ≡ gateway.old)) }
+    ensures kept { OnErr result (to.new ≡ to.old) }
 {
     let Some((name, bytes)) = gateway.first_bytes(alloc)? else {
         return Err(Fault::Absent);
@@ -38,7 +40,8 @@ pub(crate) fn take(
     size: &mut usize,
     to: &mut u8,
 ) -> Result<(), Fault>
-    ensures { MatchResult result (λ _. IsTaken handle.old.gateway.value handle.new.gateway.value out.old out.new size.new to.new) (λ why. IsUntaken handle.old.gateway.value out.old out.new size.old size.new (to.new ≡ to.old) why × (handle.new.gateway.value ≡ handle.old.gateway.value)) }
+    ensures taken { Results result handle.old.gateway.value handle.new.gateway.value (IsTaken out.old out.new size.new to.new) (IsUntaken out.old out.new size.old size.new) }
+    ensures kept { OnErr result (to.new ≡ to.old) }
 {
     let Some(mut gateway) = handle.take(alloc) else {
         return Err(Fault::Handle);
@@ -57,7 +60,8 @@ fn show(
     out: &mut [u8],
     size: &mut usize,
 ) -> Result<(), Fault>
-    ensures { MatchResult result (λ _. Shows process.new ssn.new out.old out.new size.new gateway.old gateway.new) (λ why. (ShowsNot out.old out.new size.old size.new gateway.old why × ((process.new ≡ process.old) × (ssn.new ≡ ssn.old))) × (gateway.new ≡ gateway.old)) }
+    ensures shown { MatchResult result (λ _. Shows process.new ssn.new out.old out.new size.new gateway.old gateway.new) (λ why. ShowsNot out.old out.new size.old size.new gateway.old why × (gateway.new ≡ gateway.old)) }
+    ensures kept { OnErr result ((process.new ≡ process.old) × (ssn.new ≡ ssn.old)) }
 {
     let Some(output) = gateway.store().first_output() else {
         return Err(Fault::Absent);
@@ -80,7 +84,8 @@ pub(crate) fn output(
     out: &mut [u8],
     size: &mut usize,
 ) -> Result<(), Fault>
-    ensures { MatchResult result (λ _. IsShown handle.old.gateway.value handle.new.gateway.value process.new ssn.new out.old out.new size.new) (λ why. IsUnshown handle.old.gateway.value out.old out.new size.old size.new ((process.new ≡ process.old) × (ssn.new ≡ ssn.old)) why × (handle.new.gateway.value ≡ handle.old.gateway.value)) }
+    ensures shown { Results result handle.old.gateway.value handle.new.gateway.value (IsShown process.new ssn.new out.old out.new size.new) (IsUnshown out.old out.new size.old size.new) }
+    ensures kept { OnErr result ((process.new ≡ process.old) × (ssn.new ≡ ssn.old)) }
 {
     let Some(mut gateway) = handle.take(alloc) else {
         return Err(Fault::Handle);
@@ -105,8 +110,7 @@ pub(crate) fn store(
     out: &mut [u8],
     size: &mut usize,
 ) -> Result<(), Fault>
-    ensures same { handle.new.gateway.value ≡ handle.old.gateway.value }
-    ensures read { MatchResult result (λ _. IsStored handle.old.gateway.value out.old out.new size.new) (IsUnstored handle.old.gateway.value out.old out.new size.old size.new) }
+    ensures { Results result handle.old.gateway.value handle.new.gateway.value (IsStored out.old out.new size.new) (IsUnstored out.old out.new size.old size.new) }
 {
     let Some(gateway) = handle.take(alloc) else {
         return Err(Fault::Handle);
@@ -133,7 +137,7 @@ pub(crate) fn changes(
     out: &mut [u8],
     size: &mut usize,
 ) -> Result<(), Fault>
-    ensures { MatchResult result (λ _. IsTold handle.old.gateway.value handle.new.gateway.value out.old out.new size.new) (λ why. IsUntold handle.old.gateway.value out.old out.new size.old size.new why × (handle.new.gateway.value ≡ handle.old.gateway.value)) }
+    ensures { Results result handle.old.gateway.value handle.new.gateway.value (IsTold out.old out.new size.new) (IsUntold out.old out.new size.old size.new) }
 {
     let Some(mut gateway) = handle.take(alloc) else {
         return Err(Fault::Handle);

@@ -2,6 +2,7 @@
 
 ghost use Rattle.std.specs.Prelude.{◌≡◌, ◌↔◌, IsTrue, MatchResult, Some};
 ghost use Rattle.embed_gateway.specs.declared.fault.Fault.TheVariants.{Memory};
+ghost use Rattle.embed_gateway.specs.Answers.{Results};
 ghost use Rattle.embed_gateway.specs.Opening.{AreInside, AreLimits, IsApplied, IsClosed, IsLater, IsOpened, IsRevived, IsUnapplied, IsUnlater, IsUnopened, IsUnrevived, WasClosed};
 
 use crate::fault::Fault;
@@ -54,7 +55,7 @@ pub(crate) fn open(
     tick: u32,
     handle: &mut GatewayHandle,
 ) -> Result<(), Fault>
-    ensures { MatchResult result (λ _. IsOpened count page tick handle.old.gateway.value handle.new.gateway.value) (λ why. IsUnopened count page tick handle.old.gateway.value why × (handle.new.gateway.value ≡ handle.old.gateway.value)) }
+    ensures { Results result handle.old.gateway.value handle.new.gateway.value (IsOpened count page tick) (IsUnopened count page tick) }
 {
     if handle.is_open() {
         return Err(Fault::Handle);
@@ -76,7 +77,7 @@ pub(crate) fn revive(
     handle: &mut GatewayHandle,
     fault: &mut u32,
 ) -> Result<(), Fault>
-    ensures { MatchResult result (λ _. IsRevived store.now page tick handle.old.gateway.value handle.new.gateway.value × (fault.new ≡ fault.old)) (λ why. IsUnrevived store.now page tick handle.old.gateway.value fault.old fault.new why × (handle.new.gateway.value ≡ handle.old.gateway.value)) }
+    ensures { Results result handle.old.gateway.value handle.new.gateway.value (IsRevived store.now page tick fault.old fault.new) (IsUnrevived store.now page tick fault.old fault.new) }
 {
     if handle.is_open() {
         return Err(Fault::Handle);
@@ -133,7 +134,7 @@ pub(crate) fn apply(
     changes: &[u8],
     fault: &mut u32,
 ) -> Result<(), Fault>
-    ensures { MatchResult result (λ _. IsApplied changes.now handle.old.gateway.value handle.new.gateway.value fault.old fault.new) (λ why. IsUnapplied changes.now handle.old.gateway.value fault.old fault.new why × (handle.new.gateway.value ≡ handle.old.gateway.value)) }
+    ensures { Results result handle.old.gateway.value handle.new.gateway.value (IsApplied changes.now fault.old fault.new) (IsUnapplied changes.now fault.old fault.new) }
 {
     let Some(mut gateway) = handle.take(alloc) else {
         return Err(Fault::Handle);
@@ -145,7 +146,7 @@ pub(crate) fn apply(
 
 /// Closes a handle, and gives the memory of its gateway back.
 pub(crate) fn close(alloc: Global, handle: &mut GatewayHandle) -> Result<(), Fault>
-    ensures { MatchResult result (λ _. IsClosed handle.old.gateway.value handle.new.gateway.value) (WasClosed handle.old.gateway.value handle.new.gateway.value) }
+    ensures { Results result handle.old.gateway.value handle.new.gateway.value IsClosed WasClosed }
 {
     match handle.take(alloc) {
         Some(_gateway) => Ok(()),

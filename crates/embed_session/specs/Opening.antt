@@ -38,10 +38,11 @@ IsOpened files lengths old new = (images : List Typed) × AreFiles files lengths
 abbrev pub AreCounted : List ℕ → Type 0
 AreCounted lengths = (1 ≤ length lengths) × (length lengths ≤ PROCESSES)
 
--- why it isn't: it was open, there are none or too many files, they aren't those of images, or memory ran out; the first of these
-abbrev pub IsUnopened : List ℕ → List ℕ → Option TheSession → Fault → Type 0
-IsUnopened files lengths old Handle = old ≢ None
-IsUnopened files lengths old (Session NoSuchProcess) = (old ≡ None) × (¬ AreCounted lengths)
-IsUnopened files lengths old (Session Memory) = (old ≡ None) × AreCounted lengths
-IsUnopened files lengths old File = (old ≡ None) × AreCounted lengths × IsMisfit files lengths
-IsUnopened files lengths old other = ⊥
+-- why it isn't, and is as it was: it was open, there are none or too many files, they aren't those of images, or memory ran out; the first
+-- of these
+abbrev pub IsUnopened : List ℕ → List ℕ → Option TheSession → Option TheSession → Fault → Type 0
+IsUnopened files lengths old new Handle = (old ≢ None) × (new ≡ old)
+IsUnopened files lengths old new (Session NoSuchProcess) = (old ≡ None) × (¬ AreCounted lengths) × (new ≡ old)
+IsUnopened files lengths old new (Session Memory) = (old ≡ None) × AreCounted lengths × (new ≡ old)
+IsUnopened files lengths old new File = (old ≡ None) × AreCounted lengths × IsMisfit files lengths × (new ≡ old)
+IsUnopened files lengths old new other = ⊥

@@ -28,18 +28,18 @@ abbrev pub IsInside : TheSession → ℕ → Type 0
 IsInside s p = (1 ≤ p) × (p ≤ length s.images)
 
 -- the handle is open, and this holds of its session
-abbrev pub OfOpen : Option TheSession → (TheSession → Type 0) → Type 0
-OfOpen handle holds = (s : TheSession) × (handle ≡ Some s) × holds s
+abbrev pub OfOpen : (TheSession → Type 0) → Option TheSession → Type 0
+OfOpen holds handle = (s : TheSession) × (handle ≡ Some s) × holds s
 
 -- the same of a session that keeps what is promised of it
-abbrev pub OfPromised : Option TheSession → (TheSession → Type 0) → Type 0
-OfPromised handle holds = OfOpen handle (λ s. KeepsPromises s × holds s)
+abbrev pub OfPromised : (TheSession → Type 0) → Option TheSession → Type 0
+OfPromised holds handle = OfOpen (λ s. KeepsPromises s × holds s) handle
 
 -- why nothing is told of a process: the handle is closed, or there is no such process
-abbrev pub IsUntold : Option TheSession → ℕ → Fault → Type 0
-IsUntold handle p Handle = handle ≡ None
-IsUntold handle p (Session NoSuchProcess) = OfOpen handle (λ s. ¬ IsInside s p)
-IsUntold handle p other = ⊥
+abbrev pub IsUntold : ℕ → Option TheSession → Fault → Type 0
+IsUntold p handle Handle = handle ≡ None
+IsUntold p handle (Session NoSuchProcess) = OfOpen (λ s. ¬ IsInside s p) handle
+IsUntold p handle other = ⊥
 
 -- the buffer begins with these bytes, and their number is told
 abbrev pub IsCopied : List ℕ → List ℕ → List ℕ → ℕ → Type 0
@@ -50,13 +50,13 @@ abbrev pub IsUncopied : List ℕ → List ℕ → List ℕ → ℕ → Type 0
 IsUncopied bytes old new size = (length old < length bytes) × (new ≡ old) × (size ≡ length bytes)
 
 -- the buffer begins with the bytes of which this holds, of a process of an open session
-abbrev pub IsReadOf : Option TheSession → ℕ → (TheSession → List ℕ → Type 0) → List ℕ → List ℕ → ℕ → Type 0
-IsReadOf handle p Is old new size = OfOpen handle (λ s. IsInside s p × ((bytes : List ℕ) × Is s bytes × IsCopied bytes old new size))
+abbrev pub IsReadOf : ℕ → (ℕ → TheSession → List ℕ → Type 0) → List ℕ → List ℕ → ℕ → Option TheSession → Type 0
+IsReadOf p Is old new size handle = OfOpen (λ s. IsInside s p × ((bytes : List ℕ) × Is p s bytes × IsCopied bytes old new size)) handle
 
 -- why it doesn't: it is too short for them, or nothing is told
-abbrev pub IsUnreadOf : Option TheSession → ℕ → (TheSession → List ℕ → Type 0) → List ℕ → List ℕ → ℕ → ℕ → Fault → Type 0
-IsUnreadOf handle p Is old new was size Room = OfOpen handle (λ s. IsInside s p × ((bytes : List ℕ) × Is s bytes × IsUncopied bytes old new size))
-IsUnreadOf handle p Is old new was size why = IsUntold handle p why × (new ≡ old) × (size ≡ was)
+abbrev pub IsUnreadOf : ℕ → (ℕ → TheSession → List ℕ → Type 0) → List ℕ → List ℕ → ℕ → ℕ → Option TheSession → Fault → Type 0
+IsUnreadOf p Is old new was size handle Room = OfOpen (λ s. IsInside s p × ((bytes : List ℕ) × Is p s bytes × IsUncopied bytes old new size)) handle
+IsUnreadOf p Is old new was size handle why = IsUntold p handle why × (new ≡ old) × (size ≡ was)
 
 -- the state of a process, which is empty while the process is down
 abbrev pub IsState : ℕ → TheSession → List ℕ → Type 0
@@ -69,33 +69,37 @@ abbrev pub IsSaved : ℕ → TheSession → List ℕ → Type 0
 IsSaved p s bytes = IsSavedOf (world_at s) p bytes
 
 -- how many messages its state has, and the number of its phase
-abbrev pub IsStanding : Option TheSession → ℕ → ℕ → ℕ → Type 0
-IsStanding handle p length phase =
-    OfOpen handle (λ s. IsInside s p × (length ≡ length_of (world_at s) p) × (phase ≡ phase_number (name_of ((world_at s).phase p))))
+abbrev pub IsStanding : ℕ → ℕ → ℕ → Option TheSession → Type 0
+IsStanding p length phase handle =
+    OfOpen (λ s. IsInside s p × (length ≡ length_of (world_at s) p) × (phase ≡ phase_number (name_of ((world_at s).phase p)))) handle
+
+-- why they aren't told, and both are as they were
+abbrev pub IsNotStanding : ℕ → ℕ → ℕ → ℕ → ℕ → Option TheSession → Fault → Type 0
+IsNotStanding p length length' phase phase' handle why = IsUntold p handle why × (length' ≡ length) × (phase' ≡ phase)
 
 -- an output that was shown, by its place from 0: its sender, its number and its bytes
-abbrev pub IsShown : Option TheSession → ℕ → ℕ → ℕ → List ℕ → List ℕ → ℕ → Type 0
-IsShown handle k sender ssn old new size =
-    OfPromised handle (λ s. (m : Message) × (slice_get (world_at s).shown k ≡ Some m) × (sender ≡ m.sender) × (ssn ≡ m.ssn) × IsCopied m.payload old new size)
+abbrev pub IsShown : ℕ → ℕ → ℕ → List ℕ → List ℕ → ℕ → Option TheSession → Type 0
+IsShown k sender ssn old new size handle =
+    OfPromised (λ s. (m : Message) × (slice_get (world_at s).shown k ≡ Some m) × (sender ≡ m.sender) × (ssn ≡ m.ssn) × IsCopied m.payload old new size) handle
 
 -- why none is: there is none of this place, the buffer is too short for it, or the handle is closed
-abbrev pub IsUnshown : Option TheSession → ℕ → List ℕ → List ℕ → ℕ → ℕ → Fault → Type 0
-IsUnshown handle k old new was size Absent = OfOpen handle (λ s. slice_get (world_at s).shown k ≡ None) × (new ≡ old) × (size ≡ was)
-IsUnshown handle k old new was size Room = OfOpen handle (λ s. (m : Message) × (slice_get (world_at s).shown k ≡ Some m) × IsUncopied m.payload old new size)
-IsUnshown handle k old new was size Handle = (handle ≡ None) × (new ≡ old) × (size ≡ was)
-IsUnshown handle k old new was size other = ⊥
+abbrev pub IsUnshown : ℕ → List ℕ → List ℕ → ℕ → ℕ → Option TheSession → Fault → Type 0
+IsUnshown k old new was size handle Absent = OfOpen (λ s. slice_get (world_at s).shown k ≡ None) handle × (new ≡ old) × (size ≡ was)
+IsUnshown k old new was size handle Room = OfOpen (λ s. (m : Message) × (slice_get (world_at s).shown k ≡ Some m) × IsUncopied m.payload old new size) handle
+IsUnshown k old new was size handle Handle = (handle ≡ None) × (new ≡ old) × (size ≡ was)
+IsUnshown k old new was size handle other = ⊥
 
 -- 1 where failures came one at a time, else 0
 abbrev pub exact_number : TheSession → ℕ
 exact_number s = if is_exact s then 1 else 0
 
 -- the trace of the journal
-abbrev pub IsTraced : Option TheSession → List ℕ → List ℕ → ℕ → Type 0
-IsTraced handle old new size = OfPromised handle (λ s. IsCopied (trace_text s.entries) old new size)
+abbrev pub IsTraced : List ℕ → List ℕ → ℕ → Option TheSession → Type 0
+IsTraced old new size handle = OfPromised (λ s. IsCopied (trace_text s.entries) old new size) handle
 
 -- why it isn't written: memory ran out, the buffer is too short for it, or the handle is closed
-abbrev pub IsUntraced : Option TheSession → List ℕ → List ℕ → ℕ → ℕ → Fault → Type 0
-IsUntraced handle old new was size (Session Memory) = OfOpen handle (λ s. Unit {0}) × (new ≡ old) × (size ≡ was)
-IsUntraced handle old new was size Room = OfOpen handle (λ s. IsUncopied (trace_text s.entries) old new size)
-IsUntraced handle old new was size Handle = (handle ≡ None) × (new ≡ old) × (size ≡ was)
-IsUntraced handle old new was size other = ⊥
+abbrev pub IsUntraced : List ℕ → List ℕ → ℕ → ℕ → Option TheSession → Fault → Type 0
+IsUntraced old new was size handle (Session Memory) = OfOpen (λ s. Unit {0}) handle × (new ≡ old) × (size ≡ was)
+IsUntraced old new was size handle Room = OfOpen (λ s. IsUncopied (trace_text s.entries) old new size) handle
+IsUntraced old new was size handle Handle = (handle ≡ None) × (new ≡ old) × (size ≡ was)
+IsUntraced old new was size handle other = ⊥

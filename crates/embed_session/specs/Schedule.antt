@@ -47,12 +47,13 @@ abbrev pub IsUnarrived : ℕ → TheSession → TheSession → Refusal → Type 
 IsUnarrived key old new r = Owes old new (Arrive key) (Err r) ⊎ ((r ≡ Memory) × LeavesOpen key old new)
 
 -- a packet of an open handle's session arrived, which keeps what is promised of it, and the record is that of the last entry
-abbrev pub IsReceived : ℕ → Option TheSession → Option TheSession → Record → Type 0
-IsReceived key old new record_is =
+abbrev pub IsReceived : ℕ → Record → Option TheSession → Option TheSession → Type 0
+IsReceived key record_is old new =
     (s s' : TheSession) × (old ≡ Some s) × (new ≡ Some s') × ((e : Entry) × Arrives key s s' e × (record_is ≡ record_of e)) × KeepsPromises s'
 
--- why none arrived: the session refused it, or memory ran out for its job, or the handle is closed
-abbrev pub IsUnreceived : ℕ → Option TheSession → Option TheSession → Fault → Type 0
-IsUnreceived key old new (Session r) = (s s' : TheSession) × (old ≡ Some s) × (new ≡ Some s') × IsUnarrived key s s' r × KeepsPromises s'
-IsUnreceived key old new Handle = (old ≡ None) × (new ≡ old)
-IsUnreceived key old new other = ⊥
+-- why none arrived: the session refused it, or memory ran out for its job, or the handle is closed; the record is as it was
+abbrev pub IsUnreceived : ℕ → Record → Record → Option TheSession → Option TheSession → Fault → Type 0
+IsUnreceived key was record_is old new (Session r) =
+    ((s s' : TheSession) × (old ≡ Some s) × (new ≡ Some s') × IsUnarrived key s s' r × KeepsPromises s') × (record_is ≡ was)
+IsUnreceived key was record_is old new Handle = (old ≡ None) × (new ≡ old) × (record_is ≡ was)
+IsUnreceived key was record_is old new other = ⊥

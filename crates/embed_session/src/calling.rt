@@ -1,8 +1,8 @@
 //! Calls of the session of a handle.
 
-ghost use Rattle.std.specs.Prelude.{◌≡◌, ◌≤◌, MatchResult, length};
+ghost use Rattle.std.specs.Prelude.{◌≡◌, ◌≤◌, length};
 ghost use Rattle.machine.specs.Stepping.{IsJobless};
-ghost use Rattle.embed_session.specs.Session.{number_of, IsCalled, IsClosed, IsDriven, IsHandedBack, IsHandedIn, IsUncalled, IsUndriven, WasClosed};
+ghost use Rattle.embed_session.specs.Session.{number_of, IsCalled, IsClosed, IsDriven, IsHandedBack, IsHandedIn, IsUncalled, IsUndriven, Results, WasClosed};
 ghost use Rattle.embed_session.specs.Inside.Calling.{HasKey};
 
 use crate::fault::Fault;
@@ -38,7 +38,7 @@ pub(crate) fn call(
     number: &mut u32,
 ) -> Result<(), Fault>
     requires { IsJobless call }
-    ensures { MatchResult result (λ _. IsCalled call handle.old.session.value handle.new.session.value number.new) (λ why. IsUncalled call handle.old.session.value handle.new.session.value why × (number.new ≡ number.old)) }
+    ensures { Results result handle.old.session.value handle.new.session.value (IsCalled call number.new) (IsUncalled call number.old number.new) }
 {
     let Some(mut service) = handle.take(alloc) else {
         return Err(Fault::Handle);
@@ -63,7 +63,7 @@ pub(crate) fn drive(
     budget: u32,
     accepted: &mut u32,
 ) -> Result<(), Fault>
-    ensures { MatchResult result (λ _. IsDriven budget handle.old.session.value handle.new.session.value accepted.new) (IsUndriven budget handle.old.session.value handle.new.session.value accepted.old accepted.new) }
+    ensures { Results result handle.old.session.value handle.new.session.value (IsDriven budget accepted.new) (IsUndriven budget accepted.old accepted.new) }
 {
     let Some(mut service) = handle.take(alloc) else {
         return Err(Fault::Handle);
@@ -95,7 +95,7 @@ pub(crate) fn input(
     payload: &[u8],
     ssn: &mut u32,
 ) -> Result<(), Fault>
-    ensures { MatchResult result (λ _. IsHandedIn to feed payload.now handle.old.session.value handle.new.session.value ssn.new) (λ why. IsHandedBack to feed payload.now handle.old.session.value handle.new.session.value why × (ssn.new ≡ ssn.old)) }
+    ensures { Results result handle.old.session.value handle.new.session.value (IsHandedIn to feed payload.now ssn.new) (IsHandedBack to feed payload.now ssn.old ssn.new) }
 {
     if payload.len() > PAYLOAD_BYTES {
         return Err(Fault::Payload);
@@ -114,7 +114,7 @@ pub(crate) fn input(
 
 /// Closes a handle, and gives the memory of its session back.
 pub(crate) fn close(alloc: Global, handle: &mut SessionHandle) -> Result<(), Fault>
-    ensures { MatchResult result (λ _. IsClosed handle.old.session.value handle.new.session.value) (WasClosed handle.old.session.value handle.new.session.value) }
+    ensures { Results result handle.old.session.value handle.new.session.value IsClosed WasClosed }
 {
     match handle.take(alloc) {
         Some(_service) => Ok(()),

@@ -1,14 +1,13 @@
 //! What C calls. A code of 0 says that it is done, any other is the number of a fault, and what either
 //! says of handle and buffers stands in the contracts.
 
-ghost use Rattle.std.specs.Prelude.{◌≡◌, None, drop, length};
-ghost use Rattle.embed_session.specs.declared.fault.Fault.TheVariants.{Handle as Closed};
-ghost use Rattle.embed_session.specs.Session.{Answers, IsCalled, IsClosed, IsDriven, IsHandedBack, IsHandedIn, IsUncalled, IsUndriven, WasClosed};
+ghost use Rattle.std.specs.Prelude.{◌≡◌, length};
+ghost use Rattle.embed_session.specs.Session.{Answers, IsCalled, IsClosed, IsDriven, IsHandedBack, IsHandedIn, IsUncalled, IsUndriven, NoneIsOpen, OnFault, Tells, WasClosed};
 ghost use Rattle.embed_session.specs.Opening.{IsOpened, IsUnopened};
-ghost use Rattle.embed_session.specs.Entries.{AreWritten, IsEntryAt, IsNoEntry};
+ghost use Rattle.embed_session.specs.Entries.{AreEntriesFrom, IsEntryAt, IsNoEntry};
 ghost use Rattle.embed_session.specs.Places.{places_left};
 ghost use Rattle.embed_session.specs.Schedule.{IsReceived, IsUnreceived};
-ghost use Rattle.embed_session.specs.Reading.{IsReadOf, IsSaved, IsShown, IsStanding, IsState, IsTraced, IsUnreadOf, IsUnshown, IsUntold, IsUntraced, OfPromised, exact_number};
+ghost use Rattle.embed_session.specs.Reading.{IsNotStanding, IsReadOf, IsSaved, IsShown, IsStanding, IsState, IsTraced, IsUnreadOf, IsUnshown, IsUntraced, OfPromised, exact_number};
 
 use crate::entry::Record;
 use crate::fault::code;
@@ -26,7 +25,7 @@ pub extern "C" fn sblog_session_open(
     lengths: &[u32],
     handle: &mut SessionHandle,
 ) -> u32
-    ensures { Answers result (IsOpened files.now lengths.now handle.old.session.value handle.new.session.value) (λ why. IsUnopened files.now lengths.now handle.old.session.value why × (handle.new.session.value ≡ handle.old.session.value)) }
+    ensures { Answers result handle.old.session.value handle.new.session.value (IsOpened files.now lengths.now) (IsUnopened files.now lengths.now) }
 {
     code(opening::open(alloc, files, lengths, handle))
 }
@@ -34,7 +33,7 @@ pub extern "C" fn sblog_session_open(
 /// Closes a handle, and gives the memory of its session back.
 #[unsafe(no_mangle)]
 pub extern "C" fn sblog_session_close(alloc: Global, handle: &mut SessionHandle) -> u32
-    ensures { Answers result (IsClosed handle.old.session.value handle.new.session.value) (WasClosed handle.old.session.value handle.new.session.value) }
+    ensures { Answers result handle.old.session.value handle.new.session.value IsClosed WasClosed }
 {
     code(calling::close(alloc, handle))
 }
@@ -51,7 +50,7 @@ pub extern "C" fn sblog_session_input(
     payload: &[u8],
     ssn: &mut u32,
 ) -> u32
-    ensures { Answers result (IsHandedIn to feed payload.now handle.old.session.value handle.new.session.value ssn.new) (λ why. IsHandedBack to feed payload.now handle.old.session.value handle.new.session.value why × (ssn.new ≡ ssn.old)) }
+    ensures { Answers result handle.old.session.value handle.new.session.value (IsHandedIn to feed payload.now ssn.new) (IsHandedBack to feed payload.now ssn.old ssn.new) }
 {
     code(calling::input(alloc, handle, to, feed, payload, ssn))
 }
@@ -65,7 +64,7 @@ pub extern "C" fn sblog_session_drive(
     budget: u32,
     accepted: &mut u32,
 ) -> u32
-    ensures { Answers result (IsDriven budget handle.old.session.value handle.new.session.value accepted.new) (IsUndriven budget handle.old.session.value handle.new.session.value accepted.old accepted.new) }
+    ensures { Answers result handle.old.session.value handle.new.session.value (IsDriven budget accepted.new) (IsUndriven budget accepted.old accepted.new) }
 {
     code(calling::drive(alloc, handle, budget, accepted))
 }
@@ -81,7 +80,7 @@ pub extern "C" fn sblog_session_transmit(
     ssn: u32,
     packet: &mut u32,
 ) -> u32
-    ensures { Answers result (IsCalled (Call.Transmit from to ssn) handle.old.session.value handle.new.session.value packet.new) (λ why. IsUncalled (Call.Transmit from to ssn) handle.old.session.value handle.new.session.value why × (packet.new ≡ packet.old)) }
+    ensures { Answers result handle.old.session.value handle.new.session.value (IsCalled (Call.Transmit from to ssn) packet.new) (IsUncalled (Call.Transmit from to ssn) packet.old packet.new) }
 {
     let call = Call::Transmit { from, to, ssn };
     code(calling::call(alloc, handle, call, packet))
@@ -95,7 +94,7 @@ pub extern "C" fn sblog_session_copy(
     packet: u32,
     copy: &mut u32,
 ) -> u32
-    ensures { Answers result (IsCalled (Call.Copy packet) handle.old.session.value handle.new.session.value copy.new) (λ why. IsUncalled (Call.Copy packet) handle.old.session.value handle.new.session.value why × (copy.new ≡ copy.old)) }
+    ensures { Answers result handle.old.session.value handle.new.session.value (IsCalled (Call.Copy packet) copy.new) (IsUncalled (Call.Copy packet) copy.old copy.new) }
 {
     let key = packet as usize;
     code(calling::call(alloc, handle, Call::Copy { key }, copy))
@@ -104,7 +103,7 @@ pub extern "C" fn sblog_session_copy(
 /// Loses the packet of a key.
 #[unsafe(no_mangle)]
 pub extern "C" fn sblog_session_lose(alloc: Global, handle: &mut SessionHandle, packet: u32) -> u32
-    ensures { Answers result (IsCalled (Call.Lose packet) handle.old.session.value handle.new.session.value 0) (IsUncalled (Call.Lose packet) handle.old.session.value handle.new.session.value) }
+    ensures { Answers result handle.old.session.value handle.new.session.value (IsCalled (Call.Lose packet) 0) (IsUncalled (Call.Lose packet) 0 0) }
 {
     let key = packet as usize;
     let mut number = 0;
@@ -120,7 +119,7 @@ pub extern "C" fn sblog_session_arrive(
     packet: u32,
     entry: &mut Record,
 ) -> u32
-    ensures { Answers result (IsReceived packet handle.old.session.value handle.new.session.value entry.new) (λ why. IsUnreceived packet handle.old.session.value handle.new.session.value why × (entry.new ≡ entry.old)) }
+    ensures { Answers result handle.old.session.value handle.new.session.value (IsReceived packet entry.new) (IsUnreceived packet entry.old entry.new) }
 {
     code(schedule::arrive(alloc, handle, packet as usize, entry))
 }
@@ -133,7 +132,7 @@ pub extern "C" fn sblog_session_checkpoint(
     process: u8,
     covered: &mut u32,
 ) -> u32
-    ensures { Answers result (IsCalled (Call.Checkpoint process) handle.old.session.value handle.new.session.value covered.new) (λ why. IsUncalled (Call.Checkpoint process) handle.old.session.value handle.new.session.value why × (covered.new ≡ covered.old)) }
+    ensures { Answers result handle.old.session.value handle.new.session.value (IsCalled (Call.Checkpoint process) covered.new) (IsUncalled (Call.Checkpoint process) covered.old covered.new) }
 {
     let call = Call::Checkpoint { process };
     code(calling::call(alloc, handle, call, covered))
@@ -148,7 +147,7 @@ pub extern "C" fn sblog_session_trim(
     to: u8,
     dropped: &mut u32,
 ) -> u32
-    ensures { Answers result (IsCalled (Call.Trim to) handle.old.session.value handle.new.session.value dropped.new) (λ why. IsUncalled (Call.Trim to) handle.old.session.value handle.new.session.value why × (dropped.new ≡ dropped.old)) }
+    ensures { Answers result handle.old.session.value handle.new.session.value (IsCalled (Call.Trim to) dropped.new) (IsUncalled (Call.Trim to) dropped.old dropped.new) }
 {
     let call = Call::Trim { to };
     code(calling::call(alloc, handle, call, dropped))
@@ -162,7 +161,7 @@ pub extern "C" fn sblog_session_crash(
     process: u8,
     incarnation: &mut u32,
 ) -> u32
-    ensures { Answers result (IsCalled (Call.Crash process) handle.old.session.value handle.new.session.value incarnation.new) (λ why. IsUncalled (Call.Crash process) handle.old.session.value handle.new.session.value why × (incarnation.new ≡ incarnation.old)) }
+    ensures { Answers result handle.old.session.value handle.new.session.value (IsCalled (Call.Crash process) incarnation.new) (IsUncalled (Call.Crash process) incarnation.old incarnation.new) }
 {
     let call = Call::Crash { process };
     code(calling::call(alloc, handle, call, incarnation))
@@ -176,7 +175,7 @@ pub extern "C" fn sblog_session_recover(
     process: u8,
     kept: &mut u32,
 ) -> u32
-    ensures { Answers result (IsCalled (Call.Recover process) handle.old.session.value handle.new.session.value kept.new) (λ why. IsUncalled (Call.Recover process) handle.old.session.value handle.new.session.value why × (kept.new ≡ kept.old)) }
+    ensures { Answers result handle.old.session.value handle.new.session.value (IsCalled (Call.Recover process) kept.new) (IsUncalled (Call.Recover process) kept.old kept.new) }
 {
     let call = Call::Recover { process };
     code(calling::call(alloc, handle, call, kept))
@@ -191,7 +190,7 @@ pub extern "C" fn sblog_session_recover_alone(
     process: u8,
     kept: &mut u32,
 ) -> u32
-    ensures { Answers result (IsCalled (Call.RecoverAlone process) handle.old.session.value handle.new.session.value kept.new) (λ why. IsUncalled (Call.RecoverAlone process) handle.old.session.value handle.new.session.value why × (kept.new ≡ kept.old)) }
+    ensures { Answers result handle.old.session.value handle.new.session.value (IsCalled (Call.RecoverAlone process) kept.new) (IsUncalled (Call.RecoverAlone process) kept.old kept.new) }
 {
     let call = Call::RecoverAlone { process };
     code(calling::call(alloc, handle, call, kept))
@@ -206,7 +205,7 @@ pub extern "C" fn sblog_session_standing(
     length: &mut u32,
     phase: &mut u32,
 ) -> u32
-    ensures { Answers result (IsStanding handle.old.session.value process length.new phase.new × (handle.new.session.value ≡ handle.old.session.value)) (λ why. IsUntold handle.old.session.value process why × (handle.new.session.value ≡ handle.old.session.value) × (length.new ≡ length.old) × (phase.new ≡ phase.old)) }
+    ensures { Tells result handle.old.session.value handle.new.session.value (IsStanding process length.new phase.new) (IsNotStanding process length.old length.new phase.old phase.new) }
 {
     code(reading::standing(alloc, handle, process, length, phase))
 }
@@ -220,7 +219,7 @@ pub extern "C" fn sblog_session_state(
     out: &mut [u8],
     size: &mut usize,
 ) -> u32
-    ensures { Answers result (IsReadOf handle.old.session.value process (IsState process) out.old out.new size.new × (handle.new.session.value ≡ handle.old.session.value)) (λ why. IsUnreadOf handle.old.session.value process (IsState process) out.old out.new size.old size.new why × (handle.new.session.value ≡ handle.old.session.value)) }
+    ensures { Tells result handle.old.session.value handle.new.session.value (IsReadOf process IsState out.old out.new size.new) (IsUnreadOf process IsState out.old out.new size.old size.new) }
 {
     code(reading::state(alloc, handle, process, out, size))
 }
@@ -234,7 +233,7 @@ pub extern "C" fn sblog_session_saved(
     out: &mut [u8],
     size: &mut usize,
 ) -> u32
-    ensures { Answers result (IsReadOf handle.old.session.value process (IsSaved process) out.old out.new size.new × (handle.new.session.value ≡ handle.old.session.value)) (λ why. IsUnreadOf handle.old.session.value process (IsSaved process) out.old out.new size.old size.new why × (handle.new.session.value ≡ handle.old.session.value)) }
+    ensures { Tells result handle.old.session.value handle.new.session.value (IsReadOf process IsSaved out.old out.new size.new) (IsUnreadOf process IsSaved out.old out.new size.old size.new) }
 {
     code(reading::saved(alloc, handle, process, out, size))
 }
@@ -251,7 +250,8 @@ pub extern "C" fn sblog_session_shown(
     out: &mut [u8],
     size: &mut usize,
 ) -> u32
-    ensures { Answers result (IsShown handle.old.session.value place sender.new ssn.new out.old out.new size.new × (handle.new.session.value ≡ handle.old.session.value)) (λ why. IsUnshown handle.old.session.value place out.old out.new size.old size.new why × (handle.new.session.value ≡ handle.old.session.value) × (sender.new ≡ sender.old) × (ssn.new ≡ ssn.old)) }
+    ensures shown { Tells result handle.old.session.value handle.new.session.value (IsShown place sender.new ssn.new out.old out.new size.new) (IsUnshown place out.old out.new size.old size.new) }
+    ensures kept { OnFault result ((sender.new ≡ sender.old) × (ssn.new ≡ ssn.old)) }
 {
     code(reading::shown(alloc, handle, place, sender, ssn, out, size))
 }
@@ -263,7 +263,7 @@ pub extern "C" fn sblog_session_exact(
     handle: &mut SessionHandle,
     answer: &mut u32,
 ) -> u32
-    ensures { Answers result (OfPromised handle.old.session.value (λ s. answer.new ≡ exact_number s) × (handle.new.session.value ≡ handle.old.session.value)) (λ why. (why ≡ Closed) × (handle.old.session.value ≡ None) × (handle.new.session.value ≡ handle.old.session.value) × (answer.new ≡ answer.old)) }
+    ensures { Tells result handle.old.session.value handle.new.session.value (OfPromised (λ s. answer.new ≡ exact_number s)) (NoneIsOpen (answer.new ≡ answer.old)) }
 {
     code(reading::exact(alloc, handle, answer))
 }
@@ -276,7 +276,7 @@ pub extern "C" fn sblog_session_trace(
     out: &mut [u8],
     size: &mut usize,
 ) -> u32
-    ensures { Answers result (IsTraced handle.old.session.value out.old out.new size.new × (handle.new.session.value ≡ handle.old.session.value)) (λ why. IsUntraced handle.old.session.value out.old out.new size.old size.new why × (handle.new.session.value ≡ handle.old.session.value)) }
+    ensures { Tells result handle.old.session.value handle.new.session.value (IsTraced out.old out.new size.new) (IsUntraced out.old out.new size.old size.new) }
 {
     code(reading::trace(alloc, handle, out, size))
 }
@@ -289,7 +289,7 @@ pub extern "C" fn sblog_session_room(
     handle: &mut SessionHandle,
     places: &mut usize,
 ) -> u32
-    ensures { Answers result (OfPromised handle.old.session.value (λ s. places.new ≡ places_left s) × (handle.new.session.value ≡ handle.old.session.value)) (λ why. (why ≡ Closed) × (handle.old.session.value ≡ None) × (handle.new.session.value ≡ handle.old.session.value) × (places.new ≡ places.old)) }
+    ensures { Tells result handle.old.session.value handle.new.session.value (OfPromised (λ s. places.new ≡ places_left s)) (NoneIsOpen (places.new ≡ places.old)) }
 {
     code(places::room(alloc, handle, places))
 }
@@ -301,7 +301,7 @@ pub extern "C" fn sblog_session_journal(
     handle: &mut SessionHandle,
     count: &mut usize,
 ) -> u32
-    ensures { Answers result (OfPromised handle.old.session.value (λ s. count.new ≡ length s.entries) × (handle.new.session.value ≡ handle.old.session.value)) (λ why. (why ≡ Closed) × (handle.old.session.value ≡ None) × (handle.new.session.value ≡ handle.old.session.value) × (count.new ≡ count.old)) }
+    ensures { Tells result handle.old.session.value handle.new.session.value (OfPromised (λ s. count.new ≡ length s.entries)) (NoneIsOpen (count.new ≡ count.old)) }
 {
     code(journal::length(alloc, handle, count))
 }
@@ -314,7 +314,7 @@ pub extern "C" fn sblog_session_entry(
     place: usize,
     entry: &mut Record,
 ) -> u32
-    ensures { Answers result (IsEntryAt handle.old.session.value place entry.new × (handle.new.session.value ≡ handle.old.session.value)) (λ why. IsNoEntry handle.old.session.value place why × (handle.new.session.value ≡ handle.old.session.value) × (entry.new ≡ entry.old)) }
+    ensures { Tells result handle.old.session.value handle.new.session.value (IsEntryAt place entry.new) (IsNoEntry place entry.old entry.new) }
 {
     code(journal::entry(alloc, handle, place, entry))
 }
@@ -329,7 +329,7 @@ pub extern "C" fn sblog_session_entries(
     out: &mut [Record],
     count: &mut usize,
 ) -> u32
-    ensures { Answers result (OfPromised handle.old.session.value (λ s. AreWritten (drop from s.entries) out.old out.new count.new) × (handle.new.session.value ≡ handle.old.session.value)) (λ why. (why ≡ Closed) × (handle.old.session.value ≡ None) × (handle.new.session.value ≡ handle.old.session.value) × (out.new ≡ out.old) × (count.new ≡ count.old)) }
+    ensures { Tells result handle.old.session.value handle.new.session.value (AreEntriesFrom from out.old out.new count.new) (NoneIsOpen ((out.new ≡ out.old) × (count.new ≡ count.old))) }
 {
     code(journal::entries(alloc, handle, from, out, count))
 }

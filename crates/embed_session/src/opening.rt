@@ -4,6 +4,7 @@ ghost use Rattle.std.specs.Prelude.{◌≡◌, ◌≤◌, MatchResult, OnOk, IfE
 ghost use Rattle.std.specs.Arc.{arc_value};
 ghost use Rattle.embed_session.specs.Inside.Loading.{AreMore, IsUnread};
 ghost use Rattle.embed_session.specs.Opening.{IsImageIn, IsMisfit, IsOpened, IsRefused, IsUnopened};
+ghost use Rattle.embed_session.specs.Session.{Results};
 
 use crate::fault::Fault;
 use crate::handle::SessionHandle;
@@ -65,7 +66,7 @@ pub(crate) fn open(
     lengths: &[u32],
     handle: &mut SessionHandle,
 ) -> Result<(), Fault>
-    ensures { MatchResult result (λ _. IsOpened files.now lengths.now handle.old.session.value handle.new.session.value) (λ why. IsUnopened files.now lengths.now handle.old.session.value why × (handle.new.session.value ≡ handle.old.session.value)) }
+    ensures { Results result handle.old.session.value handle.new.session.value (IsOpened files.now lengths.now) (IsUnopened files.now lengths.now) }
 {
     if handle.is_open() {
         return Err(Fault::Handle);

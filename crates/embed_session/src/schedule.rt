@@ -2,6 +2,7 @@
 
 ghost use Rattle.std.specs.Prelude.{◌≡◌, MatchResult};
 ghost use Rattle.sessions.specs.Service.{KeepsPromises};
+ghost use Rattle.embed_session.specs.Session.{Results};
 ghost use Rattle.embed_session.specs.Schedule.{Arrives, IsReceived, IsUnarrived, IsUnreceived};
 
 use crate::entry::Record;
@@ -43,7 +44,7 @@ pub(crate) fn arrive(
     key: usize,
     out: &mut Record,
 ) -> Result<(), Fault>
-    ensures { MatchResult result (λ _. IsReceived key handle.old.session.value handle.new.session.value out.new) (λ why. IsUnreceived key handle.old.session.value handle.new.session.value why × (out.new ≡ out.old)) }
+    ensures { Results result handle.old.session.value handle.new.session.value (IsReceived key out.new) (IsUnreceived key out.old out.new) }
 {
     let Some(mut service) = handle.take(alloc) else {
         return Err(Fault::Handle);

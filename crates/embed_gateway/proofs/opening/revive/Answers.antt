@@ -16,7 +16,7 @@ returns c =
     let fault = c.args.fault.now in
     let g = c.in_ok-gateway.gateway in
     let s = c.in-Ok.store in
-    let refused : IsUnrevived bytes page tick old fault fault Memory = first_of (search rules, grind (arith, common_steps)) in
+    let refused : IsUnrevived bytes page tick fault fault old Memory = first_of (search rules, grind (arith, common_steps)) in
     let value : g ≡ revived page tick s = first_of (search rules, grind (arith, common_steps)) in
     matched c.hold.result _ _ _ _ (λ e. ((refused.0, refused.1, (s, c.in-Ok.ensures.found, (g, e, (value, c.in_ok-gateway.ensures.stands)))), refl))
-    (λ why h. (subst (λ (w : Fault). IsUnrevived bytes page tick old fault fault w) (sym h.0) refused, h.1 ∙ c.is_open.ensures.same)) c.hold.ensures
+    (λ why h. (subst (λ (w : Fault). IsUnrevived bytes page tick fault fault old w) (sym h.0) refused, h.1 ∙ c.is_open.ensures.same)) c.hold.ensures

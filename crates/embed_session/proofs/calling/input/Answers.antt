@@ -11,4 +11,4 @@ returns-in-Some-refusal c =
     let refusal = c.in-Some-refusal.refusal in
     let short : IsShort s c.args.to refusal = subst (λ (z : TheSession). IsShort z c.args.to refusal) c.deref.ensures c.in-Some-refusal.ensures.some in
     let few : length c.args.payload.now ≤ PAYLOAD_BYTES = omega arith in
-    ((few, (s, c.in-Some.ensures.some, short-refused s c.args.to c.args.feed c.args.payload.now refusal short), c.put.ensures ∙ sym c.in-Some.ensures.some), refl)
+    ((few, (s, c.in-Some.ensures.some, short-refused s c.args.to c.args.feed c.args.payload.now refusal short)), c.put.ensures ∙ sym c.in-Some.ensures.some, refl)
