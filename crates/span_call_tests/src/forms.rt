@@ -64,7 +64,10 @@ fn forms(rt: HostRuntime) -> Result<(), Fail> {
     assert_eq!(rt; left_by(alloc, &LAST_SHOWN, 9)?, (FileForm::Sbi1, 0, 0));
     assert_eq!(rt; left_by(alloc, &LENGTH, 100)?, (FileForm::Sbi2, 100, 7));
     assert_eq!(rt; left_by(alloc, &LENGTH, 0)?, (FileForm::Sbi2, 0, 7));
-    assert_eq!(rt; left_by(alloc, &HUNDREDTH, 100)?, (FileForm::Sbi3, 100, 100));
+    assert_eq!(rt;
+        left_by(alloc, &HUNDREDTH, 100)?,
+        (FileForm::Sbi3, 100, 100)
+    );
     assert_eq!(rt; left_by(alloc, &HUNDREDTH, 99)?, (FileForm::Sbi3, 0, 0));
     Ok(())
 }
