@@ -418,7 +418,8 @@ SBLOG_NODE_ASSERT(offsetof(sblog_node, at) == 0, "place of at");
 SBLOG_NODE_ASSERT(offsetof(sblog_node, held) == 8, "place of held");
 #undef SBLOG_NODE_ASSERT
 
-/* page is 60000, tick 8, numbers 256, receipts 65536 and durable 0: other values are refused so far (23). */
+/* The image may be of form 1, 2 or 3. page is 60000, tick 8, numbers 256, receipts 65536 and durable 0: other
+   values are refused so far (23). */
 uint32_t sblog_node_open(const uint8_t *image, size_t image_len, uint8_t me, uint8_t n, uint32_t page,
                          uint32_t tick, uint32_t numbers, uint32_t receipts, uint32_t durable,
                          sblog_node *node);

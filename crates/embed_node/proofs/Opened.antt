@@ -1,7 +1,7 @@
 -- What comes back is put into the handle, or memory runs out
 use Rattle.std.proofs.Common.{◌≡◌, ◌∙◌, ℕ, List, sym, subst}
 use Rattle.std.specs.Prelude.{Option, Some, None, Result, Ok, Err, OnOk, IfErr, MatchResult}
-use Rattle.verifier.specs.Typed.{Typed}
+use Rattle.images.specs.declared.any_image.AnyImage.{AnyImage}
 use Rattle.process.specs.Process.{TheProcess}
 use Rattle.process.specs.Reviving.{IsRevived}
 use Rattle.embed_node.specs.declared.opening.Limits.{Limits}
@@ -9,7 +9,7 @@ use Rattle.embed_node.specs.declared.fault.Fault.{Fault}
 use Rattle.embed_node.specs.declared.fault.Fault.TheVariants.{Memory}
 use Rattle.embed_node.specs.Opening.{IsImageIn, AreKnown, Revives, DoesNotRevive}
 
-pub put-revives : (r : Result (Unit {0}) Fault) (file kept : List ℕ) (life : ℕ) (l : Limits) (old new : Option TheProcess) (image : Typed) (p : TheProcess) → OnOk r (new ≡ Some p)
+pub put-revives : (r : Result (Unit {0}) Fault) (file kept : List ℕ) (life : ℕ) (l : Limits) (old new : Option TheProcess) (image : AnyImage) (p : TheProcess) → OnOk r (new ≡ Some p)
     → IfErr r (λ why. (why ≡ Memory) × (new ≡ old)) → old ≡ None → AreKnown l → IsImageIn file image → IsRevived image kept life p
     → MatchResult r (λ x. Revives file kept life l old new) (DoesNotRevive file kept life l old new)
 put-revives (Ok u) file kept life l old new image p ok err was known is revived =

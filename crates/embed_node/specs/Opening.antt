@@ -2,11 +2,11 @@
 use Rattle.std.specs.Prelude.{◌≡◌, ◌≢◌, ◌⊎◌, ℕ, ◌≤◌, List, Option, Some, None}
 use Rattle.limits.specs.declared.TheConstants.{PROCESSES}
 use Rattle.rsn.specs.declared.receipts.TheConstants.{LIMIT}
-use Rattle.verifier.specs.Typed.{Typed}
-use Rattle.verifier.specs.Verdict.{IsImageOf}
-use Rattle.verifier.specs.ImageFile.{IsFile, IsRefusal}
 use Rattle.verifier.specs.declared.fault.ImageError.{ImageError}
 use Rattle.verifier.specs.declared.fault.ImageError.TheVariants as error
+use Rattle.images.specs.declared.any_image.AnyImage.{AnyImage}
+use Rattle.images.specs.AnyImage.{code_of, form_of, state_of}
+use Rattle.images.specs.ImageFile.{IsFile, IsRefusal, IsTypable}
 use Rattle.packets.specs.declared.kept_fault.KeptFault.{KeptFault}
 use Rattle.packets.specs.KeptFaults.{kept_fault_number}
 use Rattle.node.specs.Node.{IsPositive}
@@ -20,9 +20,10 @@ use Rattle.embed_node.specs.declared.opening.Limits.{Limits}
 use Rattle.embed_node.specs.declared.fault.Fault.{Fault}
 use Rattle.embed_node.specs.declared.fault.Fault.TheVariants.{Memory, Handle, Image, Bytes, Limit}
 
--- the file is that of this image
-abbrev pub IsImageIn : List ℕ → Typed → Type 0
-IsImageIn file image = IsFile image.form image.code image.len file × IsImageOf image.form image.code image.len image
+-- the file is that of this image, of any form, whose code is typable in it
+pub record IsImageIn (file : List ℕ) (image : AnyImage) : Type 0 where
+  pub file_is : IsFile (form_of image) (code_of image) (state_of image) file
+  pub typable : IsTypable (form_of image) (code_of image) (state_of image)
 
 -- the file is none of an image, by its header, its code or the rules
 abbrev pub IsNoImage : List ℕ → Type 0
@@ -60,7 +61,7 @@ pub record Opens (file : List ℕ) (me n : ℕ) (l : Limits) (old new : Option T
   pub was : old ≡ None
   pub seat : IsSeat me n
   pub known : AreKnown l
-  pub image : Typed
+  pub image : AnyImage
   pub image_is : IsImageIn file image
   pub process : TheProcess
   pub is : new ≡ Some process
@@ -78,7 +79,7 @@ DoesNotOpen file me n l old new other = ⊥
 pub record Revives (file kept : List ℕ) (life : ℕ) (l : Limits) (old new : Option TheProcess) : Type 0 where
   pub was : old ≡ None
   pub known : AreKnown l
-  pub image : Typed
+  pub image : AnyImage
   pub image_is : IsImageIn file image
   pub process : TheProcess
   pub is : new ≡ Some process
@@ -87,7 +88,7 @@ pub record Revives (file kept : List ℕ) (life : ℕ) (l : Limits) (old new : O
 -- why the bytes are refused, of an image's process: they are none that is kept of a process, or its state isn't as long as the image's
 abbrev pub AreRefused : List ℕ → List ℕ → ℕ → ℕ → Type 0
 AreRefused file kept life f =
-    (image : Typed) × IsImageIn file image × ((((e : KeptFault) × (f ≡ kept_fault_number e) × IsUnrevived image kept life (why.Kept e))) ⊎ ((f ≡ 9) × IsUnrevived image kept life why.State))
+    (image : AnyImage) × IsImageIn file image × ((((e : KeptFault) × (f ≡ kept_fault_number e) × IsUnrevived image kept life (why.Kept e))) ⊎ ((f ≡ 9) × IsUnrevived image kept life why.State))
 
 -- why nothing comes back: the handle is open, a limit or the incarnation is out of its range, the file is none of an image, the bytes are
 -- refused, or memory ran out. The handle stays as it was

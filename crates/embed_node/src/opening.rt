@@ -2,18 +2,19 @@
 
 ghost use Rattle.std.specs.Prelude.{◌≡◌, ◌↔◌, Some, None, IsTrue, MatchResult, IfErr, OnErr, OnOk};
 ghost use Rattle.std.specs.Arc.{arc_value};
-ghost use Rattle.verifier.specs.Typed.{Typed};
+ghost use Rattle.handlers.specs.Handler.{image_of};
 ghost use Rattle.embed_node.specs.declared.fault.Fault.TheVariants.{Memory};
 ghost use Rattle.embed_node.specs.Opening.{AreKnown, IsSeat, IsImageIn, IsNotLoaded, Opens, DoesNotOpen, Revives, DoesNotRevive, IsTold};
 
 use crate::fault::Fault;
 use crate::handle::NodeHandle;
+use handlers::Handler;
 use limits::PROCESSES;
 use node::{PAGE, TICK, WINDOW};
 use process::{Process, Unrevived};
 use std::alloc::Global;
 use std::sync::Arc;
-use verifier::{Image, ImageError, load};
+use verifier::ImageError;
 
 /// The limits of a node, as a program says them.
 #[derive(Clone, Copy)]
@@ -38,11 +39,11 @@ impl Limits {
     }
 }
 
-/// The image of a file.
-fn image_of(alloc: Global, file: &[u8]) -> Result<Arc<Image>, Fault>
-    ensures { MatchResult result (λ image. IsImageIn file.now (arc_value image)) (IsNotLoaded file.now) }
+/// The handler of a file.
+fn handler_of(alloc: Global, file: &[u8]) -> Result<Arc<Handler>, Fault>
+    ensures { MatchResult result (λ image. IsImageIn file.now (image_of (arc_value image))) (IsNotLoaded file.now) }
 {
-    let image = match load(alloc, file) {
+    let image = match Handler::load(alloc, file) {
         Ok(image) => image,
         Err(ImageError::Memory) => return Err(Fault::Memory),
         Err(_) => return Err(Fault::Image),
@@ -82,7 +83,7 @@ pub(crate) fn open(
     if !is_seat(me, n) || !limits.are_known() {
         return Err(Fault::Limit);
     }
-    let image = image_of(alloc, image)?;
+    let image = handler_of(alloc, image)?;
     let Ok(process) = Process::open(alloc, image, me, n) else {
         return Err(Fault::Memory);
     };
@@ -106,7 +107,7 @@ pub(crate) fn revive(
     if !limits.are_known() {
         return Err(Fault::Limit);
     }
-    let image = image_of(alloc, image)?;
+    let image = handler_of(alloc, image)?;
     match Process::revive(alloc, image, kept, incarnation) {
         Ok(process) => put(alloc, process, handle),
         Err(why) => Err(refused(why)),

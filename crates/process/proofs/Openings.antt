@@ -1,6 +1,7 @@
 -- A node that received nothing is a process that did, and what comes back is one that does
 use Rattle.std.proofs.Common.{◌≡◌, ◌∙◌, ap, refl, subst, ℕ, List, length, true}
-use Rattle.verifier.specs.Typed.{Typed}
+use Rattle.images.specs.declared.any_image.AnyImage.{AnyImage}
+use Rattle.images.specs.AnyImage.{state_of}
 use Rattle.world.specs.Handlers.{Handlers}
 use Rattle.cluster.specs.Cluster.{opening}
 use Rattle.node.specs.Node.{TheNode, new_node}
@@ -13,7 +14,7 @@ use Rattle.recovery.specs.Stands.{Revives}
 use Rattle.process.specs.declared.course.Course.TheVariants.{Up, Collecting}
 use Rattle.process.specs.Reviving.{IsOpened, IsRevived}
 
-pub opened : (image : Typed) (me count len : ℕ) (n : TheNode) → n ≡ new_node me count len → len ≡ image.len → ((f : Handlers) → BeginsWith f me len → Stands n (opening count f) me)
+pub opened : (image : AnyImage) (me count len : ℕ) (n : TheNode) → n ≡ new_node me count len → len ≡ state_of image → ((f : Handlers) → BeginsWith f me len → Stands n (opening count f) me)
     → IsOpened image me count (record { image = image; course = Up n })
 opened image me count len n is e s =
     let P : ℕ → Type 0 = λ k. (f : Handlers) → BeginsWith f me k → Stands (new_node me count k) (opening count f) me in
@@ -24,7 +25,7 @@ opened image me count len n is e s =
     }
 
 -- what bytes keep is a process that came back
-pub came-back : (image : Typed) (bytes : List ℕ) (life : ℕ) (k : Kept) (n : TheCollecting) → IsKept k bytes → comes_back k ≡ true → length k.state ≡ image.len → n ≡ revived k life → Revives k life n
+pub came-back : (image : AnyImage) (bytes : List ℕ) (life : ℕ) (k : Kept) (n : TheCollecting) → IsKept k bytes → comes_back k ≡ true → length k.state ≡ state_of image → n ≡ revived k life → Revives k life n
     → IsRevived image bytes life (record { image = image; course = Collecting n })
 came-back image bytes life k n b e l is r =
     record {

@@ -1,13 +1,13 @@
 -- What clauses see of a process
 use Rattle.std.specs.Prelude.{◌≡◌, ℕ, List, [], length, Bool, true, false}
-use Rattle.verifier.specs.Typed.{Typed}
+use Rattle.images.specs.declared.any_image.AnyImage.{AnyImage}
 use Rattle.packets.specs.declared.packet.Packet.{Packet}
 use Rattle.process.specs.declared.course.Course.{Course}
 use Rattle.process.specs.declared.course.Course.TheVariants.{Up, Collecting, Replaying, Replayed, Restoring, Passing}
 
 -- the image of its handler; and its stage, with what it holds then
 pub record TheProcess : Type 0 where
-  pub image : Typed
+  pub image : AnyImage
   pub course : Course
 
 -- it isn't between two stages

@@ -1,6 +1,7 @@
 -- Processes that begin
 use Rattle.std.specs.Prelude.{◌≡◌, ◌≢◌, ◌⊎◌, ℕ, List, length, true, false, ⊤}
-use Rattle.verifier.specs.Typed.{Typed}
+use Rattle.images.specs.declared.any_image.AnyImage.{AnyImage}
+use Rattle.images.specs.AnyImage.{state_of}
 use Rattle.packets.specs.declared.kept.Kept.{Kept}
 use Rattle.packets.specs.declared.kept_fault.KeptFault.TheVariants.{Range}
 use Rattle.packets.specs.Kept.{IsKept}
@@ -19,19 +20,19 @@ use Rattle.process.specs.declared.fault.Unrevived.TheVariants as why
 use Rattle.process.specs.Process.{TheProcess}
 
 -- a process that received nothing: it stands in the opening, where its handler begins with a state of zeros
-pub record IsOpened (image : Typed) (me count : ℕ) (p : TheProcess) : Type 0 where
+pub record IsOpened (image : AnyImage) (me count : ℕ) (p : TheProcess) : Type 0 where
   pub image_is : p.image ≡ image
-  pub course_is : p.course ≡ Up (new_node me count image.len)
-  pub stands : (f : Handlers) → BeginsWith f me image.len → Stands (new_node me count image.len) (opening count f) me
+  pub course_is : p.course ≡ Up (new_node me count (state_of image))
+  pub stands : (f : Handlers) → BeginsWith f me (state_of image) → Stands (new_node me count (state_of image)) (opening count f) me
 
 -- these bytes keep a process that may come back, with a state as long as the image's
-pub record IsKeptFor (image : Typed) (k : Kept) (bytes : List ℕ) : Type 0 where
+pub record IsKeptFor (image : AnyImage) (k : Kept) (bytes : List ℕ) : Type 0 where
   pub bytes_are : IsKept k bytes
   pub comes : comes_back k ≡ true
-  pub long : length k.state ≡ image.len
+  pub long : length k.state ≡ state_of image
 
 -- what they keep comes back
-pub record IsRevived (image : Typed) (bytes : List ℕ) (life : ℕ) (p : TheProcess) : Type 0 where
+pub record IsRevived (image : AnyImage) (bytes : List ℕ) (life : ℕ) (p : TheProcess) : Type 0 where
   pub kept : Kept
   pub is_kept : IsKeptFor image kept bytes
   pub image_is : p.image ≡ image
@@ -49,8 +50,8 @@ IsUnread bytes (why.Kept f) = IsFirstKept f bytes ⊎ ((f ≡ Range) × IsOver b
 IsUnread bytes other = ⊥
 
 -- why nothing comes back
-abbrev pub IsUnrevived : Typed → List ℕ → ℕ → Unrevived → Type 0
+abbrev pub IsUnrevived : AnyImage → List ℕ → ℕ → Unrevived → Type 0
 IsUnrevived image bytes life why.Memory = ⊤
 IsUnrevived image bytes life (why.Kept f) = IsPositive life × IsUnread bytes (why.Kept f)
-IsUnrevived image bytes life why.State = IsPositive life × ((k : Kept) × IsKept k bytes × (comes_back k ≡ true) × (length k.state ≢ image.len))
+IsUnrevived image bytes life why.State = IsPositive life × ((k : Kept) × IsKept k bytes × (comes_back k ≡ true) × (length k.state ≢ state_of image))
 IsUnrevived image bytes life why.Incarnation = ¬ IsPositive life

@@ -3,9 +3,10 @@ use Rattle.std.specs.Prelude.{◌≡◌, ◌≢◌, ◌⊎◌, ℕ, List, [], �
 use Rattle.helpers.specs.declared.effects.Who.{Who}
 use Rattle.helpers.specs.declared.effects.Sent.{Sent}
 use Rattle.helpers.specs.Effects.{Emitted}
-use Rattle.verifier.specs.Typed.{Typed}
-use Rattle.interp.specs.HandlerCall.{Handled, handled_by}
-use Rattle.world.specs.Fold.{seen}
+use Rattle.images.specs.declared.any_image.AnyImage.{AnyImage}
+use Rattle.images.specs.AnyImage.{state_of as image_state}
+use Rattle.handlers.specs.Answer.{MayRunAs, answer_by}
+use Rattle.interp.specs.HandlerCall.{Handled}
 use Rattle.world.specs.History.{Payload}
 use Rattle.node.specs.declared.job.OpenJob.{OpenJob}
 use Rattle.node.specs.declared.job.Given.{Given}
@@ -67,13 +68,17 @@ MayTakeIn (Up n) given = MaySend n given
 MayTakeIn (Replaying n) given = MayGive n.own given
 MayTakeIn other given = Unit {0}
 
--- there is nothing to run on, or its state isn't that of the image
+-- a message is next, and the handler may not be run as this process: which is only said of one of form 3
+abbrev pub IsNone : TheProcess → Type 0
+IsNone p = (job : OpenJob) × (who : Who) × (job_at p.course ≡ Some (job, who)) × ¬ MayRunAs p.image who
+
+-- there is nothing to run on, its state isn't that of the image, or it isn't a process that its handler may be run as
 abbrev pub Rests : TheProcess → Type 0
-Rests p = (job_at p.course ≡ None) ⊎ (length (state_of p.course) ≢ p.image.len)
+Rests p = (job_at p.course ≡ None) ⊎ (length (state_of p.course) ≢ image_state p.image) ⊎ IsNone p
 
 -- what the handler answers to a message, where it is run as this one on this state
-abbrev pub answer_to : Typed → Who → List ℕ → OpenJob → Option Handled
-answer_to image who state j = handled_by image.form image.slots who state (seen image.form j.payload)
+abbrev pub answer_to : AnyImage → Who → List ℕ → OpenJob → Option Handled
+answer_to image who state j = answer_by image who state j.payload
 
 -- the handler ran on the message that was next, and its answer is taken in; then the process passes on
 pub record Works (old new : TheProcess) : Type 0 where

@@ -2,45 +2,52 @@
 
 ghost use Rattle.std.specs.Prelude.{◌≡◌, ◌≤◌, true, IfOk, IfErr};
 ghost use Rattle.std.specs.Arc.{arc_value};
+ghost use Rattle.handlers.specs.Handler.{image_of};
 ghost use Rattle.packets.specs.Kept.{IsKept};
 ghost use Rattle.recovery.specs.Own.{comes_back};
 ghost use Rattle.process.specs.Reviving.{IsOpened, IsRevived, IsUnrevived, IsUnread};
 
 use crate::course::Course;
 use crate::fault::Unrevived;
+use handlers::Handler;
 use node::Node;
 use packets::{Kept, KeptError, KeptFault, NUMBER_LIMIT, decode_kept};
 use recovery::{Collecting, comes_back};
 use std::alloc::{AllocError, Global};
 use std::marker::Model;
 use std::sync::Arc;
-use verifier::Image;
 
-/// A process of a cluster, with the image of its handler.
+/// A process of a cluster, with its handler, which is that of an image of any form.
 #[derive(Drop)]
 pub struct Process {
-    pub(crate) image: Arc<Image>,
+    pub(crate) image: Arc<Handler>,
     pub(crate) course: Course,
 }
 
 impl Model for Process {
     ghost use Rattle.std.specs.Prelude.{◌≡◌, true};
     ghost use Rattle.std.specs.Arc.{arc_value};
+    ghost use Rattle.handlers.specs.Handler.{image_of};
     ghost use Rattle.process.specs.Process.{TheProcess, is_settled};
 
     ghost Value = { TheProcess };
 
-    ghost view = { λ p. record { image = arc_value p.image; course = p.course } };
+    ghost view = { λ p. record { image = image_of (arc_value p.image); course = p.course } };
 
     ghost invariant = { λ p. is_settled p.course ≡ true };
 }
 
 impl Process {
     /// The process `me` of `count`, which received nothing.
-    pub fn open(alloc: Global, image: Arc<Image>, me: u8, count: u8) -> Result<Process, AllocError>
+    pub fn open(
+        alloc: Global,
+        image: Arc<Handler>,
+        me: u8,
+        count: u8,
+    ) -> Result<Process, AllocError>
         requires own { (1 ≤ me) × (me ≤ count) }
         requires few { count ≤ 15 }
-        ensures { IfOk result (IsOpened (arc_value image) me count) }
+        ensures { IfOk result (IsOpened (image_of (arc_value image)) me count) }
     {
         let node = Node::open(alloc, me, count, image.state_len())?;
         Ok(Process {
@@ -53,12 +60,12 @@ impl Process {
     /// are asked.
     pub fn revive(
         alloc: Global,
-        image: Arc<Image>,
+        image: Arc<Handler>,
         kept: &[u8],
         incarnation: u64,
     ) -> Result<Process, Unrevived>
-        ensures revived { IfOk result (IsRevived (arc_value image) kept.now incarnation) }
-        ensures refused { IfErr result (IsUnrevived (arc_value image) kept.now incarnation) }
+        ensures revived { IfOk result (IsRevived (image_of (arc_value image)) kept.now incarnation) }
+        ensures refused { IfErr result (IsUnrevived (image_of (arc_value image)) kept.now incarnation) }
     {
         if incarnation < 1 || incarnation >= NUMBER_LIMIT {
             return Err(Unrevived::Incarnation);

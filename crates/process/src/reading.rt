@@ -2,19 +2,20 @@
 
 ghost use Rattle.std.specs.Prelude.{◌≡◌, ◌∷◌, [], List, MatchOption};
 ghost use Rattle.packets.specs.declared.packet.Packet.{Packet};
+ghost use Rattle.handlers.specs.Handler.{image_of};
 ghost use Rattle.process.specs.Process.{out_of, state_of};
 ghost use Rattle.process.specs.Calls.{standing_at};
 
 use crate::course::Course;
 use crate::process::Process;
+use handlers::Handler;
 use node::{Stage, Standing};
 use packets::Packet;
-use verifier::Image;
 
 impl Process {
-    /// The image of its handler.
-    pub fn image(&self) -> &Image
-        ensures { result.now ≡ self.now.image }
+    /// Its handler.
+    pub fn handler(&self) -> &Handler
+        ensures { image_of result.now ≡ self.now.image }
     {
         &self.image
     }

@@ -1,19 +1,14 @@
 //! What a process does when its handler is to run.
 
 ghost use Rattle.std.specs.Prelude.{◌≡◌, ◌++◌, ◌≤◌, length, map, true, false, IfOk, OnOk, OnErr};
-ghost use Rattle.interp.specs.Configuration.{IsLong};
 ghost use Rattle.node.specs.declared.node.TheConstants.{MOST_GIVEN};
-ghost use Rattle.world.specs.Fold.{seen};
 ghost use Rattle.process.specs.Working.{job_at, is_other, given_of, sent_by, shown_of, TakesIn, MayTakeIn, Works, Rests};
 
 use crate::course::Course;
 use crate::process::Process;
 use helpers::{Effects, Payload, Sent, Who};
-use interp::call;
 use node::{Given, OpenJob};
-use regtypes::ImageForm;
 use std::alloc::{AllocError, Global};
-use verifier::Image;
 
 impl Process {
     /// The message that the handler is to run on, and as whom: that of the open job, or the next one that is
@@ -45,18 +40,13 @@ impl Process {
             return Ok(false);
         };
         let mut state = Vec::from_slice(alloc, self.state())?;
-        if state.len() != self.image.state_len() as usize {
+        if state.len() != self.image.state_len() as usize || !self.image.may_run_as(who) {
             return Ok(false);
         }
         let mut effects = Effects::new();
-        let message = seen(&self.image, &job.payload);
-        let _end = call(
-            &self.image,
-            state.as_mut_slice(),
-            message,
-            who,
-            &mut effects,
-        );
+        let _end = self
+            .image
+            .call(state.as_mut_slice(), &job.payload, who, &mut effects);
         let given = given(alloc, who, &effects)?;
         self.course.take_in(state, &given)?;
         self.pass(alloc);
@@ -76,17 +66,6 @@ impl Course {
             Course::Replaying(process) => process.work(state, given),
             _ => Ok(()),
         }
-    }
-}
-
-/// What the handler of an image sees of a payload.
-fn seen<'a>(image: &Image, payload: &'a Payload) -> &'a [u8]
-    ensures value { result.now ≡ seen image.now.form payload.now }
-    ensures size { IsLong image.now.form (length result.now) }
-{
-    match image.form() {
-        ImageForm::Sbi1 => payload.view64(),
-        ImageForm::Sbi2 => payload.as_slice(),
     }
 }
 

@@ -1,13 +1,14 @@
 //! A counter that dies and comes back, with a gateway as its only peer.
 
 use gateway::Gateway;
+use handlers::Handler;
 use helpers::Payload;
 use node::Stage;
 use process::Process;
 use std::alloc::Global;
+use std::process::Abort;
 use std::sync::Arc;
 use std::test::Fail;
-use verifier::{Image, load};
 
 /// Adds the first word of each message to its state, and gives the sum as an output.
 const COUNTER: [u8; 80] = [
@@ -41,20 +42,31 @@ fn count(gateway: &mut Gateway, word: u8) -> Result<(), Fail> {
     Ok(())
 }
 
-pub(crate) fn image(alloc: Global) -> Result<Arc<Image>, Fail> {
-    let image = load(alloc, &COUNTER)?;
-    Ok(Arc::new(alloc, image)?)
+/// The counter, as a file of this form: each form takes its code.
+pub(crate) fn counter(alloc: Global, form: u8) -> Result<Arc<Handler>, Fail> {
+    let mut file = COUNTER;
+    file[3] = form;
+    let handler = Handler::load(alloc, &file)?;
+    Ok(Arc::new(alloc, handler)?)
 }
 
-fn opened(alloc: Global) -> Result<Process, Fail> {
-    Ok(Process::open(alloc, image(alloc)?, 1, 1)?)
+fn opened(alloc: Global, form: u8) -> Result<Process, Fail> {
+    Ok(Process::open(alloc, counter(alloc, form)?, 1, 1)?)
 }
 
 #[test]
 fn a_counter_counts_on_after_it_died(rt: HostRuntime) -> Result<(), Fail> {
-    let alloc = rt.alloc();
+    counts_on(&rt, rt.alloc(), b'1')
+}
+
+#[test]
+fn so_does_one_of_form_3(rt: HostRuntime) -> Result<(), Fail> {
+    counts_on(&rt, rt.alloc(), b'3')
+}
+
+fn counts_on(rt: &impl Abort, alloc: Global, form: u8) -> Result<(), Fail> {
     let mut gateway = Gateway::open(alloc, 1, 60_000, 8)?;
-    let mut process = opened(alloc)?;
+    let mut process = opened(alloc, form)?;
     let Some(first) = process.checkpoint(alloc)? else {
         return Err("no checkpoint is made")?;
     };
@@ -67,7 +79,7 @@ fn a_counter_counts_on_after_it_died(rt: HostRuntime) -> Result<(), Fail> {
     assert_eq!(rt; process.standing().length, 3);
 
     // It dies, and comes back from the first bytes: what it received is received again.
-    let mut process = Process::revive(alloc, image(alloc)?, first.as_slice(), 2)?;
+    let mut process = Process::revive(alloc, counter(alloc, form)?, first.as_slice(), 2)?;
     assert!(rt; process.standing().stage == Stage::Collecting);
     assert_eq!(rt; process.standing().waited_for, 1);
     settle(alloc, &mut gateway, &mut process)?;
@@ -86,11 +98,11 @@ fn a_counter_counts_on_after_it_died(rt: HostRuntime) -> Result<(), Fail> {
     let Some(last) = process.checkpoint(alloc)? else {
         return Err("no checkpoint is made")?;
     };
-    let mut process = Process::revive(alloc, image(alloc)?, last.as_slice(), 3)?;
+    let mut process = Process::revive(alloc, counter(alloc, form)?, last.as_slice(), 3)?;
     settle(alloc, &mut gateway, &mut process)?;
     assert!(rt; process.standing().stage == Stage::Up);
     assert_eq!(rt; process.standing().base, 4);
     assert_eq!(rt; process.state(), [10, 0, 0, 0, 0, 0, 0, 0].as_slice());
-    assert!(rt; process.image().state_len() == 8);
+    assert!(rt; process.handler().state_len() == 8);
     Ok(())
 }

@@ -5,3 +5,5 @@
 mod array;
 #[cfg(test)]
 mod corpus;
+#[cfg(test)]
+mod forms;

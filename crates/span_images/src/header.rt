@@ -1,9 +1,9 @@
 //! The header of an image file of form 3.
 
 ghost use Rattle.std.specs.Prelude.{◌≡◌, ◌≤◌, length, IfOk, IfErr};
-ghost use Rattle.span_images.specs.ImageFile.{IsHeaderFault};
+ghost use Rattle.span_images.specs.ImageFile.{IsHeaderFault, magic_3};
 ghost use Rattle.span_images.specs.Inside.Header.{IsSound, header_of};
-ghost use Rattle.verifier.specs.Inside.Header.{HasHeader};
+ghost use Rattle.verifier.specs.Inside.Header.{HasHeader, header_bytes};
 
 use byteorder::{ByteOrder, LittleEndian};
 use limits::{SLOTS, STATE_BYTES};
@@ -60,4 +60,14 @@ pub fn read_header(bytes: &[u8]) -> Result<(Fields, &[u8]), HeaderFault>
         return Err(HeaderFault::FileLength);
     }
     Ok((header, code))
+}
+
+/// The eight bytes of a header.
+pub fn write_header(state_len: u16, slots: u16) -> [u8; 8]
+    ensures { result ≡ header_bytes (record { magic = magic_3; state_len = state_len; slots = slots }) }
+{
+    let mut bytes = [0x53, 0x42, 0x49, 0x33, 0, 0, 0, 0];
+    LittleEndian::write_u16(&mut bytes[4..6], state_len);
+    LittleEndian::write_u16(&mut bytes[6..8], slots);
+    bytes
 }

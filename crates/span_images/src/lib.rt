@@ -4,7 +4,8 @@
 //! [`SpanImage`] exactly where the code is typable in form 3, or where memory runs out an error that says
 //! so. An image keeps in its type that its code is typable and that its bytes are its code; what is known
 //! at each slot it tells when asked ([`SpanImage::frames`]), and keeps no memory for it. A refusal is one
-//! of `verifier`, with its numbers. [`parts`] reads a file without a look at the rules.
+//! of `verifier`, with its numbers. [`parts`] and [`file`] read and write files
+//! without a look at the rules.
 //!
 //! ```
 //! let image = load(alloc, &bytes)?;
@@ -16,7 +17,9 @@ mod header;
 mod image;
 mod laws;
 mod loading;
+mod storing;
 
 pub use image::SpanImage;
 pub use laws::file_refusals_are_one;
 pub use loading::{load, parts};
+pub use storing::file;

@@ -2,6 +2,7 @@ use Rattle.std.proofs.Common.{rules, ◌≡◌, arith}
 use Rattle.std.specs.Prelude.{Some, None, OnOk, IfErr}
 use Rattle.std.proofs.lemmas.Grind.{common_steps}
 use Rattle.std.specs.Arc.{arc_value}
+use Rattle.handlers.specs.Handler.{image_of}
 use Rattle.process.specs.Reviving.{IsRevived}
 use Rattle.embed_node.specs.declared.fault.Fault.TheVariants.{Memory}
 use Rattle.embed_node.specs.Opening.{IsImageIn, AreKnown}
@@ -12,7 +13,7 @@ pub returns-in-Ok : goal.returns-in-Ok
 returns-in-Ok c =
     let old = c.args.handle.now.process.value in
     let new = c.put.new.handle.process.value in
-    let image = arc_value c.in_ok-image.image in
+    let image = image_of (arc_value c.in_ok-image.image) in
     let ok : OnOk c.put.result (new ≡ Some c.in-Ok.process) = c.put.ensures.ok in
     let err : IfErr c.put.result (λ why. (why ≡ Memory) × (new ≡ old)) = first_of (search rules, grind (arith, common_steps)) in
     let was : old ≡ None = first_of (search rules, grind (arith, common_steps)) in

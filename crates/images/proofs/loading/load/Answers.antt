@@ -1,0 +1,24 @@
+use Rattle.std.proofs.Common.{rules, ◌≡◌, ◌≢◌, take}
+use Rattle.span_images.specs.ImageFile.{magic_3}
+use Rattle.images.proofs.Files.{flat_failed, flat_loaded, flat_refusal, span_refusal}
+use Rattle.images.proofs.loading.load.Goals as goal
+
+pub returns-in-Err-clause-refused : goal.returns-in-Err-clause-refused
+returns-in-Err-clause-refused c =
+    let begins : take 4 c.args.bytes.now ≡ magic_3 = search rules in
+    span_refusal c.args.bytes.now c.in-Err.error begins c.in-Err.ensures.refused
+
+pub returns-in-Ok-load-clause-only : goal.returns-in-Ok-load-clause-only
+returns-in-Ok-load-clause-only c =
+    let other : take 4 c.args.bytes.now ≢ magic_3 = search rules in
+    flat_loaded c.args.bytes.now c.in-Ok-load.image other c.in-Ok-load.ensures.only
+
+pub returns-in-Err-load-clause-only : goal.returns-in-Err-load-clause-only
+returns-in-Err-load-clause-only c =
+    let other : take 4 c.args.bytes.now ≢ magic_3 = search rules in
+    flat_failed c.args.bytes.now c.in-Err-load.error other c.in-Err-load.ensures.only
+
+pub returns-in-Err-load-clause-refused : goal.returns-in-Err-load-clause-refused
+returns-in-Err-load-clause-refused c =
+    let other : take 4 c.args.bytes.now ≢ magic_3 = search rules in
+    flat_refusal c.args.bytes.now c.in-Err-load.error other c.in-Err-load.ensures.refused

@@ -1,0 +1,3 @@
+pub mod FileForm
+pub mod AnyImage
+pub mod ImageFile
