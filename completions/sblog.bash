@@ -46,14 +46,14 @@ _sblog() {
     asm)
         case $before in
             --state) COMPREPLY=($(compgen -W '' -- "$word")); return ;;
-            --form) COMPREPLY=($(compgen -W '1 2' -- "$word")); return ;;
+            --form) COMPREPLY=($(compgen -W '1 2 3' -- "$word")); return ;;
         esac
         _sblog_words '--state --form --help' || _sblog_files 's'
         ;;
     pack)
         case $before in
             --state) COMPREPLY=($(compgen -W '' -- "$word")); return ;;
-            --form) COMPREPLY=($(compgen -W '1 2' -- "$word")); return ;;
+            --form) COMPREPLY=($(compgen -W '1 2 3' -- "$word")); return ;;
             --function) COMPREPLY=($(compgen -W '' -- "$word")); return ;;
         esac
         _sblog_words '--state --form --function --help' || _sblog_files 'bin o'

@@ -7,9 +7,10 @@ use Rattle.clap.specs.declared.error.Error.{Error}
 use Rattle.clap.specs.declared.parser.matches.ArgMatches.{ArgMatches}
 use Rattle.clap.proofs.OnLiterals.{clap_on_literals}
 use Rattle.clap.proofs.WalkLemmas.{one_text-rows}
-use Rattle.regtypes.specs.declared.image_form.ImageForm.{ImageForm}
-use Rattle.regtypes.specs.declared.image_form.ImageForm.TheVariants.{Sbi1, Sbi2}
-use Rattle.cli.specs.Asks.{AsksBy, AsksIn, Explains, HasBudget, HasForm, HasNumber, HasState, HasWorkers, IsInRange, IsRefusal, Order, form_number}
+use Rattle.images.specs.FileForm.{file_form_number}
+use Rattle.images.specs.declared.file_form.FileForm.{FileForm}
+use Rattle.images.specs.declared.file_form.FileForm.TheVariants.{Sbi1, Sbi2, Sbi3}
+use Rattle.cli.specs.Asks.{AsksBy, AsksIn, Explains, HasBudget, HasForm, HasNumber, HasState, HasWorkers, IsInRange, IsRefusal, Order}
 use Rattle.cli.specs.Asks as order
 use Rattle.cli.specs.declared.refusal.Refusal.{Refusal}
 use Rattle.cli.specs.declared.refusal.Refusal.TheVariants as refusal
@@ -50,20 +51,24 @@ module _ {E : Type 0} (G : Text → Result ℕ E → Type 0) (m : ArgMatches) (i
           (t, sym (one_text-rows (found_of m) id) ∙ e, record { digits = read.0.0; value = read.1; least = least; most = most })
 
 -- where `--form` was given, and as no number, there is no form
-pub no_form : (rows : List Row) (path : Text) → Some path ≡ first_of (codes "form") rows → ((n : ℕ) → HasNumber (codes "form") 1 2 rows n → ⊥)
-    → (form : ImageForm) → HasForm rows form → ⊥
-no_form rows path given none form (inl h) = none (form_number form) h
+pub no_form : (rows : List Row) (path : Text) → Some path ≡ first_of (codes "form") rows → ((n : ℕ) → HasNumber (codes "form") 1 3 rows n → ⊥)
+    → (form : FileForm) → HasForm rows form → ⊥
+no_form rows path given none form (inl h) = none (file_form_number form) h
 no_form rows path given none form (inr h) = some≢none path (given ∙ h.0)
 
--- the number that is not 1 is 2
-pub second_form : (rows : List Row) (n : ℕ) → n ≢ 1 → HasNumber (codes "form") 1 2 rows n → HasForm rows Sbi2
-second_form rows n other h =
-    let two : n ≡ 2 = omega (arith, other, h.2.least, h.2.most) in
-    inl (subst (HasNumber (codes "form") 1 2 rows) two h)
+-- the number that is neither 1 nor 2 is 3
+pub third_form : (rows : List Row) (n : ℕ) → n ≢ 1 → n ≢ 2 → HasNumber (codes "form") 1 3 rows n → HasForm rows Sbi3
+third_form rows n other another h =
+    let three : n ≡ 3 = omega (arith, other, another, h.2.least, h.2.most) in
+    inl (subst (HasNumber (codes "form") 1 3 rows) three h)
+
+-- the number 2 is that of form 2
+pub second_form : (rows : List Row) (n : ℕ) → n ≡ 2 → HasNumber (codes "form") 1 3 rows n → HasForm rows Sbi2
+second_form rows n two h = inl (subst (HasNumber (codes "form") 1 3 rows) two h)
 
 -- and the number 1 is that of form 1
-pub first_form : (rows : List Row) (n : ℕ) → n ≡ 1 → HasNumber (codes "form") 1 2 rows n → HasForm rows Sbi1
-first_form rows n one h = inl (subst (HasNumber (codes "form") 1 2 rows) one h)
+pub first_form : (rows : List Row) (n : ℕ) → n ≡ 1 → HasNumber (codes "form") 1 3 rows n → HasForm rows Sbi1
+first_form rows n one h = inl (subst (HasNumber (codes "form") 1 3 rows) one h)
 
 -- what is asked for is in range
 pub asked_in_range : (used : Option (Text × List Row)) (o : Order) → AsksBy used o → IsInRange o
@@ -82,7 +87,7 @@ unlike : (name other : Text) → slice_index name 0 ≢ slice_index other 0 → 
 unlike name other differ same = differ (ap (λ (t : Text). slice_index t 0) same)
 
 -- with no length, or no form, there is no order for an image
-pub no_asm : (rows : List Row) → ((n : ℕ) (form : ImageForm) → HasState rows n → HasForm rows form → ⊥)
+pub no_asm : (rows : List Row) → ((n : ℕ) (form : FileForm) → HasState rows n → HasForm rows form → ⊥)
     → (o : Order) → AsksIn (codes "asm") rows o → ⊥
 no_asm rows none (order.Run scenario) h = unlike (codes "asm") (codes "run") (λ (e : ◌≡◌ {A = ℕ} 97 114). omega arith) h.0
 no_asm rows none (order.Live scenario workers budget) h = unlike (codes "asm") (codes "live") (λ (e : ◌≡◌ {A = ℕ} 97 108). omega arith) h.0
@@ -94,7 +99,7 @@ no_asm rows none (order.Pack code image state form) h = unlike (codes "asm") (co
 no_asm rows none (order.Dis image) h = unlike (codes "asm") (codes "dis") (λ (e : ◌≡◌ {A = ℕ} 97 100). omega arith) h.0
 
 -- the same of `pack`
-pub no_pack : (rows : List Row) → ((n : ℕ) (form : ImageForm) → HasState rows n → HasForm rows form → ⊥)
+pub no_pack : (rows : List Row) → ((n : ℕ) (form : FileForm) → HasState rows n → HasForm rows form → ⊥)
     → (o : Order) → AsksIn (codes "pack") rows o → ⊥
 no_pack rows none (order.Run scenario) h = unlike (codes "pack") (codes "run") (λ (e : ◌≡◌ {A = ℕ} 112 114). omega arith) h.0
 no_pack rows none (order.Live scenario workers budget) h = unlike (codes "pack") (codes "live") (λ (e : ◌≡◌ {A = ℕ} 112 108). omega arith) h.0

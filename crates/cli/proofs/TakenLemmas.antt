@@ -22,8 +22,8 @@ use Rattle.clap.specs.declared.parser.matches.ValueSource.TheVariants.{CommandLi
 use Rattle.clap.proofs.ValueTestLemmas.{accepts-Accepts}
 use Rattle.cli.specs.Asks.{AsksBy, AsksFor, HasBudget, HasForm, HasImage, HasNumber, HasPath, HasScenario, HasState, HasWorkers, Order}
 use Rattle.cli.specs.Asks as order
-use Rattle.regtypes.specs.declared.image_form.ImageForm.{ImageForm}
-use Rattle.regtypes.specs.declared.image_form.ImageForm.TheVariants.{Sbi1, Sbi2}
+use Rattle.images.specs.declared.file_form.FileForm.{FileForm}
+use Rattle.images.specs.declared.file_form.FileForm.TheVariants.{Sbi1, Sbi2, Sbi3}
 use Rattle.cli.specs.Program.{sblog_app}
 use Rattle.cli.proofs.WalkLemmas.{IsFineStop, Keeps, first_none, level_fine, second_none, some_kind}
 use Rattle.cli.specs.declared.command.TheConstants.{BUDGET}
@@ -39,7 +39,7 @@ pub record IsSound (r : Row) : Type 0 where
   pub text : Text
   pub one : r.values ≡ text ∷ []
   pub state : IsNumbered (codes "state") 0 STATE_BYTES r text
-  pub form : IsNumbered (codes "form") 1 2 r text
+  pub form : IsNumbered (codes "form") 1 3 r text
   pub workers : IsNumbered (codes "workers") 1 WORKERS r text
   pub budget : IsNumbered (codes "budget") 1 BUDGET r text
 
@@ -188,12 +188,12 @@ state_sound v fits = record {
   budget = unlike (codes "state") (codes "budget") refl;
 }
 
-form_sound : (v : Text) → value_kinds false (parser.Unsigned 1 2) v ≡ [] → IsSound (new_row (rule_in asm_leaf 3) v)
+form_sound : (v : Text) → value_kinds false (parser.Unsigned 1 3) v ≡ [] → IsSound (new_row (rule_in asm_leaf 3) v)
 form_sound v fits = record {
   text = v;
   one = refl;
   state = unlike (codes "form") (codes "state") refl;
-  form = λ _. (refl, accepted (accepts false (parser.Unsigned 1 2) v) fits);
+  form = λ _. (refl, accepted (accepts false (parser.Unsigned 1 3) v) fits);
   workers = unlike (codes "form") (codes "workers") refl;
   budget = unlike (codes "form") (codes "budget") refl;
 }
@@ -308,20 +308,21 @@ number_given id low high rows all numbered given =
     let row = given_row id rows given in
     number_found id low high rows all numbered row.0 row.1
 
-form_named : (rows : List Row) (n : ℕ) → HasNumber (codes "form") 1 2 rows n → (form : ImageForm) × HasForm rows form
+form_named : (rows : List Row) (n : ℕ) → HasNumber (codes "form") 1 3 rows n → (form : FileForm) × HasForm rows form
 form_named rows zero h = absurd (omega (arith, h.2.least))
 form_named rows (suc zero) h = (Sbi1, inl h)
 form_named rows (suc (suc zero)) h = (Sbi2, inl h)
-form_named rows (suc (suc (suc n))) h = absurd (omega (arith, h.2.most))
+form_named rows (suc (suc (suc zero))) h = (Sbi3, inl h)
+form_named rows (suc (suc (suc (suc n)))) h = absurd (omega (arith, h.2.most))
 
 -- an image that is to be written has a form
-form_given : (rows : List Row) → AllByRecursion IsSound rows → (form : ImageForm) × HasForm rows form
+form_given : (rows : List Row) → AllByRecursion IsSound rows → (form : FileForm) × HasForm rows form
 form_given rows all = go (find (λ r. bytes_eq r.id (codes "form")) rows) refl
   where
-    go : (o : Option Row) → find (λ r. bytes_eq r.id (codes "form")) rows ≡ o → (form : ImageForm) × HasForm rows form
+    go : (o : Option Row) → find (λ r. bytes_eq r.id (codes "form")) rows ≡ o → (form : FileForm) × HasForm rows form
     go None is = (Sbi1, inr (ap (option_and_then (λ (r : Row). slice_get r.values 0)) is, refl))
     go (Some r) is =
-        let number = number_found (codes "form") 1 2 rows all (λ r s. s.form) r is in
+        let number = number_found (codes "form") 1 3 rows all (λ r s. s.form) r is in
         form_named rows number.0 number.1
 
 one_required : (g : Bool) → cond (not g || false) (MissingRequiredArgument ∷ []) [] ≡ [] → g ≡ true
@@ -380,7 +381,7 @@ explain_given words none =
 asm_given : (words : List Text) → level_fault asm_leaf [] nothing_held words false [] ≡ []
     → ((path : Text) × HasPath (codes "SRC") (rows_after asm_leaf.rules [] words) path)
     × ((path : Text) × HasPath (codes "OUT") (rows_after asm_leaf.rules [] words) path)
-    × ((n : ℕ) × HasState (rows_after asm_leaf.rules [] words) n) × ((form : ImageForm) × HasForm (rows_after asm_leaf.rules [] words) form)
+    × ((n : ℕ) × HasState (rows_after asm_leaf.rules [] words) n) × ((form : FileForm) × HasForm (rows_after asm_leaf.rules [] words) form)
 asm_given words none =
     let fine = level_fine IsSound asm_leaf (λ p a is. find_all (Keeps IsSound false) p asm_leaf.rules a asm_keeps is) [] words false [] (refl, (refl, (refl, (refl, (refl, tt))))) none in
     let rows = rows_after asm_leaf.rules [] words in
@@ -390,7 +391,7 @@ asm_given words none =
 pack_given : (words : List Text) → level_fault pack_leaf [] nothing_held words false [] ≡ []
     → ((path : Text) × HasPath (codes "CODE") (rows_after pack_leaf.rules [] words) path)
     × ((path : Text) × HasPath (codes "OUT") (rows_after pack_leaf.rules [] words) path)
-    × ((n : ℕ) × HasState (rows_after pack_leaf.rules [] words) n) × ((form : ImageForm) × HasForm (rows_after pack_leaf.rules [] words) form)
+    × ((n : ℕ) × HasState (rows_after pack_leaf.rules [] words) n) × ((form : FileForm) × HasForm (rows_after pack_leaf.rules [] words) form)
 pack_given words none =
     let fine = level_fine IsSound pack_leaf (λ p a is. find_all (Keeps IsSound false) p pack_leaf.rules a pack_keeps is) [] words false [] (refl, (refl, (refl, (refl, (refl, tt))))) none in
     let rows = rows_after pack_leaf.rules [] words in

@@ -6,8 +6,9 @@ use Rattle.limits.specs.declared.TheConstants.{STATE_BYTES, WORKERS}
 use Rattle.clap.specs.Words.{IsAmong, Row, Text, fault_of, first_of, one_of, subcommand_of}
 use Rattle.clap.specs.declared.error.kind.ErrorKind.{ErrorKind}
 use Rattle.clap.specs.declared.error.kind.ErrorKind.TheVariants.{OutOfMemory}
-use Rattle.regtypes.specs.declared.image_form.ImageForm.{ImageForm}
-use Rattle.regtypes.specs.declared.image_form.ImageForm.TheVariants.{Sbi1, Sbi2}
+use Rattle.images.specs.FileForm.{file_form_number}
+use Rattle.images.specs.declared.file_form.FileForm.{FileForm}
+use Rattle.images.specs.declared.file_form.FileForm.TheVariants.{Sbi1}
 use Rattle.cli.specs.Program.{sblog_app}
 use Rattle.cli.specs.declared.refusal.Refusal.{Refusal}
 use Rattle.cli.specs.declared.refusal.Refusal.TheVariants as refusal
@@ -38,14 +39,9 @@ HasWorkers rows n = HasNumber (codes "workers") 1 WORKERS rows n
 abbrev pub HasBudget : List Row → ℕ → Type 0
 HasBudget rows n = HasNumber (codes "budget") 1 BUDGET rows n
 
--- the number by which --form names a form
-abbrev pub form_number : ImageForm → ℕ
-form_number Sbi1 = 1
-form_number Sbi2 = 2
-
 -- the option --form was given as the number of this form; form 1 where it was not given
-abbrev pub HasForm : List Row → ImageForm → Type 0
-HasForm rows form = HasNumber (codes "form") 1 2 rows (form_number form) ⊎ ((first_of (codes "form") rows ≡ None) × (form ≡ Sbi1))
+abbrev pub HasForm : List Row → FileForm → Type 0
+HasForm rows form = HasNumber (codes "form") 1 3 rows (file_form_number form) ⊎ ((first_of (codes "form") rows ≡ None) × (form ≡ Sbi1))
 
 -- the argument of this name was given as this path
 abbrev pub HasPath : Text → List Row → Text → Type 0
@@ -66,8 +62,8 @@ pub data Order : Type 0 where
   Draw : Text → Text → Order
   Check : Text → Order
   Explain : Text → Order
-  Asm : Text → Text → ℕ → ImageForm → Order
-  Pack : Text → Text → ℕ → ImageForm → Order
+  Asm : Text → Text → ℕ → FileForm → Order
+  Pack : Text → Text → ℕ → FileForm → Order
   Dis : Text → Order
 
 -- a request with its paths as plain texts, wherever these lie in memory

@@ -45,7 +45,7 @@ explain_app = with_rule (new_app (codes "explain")) (required_rule (codes "IMAGE
 -- `NAME SOURCE OUT --state N [--form F]`
 abbrev pub writer_app : Text → Text → App
 writer_app name source = with_rule (with_rule (with_rule (with_rule (new_app name) (required_rule source))
-    (required_rule (codes "OUT"))) (number_rule (codes "state") true 0 STATE_BYTES)) (number_rule (codes "form") false 1 2)
+    (required_rule (codes "OUT"))) (number_rule (codes "state") true 0 STATE_BYTES)) (number_rule (codes "form") false 1 3)
 
 -- `asm SRC OUT --state N [--form F]`
 abbrev pub asm_app : App

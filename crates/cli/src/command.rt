@@ -32,14 +32,14 @@ fn number<'a>(alloc: Global, id: &'a str, name: &'a str, low: u64, high: u64) ->
         .value_parser(ValueParser::Unsigned(low, high))
 }
 
-/// The option `--form` of an image: 1 or 2.
+/// The option `--form` of an image: 1, 2 or 3.
 fn form<'a>(alloc: Global) -> Arg<'a>
-    ensures rule { rule_of result ≡ number_rule (codes "form") false 1 2 }
+    ensures rule { rule_of result ≡ number_rule (codes "form") false 1 3 }
     ensures local { result.global ≡ false }
 {
-    number(alloc, "form", "F", 1, 2)
+    number(alloc, "form", "F", 1, 3)
         .required(false)
-        .help("Form of the image, 1 or 2 [default: 1]")
+        .help("Form of the image, 1, 2 or 3 [default: 1]")
 }
 
 fn run<'a>(alloc: Global) -> Result<Command<'a>, AllocError>

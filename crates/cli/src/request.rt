@@ -8,8 +8,8 @@ use crate::command::{BUDGET, sblog};
 use crate::refusal::{Refusal, Usage};
 use clap::error::ErrorKind;
 use clap::{ArgMatches, Error};
+use images::FileForm;
 use limits::{STATE_BYTES, WORKERS};
-use regtypes::ImageForm;
 use std::alloc::{AllocError, Global};
 use std::convert::AsStr;
 
@@ -44,14 +44,14 @@ pub enum Request<'a> {
         source: &'a str,
         image: &'a str,
         state: u16,
-        form: ImageForm,
+        form: FileForm,
     },
     /// `pack CODE OUT --state N --form F`, as `asm`.
     Pack {
         code: &'a str,
         image: &'a str,
         state: u16,
-        form: ImageForm,
+        form: FileForm,
     },
     /// `dis IMAGE`.
     Dis {
@@ -80,17 +80,19 @@ fn number_in(matches: &ArgMatches<'_>, id: &str, low: u64, high: u64) -> Option<
 }
 
 /// The form of the image that is to be written.
-fn form_in(matches: &ArgMatches<'_>) -> Option<ImageForm>
+fn form_in(matches: &ArgMatches<'_>) -> Option<FileForm>
     ensures { Gives (HasForm (rows_of (found_of matches.now))) result }
 {
     match path_in(matches, "form") {
-        None => Some(ImageForm::Sbi1),
+        None => Some(FileForm::Sbi1),
         Some(_) => {
-            let number = number_in(matches, "form", 1, 2)?;
+            let number = number_in(matches, "form", 1, 3)?;
             if number == 1 {
-                Some(ImageForm::Sbi1)
+                Some(FileForm::Sbi1)
+            } else if number == 2 {
+                Some(FileForm::Sbi2)
             } else {
-                Some(ImageForm::Sbi2)
+                Some(FileForm::Sbi3)
             }
         }
     }

@@ -1,5 +1,5 @@
 use cli::{Refusal, Request, Usage, parse_words};
-use regtypes::ImageForm;
+use images::FileForm;
 use std::test::Fail;
 
 #[test]
@@ -38,7 +38,7 @@ fn requests(rt: HostRuntime) -> Result<(), Fail> {
                 source: "adder.s",
                 image,
                 state: 8,
-                form: ImageForm::Sbi1,
+                form: FileForm::Sbi1,
             },
         ),
         (
@@ -47,7 +47,7 @@ fn requests(rt: HostRuntime) -> Result<(), Fail> {
                 source: "adder.s",
                 image,
                 state: 1024,
-                form: ImageForm::Sbi1,
+                form: FileForm::Sbi1,
             },
         ),
         (
@@ -56,17 +56,17 @@ fn requests(rt: HostRuntime) -> Result<(), Fail> {
                 source: "adder.s",
                 image,
                 state: 0,
-                form: ImageForm::Sbi2,
+                form: FileForm::Sbi2,
             },
         ),
         ("explain adder.sbi", Request::Explain { image }),
         (
-            "pack adder.code adder.sbi --form=2 --state=8",
+            "pack adder.code adder.sbi --form=3 --state=8",
             Request::Pack {
                 code: "adder.code",
                 image,
                 state: 8,
-                form: ImageForm::Sbi2,
+                form: FileForm::Sbi3,
             },
         ),
         ("dis adder.sbi", Request::Dis { image }),
@@ -111,7 +111,7 @@ fn usage_texts(rt: HostRuntime) -> Result<(), Fail> {
         ("asm a b --state 1025", "invalid value '1025'"),
         ("asm a b --state eight", "invalid value 'eight'"),
         ("asm a b --state 8 --form 0", "invalid value '0'"),
-        ("asm a b --state 8 --form 3", "invalid value '3'"),
+        ("asm a b --state 8 --form 4", "invalid value '4'"),
         ("asm a b --state 8 --form", "--form <F>"),
         ("asm a b --state 8 --form 1 --form 1", "--form <F>"),
         ("explain", "<IMAGE>"),
@@ -119,7 +119,7 @@ fn usage_texts(rt: HostRuntime) -> Result<(), Fail> {
         ("pack a b", "--state <N>"),
         ("pack a --state 0", "<OUT>"),
         ("pack a b --state 1025", "invalid value '1025'"),
-        ("pack a b --state 8 --form 3", "invalid value '3'"),
+        ("pack a b --state 8 --form 4", "invalid value '4'"),
         ("dis", "<IMAGE>"),
         ("--help", "Usage: sblog <COMMAND>"),
         ("help run", "Usage: sblog run <SCENARIO>"),
@@ -214,7 +214,7 @@ Arguments:
 
 Options:
       --state <N>  
-      --form <F>   Form of the image, 1 or 2 [default: 1]
+      --form <F>   Form of the image, 1, 2 or 3 [default: 1]
   -h, --help       Print help
 Writes the image of the bytes of its code, with N bytes of state
 
@@ -226,7 +226,7 @@ Arguments:
 
 Options:
       --state <N>  
-      --form <F>   Form of the image, 1 or 2 [default: 1]
+      --form <F>   Form of the image, 1, 2 or 3 [default: 1]
   -h, --help       Print help
 Prints the assembler text of an image
 

@@ -4,6 +4,7 @@ mod folder;
 mod scenarios;
 mod streams;
 mod text;
+mod third_form;
 
 use crate::commands::folder::Folder;
 use std::alloc::Global;
@@ -106,7 +107,7 @@ fn statuses_and_lines(rt: HostRuntime) -> Result<(), Fail> {
     let adder = ADDER.as_slice();
     let cut = &ADDER[..55];
     let none = b"".as_slice();
-    let magic = b"SBI3\x08\x00\x01\x00\x95\x00\x00\x00\x00\x00\x00\x00".as_slice();
+    let magic = b"SBI4\x08\x00\x01\x00\x95\x00\x00\x00\x00\x00\x00\x00".as_slice();
     let bad_field = b"SBI1\x08\x00\x01\x00\x0f\x34\x00\x00\x01\x00\x00\x00".as_slice();
     let exit_alone = b"SBI1\x08\x00\x01\x00\x95\x00\x00\x00\x00\x00\x00\x00".as_slice();
     let cases = [

@@ -6,7 +6,7 @@ use cli::{Refusal, Request, Usage, parse_words};
 use diagram::draw;
 use explain::explain;
 use helpers::Payload;
-use regtypes::ImageForm;
+use images::FileForm;
 use runner::{journal_of, live};
 use scenario::{Allowed, parse, trace_text};
 use std::alloc::{AllocError, Global};
@@ -274,13 +274,13 @@ fn long_words_are_taken(rt: HostRuntime) -> Result<(), Fail> {
         source.as_str(),
         image.as_str(),
         "--state=1024",
-        "--form=2",
+        "--form=3",
     ];
     let want = Request::Asm {
         source: source.as_str(),
         image: image.as_str(),
         state: 1024,
-        form: ImageForm::Sbi2,
+        form: FileForm::Sbi3,
     };
     match parse_words(alloc, words.as_slice()) {
         Ok(request) => assert!(rt; request == want),

@@ -12,7 +12,6 @@ use Rattle.cli.specs.declared.refusal.Refusal.TheVariants as refusal
 use Rattle.verifier.specs.ImageFile as image_file
 use Rattle.verifier.specs.declared.fault.ImageError.{ImageError}
 use Rattle.verifier.specs.declared.fault.ImageError.TheVariants as image
-use Rattle.tracer.specs.Dis.{IsUnlisted}
 use Rattle.tracer.specs.Fault.{fault_of_code, fault_of_failure, fault_of_image, fault_of_refusal, fault_of_text}
 use Rattle.tracer.specs.Files.{Content}
 use Rattle.tracer.specs.Inside.{EndsShort, IsNoUsage, IsOwnInput, IsPlainFault, IsWriteFault, LoadFault}
@@ -107,20 +106,24 @@ pub image_refused : (content : Content) (failed : Bool) (path bytes : List ℕ) 
 image_refused content failed path bytes e f read why is =
     inr (e, is, λ known there. head_refusal known e (subst (λ (b : List ℕ). image_file.IsRefusal b e) (read known there) why))
 
--- one whose code is not verified
-pub listing_fault : (content : Content) (failed : Bool) (path bytes : List ℕ) (e : ImageError) (f : Fault)
-    → ((known : List ℕ) → content path ≡ Some known → bytes ≡ take IMAGE_LIMIT known) → image_file.IsUnread bytes e → f ≡ fault_of_image e
-    → FaultOf content failed path IsUnlisted f
-listing_fault content failed path bytes e f read why is = subst (FaultOf content failed path IsUnlisted) (sym is) (by e why)
+-- a file is refused so as the bytes that were read of it
+pub read_fault : (Why : List ℕ → ImageError → Type 0) → ((bytes : List ℕ) (e : ImageError) → Why (take IMAGE_LIMIT bytes) e → Why bytes e)
+    → (content : Content) (failed : Bool) (path bytes : List ℕ) (e : ImageError) (f : Fault)
+    → ((known : List ℕ) → content path ≡ Some known → bytes ≡ take IMAGE_LIMIT known) → Why bytes e → f ≡ fault_of_image e
+    → FaultOf content failed path (λ known x. (y : ImageError) × Why known y × (x ≡ fault_of_image y)) f
+read_fault Why whole content failed path bytes e f read why is = subst (FaultOf content failed path Refused) (sym is) (by e why)
   where
-    whole : (x : ImageError) → image_file.IsUnread bytes x → (known : List ℕ) → content path ≡ Some known → image_file.IsUnread known x
-    whole x refused known there = head_unread known x (subst (λ (b : List ℕ). image_file.IsUnread b x) (read known there) refused)
+    Refused : List ℕ → Fault → Type 0
+    Refused known x = (y : ImageError) × Why known y × (x ≡ fault_of_image y)
 
-    by : (x : ImageError) → image_file.IsUnread bytes x → FaultOf content failed path IsUnlisted (fault_of_image x)
+    all : (x : ImageError) → Why bytes x → (known : List ℕ) → content path ≡ Some known → Why known x
+    all x refused known there = whole known x (subst (λ (b : List ℕ). Why b x) (read known there) refused)
+
+    by : (x : ImageError) → Why bytes x → FaultOf content failed path Refused (fault_of_image x)
     by image.Memory refused = tt
-    by (image.Header h) refused = λ known there. (image.Header h, whole (image.Header h) refused known there, refl)
-    by (image.Decode rule slot) refused = λ known there. (image.Decode rule slot, whole (image.Decode rule slot) refused known there, refl)
-    by (image.Verify rule slot) refused = absurd refused
+    by (image.Header h) refused = λ known there. (image.Header h, all (image.Header h) refused known there, refl)
+    by (image.Decode rule slot) refused = λ known there. (image.Decode rule slot, all (image.Decode rule slot) refused known there, refl)
+    by (image.Verify rule slot) refused = λ known there. (image.Verify rule slot, all (image.Verify rule slot) refused known there, refl)
 
 -- the bytes that were read of a file come to a fault that isn't the words'
 pub reading_fault : (content : Content) (failed : Bool) (path : List ℕ) (refused : List ℕ → Fault → Type 0) (f : Fault) → IsNoUsage f

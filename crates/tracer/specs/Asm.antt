@@ -4,8 +4,8 @@ use Rattle.std.specs.Str.{IsUtf8}
 use Rattle.assemble.specs.Refusal as assembling
 use Rattle.assemble.specs.Text.{lines_of, spoken}
 use Rattle.decode.specs.declared.insn.Insn.{Insn}
-use Rattle.regtypes.specs.declared.image_form.ImageForm.{ImageForm}
-use Rattle.verifier.specs.ImageFile.{IsFile}
+use Rattle.images.specs.declared.file_form.FileForm.{FileForm}
+use Rattle.images.specs.ImageFile.{IsFile}
 use Rattle.verifier.specs.declared.fault.HeaderFault.TheVariants.{SlotCount}
 use Rattle.tracer.specs.Judged.{IsJudged}
 use Rattle.tracer.specs.declared.fault.Fault.{Fault}
@@ -13,7 +13,7 @@ use Rattle.tracer.specs.declared.fault.Fault.TheVariants.{Usage, Header, Decode,
 use Rattle.tracer.specs.declared.judged.TheConstants.{TEXT_LIMIT}
 
 -- the source is the text of code of which these bytes are the file of this form, with a state of this length
-pub record IsAssembled (source : List ℕ) (state : ℕ) (form : ImageForm) (bytes : List ℕ) : Type 0 where
+pub record IsAssembled (source : List ℕ) (state : ℕ) (form : FileForm) (bytes : List ℕ) : Type 0 where
   pub short : length source ≤ TEXT_LIMIT
   pub text : IsUtf8 source
   pub code : List Insn

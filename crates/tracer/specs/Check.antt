@@ -1,9 +1,8 @@
 -- The command `check` (docs/FORMATS.md, "Commands").
 use Rattle.std.specs.Prelude.{◌≡◌, ℕ, List, ◌++◌, Some, codes, decimal, length}
 use Rattle.decode.specs.declared.insn.Insn.{Insn}
-use Rattle.decode.specs.Slots.{slots_of}
-use Rattle.regtypes.specs.declared.image_form.ImageForm.{ImageForm}
-use Rattle.regtypes.specs.Typing.{Table, IsTyping}
+use Rattle.images.specs.declared.file_form.FileForm.{FileForm}
+use Rattle.images.specs.ImageFile as any
 use Rattle.verifier.specs.ImageFile.{IsFile, IsRefusal}
 use Rattle.verifier.specs.declared.fault.ImageError.{ImageError}
 use Rattle.verifier.specs.Typed.{Typed}
@@ -16,21 +15,26 @@ use Rattle.tracer.specs.declared.fault.Fault.{Fault}
 abbrev pub accepted_text : ℕ → List ℕ
 accepted_text count = codes "accepted " ++ decimal count ++ codes " instructions\n"
 
--- the bytes are the file of typable code of so many instructions
+-- the bytes are the file, of any form, of typable code of so many instructions
 pub record IsAccepted (bytes : List ℕ) (count : ℕ) : Type 0 where
-  pub form : ImageForm
+  pub form : FileForm
   pub code : List Insn
   pub len : ℕ
-  pub file : IsFile form code len bytes
-  pub table : Table
-  pub typing : IsTyping form (slots_of code) len table
+  pub file : any.IsFile form code len bytes
+  pub typable : any.IsTypable form code len
   pub counted : count ≡ length code
+
+-- the fault is the reason why bytes are no file of typable code in any form; want of memory says nothing of them
+abbrev pub IsUnaccepted : List ℕ → Fault → Type 0
+IsUnaccepted bytes f = (e : ImageError) × any.IsRefusal bytes e × (f ≡ fault_of_image e)
+
+-- ---- an image that is to be run: one of form 1 or 2
 
 -- the file at the path, where it is known, is that of this image
 abbrev pub IsLoaded : Content → List ℕ → Typed → Type 0
 IsLoaded content path image = (bytes : List ℕ) → content path ≡ Some bytes
     → IsFile image.form image.code image.len bytes × IsImageOf image.form image.code image.len image
 
--- the fault is the reason why bytes are no file of typable code; want of memory says nothing of them
+-- the fault is the reason why bytes are no file of typable code in form 1 or 2; want of memory says nothing of them
 abbrev pub IsImageFault : List ℕ → Fault → Type 0
 IsImageFault bytes f = (e : ImageError) × IsRefusal bytes e × (f ≡ fault_of_image e)

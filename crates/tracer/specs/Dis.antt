@@ -2,15 +2,15 @@
 use Rattle.std.specs.Prelude.{◌≡◌, ℕ, List}
 use Rattle.assemble.specs.Text.{text_of}
 use Rattle.decode.specs.declared.insn.Insn.{Insn}
-use Rattle.regtypes.specs.declared.image_form.ImageForm.{ImageForm}
-use Rattle.verifier.specs.ImageFile.{IsFile, IsUnread}
+use Rattle.images.specs.declared.file_form.FileForm.{FileForm}
+use Rattle.images.specs.ImageFile.{IsFile, IsUnread}
 use Rattle.verifier.specs.declared.fault.ImageError.{ImageError}
 use Rattle.tracer.specs.Fault.{fault_of_image}
 use Rattle.tracer.specs.declared.fault.Fault.{Fault}
 
 -- the bytes are the file of code of which this is the text
 pub record IsListing (bytes text : List ℕ) : Type 0 where
-  pub form : ImageForm
+  pub form : FileForm
   pub code : List Insn
   pub len : ℕ
   pub file : IsFile form code len bytes

@@ -2,6 +2,7 @@ pub mod Asm
 pub mod Check
 pub mod Dis
 pub mod Draw
+pub mod Explain
 pub mod Fault
 pub mod Files
 pub mod Inside

@@ -4,14 +4,14 @@ use Rattle.limits.specs.declared.TheConstants.{SLOTS}
 use Rattle.decode.specs.Encoding.{encoding}
 use Rattle.decode.specs.Refusal as decoding
 use Rattle.decode.specs.declared.insn.Insn.{Insn}
-use Rattle.regtypes.specs.declared.image_form.ImageForm.{ImageForm}
-use Rattle.verifier.specs.ImageFile.{IsFile}
+use Rattle.images.specs.declared.file_form.FileForm.{FileForm}
+use Rattle.images.specs.ImageFile.{IsFile}
 use Rattle.verifier.specs.declared.fault.HeaderFault.TheVariants.{SlotCount}
 use Rattle.tracer.specs.declared.fault.Fault.{Fault}
 use Rattle.tracer.specs.declared.fault.Fault.TheVariants.{Usage, Header, Decode, Verify, Assemble, Scenario, Memory, InputOutput}
 
 -- the code is that of instructions of which these bytes are the file of this form, with a state of this length
-pub record IsPacked (code : List ℕ) (state : ℕ) (form : ImageForm) (bytes : List ℕ) : Type 0 where
+pub record IsPacked (code : List ℕ) (state : ℕ) (form : FileForm) (bytes : List ℕ) : Type 0 where
   pub insns : List Insn
   pub encoded : code ≡ encoding insns
   pub file : IsFile form insns state bytes

@@ -10,8 +10,9 @@ use Rattle.scenario.specs.declared.order.Allowed.TheVariants.{All, Inputs}
 use Rattle.scenario.specs.declared.process.Process.{Process}
 use Rattle.scenario.specs.declared.scenario.Scenario.{Scenario}
 use Rattle.tracer.specs.Asm.{IsAssembled, IsUnassembled}
-use Rattle.tracer.specs.Check.{IsImageFault}
+use Rattle.tracer.specs.Check.{IsUnaccepted}
 use Rattle.tracer.specs.Dis.{IsUnlisted}
+use Rattle.tracer.specs.Explain.{IsUnexplained}
 use Rattle.tracer.specs.Draw.{IsDrawn}
 use Rattle.tracer.specs.Fault.{status_of}
 use Rattle.tracer.specs.Files.{Content}
@@ -74,9 +75,9 @@ abbrev pub IsRefused : Content → Order → List ℕ → Fault → Type 0
 IsRefused content (Run scenario) bytes f = IsUnstaged content All bytes f
 IsRefused content (Live scenario workers budget) bytes f = IsUnstaged content Inputs bytes f
 IsRefused content (Draw scenario picture) bytes f = IsUnstaged content All bytes f
-IsRefused content (Check image) bytes f = IsImageFault bytes f
+IsRefused content (Check image) bytes f = IsUnaccepted bytes f
 IsRefused content (Asm source image state form) bytes f = IsUnassembled bytes f
-IsRefused content (Explain image) bytes f = IsUnlisted bytes f
+IsRefused content (Explain image) bytes f = IsUnexplained bytes f
 IsRefused content (Pack code image state form) bytes f = IsUnpacked bytes f
 IsRefused content (Dis image) bytes f = IsUnlisted bytes f
 

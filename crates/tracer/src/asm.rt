@@ -7,10 +7,10 @@ ghost use Rattle.tracer.specs.Inside.{IsNoUsage};
 use crate::fault::Fault;
 use crate::judged::{TEXT_LIMIT, judged};
 use assemble::assemble;
+use images::{FileForm, file};
 use limits::STATE_BYTES;
-use regtypes::ImageForm;
 use std::alloc::Global;
-use verifier::{HeaderFault, file};
+use verifier::HeaderFault;
 
 /// The bytes that decide what a source comes to: as many as a text has at most, and one more.
 pub const SOURCE_LIMIT: usize = TEXT_LIMIT + 1;
@@ -19,7 +19,7 @@ pub const SOURCE_LIMIT: usize = TEXT_LIMIT + 1;
 /// length, at most 1,024 bytes. Its code is not verified. A source that is not UTF-8 can't be read as a text:
 /// `Fault::InputOutput`. One with more bytes than a text has comes to the first fault of the lines that end
 /// within these, or else to `HeaderFault::SlotCount`.
-pub fn asm(alloc: Global, source: &[u8], state: u16, form: ImageForm) -> Result<Vec<u8>, Fault>
+pub fn asm(alloc: Global, source: &[u8], state: u16, form: FileForm) -> Result<Vec<u8>, Fault>
     requires { state ≤ STATE_BYTES }
     ensures written { IfOk result (λ v. (whole : List ℕ) → source.now ≡ take SOURCE_LIMIT whole
         → IsAssembled whole state form v.items) }

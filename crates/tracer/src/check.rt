@@ -1,7 +1,7 @@
 //! The command `check`.
 
 ghost use Rattle.std.specs.Prelude.{◌≡◌, ℕ, List, IfErr, IfOk, Some};
-ghost use Rattle.tracer.specs.Check.{IsAccepted, IsImageFault, IsLoaded, accepted_text};
+ghost use Rattle.tracer.specs.Check.{IsAccepted, IsLoaded, IsUnaccepted, accepted_text};
 ghost use Rattle.tracer.specs.Inside.{LoadFault};
 ghost use Rattle.tracer.specs.Program.{FaultOf};
 
@@ -32,7 +32,7 @@ impl fmt::Display for Accepted {
     }
 }
 
-/// The image of a file.
+/// The image of form 1 or 2 of a file, which is to be run.
 pub fn load_image<F: Files>(
     alloc: Global,
     path: &str,
@@ -48,7 +48,7 @@ pub fn load_image<F: Files>(
     Ok(image)
 }
 
-/// Verifies the image of a file.
+/// Verifies the image of any form of a file.
 pub fn check<F: Files>(
     alloc: Global,
     path: &str,
@@ -58,9 +58,10 @@ pub fn check<F: Files>(
     ensures accepted { IfOk result (λ a. (bytes : List ℕ) → F.content files.old path.now ≡ Some bytes
         → IsAccepted bytes a.count) }
     ensures same { F.content files.new ≡ F.content files.old }
-    ensures fault { IfErr result (FaultOf (F.content files.old) (F.failed files.new) path.now IsImageFault) }
+    ensures fault { IfErr result (FaultOf (F.content files.old) (F.failed files.new) path.now IsUnaccepted) }
 {
-    let image = load_image(alloc, path, files, site)?;
+    let bytes = site.read(alloc, path, Some(IMAGE_LIMIT), files)?;
+    let image = images::load(alloc, bytes.as_slice())?;
     let count = image.count();
     Ok(Accepted { count })
 }

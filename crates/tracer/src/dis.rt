@@ -9,8 +9,8 @@ use crate::fault::Fault;
 use crate::files::Files;
 use crate::site::Site;
 use assemble::disassemble;
+use images::parts;
 use std::alloc::Global;
-use verifier::parts;
 
 /// The assembler text of the image of a file. Its code is not verified.
 pub fn dis<F: Files>(

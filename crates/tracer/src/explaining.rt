@@ -2,7 +2,7 @@
 
 ghost use Rattle.std.specs.Prelude.{◌≡◌, ℕ, List, IfErr, IfOk, Some, string_bytes};
 ghost use Rattle.explain.specs.Listing.{IsExplained};
-ghost use Rattle.tracer.specs.Dis.{IsUnlisted};
+ghost use Rattle.tracer.specs.Explain.{IsUnexplained};
 ghost use Rattle.tracer.specs.Program.{FaultOf};
 
 use crate::check::IMAGE_LIMIT;
@@ -22,7 +22,7 @@ pub fn explain_image<F: Files>(
     ensures listing { IfOk result (λ t. (bytes : List ℕ) → F.content files.old path.now ≡ Some bytes
         → IsExplained bytes (string_bytes t)) }
     ensures same { F.content files.new ≡ F.content files.old }
-    ensures fault { IfErr result (FaultOf (F.content files.old) (F.failed files.new) path.now IsUnlisted) }
+    ensures fault { IfErr result (FaultOf (F.content files.old) (F.failed files.new) path.now IsUnexplained) }
 {
     let bytes = site.read(alloc, path, Some(IMAGE_LIMIT), files)?;
     let text = explain(alloc, bytes.as_slice())?;

@@ -21,8 +21,8 @@ use crate::playing::run_scenario;
 use crate::site::Site;
 use crate::stream::Stream;
 use cli::{Request, parse_words};
+use images::FileForm;
 use limits::STATE_BYTES;
-use regtypes::ImageForm;
 use std::alloc::Global;
 use std::convert::AsStr;
 use std::sync::Wait;
@@ -34,7 +34,7 @@ fn write_image<F: Files>(
     source: &str,
     image: &str,
     state: u16,
-    form: ImageForm,
+    form: FileForm,
     files: &mut F,
     site: &mut Site,
 ) -> Result<(), Fault>
@@ -58,7 +58,7 @@ fn write_packed<F: Files>(
     code: &str,
     image: &str,
     state: u16,
-    form: ImageForm,
+    form: FileForm,
     files: &mut F,
     site: &mut Site,
 ) -> Result<(), Fault>

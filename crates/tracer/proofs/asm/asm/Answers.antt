@@ -2,7 +2,8 @@ use Rattle.std.proofs.Common.{◌≡◌, ◌≤◌, ◌∙◌, arith, inr, lengt
 use Rattle.assemble.specs.Refusal.{AreLines}
 use Rattle.assemble.specs.Text.{lines_of}
 use Rattle.std.specs.Str.{IsUtf8}
-use Rattle.verifier.specs.ImageFile.{IsFile, IsUnwritten}
+use Rattle.images.specs.ImageFile.{IsFile}
+use Rattle.verifier.specs.ImageFile.{IsUnwritten}
 use Rattle.tracer.specs.Judged.{IsJudged}
 use Rattle.tracer.proofs.AsmLemmas.{code_refused, judged_all, text_refused}
 use Rattle.tracer.proofs.CauseLemmas.{becomes}

@@ -1,13 +1,14 @@
 use Rattle.std.proofs.Common.{◌≡◌, ◌∙◌, subst, string_bytes}
 use Rattle.explain.specs.Listing.{IsExplained}
-use Rattle.tracer.proofs.CauseLemmas.{becomes, listing_fault}
-use Rattle.tracer.proofs.HeadLemmas.{head_explained}
+use Rattle.verifier.specs.ImageFile.{IsUnread}
+use Rattle.tracer.proofs.CauseLemmas.{becomes, read_fault}
+use Rattle.tracer.proofs.HeadLemmas.{head_explained, head_unread}
 use Rattle.tracer.proofs.explaining.explain_image.Goals as goal
 
 pub returns-in_err-text-clause-fault : goal.returns-in_err-text-clause-fault
 returns-in_err-text-clause-fault g c =
     becomes c.from_residual-in_err-text.result _ _ c.from_residual-in_err-text.ensures.1
-    (λ f is. listing_fault (g.F.Files.content c.args.files.now) (g.F.Files.failed c.read.new.files) c.args.path.now c.as_slice.result.now c.in_err-text.field-0.0 f
+    (λ f is. read_fault IsUnread head_unread (g.F.Files.content c.args.files.now) (g.F.Files.failed c.read.new.files) c.args.path.now c.as_slice.result.now c.in_err-text.field-0.0 f
     (λ known there. c.as_slice.ensures.value ∙ c.in_ok-bytes.ensures.bytes known there) c.in_err-text.ensures.refused is)
 
 pub returns-clause-listing : goal.returns-clause-listing

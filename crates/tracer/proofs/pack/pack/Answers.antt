@@ -1,5 +1,6 @@
 use Rattle.std.proofs.Common.{◌≡◌, ◌≤◌, arith, inr, length, refl, rules, subst}
-use Rattle.verifier.specs.ImageFile.{IsFile, IsUnwritten}
+use Rattle.images.specs.ImageFile.{IsFile}
+use Rattle.verifier.specs.ImageFile.{IsUnwritten}
 use Rattle.decode.specs.Encoding.{encoding}
 use Rattle.tracer.specs.Pack.{IsPacked, IsUnpacked}
 use Rattle.tracer.proofs.CauseLemmas.{becomes}
