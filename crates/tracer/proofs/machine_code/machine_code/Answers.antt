@@ -20,6 +20,6 @@ returns-clause-compiled g c = λ known there.
       len = image.len;
       file = loaded.0;
       table = image.table;
-      typing = loaded.1.typing.typing;
+      typing = loaded.1.typing.types;
       native = subst (λ slots. IsNative image.form slots image.len c.in_ok-code.code.items) loaded.1.slots_is c.in_ok-code.ensures;
     }
