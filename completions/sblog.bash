@@ -15,7 +15,7 @@ _sblog() {
     local word=${COMP_WORDS[COMP_CWORD]} before=${COMP_WORDS[COMP_CWORD - 1]} at=1
     [[ ${COMP_WORDS[1]} == --unproved ]] && at=2
     if [[ $COMP_CWORD -eq $at ]]; then
-        local names='run live draw check explain asm pack dis help --help --unproved --version'
+        local names='run live draw check explain asm pack dis native help --help --unproved --version'
         [[ $at -eq 2 ]] && names='run check explain dis'
         COMPREPLY=($(compgen -W "$names" -- "$word"))
         return
@@ -61,8 +61,11 @@ _sblog() {
     dis)
         _sblog_words '--help' || _sblog_files 'sbi'
         ;;
+    native)
+        _sblog_words '--help' || _sblog_files 'sbi'
+        ;;
     help)
-        COMPREPLY=($(compgen -W 'run live draw check explain asm pack dis' -- "$word"))
+        COMPREPLY=($(compgen -W 'run live draw check explain asm pack dis native' -- "$word"))
         ;;
     esac
 }

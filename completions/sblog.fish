@@ -10,6 +10,7 @@ complete -c sblog -n __fish_use_subcommand -f -a explain -d 'Lists an image with
 complete -c sblog -n __fish_use_subcommand -f -a asm -d 'Writes the image of an assembler text, with N bytes of state'
 complete -c sblog -n __fish_use_subcommand -f -a pack -d 'Writes the image of the bytes of its code, with N bytes of state'
 complete -c sblog -n __fish_use_subcommand -f -a dis -d 'Prints the assembler text of an image'
+complete -c sblog -n __fish_use_subcommand -f -a native -d 'Writes the x86-64 machine code of an image'
 complete -c sblog -n __fish_use_subcommand -f -a help -d 'Print the help of a command'
 complete -c sblog -n '__fish_seen_subcommand_from live' -x -l workers -d 'A number from 1 to 16'
 complete -c sblog -n '__fish_seen_subcommand_from live' -x -l budget -d 'A number from 1 to 1000000'
@@ -19,4 +20,4 @@ complete -c sblog -n '__fish_seen_subcommand_from asm' -x -l form -a '1 2 3' -d 
 complete -c sblog -n '__fish_seen_subcommand_from pack' -x -l state -d 'A number from 0 to 1024'
 complete -c sblog -n '__fish_seen_subcommand_from pack' -x -l form -a '1 2 3' -d 'Form of the image, 1, 2 or 3 (default 1)'
 complete -c sblog -n '__fish_seen_subcommand_from pack' -x -l function -d 'Function of the object file CODE, where it has several'
-complete -c sblog -n '__fish_seen_subcommand_from help' -f -a 'run live draw check explain asm pack dis'
+complete -c sblog -n '__fish_seen_subcommand_from help' -f -a 'run live draw check explain asm pack dis native'

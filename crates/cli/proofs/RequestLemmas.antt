@@ -81,6 +81,7 @@ asked_in_range (Some used) (order.Draw scenario picture) asks = tt
 asked_in_range (Some used) (order.Asm source image state form) asks = asks.3.2.most
 asked_in_range (Some used) (order.Pack code image state form) asks = asks.3.2.most
 asked_in_range (Some used) (order.Dis image) asks = tt
+asked_in_range (Some used) (order.Native image code) asks = tt
 
 -- commands whose names begin differently
 unlike : (name other : Text) → slice_index name 0 ≢ slice_index other 0 → name ≡ other → ⊥
@@ -97,6 +98,7 @@ no_asm rows none (order.Explain image) h = unlike (codes "asm") (codes "explain"
 no_asm rows none (order.Asm source image state form) h = none state form h.3 h.4
 no_asm rows none (order.Pack code image state form) h = unlike (codes "asm") (codes "pack") (λ (e : ◌≡◌ {A = ℕ} 97 112). omega arith) h.0
 no_asm rows none (order.Dis image) h = unlike (codes "asm") (codes "dis") (λ (e : ◌≡◌ {A = ℕ} 97 100). omega arith) h.0
+no_asm rows none (order.Native image code) h = unlike (codes "asm") (codes "native") (λ (e : ◌≡◌ {A = ℕ} 97 110). omega arith) h.0
 
 -- the same of `pack`
 pub no_pack : (rows : List Row) → ((n : ℕ) (form : FileForm) → HasState rows n → HasForm rows form → ⊥)
@@ -109,6 +111,7 @@ no_pack rows none (order.Explain image) h = unlike (codes "pack") (codes "explai
 no_pack rows none (order.Asm source image state form) h = unlike (codes "pack") (codes "asm") (λ (e : ◌≡◌ {A = ℕ} 112 97). omega arith) h.0
 no_pack rows none (order.Pack code image state form) h = none state form h.3 h.4
 no_pack rows none (order.Dis image) h = unlike (codes "pack") (codes "dis") (λ (e : ◌≡◌ {A = ℕ} 112 100). omega arith) h.0
+no_pack rows none (order.Native image code) h = unlike (codes "pack") (codes "native") (λ (e : ◌≡◌ {A = ℕ} 112 110). omega arith) h.0
 
 -- and with no number of workers, or no budget, none for workers
 pub no_live : (rows : List Row) → ((workers budget : ℕ) → HasWorkers rows workers → HasBudget rows budget → ⊥)
@@ -121,6 +124,7 @@ no_live rows none (order.Explain image) h = unlike (codes "live") (codes "explai
 no_live rows none (order.Asm source image state form) h = unlike (codes "live") (codes "asm") (λ (e : ◌≡◌ {A = ℕ} 108 97). omega arith) h.0
 no_live rows none (order.Pack code image state form) h = unlike (codes "live") (codes "pack") (λ (e : ◌≡◌ {A = ℕ} 108 112). omega arith) h.0
 no_live rows none (order.Dis image) h = unlike (codes "live") (codes "dis") (λ (e : ◌≡◌ {A = ℕ} 108 100). omega arith) h.0
+no_live rows none (order.Native image code) h = unlike (codes "live") (codes "native") (λ (e : ◌≡◌ {A = ℕ} 108 110). omega arith) h.0
 
 is_simple_and_free-sblog_app : is_simple_and_free sblog_app ≡ true
 unfolding clap_on_literals

@@ -156,6 +156,9 @@ pack_leaf = get_or program.subs 6 program.top
 abbrev dis_leaf : Shape
 dis_leaf = get_or program.subs 7 program.top
 
+abbrev native_leaf : Shape
+native_leaf = get_or program.subs 8 program.top
+
 abbrev rule_in : Shape → ℕ → Rule
 rule_in s i = get_or s.rules i help_rule
 
@@ -272,6 +275,12 @@ pack_keeps = (
 
 dis_keeps : AllByRecursion (Keeps IsSound false) dis_leaf.rules
 dis_keeps = (set_keeps IsSound (rule_in dis_leaf 0) (λ v fits. path_sound (rule_in dis_leaf 0) refl refl refl refl v), (help_keeps, tt))
+
+native_keeps : AllByRecursion (Keeps IsSound false) native_leaf.rules
+native_keeps = (
+  set_keeps IsSound (rule_in native_leaf 0) (λ v fits. path_sound (rule_in native_leaf 0) refl refl refl refl v),
+  (set_keeps IsSound (rule_in native_leaf 1) (λ v fits. path_sound (rule_in native_leaf 1) refl refl refl refl v), (help_keeps, tt)),
+)
 
 top_keeps : AllByRecursion (Keeps IsSound false) program.top.rules
 top_keeps = (help_keeps, tt)
@@ -404,42 +413,54 @@ dis_given words none =
     let rows = rows_after dis_leaf.rules [] words in
     path_given (codes "IMAGE") rows fine.0 (one_required (is_given (codes "IMAGE") rows) fine.3)
 
--- the command that the words name
-abbrev named : Bool → Bool → Bool → Bool → Bool → Bool → Bool → Bool → Bool → Option Shape
-named run live draw check explain asm pack dis help =
-    cond run (Some run_leaf) (cond live (Some live_leaf) (cond draw (Some draw_leaf) (cond check (Some check_leaf) (cond explain (Some explain_leaf)
-    (cond asm (Some asm_leaf) (cond pack (Some pack_leaf) (cond dis (Some dis_leaf) (cond help (Some (get_or program.subs 8 program.top)) None))))))))
+native_given : (words : List Text) → level_fault native_leaf [] nothing_held words false [] ≡ []
+    → ((path : Text) × HasImage (rows_after native_leaf.rules [] words) path)
+    × ((path : Text) × HasPath (codes "OUT") (rows_after native_leaf.rules [] words) path)
+native_given words none =
+    let fine = level_fine IsSound native_leaf (λ p a is. find_all (Keeps IsSound false) p native_leaf.rules a native_keeps is) [] words false [] (refl, (refl, (refl, tt))) none in
+    let rows = rows_after native_leaf.rules [] words in
+    let all = two_required (is_given (codes "IMAGE") rows) (is_given (codes "OUT") rows) fine.3 in
+    (path_given (codes "IMAGE") rows fine.0 all.0, path_given (codes "OUT") rows fine.0 all.1)
 
-order_by : (run live draw check explain asm pack dis help : Bool) (words : List Text) → (help ≡ true → ⊥)
-    → option_map_or (λ s. level_fault s [] nothing_held words false []) (named run live draw check explain asm pack dis help) [] ≡ []
-    → is_some (option_map (λ s. rows_at s words) (named run live draw check explain asm pack dis help)) ≡ true
-    → (o : Order) × AsksBy (option_map (λ s. rows_at s words) (named run live draw check explain asm pack dis help)) o
-order_by true live draw check explain asm pack dis help words no_help none has =
+-- the command that the words name
+abbrev named : Bool → Bool → Bool → Bool → Bool → Bool → Bool → Bool → Bool → Bool → Option Shape
+named run live draw check explain asm pack dis native help =
+    cond run (Some run_leaf) (cond live (Some live_leaf) (cond draw (Some draw_leaf) (cond check (Some check_leaf) (cond explain (Some explain_leaf)
+    (cond asm (Some asm_leaf) (cond pack (Some pack_leaf) (cond dis (Some dis_leaf) (cond native (Some native_leaf) (cond help (Some (get_or program.subs 9 program.top)) None)))))))))
+
+order_by : (run live draw check explain asm pack dis native help : Bool) (words : List Text) → (help ≡ true → ⊥)
+    → option_map_or (λ s. level_fault s [] nothing_held words false []) (named run live draw check explain asm pack dis native help) [] ≡ []
+    → is_some (option_map (λ s. rows_at s words) (named run live draw check explain asm pack dis native help)) ≡ true
+    → (o : Order) × AsksBy (option_map (λ s. rows_at s words) (named run live draw check explain asm pack dis native help)) o
+order_by true live draw check explain asm pack dis native help words no_help none has =
     let given = run_given words none in
     (order.Run given.0, (refl, given.1))
-order_by false true draw check explain asm pack dis help words no_help none has =
+order_by false true draw check explain asm pack dis native help words no_help none has =
     let given = live_given words none in
     (order.Live given.0.0 given.1.0 given.2.0, (refl, given.0.1, given.1.1, given.2.1))
-order_by false false true check explain asm pack dis help words no_help none has =
+order_by false false true check explain asm pack dis native help words no_help none has =
     let given = draw_given words none in
     (order.Draw given.0.0 given.1.0, (refl, given.0.1, given.1.1))
-order_by false false false true explain asm pack dis help words no_help none has =
+order_by false false false true explain asm pack dis native help words no_help none has =
     let given = check_given words none in
     (order.Check given.0, (refl, given.1))
-order_by false false false false true asm pack dis help words no_help none has =
+order_by false false false false true asm pack dis native help words no_help none has =
     let given = explain_given words none in
     (order.Explain given.0, (refl, given.1))
-order_by false false false false false true pack dis help words no_help none has =
+order_by false false false false false true pack dis native help words no_help none has =
     let given = asm_given words none in
     (order.Asm given.0.0 given.1.0 given.2.0 given.3.0, (refl, given.0.1, given.1.1, given.2.1, given.3.1))
-order_by false false false false false false true dis help words no_help none has =
+order_by false false false false false false true dis native help words no_help none has =
     let given = pack_given words none in
     (order.Pack given.0.0 given.1.0 given.2.0 given.3.0, (refl, given.0.1, given.1.1, given.2.1, given.3.1))
-order_by false false false false false false false true help words no_help none has =
+order_by false false false false false false false true native help words no_help none has =
     let given = dis_given words none in
     (order.Dis given.0, (refl, given.1))
-order_by false false false false false false false false true words no_help none has = absurd (no_help refl)
-order_by false false false false false false false false false words no_help none has = absurd (true≢false (sym has))
+order_by false false false false false false false false true help words no_help none has =
+    let given = native_given words none in
+    (order.Native given.0.0 given.1.0, (refl, given.0.1, given.1.1))
+order_by false false false false false false false false false true words no_help none has = absurd (no_help refl)
+order_by false false false false false false false false false false words no_help none has = absurd (true≢false (sym has))
 
 or_false : (b : Bool) → (b || false) ≡ true → b ≡ true
 or_false true e = refl
@@ -471,5 +492,5 @@ asks_something words none =
     from (Some p) fine none has =
         order_by (bytes_eq (codes "run") p.0 || false) (bytes_eq (codes "live") p.0 || false) (bytes_eq (codes "draw") p.0 || false)
         (bytes_eq (codes "check") p.0 || false) (bytes_eq (codes "explain") p.0 || false) (bytes_eq (codes "asm") p.0 || false)
-        (bytes_eq (codes "pack") p.0 || false) (bytes_eq (codes "dis") p.0 || false) (bytes_eq (codes "help") p.0 || false) p.1
+        (bytes_eq (codes "pack") p.0 || false) (bytes_eq (codes "dis") p.0 || false) (bytes_eq (codes "native") p.0 || false) (bytes_eq (codes "help") p.0 || false) p.1
         (not_named_help p.0 (fine refl)) none has

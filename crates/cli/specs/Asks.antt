@@ -65,6 +65,7 @@ pub data Order : Type 0 where
   Asm : Text → Text → ℕ → FileForm → Order
   Pack : Text → Text → ℕ → FileForm → Order
   Dis : Text → Order
+  Native : Text → Text → Order
 
 -- a request with its paths as plain texts, wherever these lie in memory
 abbrev pub order_of : Request → Order
@@ -76,6 +77,7 @@ order_of (request.Explain image) = Explain image.now
 order_of (request.Asm source image state form) = Asm source.now image.now state form
 order_of (request.Pack code image state form) = Pack code.now image.now state form
 order_of (request.Dis image) = Dis image.now
+order_of (request.Native image code) = Native image.now code.now
 
 -- a length of a state is at most 1,024; workers are 1 to 16, and have a budget of 1 to 1,000,000
 abbrev pub IsInRange : Order → Type 0
@@ -97,6 +99,7 @@ AsksIn name rows (Asm source image state form) = (name ≡ codes "asm")
 AsksIn name rows (Pack code image state form) = (name ≡ codes "pack")
     × HasPath (codes "CODE") rows code × HasPath (codes "OUT") rows image × HasState rows state × HasForm rows form
 AsksIn name rows (Dis image) = (name ≡ codes "dis") × HasImage rows image
+AsksIn name rows (Native image code) = (name ≡ codes "native") × HasImage rows image × HasPath (codes "OUT") rows code
 
 -- the same of the command that was used, if one was
 abbrev pub AsksBy : Option (Text × List Row) → Order → Type 0

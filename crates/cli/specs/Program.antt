@@ -59,6 +59,10 @@ pack_app = writer_app (codes "pack") (codes "CODE")
 abbrev pub dis_app : App
 dis_app = with_rule (new_app (codes "dis")) (required_rule (codes "IMAGE"))
 
+-- `native IMAGE OUT`
+abbrev pub native_app : App
+native_app = with_rule (with_rule (new_app (codes "native")) (required_rule (codes "IMAGE"))) (required_rule (codes "OUT"))
+
 -- the program with no command yet: its words leave out its own name, and one of them is a command
 abbrev pub top_app : App
 top_app = on_top (λ s. record s { no_binary_name = true; subcommand_required = true })
@@ -67,5 +71,5 @@ top_app = on_top (λ s. record s { no_binary_name = true; subcommand_required = 
 -- the whole command line
 abbrev pub sblog_app : App
 sblog_app =
-    with_subcommand (with_subcommand (with_subcommand (with_subcommand (with_subcommand (with_subcommand (with_subcommand (with_subcommand top_app
-    run_app.top) live_app.top) draw_app.top) check_app.top) explain_app.top) asm_app.top) pack_app.top) dis_app.top
+    with_subcommand (with_subcommand (with_subcommand (with_subcommand (with_subcommand (with_subcommand (with_subcommand (with_subcommand (with_subcommand top_app
+    run_app.top) live_app.top) draw_app.top) check_app.top) explain_app.top) asm_app.top) pack_app.top) dis_app.top) native_app.top

@@ -3,7 +3,7 @@
 ghost use Rattle.std.specs.Prelude.{◌≡◌, IfOk, codes, false, true};
 ghost use Rattle.clap.specs.Words.{app_of, rule_of};
 ghost use Rattle.clap.specs.declared.builder.Command.TheViews.{out-Command as fields_of};
-ghost use Rattle.cli.specs.Program.{asm_app, check_app, dis_app, draw_app, explain_app, live_app, number_rule, pack_app, required_rule, run_app, sblog_app, top_app, writer_app};
+ghost use Rattle.cli.specs.Program.{asm_app, check_app, dis_app, draw_app, explain_app, live_app, native_app, number_rule, pack_app, required_rule, run_app, sblog_app, top_app, writer_app};
 
 use clap::builder::ValueParser;
 use clap::{Arg, ArgAction, Command};
@@ -132,6 +132,16 @@ fn dis<'a>(alloc: Global) -> Result<Command<'a>, AllocError>
         .arg(required(alloc, "IMAGE"))
 }
 
+fn native<'a>(alloc: Global) -> Result<Command<'a>, AllocError>
+    ensures shape { IfOk result (λ c. app_of c ≡ native_app) }
+    ensures local { IfOk result (λ c. (fields_of c).has_globals ≡ false) }
+{
+    let image = Command::new(alloc, "native")
+        .about("Writes the x86-64 machine code of an image")
+        .arg(required(alloc, "IMAGE"))?;
+    image.arg(required(alloc, "OUT"))
+}
+
 /// The program without its commands, read without its own name.
 fn program<'a>(alloc: Global) -> Result<Command<'a>, AllocError>
     ensures { IfOk result (λ c. app_of c ≡ top_app) }
@@ -155,5 +165,6 @@ pub(crate) fn sblog<'a>(alloc: Global) -> Result<Command<'a>, AllocError>
     let with_explain = with_check.subcommand(explain(alloc)?)?;
     let with_asm = with_explain.subcommand(asm(alloc)?)?;
     let with_pack = with_asm.subcommand(pack(alloc)?)?;
-    with_pack.subcommand(dis(alloc)?)
+    let with_dis = with_pack.subcommand(dis(alloc)?)?;
+    with_dis.subcommand(native(alloc)?)
 }

@@ -57,6 +57,11 @@ pub enum Request<'a> {
     Dis {
         image: &'a str,
     },
+    /// `native IMAGE OUT`.
+    Native {
+        image: &'a str,
+        code: &'a str,
+    },
 }
 
 /// The path that an argument was given.
@@ -177,6 +182,14 @@ fn dis_in<'a>(matches: &ArgMatches<'a>) -> Option<Request<'a>>
     Some(Request::Dis { image })
 }
 
+fn native_in<'a>(matches: &ArgMatches<'a>) -> Option<Request<'a>>
+    ensures { GivesOrder (AsksIn (codes "native") (rows_of (found_of matches.now))) result }
+{
+    let image = path_in(matches, "IMAGE")?;
+    let code = path_in(matches, "OUT")?;
+    Some(Request::Native { image, code })
+}
+
 /// What the command `name` asks for with these matches.
 fn request_in<'a>(name: &str, matches: &ArgMatches<'a>) -> Option<Request<'a>>
     ensures { GivesOrder (AsksIn name.now (rows_of (found_of matches.now))) result }
@@ -190,6 +203,7 @@ fn request_in<'a>(name: &str, matches: &ArgMatches<'a>) -> Option<Request<'a>>
         "asm" => asm_in(matches),
         "pack" => pack_in(matches),
         "dis" => dis_in(matches),
+        "native" => native_in(matches),
         _ => None,
     }
 }

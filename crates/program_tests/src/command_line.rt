@@ -70,6 +70,13 @@ fn requests(rt: HostRuntime) -> Result<(), Fail> {
             },
         ),
         ("dis adder.sbi", Request::Dis { image }),
+        (
+            "native adder.sbi adder.bin",
+            Request::Native {
+                image,
+                code: "adder.bin",
+            },
+        ),
     ];
     for (line, want) in cases {
         let words: Vec<&str> = line.split_whitespace().collect(alloc)?;
@@ -121,6 +128,8 @@ fn usage_texts(rt: HostRuntime) -> Result<(), Fail> {
         ("pack a b --state 1025", "invalid value '1025'"),
         ("pack a b --state 8 --form 4", "invalid value '4'"),
         ("dis", "<IMAGE>"),
+        ("native a", "<OUT>"),
+        ("native a b c", "unexpected argument 'c' found"),
         ("--help", "Usage: sblog <COMMAND>"),
         ("help run", "Usage: sblog run <SCENARIO>"),
         ("check --help", "Usage: sblog check <IMAGE>"),
@@ -152,6 +161,7 @@ Commands:
   asm      Writes the image of an assembler text, with N bytes of state
   pack     Writes the image of the bytes of its code, with N bytes of state
   dis      Prints the assembler text of an image
+  native   Writes the x86-64 machine code of an image
   help     Print this message or the help of the given subcommand(s)
 
 Options:
@@ -237,6 +247,16 @@ Arguments:
 
 Options:
   -h, --help  Print help
+Writes the x86-64 machine code of an image
+
+Usage: sblog native <IMAGE> <OUT>
+
+Arguments:
+  <IMAGE>  
+  <OUT>    
+
+Options:
+  -h, --help  Print help
 ";
 
 #[test]
@@ -253,6 +273,7 @@ fn help_pages(rt: HostRuntime) -> Result<(), Fail> {
         "asm --help",
         "pack --help",
         "dis --help",
+        "native --help",
     ] {
         let words: Vec<&str> = line.split_whitespace().collect(alloc)?;
         match parse_words(alloc, words.as_slice()) {

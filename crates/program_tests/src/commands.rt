@@ -1,6 +1,7 @@
 //! The commands of the program, over files and streams in memory.
 
 mod folder;
+mod machine_code;
 mod scenarios;
 mod streams;
 mod text;

@@ -8,6 +8,7 @@ pub mod Files
 pub mod Inside
 pub mod Judged
 pub mod Live
+pub mod Native
 pub mod Pack
 pub mod Program
 pub mod Report

@@ -3,7 +3,7 @@ use Rattle.std.specs.Prelude.{◌≡◌, ◌≢◌, ◌⊎◌, ℕ, Bool, true, 
 use Rattle.std.specs.declared.alloc.Global.{Global}
 use Rattle.std.specs.Io.KnownBytes.{Appends}
 use Rattle.std.specs.String.{string_bytes}
-use Rattle.cli.specs.Asks.{AsksFor, IsRefusal, own_input_text, Order, Run, Live, Draw, Check, Explain, Asm, Pack, Dis}
+use Rattle.cli.specs.Asks.{AsksFor, IsRefusal, own_input_text, Order, Run, Live, Draw, Check, Explain, Asm, Pack, Dis, Native}
 use Rattle.cli.specs.declared.refusal.Refusal.TheVariants as refusal
 use Rattle.scenario.specs.Scenario.{IsScenario}
 use Rattle.scenario.specs.declared.order.Allowed.TheVariants.{All, Inputs}
@@ -16,6 +16,7 @@ use Rattle.tracer.specs.Explain.{IsUnexplained}
 use Rattle.tracer.specs.Draw.{IsDrawn}
 use Rattle.tracer.specs.Fault.{status_of}
 use Rattle.tracer.specs.Files.{Content}
+use Rattle.tracer.specs.Native.{IsMachineCode}
 use Rattle.tracer.specs.Pack.{IsPacked, IsUnpacked}
 use Rattle.tracer.specs.Report.{IsReport, path_of}
 use Rattle.tracer.specs.Run.{IsCutText}
@@ -42,11 +43,12 @@ abbrev pub SparesImages : Content → List ℕ → List ℕ → Type 0
 SparesImages content scenario place = (bytes : List ℕ) → content scenario ≡ Some bytes
     → (s : Scenario) × IsScenario All bytes s × ((path : List ℕ) → IsImagePath s.processes.entries path → path ≢ place)
 
--- the files after an order: `asm` and `pack` write the image file of their source, `draw` the picture of its scenario, the others
--- leave all as it was
+-- the files after an order: `asm` and `pack` write the image file of their source, `native` the machine code of its image, `draw`
+-- the picture of its scenario, the others leave all as it was
 abbrev pub Leaves : Order → Content → Content → Type 0
 Leaves (Asm source image state form) content content' = IsWritten source image (λ bytes file. IsAssembled bytes state form file) content content'
 Leaves (Pack code image state form) content content' = IsWritten code image (λ bytes file. IsPacked bytes state form file) content content'
+Leaves (Native image code) content content' = IsWritten image code (λ bytes file. IsMachineCode bytes file) content content'
 Leaves (Draw scenario picture) content content' = IsWritten scenario picture (λ bytes file. IsDrawn content bytes file) content content'
     × SparesImages content scenario picture
 Leaves order content content' = content' ≡ content
@@ -80,6 +82,7 @@ IsRefused content (Asm source image state form) bytes f = IsUnassembled bytes f
 IsRefused content (Explain image) bytes f = IsUnexplained bytes f
 IsRefused content (Pack code image state form) bytes f = IsUnpacked bytes f
 IsRefused content (Dis image) bytes f = IsUnlisted bytes f
+IsRefused content (Native image code) bytes f = IsImageFault bytes f
 
 -- what is read from the file at the path comes to the fault: it is refused so, or, for input or output, a file or a stream has
 -- failed; want of memory says nothing
@@ -102,6 +105,7 @@ Sameness = List ℕ → List ℕ → Bool
 abbrev pub WritesOver : Sameness → Content → Order → Type 0
 WritesOver one content (Asm source image state form) = one source image ≡ true
 WritesOver one content (Pack code image state form) = one code image ≡ true
+WritesOver one content (Native image code) = one image code ≡ true
 WritesOver one content (Draw scenario picture) = (one scenario picture ≡ true) ⊎ ((bytes : List ℕ) → content scenario ≡ Some bytes
     → (s : Scenario) × IsScenario All bytes s × (path : List ℕ) × IsImagePath s.processes.entries path × (one path picture ≡ true))
 WritesOver one content order = ⊥

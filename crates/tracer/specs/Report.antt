@@ -1,6 +1,6 @@
 -- What a command prints, by the file that it reads.
 use Rattle.std.specs.Prelude.{◌≡◌, ℕ, List, []}
-use Rattle.cli.specs.Asks.{Order, Run, Live, Draw, Check, Explain, Asm, Pack, Dis}
+use Rattle.cli.specs.Asks.{Order, Run, Live, Draw, Check, Explain, Asm, Pack, Dis, Native}
 use Rattle.explain.specs.Listing.{IsExplained}
 use Rattle.tracer.specs.Asm.{IsAssembled}
 use Rattle.tracer.specs.Check.{IsAccepted, accepted_text}
@@ -8,6 +8,7 @@ use Rattle.tracer.specs.Dis.{IsListing}
 use Rattle.tracer.specs.Draw.{IsDrawn}
 use Rattle.tracer.specs.Files.{Content}
 use Rattle.tracer.specs.Live.{IsLiveText}
+use Rattle.tracer.specs.Native.{IsMachineCode}
 use Rattle.tracer.specs.Pack.{IsPacked}
 use Rattle.tracer.specs.Run.{IsRunText}
 
@@ -21,6 +22,7 @@ path_of (Asm source image state form) = source
 path_of (Explain image) = image
 path_of (Pack code image state form) = code
 path_of (Dis image) = image
+path_of (Native image code) = image
 
 -- the order prints this text where that file has these bytes
 abbrev pub IsReport : Content → Order → List ℕ → List ℕ → Type 0
@@ -32,3 +34,4 @@ IsReport content (Asm source image state form) bytes text = ((file : List ℕ) �
 IsReport content (Explain image) bytes text = IsExplained bytes text
 IsReport content (Pack code image state form) bytes text = ((file : List ℕ) × IsPacked bytes state form file) × (text ≡ [])
 IsReport content (Dis image) bytes text = IsListing bytes text
+IsReport content (Native image code) bytes text = ((file : List ℕ) × IsMachineCode bytes file) × (text ≡ [])

@@ -4,7 +4,7 @@
 //! standard output is what the words ask for, by the files that they name, and nothing is on standard error; with
 //! every other status standard error has the fault that the words, or the bytes of the files, come to, standard
 //! output has nothing, and no file has changed. Of a run that memory ended, the lines of the orders that were refused
-//! until then are printed. `asm`, `pack` and `draw` write the file that their words name, which is none that they
+//! until then are printed. `asm`, `pack`, `native` and `draw` write the file that their words name, which is none that they
 //! read, and no other one; no other command writes a file. A status for input or output comes only where a file or a
 //! stream has failed, or a text file is no text. Where a stream has failed, it may have a part of its text. What a
 //! command answers is a definition over bytes, in the file of `specs/` that has the command's name; the lines are those
@@ -27,6 +27,7 @@ mod fault;
 mod files;
 mod judged;
 mod living;
+mod machine_code;
 mod own_input;
 mod pack;
 mod playing;

@@ -15,6 +15,7 @@ use crate::explaining::explain_image;
 use crate::fault::Fault;
 use crate::files::Files;
 use crate::living::live_scenario;
+use crate::machine_code::write_machine_code;
 use crate::own_input::spare;
 use crate::pack::{CODE_LIMIT, pack};
 use crate::playing::run_scenario;
@@ -125,6 +126,7 @@ fn answer_alone<F: Files>(
             *text = dis(alloc, image, files, site)?;
             Ok(())
         }
+        Request::Native { image, code } => write_machine_code(alloc, image, code, files, site),
     }
 }
 

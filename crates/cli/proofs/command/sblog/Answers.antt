@@ -14,6 +14,7 @@ returns c =
     let explain = c.in_ok-with_explain.ensures.shape c.in_ok-explain.ensures.local ∙ ap₂ with_subcommand check (ap (λ (a : App). a.top) c.in_ok-explain.ensures.shape) in
     let asm = c.in_ok-with_asm.ensures.shape c.in_ok-asm.ensures.local ∙ ap₂ with_subcommand explain (ap (λ (a : App). a.top) c.in_ok-asm.ensures.shape) in
     let pack = c.in_ok-with_pack.ensures.shape c.in_ok-pack.ensures.local ∙ ap₂ with_subcommand asm (ap (λ (a : App). a.top) c.in_ok-pack.ensures.shape) in
-    IfOk-weaker c.subcommand-8.result _ _
-    (λ m h. h.shape c.in_ok-dis.ensures.local ∙ ap₂ with_subcommand pack (ap (λ (a : App). a.top) c.in_ok-dis.ensures.shape))
-    c.subcommand-8.ensures
+    let dis = c.in_ok-with_dis.ensures.shape c.in_ok-dis.ensures.local ∙ ap₂ with_subcommand pack (ap (λ (a : App). a.top) c.in_ok-dis.ensures.shape) in
+    IfOk-weaker c.subcommand-9.result _ _
+    (λ m h. h.shape c.in_ok-native.ensures.local ∙ ap₂ with_subcommand dis (ap (λ (a : App). a.top) c.in_ok-native.ensures.shape))
+    c.subcommand-9.ensures

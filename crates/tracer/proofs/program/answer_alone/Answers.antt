@@ -46,3 +46,15 @@ returns-in-Pack-clause-fault g c =
     IfErr-weaker c.write_packed.result _ _
     (λ f fault. subst (λ o. IsWriteFault g.F.Files.may_be_one (g.F.Files.content c.args.files.now) (g.F.Files.failed c.write_packed.new.files) o f) (sym (ap order_of c.in-Pack.is)) fault)
     c.write_packed.ensures.fault
+
+pub returns-in-Native-clause-left : goal.returns-in-Native-clause-left
+returns-in-Native-clause-left g c =
+    on_ok_weaker c.write_machine_code.result
+    (λ left. subst (λ o. Leaves o (g.F.Files.content c.args.files.now) (g.F.Files.content c.write_machine_code.new.files)) (sym (ap order_of c.in-Native.is)) left)
+    c.write_machine_code.ensures.left
+
+pub returns-in-Native-clause-fault : goal.returns-in-Native-clause-fault
+returns-in-Native-clause-fault g c =
+    IfErr-weaker c.write_machine_code.result _ _
+    (λ f fault. subst (λ o. IsWriteFault g.F.Files.may_be_one (g.F.Files.content c.args.files.now) (g.F.Files.failed c.write_machine_code.new.files) o f) (sym (ap order_of c.in-Native.is)) fault)
+    c.write_machine_code.ensures.fault

@@ -1,0 +1,52 @@
+//! The command `native`.
+
+ghost use Rattle.std.specs.Prelude.{◌≡◌, ℕ, List, [], IfErr, IfOk, OnErr, OnOk, Some};
+ghost use Rattle.cli.specs.Asks.{Native};
+ghost use Rattle.tracer.specs.Check.{IsImageFault};
+ghost use Rattle.tracer.specs.Inside.{IsWriteFault};
+ghost use Rattle.tracer.specs.Native.{IsMachineCode};
+ghost use Rattle.tracer.specs.Program.{FaultOf, IsAnswer, Leaves};
+
+use crate::check::load_image;
+use crate::fault::Fault;
+use crate::files::Files;
+use crate::own_input::spare;
+use crate::site::Site;
+use native::compile;
+use std::alloc::Global;
+
+/// The machine code of the image of a file.
+fn machine_code<F: Files>(
+    alloc: Global,
+    path: &str,
+    files: &mut F,
+    site: &mut Site,
+) -> Result<Vec<u8>, Fault>
+    ensures compiled { IfOk result (λ v. (bytes : List ℕ) → F.content files.old path.now ≡ Some bytes
+        → IsMachineCode bytes v.items) }
+    ensures same { F.content files.new ≡ F.content files.old }
+    ensures fault { IfErr result (FaultOf (F.content files.old) (F.failed files.new) path.now IsImageFault) }
+{
+    let image = load_image(alloc, path, files, site)?;
+    let code = compile(alloc, &image)?;
+    Ok(code)
+}
+
+/// Verifies the image of a file, and writes its machine code into another.
+pub fn write_machine_code<F: Files>(
+    alloc: Global,
+    image: &str,
+    code: &str,
+    files: &mut F,
+    site: &mut Site,
+) -> Result<(), Fault>
+    ensures report { OnOk result (IsAnswer (F.content files.old) (Native image.now code.now) []) }
+    ensures left { OnOk result (Leaves (Native image.now code.now) (F.content files.old) (F.content files.new)) }
+    ensures fault { IfErr result (IsWriteFault F.may_be_one (F.content files.old) (F.failed files.new) (Native image.now code.now)) }
+    ensures kept { OnErr result (F.content files.new ≡ F.content files.old) }
+{
+    spare(alloc, image, code, files)?;
+    let bytes = machine_code(alloc, image, files, site)?;
+    site.write(code, bytes.as_slice(), files)?;
+    Ok(())
+}
