@@ -15,8 +15,9 @@ class NodeAsBuilt(Node):
         return kept.length <= MOST_RECEIVED and all(first + len(payloads) - 1 <= most for first, payloads in kept.logs)
 
     def begin_to_send(self):
-        """One that has come back sends with its next tick; packets that were not taken by then are lost."""
+        """One that has come back loses the packets that were not taken by then."""
         self.out.clear()
+        super().begin_to_send()
 
     def on_restored(self, peer, packet):
         """A page that tells of more messages than were sent to its teller is dropped: only a forged one does."""

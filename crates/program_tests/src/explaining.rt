@@ -1,6 +1,6 @@
 ghost use Rattle.std.specs.Prelude.{◌≤◌};
 
-mod images;
+mod samples;
 
 use assemble::assemble;
 use explain::explain;
