@@ -1,0 +1,293 @@
+// The page and its worker, in one file. The worker has the program: `sblog_page` of playground.wasm.
+"use strict";
+
+// The stored scenarios, handlers and images, which `build` writes here.
+// EXAMPLES BEGIN
+const EXAMPLES = {
+ "scenarios": {
+  "examples/scenarios/crash.scenario": "# Three messages, and a crash that takes the state away.\nprocess a examples/adder.sbi\ninput a 1\ninput a 2\ninput a 3\ndrive 100\ncrash a\nrecover a\ndrive 100\n",
+  "examples/scenarios/any_length.scenario": "# A handler of form 2 gives back messages of no bytes and of two.\nprocess a examples/scenarios/mirror.sbi\nbytes a -\nbytes a 0102\ndrive 100\n",
+  "examples/scenarios/checkpoint.scenario": "# A checkpoint lets the senders drop what it covers; only what came later is replayed.\nprocess a examples/relay.sbi\nprocess b examples/scenarios/doubler.sbi\ninput a 1\ninput a 2\ndrive 100\ncheckpoint b\ntrim b\ntrim outside\ninput a 3\ndrive 100\ncrash b\nrecover b\ndrive 100\ncrash a\nrecover a\ndrive 100\n",
+  "examples/scenarios/hundred.scenario": "# A hundred inputs, for workers: 50 that front relays to back, and 50 for back itself.\nprocess front examples/relay.sbi\nprocess back examples/adder.sbi\ninput front 1\ninput back 2\ninput front 3\ninput back 4\ninput front 5\ninput back 6\ninput front 7\ninput back 8\ninput front 9\ninput back 10\ninput front 11\ninput back 12\ninput front 13\ninput back 14\ninput front 15\ninput back 16\ninput front 17\ninput back 18\ninput front 19\ninput back 20\ninput front 21\ninput back 22\ninput front 23\ninput back 24\ninput front 25\ninput back 26\ninput front 27\ninput back 28\ninput front 29\ninput back 30\ninput front 31\ninput back 32\ninput front 33\ninput back 34\ninput front 35\ninput back 36\ninput front 37\ninput back 38\ninput front 39\ninput back 40\ninput front 41\ninput back 42\ninput front 43\ninput back 44\ninput front 45\ninput back 46\ninput front 47\ninput back 48\ninput front 49\ninput back 50\ninput front 51\ninput back 52\ninput front 53\ninput back 54\ninput front 55\ninput back 56\ninput front 57\ninput back 58\ninput front 59\ninput back 60\ninput front 61\ninput back 62\ninput front 63\ninput back 64\ninput front 65\ninput back 66\ninput front 67\ninput back 68\ninput front 69\ninput back 70\ninput front 71\ninput back 72\ninput front 73\ninput back 74\ninput front 75\ninput back 76\ninput front 77\ninput back 78\ninput front 79\ninput back 80\ninput front 81\ninput back 82\ninput front 83\ninput back 84\ninput front 85\ninput back 86\ninput front 87\ninput back 88\ninput front 89\ninput back 90\ninput front 91\ninput back 92\ninput front 93\ninput back 94\ninput front 95\ninput back 96\ninput front 97\ninput back 98\ninput front 99\ninput back 100\n",
+  "examples/scenarios/late_result.scenario": "# A process crashes while its handler runs; the result comes back too late.\nprocess a examples/adder.sbi\ninput a 5\ntransmit outside a 1\narrive 0\ncrash a\nfinish a\nrecover a\ndrive 100\n",
+  "examples/scenarios/lost_number.scenario": "# Four messages are received, and the number of the third gets lost. Then the receiver crashes.\nprocess a examples/adder.sbi\ninput a 1\ninput a 2\ninput a 4\ninput a 8\ndrive 10\ntransmit outside a 3\narrive 0\nfinish a\nlose 0\ntransmit outside a 4\narrive 0\nfinish a\narrive 0\narrive 0\ncrash a\nrecover a\ndrive 100\n",
+  "examples/scenarios/one_message.scenario": "# One message, from the outside into the state of a process.\nprocess a examples/adder.sbi\ninput a 5\ndrive 10\n",
+  "examples/scenarios/relay.scenario": "# A message goes through two processes and out; each of them crashes once.\nprocess a examples/relay.sbi\nprocess b examples/echo.sbi\ninput a 7\ndrive 100\ncrash a\nrecover a\ndrive 100\ncrash b\nrecover b\ndrive 100\n",
+  "examples/scenarios/two_failures.scenario": "# Two processes are down at once: what each of them kept for the other is gone.\nprocess a examples/relay.sbi\nprocess b examples/scenarios/doubler.sbi\ninput a 7\ndrive 100\ninput b 8\ndrive 100\ncrash a\ncrash b\nrecover b\nalone b\ndrive 100\nalone a\ndrive 100\n"
+ },
+ "handlers": {
+  "examples/adder.s": "# adds the word of each message to the state\nldxdw r3, [r1+0]\nldxdw r4, [r2+0]\nadd r4, r3\nstxdw [r2+0], r4\nmov r0, 0\nexit\n",
+  "examples/echo.s": "# gives each message as an output\ncall 2\nexit\n",
+  "examples/greatest.s": "# keeps the greatest word that it was sent\nldxdw r3, [r1+0]\nldxdw r4, [r2+0]\njle r3, r4, +1\nstxdw [r2+0], r3\nmov r0, 0\nexit\n",
+  "examples/relay.s": "# sends each message on to process 2\nmov r2, r1\nmov r1, 2\ncall 1\nexit\n",
+  "examples/scenarios/doubler.s": "# doubles its state, adds the word of each message, and gives the sum as an output\nldxdw r3, [r1+0]\nldxdw r4, [r2+0]\nlsh r4, 1\nadd r4, r3\nstxdw [r2+0], r4\nstxdw [r10-64], r4\nmov r1, r10\nadd r1, -64\ncall 2\nexit\n",
+  "examples/scenarios/mirror.s": "# gives each message as an output, whatever its length\nmov r2, r3\ncall 6\nmov r0, 0\nexit\n",
+  "examples/scenarios/sized_adder.s": "# adds the word of each message that has one to the state\njlt r3, 8, +4\nldxdw r4, [r1+0]\nldxdw r5, [r2+0]\nadd r5, r4\nstxdw [r2+0], r5\nmov r0, 0\nexit\n"
+ },
+ "images": {
+  "examples/adder.sbi": "U0JJMQgABgB5EwAAAAAAAHkkAAAAAAAADzQAAAAAAAB7QgAAAAAAALcAAAAAAAAAlQAAAAAAAAA=",
+  "examples/echo.sbi": "U0JJMQAAAgCFAAAAAgAAAJUAAAAAAAAA",
+  "examples/greatest.sbi": "U0JJMQgABgB5EwAAAAAAAHkkAAAAAAAAvUMBAAAAAAB7MgAAAAAAALcAAAAAAAAAlQAAAAAAAAA=",
+  "examples/relay.sbi": "U0JJMQAABAC/EgAAAAAAALcBAAACAAAAhQAAAAEAAACVAAAAAAAAAA==",
+  "examples/scenarios/doubler.sbi": "U0JJMQgACgB5EwAAAAAAAHkkAAAAAAAAZwQAAAEAAAAPNAAAAAAAAHtCAAAAAAAAe0rA/wAAAAC/oQAAAAAAAAcBAADA////hQAAAAIAAACVAAAAAAAAAA==",
+  "examples/scenarios/mirror.sbi": "U0JJMgAABAC/MgAAAAAAAIUAAAAGAAAAtwAAAAAAAACVAAAAAAAAAA==",
+  "examples/scenarios/sized_adder.sbi": "U0JJMggABwClAwQACAAAAHkUAAAAAAAAeSUAAAAAAAAPRQAAAAAAAHtSAAAAAAAAtwAAAAAAAACVAAAAAAAAAA=="
+ }
+};
+// EXAMPLES END
+
+const utf8 = new TextEncoder();
+const text = (bytes) => new TextDecoder().decode(bytes);
+
+// ---- the program, one instance a command line
+
+/// Carries out a command line over files by their names: `{status, printed, told, written}`.
+function sblog(module, words, files) {
+  const { exports } = new WebAssembly.Instance(module, {});
+  const place = (bytes) => {
+    const at = exports.page_take(BigInt(Math.max(bytes.length, 1)));
+    if (!at) throw new Error("no memory");
+    new Uint8Array(exports.memory.buffer).set(bytes, Number(at));
+    return at;
+  };
+  const slice = (bytes, count = bytes.length) => [place(bytes), BigInt(count)];
+  // Parts one behind the other, and the length of each.
+  const row = (parts) => {
+    const all = new Uint8Array(parts.reduce((sum, it) => sum + it.length, 0));
+    parts.reduce((at, it) => (all.set(it, at), at + it.length), 0);
+    const lengths = new Uint8Array(Uint32Array.from(parts, (it) => it.length).buffer);
+    return [...slice(all), ...slice(lengths, parts.length)];
+  };
+  const texts = (them) => them.map((it) => utf8.encode(it));
+  const given = [...row(texts(words)), ...row(texts(Object.keys(files))), ...row(Object.values(files))];
+  const sizes = place(new Uint8Array(24));
+  for (let room = 1 << 18; ; ) {
+    const out = place(new Uint8Array(room));
+    const code = exports.sblog_page(...given, out, BigInt(room), sizes);
+    const memory = exports.memory.buffer;
+    const [printed, told, written] = [...new BigUint64Array(memory, Number(sizes), 3)].map(Number);
+    const whole = printed + told + written;
+    if (code === 18) {
+      room = whole;
+      continue;
+    }
+    if (code === 16) throw new Error("the call does not fit");
+    if (code === 17) return { status: 5, printed: "", told: "memory\n", written: new Uint8Array(0) };
+    const bytes = new Uint8Array(memory, Number(out), whole).slice();
+    return {
+      status: code,
+      printed: text(bytes.subarray(0, printed)),
+      told: text(bytes.subarray(printed, printed + told)),
+      written: bytes.subarray(printed + told),
+    };
+  }
+}
+
+function work() {
+  let module;
+  onmessage = ({ data }) => {
+    if (data.module) {
+      module = data.module;
+      return;
+    }
+    const started = performance.now();
+    const answers = data.calls.map((words) => sblog(module, words, data.files));
+    postMessage({ answers, milliseconds: performance.now() - started });
+  };
+}
+
+// ---- the page
+
+function page() {
+  const $ = (id) => document.getElementById(id);
+  const LIMIT = 3000;
+  let module;
+  let worker;
+  let waiting = null;
+  const pending = new Map();
+
+  const start = () => {
+    worker = new Worker(document.currentScript?.src || "playground.js");
+    worker.postMessage({ module });
+    worker.onmessage = ({ data }) => finish(data);
+    worker.onerror = (e) => finish({ error: e.message });
+  };
+  const finish = (answer) => {
+    const { done, timer } = waiting;
+    clearTimeout(timer);
+    waiting = null;
+    if (answer.error) {
+      worker.terminate();
+      start();
+    }
+    done(answer);
+    step();
+  };
+  // One question at a time; of those of a kind that come meanwhile the last one counts.
+  const ask = (kind, calls, files, done) => {
+    pending.set(kind, [calls, files, done]);
+    step();
+  };
+  const step = () => {
+    const [kind] = pending.keys();
+    if (waiting || !kind) return;
+    const [calls, files, done] = pending.get(kind);
+    pending.delete(kind);
+    const timer = setTimeout(() => finish({ error: `stopped after ${LIMIT / 1000} seconds` }), LIMIT);
+    waiting = { done, timer };
+    worker.postMessage({ calls, files });
+  };
+
+  const images = {};
+  for (const [name, it] of Object.entries(EXAMPLES.images)) images[name] = Uint8Array.from(atob(it), (c) => c.charCodeAt(0));
+
+  const number = (list, count, faulty) => {
+    list.replaceChildren(...Array.from({ length: count }, (_, i) => {
+      const item = document.createElement("li");
+      item.textContent = i + 1;
+      item.classList.toggle("faulty", i + 1 === faulty);
+      return item;
+    }));
+  };
+  const fit = (area) => {
+    area.rows = Math.max(4, area.value.split("\n").length);
+    area.style.minWidth = `${Math.max(...area.value.split("\n").map((it) => it.length)) + 2}ch`;
+  };
+
+  // Which entries each line of the scenario made: the run of its first lines has the first entries.
+  let made = [];
+  const light = (entry) => {
+    for (const it of document.querySelectorAll(".lit")) it.classList.remove("lit");
+    $("picture").querySelector("#lit")?.remove();
+    if (!entry) return;
+    $("trace").querySelector(`[data-entry="${entry}"]`)?.classList.add("lit");
+    const line = made.findIndex((it) => it >= entry);
+    $("gutter").children[line]?.classList.add("lit");
+    const column = $("picture").querySelectorAll("line.column")[entry - 1];
+    if (column) {
+      const svg = $("picture").querySelector("svg");
+      const band = document.createElementNS("http://www.w3.org/2000/svg", "rect");
+      const x = Number(column.getAttribute("x1"));
+      for (const [key, value] of Object.entries({ id: "lit", x: x - 22, y: 0, width: 44, height: svg.getAttribute("height"), style: "fill:#ffe9a8;fill-opacity:.6" })) band.setAttribute(key, value);
+      column.before(band);
+    }
+  };
+  const light_line = (line) => {
+    const entry = (made[line - 1] ?? 0) + 1;
+    if (made[line] >= entry) light(entry);
+  };
+
+  const show = (answer, lines) => {
+    document.documentElement.dataset.shown = String(Number(document.documentElement.dataset.shown || 0) + 1);
+    if (answer.error) {
+      $("state").textContent = "";
+      $("answer").innerHTML = "";
+      $("answer").append(Object.assign(document.createElement("span"), { className: "bad", textContent: answer.error }));
+      return;
+    }
+    const [run, draw, ...starts] = answer.answers;
+    const entries = run.printed.split("\n").filter((it) => /^\d{6} /.test(it));
+    const others = run.printed.split("\n").filter((it) => it && !/^\d{6} /.test(it));
+    $("answer").replaceChildren(Object.assign(document.createElement("span"), {
+      className: run.status ? "bad" : "good",
+      textContent: run.status ? `${run.told}status ${run.status}` : `status 0, ${entries.length} entries`,
+    }));
+    $("picture").innerHTML = draw.status ? "" : text(draw.written);
+    $("trace").replaceChildren(...entries.map((it, i) => {
+      const line = document.createElement("div");
+      line.textContent = it;
+      line.dataset.entry = i + 1;
+      return line;
+    }));
+    $("report").textContent = others.join("\n");
+    const fault = /scenario refused at line (\d+)/.exec(run.told);
+    number($("gutter"), lines, fault ? Number(fault[1]) : 0);
+    made = starts.map((it) => it.printed.split("\n").filter((it) => /^\d{6} /.test(it)).length);
+    $("state").textContent = `${answer.milliseconds.toFixed(1)} ms for ${answer.answers.length} command lines`;
+  };
+
+  const play = () => {
+    const value = $("scenario").value;
+    fit($("scenario"));
+    const lines = value.split("\n");
+    // A file that is written is there before, empty: the proof says of it what is in it then.
+    const files = { ...images, "the.scenario": utf8.encode(value), "the.svg": new Uint8Array(0) };
+    const calls = [["run", "the.scenario"], ["draw", "the.scenario", "the.svg"]];
+    if (lines.length <= 60) {
+      lines.forEach((_, i) => {
+        const name = `${i + 1}.scenario`;
+        files[name] = utf8.encode(lines.slice(0, i + 1).join("\n") + "\n");
+        calls.push(["run", name]);
+      });
+    }
+    ask("scenario", calls, files, (answer) => show(answer, lines.length));
+  };
+
+  // The handler: its image, and the image's listing.
+  const assemble = (then) => {
+    const source = $("source").value;
+    fit($("source"));
+    const words = ["asm", "the.s", "the.sbi", "--state", $("length").value];
+    ask("handler", [words], { "the.s": utf8.encode(source), "the.sbi": new Uint8Array(0) }, (answer) => {
+      if (answer.error) return;
+      const [asm] = answer.answers;
+      const fault = /at line (\d+)/.exec(asm.told);
+      number($("slots"), source.split("\n").length, fault ? Number(fault[1]) : 0);
+      if (asm.status) {
+        $("listing").textContent = asm.told;
+        return;
+      }
+      images[$("place").value] = asm.written;
+      ask("listing", [["explain", "the.sbi"]], { "the.sbi": asm.written }, (listing) => {
+        if (listing.error) return;
+        $("listing").textContent = listing.answers[0].printed || listing.answers[0].told;
+        then();
+      });
+    });
+  };
+
+  const link = () => {
+    const value = JSON.stringify([$("scenario").value, $("source").value, $("place").value, $("length").value]);
+    $("link").href = "#" + btoa(String.fromCharCode(...utf8.encode(value)));
+  };
+  const choose = (list, all, area, after) => {
+    list.append(...Object.keys(all).map((it) => new Option(it)));
+    list.onchange = () => {
+      area.value = all[list.value];
+      after();
+    };
+  };
+
+  choose($("scenarios"), EXAMPLES.scenarios, $("scenario"), () => (link(), play()));
+  choose($("handlers"), EXAMPLES.handlers, $("source"), () => (link(), assemble(play)));
+  $("scenario").oninput = () => (link(), play());
+  for (const it of ["source", "place", "length"]) $(it).oninput = () => (link(), assemble(play));
+  $("trace").onmouseover = (e) => light(Number(e.target.dataset.entry || 0));
+  $("picture").onmousemove = (e) => {
+    const at = e.clientX - $("picture").getBoundingClientRect().left + $("picture").scrollLeft;
+    const columns = [...$("picture").querySelectorAll("line.column")];
+    light(columns.findIndex((it) => Math.abs(Number(it.getAttribute("x1")) - at) <= 22) + 1);
+  };
+  $("gutter").onmouseover = (e) => light_line(Number(e.target.textContent) - 1);
+
+  const begin = async () => {
+    const response = await fetch("playground.wasm");
+    const bytes = await response.arrayBuffer();
+    module = await WebAssembly.compile(bytes);
+    start();
+    let given;
+    try {
+      given = JSON.parse(text(Uint8Array.from(atob(location.hash.slice(1)), (c) => c.charCodeAt(0))));
+    } catch {
+      given = [EXAMPLES.scenarios[$("scenarios").value], EXAMPLES.handlers[$("handlers").value], "mine.sbi", "8"];
+    }
+    [$("scenario").value, $("source").value, $("place").value, $("length").value] = given;
+    link();
+    assemble(() => {});
+    play();
+  };
+  begin().catch((e) => ($("state").textContent = `this browser cannot run the program: ${e.message}`));
+}
+
+if (typeof document === "undefined") work();
+else page();
