@@ -11,7 +11,7 @@ class Cluster:
     def __init__(self, maker, chance, names, limits, page, tick):
         self.maker, self.chance, self.names, self.limits = maker, chance, names, limits
         self.page, self.tick_limit, self.n = page, tick, len(names)
-        self.network, self.nodes, self.kills = [], {}, 0
+        self.network, self.taken, self.nodes, self.kills = [], [], {}, 0
         self.kept, self.incarnation, self.durable = {}, {}, {}
         *_, self.gateway = maker.opened_gateway(self.n, page, tick)
         self.base, self.journal = self.gateway.whole("store")[2], b""
@@ -56,6 +56,7 @@ class Cluster:
         code, _, to, data = party.whole("take")
         if code == 0:
             self.network.append((to, data))
+            self.taken.append((to, data))
         return code == 0
 
     def tick(self):
