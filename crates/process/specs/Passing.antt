@@ -1,5 +1,6 @@
 -- How a process passes from one stage to the next
 use Rattle.std.specs.Prelude.{◌≡◌, true, false}
+use Rattle.node.specs.Node.{TheNode}
 use Rattle.node.specs.Sending.{ticked}
 use Rattle.node.specs.Stands.{Acts}
 use Rattle.recovery.specs.Plan.{has_all}
@@ -29,7 +30,7 @@ Begun old new = new ≡ old
 
 -- where all peers have answered, it is up, and sends at once what it released: the first messages for each peer that have no number
 abbrev pub Returns : Course → Course → Type 0
-Returns (Restoring n) (Up m) = (is_up n ≡ true) × (m ≡ ticked (up n)) × IsUp n (up n) × Acts (up n) m
+Returns (Restoring n) (Up m) = (is_up n ≡ true) × ((first : TheNode) × ((first ≡ up n) × IsUp n first × (m ≡ ticked first) × Acts first m))
 Returns (Restoring n) new = (is_up n ≡ false) × (new ≡ Restoring n)
 Returns old new = new ≡ old
 

@@ -10,7 +10,7 @@ use Rattle.scenario.specs.declared.order.Allowed.TheVariants.{All, Inputs}
 use Rattle.scenario.specs.declared.process.Process.{Process}
 use Rattle.scenario.specs.declared.scenario.Scenario.{Scenario}
 use Rattle.tracer.specs.Asm.{IsAssembled, IsUnassembled}
-use Rattle.tracer.specs.Check.{IsUnaccepted}
+use Rattle.tracer.specs.Check.{IsUnaccepted, IsImageFault}
 use Rattle.tracer.specs.Dis.{IsUnlisted}
 use Rattle.tracer.specs.Explain.{IsUnexplained}
 use Rattle.tracer.specs.Draw.{IsDrawn}
