@@ -31,7 +31,7 @@ use Rattle.recovery.proofs.Meetings.{asks as ask-tells, newer-doubts}
 use Rattle.recovery.proofs.Lists.{at-changed}
 use Rattle.recovery.proofs.Acts.{goes-self, goes-one, goes-then}
 use Rattle.recovery.proofs.Noting.{keeps-page, keeps-covered, last-above}
-use Rattle.restoring.specs.Restoring.{TheRestoring, IsRestoring, above_of, has_answered, left, asks, last_ssn, answers, told, greeted, waits_anew, asked_by, heard, handed}
+use Rattle.restoring.specs.Restoring.{TheRestoring, IsRestoring, above_of, has_answered, left, asks, last_ssn, answers, is_reply, page_of, doubted, told, greeted, waits_anew, asked_by, heard, handed}
 use Rattle.restoring.specs.Stands.{StandsRestoring, IsHanded}
 use Rattle.restoring.proofs.Left.{without-those, those-same, todo-is, not-replaying}
 use Rattle.restoring.proofs.Pages.{page-in-range}
@@ -388,9 +388,11 @@ module _ (n : TheRestoring) (c : Cluster) (from : ℕ) (st : StandsRestoring n c
       let f = was.1.0 in
       let given : In (parcel from me (Restored i j covered s (restored_end flags s pairs) f)) c.parcels = (let P : Body → Type 0 = λ b. In (parcel from me b) c.parcels in subst P was.1.1 was.2) in
       let says = was.1.2 in
-      by-branch (Onward me c) (in_range (packets.Restored i j covered s flags pairs) && answers from i j covered s pairs n) (if from == 0 then greeted covered flags n else told from j covered s flags pairs n) n
-      (λ e. let two = both (in_range (packets.Restored i j covered s flags pairs)) (answers from i j covered s pairs n) e in
-      let ok = is-answer n from i j covered s pairs two.1 in
+      by-branch (Onward me c) (in_range (packets.Restored i j covered s flags pairs) && is_reply from i j s n)
+      (if answers from i j covered s pairs n then page_of from j covered s flags pairs n else doubted (page_of from j covered s flags pairs n)) n
+      (λ e. let two = both (in_range (packets.Restored i j covered s flags pairs)) (is_reply from i j s n) e in
+      by-branch (Onward me c) (answers from i j covered s pairs n) (page_of from j covered s flags pairs n) (doubted (page_of from j covered s flags pairs n))
+      (λ a. let ok = is-answer n from i j covered s pairs a in
       by-branch (Onward me c) (from == 0) (greeted covered flags n) (told from j covered s flags pairs n)
       (λ z. let none : from ≡ 0 = grind (arith, nat_tests) in
       let P : ℕ → Type 0 = λ k. In (parcel k me (Restored i j covered s (restored_end flags s pairs) f)) c.parcels in
@@ -398,6 +400,7 @@ module _ (n : TheRestoring) (c : Cluster) (from : ℕ) (st : StandsRestoring n c
       by-branch (Onward me c) (is_done flags) _ n (λ d exact. goes-greeted n c i j covered s flags pairs f st w (subst Q none ok) (subst P none given) d exact) (λ d. none-heard))
       (λ z exact. let some : 0 < from = grind (arith, nat_tests) in
       goes-page n c from i j covered s flags pairs f st low some w ok (page-in-range i j covered s flags pairs two.0) given says (sym (exact-told j covered s flags pairs) ∙ exact)))
+      (λ d exact. absurd (let f : false ≡ true = (both (page_of from j covered s flags pairs n).own.exact false exact).1 in cc)))
       (λ e. none-heard)
 
   -- a peer that comes back too asks: where that is no news, it only tells that all is lost

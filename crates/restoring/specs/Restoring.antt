@@ -3,7 +3,7 @@ use Rattle.std.specs.Prelude.{◌≡◌, ℕ, zero, suc, ◌+◌, List, [], leng
 use Rattle.std.specs.List.{list_all}
 use Rattle.rsn.specs.Receipts.{Received}
 use Rattle.world.specs.Phases.{those}
-use Rattle.packets.specs.Packet.{is_done, in_range}
+use Rattle.packets.specs.Packet.{flags_of, is_done, in_range}
 use Rattle.packets.specs.declared.page.Pair.{Pair}
 use Rattle.packets.specs.declared.page.Flags.{Flags}
 use Rattle.packets.specs.declared.packet.Body.{Body}
@@ -76,12 +76,13 @@ begun r = asked (begins r)
 abbrev pub last_ssn : ℕ → List Pair → ℕ
 last_ssn s pairs = last_behind s (map (λ (x : Pair). x.ssn) pairs)
 
--- a page answers what was asked last: in this incarnation, of a peer that isn't older than it was heard of; and it tells of no more than was
--- sent to that one
+-- a page answers what was asked last: in this incarnation, of a peer that isn't older than it was heard of
+abbrev pub is_reply : ℕ → ℕ → ℕ → ℕ → TheRestoring → Bool
+is_reply from i j s n = (i == n.own.life) && nat_le (slice_index_or n.own.heard from 0) j && not (has_answered from n) && (s == above_of from n)
+
+-- and it tells of no more than was sent to that peer
 abbrev pub answers : ℕ → ℕ → ℕ → ℕ → ℕ → List Pair → TheRestoring → Bool
-answers from i j covered s pairs n =
-    (i == n.own.life) && nat_le (slice_index_or n.own.heard from 0) j && not (has_answered from n) && (s == above_of from n) && nat_le covered (sent_to from n.own)
-    && nat_le (last_ssn 0 pairs) (sent_to from n.own)
+answers from i j covered s pairs n = is_reply from i j s n && nat_le covered (sent_to from n.own) && nat_le (last_ssn 0 pairs) (sent_to from n.own)
 
 -- a page of a process is taken in. It is the last one, or the process is asked for the next
 abbrev pub told : ℕ → ℕ → ℕ → ℕ → Flags → List Pair → TheRestoring → TheRestoring
@@ -94,6 +95,17 @@ told from j covered s flags pairs n =
 abbrev pub greeted : ℕ → Flags → TheRestoring → TheRestoring
 greeted covered flags n =
     if is_done flags then record n { own = trusts flags (takes_in 0 covered [] n.own); answered = slice_set n.answered 0 true } else n
+
+-- the page of a peer
+abbrev pub page_of : ℕ → ℕ → ℕ → ℕ → Flags → List Pair → TheRestoring → TheRestoring
+page_of from j covered s flags pairs n = if from == 0 then greeted covered flags n else told from j covered s flags pairs n
+
+-- a page that tells of more than was sent: failures met, and what was sent then is lost here. So it isn't exact any more
+abbrev pub doubted : TheRestoring → TheRestoring
+doubted n = record n { own = trusts (flags_of true false false) n.own }
+
+abbrev pub unless_doubted : Bool → TheRestoring → TheRestoring
+unless_doubted fits n = if fits then n else doubted n
 
 -- a peer comes back too: it is waited for, and will be asked anew
 abbrev pub waits_anew : ℕ → TheRestoring → TheRestoring
@@ -108,7 +120,8 @@ asked_by q i k n =
 -- another one says this: what isn't an answer, nor an Ask, is dropped
 abbrev pub heard : ℕ → Body → TheRestoring → TheRestoring
 heard from (Restored i j covered s flags pairs) n =
-    if in_range (Restored i j covered s flags pairs) && answers from i j covered s pairs n then (if from == 0 then greeted covered flags n else told from j covered s flags pairs n) else n
+    if in_range (Restored i j covered s flags pairs) && is_reply from i j s n
+    then (if answers from i j covered s pairs n then page_of from j covered s flags pairs n else doubted (page_of from j covered s flags pairs n)) else n
 heard from (Ask i k) n = if in_range (Ask i k) then asked_by from i k n else n
 heard from body n = n
 

@@ -10,10 +10,11 @@
 //! allow, and what it then holds is what the cluster has of it. No call but the first needs memory;
 //! where that is refused, what was handed in is given back.
 //!
-//! A packet that isn't the answer to what was asked last is dropped, and so is a page that tells of
-//! more messages than were sent, which no page of a peer does ([`pages_fit`]). But the Ask of a peer that
-//! comes back too is answered: what the log held for it is lost. Where that one wasn't known to come back
-//! it is waited for anew, and the process isn't exact any more: it owes no acts then.
+//! A packet that isn't the answer to what was asked last is dropped. A page that tells of more messages
+//! than were sent is taken, and the process isn't exact any more; while failures come one at a time no
+//! page of a peer does ([`pages_fit`]). But the Ask of a peer that comes back too is answered: what the
+//! log held for it is lost. Where that one wasn't known to come back it is waited for anew, and the
+//! process isn't exact any more: it owes no acts then.
 //!
 //! ```text
 //! let mut node = Restoring::begin(alloc, replayed)?;

@@ -3,7 +3,7 @@
 ghost use Rattle.std.specs.Prelude.{◌≡◌, ◌≢◌, ◌≤◌, ◌<◌, ◌+◌, ◌&&◌, length, replicate, slice_set, nat_le, true, IfOk, IfErr};
 ghost use Rattle.std.specs.List.{AllByRecursion};
 ghost use Rattle.recovery.specs.Entering.{AscendFrom, IsSmallPair, sent_to};
-ghost use Rattle.restoring.specs.Restoring.{asks, asked, begins, begun, answers, told, greeted, last_ssn, waits_anew, asked_by, handed, is_up, up};
+ghost use Rattle.restoring.specs.Restoring.{asks, asked, begins, begun, answers, is_reply, page_of, unless_doubted, told, greeted, last_ssn, waits_anew, asked_by, handed, is_up, up};
 ghost use Rattle.restoring.specs.Stands.{Begins, Acts, IsHanded, Takes, IsUp};
 
 use node::Node;
@@ -145,18 +145,53 @@ impl Restoring {
                 pairs,
             } => {
                 let pairs = pairs.as_slice();
-                if self.is_answer(from, *incarnation, *teller, *covered, *above, pairs) {
-                    if from == 0 {
-                        self.greet(*covered, *flags);
-                    } else {
-                        self.tell(from, *teller, *covered, *above, *flags, pairs);
-                    }
+                let fits = self.is_answer(from, *incarnation, *teller, *covered, *above, pairs);
+                if self.is_reply(from, *incarnation, *teller, *above) {
+                    self.take_page(from, *teller, *covered, *above, *flags, pairs, fits);
                 }
             }
             Body::Ask { incarnation, above } => {
                 self.receive_ask(alloc, from, *incarnation, *above);
             }
             _ => {}
+        }
+    }
+
+    /// Whether a page answers what was asked last, whatever it tells of.
+    fn is_reply(&self, from: u8, life: u64, teller: u64, above: u64) -> bool
+        requires { from ≤ self.now.own.count }
+        ensures { result ≡ is_reply from life teller above self.now }
+    {
+        life == self.replayed.incarnation()
+            && self.replayed.heard(from) <= teller
+            && !self.answered[from as usize]
+            && above == self.above[from as usize]
+    }
+
+    /// The page of a peer. Where it tells of more than was sent, failures met, and the process isn't
+    /// exact any more: what it sent then is lost to it.
+    fn take_page(
+        &mut self,
+        from: u8,
+        teller: u64,
+        covered: u64,
+        above: u64,
+        flags: Flags,
+        pairs: &[Pair],
+        fits: bool,
+    )
+        requires from { from ≤ self.old.own.count }
+        requires page { AscendFrom 0 pairs.now }
+        requires numbers { AllByRecursion IsSmallPair pairs.now }
+        ensures { self.new ≡ unless_doubted fits (page_of from teller covered above flags pairs.now self.old) }
+    {
+        if from == 0 {
+            self.greet(covered, flags);
+        } else {
+            self.tell(from, teller, covered, above, flags, pairs);
+        }
+        if !fits {
+            self.replayed.trust(Flags::new(true, false, false));
         }
     }
 
@@ -173,10 +208,7 @@ impl Restoring {
         requires { from ≤ self.now.own.count }
         ensures { result ≡ answers from life teller covered above pairs.now self.now }
     {
-        life == self.replayed.incarnation()
-            && self.replayed.heard(from) <= teller
-            && !self.answered[from as usize]
-            && above == self.above[from as usize]
+        self.is_reply(from, life, teller, above)
             && covered <= self.replayed.sent(from)
             && last_ssn(0, pairs) <= self.replayed.sent(from)
     }

@@ -8,16 +8,16 @@ use Rattle.recovery.proofs.Noting.{ascend-lower}
 use Rattle.restoring.proofs.Pages.{page-in-range, page-small}
 use Rattle.restoring.proofs.restoring.Restoring.hand.Goals as goal
 
-pub tell-requires-clause-page : goal.tell-requires-clause-page
-tell-requires-clause-page c =
+pub take_page-requires-clause-page : goal.take_page-requires-clause-page
+take_page-requires-clause-page c =
     let r = c.in-Restored in
     let fits : in_range (Restored r.incarnation r.teller r.covered r.above r.flags r.pairs) ≡ true = ap in_range (sym r.is) ∙ sym c.is_in_range.ensures ∙ c.if-not-is_in_range.false in
     let page : AscendFrom r.above r.pairs = page-in-range r.incarnation r.teller r.covered r.above r.flags r.pairs fits in
     let P : List Pair → Type 0 = λ xs. AscendFrom 0 xs in
     subst P (sym c.as_slice-pairs.ensures) (ascend-lower 0 r.above r.pairs (omega arith) page)
 
-pub tell-requires-clause-numbers : goal.tell-requires-clause-numbers
-tell-requires-clause-numbers c =
+pub take_page-requires-clause-numbers : goal.take_page-requires-clause-numbers
+take_page-requires-clause-numbers c =
     let r = c.in-Restored in
     let fits : in_range (Restored r.incarnation r.teller r.covered r.above r.flags r.pairs) ≡ true = ap in_range (sym r.is) ∙ sym c.is_in_range.ensures ∙ c.if-not-is_in_range.false in
     subst (AllByRecursion IsSmallPair) (sym c.as_slice-pairs.ensures) (page-small r.incarnation r.teller r.covered r.above r.flags r.pairs fits)
