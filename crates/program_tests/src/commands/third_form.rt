@@ -2,6 +2,7 @@
 
 use super::carried;
 use super::folder::Folder;
+use std::alloc::{AllocError, Global};
 use std::process::Abort;
 use std::sync::Wait;
 use std::test::Fail;
@@ -32,6 +33,11 @@ static CUT: &str = "load refused 5
 i: not as long as its header says: 8 bytes, and 8 for each slot
 ";
 
+/// A folder with the files `s` and `i`.
+fn folder<'x>(alloc: Global, source: &'x [u8], image: &'x [u8]) -> Result<Folder, AllocError> {
+    Folder::new(alloc, [("s", source), ("i", image)].as_slice())
+}
+
 /// Carries out one line over the files `s` and `i`, and tests its status, what it shows, and what it leaves at `i`.
 fn ends<R: Threads + Wait + Sync + Abort + AllocGlobal>(
     rt: &R,
@@ -42,11 +48,14 @@ fn ends<R: Threads + Wait + Sync + Abort + AllocGlobal>(
     shown: &str,
     left: &[u8],
 ) -> Result<(), Fail> {
-    let mut files = Folder::new(rt.alloc(), [("s", source), ("i", image)].as_slice())?;
+    let mut files = folder(rt.alloc(), source, image)?;
     let ended = carried(rt, line, &mut files)?;
     assert_eq!(rt; ended.status, status, "at {line}");
-    let told = if status == 0 { &ended.out } else { &ended.err };
-    assert!(rt; told.as_slice() == shown.as_bytes(), "at {line}");
+    if status == 0 {
+        assert!(rt; ended.out.as_slice() == shown.as_bytes(), "at {line}");
+    } else {
+        assert!(rt; ended.err.as_slice() == shown.as_bytes(), "at {line}");
+    }
     assert!(rt; files.bytes("i") == left, "at {line}");
     Ok(())
 }
