@@ -84,7 +84,8 @@ impl Machine {
         self.recall(done)
     }
 
-    // A message is received.
+    // A message is received: the process takes the receipt, logs what the handler sent and holds it back
+    // until the number is acknowledged, has the new state, and puts the number on the wire to the sender.
     fn commit(&mut self, done: Done) -> Result<Finished, (Refusal, Done)>
         requires calls { self.old.calls ≤ ENTRIES }
         requires matches { Matches self.old done }
@@ -113,7 +114,8 @@ impl Machine {
         Ok(Finished::Committed { rsn, key })
     }
 
-    // A message is replayed.
+    // A message is replayed: the process takes the receipt, logs what the handler sent, as acknowledged
+    // and without numbers, and has the new state. Behind the last one it restores its numbers, or is up.
     fn recall(&mut self, done: Done) -> Result<Finished, (Refusal, Done)>
         requires calls { self.old.calls ≤ ENTRIES }
         requires matches { Matches self.old done }

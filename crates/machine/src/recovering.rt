@@ -156,7 +156,8 @@ impl Machine {
         Ok(kept)
     }
 
-    // What the process replays after these receipts.
+    // What the process replays after these receipts: the messages to it that any log has under the next
+    // numbers, up to the first gap.
     fn plan(&self, p: u8, receipts: &Receipts) -> Result<Plan, AllocError>
         ensures plan { IfOk result (λ plan. IsPlan (found (logs_of self.now) p) receipts.now.senders plan.messages) }
         ensures start { IfOk result (λ plan. (plan.before ≡ length receipts.now.senders) × (plan.replayed ≡ 0)) }

@@ -68,8 +68,8 @@ impl Machine {
         }
     }
 
-    /// Makes a call, and answers what the journal keeps of it and the job that it starts. A finish
-    /// takes a result: it is `finish`.
+    /// Makes a call by the method of its name, and answers what the journal keeps of it and the job that it
+    /// starts. A finish takes a result: it is `finish`.
     pub fn step(&mut self, room: u32, call: &Call) -> Result<Reply, Refusal>
         requires result { TakesNoResult call.now }
         requires room { self.old.calls + room ≤ ENTRIES }

@@ -9,7 +9,7 @@
 //!
 //! ```text
 //! let text = "process a adder.sbi\ninput a 5\ndrive 10\n";
-//! let scenario = parse(alloc, text, Allowed::All)?; // one process, two steps
+//! let scenario = parse(alloc, text, Allowed::All)?; // one process, two steps: `Order::Input` and `Order::Drive`
 //! trace_text(alloc, session.journal())?; // "000001 w0 input 1 1 -> logged 1\n.."
 //! ```
 #![tactic(auto)]

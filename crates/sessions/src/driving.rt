@@ -39,7 +39,8 @@ impl Service {
     }
 
     /// Picks calls and makes them, until no call can be picked or `budget` calls were accepted, and
-    /// answers how many were accepted. A job that starts is run and finished at once, past the
+    /// answers how many were accepted. A packet that can arrive comes first, then a message that is replayed,
+    /// then numbers that are restored, then a message that is put on the wire. A job that starts is run and finished at once, past the
     /// budget too. It refuses want of memory alone: the calls that were accepted before it stand,
     /// and a job whose result was refused stays open.
     pub fn drive(&mut self, budget: u32) -> Result<u32, Refusal>

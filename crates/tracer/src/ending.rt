@@ -25,7 +25,7 @@ fn show<O: Stream>(text: &str, out: &mut O) -> Result<(), Fault>
 
 /// Prints the text of a command that ended so, tells the fault that it came to, and answers the exit
 /// status.
-pub fn finish<O: Stream, E: Stream>(
+pub fn print_or_tell<O: Stream, E: Stream>(
     ended: Result<(), Fault>,
     text: &str,
     site: &Site,

@@ -30,7 +30,6 @@ mod living;
 mod machine_code;
 mod own_input;
 mod pack;
-mod playing;
 mod program;
 mod said;
 mod site;

@@ -1,16 +1,16 @@
 //! The program as a function of its words, its files and two streams.
 
 ghost use Rattle.std.specs.Prelude.{◌≡◌, ◌≢◌, ◌≤◌, ◌⊎◌, ◌||◌, true, [], IfErr, OnErr, OnOk, map, string_bytes};
-ghost use Rattle.cli.specs.Asks.{Asm, IsInRange, Pack, order_of};
+ghost use Rattle.cli.specs.Asks.{Asm, IsInRange, Pack, Run, order_of};
 ghost use Rattle.tracer.specs.Inside.{EndsShort, IsWriteFault};
-ghost use Rattle.tracer.specs.Program.{IsAnswer, IsAnswered, IsCause, IsCutShort, IsDone, IsShort, IsTold, Leaves};
+ghost use Rattle.tracer.specs.Program.{IsAnswer, IsAnswered, IsCause, IsCutShort, IsDone, IsFault, IsShort, IsTold, Leaves};
 ghost use Rattle.tracer.specs.declared.fault.Fault.TheVariants.{Memory};
 
 use crate::asm::{SOURCE_LIMIT, asm};
 use crate::check::check;
 use crate::dis::dis;
 use crate::drawing::draw_scenario;
-use crate::ending::finish;
+use crate::ending::print_or_tell;
 use crate::explaining::explain_image;
 use crate::fault::Fault;
 use crate::files::Files;
@@ -18,16 +18,39 @@ use crate::living::live_scenario;
 use crate::machine_code::write_machine_code;
 use crate::own_input::spare;
 use crate::pack::{CODE_LIMIT, pack};
-use crate::playing::run_scenario;
 use crate::site::Site;
+use crate::staging::{Staged, stage};
 use crate::stream::Stream;
 use cli::{Request, parse_words};
 use images::FileForm;
 use limits::STATE_BYTES;
+use runner::run;
+use scenario::Allowed;
 use std::alloc::Global;
 use std::convert::AsStr;
 use std::sync::Wait;
 use std::thread::Threads;
+
+/// Carries out the orders of a scenario, and writes the lines of those that were refused, the trace
+/// and the report into an empty text. Where memory runs out it may have such lines.
+fn run_scenario<F: Files>(
+    alloc: Global,
+    path: &str,
+    files: &mut F,
+    site: &mut Site,
+    text: &mut String,
+) -> Result<(), Fault>
+    requires { string_bytes text.old ≡ [] }
+    ensures report { OnOk result (IsAnswer (F.content files.old) (Run path.now) (string_bytes text.new)) }
+    ensures same { F.content files.new ≡ F.content files.old }
+    ensures fault { IfErr result (IsFault (F.content files.old) (F.failed files.new) (Run path.now)) }
+    ensures short { IfErr result (λ f. (string_bytes text.new ≡ [])
+        ⊎ ((f ≡ Memory) × IsShort (F.content files.old) (Run path.now) (string_bytes text.new))) }
+{
+    let Staged { scenario, images } = stage(alloc, path, Allowed::All, files, site)?;
+    run(alloc, &scenario, images, text)?;
+    Ok(())
+}
 
 /// Writes the image file of this form of the source file, with a state of this length.
 fn write_image<F: Files>(
@@ -233,7 +256,7 @@ pub fn sblog<R: Threads + Wait + Sync, S: AsStr, F: Files, O: Stream, E: Stream>
     let mut text = String::new(alloc);
     let mut site = Site::new(alloc);
     let ended = carry_out(rt, alloc, words, files, &mut site, &mut text);
-    finish(ended, text.as_str(), &site, out, err)
+    print_or_tell(ended, text.as_str(), &site, out, err)
 }
 
 /// As [`sblog`], where no thread can be started: `live` ends for want of memory.
@@ -260,5 +283,5 @@ pub fn sblog_alone<S: AsStr, F: Files, O: Stream, E: Stream>(
     let mut text = String::new(alloc);
     let mut site = Site::new(alloc);
     let ended = carry_out_alone(alloc, words, files, &mut site, &mut text);
-    finish(ended, text.as_str(), &site, out, err)
+    print_or_tell(ended, text.as_str(), &site, out, err)
 }

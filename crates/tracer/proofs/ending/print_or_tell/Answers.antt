@@ -5,7 +5,7 @@ use Rattle.tracer.specs.Inside.{HasFault, IsHalf}
 use Rattle.tracer.specs.Program.{Tells}
 use Rattle.tracer.specs.Said.{told_text}
 use Rattle.tracer.specs.declared.fault.Fault.{Fault}
-use Rattle.tracer.proofs.ending.finish.Goals as goal
+use Rattle.tracer.proofs.ending.print_or_tell.Goals as goal
 
 -- a fault that was told has left its status
 status_told : (f : Fault) (text : List ℕ) (deaf : Bool) (err err' : Option (List ℕ)) (status : ℕ) → Tells f text deaf err err' status

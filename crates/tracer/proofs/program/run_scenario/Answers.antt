@@ -6,7 +6,7 @@ use Rattle.scenario.specs.Process.{names_of}
 use Rattle.scenario.specs.declared.order.Allowed.TheVariants.{All}
 use Rattle.tracer.proofs.CauseLemmas.{becomes}
 use Rattle.tracer.proofs.StageLemmas.{are_few, as_many, staged}
-use Rattle.tracer.proofs.playing.run_scenario.Goals as goal
+use Rattle.tracer.proofs.program.run_scenario.Goals as goal
 
 pub run-requires-clause-few : goal.run-requires-clause-few
 run-requires-clause-few g c =
