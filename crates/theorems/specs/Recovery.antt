@@ -1,5 +1,5 @@
 -- What a recovery keeps
-use Rattle.std.specs.Prelude.{◌≡◌, ℕ, suc, ◌+◌, ◌-◌, ◌<◌, ◌≤◌, List, [], ◌∷◌, length, Bool, true, false, take, ◌==◌, if◌then◌else◌}
+use Rattle.std.specs.Prelude.{◌≡◌, ℕ, suc, ◌+◌, ◌-◌, ◌<◌, ◌≤◌, List, [], ◌∷◌, ◌++◌, length, Bool, true, false, take, ◌==◌, if◌then◌else◌}
 use Rattle.world.specs.declared.entry.Entry.{Entry}
 use Rattle.world.specs.declared.call.Call.{Call}
 use Rattle.world.specs.declared.call.Call.TheVariants.{Finish, Crash, Recover}
@@ -10,6 +10,8 @@ use Rattle.world.specs.World.{World}
 use Rattle.world.specs.Logs.{length_of, state_of}
 use Rattle.world.specs.Plan.{gather}
 use Rattle.world.specs.Answers.{MayAnswer}
+use Rattle.world.specs.Handlers.{Handlers}
+use Rattle.world.specs.Legal.{world_of}
 use Rattle.theorems.specs.Kept.{IsKept}
 
 -- where a recovery of p may be answered by k, the run ends at k, and checkpoint and plan are the first k messages, as p received them
@@ -77,3 +79,8 @@ RecoversExactly v w p k more =
       replays : ReplaysBack v w p k more;
       state : length_of w p ≡ k → state_of w p ≡ v.handlers.state p (take k (v.history p));
     }
+
+-- the same of the journal with these entries before the recovery, and more behind it
+abbrev pub ComesBackExactly : ℕ → Handlers → List Entry → List Entry → ℕ → ℕ → ℕ → Type 0
+ComesBackExactly n f es more worker p k =
+    RecoversExactly (world_of n f es) (world_of n f (es ++ recovery worker p k ∷ more)) p k more

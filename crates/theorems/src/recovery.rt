@@ -6,7 +6,7 @@ ghost use Rattle.world.specs.Handlers.{Handlers};
 ghost use Rattle.world.specs.Legal.{Legal, world_of};
 ghost use Rattle.theorems.specs.Growth.{Grows};
 ghost use Rattle.theorems.specs.Kept.{HasKept, KeptIsOne};
-ghost use Rattle.theorems.specs.Recovery.{RecoversExactly, RecoversKept, RunIsKept, StateIsKept, recovery};
+ghost use Rattle.theorems.specs.Recovery.{ComesBackExactly, RecoversKept, RunIsKept, StateIsKept, recovery};
 ghost use Rattle.theorems.specs.Single.{IsSingle};
 
 /// A recovery keeps the longest unbroken run of numbers that checkpoint and logs hold. Whatever
@@ -32,5 +32,5 @@ pub fn state_is_kept()
 /// one message further, and after the last one it is as long as that run again.
 pub fn recovers_exactly()
     ensures { (n : ℕ) (f : Handlers) (es more : List Entry) (worker p k : ℕ) → IsSingle n f (es ++ recovery worker p k ∷ more)
-        → RecoversExactly (world_of n f es) (world_of n f (es ++ recovery worker p k ∷ more)) p k more }
+        → ComesBackExactly n f es more worker p k }
 {}
