@@ -1,0 +1,46 @@
+/* What a handler in C needs of sblog, in images of form 3 (docs/HANDLERS.md). A handler is a function
+ *
+ *     u64 name(const void *message, void *state, u64 length)
+ *
+ * that is called once for each message: of 0 to 256 bytes, as `length` says, with zeros behind it up to
+ * 512 bytes. It reads and writes its state, which has as many bytes as its image says, and calls the four
+ * helpers below. What it returns means nothing to the runtime. It is compiled by clang:
+ *
+ *     clang --target=bpf -mcpu=v3 -O2 -Iinclude -c name.c -o name.o
+ *     ./sblog pack name.o name.sbi --form 3 --state 64
+ */
+#ifndef SBLOG_HANDLER_H
+#define SBLOG_HANDLER_H
+
+typedef unsigned char u8;
+typedef unsigned short u16;
+typedef unsigned int u32;
+typedef unsigned long long u64;
+typedef signed char s8;
+typedef short s16;
+typedef int s32;
+typedef long long s64;
+
+/* The number of the own process, 1 to 15. */
+static u64 (*const me)(void) = (void *)3;
+
+/* The number of the process that sent the message, 0 for the outside; never more than 15, so it is an index. */
+static u64 (*const sender)(void) = (void *)4;
+
+/* Sends 0 to 256 bytes to a process: 0, or 1 where there is no such other process, 2 where 8 messages were
+ * sent by this call, 3 where the length is greater than 256. */
+static u64 (*const send)(u64 process, const void *payload, u64 length) = (void *)5;
+
+/* Gives 0 to 256 bytes as an output: 0, or 2 where there were 8 of this call, 3 where the length is greater than 256. */
+static u64 (*const output)(const void *payload, u64 length) = (void *)6;
+
+/* Above a loop of known length: clang writes it out, as there are no jumps back. */
+#define unrolled _Pragma("clang loop unroll(full)")
+
+/* First in an unrolled loop that clang leaves as one, since it has joined the tests of two ways out. */
+#define turn() asm volatile("")
+
+/* Above an access at an index that is at most `most` in a way that clang sees and the verifier doesn't. */
+#define within(index, most) do { asm volatile("" : "+r"(index)); if ((index) > (most)) return 0; } while (0)
+
+#endif
