@@ -418,8 +418,12 @@ SBLOG_NODE_ASSERT(offsetof(sblog_node, at) == 0, "place of at");
 SBLOG_NODE_ASSERT(offsetof(sblog_node, held) == 8, "place of held");
 #undef SBLOG_NODE_ASSERT
 
-/* The image may be of form 1, 2 or 3. page is 60000, tick 8, numbers 256, receipts 65536 and durable 0: other
-   values are refused so far (23). */
+/* The image may be of form 1, 2 or 3. The node keeps these limits until it is closed; another is refused (23):
+   page      512 to 65535, the bytes of its largest packet; 60000 unless there is a reason
+   tick      at least 1: how many packets for a peer one tick or one release makes; 8
+   numbers   1 to 256: with so many that aren't acknowledged it takes no message; 256
+   receipts  1 to 65536: nor with so many messages behind its checkpoint; 65536
+   durable   0; or 1: what it sends leaves when a checkpoint that covers it is durable, and not before. */
 uint32_t sblog_node_open(const uint8_t *image, size_t image_len, uint8_t me, uint8_t n, uint32_t page,
                          uint32_t tick, uint32_t numbers, uint32_t receipts, uint32_t durable,
                          sblog_node *node);

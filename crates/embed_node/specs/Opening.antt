@@ -1,5 +1,5 @@
 -- Nodes that are opened
-use Rattle.std.specs.Prelude.{◌≡◌, ◌≢◌, ◌⊎◌, ℕ, ◌≤◌, List, Option, Some, None}
+use Rattle.std.specs.Prelude.{◌≡◌, ◌≢◌, ◌⊎◌, ℕ, ◌≤◌, ◌==◌, List, Option, Some, None}
 use Rattle.limits.specs.declared.TheConstants.{PROCESSES}
 use Rattle.rsn.specs.declared.receipts.TheConstants.{LIMIT}
 use Rattle.verifier.specs.declared.fault.ImageError.{ImageError}
@@ -9,14 +9,16 @@ use Rattle.images.specs.AnyImage.{code_of, form_of, state_of}
 use Rattle.images.specs.ImageFile.{IsFile, IsRefusal, IsTypable}
 use Rattle.packets.specs.declared.kept_fault.KeptFault.{KeptFault}
 use Rattle.packets.specs.KeptFaults.{kept_fault_number}
+use Rattle.pages.specs.declared.page.TheConstants.{LEAST_PAGE}
 use Rattle.node.specs.Node.{IsPositive}
-use Rattle.node.specs.declared.node.TheConstants.{TICK, WINDOW}
-use Rattle.node.specs.declared.page.TheConstants.{PAGE}
+use Rattle.node.specs.declared.limit.Limits as node
+use Rattle.node.specs.declared.node.TheConstants.{WINDOW}
 use Rattle.process.specs.Process.{TheProcess}
 use Rattle.process.specs.Reviving.{IsOpened, IsRevived, IsUnrevived}
 use Rattle.process.specs.declared.fault.Unrevived.{Unrevived}
 use Rattle.process.specs.declared.fault.Unrevived.TheVariants as why
 use Rattle.embed_node.specs.declared.opening.Limits.{Limits}
+use Rattle.embed_node.specs.declared.opening.TheConstants.{MOST_PAGE}
 use Rattle.embed_node.specs.declared.fault.Fault.{Fault}
 use Rattle.embed_node.specs.declared.fault.Fault.TheVariants.{Memory, Handle, Image, Bytes, Limit}
 
@@ -42,13 +44,17 @@ IsTold (why.Kept e) fault = fault ≡ Bytes (kept_fault_number e)
 IsTold why.State fault = fault ≡ Bytes 9
 IsTold why.Incarnation fault = fault ≡ Limit
 
--- the limits are those that nodes have
-pub record AreKnown (l : Limits) : Type 0 where
-  pub page : l.page ≡ PAGE
-  pub tick : l.tick ≡ TICK
-  pub numbers : l.numbers ≡ WINDOW
-  pub receipts : l.receipts ≡ LIMIT
-  pub durable : l.durable ≡ 0
+-- the limits are in their ranges
+pub record AreLimits (l : Limits) : Type 0 where
+  pub page : (LEAST_PAGE ≤ l.page) × (l.page ≤ MOST_PAGE)
+  pub tick : 1 ≤ l.tick
+  pub numbers : (1 ≤ l.numbers) × (l.numbers ≤ WINDOW)
+  pub receipts : (1 ≤ l.receipts) × (l.receipts ≤ LIMIT)
+  pub durable : l.durable ≤ 1
+
+-- those of a node then
+abbrev pub limits_of : Limits → node.Limits
+limits_of l = record { page = l.page; tick = l.tick; numbers = l.numbers; receipts = l.receipts; durable = l.durable == 1 }
 
 -- a process of a cluster
 pub record IsSeat (me n : ℕ) : Type 0 where
@@ -60,30 +66,31 @@ pub record IsSeat (me n : ℕ) : Type 0 where
 pub record Opens (file : List ℕ) (me n : ℕ) (l : Limits) (old new : Option TheProcess) : Type 0 where
   pub was : old ≡ None
   pub seat : IsSeat me n
-  pub known : AreKnown l
+  pub limits : AreLimits l
   pub image : AnyImage
   pub image_is : IsImageIn file image
   pub process : TheProcess
   pub is : new ≡ Some process
-  pub opened : IsOpened image me n process
+  pub opened : IsOpened image (limits_of l) me n process
 
--- why it doesn't: the handle is open, a limit is out of its range, the file is none of an image, or memory ran out. It stays as it was
+-- why it doesn't: the handle is open, a limit is out of its range, the file is none of an image, or memory ran out; the first of these. It
+-- stays as it was
 abbrev pub DoesNotOpen : List ℕ → ℕ → ℕ → Limits → Option TheProcess → Option TheProcess → Fault → Type 0
 DoesNotOpen file me n l old new Handle = ((p : TheProcess) × (old ≡ Some p)) × (new ≡ old)
-DoesNotOpen file me n l old new Limit = (old ≡ None) × (new ≡ None) × ¬ (IsSeat me n × AreKnown l)
-DoesNotOpen file me n l old new Image = (old ≡ None) × (new ≡ None) × IsNoImage file
-DoesNotOpen file me n l old new Memory = (old ≡ None) × (new ≡ None)
+DoesNotOpen file me n l old new Limit = (old ≡ None) × (new ≡ None) × ¬ (IsSeat me n × AreLimits l)
+DoesNotOpen file me n l old new Image = (old ≡ None) × (new ≡ None) × (IsSeat me n × AreLimits l) × IsNoImage file
+DoesNotOpen file me n l old new Memory = (old ≡ None) × (new ≡ None) × (IsSeat me n × AreLimits l)
 DoesNotOpen file me n l old new other = ⊥
 
 -- a handle that was closed holds the process of an image, and what these bytes keep of it comes back in this incarnation
 pub record Revives (file kept : List ℕ) (life : ℕ) (l : Limits) (old new : Option TheProcess) : Type 0 where
   pub was : old ≡ None
-  pub known : AreKnown l
+  pub limits : AreLimits l
   pub image : AnyImage
   pub image_is : IsImageIn file image
   pub process : TheProcess
   pub is : new ≡ Some process
-  pub revived : IsRevived image kept life process
+  pub revived : IsRevived image (limits_of l) kept life process
 
 -- why the bytes are refused, of an image's process: they are none that is kept of a process, or its state isn't as long as the image's
 abbrev pub AreRefused : List ℕ → List ℕ → ℕ → ℕ → Type 0
@@ -91,11 +98,11 @@ AreRefused file kept life f =
     (image : AnyImage) × IsImageIn file image × ((((e : KeptFault) × (f ≡ kept_fault_number e) × IsUnrevived image kept life (why.Kept e))) ⊎ ((f ≡ 9) × IsUnrevived image kept life why.State))
 
 -- why nothing comes back: the handle is open, a limit or the incarnation is out of its range, the file is none of an image, the bytes are
--- refused, or memory ran out. The handle stays as it was
+-- refused, or memory ran out; the first of these. The handle stays as it was
 abbrev pub DoesNotRevive : List ℕ → List ℕ → ℕ → Limits → Option TheProcess → Option TheProcess → Fault → Type 0
 DoesNotRevive file kept life l old new Handle = ((p : TheProcess) × (old ≡ Some p)) × (new ≡ old)
-DoesNotRevive file kept life l old new Limit = (old ≡ None) × (new ≡ None) × ¬ (AreKnown l × IsPositive life)
-DoesNotRevive file kept life l old new Image = (old ≡ None) × (new ≡ None) × IsNoImage file
-DoesNotRevive file kept life l old new (Bytes f) = (old ≡ None) × (new ≡ None) × AreRefused file kept life f
-DoesNotRevive file kept life l old new Memory = (old ≡ None) × (new ≡ None)
+DoesNotRevive file kept life l old new Limit = (old ≡ None) × (new ≡ None) × ¬ (AreLimits l × IsPositive life)
+DoesNotRevive file kept life l old new Image = (old ≡ None) × (new ≡ None) × (AreLimits l × IsPositive life) × IsNoImage file
+DoesNotRevive file kept life l old new (Bytes f) = (old ≡ None) × (new ≡ None) × (AreLimits l × IsPositive life) × AreRefused file kept life f
+DoesNotRevive file kept life l old new Memory = (old ≡ None) × (new ≡ None) × (AreLimits l × IsPositive life)
 DoesNotRevive file kept life l old new other = ⊥

@@ -1,20 +1,24 @@
 //! Nodes that are opened.
 
-ghost use Rattle.std.specs.Prelude.{◌≡◌, ◌↔◌, Some, None, IsTrue, MatchResult, IfErr, OnErr, OnOk};
+ghost use Rattle.std.specs.Prelude.{◌≡◌, ◌↔◌, Some, None, IsTrue, MatchOption, MatchResult, IfErr, OnErr, OnOk};
 ghost use Rattle.std.specs.Arc.{arc_value};
 ghost use Rattle.handlers.specs.Handler.{image_of};
+ghost use Rattle.node.specs.Node.{IsPositive};
 ghost use Rattle.embed_node.specs.declared.fault.Fault.TheVariants.{Memory};
-ghost use Rattle.embed_node.specs.Opening.{AreKnown, IsSeat, IsImageIn, IsNotLoaded, Opens, DoesNotOpen, Revives, DoesNotRevive, IsTold};
+ghost use Rattle.embed_node.specs.Opening.{AreLimits, limits_of, IsSeat, IsImageIn, IsNotLoaded, Opens, DoesNotOpen, Revives, DoesNotRevive, IsTold};
 
 use crate::fault::Fault;
 use crate::handle::NodeHandle;
 use handlers::Handler;
 use limits::PROCESSES;
-use node::{PAGE, TICK, WINDOW};
+use packets::NUMBER_LIMIT;
 use process::{Process, Unrevived};
 use std::alloc::Global;
 use std::sync::Arc;
 use verifier::ImageError;
+
+/// So many bytes the largest packet has, at most.
+pub const MOST_PAGE: u32 = 65_535;
 
 /// The limits of a node, as a program says them.
 #[derive(Clone, Copy)]
@@ -27,15 +31,24 @@ pub struct Limits {
 }
 
 impl Limits {
-    /// Whether these are the limits that nodes have.
-    fn are_known(self) -> bool
-        ensures { IsTrue result ↔ AreKnown self }
+    /// Those of a node, where each is in its range.
+    fn of_node(self) -> Option<node::Limits>
+        ensures { MatchOption result (¬ AreLimits self) (λ l. AreLimits self × (l ≡ limits_of self)) }
     {
-        self.page as usize == PAGE
-            && u64::from(self.tick) == TICK
-            && self.numbers == WINDOW
-            && self.receipts as usize == rsn::LIMIT
-            && self.durable == 0
+        if self.page > MOST_PAGE || self.durable > 1 {
+            return None;
+        }
+        let limits = node::Limits {
+            page: self.page as u16,
+            tick: self.tick,
+            numbers: self.numbers,
+            receipts: self.receipts,
+            durable: self.durable == 1,
+        };
+        if !limits.are_allowed() {
+            return None;
+        }
+        Some(limits)
     }
 }
 
@@ -80,11 +93,14 @@ pub(crate) fn open(
     if handle.is_open() {
         return Err(Fault::Handle);
     }
-    if !is_seat(me, n) || !limits.are_known() {
+    if !is_seat(me, n) {
         return Err(Fault::Limit);
     }
+    let Some(limits) = limits.of_node() else {
+        return Err(Fault::Limit);
+    };
     let image = handler_of(alloc, image)?;
-    let Ok(process) = Process::open(alloc, image, me, n) else {
+    let Ok(process) = Process::open(alloc, image, limits, me, n) else {
         return Err(Fault::Memory);
     };
     put(alloc, process, handle)
@@ -104,11 +120,14 @@ pub(crate) fn revive(
     if handle.is_open() {
         return Err(Fault::Handle);
     }
-    if !limits.are_known() {
+    if !is_incarnation(incarnation) {
         return Err(Fault::Limit);
     }
+    let Some(limits) = limits.of_node() else {
+        return Err(Fault::Limit);
+    };
     let image = handler_of(alloc, image)?;
-    match Process::revive(alloc, image, kept, incarnation) {
+    match Process::revive(alloc, image, limits, kept, incarnation) {
         Ok(process) => put(alloc, process, handle),
         Err(why) => Err(refused(why)),
     }
@@ -119,6 +138,13 @@ fn is_seat(me: u8, n: u8) -> bool
     ensures { IsTrue result ↔ IsSeat me n }
 {
     1 <= me && me <= n && usize::from(n) <= PROCESSES
+}
+
+/// Whether a node may have this incarnation.
+fn is_incarnation(incarnation: u64) -> bool
+    ensures { IsTrue result ↔ IsPositive incarnation }
+{
+    1 <= incarnation && incarnation < NUMBER_LIMIT
 }
 
 /// Why nothing came back.

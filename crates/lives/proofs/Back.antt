@@ -33,14 +33,14 @@ use Rattle.lives.specs.Back.{length_of, HasBack, NothingIsLost, kept_of, Recover
 use Rattle.lives.proofs.Lives.{Holds, Onward, calls-go, begins, all-stand}
 
 -- a run of the cluster leads to where all of a system stand
-record Reached (f : Handlers) (n : ℕ) (s : System) (acts : List Act) : Type 0 where
-  run : Run (opening n f) acts
-  holds : Holds f n s (after_run (opening n f) acts)
+pub record Reached (f : Handlers) (n : ℕ) (s : System) (acts : List Act) : Type 0 where
+  pub run : Run (opening n f) acts
+  pub holds : Holds f n s (after_run (opening n f) acts)
 
 -- and goes on
-record GoesOn (f : Handlers) (n : ℕ) (s : System) (acts : List Act) : Type 0 where
-  more : List Act
-  reached : Reached f n s (acts ++ more)
+pub record GoesOn (f : Handlers) (n : ℕ) (s : System) (acts : List Act) : Type 0 where
+  pub more : List Act
+  pub reached : Reached f n s (acts ++ more)
 
 -- calls of two parts, taken apart
 calls-parts : (f : Answering) (n : ℕ) (s : System) (ks ls : List Call) → Calls f n s (ks ++ ls) → Calls f n s ks × (Calls f n (after_calls s ks) ls × (after_calls s (ks ++ ls) ≡ after_calls (after_calls s ks) ls))
@@ -52,7 +52,7 @@ exact-parts : (n : ℕ) (s : System) (ks ls : List Call) → StayExact n s (ks +
 exact-parts n s [] ls e = (tt, e)
 exact-parts n s (k ∷ ks) ls e = let t = exact-parts n (after_call s k) ks ls e.1 in ((e.0, t.0), t.1)
 
-goes-on : (f : Answering) (len : ℕ → ℕ) (n : ℕ) (s : System) (acts : List Act) (ks : List Call) → Reached (handlers_of f len) n s acts → Calls f n s ks → StayExact n s ks → GoesOn (handlers_of f len) n (after_calls s ks) acts
+pub goes-on : (f : Answering) (len : ℕ → ℕ) (n : ℕ) (s : System) (acts : List Act) (ks : List Call) → Reached (handlers_of f len) n s acts → Calls f n s ks → StayExact n s ks → GoesOn (handlers_of f len) n (after_calls s ks) acts
 goes-on f len n s acts ks r m exact =
     let g : Handlers = handlers_of f len in
     let all : Onward g n (after_run (opening n g) acts) (after_calls s ks) = calls-go f len n s (after_run (opening n g) acts) ks r.holds m exact in
@@ -129,12 +129,12 @@ stands-known : (f : Handlers) (n : ℕ) (s : System) (c : Cluster) (p : ℕ) (pr
 stands-known f n s c p process h first e = subst (λ z. StandsAs z c p) e (h.processes p first)
 
 pub nothing-is-lost : NothingIsLost
-nothing-is-lost f n page tick len bytes calls more p a b few stored first m exact is_a is_b =
+nothing-is-lost f n page tick limits len bytes calls more p a b few stored first m exact is_a is_b =
     let g : Handlers = handlers_of f len in
-    let o : System = new_system n len bytes page tick in
+    let o : System = new_system n limits len bytes page tick in
     let parts = calls-parts f n o calls more m in
     let sure = exact-parts n o calls more exact in
-    let one = goes-on f len n o [] calls (record { run = tt; holds = begins f n page tick len bytes few stored }) parts.0 sure.0 in
+    let one = goes-on f len n o [] calls (record { run = tt; holds = begins f n page tick limits len bytes few stored }) parts.0 sure.0 in
     let two = goes-on f len n (after_calls o calls) one.more more one.reached parts.1.0 sure.1 in
     let c : Cluster = after_run (opening n g) one.more in
     let d : Cluster = after_run (opening n g) (one.more ++ two.more) in
@@ -197,15 +197,15 @@ recovery-is old new (inl g) = let e : Replays new ≡ Collects g.0 = g.1.0 in ab
 recovery-is old new (inr g) = let e : new ≡ g.0 = (let z : Replays new ≡ Replays g.0 = g.1.0 in cc (z)) in subst (Recovers old) (sym e) g.1.1
 
 pub recovers-exactly : RecoversExactly
-recovers-exactly f n page tick len bytes calls more p old new few stored m exact is_old =
+recovers-exactly f n page tick limits len bytes calls more p old new few stored m exact is_old =
     let g : Handlers = handlers_of f len in
-    let o : System = new_system n len bytes page tick in
+    let o : System = new_system n limits len bytes page tick in
     let k : Call = Did p (Replays new) in
     let s : System = after_calls o calls in
     let parts = calls-parts f n o calls (k ∷ more) m in
     let sure = exact-parts n o calls (k ∷ more) exact in
     let first : IsFirst n p = parts.1.0.0.0 in
-    let one = goes-on f len n o [] calls (record { run = tt; holds = begins f n page tick len bytes few stored }) parts.0 sure.0 in
+    let one = goes-on f len n o [] calls (record { run = tt; holds = begins f n page tick limits len bytes few stored }) parts.0 sure.0 in
     let two = goes-on f len n s one.more (k ∷ []) one.reached (parts.1.0.0, tt) (sure.1.0, tt) in
     let three = goes-on f len n (after_call s k) (one.more ++ two.more) more two.reached parts.1.0.1 sure.1.1 in
     let c : Cluster = after_run (opening n g) one.more in

@@ -5,4 +5,14 @@ pub mod Gateways
 pub mod Lives
 pub mod Back
 pub mod Worked
+pub mod Beside
 pub mod Losses
+pub mod Sound
+pub mod NodeSound
+pub mod OwnSound
+pub mod CollectingSound
+pub mod RestoringSound
+pub mod GatewaySound
+pub mod Lone
+pub mod LoneCalls
+pub mod Alone

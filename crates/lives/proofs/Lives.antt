@@ -11,6 +11,8 @@ use Rattle.cluster.specs.Cluster.{Cluster, opening}
 use Rattle.cluster.specs.Rules.{Act, Run, does, after_run}
 use Rattle.cluster.proofs.Runs as worlds
 use Rattle.cluster.proofs.Promised.{nodes-keep}
+use Rattle.node.specs.Limit.{usual, AreAllowed}
+use Rattle.node.specs.declared.limit.Limits.{Limits}
 use Rattle.node.specs.Node.{new_node}
 use Rattle.node.specs.Kept.{kept_of}
 use Rattle.node.specs.Stands.{Each, PutOut, actor, BeginsWith}
@@ -25,6 +27,7 @@ use Rattle.recovery.proofs.Posting.{sent-still}
 use Rattle.node.proofs.Steps.{run-on}
 use Rattle.node.proofs.Runs.{grows, parcels-stay, one-was}
 use Rattle.gateway.specs.Gateway.{TheGateway, new_gateway}
+use Rattle.gateway.specs.Calls as outside
 use Rattle.gateway.specs.Stands as gateways
 use Rattle.gateway.proofs.Opening as gateway_opening
 use Rattle.together.specs.Together.{IsFirst}
@@ -33,10 +36,11 @@ use Rattle.lives.specs.Process.{Process, Collects, Killed, StandsAs, is_exact, c
 use Rattle.lives.specs.System.{System, new_system, AreStored, Call, Gave, Handed, Worked, Did, Stored, Saved, Died, Revived, GaveOut, HandedOut, DidOut, StoredOut, RevivedOut, DoesIt, after_call, Calls, after_calls, AreStoredOf, AreExact, StayExact, AllStand, LivesRun}
 use Rattle.lives.proofs.Moves.{Moves, stands-still, stored-still, lives-still}
 use Rattle.lives.proofs.Steps.{giving, hearing, working, acting, storing, telling, dying, reviving}
+use Rattle.lives.proofs.Losses.{loss-is-dropped}
 use Rattle.lives.proofs.Gateways.{Ahead, PutsMore, ahead-none, ahead-still, ahead-acts}
 
 -- a packet was put out by whoever it says, unless it says that all is lost
-abbrev WasPut : Cluster → Packet → Type 0
+abbrev pub WasPut : Cluster → Packet → Type 0
 WasPut c x = IsSent c.count c.parcels x.from x
 
 -- a cluster of n in which all of a system stand, of which a lawful world is believed, and in which was put out what was given
@@ -67,7 +71,7 @@ given-still : (c : Cluster) (ran : List Act) (xs : List Packet) → Each (WasPut
 given-still c ran xs h = all-more (WasPut c) (WasPut (after_run c ran)) xs (λ x o. sent-still c (after_run c ran) x.from x (sym (count-after c ran)) (λ b i. parcels-stay c ran (parcel x.from x.to b) i) o) h
 
 -- of a function that is changed at p, what holds at each place
-at-each : {X : Type 0} (P : ℕ → X → Type 0) (f : ℕ → X) (p q : ℕ) (x : X) → (q ≢ p → P q (f q)) → P p x → P q (put f p x q)
+pub at-each : {X : Type 0} (P : ℕ → X → Type 0) (f : ℕ → X) (p q : ℕ) (x : X) → (q ≢ p → P q (f q)) → P p x → P q (put f p x q)
 at-each {X} P f p q x others here = split (q == p) refl
   where
     split : (b : Bool) → (q == p) ≡ b → P q (if b then x else f q)
@@ -169,17 +173,17 @@ to-gateway : (c d : Cluster) (x : Packet) → PutsMore c d → PutOut c.count c.
 to-gateway c d x more o = record { body = o.said.0; says = o.said.1; among = more (parcel x.from x.to o.said.0) o.said.2 }
 
 -- a packet comes to the gateway: it drops one that says that all is lost
-handing-out : (s : System) (c : Cluster) (x : Packet) (new : TheGateway) (loss : Bool) → is_loss x.body ≡ loss → WasPut c x → gateways.IsHanded x s.gateway new × (is_loss x.body ≡ true → new ≡ s.gateway) → Ahead s.durable s.gateway c
+handing-out : (s : System) (c : Cluster) (x : Packet) (new : TheGateway) (loss : Bool) → is_loss x.body ≡ loss → WasPut c x → (new ≡ outside.handed x s.gateway) × gateways.IsHanded x s.gateway new → Ahead s.durable s.gateway c
     → Ahead s.durable new c
-handing-out s c x new true e o g a = subst (λ z. Ahead s.durable z c) (sym (g.1 e)) a
-handing-out s c x new false e o g a = ahead-acts (λ d. gateways.WasSaid d.parcels x.from x) s.durable s.gateway new c (λ d more. to-gateway c d x more (o e)) g.0 a
+handing-out s c x new true e o g a = subst (λ z. Ahead s.durable z c) (sym (g.0 ∙ loss-is-dropped.1 x s.gateway e)) a
+handing-out s c x new false e o g a = ahead-acts (λ d. gateways.WasSaid d.parcels x.from x) s.durable s.gateway new c (λ d more. to-gateway c d x more (o e)) g.1 a
 
 -- what is changed at p alone
 elsewhere : {X : Type 0} (f : ℕ → X) (p q : ℕ) (x : X) → q ≢ p → put f p x q ≡ f q
 elsewhere f p q x other = let e : (q == p) ≡ false = grind (arith, nat_tests) in rw e refl
 
 -- each call
-call-goes : (f : Answering) (len : ℕ → ℕ) (n : ℕ) (s : System) (c : Cluster) (k : Call) → Holds (handlers_of f len) n s c → DoesIt f n s k → AreExact n (after_call s k) → Onward (handlers_of f len) n c (after_call s k)
+pub call-goes : (f : Answering) (len : ℕ → ℕ) (n : ℕ) (s : System) (c : Cluster) (k : Call) → Holds (handlers_of f len) n s c → DoesIt f n s k → AreExact n (after_call s k) → Onward (handlers_of f len) n c (after_call s k)
 call-goes f len n s c (Gave p x new) h m exact =
     let g = giving c p (s.stored p) (s.lives p) (h.lives p m.0) x (s.processes p) new m.1 (h.processes p m.0) (h.stored p m.0) in
     given-more (handlers_of f len) n c (record s { processes = put s.processes p new }) x (from-own c p x g.0) (process-acts (handlers_of f len) n s c h p new m.0 g.1)
@@ -208,10 +212,10 @@ call-goes f len n s c (GaveOut x new) h m exact =
 call-goes f len n s c (HandedOut x new) h m exact =
     let o : WasPut c x = one-was (WasPut c) x s.given h.given m.0 in
     gateway-waits (handlers_of f len) n s c h new (handing-out s c x new (is_loss x.body) refl o m.1 h.ahead)
-call-goes f len n s c (DidOut new) h m exact = gateway-waits (handlers_of f len) n s c h new (ahead-acts (λ d. Unit {0}) s.durable s.gateway new c (λ d more. tt) m h.ahead)
+call-goes f len n s c (DidOut new) h m exact = gateway-waits (handlers_of f len) n s c h new (ahead-acts (λ d. Unit {0}) s.durable s.gateway new c (λ d more. tt) m.1 h.ahead)
 call-goes f len n s c StoredOut h m exact = gateway-goes (handlers_of f len) n s c h s.gateway (h.ahead c h.durable (λ x i. i))
 call-goes f len n s c (RevivedOut new) h m exact =
-    gateway-goes (handlers_of f len) n s c h new (record { acts = []; run = tt; by = tt; stands = (m s.durable refl).0 c h.durable })
+    gateway-goes (handlers_of f len) n s c h new (record { acts = []; run = tt; by = tt; stands = (m.1 s.durable refl).0 c h.durable })
 
 pub calls-go : (f : Answering) (len : ℕ → ℕ) (n : ℕ) (s : System) (c : Cluster) (ks : List Call) → Holds (handlers_of f len) n s c → Calls f n s ks → StayExact n s ks → Onward (handlers_of f len) n c (after_calls s ks)
 calls-go f len n s c [] h m exact = record { acts = []; run = tt; holds = h }
@@ -225,17 +229,21 @@ calls-go f len n s c (k ∷ ks) h m exact =
       holds = subst (Holds (handlers_of f len) n (after_calls (after_call s k) ks)) (sym both.1) rest.holds;
     }
 
+-- the usual limits are in their ranges
+pub usual-allowed : AreAllowed usual
+usual-allowed = record { page = (omega arith, omega arith); tick = omega arith; numbers = (omega arith, omega arith); receipts = (omega arith, omega arith) }
+
 -- at the opening all stand
-pub begins : (f : Answering) (n page tick : ℕ) (len : ℕ → ℕ) (bytes : ℕ → List ℕ) → n ≤ 15 → AreStored n len bytes → Holds (handlers_of f len) n (new_system n len bytes page tick) (opening n (handlers_of f len))
-begins f n page tick len bytes few stored =
+pub begins : (f : Answering) (n page tick : ℕ) (limits : ℕ → Limits) (len : ℕ → ℕ) (bytes : ℕ → List ℕ) → n ≤ 15 → AreStored n len bytes → Holds (handlers_of f len) n (new_system n limits len bytes page tick) (opening n (handlers_of f len))
+begins f n page tick limits len bytes few stored =
     let g : Handlers = handlers_of f len in
     let begin : (p : ℕ) → BeginsWith g p (len p) = λ p. record { state_is = refl; sends_are = λ d. refl } in
     record {
       count = refl;
       few = few;
       believed = worlds.opens-holds n g (grows f len);
-      processes = λ p l. stands-opened p n (len p) g l.0 l.1 (begin p);
-      stored = λ p l. (kept_of (new_node p n (len p)), (stored p l, kept-opened p n (len p) l.0 l.1 few g (begin p)));
+      processes = λ p l. stands-opened (limits p) p n (len p) g l.0 l.1 (begin p);
+      stored = λ p l. (kept_of (new_node usual p n (len p)), (stored p l, kept-opened usual p n (len p) usual-allowed l.0 l.1 few g (begin p)));
       lives = λ p l. (let e : 1 ≤ 1 = omega arith in e);
       durable = gateway_opening.stands-opened n page tick g;
       ahead = ahead-none (new_gateway n page tick) (opening n g);
@@ -256,14 +264,14 @@ all-stand f n s c h =
     }
 
 pub lives-run : LivesRun
-lives-run f n page tick len bytes calls few stored m exact =
+lives-run f n page tick limits len bytes calls few stored m exact =
     let g : Handlers = handlers_of f len in
-    let all = calls-go f len n (new_system n len bytes page tick) (opening n g) calls (begins f n page tick len bytes few stored) m exact in
+    let all = calls-go f len n (new_system n limits len bytes page tick) (opening n g) calls (begins f n page tick limits len bytes few stored) m exact in
     let keeps = nodes-keep n g all.acts few (grows f len) all.run in
     record {
       acts = all.acts;
       run = all.run;
-      stand = all-stand g n (after_calls (new_system n len bytes page tick) calls) (after_run (opening n g) all.acts) all.holds;
+      stand = all-stand g n (after_calls (new_system n limits len bytes page tick) calls) (after_run (opening n g) all.acts) all.holds;
       no_orphan = keeps.0;
       output_once = keeps.1;
       received_once = keeps.2;

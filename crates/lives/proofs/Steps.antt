@@ -38,6 +38,7 @@ use Rattle.restoring.specs.Stands.{StandsRestoring}
 use Rattle.lives.specs.Process.{Process, Up, Covered, Collects, Replays, Replayed, Restores, Killed, StandsAs, is_exact, Gives, Hears, Works, Acts, WaitsFor, covered, IsTold, IsKilled, ComesFrom, IsAnswerAgain}
 use Rattle.lives.specs.System.{AreStoredOf}
 use Rattle.lives.proofs.Moves.{Moves, IsPlain, moves-own, moves-none}
+use Rattle.lives.proofs.Losses.{loss-is-dropped}
 
 -- ---- a node that waits for its checkpoint is as it was
 
@@ -122,9 +123,9 @@ module _ (c : Cluster) (p : ℕ) (bytes : List ℕ) (life : ℕ) (low : c.stored
   giving x Killed new g s are = absurd g
 
   -- a packet comes to a node that is up: it drops one that says that all is lost
-  hearing-up : (x : Packet) (n new : TheNode) (loss : Bool) → is_loss x.body ≡ loss → IsHanded x n new × (is_loss x.body ≡ true → new ≡ n) → IsSaid c.parcels x.from x.to x.body → Stands n c p → GoesTo p (λ d. Stands new d p) c
-  hearing-up x n new true e g said s = goes-self p (λ d. Stands new d p) c (subst (λ z. Stands z c p) (sym (g.1 e)) s)
-  hearing-up x n new false e g said s = owes-at (λ d. WasSaid d.parcels x.from x.to x.body) n new c p g.0 s (said e)
+  hearing-up : (x : Packet) (n new : TheNode) (loss : Bool) → is_loss x.body ≡ loss → (new ≡ handed x n) × IsHanded x n new → IsSaid c.parcels x.from x.to x.body → Stands n c p → GoesTo p (λ d. Stands new d p) c
+  hearing-up x n new true e g said s = goes-self p (λ d. Stands new d p) c (subst (λ z. Stands z c p) (sym (g.0 ∙ loss-is-dropped.0 x n e)) s)
+  hearing-up x n new false e g said s = owes-at (λ d. WasSaid d.parcels x.from x.to x.body) n new c p g.1 s (said e)
 
   -- a packet comes, and the process stays exact
   pub hearing : (x : Packet) (old new : Process) → Hears x old new → is_exact new ≡ true → IsSaid c.parcels x.from x.to x.body → StandsAs old c p → AreStoredOf bytes old c p → Goes new
@@ -134,29 +135,29 @@ module _ (c : Cluster) (p : ℕ) (bytes : List ℕ) (life : ℕ) (low : c.stored
   hearing x (Collects n) new g exact said s are =
       let P : ℕ → Type 0 = λ q. GoesTo q (λ d. StandsCollecting g.0 d q) c in
       let here : g.0.own.exact ≡ true = sym (ap is_exact g.1.0) ∙ exact in
-      becomes p (Collects g.0) new bytes life c g.1.0 (own (Collects g.0) are.0 (λ k d z. z) are.1 (subst P s.own.me (g.1.1 here c (subst (StandsCollecting n c) (sym s.own.me) s) said)))
+      becomes p (Collects g.0) new bytes life c g.1.0 (own (Collects g.0) are.0 (λ k d z. z) are.1 (subst P s.own.me (g.1.1.1 here c (subst (StandsCollecting n c) (sym s.own.me) s) said)))
   hearing x (Replays n) new g exact said s are =
       let here : g.0.own.exact ≡ true = sym (ap is_exact g.1.0) ∙ exact in
-      becomes p (Replays g.0) new bytes life c g.1.0 (moves-none p (Replays g.0) bytes life c (g.1.1 here c p s) are low)
+      becomes p (Replays g.0) new bytes life c g.1.0 (moves-none p (Replays g.0) bytes life c (g.1.1.1 here c p s) are low)
   hearing x (Replayed n) new g exact said s are =
       let here : g.0.own.exact ≡ true = sym (ap is_exact g.1.0) ∙ exact in
-      becomes p (Replayed g.0) new bytes life c g.1.0 (moves-none p (Replayed g.0) bytes life c (g.1.1 here c p s) are low)
+      becomes p (Replayed g.0) new bytes life c g.1.0 (moves-none p (Replayed g.0) bytes life c (g.1.1.1 here c p s) are low)
   hearing x (Restores n) new g exact said s are =
       let P : ℕ → Type 0 = λ q. GoesTo q (λ d. StandsRestoring g.0 d q) c in
       let here : g.0.own.exact ≡ true = sym (ap is_exact g.1.0) ∙ exact in
-      becomes p (Restores g.0) new bytes life c g.1.0 (own (Restores g.0) are.0 (λ k d z. z) are.1 (subst P s.own.me (g.1.1 here c (subst (StandsRestoring n c) (sym s.own.me) s) said)))
+      becomes p (Restores g.0) new bytes life c g.1.0 (own (Restores g.0) are.0 (λ k d z. z) are.1 (subst P s.own.me (g.1.1.1 here c (subst (StandsRestoring n c) (sym s.own.me) s) said)))
   hearing x Killed new g exact said s are = absurd g
 
   -- its handler answered
   pub working : (f : Answering) (len : ℕ → ℕ) (a : Answer) (old new : Process) → Works f p a old new → c.handlers ≡ handlers_of f len → worlds.Holds c → StandsAs old c p → AreStoredOf bytes old c p → Goes new
   working f len a (Up n) new g handlers h s are =
-      becomes p (Up g.1.0) new bytes life c g.1.1.0 (own (Up g.1.0) are.0 (λ k d z. z) are.1 (owes-at (Handles a.state a.given n) n g.1.0 c p g.1.1.1 s (answers f len n c p a handlers s g.0)))
+      becomes p (Up g.1.0) new bytes life c g.1.1.0 (own (Up g.1.0) are.0 (λ k d z. z) are.1 (owes-at (Handles a.state a.given n) n g.1.0 c p g.1.1.1.1 s (answers f len n c p a handlers s g.0)))
   working f len a (Covered n) new g handlers h s are =
       becomes p (Covered n) new bytes life c (g.1.0 ∙ ap Covered (g.1.1 ∙ work-rests c p n a h s.0 s.1)) (moves-none p (Covered n) bytes life c s are low)
   working f len a (Replays n) new g handlers h s are =
       let P : ℕ → Type 0 = λ q. GoesTo q (λ d. StandsReplaying g.1.0 d q) c in
       becomes p (Replays g.1.0) new bytes life c g.1.1.0
-      (own (Replays g.1.0) are.0 (λ k d z. z) are.1 (subst P s.own.me (g.1.1.1 c (subst (StandsReplaying n c) (sym s.own.me) s) (answers-again f len n c p a handlers s g.0))))
+      (own (Replays g.1.0) are.0 (λ k d z. z) are.1 (subst P s.own.me (g.1.1.1.1 c (subst (StandsReplaying n c) (sym s.own.me) s) (answers-again f len n c p a handlers s g.0))))
   working f len a (Collects n) new g handlers h s are = absurd g
   working f len a (Replayed n) new g handlers h s are = absurd g
   working f len a (Restores n) new g handlers h s are = absurd g
@@ -164,7 +165,7 @@ module _ (c : Cluster) (p : ℕ) (bytes : List ℕ) (life : ℕ) (low : c.stored
 
   -- it acts, or goes on to its next stage
   pub acting : (old new : Process) → Acts old new → worlds.Holds c → StandsAs old c p → AreStoredOf bytes old c p → Goes new
-  acting (Up n) new g h s are = becomes p (Up g.0) new bytes life c g.1.0 (own (Up g.0) are.0 (λ k d z. z) are.1 (owes-at (λ d. Unit {0}) n g.0 c p g.1.1 s tt))
+  acting (Up n) new g h s are = becomes p (Up g.0) new bytes life c g.1.0 (own (Up g.0) are.0 (λ k d z. z) are.1 (owes-at (λ d. Unit {0}) n g.0 c p g.1.1.1 s tt))
   acting (Covered n) new g h s are = becomes p (Covered n) new bytes life c (g.1.0 ∙ ap Covered (rests g.1.1)) (moves-none p (Covered n) bytes life c s are low)
     where
       rests : (g.0 ≡ ticked n) ⊎ (g.0 ≡ froze n) → g.0 ≡ n
@@ -172,20 +173,20 @@ module _ (c : Cluster) (p : ℕ) (bytes : List ℕ) (life : ℕ) (low : c.stored
       rests (inr e) = e ∙ froze-rests n s.0
   acting (Collects n) new (inl g) h s are =
       let P : ℕ → Type 0 = λ q. GoesTo q (λ d. StandsCollecting g.0 d q) c in
-      becomes p (Collects g.0) new bytes life c g.1.0 (own (Collects g.0) are.0 (λ k d z. z) are.1 (subst P s.own.me (g.1.1 c (subst (StandsCollecting n c) (sym s.own.me) s) tt)))
+      becomes p (Collects g.0) new bytes life c g.1.0 (own (Collects g.0) are.0 (λ k d z. z) are.1 (subst P s.own.me (g.1.1.1 c (subst (StandsCollecting n c) (sym s.own.me) s) tt)))
   acting (Collects n) new (inr g) h s are =
       let P : ℕ → Type 0 = λ q. GoesTo q (λ d. StandsReplaying g.0 d q) c in
       let ordered : IsInOrder c n.own.me = (received-once-node c h.beside h.agrees h.lawful).next n.own.me in
       becomes p (Replays g.0) new bytes life c g.1.0 (own (Replays g.0) are.0 (λ k d z. z) are.1 (subst P s.own.me (g.1.1.acts c (subst (StandsCollecting n c) (sym s.own.me) s) ordered)))
-  acting (Replays n) new g h s are = becomes p (Replayed g.0) new bytes life c g.1.0 (moves-none p (Replayed g.0) bytes life c (g.1.1 c p s) are low)
+  acting (Replays n) new g h s are = becomes p (Replayed g.0) new bytes life c g.1.0 (moves-none p (Replayed g.0) bytes life c (g.1.1.1 c p s) are low)
   acting (Replayed n) new g h s are =
       let P : ℕ → Type 0 = λ q. GoesTo q (λ d. StandsRestoring g.0 d q) c in
-      becomes p (Restores g.0) new bytes life c g.1.0 (own (Restores g.0) are.0 (λ k d z. z) are.1 (subst P s.own.me (g.1.1 c (subst (StandsReplayed n c) (sym s.own.me) s))))
+      becomes p (Restores g.0) new bytes life c g.1.0 (own (Restores g.0) are.0 (λ k d z. z) are.1 (subst P s.own.me (g.1.1.1 c (subst (StandsReplayed n c) (sym s.own.me) s))))
   acting (Restores n) new (inl g) h s are =
       let P : ℕ → Type 0 = λ q. GoesTo q (λ d. StandsRestoring g.0 d q) c in
-      becomes p (Restores g.0) new bytes life c g.1.0 (own (Restores g.0) are.0 (λ k d z. z) are.1 (subst P s.own.me (g.1.1 c (subst (StandsRestoring n c) (sym s.own.me) s) tt)))
+      becomes p (Restores g.0) new bytes life c g.1.0 (own (Restores g.0) are.0 (λ k d z. z) are.1 (subst P s.own.me (g.1.1.1 c (subst (StandsRestoring n c) (sym s.own.me) s) tt)))
   acting (Restores n) new (inr g) h s are =
-      becomes p (Up g.0) new bytes life c g.1.0 (moves-none p (Up g.0) bytes life c (subst (Stands g.0 c) s.own.me (g.1.1 c (subst (StandsRestoring n c) (sym s.own.me) s))) are low)
+      becomes p (Up g.0) new bytes life c g.1.0 (moves-none p (Up g.0) bytes life c (subst (Stands g.0 c) s.own.me (g.1.1.1 c (subst (StandsRestoring n c) (sym s.own.me) s))) are low)
   acting Killed new g h s are = absurd g
 
   -- its checkpoint is durable
@@ -209,7 +210,7 @@ module _ (c : Cluster) (p : ℕ) (bytes : List ℕ) (life : ℕ) (low : c.stored
   pub telling : (old new : Process) → IsTold old new → StandsAs old c p → AreStoredOf bytes old c p → Goes new
   telling (Up n) new g s are = becomes p (Up n) new bytes life c (g.1.1.0 ∙ ap Up (g.1.1.1.0 g.0)) (moves-none p (Up n) bytes life c s are low)
   telling (Covered n) new g s are =
-      let k = saves-at n g.0 c p g.1.1 s.0 s.1 in
+      let k = saves-at n g.0 c p g.1.1.1 s.0 s.1 in
       becomes p (Up g.0) new bytes life c g.1.0
       (moves-after p (Up g.0) bytes life c (Keeps p) k.0 refl (moves-own p (Up g.0) bytes life (does c (Keeps p)) are.0 (λ m d z. z) are.1.0 are.1.1.1 low k.1))
   telling (Collects n) new g s are = absurd g
@@ -247,7 +248,7 @@ reviving c p bytes Killed before life n dead low above from s are =
     let early : c.stored p < life = omega (arith, low, above) in
     let kept : IsKeptOf k c p = are.1.1 in
     let P : ℕ → Type 0 = λ q. c.stage q ≡ Dead → c.stored q < life → IsKeptOf k c q → IsNode c q → Reopens q life (λ d. StandsCollecting n d q) c in
-    let owed : P k.me = subst (λ (z : Kept). c.stage z.me ≡ Dead → c.stored z.me < life → IsKeptOf z c z.me → IsNode c z.me → Reopens z.me life (λ d. StandsCollecting n d z.me) c) one (from.1.1 c) in
+    let owed : P k.me = subst (λ (z : Kept). c.stage z.me ≡ Dead → c.stored z.me < life → IsKeptOf z c z.me → IsNode c z.me → Reopens z.me life (λ d. StandsCollecting n d z.me) c) one (from.1.1.1 c) in
     let r : Reopens p life (λ d. StandsCollecting n d p) c = subst P kept.me owed s.1 early kept s.0 in
     let opened : Cluster = does c (Opens p r.skipped) in
     let still : IsKeptOf k opened p = kept-stays k p (Opens p r.skipped ∷ []) c ((λ e. absurd (cc (e))), tt) kept in

@@ -4,6 +4,7 @@ use Rattle.world.specs.declared.message.Message.{Message}
 use Rattle.world.specs.Handlers.{Handlers}
 use Rattle.cluster.specs.Cluster.{opening}
 use Rattle.cluster.specs.Rules.{Act, Run, after_run}
+use Rattle.node.specs.declared.limit.Limits.{Limits}
 use Rattle.node.specs.Node.{TheNode}
 use Rattle.node.specs.Sending.{run_at}
 use Rattle.node.specs.Runs.{Answering, handlers_of}
@@ -33,10 +34,10 @@ pub record HasBack (f : Handlers) (p : ℕ) (a b : TheNode) : Type 0 where
 
 -- whatever happens between the two moments, where each that is alive stays exact
 abbrev pub NothingIsLost : Type 0
-NothingIsLost = (f : Answering) (n page tick : ℕ) (len : ℕ → ℕ) (bytes : ℕ → List ℕ) (calls more : List Call) (p : ℕ) (a b : TheNode) → n ≤ 15 → AreStored n len bytes → IsFirst n p
-    → Calls f n (new_system n len bytes page tick) (calls ++ more) → StayExact n (new_system n len bytes page tick) (calls ++ more)
-    → (after_calls (new_system n len bytes page tick) calls).processes p ≡ Up a
-    → (after_calls (new_system n len bytes page tick) (calls ++ more)).processes p ≡ Up b → HasBack (handlers_of f len) p a b
+NothingIsLost = (f : Answering) (n page tick : ℕ) (limits : ℕ → Limits) (len : ℕ → ℕ) (bytes : ℕ → List ℕ) (calls more : List Call) (p : ℕ) (a b : TheNode) → n ≤ 15 → AreStored n len bytes → IsFirst n p
+    → Calls f n (new_system n limits len bytes page tick) (calls ++ more) → StayExact n (new_system n limits len bytes page tick) (calls ++ more)
+    → (after_calls (new_system n limits len bytes page tick) calls).processes p ≡ Up a
+    → (after_calls (new_system n limits len bytes page tick) (calls ++ more)).processes p ≡ Up b → HasBack (handlers_of f len) p a b
 
 -- how many messages it keeps that recovers
 abbrev pub kept_of : TheCollecting → TheReplaying → ℕ
@@ -55,7 +56,7 @@ pub record IsBack (n : ℕ) (f : Handlers) (s t : System) (p : ℕ) (old : TheCo
   pub back : (m : TheNode) → t.processes p ≡ Up m → length_of m ≡ kept_of old new → f.state p (take (kept_of old new) ((after_run (opening n f) acts).history p)) ≡ m.state
 
 abbrev pub RecoversExactly : Type 0
-RecoversExactly = (f : Answering) (n page tick : ℕ) (len : ℕ → ℕ) (bytes : ℕ → List ℕ) (calls more : List Call) (p : ℕ) (old : TheCollecting) (new : TheReplaying) → n ≤ 15 → AreStored n len bytes
-    → Calls f n (new_system n len bytes page tick) (calls ++ Did p (Replays new) ∷ more) → StayExact n (new_system n len bytes page tick) (calls ++ Did p (Replays new) ∷ more)
-    → (after_calls (new_system n len bytes page tick) calls).processes p ≡ Collects old
-    → IsBack n (handlers_of f len) (after_calls (new_system n len bytes page tick) calls) (after_calls (new_system n len bytes page tick) (calls ++ Did p (Replays new) ∷ more)) p old new
+RecoversExactly = (f : Answering) (n page tick : ℕ) (limits : ℕ → Limits) (len : ℕ → ℕ) (bytes : ℕ → List ℕ) (calls more : List Call) (p : ℕ) (old : TheCollecting) (new : TheReplaying) → n ≤ 15 → AreStored n len bytes
+    → Calls f n (new_system n limits len bytes page tick) (calls ++ Did p (Replays new) ∷ more) → StayExact n (new_system n limits len bytes page tick) (calls ++ Did p (Replays new) ∷ more)
+    → (after_calls (new_system n limits len bytes page tick) calls).processes p ≡ Collects old
+    → IsBack n (handlers_of f len) (after_calls (new_system n limits len bytes page tick) calls) (after_calls (new_system n limits len bytes page tick) (calls ++ Did p (Replays new) ∷ more)) p old new

@@ -2,3 +2,5 @@ pub mod Process
 pub mod System
 pub mod Back
 pub mod Worked
+pub mod Beside
+pub mod Alone

@@ -6,24 +6,28 @@ use Rattle.packets.specs.declared.packet.Packet.{Packet}
 use Rattle.packets.specs.declared.kept.Kept.{Kept}
 use Rattle.packets.specs.Kept.{IsKept}
 use Rattle.outbox.specs.Outbox.{Pops}
+use Rattle.node.specs.declared.limit.Limits.{Limits}
 use Rattle.node.specs.declared.job.OpenJob.{OpenJob}
 use Rattle.node.specs.Node.{TheNode}
 use Rattle.node.specs.Calls.{handed, did_work}
 use Rattle.node.specs.Sending.{ticked}
-use Rattle.node.specs.Saving.{froze}
+use Rattle.node.specs.Saving.{froze, saved}
 use Rattle.node.specs.Kept.{kept_of, Covers, IsKeptOf}
 use Rattle.node.specs.Stands as nodes
 use Rattle.node.specs.Runs.{Answer, Answering, IsAnswer}
 use Rattle.recovery.specs.Collecting.{TheCollecting}
-use Rattle.recovery.specs.Replaying.{TheReplaying, next_job}
-use Rattle.recovery.specs.Meeting.{is_loss}
+use Rattle.recovery.specs.Collecting as collects
+use Rattle.recovery.specs.Replaying.{TheReplaying, next_job, did_replay}
+use Rattle.recovery.specs.Meeting as meeting
 use Rattle.recovery.specs.Replayed.{TheReplayed, StandsReplayed}
 use Rattle.recovery.specs.Replayed as replayed
 use Rattle.recovery.specs.Stands as collecting
+use Rattle.recovery.specs.StandsReplaying.{replayed_of}
 use Rattle.recovery.specs.StandsReplaying as replaying
 use Rattle.recovery.specs.Plan.{has_all}
 use Rattle.recovery.specs.Moment.{Recovered}
-use Rattle.restoring.specs.Restoring.{TheRestoring}
+use Rattle.restoring.specs.Restoring.{TheRestoring, begun, up}
+use Rattle.restoring.specs.Restoring as restores
 use Rattle.restoring.specs.Stands as restoring
 
 pub data Process : Type 0 where
@@ -80,14 +84,14 @@ Gives x (Replayed n) new = Becomes Replayed new (λ m. Pops (Some x) n.own.out m
 Gives x (Restores n) new = Becomes Restores new (λ m. restoring.Takes (Some x) n m)
 Gives x Killed new = ⊥
 
--- it was handed this packet: a node drops one that says that all is lost
+-- it was handed this packet
 abbrev pub Hears : Packet → Process → Process → Type 0
-Hears x (Up n) new = Becomes Up new (λ m. nodes.IsHanded x n m × (is_loss x.body ≡ true → m ≡ n))
+Hears x (Up n) new = Becomes Up new (λ m. (m ≡ handed x n) × nodes.IsHanded x n m)
 Hears x (Covered n) new = Becomes Covered new (λ m. m ≡ handed x n)
-Hears x (Collects n) new = Becomes Collects new (λ m. collecting.IsHanded x n m)
-Hears x (Replays n) new = Becomes Replays new (λ m. replaying.Stays n m)
-Hears x (Replayed n) new = Becomes Replayed new (λ m. replayed.Stays n m)
-Hears x (Restores n) new = Becomes Restores new (λ m. restoring.IsHanded x n m)
+Hears x (Collects n) new = Becomes Collects new (λ m. (m ≡ collects.handed x n) × collecting.IsHanded x n m)
+Hears x (Replays n) new = Becomes Replays new (λ m. (m ≡ record n { own = meeting.handed x n.own }) × replaying.Stays n m)
+Hears x (Replayed n) new = Becomes Replayed new (λ m. (m ≡ record n { own = meeting.handed x n.own }) × replayed.Stays n m)
+Hears x (Restores n) new = Becomes Restores new (λ m. (m ≡ restores.handed x n) × restoring.IsHanded x n m)
 Hears x Killed new = ⊥
 
 -- the answer is that of the handler, where a message is to be replayed
@@ -96,9 +100,9 @@ IsAnswerAgain f p n a = (j : OpenJob) → next_job n ≡ Some j → a ≡ f p n.
 
 -- its handler answered this
 abbrev pub Works : Answering → ℕ → Answer → Process → Process → Type 0
-Works f p a (Up n) new = IsAnswer f p n a × Becomes Up new (λ m. nodes.Owes (nodes.Handles a.state a.given n) n m)
+Works f p a (Up n) new = IsAnswer f p n a × Becomes Up new (λ m. (m ≡ did_work a.state a.given n.working n) × nodes.Owes (nodes.Handles a.state a.given n) n m)
 Works f p a (Covered n) new = Becomes Covered new (λ m. m ≡ did_work a.state a.given n.working n)
-Works f p a (Replays n) new = IsAnswerAgain f p n a × Becomes Replays new (λ m. replaying.Owes (replaying.Handles a.state a.given n) n m)
+Works f p a (Replays n) new = IsAnswerAgain f p n a × Becomes Replays new (λ m. (m ≡ did_replay a.state a.given (next_job n) n) × replaying.Owes (replaying.Handles a.state a.given n) n m)
 Works f p a process new = ⊥
 
 -- all have told one that collects, and it recovers
@@ -109,12 +113,12 @@ pub record Recovers (n : TheCollecting) (r : TheReplaying) : Type 0 where
 
 -- it sent again what isn't answered, or made a checkpoint; or it went on to its next stage
 abbrev pub Acts : Process → Process → Type 0
-Acts (Up n) new = Becomes Up new (λ m. nodes.Acts n m)
+Acts (Up n) new = Becomes Up new (λ m. ((m ≡ ticked n) ⊎ (m ≡ froze n)) × nodes.Acts n m)
 Acts (Covered n) new = Becomes Covered new (λ m. (m ≡ ticked n) ⊎ (m ≡ froze n))
-Acts (Collects n) new = Becomes Collects new (λ m. collecting.Acts n m) ⊎ Becomes Replays new (λ m. Recovers n m)
-Acts (Replays n) new = Becomes Replayed new (λ m. replaying.Ends n m)
-Acts (Replayed n) new = Becomes Restores new (λ m. restoring.Begins n m)
-Acts (Restores n) new = Becomes Restores new (λ m. restoring.Acts n m) ⊎ Becomes Up new (λ m. restoring.IsUp n m)
+Acts (Collects n) new = Becomes Collects new (λ m. (m ≡ collects.asked n) × collecting.Acts n m) ⊎ Becomes Replays new (λ m. Recovers n m)
+Acts (Replays n) new = Becomes Replayed new (λ m. (m ≡ replayed_of n) × replaying.Ends n m)
+Acts (Replayed n) new = Becomes Restores new (λ m. (m ≡ begun n) × restoring.Begins n m)
+Acts (Restores n) new = Becomes Restores new (λ m. (m ≡ restores.asked n) × restoring.Acts n m) ⊎ Becomes Up new (λ m. (m ≡ up n) × restoring.IsUp n m)
 Acts Killed new = ⊥
 
 -- these bytes are what a node gave to be kept
@@ -135,13 +139,13 @@ covered process = process
 -- it was told that its checkpoint is durable. One that waits for none is as it was
 abbrev pub IsTold : Process → Process → Type 0
 IsTold (Up n) new = (n.frozen ≡ false) × Becomes Up new (λ m. nodes.Saves n m)
-IsTold (Covered n) new = Becomes Up new (λ m. nodes.Saves n m)
+IsTold (Covered n) new = Becomes Up new (λ m. (m ≡ saved n) × nodes.Saves n m)
 IsTold process new = ⊥
 
 abbrev pub IsKilled : Process → Type 0
 IsKilled Killed = Unit {0}
 IsKilled process = ⊥
 
--- what these bytes are of came back in this incarnation
+-- what these bytes are of came back in this incarnation, with some limits
 abbrev pub ComesFrom : List ℕ → ℕ → TheCollecting → Type 0
-ComesFrom bytes life n = (k : Kept) × (IsKept k bytes × collecting.Revives k life n)
+ComesFrom bytes life n = (k : Kept) × (IsKept k bytes × (((limits : Limits) × (n ≡ collects.revived limits k life)) × collecting.Revives k life n))

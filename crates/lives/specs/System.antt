@@ -1,5 +1,5 @@
 -- Calls of processes in any stage, and of the gateway, one after another
-use Rattle.std.specs.Prelude.{◌≡◌, ℕ, ◌<◌, ◌≤◌, List, [], ◌∷◌, Some, true}
+use Rattle.std.specs.Prelude.{◌≡◌, ◌⊎◌, ℕ, ◌<◌, ◌≤◌, List, [], ◌∷◌, Some, true}
 use Rattle.world.specs.History.{count_of}
 use Rattle.world.specs.Handlers.{Handlers}
 use Rattle.world.specs.World.{put}
@@ -9,16 +9,18 @@ use Rattle.packets.specs.Kept.{IsKept}
 use Rattle.cluster.specs.Cluster.{Cluster, opening}
 use Rattle.cluster.specs.Rules.{Act, Run, after_run}
 use Rattle.cluster.specs.Promises.{NoOrphanNode, OutputOnce, ReceivedOnce}
+use Rattle.node.specs.Limit.{usual}
+use Rattle.node.specs.declared.limit.Limits.{Limits}
 use Rattle.node.specs.Node.{TheNode, new_node}
 use Rattle.node.specs.Calls as nodes
 use Rattle.node.specs.Kept.{kept_of}
 use Rattle.node.specs.Runs.{Answer, Answering, handlers_of, IsOne}
 use Rattle.recovery.specs.Meeting.{is_loss}
 use Rattle.recovery.specs.Collecting.{TheCollecting}
-use Rattle.gateway.specs.Gateway.{TheGateway, new_gateway, peer_of}
+use Rattle.gateway.specs.Gateway.{TheGateway, new_gateway, peer_of, puts_in, hands_out, ticked}
 use Rattle.gateway.specs.Calls as outside
 use Rattle.gateway.specs.Stands as gateways
-use Rattle.gateway.specs.Since.{StandsFor}
+use Rattle.gateway.specs.Since.{revived, StandsFor}
 use Rattle.together.specs.Together.{IsFirst}
 use Rattle.lives.specs.Process.{Process, Up, Collects, Killed, StandsAs, IsStoredOf, is_exact, Gives, Hears, Works, Acts, WaitsFor, covered, IsTold, IsKilled, ComesFrom}
 
@@ -32,11 +34,11 @@ pub record System : Type 0 where
   pub durable : TheGateway
   pub given : List Packet
 
--- n new processes and their gateway
-abbrev pub new_system : ℕ → (ℕ → ℕ) → (ℕ → List ℕ) → ℕ → ℕ → System
-new_system n len bytes page tick =
+-- n new processes, each with its limits, and their gateway
+abbrev pub new_system : ℕ → (ℕ → Limits) → (ℕ → ℕ) → (ℕ → List ℕ) → ℕ → ℕ → System
+new_system n limits len bytes page tick =
     record {
-      processes = λ p. Up (new_node p n (len p));
+      processes = λ p. Up (new_node (limits p) p n (len p));
       stored = bytes;
       lives = λ _. 1;
       gateway = new_gateway n page tick;
@@ -44,9 +46,9 @@ new_system n len bytes page tick =
       given = [];
     }
 
--- of each of them its bytes are stored before it opens
+-- of each of them its bytes are stored before it opens. They don't hold its limits
 abbrev pub AreStored : ℕ → (ℕ → ℕ) → (ℕ → List ℕ) → Type 0
-AreStored n len bytes = (p : ℕ) → IsFirst n p → IsKept (kept_of (new_node p n (len p))) (bytes p)
+AreStored n len bytes = (p : ℕ) → IsFirst n p → IsKept (kept_of (new_node usual p n (len p))) (bytes p)
 
 -- a call that isn't refused, and what the process or the gateway is then; or what happens to it
 pub data Call : Type 0 where
@@ -77,6 +79,10 @@ pub data Call : Type 0 where
   -- it was killed, and came back from what is
   RevivedOut : TheGateway → Call
 
+-- the gateway took an input, gave an output, sent again what isn't answered, or told what happened
+abbrev pub Deals : TheGateway → TheGateway → Type 0
+Deals g new = ((p : ℕ) × ((x : List ℕ) × (new ≡ puts_in p x g))) ⊎ ((new ≡ hands_out g) ⊎ ((new ≡ ticked g) ⊎ (new ≡ record g { changes = [] })))
+
 -- each call does what the contract of its function says. What is handed over was given, whenever, or is handed over again. What comes back
 -- does so from the bytes that are stored, in an incarnation above all that were. What the gateway gives is sent once all that happened to
 -- it is durable
@@ -90,10 +96,10 @@ DoesIt f n s (Saved p new) = IsFirst n p × IsTold (s.processes p) new
 DoesIt f n s (Died p) = IsFirst n p
 DoesIt f n s (Revived p life new) = IsFirst n p × (IsKilled (s.processes p) × ((s.lives p < life) × ComesFrom (s.stored p) life new))
 DoesIt f n s (GaveOut x new) = (s.durable ≡ s.gateway) × gateways.Takes (Some x) s.gateway new
-DoesIt f n s (HandedOut x new) = IsOne x s.given × (gateways.IsHanded x s.gateway new × (is_loss x.body ≡ true → new ≡ s.gateway))
-DoesIt f n s (DidOut new) = gateways.Acts s.gateway new
+DoesIt f n s (HandedOut x new) = IsOne x s.given × ((new ≡ outside.handed x s.gateway) × gateways.IsHanded x s.gateway new)
+DoesIt f n s (DidOut new) = Deals s.gateway new × gateways.Acts s.gateway new
 DoesIt f n s StoredOut = Unit {0}
-DoesIt f n s (RevivedOut new) = StandsFor s.durable.store new
+DoesIt f n s (RevivedOut new) = (new ≡ revived new.page new.tick s.durable.store) × StandsFor s.durable.store new
 
 abbrev pub after_call : System → Call → System
 after_call s (Gave p x new) = record s { processes = put s.processes p new; given = x ∷ s.given }
@@ -158,5 +164,5 @@ pub record IsRunOf (n : ℕ) (f : Handlers) (s : System) : Type 0 where
 -- calls of processes and the gateway in any order, with packets handed over late, twice or never, and each killed and brought back at any
 -- moment, are a run of a cluster, where each that is alive stays exact
 abbrev pub LivesRun : Type 0
-LivesRun = (f : Answering) (n page tick : ℕ) (len : ℕ → ℕ) (bytes : ℕ → List ℕ) (calls : List Call) → n ≤ 15 → AreStored n len bytes → Calls f n (new_system n len bytes page tick) calls
-    → StayExact n (new_system n len bytes page tick) calls → IsRunOf n (handlers_of f len) (after_calls (new_system n len bytes page tick) calls)
+LivesRun = (f : Answering) (n page tick : ℕ) (limits : ℕ → Limits) (len : ℕ → ℕ) (bytes : ℕ → List ℕ) (calls : List Call) → n ≤ 15 → AreStored n len bytes → Calls f n (new_system n limits len bytes page tick) calls
+    → StayExact n (new_system n limits len bytes page tick) calls → IsRunOf n (handlers_of f len) (after_calls (new_system n limits len bytes page tick) calls)

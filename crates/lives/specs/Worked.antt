@@ -4,6 +4,7 @@ use Rattle.packets.specs.declared.packet.Body.{Body}
 use Rattle.packets.specs.declared.packet.Body.TheVariants.{Ask, Told, Resume, Restored}
 use Rattle.packets.specs.declared.packet.Packet.{Packet}
 use Rattle.packets.specs.Packet.{flags_of}
+use Rattle.node.specs.Limit.{usual}
 use Rattle.node.specs.Node.{TheNode, new_node}
 use Rattle.node.specs.Kept.{kept_of}
 use Rattle.node.specs.Runs.{Answering}
@@ -17,6 +18,7 @@ use Rattle.gateway.specs.Gateway.{TheGateway, new_gateway}
 use Rattle.gateway.specs.Calls as gateways
 use Rattle.lives.specs.Process.{Up, Collects, Replays, Replayed, Restores}
 use Rattle.lives.specs.System.{new_system, AreStored, Call, Gave, Handed, Did, Died, Revived, GaveOut, HandedOut, StoredOut, Calls, after_calls, StayExact}
+use Rattle.lives.specs.Alone.{OneAtATime}
 
 -- ---- its packets
 
@@ -54,7 +56,7 @@ resumed page tick = gateways.handed resume (sent (asked page tick))
 
 -- it comes back, and its question is taken
 abbrev pub comes : ℕ → TheCollecting
-comes len = revived (kept_of (new_node 1 1 len)) 2
+comes len = revived usual (kept_of (new_node usual 1 1 len)) 2
 
 abbrev pub asks : ℕ → TheCollecting
 asks len = record (comes len) { own = record (comes len).own { out = [] } }
@@ -98,14 +100,15 @@ worked len page tick =
     ∷ Did 1 (Up (up (has_answer len)))
     ∷ []
 
--- they are such calls, along which it stays exact; and then it is up in its second incarnation, with the state of zeros
+-- they are such calls, where it fails alone, along which it stays exact; and then it is up in its second incarnation, with the state of zeros
 pub record IsWorked (f : Answering) (len page tick : ℕ) (bytes : ℕ → List ℕ) : Type 0 where
-  pub calls : Calls f 1 (new_system 1 (λ _. len) bytes page tick) (worked len page tick)
-  pub exact : StayExact 1 (new_system 1 (λ _. len) bytes page tick) (worked len page tick)
+  pub calls : Calls f 1 (new_system 1 (λ _. usual) (λ _. len) bytes page tick) (worked len page tick)
+  pub alone : OneAtATime 1 (new_system 1 (λ _. usual) (λ _. len) bytes page tick) (worked len page tick)
+  pub exact : StayExact 1 (new_system 1 (λ _. usual) (λ _. len) bytes page tick) (worked len page tick)
   pub node : TheNode
-  pub is_up : (after_calls (new_system 1 (λ _. len) bytes page tick) (worked len page tick)).processes 1 ≡ Up node
+  pub is_up : (after_calls (new_system 1 (λ _. usual) (λ _. len) bytes page tick) (worked len page tick)).processes 1 ≡ Up node
   pub life : node.life ≡ 2
-  pub state : node.state ≡ (new_node 1 1 len).state
+  pub state : node.state ≡ (new_node usual 1 1 len).state
 
 abbrev pub ComesBackUp : Type 0
 ComesBackUp = (f : Answering) (len page tick : ℕ) (bytes : ℕ → List ℕ) → AreStored 1 (λ _. len) bytes → IsWorked f len page tick bytes

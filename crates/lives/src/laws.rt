@@ -1,6 +1,8 @@
 //! What holds of processes in all their lives.
 
+ghost use Rattle.lives.specs.Alone.{LoneFailuresStayExact, LoneLivesRun, NothingIsLostAlone, RecoversExactlyAlone};
 ghost use Rattle.lives.specs.Back.{NothingIsLost, RecoversExactly};
+ghost use Rattle.lives.specs.Beside.{ComesBackBeside};
 ghost use Rattle.lives.specs.System.{LivesRun, LossIsDropped};
 ghost use Rattle.lives.specs.Worked.{ComesBackUp};
 
@@ -31,8 +33,36 @@ pub fn recovers_exactly()
     ensures { RecoversExactly }
 {}
 
+/// Where a process is killed only while all others are up, each that is alive stays exact, whatever is
+/// handed over, late or twice. So the calls of the laws above need no such premise then.
+pub fn lone_failures_stay_exact()
+    ensures { LoneFailuresStayExact }
+{}
+
+/// Where processes fail one at a time, calls are a run of a cluster.
+pub fn lone_lives_run()
+    ensures { LoneLivesRun }
+{}
+
+/// Nothing is lost then.
+pub fn nothing_is_lost_alone()
+    ensures { NothingIsLostAlone }
+{}
+
+/// And what recovers keeps what it had.
+pub fn recovers_exactly_alone()
+    ensures { RecoversExactlyAlone }
+{}
+
 /// The only process of a cluster is killed, comes back from the bytes of its opening, collects,
-/// recovers, replays, restores its numbers and is up: these are such calls, and it stays exact.
+/// recovers, replays, restores its numbers and is up: these are such calls, where it fails alone, and
+/// it stays exact.
 pub fn comes_back_up()
     ensures { ComesBackUp }
+{}
+
+/// One of two processes is killed while the other is up, comes back from the bytes of its opening, is
+/// told by the other and the gateway what they have, recovers, and is up: it fails alone.
+pub fn comes_back_beside()
+    ensures { ComesBackBeside }
 {}

@@ -7,9 +7,13 @@
 //! a [`gateway::Gateway`], in any order, with packets handed over late, twice or never, and each of
 //! them killed and brought back at any moment, are a run of a cluster ([`lives_run`]), as long as each
 //! process that is alive tells that it is exact. So its promises are promises of this code, and what comes back is the process that was lost ([`nothing_is_lost`],
-//! [`recovers_exactly`]).
+//! [`recovers_exactly`]). Where one at a time fails all tell that they are ([`lone_failures_stay_exact`]).
 #![tactic(auto)]
 
 mod laws;
 
-pub use laws::{comes_back_up, lives_run, loss_is_dropped, nothing_is_lost, recovers_exactly};
+pub use laws::{
+    comes_back_beside, comes_back_up, lives_run, lone_failures_stay_exact, lone_lives_run,
+    loss_is_dropped, nothing_is_lost, nothing_is_lost_alone, recovers_exactly,
+    recovers_exactly_alone,
+};

@@ -13,7 +13,7 @@ use Rattle.cluster.specs.Parcels.{Acknowledgement, In, parcel}
 use Rattle.cluster.specs.Cluster.{Cluster, seen, waiting}
 use Rattle.cluster.specs.Rules.{Act, Counts, May, does}
 use Rattle.node.specs.Node.{TheNode, counted, log_at}
-use Rattle.node.specs.Stands.{Stands, HasReceived, IsShut, sent_by, GoesOn, Receives}
+use Rattle.node.specs.Stands.{Stands, HasReceived, IsShut, sent_by, freed_in, most_released, GoesOn, Receives}
 use Rattle.node.proofs.Putting.{stands-takes}
 use Rattle.node.proofs.Commits.{long}
 
@@ -114,13 +114,21 @@ module _ (n : TheNode) (c : Cluster) (q i k : ℕ) (s : Stands n c n.me) (given 
       let new : ℕ → ℕ = λ e. max (c.released n.me e) (length (payloads (seen c) n.me (take (run_to (put (c.acknowledged n.me) (n.base + k) true) (length h)) h) e)) in
       at-itself n.me (λ t. (if t then new else c.released n.me) d ≡ max (c.released n.me d) (sent_by c.handlers n.me h d (run_to (put (c.acknowledged n.me) (n.base + k) true) (length h)))) (rw inner refl)
 
-  gates : (d : ℕ) → d ≤ c.count → d ≢ n.me → IsShut (log_at n.logs d) (length h) (c'.released n.me d) (sent_by c.handlers n.me h d)
+  more : (durable : Bool) (d : ℕ) → most_released durable c n.me d ≤ most_released durable c' n.me d
+  more true d = omega arith
+  more false d = omega (arith, released-is d)
+
+  gates : (d : ℕ) → d ≤ c.count → d ≢ n.me → IsShut (log_at n.logs d) (length h) (most_released n.limits.durable c' n.me d) (sent_by c.handlers n.me h d)
   gates d l o =
       let g = s.gates d l o in
-      record { within = g.within; waits = λ j m. (let w = g.waits j m in omega (arith, w, released-is d)) }
+      record { within = g.within; waits = λ j m. (let w = g.waits j m in omega (arith, w, more n.limits.durable d)) }
 
-  free : (d : ℕ) → sent_by c.handlers n.me h d (run_to (c'.acknowledged n.me) (length h)) ≤ c'.released n.me d
-  free d = rw (released-is d) (subst (λ (a : ℕ → Bool). sent_by c.handlers n.me h d (run_to a (length h)) ≤ max (c.released n.me d) (sent_by c.handlers n.me h d (run_to (put (c.acknowledged n.me) (n.base + k) true) (length h)))) (sym acknowledged-is) (omega arith))
+  run-free : (d : ℕ) → sent_by c.handlers n.me h d (run_to (c'.acknowledged n.me) (length h)) ≤ c'.released n.me d
+  run-free d = rw (released-is d) (subst (λ (a : ℕ → Bool). sent_by c.handlers n.me h d (run_to a (length h)) ≤ max (c.released n.me d) (sent_by c.handlers n.me h d (run_to (put (c.acknowledged n.me) (n.base + k) true) (length h)))) (sym acknowledged-is) (omega arith))
+
+  free : (durable : Bool) (d : ℕ) → sent_by c.handlers n.me h d (freed_in durable c n.me) ≤ c.released n.me d → sent_by c.handlers n.me h d (freed_in durable c' n.me) ≤ c'.released n.me d
+  free true d f = omega (arith, f, released-is d)
+  free false d f = run-free d
 
   stands-counted : Stands (counted k n) c' n.me
   stands-counted =
@@ -139,7 +147,7 @@ module _ (n : TheNode) (c : Cluster) (q i k : ℕ) (s : Stands n c n.me) (given 
         waits = fewer;
         logs = s.logs;
         gates = gates;
-        free = free;
+        free = λ d. free n.limits.durable d (s.free d);
         heard = s.heard;
         resumed = s.resumed;
         out = s.out;

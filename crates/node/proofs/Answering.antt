@@ -17,11 +17,10 @@ use Rattle.node.specs.Node.{TheNode, Within, log_at, posts, covered_of}
 use Rattle.packets.specs.Packet.{flags_of}
 use Rattle.packets.specs.declared.page.Entry.{Entry}
 use Rattle.rsn.specs.Receipts.{numbers_of}
-use Rattle.node.specs.declared.page.TheConstants.{PAGE, PAIRS}
-use Rattle.node.specs.Pages.{entries_in, told_of, told_page, told_all, pairs_above, restored_all, restored_of}
+use Rattle.node.specs.Pages.{entries_in, told_of, told_page, told_all, pairs_above, most_pairs, restored_all, restored_of}
 use Rattle.node.specs.Asking.{heard_of, hears, asked_by, works_for, obeys, resumed_by}
 use Rattle.pages.specs.Says.{told_end, restored_end}
-use Rattle.node.specs.Stands.{KeepsOf, IsShut, sent_by, Receives, Acts, phase_of, job_of}
+use Rattle.node.specs.Stands.{KeepsOf, IsShut, sent_by, most_released, Receives, Acts, phase_of, job_of}
 use Rattle.node.proofs.Logs.{changed-at}
 use Rattle.node.proofs.Putting.{stands-takes, stands-well, posted, stays}
 use Rattle.node.proofs.Steps.{owes-then, by-if}
@@ -29,6 +28,7 @@ use Rattle.node.proofs.Arrivals.{covers}
 use Rattle.pages.proofs.PageLemmas.{Ordered}
 use Rattle.pages.proofs.Telling.{entries-ordered, page-told, page-goes, lost-is}
 use Rattle.node.proofs.Telling.{log-told}
+use Rattle.node.proofs.PairRanges.{pairs-fit}
 use Rattle.node.proofs.Restoring.{history-told, pairs-told, pairs-go}
 
 -- a list with one value changed, as a function with one
@@ -52,9 +52,9 @@ telling n d i k low other heard c s u =
     let all : List Entry = entries_in k (log_at n.logs d) in
     let end : Option ℕ = told_end (flags_of (told_all d k n) false n.exact) k (told_page d k n) in
     posted n c d (told_of d i k n) (Told i n.life k end (entry_of c n.me d))
-    (entry_of c n.me d, refl, lost-is (told_all d k n) n.exact, λ m above reach. log-told n c d s within other k m above ∙ page-told PAGE n.me k m n.exact all above (ordered n d k) reach)
+    (entry_of c n.me d, refl, lost-is (told_all d k n) n.exact, λ m above reach. log-told n c d s within other k m above ∙ page-told n.limits.page n.me k m n.exact all above (ordered n d k) reach)
     s low other
-    (stands-well n c n.me s, sym (s.heard d within ∙ heard), sym s.life, λ v e. page-goes PAGE k v n.exact all (ordered n d k) e, λ m above reach. refl)
+    (stands-well n c n.me s, sym (s.heard d within ∙ heard), sym s.life, λ v e. page-goes n.limits.page k v n.exact all (ordered n d k) e, λ m above reach. refl)
 
 -- it hears of a newer incarnation
 hearing : (n : TheNode) (d i k : ℕ) → n.frozen ≡ false → d ≤ n.count → d < length n.heard → d < length n.resumed → heard_of d n < i
@@ -124,14 +124,14 @@ no-job (Some j) d m off e f =
     apart (same ∙ f)
 
 -- a page of what it received it may tell to one whose Resume it has obeyed
-restoring : (n : TheNode) (d i a : ℕ) → d ≤ n.count → d ≢ n.me → heard_of d n ≡ i → slice_index_or n.resumed d true ≡ true → works_for d n.working ≡ false → Acts n (posts d (restored_of d i a n) n)
-restoring n d i a low other heard obeyed free c s u =
+restoring : (n : TheNode) (d i a : ℕ) → d ≤ n.count → d ≢ n.me → heard_of d n ≡ i → slice_index_or n.resumed d true ≡ true → works_for d n.working ≡ false → 0 < most_pairs n.limits.page → Acts n (posts d (restored_of d i a n) n)
+restoring n d i a low other heard obeyed free some c s u =
     let within : d ≤ c.count = omega (arith, low, s.count) in
     let covered : ℕ = covered_of d n in
     let ks : List ℕ = numbers_of d n.receipts in
-    let end : Option ℕ = restored_end (flags_of (restored_all d a n) false n.exact) a (take PAIRS (pairs_above d a n)) in
+    let end : Option ℕ = restored_end (flags_of (restored_all d a n) false n.exact) a (take (most_pairs n.limits.page) (pairs_above d a n)) in
     posted n c d (restored_of d i a n) (Restored i n.life covered a end (rsn_of (c.history n.me) d))
-    (rsn_of (c.history n.me) d, refl, λ ssn above behind reach. history-told n c d ssn s low behind ∙ pairs-told n.base covered a n.exact ks ssn above behind reach)
+    (rsn_of (c.history n.me) d, refl, λ ssn above behind reach. history-told n c d ssn s low behind ∙ pairs-told (most_pairs n.limits.page) some n.base covered a n.exact ks ssn above behind reach)
     s low other (
       stands-well n c n.me s,
       sym (s.heard d within ∙ heard),
@@ -139,7 +139,7 @@ restoring n d i a low other heard obeyed free c s u =
       λ m e. no-job n.working d m free (sym s.phase ∙ e),
       sym s.life,
       covers n c n.me d s low s.inside.0,
-      λ v e. pairs-go n.base covered a n.exact ks v e,
+      λ v e. pairs-go (most_pairs n.limits.page) some n.base covered a n.exact ks v e,
       λ ssn above reach. refl,
     )
 
@@ -184,8 +184,8 @@ obeying n d i k a live low other wide broad heard fresh free c s given =
         waits = s.waits;
         logs = λ e l o. at-itself n.me (λ t. KeepsOf (log_at (slice_set n.logs d (forgotten_above k (log_at n.logs d))) e) (c.trims n.me e) (c.handlers.sends n.me (c.history n.me) e) (if t && (e == d) then (λ ssn. up_to k (c.numbers n.me d ssn)) else c.numbers n.me e))
             (changed-at (λ q. KeepsOf q (c.trims n.me e) (c.handlers.sends n.me (c.history n.me) e) (if e == d then (λ (ssn : ℕ). up_to k (c.numbers n.me d ssn)) else c.numbers n.me e)) n.logs d (forgotten_above k (log_at n.logs d)) e wide (here e) (there e l o));
-        gates = λ e l o. changed-at (λ q. IsShut q (length (c.history n.me)) (c.released n.me e) (sent_by c.handlers n.me (c.history n.me) e)) n.logs d (forgotten_above k (log_at n.logs d)) e wide
-            (λ same. let Q : ℕ → Type 0 = λ z. IsShut (forgotten_above k (log_at n.logs z)) (length (c.history n.me)) (c.released n.me e) (sent_by c.handlers n.me (c.history n.me) e) in
+        gates = λ e l o. changed-at (λ q. IsShut q (length (c.history n.me)) (most_released n.limits.durable c n.me e) (sent_by c.handlers n.me (c.history n.me) e)) n.logs d (forgotten_above k (log_at n.logs d)) e wide
+            (λ same. let Q : ℕ → Type 0 = λ z. IsShut (forgotten_above k (log_at n.logs z)) (length (c.history n.me)) (most_released n.limits.durable c n.me e) (sent_by c.handlers n.me (c.history n.me) e) in
             let g = s.gates e l o in subst Q same (record { within = g.within; waits = g.waits }))
             (λ apart. s.gates e l o);
         free = s.free;
@@ -216,9 +216,9 @@ resumes n from i k a w live low other =
     let here : (i == heard_of from n) ≡ true = not-false (i == heard_of from n) off.0 in
     let heard : heard_of from n ≡ i = grind (arith, nat_tests) in
     by-if (λ m. P (posts from (restored_of from i a n) m)) (slice_index_or n.resumed from true) n newer
-    (λ f c s given. restoring n from i a low other heard f off.1 c s tt)
+    (λ f c s given. restoring n from i a low other heard f off.1 some c s tt)
     (λ f. owes-then (λ c. In (parcel from n.me (Resume i k a)) c.parcels) n newer (posts from (restored_of from i a n) newer)
-    (obeying n from i k a live low other wide broad heard f off.1) (restoring newer from i a low other heard (get_or-set_same n.resumed from true true broad) off.1)))
+    (obeying n from i k a live low other wide broad heard f off.1) (restoring newer from i a low other heard (get_or-set_same n.resumed from true true broad) off.1 some)))
   where
     P : TheNode → Type 0
     P new = Receives from (Resume i k a) n new
@@ -231,3 +231,6 @@ resumes n from i k a w live low other =
 
     broad : from < length n.resumed
     broad = omega (arith, w.resumed_wide, low)
+
+    some : 0 < most_pairs n.limits.page
+    some = pairs-fit n.limits.page w.allowed.page.0

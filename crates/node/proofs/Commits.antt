@@ -137,7 +137,7 @@ logs-more logs d dropped xs numbers k (g ∷ given) inside s =
     subst P (sym (append-append xs (if d == g.to then g.payload ∷ [] else []) (payloads_to d given))) rest
 
 -- and what waits in them does for a later number
-shut-more : (logs : List TheQueue) (d n released : ℕ) (sent : ℕ → ℕ) (k : ℕ) (given : List Given) → n < k → ((i : ℕ) (g : Given) → slice_get given i ≡ Some g → g.to < length logs)
+pub shut-more : (logs : List TheQueue) (d n released : ℕ) (sent : ℕ → ℕ) (k : ℕ) (given : List Given) → n < k → ((i : ℕ) (g : Given) → slice_get given i ≡ Some g → g.to < length logs)
     → IsShut (log_at logs d) n released sent → IsShut (log_at (given_to k given logs) d) n released sent
 shut-more logs d n released sent k [] late inside s = s
 shut-more logs d n released sent k (g ∷ given) late inside s =
@@ -156,7 +156,7 @@ shut-more logs d n released sent k (g ∷ given) late inside s =
     here same = let P : ℕ → Type 0 = λ z. IsShut (appended g.payload k (log_at logs z)) n released sent in subst P same (one (log_at logs d) s)
 
 -- after one message more it still has released no more than these let go
-shut-next : (q : TheQueue) (n released : ℕ) (sent more : ℕ → ℕ) → ((k : ℕ) → k ≤ n → more k ≡ sent k) → more (suc n) ≡ q.dropped + length q.payloads → IsShut q n released sent → IsShut q (suc n) released more
+pub shut-next : (q : TheQueue) (n released : ℕ) (sent more : ℕ → ℕ) → ((k : ℕ) → k ≤ n → more k ≡ sent k) → more (suc n) ≡ q.dropped + length q.payloads → IsShut q n released sent → IsShut q (suc n) released more
 shut-next q n released sent more same all s =
     record {
       within = s.within;
@@ -208,23 +208,39 @@ module _ (n : TheNode) (c : Cluster) (j : OpenJob) (state : List ℕ) (given : L
       subst (λ xs. KeepsOf (log_at (given_to (next_number n) given n.logs) d) (c.trims n.me d) xs (c.numbers n.me d)) (sym (answers.sends_are d))
       (logs-more n.logs d (c.trims n.me d) (c.handlers.sends n.me (c.history n.me) d) (c.numbers n.me d) (next_number n) given inside (s.logs d l o))
 
-  gates-worked : (d : ℕ) → d ≤ c.count → d ≢ n.me → IsShut (log_at (given_to (next_number n) given n.logs) d) (suc (length (c.history n.me))) (c.released n.me d) (sent_by c.handlers n.me more d)
+  within-saved : c.saved n.me ≤ length (c.history n.me)
+  within-saved = omega (arith, s.saved, many)
+
+  -- what it may release when its history is this
+  abbrev most : List Message → ℕ → ℕ
+  most h d = if n.limits.durable then sent_by c.handlers n.me h d (c.saved n.me) else c.released n.me d
+
+  most-still : (d : ℕ) → most (c.history n.me) d ≡ most more d
+  most-still d = ap (λ z. if n.limits.durable then z else c.released n.me d) (sym (sent-still d (c.saved n.me) within-saved))
+
+  gates-worked : (d : ℕ) → d ≤ c.count → d ≢ n.me → IsShut (log_at (given_to (next_number n) given n.logs) d) (suc (length (c.history n.me))) (most more d) (sent_by c.handlers n.me more d)
   gates-worked d l o =
       let q = log_at (given_to (next_number n) given n.logs) d in
       let k = logs-worked d l o in
       let whole : take (suc (length (c.history n.me))) more ≡ more = take_all (suc (length (c.history n.me))) more (omega (arith, length-push (c.history n.me) (job_of j))) in
       let all : sent_by c.handlers n.me more d (suc (length (c.history n.me))) ≡ q.dropped + length q.payloads =
       ap (λ h. length (c.handlers.sends n.me h d)) whole ∙ ap length (sym k.joined) ∙ length-append k.before q.payloads ∙ ap (λ z. z + length q.payloads) k.many in
-      shut-next q (length (c.history n.me)) (c.released n.me d) (sent_by c.handlers n.me (c.history n.me) d) (sent_by c.handlers n.me more d) (sent-still d) all
-      (shut-more n.logs d (length (c.history n.me)) (c.released n.me d) (sent_by c.handlers n.me (c.history n.me) d) (next_number n) given (omega (arith, many)) inside (s.gates d l o))
+      subst (λ z. IsShut q (suc (length (c.history n.me))) z (sent_by c.handlers n.me more d)) (most-still d)
+      (shut-next q (length (c.history n.me)) (most (c.history n.me) d) (sent_by c.handlers n.me (c.history n.me) d) (sent_by c.handlers n.me more d) (sent-still d) all
+      (shut-more n.logs d (length (c.history n.me)) (most (c.history n.me) d) (sent_by c.handlers n.me (c.history n.me) d) (next_number n) given (omega (arith, many)) inside (s.gates d l o)))
 
-  free-worked : (d : ℕ) → sent_by c.handlers n.me more d (run_to (c.acknowledged n.me) (length more)) ≤ c.released n.me d
-  free-worked d =
+  -- what is let go when its history is this
+  abbrev goes : Bool → List Message → ℕ
+  goes durable h = if durable then c.saved n.me else run_to (c.acknowledged n.me) (length h)
+
+  free-worked : (durable : Bool) (d : ℕ) → sent_by c.handlers n.me (c.history n.me) d (goes durable (c.history n.me)) ≤ c.released n.me d → sent_by c.handlers n.me more d (goes durable more) ≤ c.released n.me d
+  free-worked true d f = omega (arith, f, sent-still d (c.saved n.me) within-saved)
+  free-worked false d f =
       let ends : run_to (c.acknowledged n.me) (length more) ≡ run_to (c.acknowledged n.me) (length (c.history n.me)) =
       ap (run_to (c.acknowledged n.me)) (length-push (c.history n.me) (job_of j)) ∙ run_to-ends (c.acknowledged n.me) (length (c.history n.me)) (s.received.above (suc (length (c.history n.me))) (omega arith)) in
       let e : sent_by c.handlers n.me more d (run_to (c.acknowledged n.me) (length more)) ≡ sent_by c.handlers n.me (c.history n.me) d (run_to (c.acknowledged n.me) (length (c.history n.me))) =
       ap (sent_by c.handlers n.me more d) ends ∙ sent-still d (run_to (c.acknowledged n.me) (length (c.history n.me))) (run_to-is (c.acknowledged n.me) (length (c.history n.me))).0 in
-      omega (arith, e, s.free d)
+      omega (arith, e, f)
 
   pub stands-worked : Stands (worked j state given n) c' n.me
   stands-worked =
@@ -242,9 +258,9 @@ module _ (n : TheNode) (c : Cluster) (j : OpenJob) (state : List ℕ) (given : L
         received = subst (λ h. HasReceived n.count n.base n.covered (accepted j.sender n.receipts) h (c.acknowledged n.me)) (sym history-is) (received-more n.count n.base n.covered n.receipts (c.history n.me) (c.acknowledged n.me) (job_of j) s.received next);
         waits = waits;
         logs = λ d l o. subst (λ h. KeepsOf (log_at (given_to (next_number n) given n.logs) d) (c.trims n.me d) (c.handlers.sends n.me h d) (c.numbers n.me d)) (sym history-is) (logs-worked d l o);
-        gates = λ d l o. subst (λ h. IsShut (log_at (given_to (next_number n) given n.logs) d) (length h) (c.released n.me d) (sent_by c.handlers n.me h d)) (sym history-is)
-            (subst (λ z. IsShut (log_at (given_to (next_number n) given n.logs) d) z (c.released n.me d) (sent_by c.handlers n.me more d)) (sym (length-push (c.history n.me) (job_of j))) (gates-worked d l o));
-        free = λ d. subst (λ h. sent_by c.handlers n.me h d (run_to (c.acknowledged n.me) (length h)) ≤ c.released n.me d) (sym history-is) (free-worked d);
+        gates = λ d l o. subst (λ h. IsShut (log_at (given_to (next_number n) given n.logs) d) (length h) (most h d) (sent_by c.handlers n.me h d)) (sym history-is)
+            (subst (λ z. IsShut (log_at (given_to (next_number n) given n.logs) d) z (most more d) (sent_by c.handlers n.me more d)) (sym (length-push (c.history n.me) (job_of j))) (gates-worked d l o));
+        free = λ d. subst (λ h. sent_by c.handlers n.me h d (goes n.limits.durable h) ≤ c.released n.me d) (sym history-is) (free-worked n.limits.durable d (s.free d));
         heard = s.heard;
         resumed = s.resumed;
         out = s.out;

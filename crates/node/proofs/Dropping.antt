@@ -12,7 +12,7 @@ use Rattle.cluster.specs.Rules.{Act, Drops, May, does}
 use Rattle.node.specs.Queue.{TheQueue, dropped_first, dropped_to}
 use Rattle.node.specs.Node.{TheNode, log_at}
 use Rattle.node.specs.Calls.{dropped_by}
-use Rattle.node.specs.Stands.{Stands, KeepsOf, IsShut, sent_by, GoesOn, Receives}
+use Rattle.node.specs.Stands.{Stands, KeepsOf, IsShut, sent_by, most_released, GoesOn, Receives}
 use Rattle.node.proofs.Logs.{changed-at}
 use Rattle.node.proofs.Putting.{stands-takes}
 use Rattle.node.proofs.Recording.{sent-is}
@@ -37,7 +37,7 @@ kept-dropped q k dropped xs numbers some is s =
     }
 
 -- nor does it release more
-shut-dropped : (q : TheQueue) (k n released : ℕ) (sent : ℕ → ℕ) → k ≤ length q.payloads → IsShut q n released sent → IsShut (dropped_first k q) n released sent
+pub shut-dropped : (q : TheQueue) (k n released : ℕ) (sent : ℕ → ℕ) → k ≤ length q.payloads → IsShut q n released sent → IsShut (dropped_first k q) n released sent
 shut-dropped q k n released sent some s =
     let fewer : length (drop k q.payloads) ≡ length q.payloads - k = length-drop k q.payloads in
     record { within = omega (arith, fewer, some, s.within); waits = s.waits }
@@ -82,10 +82,10 @@ module _ (n : TheNode) (c : Cluster) (r k : ℕ) (s : Stands n c n.me) (low : r 
       there : d ≢ r → KeepsOf (log_at n.logs d) (if d == r then max (c.trims n.me r) (min k (length (sent (seen c) n.me r))) else c.trims n.me d) (c.handlers.sends n.me (c.history n.me) d) (c.numbers n.me d)
       there apart = let e : (d == r) ≡ false = grind (arith, nat_tests) in rw e (s.logs d l o)
 
-  gates : (d : ℕ) → d ≤ c.count → d ≢ n.me → IsShut (log_at (dropped_by r k n).logs d) (length (c.history n.me)) (c.released n.me d) (sent_by c.handlers n.me (c.history n.me) d)
-  gates d l o = changed-at (λ z. IsShut z (length (c.history n.me)) (c.released n.me d) (sent_by c.handlers n.me (c.history n.me) d)) n.logs r (dropped_to k q) d wide
-      (λ same. let P : ℕ → Type 0 = λ z. IsShut (dropped_to k q) (length (c.history n.me)) (c.released n.me z) (sent_by c.handlers n.me (c.history n.me) z) in
-      subst P (sym same) (shut-dropped q many (length (c.history n.me)) (c.released n.me r) (sent_by c.handlers n.me (c.history n.me) r) few (s.gates r low other)))
+  gates : (d : ℕ) → d ≤ c.count → d ≢ n.me → IsShut (log_at (dropped_by r k n).logs d) (length (c.history n.me)) (most_released n.limits.durable c n.me d) (sent_by c.handlers n.me (c.history n.me) d)
+  gates d l o = changed-at (λ z. IsShut z (length (c.history n.me)) (most_released n.limits.durable c n.me d) (sent_by c.handlers n.me (c.history n.me) d)) n.logs r (dropped_to k q) d wide
+      (λ same. let P : ℕ → Type 0 = λ z. IsShut (dropped_to k q) (length (c.history n.me)) (most_released n.limits.durable c n.me z) (sent_by c.handlers n.me (c.history n.me) z) in
+      subst P (sym same) (shut-dropped q many (length (c.history n.me)) (most_released n.limits.durable c n.me r) (sent_by c.handlers n.me (c.history n.me) r) few (s.gates r low other)))
       (λ apart. s.gates d l o)
 
   goes-dropped : GoesOn n.me (dropped_by r k n) c

@@ -19,7 +19,7 @@ use Rattle.node.specs.declared.job.OpenJob.{OpenJob}
 use Rattle.node.specs.Node.{TheNode, Within, log_at, covered_of}
 use Rattle.node.specs.Sending.{released}
 use Rattle.node.specs.Saving.{may_freeze, froze, counts_from, thawed, says_covered, says_below, thaws, saved}
-use Rattle.node.specs.Stands.{Stands, HasReceived, IsShut, sent_by, GoesOn, Acts, Saves, phase_of, InOrderFrom}
+use Rattle.node.specs.Stands.{Stands, HasReceived, IsShut, sent_by, freed_in, most_released, GoesOn, Acts, Saves, phase_of, InOrderFrom}
 use Rattle.node.proofs.Logs.{leading-bound}
 use Rattle.node.proofs.Putting.{stands-takes}
 use Rattle.node.proofs.Steps.{acts-self, acts-then, goes-then, owes-at, by-if}
@@ -168,13 +168,25 @@ module _ (n : TheNode) (c : Cluster) (s : Stands n c n.me) (wait : n.frozen ≡ 
       ap (λ (a : ℕ → Bool). count_below (λ k. not (a (suc k))) (length h)) acknowledged-is
       ∙ none-below (λ k. not (all (suc k))) (length h) (λ k l. (let e : nat_le (suc k) (length h) ≡ true = grind (arith, nat_tests) in rw e refl))
 
-  gates : (d : ℕ) → d ≤ c.count → d ≢ n.me → IsShut (log_at n.logs d) (length h) (c'.released n.me d) (sent_by c.handlers n.me h d)
+  saved-is : c'.saved n.me ≡ length h
+  saved-is = at-itself n.me (λ b. (if b then length h else c.saved n.me) ≡ length h) refl
+
+  -- its checkpoint covers all
+  all-saved : (d : ℕ) → sent_by c.handlers n.me h d (c'.saved n.me) ≡ length (c.handlers.sends n.me h d)
+  all-saved d = ap (sent_by c.handlers n.me h d) saved-is ∙ ap (λ (l : List Message). length (c.handlers.sends n.me l d)) (take_all (length h) h (omega arith))
+
+  most-is : (durable : Bool) (d : ℕ) → most_released durable c' n.me d ≡ length (c.handlers.sends n.me h d)
+  most-is true d = all-saved d
+  most-is false d = released-is d
+
+  gates : (d : ℕ) → d ≤ c.count → d ≢ n.me → IsShut (log_at n.logs d) (length h) (most_released n.limits.durable c' n.me d) (sent_by c.handlers n.me h d)
   gates d l o =
       let g = s.gates d l o in
-      record { within = g.within; waits = λ k m. omega (arith, leading-bound k (log_at n.logs d).held, g.within, released-is d, sent-size n c n.me d s l o) }
+      record { within = g.within; waits = λ k m. omega (arith, leading-bound k (log_at n.logs d).held, g.within, most-is n.limits.durable d, sent-size n c n.me d s l o) }
 
-  free : (d : ℕ) → sent_by c.handlers n.me h d (run_to (c'.acknowledged n.me) (length h)) ≤ c'.released n.me d
-  free d =
+  free : (durable : Bool) (d : ℕ) → sent_by c.handlers n.me h d (freed_in durable c' n.me) ≤ c'.released n.me d
+  free true d = omega (arith, all-saved d, released-is d)
+  free false d =
       let run : run_to all (length h) ≡ length h = run_to-whole all (length h) (λ m a b. grind (arith, nat_tests)) in
       let e : sent_by c.handlers n.me h d (run_to (c'.acknowledged n.me) (length h)) ≡ length (c.handlers.sends n.me h d) =
       ap (λ (a : ℕ → Bool). sent_by c.handlers n.me h d (run_to a (length h))) acknowledged-is ∙ ap (sent_by c.handlers n.me h d) run ∙ ap (λ (l : List Message). length (c.handlers.sends n.me l d)) (take_all (length h) h (omega arith)) in
@@ -204,7 +216,7 @@ module _ (n : TheNode) (c : Cluster) (s : Stands n c n.me) (wait : n.frozen ≡ 
           waits = none-waits;
           logs = s.logs;
           gates = gates;
-          free = free;
+          free = λ d. free n.limits.durable d;
           heard = s.heard;
           resumed = s.resumed;
           out = s.out;

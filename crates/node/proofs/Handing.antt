@@ -3,7 +3,6 @@ use Rattle.std.proofs.Common.{◌≡◌, ◌≢◌, ℕ, ◌+◌, ◌-◌, ◌<�
 use Rattle.std.specs.Prelude.{Option, Some, None, is_some, slice_get, slice_index_or, not, ◌&&◌, ◌||◌, ◌==◌, nat_lt, nat_le}
 use Rattle.std.proofs.lemmas.Bool.Decides.{nat_tests}
 use Rattle.rsn.specs.Receipts.{numbers_of}
-use Rattle.rsn.specs.declared.receipts.TheConstants.{LIMIT}
 use Rattle.theorems.proofs.Tests.{both, neither, not-false}
 use Rattle.packets.specs.declared.packet.Packet.{Packet}
 use Rattle.packets.specs.Packet.{in_range}
@@ -11,7 +10,7 @@ use Rattle.packets.specs.declared.packet.Body as bodies
 use Rattle.packets.specs.declared.packet.Body.TheVariants as packets
 use Rattle.cluster.specs.Parcels.{Body, Delivery, Number, Acknowledgement, Ask, Resume, Saved, In, parcel}
 use Rattle.cluster.specs.Cluster.{Cluster}
-use Rattle.node.specs.declared.node.TheConstants.{WINDOW, MOST_RECEIVED}
+use Rattle.node.specs.declared.node.TheConstants.{MOST_RECEIVED}
 use Rattle.node.specs.declared.job.OpenJob.{OpenJob}
 use Rattle.node.specs.declared.job.Given.{Given}
 use Rattle.node.specs.Queue.{is_kept}
@@ -35,7 +34,7 @@ use Rattle.node.proofs.Answering.{asks, resumes}
 pub ignores : (given : Body) (from : ℕ) (n : TheNode) → Receives from given n n
 ignores given from n c s g = stays n c s
 
-module _ (from life ssn : ℕ) (x : List ℕ) (n : TheNode) (live : n.frozen ≡ false) (low : from ≤ n.count) (other : from ≢ n.me) where
+module _ (from life ssn : ℕ) (x : List ℕ) (n : TheNode) (w : Within n) (live : n.frozen ≡ false) (low : from ≤ n.count) (other : from ≢ n.me) where
   abbrev P : TheNode → Type 0
   P new = Receives from (Delivery life ssn x) n new
 
@@ -56,9 +55,10 @@ module _ (from life ssn : ℕ) (x : List ℕ) (n : TheNode) (live : n.frozen ≡
       let here : (life == slice_index_or n.heard from 0) ≡ true = not-false (life == slice_index_or n.heard from 0) idle.1 in
       let heard : life ≡ slice_index_or n.heard from 0 = grind (arith, nat_tests) in
       let is : place ≡ known = (let t = next.0 in grind (arith, nat_tests)) in
-      let a = both (nat_lt n.waiting WINDOW && nat_lt (length n.receipts.senders) LIMIT) (nat_lt (n.base + length n.receipts.senders) MOST_RECEIVED) next.1 in
-      let b = both (nat_lt n.waiting WINDOW) (nat_lt (length n.receipts.senders) LIMIT) a.0 in
-      let room : n.waiting < 256 = (let t = b.0 in grind (arith, nat_tests)) in
+      let a = both (nat_lt n.waiting n.limits.numbers && nat_lt (length n.receipts.senders) n.limits.receipts) (nat_lt (n.base + length n.receipts.senders) MOST_RECEIVED) next.1 in
+      let b = both (nat_lt n.waiting n.limits.numbers) (nat_lt (length n.receipts.senders) n.limits.receipts) a.0 in
+      let fewer : n.waiting < n.limits.numbers = (let t = b.0 in grind (arith, nat_tests)) in
+      let room : n.waiting < 256 = omega (arith, fewer, w.allowed.numbers.1) in
       starts n from life ssn x live low other (none-is n.working idle.0) heard above is room
 
   delivers-to : P (delivered from life ssn x n)
@@ -112,7 +112,7 @@ said-me c from to me b y is e i =
 
 -- each body
 told-so : (from to : ℕ) (b : bodies.Body) (n : TheNode) → Within n → n.frozen ≡ false → from ≤ n.count → from ≢ n.me → to ≡ n.me → Owes (λ c. WasSaid c.parcels from to b) n (told from b n)
-told-so from to (packets.Delivery i ssn x) n w live low other me c s put = delivers-to from i ssn x n live low other c s (said-me c from to n.me (Delivery i ssn x) put.0 me put.1 put.2)
+told-so from to (packets.Delivery i ssn x) n w live low other me c s put = delivers-to from i ssn x n w live low other c s (said-me c from to n.me (Delivery i ssn x) put.0 me put.1 put.2)
 told-so from to (packets.Number i ssn k) n w live low other me c s put = records from i ssn k n w live low other c s (said-me c from to n.me (Number i ssn k) put.0 me put.1 put.2)
 told-so from to (packets.Acknowledgement i k) n w live low other me c s put = acknowledges from i k n w live c s (said-me c from to n.me (Acknowledgement i k) put.0 me put.1 put.2)
 told-so from to (packets.Saved k) n w live low other me c s put = drops n from k live low other (omega (arith, w.logs_wide, low)) c s (said-me c from to n.me (Saved k) put.0 me put.1 put.2)

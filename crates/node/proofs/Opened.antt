@@ -6,6 +6,8 @@ use Rattle.theorems.proofs.Changes.{at-itself}
 use Rattle.world.specs.Handlers.{Handlers}
 use Rattle.cluster.specs.Cluster.{Cluster, Live, Frozen, opening}
 use Rattle.cluster.specs.Rules.{Freezes, Keeps, does}
+use Rattle.node.specs.declared.limit.Limits.{Limits}
+use Rattle.node.specs.Limit.{AreAllowed}
 use Rattle.node.specs.Queue.{TheQueue, no_queue}
 use Rattle.node.specs.Node.{TheNode, Within, log_at, new_node}
 use Rattle.node.specs.Stands.{Stands, BeginsWith}
@@ -30,14 +32,15 @@ none-logged zero d = refl
 none-logged (suc n) zero = refl
 none-logged (suc n) (suc d) = none-logged n d
 
-module _ (me count len : ℕ) (some : 1 ≤ me) (low : me ≤ count) (few : count ≤ 15) where
+module _ (limits : Limits) (me count len : ℕ) (allowed : AreAllowed limits) (some : 1 ≤ me) (low : me ≤ count) (few : count ≤ 15) where
   abbrev n : TheNode
-  n = new_node me count len
+  n = new_node limits me count len
 
   -- its numbers are in their ranges
   pub opened-within : Within n
   opened-within =
       record {
+        allowed = allowed;
         inside = some;
         within = low;
         few = few;
@@ -67,7 +70,7 @@ module _ (me count len : ℕ) (some : 1 ≤ me) (low : me ≤ count) (few : coun
     waits = does c (Freezes me)
 
     stands : Stands n c me
-    stands = stands-opened me count len f some low begins
+    stands = stands-opened limits me count len f some low begins
 
     stands-resting : Stands (resting n) waits me
     stands-resting =

@@ -1,15 +1,16 @@
 -- A node at the opening
-use Rattle.std.proofs.Common.{◌≡◌, ℕ, ◌+◌, ◌≤◌, [], refl, sym, ap, length, subst, arith}
+use Rattle.std.proofs.Common.{◌≡◌, ℕ, ◌+◌, ◌≤◌, [], Bool, false, refl, sym, ap, length, subst, arith}
 use Rattle.std.specs.Prelude.{None, true}
 use Rattle.std.proofs.lemmas.List.{get_or-replicate}
 use Rattle.world.specs.Handlers.{Handlers}
 use Rattle.cluster.specs.Cluster.{opening}
+use Rattle.node.specs.declared.limit.Limits.{Limits}
 use Rattle.node.specs.Queue.{no_queue}
 use Rattle.node.specs.Node.{new_node}
-use Rattle.node.specs.Stands.{Stands, KeepsOf, IsShut, sent_by, BeginsWith}
+use Rattle.node.specs.Stands.{Stands, KeepsOf, IsShut, sent_by, freed_in, most_released, BeginsWith}
 
-pub stands-opened : (me count len : ℕ) (f : Handlers) → 1 ≤ me → me ≤ count → BeginsWith f me len → Stands (new_node me count len) (opening count f) me
-stands-opened me count len f some low begins =
+pub stands-opened : (limits : Limits) (me count len : ℕ) (f : Handlers) → 1 ≤ me → me ≤ count → BeginsWith f me len → Stands (new_node limits me count len) (opening count f) me
+stands-opened limits me count len f some low begins =
     record {
       me = refl;
       count = refl;
@@ -45,9 +46,16 @@ stands-opened me count len f some low begins =
         numbers_are = λ i z. absurd (omega (arith, z));
         beyond = λ i z. refl;
       });
-      gates = λ d l o. subst (λ q. IsShut q 0 0 (sent_by f me [] d)) (sym (get_or-replicate (count + 1) d no_queue no_queue (omega (arith, l)))) (record { within = omega arith; waits = λ k m. omega arith });
-      free = λ d. (let e : sent_by f me [] d 0 ≡ 0 = ap length (begins.sends_are d) in omega (arith, e));
+      gates = λ d l o. subst (λ q. IsShut q 0 (most_released limits.durable (opening count f) me d) (sent_by f me [] d)) (sym (get_or-replicate (count + 1) d no_queue no_queue (omega (arith, l)))) (record { within = omega arith; waits = λ k m. omega arith });
+      free = λ d. free limits.durable d;
       heard = λ q l. sym (get_or-replicate (count + 1) q 1 0 (omega (arith, l)));
       resumed = λ q l. sym (get_or-replicate (count + 1) q true true (omega (arith, l)));
       out = tt;
     }
+  where
+    nothing : (d : ℕ) → sent_by f me [] d 0 ≤ 0
+    nothing d = let e : sent_by f me [] d 0 ≡ 0 = ap length (begins.sends_are d) in omega (arith, e)
+
+    free : (durable : Bool) (d : ℕ) → sent_by f me [] d (freed_in durable (opening count f) me) ≤ 0
+    free true d = nothing d
+    free false d = nothing d

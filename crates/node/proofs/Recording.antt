@@ -16,7 +16,7 @@ use Rattle.cluster.specs.Rules.{Act, Records, May, does}
 use Rattle.packets.specs.declared.packet.Body.TheVariants as packets
 use Rattle.node.specs.Queue.{TheQueue, recorded, is_kept}
 use Rattle.node.specs.Node.{TheNode, posts, packet_of, log_at, numbered}
-use Rattle.node.specs.Stands.{Stands, KeepsOf, IsShut, sent_by, GoesOn, Receives, PutOut}
+use Rattle.node.specs.Stands.{Stands, KeepsOf, IsShut, sent_by, most_released, GoesOn, Receives, PutOut}
 use Rattle.node.proofs.Logs.{changed-at}
 use Rattle.node.proofs.Lists.{all-more, all-pushed}
 use Rattle.node.proofs.Putting.{stands-takes, is-up, put-still}
@@ -108,9 +108,9 @@ module _ (n : TheNode) (c : Cluster) (r i ssn k : ℕ) (s : Stands n c n.me) (lo
       there : d ≢ r → KeepsOf (log_at n.logs d) (c.trims n.me d) (c.handlers.sends n.me (c.history n.me) d) (if d == r then put (c.numbers n.me r) ssn (Some k) else c.numbers n.me d)
       there apart = let e : (d == r) ≡ false = grind (arith, nat_tests) in rw e (s.logs d l o)
 
-  gates : (d : ℕ) → d ≤ c.count → d ≢ n.me → IsShut (log_at (slice_set n.logs r (recorded ssn k (log_at n.logs r))) d) (length (c.history n.me)) (c.released n.me d) (sent_by c.handlers n.me (c.history n.me) d)
-  gates d l o = changed-at (λ q. IsShut q (length (c.history n.me)) (c.released n.me d) (sent_by c.handlers n.me (c.history n.me) d)) n.logs r (recorded ssn k (log_at n.logs r)) d wide
-      (λ same. let P : ℕ → Type 0 = λ z. IsShut (recorded ssn k (log_at n.logs z)) (length (c.history n.me)) (c.released n.me d) (sent_by c.handlers n.me (c.history n.me) d) in
+  gates : (d : ℕ) → d ≤ c.count → d ≢ n.me → IsShut (log_at (slice_set n.logs r (recorded ssn k (log_at n.logs r))) d) (length (c.history n.me)) (most_released n.limits.durable c n.me d) (sent_by c.handlers n.me (c.history n.me) d)
+  gates d l o = changed-at (λ q. IsShut q (length (c.history n.me)) (most_released n.limits.durable c n.me d) (sent_by c.handlers n.me (c.history n.me) d)) n.logs r (recorded ssn k (log_at n.logs r)) d wide
+      (λ same. let P : ℕ → Type 0 = λ z. IsShut (recorded ssn k (log_at n.logs z)) (length (c.history n.me)) (most_released n.limits.durable c n.me d) (sent_by c.handlers n.me (c.history n.me) d) in
       let g = s.gates d l o in subst P same (record { within = g.within; waits = g.waits }))
       (λ apart. s.gates d l o)
 

@@ -1,30 +1,34 @@
--- All that a process sent is released when it is up again
-use Rattle.std.proofs.Common.{◌≡◌, ℕ, zero, suc, List, [], ◌∷◌, Bool, refl, ◌∙◌}
-use Rattle.std.specs.Prelude.{map, None, false}
+-- What a process sent is released when it is up again
+use Rattle.std.proofs.Common.{◌≡◌, ℕ, zero, suc, ◌+◌, ◌*◌, ◌≤◌, List, [], ◌∷◌, length, Bool, true, false, refl, ◌∙◌}
+use Rattle.std.specs.Prelude.{map, None}
 use Rattle.std.proofs.lemmas.List.{length-map}
 use Rattle.rsn.specs.Receipts.{Received}
 use Rattle.packets.specs.declared.packet.Packet.{Packet}
-use Rattle.node.specs.Queue.{TheQueue, released_all}
+use Rattle.node.specs.declared.limit.Limits.{Limits}
+use Rattle.node.specs.Queue.{TheQueue, released_again}
 use Rattle.node.specs.Node.{IsWithin, log_at}
+use Rattle.node.specs.declared.node.TheConstants.{MOST_GIVEN}
 
--- a queue of those that released all
-pub log-released : (logs : List TheQueue) (d : ℕ) → log_at (map released_all logs) d ≡ released_all (log_at logs d)
-log-released [] d = refl
-log-released (q ∷ logs) zero = refl
-log-released (q ∷ logs) (suc d) = log-released logs d
+-- a queue of those that come back
+pub log-released : (durable : Bool) (logs : List TheQueue) (d : ℕ) → log_at (map (released_again durable) logs) d ≡ released_again durable (log_at logs d)
+log-released true [] d = refl
+log-released false [] d = refl
+log-released durable (q ∷ logs) zero = refl
+log-released durable (q ∷ logs) (suc d) = log-released durable logs d
 
 -- its numbers stay in their ranges
-pub within-released : (me count base : ℕ) (covered heard : List ℕ) (resumed : List Bool) (receipts : Received) (logs : List TheQueue) (life : ℕ) (out : List Packet) → IsWithin me count base covered heard resumed receipts logs None false 0 life out
-    → IsWithin me count base covered heard resumed receipts (map released_all logs) None false 0 life out
-within-released me count base covered heard resumed receipts logs life out w =
+pub within-released : (limits : Limits) (me count base : ℕ) (covered heard : List ℕ) (resumed : List Bool) (receipts : Received) (logs : List TheQueue) (life : ℕ) (out : List Packet) → IsWithin limits me count base covered heard resumed receipts logs None false 0 life out
+    → IsWithin limits me count base covered heard resumed receipts (map (released_again limits.durable) logs) None false 0 life out
+within-released limits me count base covered heard resumed receipts logs life out w =
     record {
+      allowed = w.allowed;
       inside = w.inside;
       within = w.within;
       few = w.few;
       wide = w.wide;
       heard_wide = w.heard_wide;
       resumed_wide = w.resumed_wide;
-      logs_wide = length-map logs released_all ∙ w.logs_wide;
+      logs_wide = length-map logs (released_again limits.durable) ∙ w.logs_wide;
       counts = w.counts;
       peers = w.peers;
       young = w.young;
@@ -34,7 +38,12 @@ within-released me count base covered heard resumed receipts logs life out w =
       own = w.own;
       numbered = w.numbered;
       rests = w.rests;
-      short = λ d. rw (log-released logs d) (w.short d);
+      short = λ d. rw (log-released limits.durable logs d) (short limits.durable d (w.short d));
       alive = w.alive;
       fit = w.fit;
     }
+  where
+    short : (durable : Bool) (d : ℕ) → (log_at logs d).dropped + length (log_at logs d).payloads ≤ MOST_GIVEN * (base + length receipts.senders)
+        → (released_again durable (log_at logs d)).dropped + length (released_again durable (log_at logs d)).payloads ≤ MOST_GIVEN * (base + length receipts.senders)
+    short true d l = l
+    short false d l = l

@@ -1,5 +1,5 @@
 -- What a page restores is what was received
-use Rattle.std.proofs.Common.{◌≡◌, ℕ, zero, suc, ◌+◌, ◌-◌, ◌<◌, ◌≤◌, List, [], ◌∷◌, length, take, drop, map, Bool, true, false, refl, sym, ap, ◌∙◌, subst, arith, lit<}
+use Rattle.std.proofs.Common.{◌≡◌, ℕ, zero, suc, ◌+◌, ◌-◌, ◌<◌, ◌≤◌, List, [], ◌∷◌, length, take, drop, map, Bool, true, false, refl, sym, ap, ◌∙◌, subst, arith}
 use Rattle.std.specs.Prelude.{Option, Some, None, ◌==◌, nat_le, if◌then◌else◌}
 use Rattle.std.proofs.lemmas.Bool.Decides.{nat_tests}
 use Rattle.std.proofs.lemmas.List.{take_all, length-drop}
@@ -12,7 +12,6 @@ use Rattle.cluster.specs.Cluster.{Cluster}
 use Rattle.packets.specs.Packet.{is_done, flags_of}
 use Rattle.packets.specs.declared.page.Pair.{Pair}
 use Rattle.packets.specs.declared.page.Flags.{Flags}
-use Rattle.node.specs.declared.page.TheConstants.{PAIRS}
 use Rattle.node.specs.Node.{TheNode, covered_of}
 use Rattle.node.specs.Pages.{pairs_from}
 use Rattle.pages.specs.Says.{first_number, last_behind, restored_end}
@@ -64,7 +63,7 @@ first-last base c (suc j) s (x ∷ ks) some long l = let e : suc c ≤ last_behi
 end-of : (flags : Flags) (s : ℕ) (xs : List Pair) (t : Bool) → is_done flags ≡ t → restored_end flags s xs ≡ (if t then None else Some (last_behind s (ssns_on xs)))
 end-of flags s xs t e = ap (λ b. if b then None else Some (last_behind s (ssns_on xs))) e
 
-module _ (base c s : ℕ) (exact : Bool) (ks : List ℕ) where
+module _ (most : ℕ) (some : 0 < most) (base c s : ℕ) (exact : Bool) (ks : List ℕ) where
   abbrev all : List Pair
   all = drop (s - c) (pairs_from base c ks)
 
@@ -75,7 +74,7 @@ module _ (base c s : ℕ) (exact : Bool) (ks : List ℕ) where
   left = drop (s - c) ks
 
   abbrev fits : Bool
-  fits = nat_le (length all) PAIRS
+  fits = nat_le (length all) most
 
   abbrev flags : Flags
   flags = flags_of fits false exact
@@ -84,35 +83,35 @@ module _ (base c s : ℕ) (exact : Bool) (ks : List ℕ) where
   all-is = drop-pairs base c (s - c) ks
 
   -- the first page tells of all as far as it goes
-  pub pairs-told : (ssn : ℕ) → s < ssn → c < ssn → reaches (restored_end flags s (take PAIRS all)) ssn ≡ true → first_number (pairs_from base c ks) ssn ≡ first_number (take PAIRS all) ssn
+  pub pairs-told : (ssn : ℕ) → s < ssn → c < ssn → reaches (restored_end flags s (take most all)) ssn ≡ true → first_number (pairs_from base c ks) ssn ≡ first_number (take most all) ssn
   pairs-told ssn above behind reach = by_end fits refl
     where
       here : first_number (pairs_from base c ks) ssn ≡ first_number all ssn
       here = sym (drop-first base c (s - c) ssn ks (omega (arith, above, behind))) ∙ ap (λ xs. first_number xs ssn) (sym all-is)
 
-      by_end : (t : Bool) → fits ≡ t → first_number (pairs_from base c ks) ssn ≡ first_number (take PAIRS all) ssn
-      by_end true e = let few : length all ≤ PAIRS = below (length all) PAIRS e in here ∙ ap (λ xs. first_number xs ssn) (sym (take_all PAIRS all few))
+      by_end : (t : Bool) → fits ≡ t → first_number (pairs_from base c ks) ssn ≡ first_number (take most all) ssn
+      by_end true e = let few : length all ≤ most = below (length all) most e in here ∙ ap (λ xs. first_number xs ssn) (sym (take_all most all few))
       by_end false e =
           let P : Option ℕ → Type 0 = λ o. reaches o ssn ≡ true in
-          let end : nat_le ssn (last_behind s (ssns_on (take PAIRS all))) ≡ true = subst P (end-of flags s (take PAIRS all) false (done-is fits false exact ∙ e)) reach in
-          let low : ssn ≤ last_behind s (ssns_on (take PAIRS all)) = below ssn (last_behind s (ssns_on (take PAIRS all))) end in
-          let Q : List Pair → Type 0 = λ xs. ssn ≤ last_behind s (ssns_on (take PAIRS xs)) in
-          here ∙ ap (λ xs. first_number xs ssn) all-is ∙ sym (take-first base from PAIRS ssn s left (omega (arith, above, behind)) above (subst Q all-is low)) ∙ ap (λ xs. first_number (take PAIRS xs) ssn) (sym all-is)
+          let end : nat_le ssn (last_behind s (ssns_on (take most all))) ≡ true = subst P (end-of flags s (take most all) false (done-is fits false exact ∙ e)) reach in
+          let low : ssn ≤ last_behind s (ssns_on (take most all)) = below ssn (last_behind s (ssns_on (take most all))) end in
+          let Q : List Pair → Type 0 = λ xs. ssn ≤ last_behind s (ssns_on (take most xs)) in
+          here ∙ ap (λ xs. first_number xs ssn) all-is ∙ sym (take-first base from most ssn s left (omega (arith, above, behind)) above (subst Q all-is low)) ∙ ap (λ xs. first_number (take most xs) ssn) (sym all-is)
 
   -- a page that doesn't go to the end goes on
-  pub pairs-go : (v : ℕ) → restored_end flags s (take PAIRS all) ≡ Some v → s < v
+  pub pairs-go : (v : ℕ) → restored_end flags s (take most all) ≡ Some v → s < v
   pairs-go v e = by_end fits refl
     where
       by_end : (t : Bool) → fits ≡ t → s < v
-      by_end true f = absurd (let g : restored_end flags s (take PAIRS all) ≡ None = end-of flags s (take PAIRS all) true (done-is fits false exact ∙ f) in cc (g, e))
+      by_end true f = absurd (let g : restored_end flags s (take most all) ≡ None = end-of flags s (take most all) true (done-is fits false exact ∙ f) in cc (g, e))
       by_end false f =
-          let g : restored_end flags s (take PAIRS all) ≡ Some (last_behind s (ssns_on (take PAIRS all))) = end-of flags s (take PAIRS all) false (done-is fits false exact ∙ f) in
-          let last : last_behind s (ssns_on (take PAIRS all)) ≡ v = cc (g, e) in
-          let many : PAIRS < length all = beyond (length all) PAIRS f in
+          let g : restored_end flags s (take most all) ≡ Some (last_behind s (ssns_on (take most all))) = end-of flags s (take most all) false (done-is fits false exact ∙ f) in
+          let last : last_behind s (ssns_on (take most all)) ≡ v = cc (g, e) in
+          let many : most < length all = beyond (length all) most f in
           let long : 0 < length left = omega (arith, many, length-cut base c (s - c) ks, length-drop (s - c) ks) in
-          let first : s < last_behind s (ssns_on (take PAIRS (pairs_from base from left))) = first-last base from PAIRS s left (lit< tt) long (omega arith) in
-          let Q : List Pair → Type 0 = λ xs. s < last_behind s (ssns_on (take PAIRS xs)) in
-          let there : s < last_behind s (ssns_on (take PAIRS all)) = subst Q (sym all-is) first in
+          let first : s < last_behind s (ssns_on (take most (pairs_from base from left))) = first-last base from most s left some long (omega arith) in
+          let Q : List Pair → Type 0 = λ xs. s < last_behind s (ssns_on (take most xs)) in
+          let there : s < last_behind s (ssns_on (take most all)) = subst Q (sym all-is) first in
           omega (arith, last, there)
 
 -- ---- what a node received

@@ -232,10 +232,10 @@ calls-go f len s c (k ∷ ks) h m =
     }
 
 pub calls-run : CallsRun
-calls-run f n len calls few m =
+calls-run f n limits len calls few m =
     let g : Handlers = handlers_of f len in
-    let s : System = new_system n len g in
-    let begins : Holds g s (opening n g) = record { stand = λ p some low. stands-opened p n (len p) g some low (record { state_is = refl; sends_are = λ d. refl }); outside = outside-self (opening n g); given = tt; handlers = refl } in
+    let s : System = new_system n limits len g in
+    let begins : Holds g s (opening n g) = record { stand = λ p some low. stands-opened (limits p) p n (len p) g some low (record { state_is = refl; sends_are = λ d. refl }); outside = outside-self (opening n g); given = tt; handlers = refl } in
     let all = calls-go f len s (opening n g) calls begins m in
     let keeps = nodes-keep n g all.acts few (grows f len) all.run in
     record {

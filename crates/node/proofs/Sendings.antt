@@ -12,11 +12,10 @@ use Rattle.theorems.proofs.Tests.{different}
 use Rattle.cluster.specs.Parcels.{Delivery}
 use Rattle.cluster.specs.Cluster.{Cluster, seen}
 use Rattle.packets.specs.declared.packet.Body.TheVariants as packets
-use Rattle.node.specs.declared.node.TheConstants.{TICK}
 use Rattle.node.specs.Queue.{TheQueue, payload_of, number_of, leading, released_by}
 use Rattle.node.specs.Node.{TheNode, log_at, tells, covered_of}
-use Rattle.node.specs.Sending.{delivers, sends, first_to_send, many_to_send, sends_on, run_at, unlocked, released_to, released_below, released, resends, resent, is_told_at, renumbers, renumbered, ticked_below, ticked}
-use Rattle.node.specs.Stands.{Stands, KeepsOf, IsShut, sent_by, Acts}
+use Rattle.node.specs.Sending.{delivers, sends, first_to_send, many_to_send, sends_on, run_at, freed, unlocked, released_to, released_below, released, resends, resent, is_told_at, renumbers, renumbered, ticked_below, ticked}
+use Rattle.node.specs.Stands.{Stands, KeepsOf, IsShut, sent_by, freed_in, most_released, Acts}
 use Rattle.node.proofs.Lists.{get-behind}
 use Rattle.node.proofs.Logs.{changed-at, leading-bound, leading-split, leading-none}
 use Rattle.node.proofs.Putting.{stands-well, posted}
@@ -81,7 +80,37 @@ run-is n c p s =
     let many : length (c.history p) ≡ n.base + length n.receipts.acknowledged = omega (arith, long n.count n.base n.covered n.receipts (c.history p) (c.acknowledged p) r, r.flags) in
     run-behind n.receipts.acknowledged (c.acknowledged p) n.base (length (c.history p)) many r.below (λ k l. r.acknowledged_is k (omega (arith, l, r.flags)))
 
--- What the acknowledged numbers let go
+-- what is let go, as the cluster has it
+freed-is : (n : TheNode) (c : Cluster) (p : ℕ) → Stands n c p → freed n ≡ freed_in n.limits.durable c p
+freed-is n c p s = by_durable n.limits.durable
+  where
+    by_durable : (durable : Bool) → (if durable then n.base else run_at n) ≡ freed_in durable c p
+    by_durable true = sym s.saved
+    by_durable false = run-is n c p s
+
+freed-within : (n : TheNode) (c : Cluster) (p : ℕ) → Stands n c p → freed_in n.limits.durable c p ≤ length (c.history p)
+freed-within n c p s = by_durable n.limits.durable
+  where
+    by_durable : (durable : Bool) → freed_in durable c p ≤ length (c.history p)
+    by_durable true = omega (arith, s.saved, long n.count n.base n.covered n.receipts (c.history p) (c.acknowledged p) s.received)
+    by_durable false = (run_to-is (c.acknowledged p) (length (c.history p))).0
+
+-- that may be released, and is in the cluster
+freed-most : (n : TheNode) (c : Cluster) (p d : ℕ) → Stands n c p → sent_by c.handlers p (c.history p) d (freed_in n.limits.durable c p) ≤ most_released n.limits.durable c p d
+freed-most n c p d s = by_durable n.limits.durable (s.free d)
+  where
+    by_durable : (durable : Bool) → sent_by c.handlers p (c.history p) d (freed_in durable c p) ≤ c.released p d → sent_by c.handlers p (c.history p) d (freed_in durable c p) ≤ most_released durable c p d
+    by_durable true f = omega arith
+    by_durable false f = f
+
+most-in : (n : TheNode) (c : Cluster) (p d : ℕ) → Stands n c p → most_released n.limits.durable c p d ≤ c.released p d
+most-in n c p d s = by_durable n.limits.durable (s.free d)
+  where
+    by_durable : (durable : Bool) → sent_by c.handlers p (c.history p) d (freed_in durable c p) ≤ c.released p d → most_released durable c p d ≤ c.released p d
+    by_durable true f = f
+    by_durable false f = omega arith
+
+-- What is let go
 shut-released : (q : TheQueue) (run n released : ℕ) (sent : ℕ → ℕ) → run ≤ n → sent run ≤ released → IsShut q n released sent → IsShut (released_by run q) n released sent
 shut-released q run n released sent within free s =
     record {
@@ -112,16 +141,15 @@ unlocks n to wide c s u =
         saved = s.saved;
         received = s.received;
         waits = s.waits;
-        logs = λ d l o. changed-at (λ q. KeepsOf q (c.trims n.me d) (c.handlers.sends n.me (c.history n.me) d) (c.numbers n.me d)) n.logs to (released_by (run_at n) (log_at n.logs to)) d wide
-            (λ same. let P : ℕ → Type 0 = λ z. KeepsOf (released_by (run_at n) (log_at n.logs z)) (c.trims n.me d) (c.handlers.sends n.me (c.history n.me) d) (c.numbers n.me d) in
+        logs = λ d l o. changed-at (λ q. KeepsOf q (c.trims n.me d) (c.handlers.sends n.me (c.history n.me) d) (c.numbers n.me d)) n.logs to (released_by (freed n) (log_at n.logs to)) d wide
+            (λ same. let P : ℕ → Type 0 = λ z. KeepsOf (released_by (freed n) (log_at n.logs z)) (c.trims n.me d) (c.handlers.sends n.me (c.history n.me) d) (c.numbers n.me d) in
             let k = s.logs d l o in subst P same (record { before = k.before; many = k.many; joined = k.joined; dropped_is = k.dropped_is; as_many = k.as_many; numbers_are = k.numbers_are; beyond = k.beyond }))
             (λ apart. s.logs d l o);
-        gates = λ d l o. changed-at (λ q. IsShut q (length (c.history n.me)) (c.released n.me d) (sent_by c.handlers n.me (c.history n.me) d)) n.logs to (released_by (run_at n) (log_at n.logs to)) d wide
-            (λ same. let P : ℕ → Type 0 = λ z. IsShut (released_by (run_at n) (log_at n.logs z)) (length (c.history n.me)) (c.released n.me d) (sent_by c.handlers n.me (c.history n.me) d) in
-            let run = run-is n c n.me s in
-            let end = run_to-is (c.acknowledged n.me) (length (c.history n.me)) in
-            let free : sent_by c.handlers n.me (c.history n.me) d (run_at n) ≤ c.released n.me d = omega (arith, ap (sent_by c.handlers n.me (c.history n.me) d) run, s.free d) in
-            subst P same (shut-released (log_at n.logs d) (run_at n) (length (c.history n.me)) (c.released n.me d) (sent_by c.handlers n.me (c.history n.me) d) (omega (arith, run, end.0)) free (s.gates d l o)))
+        gates = λ d l o. changed-at (λ q. IsShut q (length (c.history n.me)) (most_released n.limits.durable c n.me d) (sent_by c.handlers n.me (c.history n.me) d)) n.logs to (released_by (freed n) (log_at n.logs to)) d wide
+            (λ same. let P : ℕ → Type 0 = λ z. IsShut (released_by (freed n) (log_at n.logs z)) (length (c.history n.me)) (most_released n.limits.durable c n.me d) (sent_by c.handlers n.me (c.history n.me) d) in
+            let is = freed-is n c n.me s in
+            let free : sent_by c.handlers n.me (c.history n.me) d (freed n) ≤ most_released n.limits.durable c n.me d = omega (arith, ap (sent_by c.handlers n.me (c.history n.me) d) is, freed-most n c n.me d s) in
+            subst P same (shut-released (log_at n.logs d) (freed n) (length (c.history n.me)) (most_released n.limits.durable c n.me d) (sent_by c.handlers n.me (c.history n.me) d) (omega (arith, is, freed-within n c n.me s)) free (s.gates d l o)))
             (λ apart. s.gates d l o);
         free = s.free;
         heard = s.heard;
@@ -147,9 +175,8 @@ delivery n to ssn low other above free c s u =
     out : ssn ≤ released_of (seen c) n.me to
     out =
         let inner : (n.me == 0) ≡ false = (let z : 0 < n.me = s.inside.0 in grind (arith, nat_tests)) in
-        let run = run_to-is (c.acknowledged n.me) (length (c.history n.me)) in
-        let w = (s.gates to within other).waits (run_to (c.acknowledged n.me) (length (c.history n.me))) run.0 in
-        rw inner (omega (arith, w, s.free to, free))
+        let w = (s.gates to within other).waits (freed_in n.limits.durable c n.me) (freed-within n c n.me s) in
+        rw inner (omega (arith, w, freed-most n c n.me to s, most-in n c n.me to s, free))
 
     kept : c.trims n.me to < ssn
     kept = let k = s.logs to within other in omega (arith, above, k.dropped_is)
@@ -183,10 +210,10 @@ sending-on n to above low other = by_room (nat_le (first_to_send above (log_at n
     by_room : (b : Bool) → nat_le (first_to_send above (log_at n.logs to)) (log_at n.logs to).released ≡ b → Acts n (sends_on to above n)
     by_room true e =
         let room : first_to_send above (log_at n.logs to) ≤ (log_at n.logs to).released = grind (arith, nat_tests) in
-        sending n to (first_to_send above (log_at n.logs to)) (many_to_send above (log_at n.logs to)) low other (omega arith) (omega (arith, room))
+        sending n to (first_to_send above (log_at n.logs to)) (many_to_send n.limits.tick above (log_at n.logs to)) low other (omega arith) (omega (arith, room))
     by_room false e =
         let past : (log_at n.logs to).released < first_to_send above (log_at n.logs to) = grind (arith, nat_tests) in
-        let none : many_to_send above (log_at n.logs to) ≡ 0 = omega (arith, past) in
+        let none : many_to_send n.limits.tick above (log_at n.logs to) ≡ 0 = omega (arith, past) in
         let P : ℕ → Type 0 = λ z. Acts n (sends to (first_to_send above (log_at n.logs to)) z n) in
         subst P (sym none) (acts-self n)
 
@@ -211,8 +238,8 @@ kept-only a b e = record { me = ap (λ (z : TheNode). z.me) e; count = ap (λ (z
 pub kept-released-to : (n : TheNode) (to : ℕ) → Kept n (released_to to n)
 kept-released-to n to =
     let m = unlocked to n in
-    kept-then n m (released_to to n) (record { me = refl; count = refl; wide = length-set n.logs to (released_by (run_at n) (log_at n.logs to)); receipts = refl; covered = refl })
-    (kept-only m (released_to to n) (only-sends to (first_to_send (log_at n.logs to).released (log_at m.logs to)) (many_to_send (log_at n.logs to).released (log_at m.logs to)) m))
+    kept-then n m (released_to to n) (record { me = refl; count = refl; wide = length-set n.logs to (released_by (freed n) (log_at n.logs to)); receipts = refl; covered = refl })
+    (kept-only m (released_to to n) (only-sends to (first_to_send (log_at n.logs to).released (log_at m.logs to)) (many_to_send m.limits.tick (log_at n.logs to).released (log_at m.logs to)) m))
 
 pub kept-released : (n : TheNode) (me d : ℕ) → Kept n (released_below me d n)
 kept-released n me zero = record { me = refl; count = refl; wide = refl; receipts = refl; covered = refl }
@@ -254,11 +281,11 @@ resending n to low other = by_room (nat_le (log_at n.logs to).dropped (log_at n.
     by_room : (b : Bool) → nat_le (log_at n.logs to).dropped (log_at n.logs to).released ≡ b → Acts n (resent to n)
     by_room true e =
         let room : (log_at n.logs to).dropped ≤ (log_at n.logs to).released = grind (arith, nat_tests) in
-        resending-on to (log_at n.logs to).dropped ((log_at n.logs to).released - (log_at n.logs to).dropped) TICK n low other (omega arith) (omega (arith, room))
+        resending-on to (log_at n.logs to).dropped ((log_at n.logs to).released - (log_at n.logs to).dropped) n.limits.tick n low other (omega arith) (omega (arith, room))
     by_room false e =
         let past : (log_at n.logs to).released < (log_at n.logs to).dropped = grind (arith, nat_tests) in
         let none : (log_at n.logs to).released - (log_at n.logs to).dropped ≡ 0 = omega (arith, past) in
-        let P : ℕ → Type 0 = λ z. Acts n (resends to (log_at n.logs to).dropped z TICK n) in
+        let P : ℕ → Type 0 = λ z. Acts n (resends to (log_at n.logs to).dropped z n.limits.tick n) in
         subst P (sym none) (acts-self n)
 
 pub only-renumbers : (to place k left : ℕ) (n : TheNode) → OnlyPosts n (renumbers to place k left n)
@@ -285,21 +312,21 @@ renumbering n to low other = by_room (nat_le (run_of (acknowledged_of to n.recei
     by_room : (b : Bool) → nat_le (run_of (acknowledged_of to n.receipts)) (length (numbers_of to n.receipts)) ≡ b → Acts n (renumbered to n)
     by_room true e =
         let room : run_of (acknowledged_of to n.receipts) ≤ length (numbers_of to n.receipts) = grind (arith, nat_tests) in
-        renumbering-on to (run_of (acknowledged_of to n.receipts)) (length (numbers_of to n.receipts) - run_of (acknowledged_of to n.receipts)) TICK n low other (omega (arith, room))
+        renumbering-on to (run_of (acknowledged_of to n.receipts)) (length (numbers_of to n.receipts) - run_of (acknowledged_of to n.receipts)) n.limits.tick n low other (omega (arith, room))
     by_room false e =
         let past : length (numbers_of to n.receipts) < run_of (acknowledged_of to n.receipts) = grind (arith, nat_tests) in
         let none : length (numbers_of to n.receipts) - run_of (acknowledged_of to n.receipts) ≡ 0 = omega (arith, past) in
-        let P : ℕ → Type 0 = λ z. Acts n (renumbers to (run_of (acknowledged_of to n.receipts)) z TICK n) in
+        let P : ℕ → Type 0 = λ z. Acts n (renumbers to (run_of (acknowledged_of to n.receipts)) z n.limits.tick n) in
         subst P (sym none) (acts-self n)
 
 pub only-resent : (to : ℕ) (n : TheNode) → OnlyPosts n (resent to n)
-only-resent to n = only-resends to (log_at n.logs to).dropped ((log_at n.logs to).released - (log_at n.logs to).dropped) TICK n
+only-resent to n = only-resends to (log_at n.logs to).dropped ((log_at n.logs to).released - (log_at n.logs to).dropped) n.limits.tick n
 
 pub kept-served : (n : TheNode) (to : ℕ) → Kept n (renumbered to (resent to n))
 kept-served n to =
     let m = resent to n in
-    kept-then n m (renumbered to m) (kept-only n m (only-resends to (log_at n.logs to).dropped ((log_at n.logs to).released - (log_at n.logs to).dropped) TICK n))
-    (kept-only m (renumbered to m) (only-renumbers to (run_of (acknowledged_of to m.receipts)) (length (numbers_of to m.receipts) - run_of (acknowledged_of to m.receipts)) TICK m))
+    kept-then n m (renumbered to m) (kept-only n m (only-resends to (log_at n.logs to).dropped ((log_at n.logs to).released - (log_at n.logs to).dropped) n.limits.tick n))
+    (kept-only m (renumbered to m) (only-renumbers to (run_of (acknowledged_of to m.receipts)) (length (numbers_of to m.receipts) - run_of (acknowledged_of to m.receipts)) m.limits.tick m))
 
 pub kept-ticked : (n : TheNode) (me d : ℕ) → Kept n (ticked_below me d n)
 kept-ticked n me zero = record { me = refl; count = refl; wide = refl; receipts = refl; covered = refl }
@@ -311,7 +338,7 @@ ticking-below n zero low = acts-self n
 ticking-below n (suc d) low = by-if (Acts n) (d == n.me) (ticked_below n.me d n) (renumbered d (resent d (ticked_below n.me d n))) (λ e. ticking-below n d (omega (arith, low)))
     (λ e. let m = ticked_below n.me d n in
     let k = kept-ticked n n.me d in
-    let o = kept-only m (resent d m) (only-resends d (log_at m.logs d).dropped ((log_at m.logs d).released - (log_at m.logs d).dropped) TICK m) in
+    let o = kept-only m (resent d m) (only-resends d (log_at m.logs d).dropped ((log_at m.logs d).released - (log_at m.logs d).dropped) m.limits.tick m) in
     let apart : d ≢ n.me = different d n.me e in
     acts-then n m (renumbered d (resent d m)) (ticking-below n d (omega (arith, low)))
     (acts-then m (resent d m) (renumbered d (resent d m)) (resending m d (omega (arith, low, k.count)) (λ f. apart (f ∙ k.me)))

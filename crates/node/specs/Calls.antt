@@ -1,12 +1,11 @@
 -- What the calls make of a node
 use Rattle.std.specs.Prelude.{ℕ, ◌+◌, ◌-◌, List, length, Option, Some, None, is_some, Bool, false, not, ◌&&◌, ◌||◌, ◌==◌, nat_lt, nat_le, if◌then◌else◌, slice_index_or, slice_set}
 use Rattle.rsn.specs.Receipts.{numbers_of}
-use Rattle.rsn.specs.declared.receipts.TheConstants.{LIMIT}
 use Rattle.packets.specs.declared.packet.Body.{Body}
 use Rattle.packets.specs.declared.packet.Body.TheVariants.{Delivery, Number, Acknowledgement, Ask, Resume, Saved}
 use Rattle.packets.specs.declared.packet.Packet.{Packet}
 use Rattle.packets.specs.Packet.{in_range}
-use Rattle.node.specs.declared.node.TheConstants.{WINDOW, MOST_RECEIVED}
+use Rattle.node.specs.declared.node.TheConstants.{MOST_RECEIVED}
 use Rattle.node.specs.declared.job.OpenJob.{OpenJob}
 use Rattle.node.specs.declared.job.Given.{Given}
 use Rattle.node.specs.Queue.{is_kept, dropped_to}
@@ -16,7 +15,7 @@ use Rattle.node.specs.Asking.{asked_by, resumed_by}
 
 -- whether there is room for one message more
 abbrev pub takes_more : TheNode → Bool
-takes_more n = nat_lt n.waiting WINDOW && nat_lt (length n.receipts.senders) LIMIT && nat_lt (n.base + length n.receipts.senders) MOST_RECEIVED
+takes_more n = nat_lt n.waiting n.limits.numbers && nat_lt (length n.receipts.senders) n.limits.receipts && nat_lt (n.base + length n.receipts.senders) MOST_RECEIVED
 
 -- a message of a sender comes: it is dropped, answered where it was received before, or a job is open
 abbrev pub delivered : ℕ → ℕ → ℕ → List ℕ → TheNode → TheNode

@@ -1,3 +1,4 @@
+pub mod Limit
 pub mod Queue
 pub mod Node
 pub mod Sending

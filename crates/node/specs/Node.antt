@@ -10,6 +10,8 @@ use Rattle.packets.specs.Packet.{in_range}
 use Rattle.packets.specs.Format.{HasRoom, Fits}
 use Rattle.node.specs.Queue.{TheQueue, no_queue, appended, recorded}
 use Rattle.outbox.specs.Outbox.{pushed}
+use Rattle.node.specs.declared.limit.Limits.{Limits}
+use Rattle.node.specs.Limit.{AreAllowed}
 use Rattle.node.specs.declared.job.OpenJob.{OpenJob}
 use Rattle.node.specs.declared.job.Given.{Given}
 use Rattle.node.specs.declared.node.TheConstants.{MOST_GIVEN, MOST_RECEIVED}
@@ -38,11 +40,12 @@ pub record FromPeers (me count base : ℕ) (covered senders : List ℕ) : Type 0
   pub none_own : slice_index_or covered me 0 ≡ 0
   pub behind : AllByRecursion (IsPeer me count) senders
 
--- its number, and how many processes there are; its incarnation; its state; how many messages its checkpoint covers, and how many of
+-- its limits; its number, and how many processes there are; its incarnation; its state; how many messages its checkpoint covers, and how many of
 -- these are of each sender; what it received behind these; by destination the messages that it keeps; how many of its numbers aren't
 -- acknowledged; by peer the greatest incarnation that it heard of, and whether it obeyed the Resume of that one; whether failures came one
 -- at a time, as far as it knows; the open job; whether it waits until its checkpoint is durable; the packets to be taken
 pub record TheNode : Type 0 where
+  pub limits : Limits
   pub me : ℕ
   pub count : ℕ
   pub life : ℕ
@@ -65,7 +68,8 @@ log_at logs d = slice_index_or logs d no_queue
 
 -- what the node's own numbers keep, whatever the cluster is: no more than sixteen messages to each for each that was received; and no job is
 -- open while it is frozen
-pub record IsWithin (me count base : ℕ) (covered heard : List ℕ) (resumed : List Bool) (receipts : Received) (logs : List TheQueue) (working : Option OpenJob) (frozen : Bool) (waiting life : ℕ) (out : List Packet) : Type 0 where
+pub record IsWithin (limits : Limits) (me count base : ℕ) (covered heard : List ℕ) (resumed : List Bool) (receipts : Received) (logs : List TheQueue) (working : Option OpenJob) (frozen : Bool) (waiting life : ℕ) (out : List Packet) : Type 0 where
+  pub allowed : AreAllowed limits
   pub inside : 1 ≤ me
   pub within : me ≤ count
   pub few : count ≤ 15
@@ -89,7 +93,7 @@ pub record IsWithin (me count base : ℕ) (covered heard : List ℕ) (resumed : 
 
 -- this node's numbers do
 abbrev pub Within : TheNode → Type 0
-Within n = IsWithin n.me n.count n.base n.covered n.heard n.resumed n.receipts n.logs n.working n.frozen n.waiting n.life n.out
+Within n = IsWithin n.limits n.me n.count n.base n.covered n.heard n.resumed n.receipts n.logs n.working n.frozen n.waiting n.life n.out
 
 -- how many messages of a peer its checkpoint covers
 abbrev pub covered_of : ℕ → TheNode → ℕ
@@ -147,10 +151,11 @@ numbered d ssn k n = record n { logs = slice_set n.logs d (recorded ssn k (log_a
 abbrev pub counted : ℕ → TheNode → TheNode
 counted k n = record n { receipts = acknowledged k n.receipts; waiting = n.waiting - 1 }
 
--- a node that received nothing, with a state of so many zeros
-abbrev pub new_node : ℕ → ℕ → ℕ → TheNode
-new_node me count len =
+-- a node with these limits that received nothing, with a state of so many zeros
+abbrev pub new_node : Limits → ℕ → ℕ → ℕ → TheNode
+new_node limits me count len =
     record {
+      limits = limits;
       me = me;
       count = count;
       life = 1;

@@ -9,6 +9,7 @@ use Rattle.cluster.specs.Parcels.{Body, Ask, Resume, Parcel, parcel}
 use Rattle.cluster.specs.Cluster.{Cluster, opening}
 use Rattle.cluster.specs.Rules.{Act, Input, Puts, Shows, Records, Drops, Hears, Obeys, May, does, Run, after_run}
 use Rattle.cluster.specs.Promises.{NoOrphanNode, OutputOnce, ReceivedOnce}
+use Rattle.node.specs.declared.limit.Limits.{Limits}
 use Rattle.node.specs.declared.job.OpenJob.{OpenJob}
 use Rattle.node.specs.declared.job.Given.{Given}
 use Rattle.node.specs.Node.{TheNode, new_node}
@@ -46,9 +47,9 @@ pub record System : Type 0 where
   pub outside : Cluster
   pub given : List Packet
 
--- n new nodes, and a gateway
-abbrev pub new_system : ℕ → (ℕ → ℕ) → Handlers → System
-new_system n len f = record { nodes = λ p. new_node p n (len p); outside = opening n f; given = [] }
+-- n new nodes, each with its limits, and a gateway
+abbrev pub new_system : ℕ → (ℕ → Limits) → (ℕ → ℕ) → Handlers → System
+new_system n limits len f = record { nodes = λ p. new_node (limits p) p n (len p); outside = opening n f; given = [] }
 
 -- a call of a node that isn't refused, and what the node is then; or an act of the gateway
 pub data Call : Type 0 where
@@ -138,7 +139,7 @@ pub record IsRunOf (n : ℕ) (f : Handlers) (s : System) : Type 0 where
   pub output_once : OutputOnce (after_run (opening n f) acts)
   pub received_once : ReceivedOnce (after_run (opening n f) acts)
 
--- calls of nodes in any order, with packets handed over late, twice or never, are a run of a cluster
+-- calls of nodes in any order, some of them durable or none, with packets handed over late, twice or never, are a run of a cluster
 abbrev pub CallsRun : Type 0
-CallsRun = (f : Answering) (n : ℕ) (len : ℕ → ℕ) (calls : List Call) → n ≤ 15 → Calls f (new_system n len (handlers_of f len)) calls
-    → IsRunOf n (handlers_of f len) (after_calls (new_system n len (handlers_of f len)) calls)
+CallsRun = (f : Answering) (n : ℕ) (limits : ℕ → Limits) (len : ℕ → ℕ) (calls : List Call) → n ≤ 15 → Calls f (new_system n limits len (handlers_of f len)) calls
+    → IsRunOf n (handlers_of f len) (after_calls (new_system n limits len (handlers_of f len)) calls)

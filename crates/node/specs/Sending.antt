@@ -2,7 +2,6 @@
 use Rattle.std.specs.Prelude.{ℕ, zero, suc, ◌+◌, ◌-◌, length, is_none, max, min, Bool, false, ◌==◌, if◌then◌else◌, slice_index_or, slice_set}
 use Rattle.rsn.specs.Receipts.{numbers_of, acknowledged_of, run_of}
 use Rattle.packets.specs.declared.packet.Body.TheVariants.{Delivery}
-use Rattle.node.specs.declared.node.TheConstants.{TICK}
 use Rattle.node.specs.Queue.{TheQueue, payload_of, number_of, released_by}
 use Rattle.node.specs.Node.{TheNode, log_at, posts, tells, covered_of}
 
@@ -19,20 +18,25 @@ sends to first (suc k) n = delivers to (first + k + 1) (sends to first k n)
 abbrev pub first_to_send : ℕ → TheQueue → ℕ
 first_to_send above q = max q.dropped above
 
-abbrev pub many_to_send : ℕ → TheQueue → ℕ
-many_to_send above q = min (q.released - first_to_send above q) TICK
+abbrev pub many_to_send : ℕ → ℕ → TheQueue → ℕ
+many_to_send tick above q = min (q.released - first_to_send above q) tick
 
 -- these are sent
 abbrev pub sends_on : ℕ → ℕ → TheNode → TheNode
-sends_on to above n = sends to (first_to_send above (log_at n.logs to)) (many_to_send above (log_at n.logs to)) n
+sends_on to above n = sends to (first_to_send above (log_at n.logs to)) (many_to_send n.limits.tick above (log_at n.logs to)) n
 
 -- all numbers up to this one are acknowledged
 abbrev pub run_at : TheNode → ℕ
 run_at n = n.base + run_of n.receipts.acknowledged
 
+-- what the messages up to this number sent may leave: of a durable node those that its checkpoint covers, of another those whose numbers are
+-- acknowledged
+abbrev pub freed : TheNode → ℕ
+freed n = if n.limits.durable then n.base else run_at n
+
 -- what waits for these is released
 abbrev pub unlocked : ℕ → TheNode → TheNode
-unlocked to n = record n { logs = slice_set n.logs to (released_by (run_at n) (log_at n.logs to)) }
+unlocked to n = record n { logs = slice_set n.logs to (released_by (freed n) (log_at n.logs to)) }
 
 -- and the first of it is sent
 abbrev pub released_to : ℕ → TheNode → TheNode
@@ -55,7 +59,7 @@ resends to s (suc k) (suc left) n =
 
 -- those that are released are sent again
 abbrev pub resent : ℕ → TheNode → TheNode
-resent to n = resends to (log_at n.logs to).dropped ((log_at n.logs to).released - (log_at n.logs to).dropped) TICK n
+resent to n = resends to (log_at n.logs to).dropped ((log_at n.logs to).released - (log_at n.logs to).dropped) n.limits.tick n
 
 -- whether the number of a peer's message is acknowledged
 abbrev pub is_told_at : ℕ → ℕ → TheNode → Bool
@@ -70,7 +74,7 @@ renumbers to place (suc k) (suc left) n =
 
 -- a peer's numbers are told again
 abbrev pub renumbered : ℕ → TheNode → TheNode
-renumbered to n = renumbers to (run_of (acknowledged_of to n.receipts)) (length (numbers_of to n.receipts) - run_of (acknowledged_of to n.receipts)) TICK n
+renumbered to n = renumbers to (run_of (acknowledged_of to n.receipts)) (length (numbers_of to n.receipts) - run_of (acknowledged_of to n.receipts)) n.limits.tick n
 
 -- what isn't answered is sent again, to each peer below d
 abbrev pub ticked_below : ℕ → ℕ → TheNode → TheNode

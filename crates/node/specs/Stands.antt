@@ -82,6 +82,15 @@ pub record KeepsOf (q : TheQueue) (dropped : ℕ) (payloads : List Payload) (num
 abbrev pub sent_by : Handlers → ℕ → List Message → ℕ → ℕ → ℕ
 sent_by f p h d k = length (f.sends p (take k h) d)
 
+-- the number up to which the messages let go what they sent: of a durable node those that its checkpoint covers, of another those that are
+-- acknowledged without a gap
+abbrev pub freed_in : Bool → Cluster → ℕ → ℕ
+freed_in durable c p = if durable then c.saved p else run_to (c.acknowledged p) (length (c.history p))
+
+-- and how many to d it may have released: of a durable node those that its checkpoint covers sent, whatever else is acknowledged
+abbrev pub most_released : Bool → Cluster → ℕ → ℕ → ℕ
+most_released durable c p d = if durable then sent_by c.handlers p (c.history p) d (c.saved p) else c.released p d
+
 -- a queue has released no more than the first k of n messages let go, where these are acknowledged, nor will it
 pub record IsShut (q : TheQueue) (n released : ℕ) (sent : ℕ → ℕ) : Type 0 where
   pub within : q.released + length q.held ≤ q.dropped + length q.payloads
@@ -102,9 +111,9 @@ pub record Stands (n : TheNode) (c : Cluster) (p : ℕ) : Type 0 where
   pub received : HasReceived n.count n.base n.covered n.receipts (c.history p) (c.acknowledged p)
   pub waits : waiting c p ≡ n.waiting
   pub logs : (d : ℕ) → d ≤ c.count → d ≢ p → KeepsOf (log_at n.logs d) (c.trims p d) (c.handlers.sends p (c.history p) d) (c.numbers p d)
-  pub gates : (d : ℕ) → d ≤ c.count → d ≢ p → IsShut (log_at n.logs d) (length (c.history p)) (c.released p d) (sent_by c.handlers p (c.history p) d)
-  -- what the acknowledged numbers let go is released
-  pub free : (d : ℕ) → sent_by c.handlers p (c.history p) d (run_to (c.acknowledged p) (length (c.history p))) ≤ c.released p d
+  pub gates : (d : ℕ) → d ≤ c.count → d ≢ p → IsShut (log_at n.logs d) (length (c.history p)) (most_released n.limits.durable c p d) (sent_by c.handlers p (c.history p) d)
+  -- what is let go is released in the cluster
+  pub free : (d : ℕ) → sent_by c.handlers p (c.history p) d (freed_in n.limits.durable c p) ≤ c.released p d
   pub heard : (q : ℕ) → q ≤ c.count → c.heard p q ≡ slice_index_or n.heard q 0
   pub resumed : (q : ℕ) → q ≤ c.count → c.resumed p q ≡ slice_index_or n.resumed q true
   -- what waits to be taken was put out

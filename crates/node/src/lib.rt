@@ -12,11 +12,14 @@
 //! one node leave what the others stand for. So calls of nodes, in any order and with packets that
 //! come late, twice or never, are a run of a cluster, of which the promises of `cluster` hold.
 //!
+//! A node keeps the [`Limits`] with which it is opened. One that is durable sends only what its durable
+//! checkpoint covers: [`Node::saved`] releases it, and acknowledgements don't.
+//!
 //! A node answers peers that come back, by pages of its log and of what it received. It doesn't come
 //! back itself here.
 //!
 //! ```text
-//! let mut node = Node::open(alloc, 1, 2, 8)?;
+//! let mut node = Node::open(alloc, Limits::usual(), 1, 2, 8)?;
 //! node.receive(alloc, &packet)?;
 //! while let Some(packet) = node.take() {
 //!     send(packet);
@@ -29,6 +32,7 @@ mod bytes;
 mod job;
 mod kept;
 mod laws;
+mod limit;
 mod node;
 mod page;
 mod queue;
@@ -43,8 +47,9 @@ mod working;
 pub use job::{Given, OpenJob};
 pub use kept::MOST_KEPT;
 pub use laws::{calls_run, kept_stays, nodes_run, others_stand};
-pub use node::{MOST_GIVEN, MOST_RECEIVED, Node, TICK, WINDOW};
-pub use page::PAGE;
+pub use limit::{Limits, PAGE, TICK};
+pub use node::{MOST_GIVEN, MOST_RECEIVED, Node, WINDOW};
+pub use page::{PAIR_BYTES, RESTORED_BYTES};
 pub use queue::Queue;
 pub use reading::entries;
 pub use returning::Returned;

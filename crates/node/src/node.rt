@@ -1,12 +1,14 @@
 //! What a node holds in memory.
 
 ghost use Rattle.std.specs.Prelude.{◌≡◌, ◌≤◌, IfOk};
+ghost use Rattle.node.specs.Limit.{AreAllowed};
 ghost use Rattle.node.specs.Node.{new_node, posts, CanSay};
 ghost use Rattle.world.specs.Handlers.{Handlers};
 ghost use Rattle.cluster.specs.Cluster.{opening};
 ghost use Rattle.node.specs.Stands.{Stands, BeginsWith, Takes};
 
 use crate::job::OpenJob;
+use crate::limit::Limits;
 use crate::queue::Queue;
 use outbox::Outbox;
 use packets::{Body, Packet};
@@ -14,11 +16,8 @@ use rsn::Receipts;
 use std::alloc::{AllocError, Global};
 use std::marker::Model;
 
-/// With so many numbers that aren't acknowledged a node takes no message.
+/// With so many numbers that aren't acknowledged no node takes a message, whatever its limits are.
 pub const WINDOW: u32 = 256;
-
-/// So many messages, and as many numbers, one call sends again to a peer, at most.
-pub const TICK: u64 = 8;
 
 /// So many messages one message makes a handler give, at most: to others, and to the outside.
 pub const MOST_GIVEN: usize = 16;
@@ -31,6 +30,7 @@ pub const MOST_RECEIVED: u64 = 0x0400_0000_0000_0000;
 /// One process of a cluster.
 #[derive(Drop)]
 pub struct Node {
+    pub(crate) limits: Limits,
     pub(crate) me: u8,
     pub(crate) count: u8,
     pub(crate) life: u64,
@@ -61,17 +61,25 @@ impl Model for Node {
 
     ghost Value = { TheNode };
 
-    ghost view = { λ n. record { me = n.me; count = n.count; life = n.life; state = n.state.items; base = n.base; covered = n.covered.items; receipts = n.receipts; logs = n.logs.items; waiting = n.waiting; heard = n.heard.items; resumed = n.resumed.items; exact = n.exact; working = n.working; frozen = n.frozen; out = n.out } };
+    ghost view = { λ n. record { limits = n.limits; me = n.me; count = n.count; life = n.life; state = n.state.items; base = n.base; covered = n.covered.items; receipts = n.receipts; logs = n.logs.items; waiting = n.waiting; heard = n.heard.items; resumed = n.resumed.items; exact = n.exact; working = n.working; frozen = n.frozen; out = n.out } };
 
-    ghost invariant = { λ n. IsWithin n.me n.count n.base n.covered.items n.heard.items n.resumed.items n.receipts n.logs.items n.working n.frozen n.waiting n.life n.out };
+    ghost invariant = { λ n. IsWithin n.limits n.me n.count n.base n.covered.items n.heard.items n.resumed.items n.receipts n.logs.items n.working n.frozen n.waiting n.life n.out };
 }
 
 impl Node {
-    /// The process `me` of `count`, which received nothing, with a state of so many zeros.
-    pub fn open(alloc: Global, me: u8, count: u8, state_len: u16) -> Result<Node, AllocError>
+    /// The process `me` of `count`, which received nothing, with a state of so many zeros. It keeps
+    /// these limits for life.
+    pub fn open(
+        alloc: Global,
+        limits: Limits,
+        me: u8,
+        count: u8,
+        state_len: u16,
+    ) -> Result<Node, AllocError>
+        requires limits { AreAllowed limits }
         requires own { (1 ≤ me) × (me ≤ count) }
         requires few { count ≤ 15 }
-        ensures value { IfOk result (λ n. n ≡ new_node me count state_len) }
+        ensures value { IfOk result (λ n. n ≡ new_node limits me count state_len) }
         ensures stands { IfOk result (λ n. (f : Handlers) → BeginsWith f me state_len → Stands n (opening count f) me) }
     {
         let wide = count as usize + 1;
@@ -90,6 +98,7 @@ impl Node {
         let receipts = Receipts::new(alloc, &[])?;
         let out = Outbox::new(alloc)?;
         Ok(Node {
+            limits,
             me,
             count,
             life: 1,

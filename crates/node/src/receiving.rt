@@ -7,7 +7,7 @@ ghost use Rattle.node.specs.Calls.{delivered, recorded_by, acknowledged_by, drop
 ghost use Rattle.node.specs.Stands.{IsHanded};
 
 use crate::job::OpenJob;
-use crate::node::{MOST_RECEIVED, Node, WINDOW};
+use crate::node::{MOST_RECEIVED, Node};
 use helpers::Payload;
 use packets::{Body, Packet};
 use std::alloc::{AllocError, Global};
@@ -101,8 +101,8 @@ impl Node {
         ensures { result ≡ takes_more self.now }
     {
         let behind = self.receipts.length();
-        self.waiting < WINDOW
-            && behind < rsn::LIMIT as u32
+        self.waiting < self.limits.numbers
+            && behind < self.limits.receipts
             && self.base + u64::from(behind) < MOST_RECEIVED
     }
 
@@ -147,7 +147,7 @@ impl Node {
     }
 
     /// An acknowledgement came: the number `rsn` is in the log of its sender. What waited for it is
-    /// released.
+    /// released, unless the node is durable.
     fn receive_acknowledgement(&mut self, life: u64, rsn: u64)
         ensures { self.new ≡ acknowledged_by life rsn self.old }
     {

@@ -1,9 +1,10 @@
 //! A process that came back is a node again.
 
 ghost use Rattle.std.specs.Prelude.{◌≡◌, map};
-ghost use Rattle.node.specs.Queue.{released_all};
+ghost use Rattle.node.specs.Queue.{released_again};
 ghost use Rattle.node.specs.Returning.{AreWithin, node_of};
 
+use crate::limit::Limits;
 use crate::node::Node;
 use crate::queue::Queue;
 use outbox::Outbox;
@@ -13,6 +14,7 @@ use rsn::Receipts;
 /// that it received is acknowledged.
 #[derive(Drop)]
 pub struct Returned {
+    pub limits: Limits,
     pub me: u8,
     pub count: u8,
     pub life: u64,
@@ -34,12 +36,14 @@ pub struct Returned {
 }
 
 impl Node {
-    /// The node of a process that came back: it is up, and all that it sent is released.
+    /// The node of a process that came back: it is up, and what it sent is released, all of it, or if
+    /// it is durable what its checkpoint covers.
     pub fn returned(process: Returned) -> Node
         requires { AreWithin process }
         ensures { result ≡ node_of process }
     {
         let Returned {
+            limits,
             me,
             count,
             life,
@@ -53,8 +57,9 @@ impl Node {
             exact,
             out,
         } = process;
-        release_all(&mut logs);
+        release_again(&mut logs, limits.durable);
         Node {
+            limits,
             me,
             count,
             life,
@@ -74,11 +79,11 @@ impl Node {
     }
 }
 
-/// All that waits in these queues is released.
-fn release_all(logs: &mut Vec<Queue>)
-    ensures { logs.new.items ≡ map released_all logs.old.items }
+/// What waits in these queues is released, unless the node is durable.
+fn release_again(logs: &mut Vec<Queue>, durable: bool)
+    ensures { logs.new.items ≡ map (released_again durable) logs.old.items }
 {
     for place in 0..logs.len() {
-        logs[place].release_all();
+        logs[place].release_again(durable);
     }
 }

@@ -4,10 +4,10 @@ ghost use Rattle.std.specs.Prelude.{◌≡◌, ◌≤◌, ◌<◌, ◌+◌, ◌^
 ghost use Rattle.rsn.specs.Receipts.{numbers_of, acknowledged_of, run_of};
 ghost use Rattle.node.specs.Node.{IsPeer, log_at, covered_of};
 ghost use Rattle.node.specs.Queue.{is_kept, number_of};
-ghost use Rattle.node.specs.Sending.{delivers, first_to_send, many_to_send, sends_on, unlocked, released_to, released, resent, renumbered, is_told_at, ticked};
+ghost use Rattle.node.specs.Sending.{delivers, first_to_send, many_to_send, sends_on, freed, unlocked, released_to, released, resent, renumbered, is_told_at, ticked};
 ghost use Rattle.node.specs.Stands.{Acts};
 
-use crate::node::{MOST_RECEIVED, Node, TICK};
+use crate::node::{MOST_RECEIVED, Node};
 use packets::Body;
 
 impl Node {
@@ -38,7 +38,7 @@ impl Node {
         }
     }
 
-    /// What the acknowledged numbers let go is released, and the first of it is sent.
+    /// What is let go is released, and the first of it is sent.
     pub(crate) fn release(&mut self)
         ensures { self.new ≡ released self.old }
     {
@@ -58,17 +58,27 @@ impl Node {
         self.send(to, above);
     }
 
-    /// What the acknowledged numbers let go to a destination is released. Answers how many were
-    /// before.
+    /// What is let go to a destination is released. Answers how many were before.
     fn unlock(&mut self, to: u8) -> u64
         requires { to ≤ self.old.count }
         ensures before { result ≡ (log_at self.old.logs to).released }
         ensures after { self.new ≡ unlocked to self.old }
     {
-        let run = self.base + u64::from(self.receipts.run_length());
+        let freed = self.freed();
         let before = self.logs[to as usize].released();
-        self.logs[to as usize].release(run);
+        self.logs[to as usize].release(freed);
         before
+    }
+
+    /// The number up to which messages let go what they sent: of a durable node those that its
+    /// checkpoint covers, of another those whose numbers are acknowledged.
+    fn freed(&self) -> u64
+        ensures { result ≡ freed self.now }
+    {
+        if self.limits.durable {
+            return self.base;
+        }
+        self.base + u64::from(self.receipts.run_length())
     }
 
     /// The first messages behind this SSN are sent, as far as they are released.
@@ -86,13 +96,14 @@ impl Node {
     fn to_be_sent(&self, to: u8, above: u64) -> (u64, u64)
         requires { to ≤ self.now.count }
         ensures first { result.0 ≡ first_to_send above (log_at self.now.logs to) }
-        ensures many { result.1 ≡ many_to_send above (log_at self.now.logs to) }
+        ensures many { result.1 ≡ many_to_send self.now.limits.tick above (log_at self.now.logs to) }
         ensures sent { (log_at self.now.logs to).released ≤ (log_at self.now.logs to).dropped + length (log_at self.now.logs to).payloads }
         ensures small { (log_at self.now.logs to).dropped + length (log_at self.now.logs to).payloads < 2 ^ 63 }
     {
         let queue = &self.logs[to as usize];
         let first = queue.dropped().max(above);
-        let many = queue.released().saturating_sub(first).min(TICK);
+        let tick = u64::from(self.limits.tick);
+        let many = queue.released().saturating_sub(first).min(tick);
         (first, many)
     }
 
@@ -122,7 +133,7 @@ impl Node {
         ensures { self.new ≡ resent to self.old }
     {
         let (first, last) = self.released_span(to);
-        let mut left = TICK;
+        let mut left = self.limits.tick;
         for before in first..last {
             if left == 0 {
                 return;
@@ -161,7 +172,7 @@ impl Node {
         ensures { self.new ≡ renumbered to self.old }
     {
         let (first, last, covered) = self.told_span(to);
-        let mut left = TICK;
+        let mut left = self.limits.tick;
         for place in first..last {
             if left == 0 {
                 return;

@@ -1,5 +1,5 @@
 use limits::STATE_BYTES;
-use node::Node;
+use node::{Limits, Node};
 use std::alloc::Global;
 use std::test::Fail;
 
@@ -42,7 +42,7 @@ fn kept(alloc: Global, node: &Node) -> Result<Vec<u8>, Fail> {
 #[test]
 fn a_new_node_is_kept(rt: HostRuntime) -> Result<(), Fail> {
     let alloc = rt.alloc();
-    let node = Node::open(alloc, 1, 1, 0)?;
+    let node = Node::open(alloc, Limits::usual(), 1, 1, 0)?;
     assert_eq!(rt; kept(alloc, &node)?.as_slice(), NEW.as_slice());
     Ok(())
 }
@@ -50,7 +50,7 @@ fn a_new_node_is_kept(rt: HostRuntime) -> Result<(), Fail> {
 #[test]
 fn a_message_goes_through_a_node(rt: HostRuntime) -> Result<(), Fail> {
     let alloc = rt.alloc();
-    let mut node = Node::open(alloc, 1, 2, 2)?;
+    let mut node = Node::open(alloc, Limits::usual(), 1, 2, 2)?;
     node.receive_bytes(alloc, &DELIVERY)?;
     node.work(Vec::from_slice(alloc, &[7, 1])?, &[])?;
     let Some(number) = node.take_bytes(alloc)? else {

@@ -34,40 +34,42 @@ fn refusal_with(alloc: Global, place: usize, byte: u8) -> Result<u8, Fail> {
 
 #[test]
 fn what_is_kept_is_spelled(rt: HostRuntime) -> Result<(), Fail> {
-    let alloc = rt.alloc();
-    assert_eq!(rt; same_bytes_again(alloc, &KEPT)?.as_slice(), KEPT.as_slice());
+    assert!(rt; same_bytes_again(rt.alloc(), &KEPT)?.as_slice() == KEPT.as_slice());
     Ok(())
 }
 
 #[test]
 fn kept_bytes_are_read(rt: HostRuntime) -> Result<(), Fail> {
-    let alloc = rt.alloc();
-    let kept = decode_kept(alloc, &KEPT)?;
-    assert_eq!(rt; kept.length, 3);
-    assert!(rt; kept.counts.as_slice() == [1, 2].as_slice());
-    assert!(rt; kept.state.as_slice() == [7, 1].as_slice());
-    assert_eq!(rt; kept.logs.as_slice().len(), 2);
+    let kept = decode_kept(rt.alloc(), &KEPT)?;
+    assert!(rt;
+        kept.length == 3
+            && kept.counts.as_slice() == [1, 2].as_slice()
+            && kept.state.as_slice() == [7, 1].as_slice()
+            && kept.logs.as_slice().len() == 2
+    );
     Ok(())
 }
+
+/// A place, the byte that stands there then, and the number of the refusal.
+const CHANGES: [(usize, u8, u8); 8] = [
+    (3, 0x32, 2),
+    (5, 16, 4),
+    (4, 3, 5),
+    (7, 5, 6),
+    (6, 1, 7),
+    (54, 1, 7),
+    (24, 3, 8),
+    (46, 0, 8),
+];
 
 #[test]
 fn kept_bytes_are_refused(rt: HostRuntime) -> Result<(), Fail> {
     let alloc = rt.alloc();
-    assert_eq!(rt; refusal(alloc, &KEPT[..19]), 1);
-    assert_eq!(rt; refusal_with(alloc, 3, 0x32)?, 2);
-    assert_eq!(rt; refusal(alloc, &KEPT[..67]), 3);
-    assert_eq!(rt; refusal_with(alloc, 5, 16)?, 4);
-    assert_eq!(rt; refusal_with(alloc, 4, 3)?, 5);
-    Ok(())
-}
-
-#[test]
-fn kept_fields_are_refused(rt: HostRuntime) -> Result<(), Fail> {
-    let alloc = rt.alloc();
-    assert_eq!(rt; refusal_with(alloc, 7, 5)?, 6);
-    assert_eq!(rt; refusal_with(alloc, 6, 1)?, 7);
-    assert_eq!(rt; refusal_with(alloc, 54, 1)?, 7);
-    assert_eq!(rt; refusal_with(alloc, 24, 3)?, 8);
-    assert_eq!(rt; refusal_with(alloc, 46, 0)?, 8);
+    for (place, byte, number) in CHANGES {
+        assert!(rt; refusal_with(alloc, place, byte)? == number, "at {place}");
+    }
+    for (size, number) in [(19, 1), (67, 3)] {
+        assert!(rt; refusal(alloc, &KEPT[..size]) == number, "{size} bytes");
+    }
     Ok(())
 }

@@ -1,5 +1,6 @@
 use packets::{PacketError, crc32c, decode};
 use std::alloc::Global;
+use std::process::Abort;
 use std::test::Fail;
 
 /// The number of the refusal, 0 where the bytes are read, 9 for want of memory.
@@ -20,83 +21,82 @@ fn refusal_of(alloc: Global, text: &[u8]) -> Result<u8, Fail> {
     Ok(refusal(alloc, &bytes))
 }
 
+/// Bytes that are too few, have another magic, and have another checksum, and their refusals.
+const NO_PACKETS: [(&[u8], u8); 4] = [
+    (b"", 1),
+    (b"SBP1\x08\x01\x00\x01\x00\x00\x00", 1),
+    (b"SBC2\x08\x01\x00\x01\x00\x00\x00\x00", 2),
+    (b"SBP1\x08\x01\x00\x01\x00\x00\x00\x00", 3),
+];
+
 #[test]
-fn bytes_of_no_packet(rt: HostRuntime) -> Result<(), Fail> {
-    let alloc = rt.alloc();
-    assert_eq!(rt; refusal(alloc, &[]), 1);
-    assert_eq!(rt;
-        refusal(alloc, "SBP1\u{8}\u{1}\u{0}\u{1}\u{0}\u{0}\u{0}".as_bytes()),
-        1
-    );
-    assert_eq!(rt;
-        refusal(
-            alloc,
-            "SBC2\u{8}\u{1}\u{0}\u{1}\u{0}\u{0}\u{0}\u{0}".as_bytes()
-        ),
-        2
-    );
-    assert_eq!(rt;
-        refusal(
-            alloc,
-            "SBP1\u{8}\u{1}\u{0}\u{1}\u{0}\u{0}\u{0}\u{0}".as_bytes()
-        ),
-        3
-    );
+fn bytes_of_no_packet(rt: HostRuntime) {
+    for (place, (bytes, number)) in NO_PACKETS.iter().enumerate() {
+        assert!(rt; refusal(rt.alloc(), bytes) == *number, "row {place}");
+    }
+}
+
+/// What follows the magic, and the refusal of it.
+type Row = (&'static [u8], u8);
+
+fn are_refused(rt: &impl Abort, alloc: Global, rows: &[Row]) -> Result<(), Fail> {
+    for (place, (text, number)) in rows.iter().enumerate() {
+        assert!(rt; refusal_of(alloc, text)? == *number, "row {place}");
+    }
     Ok(())
 }
+
+const HEADS: [Row; 6] = [
+    (&[0, 0, 0, 0], 4),
+    (&[9, 1, 0, 1], 4),
+    (&[8, 0, 0, 0], 5),
+    (&[8, 16, 0, 0], 5),
+    (&[8, 2, 1, 1], 6),
+    (&[8, 2, 0, 3], 6),
+];
 
 #[test]
 fn heads_out_of_range(rt: HostRuntime) -> Result<(), Fail> {
-    let alloc = rt.alloc();
-    assert_eq!(rt; refusal_of(alloc, &[0, 0, 0, 0])?, 4);
-    assert_eq!(rt; refusal_of(alloc, &[9, 1, 0, 1])?, 4);
-    assert_eq!(rt; refusal_of(alloc, &[8, 0, 0, 0])?, 5);
-    assert_eq!(rt; refusal_of(alloc, &[8, 16, 0, 0])?, 5);
-    assert_eq!(rt; refusal_of(alloc, &[8, 2, 1, 1])?, 6);
-    assert_eq!(rt; refusal_of(alloc, &[8, 2, 0, 3])?, 6);
-    Ok(())
+    are_refused(&rt, rt.alloc(), &HEADS)
 }
+
+const FIELDS: [Row; 6] = [
+    // seven, eight and nine bytes for a number
+    (&[8, 2, 1, 0, 1, 0, 0, 0, 0, 0, 0], 7),
+    (&[8, 2, 1, 0, 1, 0, 0, 0, 0, 0, 0, 0], 0),
+    (&[8, 2, 1, 0, 1, 0, 0, 0, 0, 0, 0, 0, 0], 7),
+    // 2^63
+    (&[8, 2, 1, 0, 0, 0, 0, 0, 0, 0, 0, 0x80], 8),
+    // incarnation 0, and a byte behind: the length is judged first
+    (
+        &[4, 2, 1, 0, 0, 0, 0, 0, 0, 0, 0, 0, 1, 0, 0, 0, 0, 0, 0, 0],
+        8,
+    ),
+    (
+        &[
+            4, 2, 1, 0, 0, 0, 0, 0, 0, 0, 0, 0, 1, 0, 0, 0, 0, 0, 0, 0, 0,
+        ],
+        7,
+    ),
+];
 
 #[test]
 fn fields_out_of_place(rt: HostRuntime) -> Result<(), Fail> {
-    let alloc = rt.alloc();
-    // seven, eight and nine bytes for a number
-    assert_eq!(rt; refusal_of(alloc, &[8, 2, 1, 0, 1, 0, 0, 0, 0, 0, 0])?, 7);
-    assert_eq!(rt;
-        refusal_of(alloc, &[8, 2, 1, 0, 1, 0, 0, 0, 0, 0, 0, 0])?,
-        0
-    );
-    assert_eq!(rt;
-        refusal_of(alloc, &[8, 2, 1, 0, 1, 0, 0, 0, 0, 0, 0, 0, 0])?,
-        7
-    );
-    // 2^63
-    assert_eq!(rt;
-        refusal_of(alloc, &[8, 2, 1, 0, 0, 0, 0, 0, 0, 0, 0, 0x80])?,
-        8
-    );
-    // incarnation 0, and a byte behind: the length is judged first
-    let ask = [4, 2, 1, 0, 0, 0, 0, 0, 0, 0, 0, 0, 1, 0, 0, 0, 0, 0, 0, 0];
-    assert_eq!(rt; refusal_of(alloc, &ask)?, 8);
-    let mut long = Vec::from_slice(alloc, &ask)?;
-    long.push(0)?;
-    assert_eq!(rt; refusal_of(alloc, &long)?, 7);
-    Ok(())
+    are_refused(&rt, rt.alloc(), &FIELDS)
+}
+
+/// The refusal of a message with so many bytes of payload, whose length these two bytes tell.
+fn refusal_of_payload(alloc: Global, size: [u8; 2], payload: &[u8]) -> Result<u8, Fail> {
+    let head = [1, 2, 1, 2, 1, 0, 0, 0, 0, 0, 0, 0, 1, 0, 0, 0, 0, 0, 0, 0];
+    let mut text = Vec::from_slice(alloc, &head)?;
+    text.extend_from_slice(&size)?;
+    text.extend_from_slice(payload)?;
+    refusal_of(alloc, &text)
 }
 
 #[test]
 fn a_payload_has_at_most_256_bytes(rt: HostRuntime) -> Result<(), Fail> {
-    let alloc = rt.alloc();
-    let mut text = Vec::from_slice(
-        alloc,
-        &[
-            1, 2, 1, 2, 1, 0, 0, 0, 0, 0, 0, 0, 1, 0, 0, 0, 0, 0, 0, 0, 0, 1,
-        ],
-    )?;
-    text.extend_from_slice(&[7; 256])?;
-    assert_eq!(rt; refusal_of(alloc, &text)?, 0);
-    text[20] = 1;
-    text.push(7)?;
-    assert_eq!(rt; refusal_of(alloc, &text)?, 7);
+    assert!(rt; refusal_of_payload(rt.alloc(), [0, 1], &[7; 256])? == 0);
+    assert!(rt; refusal_of_payload(rt.alloc(), [1, 1], &[7; 257])? == 7);
     Ok(())
 }

@@ -1,6 +1,5 @@
 use packets::{Body, Kind, Packet, back_and_there, crc32c, decode};
 use std::alloc::Global;
-use std::process::Abort;
 use std::test::Fail;
 
 const DELIVERY: [u8; 35] = [
@@ -53,99 +52,122 @@ const SAVED: [u8; 20] = [
     0x11, 0xcb, 0x7e, 0xe8,
 ];
 
-// The values of RFC 3720, appendix B.4, and the check value of CRC-32C.
+/// Bytes that come up to 31, from 0.
+const ASCENDING: [u8; 32] = [
+    0, 1, 2, 3, 4, 5, 6, 7, 8, 9, 10, 11, 12, 13, 14, 15, 16, 17, 18, 19, 20, 21, 22, 23, 24, 25,
+    26, 27, 28, 29, 30, 31,
+];
+
+const DESCENDING: [u8; 32] = [
+    31, 30, 29, 28, 27, 26, 25, 24, 23, 22, 21, 20, 19, 18, 17, 16, 15, 14, 13, 12, 11, 10, 9, 8,
+    7, 6, 5, 4, 3, 2, 1, 0,
+];
+
+/// The values of RFC 3720, appendix B.4, and the check value of CRC-32C.
+const CHECKSUMS: [(&[u8], u32); 5] = [
+    (&[0; 32], 0x8a91_36aa),
+    (&[0xff; 32], 0x62a8_ab43),
+    (&ASCENDING, 0x46dd_794e),
+    (&DESCENDING, 0x113f_db5c),
+    (b"123456789", 0xe306_9283),
+];
+
 #[test]
-fn checksums(rt: HostRuntime) -> Result<(), Fail> {
-    let mut bytes = [0u8; 32];
-    assert_eq!(rt; crc32c(&bytes), 0x8a91_36aa);
-    assert_eq!(rt; crc32c(&[0xff; 32]), 0x62a8_ab43);
-    for place in 0..32u8 {
-        bytes[place as usize] = place;
+fn checksums(rt: HostRuntime) {
+    for (place, (bytes, checksum)) in CHECKSUMS.iter().enumerate() {
+        assert!(rt; crc32c(bytes) == *checksum, "row {place}");
     }
-    assert_eq!(rt; crc32c(&bytes), 0x46dd_794e);
-    bytes.reverse();
-    assert_eq!(rt; crc32c(&bytes), 0x113f_db5c);
-    assert_eq!(rt; crc32c("123456789".as_bytes()), 0xe306_9283);
+}
+
+/// The packet of these bytes, which it is written as again.
+fn read(alloc: Global, bytes: &[u8]) -> Result<Packet, Fail> {
+    if back_and_there(alloc, bytes)?.as_slice() != bytes {
+        return Err("it is written otherwise")?;
+    }
+    Ok(decode(alloc, bytes)?)
+}
+
+/// The kinds of packets, a packet of each.
+const KINDS: [(&[u8], Kind); 8] = [
+    (&DELIVERY, Kind::Delivery),
+    (&NUMBER, Kind::Number),
+    (&ACKNOWLEDGEMENT, Kind::Acknowledgement),
+    (&ASK, Kind::Ask),
+    (&TOLD, Kind::Told),
+    (&RESUME, Kind::Resume),
+    (&RESTORED, Kind::Restored),
+    (&SAVED, Kind::Saved),
+];
+
+#[test]
+fn packets_of_each_kind(rt: HostRuntime) -> Result<(), Fail> {
+    for (place, (bytes, kind)) in KINDS.iter().enumerate() {
+        assert!(rt;
+            read(rt.alloc(), bytes)?.body.kind() == *kind,
+            "row {place}"
+        );
+    }
     Ok(())
 }
 
-/// The packet of these bytes, which it is written as again. It is of this kind.
-fn read(rt: &impl Abort, alloc: Global, bytes: &[u8], kind: Kind) -> Result<Packet, Fail> {
-    assert_eq!(rt; back_and_there(alloc, bytes)?.as_slice(), bytes);
-    let packet = decode(alloc, bytes)?;
-    assert_eq!(rt; packet.body.kind(), kind);
-    Ok(packet)
-}
-
 #[test]
-fn packets_of_words(rt: HostRuntime) -> Result<(), Fail> {
-    let alloc = rt.alloc();
-    let packet = read(&rt, alloc, &NUMBER, Kind::Number)?;
-    assert_eq!(rt; packet.count, 3);
-    assert_eq!(rt; packet.from, 2);
-    assert_eq!(rt; packet.to, 0);
-    match packet.body {
-        Body::Number {
-            incarnation,
-            ssn,
-            number,
-        } => {
-            assert_eq!(rt; incarnation, 4);
-            assert_eq!(rt; ssn, 5);
-            assert_eq!(rt; number, 0x0102_0304_0506_0708);
-        }
-        _ => assert!(rt; false),
-    }
-    let _ = read(&rt, alloc, &ACKNOWLEDGEMENT, Kind::Acknowledgement)?;
-    let _ = read(&rt, alloc, &ASK, Kind::Ask)?;
-    let _ = read(&rt, alloc, &RESUME, Kind::Resume)?;
-    let _ = read(&rt, alloc, &SAVED, Kind::Saved)?;
+fn a_packet_of_words(rt: HostRuntime) -> Result<(), Fail> {
+    let packet = read(rt.alloc(), &NUMBER)?;
+    assert!(rt; packet.count == 3 && packet.from == 2 && packet.to == 0);
+    assert!(rt;
+        matches!(
+            packet.body,
+            Body::Number {
+                incarnation: 4,
+                ssn: 5,
+                number: 0x0102_0304_0506_0708
+            }
+        )
+    );
     Ok(())
 }
 
 #[test]
 fn a_message(rt: HostRuntime) -> Result<(), Fail> {
-    let packet = read(&rt, rt.alloc(), &DELIVERY, Kind::Delivery)?;
-    match &packet.body {
-        Body::Delivery { ssn, payload, .. } => {
-            assert_eq!(rt; *ssn, 5);
-            assert_eq!(rt; payload.as_slice(), "seven".as_bytes());
-        }
-        _ => assert!(rt; false),
-    }
+    let is_told = match &read(rt.alloc(), &DELIVERY)?.body {
+        Body::Delivery { ssn, payload, .. } => *ssn == 5
+            && payload.as_slice() == b"seven".as_slice(),
+        _ => false,
+    };
+    assert!(rt; is_told);
     Ok(())
 }
 
 #[test]
 fn a_page_of_entries(rt: HostRuntime) -> Result<(), Fail> {
-    let packet = read(&rt, rt.alloc(), &TOLD, Kind::Told)?;
-    match &packet.body {
+    let is_told = match &read(rt.alloc(), &TOLD)?.body {
         Body::Told {
             above,
             flags,
             entries,
             ..
         } => {
-            assert_eq!(rt; *above, 7);
-            assert!(rt; flags.done() && !flags.lost() && flags.exact());
-            let entries = entries.as_slice();
-            assert_eq!(rt; entries.len(), 3);
-            if let [first, .., last] = entries {
-                assert_eq!(rt; first.number, 8);
-                assert_eq!(rt; first.ssn, 3);
-                assert!(rt; first.payload.is_empty());
-                assert_eq!(rt; last.payload.as_slice(), "ab".as_bytes());
+            let is_headed = *above == 7 && flags.done() && !flags.lost() && flags.exact();
+            match entries.as_slice() {
+                [first, _, last] => {
+                    is_headed
+                        && first.number == 8
+                        && first.ssn == 3
+                        && first.payload.is_empty()
+                        && last.payload.as_slice() == b"ab".as_slice()
+                }
+                _ => false,
             }
         }
-        _ => assert!(rt; false),
-    }
+        _ => false,
+    };
+    assert!(rt; is_told);
     Ok(())
 }
 
 #[test]
 fn a_page_of_pairs(rt: HostRuntime) -> Result<(), Fail> {
-    let packet = read(&rt, rt.alloc(), &RESTORED, Kind::Restored)?;
-    match &packet.body {
+    let is_told = match &read(rt.alloc(), &RESTORED)?.body {
         Body::Restored {
             covered,
             above,
@@ -153,17 +175,14 @@ fn a_page_of_pairs(rt: HostRuntime) -> Result<(), Fail> {
             pairs,
             ..
         } => {
-            assert_eq!(rt; *covered, 3);
-            assert_eq!(rt; *above, 4);
-            assert_eq!(rt; flags.bits, 0);
-            let pairs = pairs.as_slice();
-            assert_eq!(rt; pairs.len(), 2);
-            if let [_, last] = pairs {
-                assert_eq!(rt; last.ssn, 7);
-                assert_eq!(rt; last.number, 300);
+            let is_headed = *covered == 3 && *above == 4 && flags.bits == 0;
+            match pairs.as_slice() {
+                [_, last] => is_headed && last.ssn == 7 && last.number == 300,
+                _ => false,
             }
         }
-        _ => assert!(rt; false),
-    }
+        _ => false,
+    };
+    assert!(rt; is_told);
     Ok(())
 }

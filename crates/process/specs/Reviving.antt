@@ -6,6 +6,7 @@ use Rattle.packets.specs.declared.kept.Kept.{Kept}
 use Rattle.packets.specs.declared.kept_fault.KeptFault.TheVariants.{Range}
 use Rattle.packets.specs.Kept.{IsKept}
 use Rattle.packets.specs.KeptFaults.{IsFirstKept}
+use Rattle.node.specs.declared.limit.Limits.{Limits}
 use Rattle.node.specs.Node.{TheNode, IsPositive}
 use Rattle.world.specs.Handlers.{Handlers}
 use Rattle.cluster.specs.Cluster.{opening}
@@ -20,10 +21,10 @@ use Rattle.process.specs.declared.fault.Unrevived.TheVariants as why
 use Rattle.process.specs.Process.{TheProcess}
 
 -- a process that received nothing: it stands in the opening, where its handler begins with a state of zeros
-pub record IsOpened (image : AnyImage) (me count : ℕ) (p : TheProcess) : Type 0 where
+pub record IsOpened (image : AnyImage) (limits : Limits) (me count : ℕ) (p : TheProcess) : Type 0 where
   pub image_is : p.image ≡ image
-  pub course_is : p.course ≡ Up (new_node me count (state_of image))
-  pub stands : (f : Handlers) → BeginsWith f me (state_of image) → Stands (new_node me count (state_of image)) (opening count f) me
+  pub course_is : p.course ≡ Up (new_node limits me count (state_of image))
+  pub stands : (f : Handlers) → BeginsWith f me (state_of image) → Stands (new_node limits me count (state_of image)) (opening count f) me
 
 -- these bytes keep a process that may come back, with a state as long as the image's
 pub record IsKeptFor (image : AnyImage) (k : Kept) (bytes : List ℕ) : Type 0 where
@@ -32,12 +33,12 @@ pub record IsKeptFor (image : AnyImage) (k : Kept) (bytes : List ℕ) : Type 0 w
   pub long : length k.state ≡ state_of image
 
 -- what they keep comes back
-pub record IsRevived (image : AnyImage) (bytes : List ℕ) (life : ℕ) (p : TheProcess) : Type 0 where
+pub record IsRevived (image : AnyImage) (limits : Limits) (bytes : List ℕ) (life : ℕ) (p : TheProcess) : Type 0 where
   pub kept : Kept
   pub is_kept : IsKeptFor image kept bytes
   pub image_is : p.image ≡ image
-  pub course_is : p.course ≡ Collecting (revived kept life)
-  pub revives : Revives kept life (revived kept life)
+  pub course_is : p.course ≡ Collecting (revived limits kept life)
+  pub revives : Revives kept life (revived limits kept life)
 
 -- they keep something that doesn't come back: more than a process can have received or sent
 abbrev pub IsOver : List ℕ → Type 0

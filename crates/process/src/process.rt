@@ -3,6 +3,7 @@
 ghost use Rattle.std.specs.Prelude.{◌≡◌, ◌≤◌, true, IfOk, IfErr};
 ghost use Rattle.std.specs.Arc.{arc_value};
 ghost use Rattle.handlers.specs.Handler.{image_of};
+ghost use Rattle.node.specs.Limit.{AreAllowed};
 ghost use Rattle.packets.specs.Kept.{IsKept};
 ghost use Rattle.recovery.specs.Own.{comes_back};
 ghost use Rattle.process.specs.Reviving.{IsOpened, IsRevived, IsUnrevived, IsUnread};
@@ -10,7 +11,7 @@ ghost use Rattle.process.specs.Reviving.{IsOpened, IsRevived, IsUnrevived, IsUnr
 use crate::course::Course;
 use crate::fault::Unrevived;
 use handlers::Handler;
-use node::Node;
+use node::{Limits, Node};
 use packets::{Kept, KeptError, KeptFault, NUMBER_LIMIT, decode_kept};
 use recovery::{Collecting, comes_back};
 use std::alloc::{AllocError, Global};
@@ -38,33 +39,37 @@ impl Model for Process {
 }
 
 impl Process {
-    /// The process `me` of `count`, which received nothing.
+    /// The process `me` of `count`, which received nothing. It keeps to these limits.
     pub fn open(
         alloc: Global,
         image: Arc<Handler>,
+        limits: Limits,
         me: u8,
         count: u8,
     ) -> Result<Process, AllocError>
+        requires limits { AreAllowed limits }
         requires own { (1 ≤ me) × (me ≤ count) }
         requires few { count ≤ 15 }
-        ensures { IfOk result (IsOpened (image_of (arc_value image)) me count) }
+        ensures { IfOk result (IsOpened (image_of (arc_value image)) limits me count) }
     {
-        let node = Node::open(alloc, me, count, image.state_len())?;
+        let node = Node::open(alloc, limits, me, count, image.state_len())?;
         Ok(Process {
             image,
             course: Course::Up(node),
         })
     }
 
-    /// What these bytes keep of a process comes back in this incarnation; they count from 1. All its peers
-    /// are asked.
+    /// What these bytes keep of a process comes back in this incarnation; they count from 1. It keeps to
+    /// these limits, and all its peers are asked.
     pub fn revive(
         alloc: Global,
         image: Arc<Handler>,
+        limits: Limits,
         kept: &[u8],
         incarnation: u64,
     ) -> Result<Process, Unrevived>
-        ensures revived { IfOk result (IsRevived (image_of (arc_value image)) kept.now incarnation) }
+        requires limits { AreAllowed limits }
+        ensures revived { IfOk result (IsRevived (image_of (arc_value image)) limits kept.now incarnation) }
         ensures refused { IfErr result (IsUnrevived (image_of (arc_value image)) kept.now incarnation) }
     {
         if incarnation < 1 || incarnation >= NUMBER_LIMIT {
@@ -74,7 +79,7 @@ impl Process {
         if kept.state.as_slice().len() != image.state_len() as usize {
             return Err(Unrevived::State);
         }
-        match Collecting::revive(alloc, &kept, incarnation) {
+        match Collecting::revive(alloc, limits, &kept, incarnation) {
             Ok(process) => Ok(Process {
                 image,
                 course: Course::Collecting(process),

@@ -3,7 +3,7 @@
 use gateway::Gateway;
 use handlers::Handler;
 use helpers::Payload;
-use node::Stage;
+use node::{Limits, Stage};
 use process::Process;
 use std::alloc::Global;
 use std::process::Abort;
@@ -51,7 +51,7 @@ pub(crate) fn counter(alloc: Global, form: u8) -> Result<Arc<Handler>, Fail> {
 }
 
 fn opened(alloc: Global, form: u8) -> Result<Process, Fail> {
-    Ok(Process::open(alloc, counter(alloc, form)?, 1, 1)?)
+    Ok(Process::open(alloc, counter(alloc, form)?, Limits::usual(), 1, 1)?)
 }
 
 #[test]
@@ -79,7 +79,13 @@ fn counts_on(rt: &impl Abort, alloc: Global, form: u8) -> Result<(), Fail> {
     assert_eq!(rt; process.standing().length, 3);
 
     // It dies, and comes back from the first bytes: what it received is received again.
-    let mut process = Process::revive(alloc, counter(alloc, form)?, first.as_slice(), 2)?;
+    let mut process = Process::revive(
+        alloc,
+        counter(alloc, form)?,
+        Limits::usual(),
+        first.as_slice(),
+        2,
+    )?;
     assert!(rt; process.standing().stage == Stage::Collecting);
     assert_eq!(rt; process.standing().waited_for, 1);
     settle(alloc, &mut gateway, &mut process)?;
@@ -98,7 +104,13 @@ fn counts_on(rt: &impl Abort, alloc: Global, form: u8) -> Result<(), Fail> {
     let Some(last) = process.checkpoint(alloc)? else {
         return Err("no checkpoint is made")?;
     };
-    let mut process = Process::revive(alloc, counter(alloc, form)?, last.as_slice(), 3)?;
+    let mut process = Process::revive(
+        alloc,
+        counter(alloc, form)?,
+        Limits::usual(),
+        last.as_slice(),
+        3,
+    )?;
     settle(alloc, &mut gateway, &mut process)?;
     assert!(rt; process.standing().stage == Stage::Up);
     assert_eq!(rt; process.standing().base, 4);

@@ -3,7 +3,7 @@
 use crate::counting::counter;
 use gateway::Gateway;
 use helpers::Payload;
-use node::Stage;
+use node::{Limits, Stage};
 use process::Process;
 use std::alloc::Global;
 use std::test::Fail;
@@ -74,8 +74,8 @@ fn kept(alloc: Global, process: &mut Process) -> Result<Vec<u8>, Fail> {
 fn two_that_died_at_once_come_back(rt: HostRuntime) -> Result<(), Fail> {
     let alloc = rt.alloc();
     let mut gateway = Gateway::open(alloc, 2, 60_000, 8)?;
-    let mut one = Process::open(alloc, counter(alloc, b'1')?, 1, 2)?;
-    let mut two = Process::open(alloc, counter(alloc, b'1')?, 2, 2)?;
+    let mut one = Process::open(alloc, counter(alloc, b'1')?, Limits::usual(), 1, 2)?;
+    let mut two = Process::open(alloc, counter(alloc, b'1')?, Limits::usual(), 2, 2)?;
     let first = kept(alloc, &mut one)?;
     let second = kept(alloc, &mut two)?;
     count(&mut gateway, 3)?;
@@ -84,8 +84,20 @@ fn two_that_died_at_once_come_back(rt: HostRuntime) -> Result<(), Fail> {
     assert!(rt; one.standing().exact && two.standing().exact);
 
     // Both die. Each asks the other, which comes back too.
-    let mut one = Process::revive(alloc, counter(alloc, b'1')?, first.as_slice(), 2)?;
-    let mut two = Process::revive(alloc, counter(alloc, b'1')?, second.as_slice(), 2)?;
+    let mut one = Process::revive(
+        alloc,
+        counter(alloc, b'1')?,
+        Limits::usual(),
+        first.as_slice(),
+        2,
+    )?;
+    let mut two = Process::revive(
+        alloc,
+        counter(alloc, b'1')?,
+        Limits::usual(),
+        second.as_slice(),
+        2,
+    )?;
     assert_eq!(rt; one.standing().waited_for, 5);
     assert_eq!(rt; two.standing().waited_for, 3);
     settle(alloc, &mut gateway, &mut one, &mut two)?;
@@ -107,12 +119,18 @@ fn two_that_died_at_once_come_back(rt: HostRuntime) -> Result<(), Fail> {
 fn one_that_came_back_alone_stays_exact(rt: HostRuntime) -> Result<(), Fail> {
     let alloc = rt.alloc();
     let mut gateway = Gateway::open(alloc, 2, 60_000, 8)?;
-    let mut one = Process::open(alloc, counter(alloc, b'1')?, 1, 2)?;
-    let mut two = Process::open(alloc, counter(alloc, b'1')?, 2, 2)?;
+    let mut one = Process::open(alloc, counter(alloc, b'1')?, Limits::usual(), 1, 2)?;
+    let mut two = Process::open(alloc, counter(alloc, b'1')?, Limits::usual(), 2, 2)?;
     let first = kept(alloc, &mut one)?;
     count(&mut gateway, 3)?;
     settle(alloc, &mut gateway, &mut one, &mut two)?;
-    let mut one = Process::revive(alloc, counter(alloc, b'1')?, first.as_slice(), 2)?;
+    let mut one = Process::revive(
+        alloc,
+        counter(alloc, b'1')?,
+        Limits::usual(),
+        first.as_slice(),
+        2,
+    )?;
     settle(alloc, &mut gateway, &mut one, &mut two)?;
     assert!(rt; one.standing().stage == Stage::Up);
     assert!(rt; one.standing().exact && two.standing().exact);
@@ -124,11 +142,17 @@ fn one_that_came_back_alone_stays_exact(rt: HostRuntime) -> Result<(), Fail> {
 fn one_dies_while_the_other_restores(rt: HostRuntime) -> Result<(), Fail> {
     let alloc = rt.alloc();
     let mut gateway = Gateway::open(alloc, 2, 60_000, 8)?;
-    let mut one = Process::open(alloc, counter(alloc, b'1')?, 1, 2)?;
-    let mut two = Process::open(alloc, counter(alloc, b'1')?, 2, 2)?;
+    let mut one = Process::open(alloc, counter(alloc, b'1')?, Limits::usual(), 1, 2)?;
+    let mut two = Process::open(alloc, counter(alloc, b'1')?, Limits::usual(), 2, 2)?;
     let first = kept(alloc, &mut one)?;
     let second = kept(alloc, &mut two)?;
-    let mut one = Process::revive(alloc, counter(alloc, b'1')?, first.as_slice(), 2)?;
+    let mut one = Process::revive(
+        alloc,
+        counter(alloc, b'1')?,
+        Limits::usual(),
+        first.as_slice(),
+        2,
+    )?;
     carry(alloc, &mut gateway, &mut one, &mut two)?;
     carry(alloc, &mut gateway, &mut one, &mut two)?;
     carry(alloc, &mut gateway, &mut two, &mut one)?;
@@ -138,7 +162,13 @@ fn one_dies_while_the_other_restores(rt: HostRuntime) -> Result<(), Fail> {
     assert!(rt; one.standing().stage == Stage::Resuming);
 
     // Its peer, which told all, dies before it has answered Resume.
-    let mut two = Process::revive(alloc, counter(alloc, b'1')?, second.as_slice(), 2)?;
+    let mut two = Process::revive(
+        alloc,
+        counter(alloc, b'1')?,
+        Limits::usual(),
+        second.as_slice(),
+        2,
+    )?;
     settle(alloc, &mut gateway, &mut one, &mut two)?;
     one.tick(alloc);
     settle(alloc, &mut gateway, &mut one, &mut two)?;

@@ -126,17 +126,17 @@ from-own k e =
     record { total = sum-own k.me k.counts ∙ t.sum_is; none_own = own-none k.me k.counts (omega (arith, t.own, t.counts_are)); behind = tt }
 
 -- what holds of each holds by place
-at-each : {X : Type 0} (P : X → Type 0) (xs : List X) (d : X) → P d → Each P xs → (i : ℕ) → P (slice_index_or xs i d)
+pub at-each : {X : Type 0} (P : X → Type 0) (xs : List X) (d : X) → P d → Each P xs → (i : ℕ) → P (slice_index_or xs i d)
 at-each P [] d h e i = h
 at-each P (x ∷ xs) d h e zero = e.0
 at-each P (x ∷ xs) d h e (suc i) = at-each P xs d h e.1 i
 
-each-take : {X : Type 0} (P : X → Type 0) (n : ℕ) (xs : List X) → Each P xs → Each P (take n xs)
+pub each-take : {X : Type 0} (P : X → Type 0) (n : ℕ) (xs : List X) → Each P xs → Each P (take n xs)
 each-take P zero xs e = tt
 each-take P (suc n) [] e = tt
 each-take P (suc n) (x ∷ xs) e = (e.0, each-take P n xs e.1)
 
-each-drop : {X : Type 0} (P : X → Type 0) (n : ℕ) (xs : List X) → Each P xs → Each P (drop n xs)
+pub each-drop : {X : Type 0} (P : X → Type 0) (n : ℕ) (xs : List X) → Each P xs → Each P (drop n xs)
 each-drop P zero xs e = e
 each-drop P (suc n) [] e = tt
 each-drop P (suc n) (x ∷ xs) e = each-drop P n xs e.1

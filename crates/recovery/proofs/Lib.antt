@@ -1,6 +1,7 @@
 pub mod Lists
 pub mod Acts
 pub mod Keeping
+pub mod Holding
 pub mod Pages
 pub mod Told
 pub mod Posting

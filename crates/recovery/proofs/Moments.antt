@@ -120,6 +120,8 @@ module _ (n : TheCollecting) (jobs : List OpenJob) (all : has_all n ≡ true) (p
                 state = s.own.state;
                 covered = s.own.covered;
                 logs = λ e l o. at-itself me (λ b. KeepsOf (log_at n.own.logs e) ((if b then c.saved_trims me else c.trims me) e) (c.handlers.sends me h e) ((if b then (λ _ _. None) else c.numbers me) e)) (s.own.logs e l o);
+                held = s.own.held;
+                grown = s.own.grown;
                 heard = s.own.heard;
                 sure = s.own.sure;
                 out = s.own.out;

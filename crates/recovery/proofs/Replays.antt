@@ -17,11 +17,12 @@ use Rattle.node.specs.declared.job.OpenJob.{OpenJob}
 use Rattle.node.specs.declared.job.Given.{Given}
 use Rattle.outbox.specs.Outbox.{Pops}
 use Rattle.node.specs.Node.{log_at, given_to}
-use Rattle.node.specs.Stands.{Each, KeepsOf, job_of}
+use Rattle.node.specs.Stands.{Each, KeepsOf, job_of, payloads_to, sent_by}
 use Rattle.node.proofs.Commits.{logs-more}
+use Rattle.recovery.proofs.Holding.{held-more, grown-more}
 use Rattle.recovery.specs.Own.{ran, MayGive}
 use Rattle.recovery.specs.Collecting.{TheCollecting}
-use Rattle.recovery.specs.Stands.{HasOwn, IsSent, GoesTo, Takes as CollectingTakes}
+use Rattle.recovery.specs.Stands.{HasOwn, IsHeldBack, IsSent, GoesTo, Takes as CollectingTakes}
 use Rattle.recovery.specs.Replaying.{TheReplaying, next_job, next_number, is_over, did_replay}
 use Rattle.recovery.specs.StandsReplaying.{StandsReplaying, AnswersAfter, Handles, Owes, Takes, Ends, phase_of, replayed_of}
 use Rattle.recovery.proofs.Acts.{goes-self, goes-one}
@@ -93,6 +94,17 @@ module _ (n : TheReplaying) (c : Cluster) (j : OpenJob) (state : List ℕ) (give
       subst (λ xs. KeepsOf (log_at (given_to (next_number n) given n.own.logs) d) (c.trims me d) xs (c.numbers me d)) (sym (answers.sends_are d))
       (logs-more n.own.logs d (c.trims me d) (c.handlers.sends me h d) (c.numbers me d) (next_number n) given inside (s.own.logs d l o))
 
+  -- what the handler gave waits for a number behind those that the checkpoint covers
+  held-ran : (d : ℕ) → d ≤ c.count → d ≢ me → IsHeldBack (log_at (given_to (next_number n) given n.own.logs) d) (length (h ++ job_of j ∷ [])) base (sent_by c.handlers me (h ++ job_of j ∷ []) d)
+  held-ran d l o =
+      held-more c.handlers me h (job_of j) n.own.logs d base (c.trims me d) (c.numbers me d) (next_number n) given s.own.many h-short inside (answers.sends_are d) (s.own.logs d l o) (s.own.held d l o)
+    where
+      h-short : length h < next_number n
+      h-short = omega (arith, length-take (base + n.done) (c.history me))
+
+  grown-ran : (d : ℕ) → sent_by c.handlers me (h ++ job_of j ∷ []) d base ≤ length (c.handlers.sends me (h ++ job_of j ∷ []) d)
+  grown-ran d = grown-more c.handlers me h (job_of j) d base given s.own.many (answers.sends_are d) (s.own.grown d)
+
   -- it stands, whatever it does next and releases
   module _ (ph : ℕ → Phase) (rel : ℕ → ℕ → ℕ) (phase-is : ph me ≡ phase_of more others) (shut-is : is_over more ≡ false → (e : ℕ) → rel me e ≡ 0) (released-is : is_over more ≡ true → others ≡ [] → (e : ℕ) → rel me e ≡ sent_in_all (seen c) me e) where
     stands-ran : StandsReplaying more (record c { phase = ph; released = rel }) me
@@ -112,6 +124,8 @@ module _ (n : TheReplaying) (c : Cluster) (j : OpenJob) (state : List ℕ) (give
                 state = answers.state_is;
                 covered = λ q l. s.own.covered q l ∙ ap (count_of q) (sym (take-append-le base h (job_of j ∷ []) s.own.many));
                 logs = logs-ran;
+                held = held-ran;
+                grown = grown-ran;
                 heard = s.own.heard;
                 sure = s.own.sure;
                 out = s.own.out;

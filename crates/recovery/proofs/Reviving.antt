@@ -9,11 +9,14 @@ use Rattle.theorems.proofs.Changes.{at-itself}
 use Rattle.cluster.specs.Cluster.{Cluster, Dead, Collecting}
 use Rattle.cluster.specs.Rules.{Opens, IsNode, does}
 use Rattle.packets.specs.declared.kept.Kept.{Kept}
+use Rattle.node.specs.declared.limit.Limits.{Limits}
 use Rattle.recovery.specs.Collected.{none_told}
 use Rattle.recovery.specs.Collecting.{told_of, begins, revived}
 use Rattle.recovery.specs.Stands.{IsTold, StandsCollecting, IsKeptOf, Reopens, Revives}
 use Rattle.recovery.proofs.Told.{told-none}
+use Rattle.node.specs.Stands.{sent_by}
 use Rattle.recovery.proofs.Asking.{At, asking}
+use Rattle.recovery.proofs.Holding.{held-kept}
 
 abbrev zeros : ℕ → List ℕ
 zeros n = replicate n 0
@@ -27,7 +30,7 @@ none_at (suc n) (suc j) = none_at n j
 abbrev first_heard : ℕ → ℕ
 first_heard q = if q == 0 then 1 else 0
 
-module _ (k : Kept) (life : ℕ) (c : Cluster) (dead : c.stage k.me ≡ Dead) (early : c.stored k.me < life) (s : IsKeptOf k c k.me) (inside : IsNode c k.me) where
+module _ (limits : Limits) (k : Kept) (life : ℕ) (c : Cluster) (dead : c.stage k.me ≡ Dead) (early : c.stored k.me < life) (s : IsKeptOf k c k.me) (inside : IsNode c k.me) where
   abbrev me : ℕ
   me = k.me
 
@@ -63,7 +66,11 @@ module _ (k : Kept) (life : ℕ) (c : Cluster) (dead : c.stage k.me ≡ Dead) (e
       at-itself me (λ b. IsTold q k.length (told_of (replicate (k.count + 1) (none_told k.length)) q) ((if b then (λ _. None) else c.told me) q))
       (rw e (told-none q k.length))
 
-  stands-begun : StandsCollecting (begins k life) c' me
+  -- the checkpoint covers all of them
+  first-all : (d : ℕ) → sent_by c.handlers me h d k.length ≡ length (c.handlers.sends me h d)
+  first-all d = ap (λ z. length (c.handlers.sends me z d)) (take_all k.length h (omega (arith, long)))
+
+  stands-begun : StandsCollecting (begins limits k life) c' me
   stands-begun = record {
     stage = at-itself me (λ b. (if b then Collecting else c.stage me) ≡ Collecting) refl;
     life = stored-is;
@@ -76,6 +83,8 @@ module _ (k : Kept) (life : ℕ) (c : Cluster) (dead : c.stage k.me ≡ Dead) (e
       state = s.state;
       covered = λ q l. s.counts q l ∙ ap (count_of q) (sym (take_all k.length h (omega (arith, long))));
       logs = s.logs;
+      held = λ d l o. held-kept k c.handlers me h d (c.saved_trims me d) (omega (arith, long)) (s.logs d l o);
+      grown = λ d. (let e = first-all d in omega (arith, e));
       heard = λ q l. heard-is q;
       sure = record { exact_is = refl; none_lost = λ q l. get_or-replicate (k.count + 1) q false true (omega (arith, l)) };
       out = tt;
@@ -84,8 +93,8 @@ module _ (k : Kept) (life : ℕ) (c : Cluster) (dead : c.stage k.me ≡ Dead) (e
     alone = at-itself me (λ b. (if b then (λ _. None) else c.told me) me ≡ None) refl;
   }
 
-  goes-revived : Reopens me life (At (revived k life) me) c
-  goes-revived = record { skipped = skipped; opens = (inside, dead); incarnation = omega (arith, early); goes = asking (begins k life) c' stands-begun tt }
+  goes-revived : Reopens me life (At (revived limits k life) me) c
+  goes-revived = record { skipped = skipped; opens = (inside, dead); incarnation = omega (arith, early); goes = asking (begins limits k life) c' stands-begun tt }
 
-pub revives : (k : Kept) (life : ℕ) → Revives k life (revived k life)
-revives k life c dead early s inside = goes-revived k life c dead early s inside
+pub revives : (limits : Limits) (k : Kept) (life : ℕ) → Revives k life (revived limits k life)
+revives limits k life c dead early s inside = goes-revived limits k life c dead early s inside

@@ -112,6 +112,8 @@ module _ (n : TheCollecting) (c : Cluster) (from i j k : ℕ) (flags : Flags) (p
       state = s.own.state;
       covered = s.own.covered;
       logs = s.own.logs;
+      held = s.own.held;
+      grown = s.own.grown;
       heard = heard-is;
       sure = record { exact_is = exact; none_lost = λ q l. off-set n.own.lost from q (is_lost flags) kept (s.own.sure.none_lost from low) (s.own.sure.none_lost q l) };
       out = s.own.out;
@@ -172,6 +174,8 @@ module _ (n : TheCollecting) (c : Cluster) (from i k : ℕ) (s : StandsCollectin
       state = s.own.state;
       covered = s.own.covered;
       logs = s.own.logs;
+      held = s.own.held;
+      grown = s.own.grown;
       heard = heard-anew;
       sure = record { exact_is = s.own.sure.exact_is; none_lost = λ q l. off-set n.own.lost from q false refl (s.own.sure.none_lost from low) (s.own.sure.none_lost q l) };
       out = s.own.out;

@@ -7,6 +7,7 @@ use Rattle.packets.specs.declared.kept.Kept.{Kept}
 use Rattle.packets.specs.declared.packet.Body.{Body}
 use Rattle.packets.specs.declared.packet.Body.TheVariants.{Ask, Told}
 use Rattle.packets.specs.declared.packet.Packet.{Packet}
+use Rattle.node.specs.declared.limit.Limits.{Limits}
 use Rattle.recovery.specs.Own.{TheOwn, IsShort, posts, is_for, hears, learns, own_of}
 use Rattle.recovery.specs.Meeting.{heard_of, tells_loss}
 use Rattle.recovery.specs.Collected.{TheCollected, none_told, with_page}
@@ -40,12 +41,12 @@ abbrev pub asked : TheCollecting → TheCollecting
 asked n = asks_below n.own.me (n.own.count + 1) n
 
 -- one that was told nothing
-abbrev pub begins : Kept → ℕ → TheCollecting
-begins k life = record { own = own_of k life; told = replicate (k.count + 1) (none_told k.length) }
+abbrev pub begins : Limits → Kept → ℕ → TheCollecting
+begins limits k life = record { own = own_of limits k life; told = replicate (k.count + 1) (none_told k.length) }
 
 -- it comes back, and asks all
-abbrev pub revived : Kept → ℕ → TheCollecting
-revived k life = asked (begins k life)
+abbrev pub revived : Limits → Kept → ℕ → TheCollecting
+revived limits k life = asked (begins limits k life)
 
 -- a page answers what was asked last: in this incarnation, of a peer that isn't older than it was heard of
 abbrev pub answers : ℕ → ℕ → ℕ → ℕ → TheCollecting → Bool

@@ -4,7 +4,7 @@ use Rattle.world.specs.Plan.{or_else}
 use Rattle.packets.specs.Packet.{is_exact}
 use Rattle.packets.specs.declared.page.Flags.{Flags}
 use Rattle.packets.specs.declared.page.Pair.{Pair}
-use Rattle.node.specs.Queue.{TheQueue, dropped_to, released_all}
+use Rattle.node.specs.Queue.{TheQueue, dropped_to, released_again}
 use Rattle.node.specs.Node.{TheNode, log_at}
 use Rattle.pages.specs.Says.{first_number}
 use Rattle.recovery.specs.Own.{TheOwn}
@@ -43,10 +43,12 @@ takes_in d covered pairs o = record o { logs = slice_set o.logs d (noted pairs (
 abbrev pub trusts : Flags → TheOwn → TheOwn
 trusts flags o = record o { exact = o.exact && is_exact flags }
 
--- its node, which obeyed the Resume of these peers: all that it sent is released, and none of its questions waits any more
+-- its node, which obeyed the Resume of these peers: all that it sent is released, or where it is durable what its checkpoint covers; and none
+-- of its questions waits any more
 abbrev pub returns : List Bool → TheReplayed → TheNode
 returns resumed n =
     record {
+      limits = n.own.limits;
       me = n.own.me;
       count = n.own.count;
       life = n.own.life;
@@ -54,7 +56,7 @@ returns resumed n =
       base = n.own.base;
       covered = n.own.covered;
       receipts = n.receipts;
-      logs = map released_all n.own.logs;
+      logs = map (released_again n.own.limits.durable) n.own.logs;
       waiting = 0;
       heard = n.own.heard;
       resumed = resumed;

@@ -3,6 +3,7 @@ use Rattle.std.specs.Prelude.{◌≡◌, ◌≢◌, ℕ, ◌<◌, List, true}
 use Rattle.cluster.specs.Cluster.{Cluster, Dead}
 use Rattle.cluster.specs.Rules.{Act, Keeps, Dies, May, does, after_run, IsNode}
 use Rattle.packets.specs.declared.kept.Kept.{Kept}
+use Rattle.node.specs.declared.limit.Limits.{Limits}
 use Rattle.node.specs.Node.{TheNode, Within}
 use Rattle.node.specs.Stands.{Each, Stands}
 use Rattle.node.specs.Kept.{kept_of, IsKeptOf}
@@ -12,11 +13,11 @@ use Rattle.recovery.specs.Stands.{StandsCollecting, Reopens}
 -- where a node waits for its checkpoint, that may be durable, and the node may die then: what it wrote comes back, in each incarnation that
 -- is newer than those that were stored
 abbrev pub WrittenRevives : Type 0
-WrittenRevives = (n : TheNode) (life : ℕ) (c : Cluster) → Within n → Stands n c n.me → n.frozen ≡ true → c.stored n.me < life
+WrittenRevives = (n : TheNode) (limits : Limits) (life : ℕ) (c : Cluster) → Within n → Stands n c n.me → n.frozen ≡ true → c.stored n.me < life
     → May c (Keeps n.me) × May (does c (Keeps n.me)) (Dies n.me)
-    × Reopens n.me life (λ d. StandsCollecting (revived (kept_of n) life) d n.me) (does (does c (Keeps n.me)) (Dies n.me))
+    × Reopens n.me life (λ d. StandsCollecting (revived limits (kept_of n) life) d n.me) (does (does c (Keeps n.me)) (Dies n.me))
 
 -- so does what is kept wherever a run has led, in which no newer checkpoint of the process was durable
 abbrev pub KeptRevives : Type 0
-KeptRevives = (k : Kept) (life p : ℕ) (acts : List Act) (c : Cluster) → IsKeptOf k c p → Each (λ (a : Act). a ≢ Keeps p) acts → IsNode (after_run c acts) p
-    → (after_run c acts).stage p ≡ Dead → (after_run c acts).stored p < life → Reopens p life (λ d. StandsCollecting (revived k life) d p) (after_run c acts)
+KeptRevives = (k : Kept) (limits : Limits) (life p : ℕ) (acts : List Act) (c : Cluster) → IsKeptOf k c p → Each (λ (a : Act). a ≢ Keeps p) acts → IsNode (after_run c acts) p
+    → (after_run c acts).stage p ≡ Dead → (after_run c acts).stored p < life → Reopens p life (λ d. StandsCollecting (revived limits k life) d p) (after_run c acts)

@@ -5,6 +5,8 @@ use Rattle.packets.specs.declared.packet.Packet.{Packet}
 use Rattle.packets.specs.Packet.{is_lost, is_exact}
 use Rattle.packets.specs.declared.page.Flags.{Flags}
 use Rattle.packets.specs.declared.kept.Kept.{Kept}
+use Rattle.node.specs.declared.limit.Limits.{Limits}
+use Rattle.node.specs.Limit.{AreAllowed}
 use Rattle.node.specs.Queue.{TheQueue, no_queue}
 use Rattle.outbox.specs.Outbox.{pushed}
 use Rattle.node.specs.declared.job.Given.{Given}
@@ -12,10 +14,11 @@ use Rattle.node.specs.Node.{IsPositive, FromPeers, log_at, given_to}
 use Rattle.node.specs.declared.node.TheConstants.{MOST_GIVEN, MOST_RECEIVED}
 pub use Rattle.node.specs.Kept.{with_own, is_short, is_process, comes_back, queue_of}
 
--- its number, and how many processes there are; its incarnation; its state; how many messages its checkpoint covers, and how many of
+-- its limits; its number, and how many processes there are; its incarnation; its state; how many messages its checkpoint covers, and how many of
 -- these are of each sender; by destination the messages that it keeps; by peer the greatest incarnation that it heard of, and whether that
 -- one told that what it had is lost; whether failures came one at a time, as far as it knows; the packets to be taken
 pub record TheOwn : Type 0 where
+  pub limits : Limits
   pub me : ℕ
   pub count : ℕ
   pub life : ℕ
@@ -29,7 +32,8 @@ pub record TheOwn : Type 0 where
   pub out : List Packet
 
 -- what its numbers keep
-pub record IsOwn (me count life base : ℕ) (covered heard : List ℕ) (lost : List Bool) (logs : List TheQueue) : Type 0 where
+pub record IsOwn (limits : Limits) (me count life base : ℕ) (covered heard : List ℕ) (lost : List Bool) (logs : List TheQueue) : Type 0 where
+  pub allowed : AreAllowed limits
   pub inside : 1 ≤ me
   pub within : me ≤ count
   pub few : count ≤ 15
@@ -75,10 +79,11 @@ pub record MayGive (o : TheOwn) (given : List Given) : Type 0 where
 abbrev pub ran : ℕ → List ℕ → List Given → TheOwn → TheOwn
 ran k state given o = record o { state = state; logs = given_to k given o.logs }
 
--- what the process has that comes back in this incarnation: of the gateway it heard, and as far as it knows failures came one at a time
-abbrev pub own_of : Kept → ℕ → TheOwn
-own_of k life =
+-- what the process has that comes back with these limits in this incarnation: of the gateway it heard, and as far as it knows failures came one at a time
+abbrev pub own_of : Limits → Kept → ℕ → TheOwn
+own_of limits k life =
     record {
+      limits = limits;
       me = k.me;
       count = k.count;
       life = life;

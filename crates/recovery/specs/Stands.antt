@@ -10,8 +10,9 @@ use Rattle.packets.specs.declared.packet.Body.{Body}
 use Rattle.packets.specs.declared.packet.Packet.{Packet}
 use Rattle.packets.specs.declared.page.Entry.{Entry}
 use Rattle.packets.specs.declared.kept.Kept.{Kept}
+use Rattle.node.specs.Queue.{TheQueue}
 use Rattle.node.specs.Node.{log_at}
-use Rattle.node.specs.Stands.{Each, PutOut, KeepsOf}
+use Rattle.node.specs.Stands.{Each, PutOut, KeepsOf, IsShut, sent_by}
 pub use Rattle.node.specs.Stands.{own_act, GoesTo}
 use Rattle.recovery.specs.Own.{TheOwn}
 use Rattle.recovery.specs.Meeting.{is_loss}
@@ -33,6 +34,12 @@ pub record IsSure (count : ℕ) (lost : List Bool) (exact : Bool) : Type 0 where
   pub exact_is : exact ≡ true
   pub none_lost : (q : ℕ) → q ≤ count → slice_index_or lost q true ≡ false
 
+-- of what n messages send to one, a queue has released what the first of them send, as many as base, and so what the checkpoint covers; the
+-- rest waits, each for a number behind that
+pub record IsHeldBack (q : TheQueue) (n base : ℕ) (sent : ℕ → ℕ) : Type 0 where
+  pub released_is : q.released ≡ sent base
+  pub shut : IsShut q n (sent base) sent
+
 -- what a process has of its own is what the cluster has of p, whose state has the messages h, and its log these numbers, with so many
 -- entries dropped
 pub record HasOwn (o : TheOwn) (c : Cluster) (p : ℕ) (h : List Message) (trims : ℕ → ℕ) (numbers : ℕ → ℕ → Option ℕ) : Type 0 where
@@ -44,6 +51,8 @@ pub record HasOwn (o : TheOwn) (c : Cluster) (p : ℕ) (h : List Message) (trims
   pub state : c.handlers.state p h ≡ o.state
   pub covered : (q : ℕ) → q ≤ c.count → slice_index_or o.covered q 0 ≡ count_of q (take o.base h)
   pub logs : (d : ℕ) → d ≤ c.count → d ≢ p → KeepsOf (log_at o.logs d) (trims d) (c.handlers.sends p h d) (numbers d)
+  pub held : (d : ℕ) → d ≤ c.count → d ≢ p → IsHeldBack (log_at o.logs d) (length h) o.base (sent_by c.handlers p h d)
+  pub grown : (d : ℕ) → sent_by c.handlers p h d o.base ≤ length (c.handlers.sends p h d)
   pub heard : (q : ℕ) → q ≤ c.count → c.heard p q ≡ slice_index_or o.heard q 0
   pub sure : IsSure o.count o.lost o.exact
   pub out : Each (IsSent c.count c.parcels p) o.out

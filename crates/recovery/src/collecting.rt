@@ -2,6 +2,7 @@
 
 ghost use Rattle.std.specs.Prelude.{◌≡◌, ◌≢◌, ◌≤◌, ◌<◌, ◌+◌, ◌^◌, true, IfOk, OnOk, OnErr};
 ghost use Rattle.std.specs.List.{list_all};
+ghost use Rattle.node.specs.Limit.{AreAllowed};
 ghost use Rattle.node.specs.Node.{IsPeer, IsPositive};
 ghost use Rattle.recovery.specs.Own.{comes_back, is_process, is_short};
 ghost use Rattle.recovery.specs.Collecting.{asks, asked, begins, revived, answers, took_page, asks_anew, asked_by, handed};
@@ -9,7 +10,7 @@ ghost use Rattle.recovery.specs.Stands.{Revives, Acts, IsHanded, Takes};
 
 use crate::collected::Collected;
 use crate::own::Own;
-use node::{MOST_GIVEN, MOST_RECEIVED};
+use node::{Limits, MOST_GIVEN, MOST_RECEIVED};
 use packets::{Body, Entry, Flags, Kept, KeptLog, Packet};
 use std::alloc::{AllocError, Global};
 use std::marker::Model;
@@ -72,24 +73,37 @@ fn is_short(most: u64, log: &KeptLog) -> bool
 }
 
 impl Collecting {
-    /// What is kept of a process comes back in this incarnation; they count from 1. All its peers are asked.
-    pub fn revive(alloc: Global, kept: &Kept, incarnation: u64) -> Result<Collecting, AllocError>
+    /// What is kept of a process comes back in this incarnation; they count from 1. It keeps to these limits
+    /// from now on. All its peers are asked.
+    pub fn revive(
+        alloc: Global,
+        limits: Limits,
+        kept: &Kept,
+        incarnation: u64,
+    ) -> Result<Collecting, AllocError>
+        requires limits { AreAllowed limits }
         requires kept { comes_back kept.now ≡ true }
         requires incarnation { IsPositive incarnation }
-        ensures value { IfOk result (λ n. n ≡ revived kept.now incarnation) }
+        ensures value { IfOk result (λ n. n ≡ revived limits kept.now incarnation) }
         ensures acts { IfOk result (λ n. Revives kept.now incarnation n) }
     {
-        let mut node = Collecting::begin(alloc, kept, incarnation)?;
+        let mut node = Collecting::begin(alloc, limits, kept, incarnation)?;
         node.ask_all();
         Ok(node)
     }
 
-    fn begin(alloc: Global, kept: &Kept, incarnation: u64) -> Result<Collecting, AllocError>
+    fn begin(
+        alloc: Global,
+        limits: Limits,
+        kept: &Kept,
+        incarnation: u64,
+    ) -> Result<Collecting, AllocError>
+        requires limits { AreAllowed limits }
         requires kept { comes_back kept.now ≡ true }
         requires incarnation { IsPositive incarnation }
-        ensures { IfOk result (λ n. n ≡ begins kept.now incarnation) }
+        ensures { IfOk result (λ n. n ≡ begins limits kept.now incarnation) }
     {
-        let own = Own::kept(alloc, kept, incarnation)?;
+        let own = Own::kept(alloc, limits, kept, incarnation)?;
         let mut told = Vec::new(alloc);
         for made in 0..kept.count as usize + 1 {
             told.push(Collected::new(alloc, kept.length))?;

@@ -136,13 +136,14 @@ impl Replayed {
     }
 
     /// Its node, where its peers told their numbers: of which of them it obeyed the Resume. All that it
-    /// sent is released. The packets that wait are those of one that comes back, and are lost.
+    /// sent is released, or where it is durable what its checkpoint covers. The packets that wait are those of one that comes back, and are lost.
     pub fn into_node(self, resumed: Vec<bool>) -> Node
         requires { length resumed.items ≡ suc self.own.count }
         ensures { result ≡ returns resumed.items self }
     {
         let Replayed { own, receipts } = self;
         let Own {
+            limits,
             me,
             count,
             life,
@@ -157,6 +158,7 @@ impl Replayed {
         } = own;
         out.clear();
         Node::returned(Returned {
+            limits,
             me,
             count,
             life,

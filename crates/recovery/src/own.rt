@@ -2,19 +2,21 @@
 
 ghost use Rattle.std.specs.Prelude.{◌≡◌, ℕ, ◌≤◌, ◌+◌, ◌++◌, ◌^◌, length, map, true, false, Some, slice_get, slice_index_or, slice_set, IfOk, OnOk, OnErr};
 ghost use Rattle.outbox.specs.Outbox.{Pops};
+ghost use Rattle.node.specs.Limit.{AreAllowed};
 ghost use Rattle.node.specs.Queue.{no_queue};
 ghost use Rattle.node.specs.Node.{IsPositive};
 ghost use Rattle.recovery.specs.Own.{posts, with_own, queue_of, comes_back, own_of, is_for, hears, learns, IsShort, MayGive, ran};
 
-use node::{Given, MOST_RECEIVED, Queue, log};
+use node::{Given, Limits, MOST_RECEIVED, Queue, log};
 use outbox::Outbox;
 use packets::{Body, Flags, Kept, KeptLog, Packet};
 use std::alloc::{AllocError, Global};
 use std::marker::Model;
 
-/// The number of the process, how many there are, its incarnation, its state, and what its logs keep.
+/// The limits of the process, its number, how many there are, its incarnation, its state, and what its logs keep.
 #[derive(Drop)]
 pub(crate) struct Own {
+    pub(crate) limits: Limits,
     pub(crate) me: u8,
     pub(crate) count: u8,
     pub(crate) life: u64,
@@ -38,17 +40,24 @@ impl Model for Own {
 
     ghost Value = { TheOwn };
 
-    ghost view = { λ o. record { me = o.me; count = o.count; life = o.life; state = o.state.items; base = o.base; covered = o.covered.items; logs = o.logs.items; heard = o.heard.items; lost = o.lost.items; exact = o.exact; out = o.out } };
+    ghost view = { λ o. record { limits = o.limits; me = o.me; count = o.count; life = o.life; state = o.state.items; base = o.base; covered = o.covered.items; logs = o.logs.items; heard = o.heard.items; lost = o.lost.items; exact = o.exact; out = o.out } };
 
-    ghost invariant = { λ o. IsOwn o.me o.count o.life o.base o.covered.items o.heard.items o.lost.items o.logs.items };
+    ghost invariant = { λ o. IsOwn o.limits o.me o.count o.life o.base o.covered.items o.heard.items o.lost.items o.logs.items };
 }
 
 impl Own {
-    /// What is kept of a process, in this incarnation. Of the gateway it heard, of the others it didn't.
-    pub(crate) fn kept(alloc: Global, kept: &Kept, life: u64) -> Result<Own, AllocError>
+    /// What is kept of a process, with these limits, in this incarnation. Of the gateway it heard, of the
+    /// others it didn't.
+    pub(crate) fn kept(
+        alloc: Global,
+        limits: Limits,
+        kept: &Kept,
+        life: u64,
+    ) -> Result<Own, AllocError>
+        requires limits { AreAllowed limits }
         requires kept { comes_back kept.now ≡ true }
         requires life { IsPositive life }
-        ensures { IfOk result (λ o. o ≡ own_of kept.now life) }
+        ensures { IfOk result (λ o. o ≡ own_of limits kept.now life) }
     {
         let me = kept.me;
         let state = Vec::from_slice(alloc, kept.state.as_slice())?;
@@ -61,6 +70,7 @@ impl Own {
         lost.resize(kept.count as usize + 1, false)?;
         let out = Outbox::new(alloc)?;
         Ok(Own {
+            limits,
             me,
             count: kept.count,
             life,

@@ -12,10 +12,10 @@ use Rattle.theorems.proofs.RunLemmas.{run_to-whole}
 use Rattle.theorems.proofs.Tests.{both}
 use Rattle.cluster.specs.Cluster.{Cluster, seen, waiting}
 use Rattle.packets.specs.declared.packet.Packet.{Packet}
-use Rattle.node.specs.Queue.{TheQueue, released_all}
+use Rattle.node.specs.Queue.{TheQueue, released_all, released_again}
 use Rattle.node.specs.Node.{log_at}
 use Rattle.outbox.specs.Outbox.{Pops}
-use Rattle.node.specs.Stands.{Each, KeepsOf, Stands, sent_by}
+use Rattle.node.specs.Stands.{Each, KeepsOf, IsShut, Stands, sent_by, freed_in, most_released}
 use Rattle.recovery.specs.Stands.{IsSent}
 use Rattle.node.proofs.Releases.{log-released}
 use Rattle.restoring.specs.Restoring.{TheRestoring, has_answered, left, is_up, up}
@@ -32,9 +32,10 @@ none-below : (f : ℕ → Bool) (n : ℕ) → ((k : ℕ) → k < n → f k ≡ f
 none-below f zero none = refl
 none-below f (suc n) none = let e : count_below f n ≡ 0 = none-below f n (λ k l. none k (omega (arith, l))) in rw (none n (omega arith)) (omega (arith, e))
 
--- a queue that released all keeps what it kept
-keeps-released : (q : TheQueue) (trims : ℕ) (sent : List (List ℕ)) (numbers : ℕ → Option ℕ) → KeepsOf q trims sent numbers → KeepsOf (released_all q) trims sent numbers
-keeps-released q trims sent numbers k = record {
+-- a queue keeps what it kept, whatever it released
+keeps-released : (durable : Bool) (q : TheQueue) (trims : ℕ) (sent : List (List ℕ)) (numbers : ℕ → Option ℕ) → KeepsOf q trims sent numbers → KeepsOf (released_again durable q) trims sent numbers
+keeps-released true q trims sent numbers k = k
+keeps-released false q trims sent numbers k = record {
   before = k.before;
   many = k.many;
   joined = k.joined;
@@ -60,7 +61,7 @@ module _ (n : TheRestoring) (c : Cluster) (s : StandsRestoring n c n.own.me) (al
   inner : (p == 0) ≡ false
   inner = let z : 0 < p = s.own.inside.0 in grind (arith, nat_tests)
 
-  -- all that it sent is released
+  -- all that it sent is released in the cluster
   free-all : (d : ℕ) → c.released p d ≡ length (c.handlers.sends p h d)
   free-all d = s.released nobody d ∙ (let e : sent_in_all (seen c) p d ≡ length (c.handlers.sends p h d) = rw inner refl in e)
 
@@ -73,6 +74,20 @@ module _ (n : TheRestoring) (c : Cluster) (s : StandsRestoring n c n.own.me) (al
       let run : run_to (c.acknowledged p) (length h) ≡ length h = run_to-whole (c.acknowledged p) (length h) (λ m some l. s.acknowledged m l) in
       let e : take (length h) h ≡ h = take_all (length h) h (omega arith) in
       ap (sent_by c.handlers p h d) run ∙ ap (λ z. length (c.handlers.sends p z d)) e
+
+  -- of a durable node only what its checkpoint covers was released, and of another all
+  shut-again : (durable : Bool) (d : ℕ) → d ≤ c.count → d ≢ p → IsShut (released_again durable (log_at n.own.logs d)) (length h) (most_released durable c p d) (sent_by c.handlers p h d)
+  shut-again true d l o =
+      let P : ℕ → Type 0 = λ z. IsShut (log_at n.own.logs d) (length h) (sent_by c.handlers p h d z) (sent_by c.handlers p h d) in
+      subst P (sym s.own.saved) (s.own.held d l o).shut
+  shut-again false d l o = record { within = omega arith; waits = λ k m. (let e = size d l o in omega (arith, free-all d, e)) }
+
+  free-again : (durable : Bool) (d : ℕ) → sent_by c.handlers p h d (freed_in durable c p) ≤ c.released p d
+  free-again true d =
+      let P : ℕ → Type 0 = λ z. sent_by c.handlers p h d z ≤ length (c.handlers.sends p h d) in
+      let few : sent_by c.handlers p h d (c.saved p) ≤ length (c.handlers.sends p h d) = subst P (sym s.own.saved) (s.own.grown d) in
+      omega (arith, few, free-all d)
+  free-again false d = (let e = whole d in omega (arith, e, free-all d))
 
   nothing-waits : waiting c p ≡ 0
   nothing-waits = none-below (λ k. not (c.acknowledged p (suc k))) (length h) (λ k l. ap not (s.acknowledged (suc k) (omega (arith, l))))
@@ -91,9 +106,9 @@ module _ (n : TheRestoring) (c : Cluster) (s : StandsRestoring n c n.own.me) (al
     saved = s.own.saved;
     received = s.received;
     waits = nothing-waits;
-    logs = λ d l o. rw (log-released n.own.logs d) (keeps-released (log_at n.own.logs d) (c.trims p d) (c.handlers.sends p h d) (c.numbers p d) (s.own.logs d l o));
-    gates = λ d l o. rw (log-released n.own.logs d) (record { within = omega arith; waits = λ k m. (let e = size d l o in omega (arith, free-all d, e)) });
-    free = λ d. (let e = whole d in omega (arith, e, free-all d));
+    logs = λ d l o. rw (log-released n.own.limits.durable n.own.logs d) (keeps-released n.own.limits.durable (log_at n.own.logs d) (c.trims p d) (c.handlers.sends p h d) (c.numbers p d) (s.own.logs d l o));
+    gates = λ d l o. rw (log-released n.own.limits.durable n.own.logs d) (shut-again n.own.limits.durable d l o);
+    free = free-again n.own.limits.durable;
     heard = s.own.heard;
     resumed = λ q l. s.resumed q ∙ sym (answered q);
     out = tt;

@@ -20,17 +20,18 @@ use Rattle.packets.specs.declared.packet.Packet.{Packet}
 use Rattle.node.specs.Queue.{TheQueue, dropped_to}
 use Rattle.node.specs.Node.{log_at}
 use Rattle.pages.specs.Says.{WasSaid, restored_end, first_number}
-use Rattle.node.specs.Stands.{KeepsOf}
+use Rattle.node.specs.Stands.{KeepsOf, sent_by}
 use Rattle.node.proofs.Logs.{changed-at}
 use Rattle.recovery.specs.Own.{TheOwn, hears, is_for}
 use Rattle.recovery.specs.Meeting.{heard_of}
 use Rattle.recovery.specs.Meeting as meeting
 use Rattle.recovery.specs.Entering.{sent_to, noted, takes_in, trusts, AscendFrom}
-use Rattle.recovery.specs.Stands.{HasOwn, IsSaid, GoesTo}
+use Rattle.recovery.specs.Stands.{HasOwn, IsHeldBack, IsSaid, GoesTo}
 use Rattle.recovery.proofs.Meetings.{asks as ask-tells, newer-doubts}
 use Rattle.recovery.proofs.Lists.{at-changed}
 use Rattle.recovery.proofs.Acts.{goes-self, goes-one, goes-then}
 use Rattle.recovery.proofs.Noting.{keeps-page, keeps-covered, last-above}
+use Rattle.recovery.proofs.Holding.{held-told}
 use Rattle.restoring.specs.Restoring.{TheRestoring, IsRestoring, above_of, has_answered, left, asks, last_ssn, answers, is_reply, page_of, doubted, told, greeted, waits_anew, asked_by, heard, handed}
 use Rattle.restoring.specs.Stands.{StandsRestoring, IsHanded}
 use Rattle.restoring.proofs.Left.{without-those, those-same, todo-is, not-replaying}
@@ -98,6 +99,14 @@ module _ (n : TheRestoring) (c : Cluster) (from i j covered s : ℕ) (flags : Fl
       let P : ℕ → Type 0 = λ z. KeepsOf x trims (c.handlers.sends me (c.history me) z) numbers in
       rw e (subst P (sym same) k))
       (λ apart. let e : (d == from) ≡ false = grind (arith, nat_tests) in rw e (st.own.logs d l o))
+
+  -- what it has released of it stays, and what waits
+  held-changed : (some : List Pair) (d : ℕ) → d ≤ c.count → d ≢ me → IsHeldBack (log_at (slice_set n.own.logs from (noted some (dropped_to covered q))) d) (length (c.history me)) n.own.base (sent_by c.handlers me (c.history me) d)
+  held-changed some d l o =
+      changed-at (λ z. IsHeldBack z (length (c.history me)) n.own.base (sent_by c.handlers me (c.history me) d)) n.own.logs from (noted some (dropped_to covered q)) d inside
+      (λ same. let P : ℕ → Type 0 = λ z. IsHeldBack (noted some (dropped_to covered q)) (length (c.history me)) n.own.base (sent_by c.handlers me (c.history me) z) in
+      subst P (sym same) (held-told q covered (length (c.history me)) n.own.base (sent_by c.handlers me (c.history me) from) some (st.own.held from within other-of)))
+      (λ apart. st.own.held d l o)
 
 -- a page of a process
 module _ (n : TheRestoring) (c : Cluster) (from i j covered s : ℕ) (flags : Flags) (pairs : List Pair) (f : ℕ → Option ℕ) (st : StandsRestoring n c n.own.me) (low : from ≤ n.own.count) (some : 0 < from) (w : IsRestoring n.own n.above n.answered)
@@ -189,6 +198,8 @@ module _ (n : TheRestoring) (c : Cluster) (from i j covered s : ℕ) (flags : Fl
         state = st.own.state;
         covered = st.own.covered;
         logs = logs-are;
+        held = held-changed n c from i j covered s flags pairs f st low w ok pairs;
+        grown = st.own.grown;
         heard = heard-is;
         sure = record { exact_is = exact; none_lost = st.own.sure.none_lost };
         out = st.own.out;
@@ -254,6 +265,8 @@ module _ (n : TheRestoring) (c : Cluster) (from i j covered s : ℕ) (flags : Fl
         state = st.own.state;
         covered = st.own.covered;
         logs = logs-are;
+        held = held-changed n c from i j covered s flags pairs f st low w ok pairs;
+        grown = st.own.grown;
         heard = heard-is;
         sure = record { exact_is = exact; none_lost = st.own.sure.none_lost };
         out = st.own.out;
@@ -346,6 +359,8 @@ module _ (n : TheRestoring) (c : Cluster) (i j covered s : ℕ) (flags : Flags) 
       state = st.own.state;
       covered = st.own.covered;
       logs = logs-greeted;
+      held = held-changed n c 0 i j covered s flags pairs f st (omega arith) w ok [];
+      grown = st.own.grown;
       heard = st.own.heard;
       sure = record { exact_is = exact; none_lost = st.own.sure.none_lost };
       out = st.own.out;

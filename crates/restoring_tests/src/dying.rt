@@ -1,7 +1,7 @@
 use gateway::Gateway;
 use helpers::Payload;
 use limits::STATE_BYTES;
-use node::Node;
+use node::{Limits, Node};
 use packets::decode_kept;
 use recovery::{Collecting, comes_back};
 use restoring::Restoring;
@@ -25,7 +25,7 @@ fn exchange(alloc: Global, gateway: &mut Gateway, node: &mut Node) -> Result<(),
 fn what_was_acknowledged_comes_back(rt: HostRuntime) -> Result<(), Fail> {
     let alloc = rt.alloc();
     let mut gateway = Gateway::open(alloc, 1, 60_000, 8)?;
-    let mut node = Node::open(alloc, 1, 1, 2)?;
+    let mut node = Node::open(alloc, Limits::usual(), 1, 1, 2)?;
     if node.state().len() > STATE_BYTES {
         return Err("its state is too long")?;
     }
@@ -40,7 +40,7 @@ fn what_was_acknowledged_comes_back(rt: HostRuntime) -> Result<(), Fail> {
     if !comes_back(&stored) {
         return Err("nothing comes back from it")?;
     }
-    let mut process = Collecting::revive(alloc, &stored, 2)?;
+    let mut process = Collecting::revive(alloc, Limits::usual(), &stored, 2)?;
     if let Some(packet) = process.take() {
         gateway.receive(alloc, &packet)?;
     }

@@ -152,12 +152,12 @@ calls-go f len n s c (k ∷ ks) h m =
     }
 
 pub calls-run : CallsRun
-calls-run f n page tick len calls few m =
+calls-run f n page tick limits len calls few m =
     let g : Handlers = handlers_of f len in
-    let s : System = new_system n len page tick in
+    let s : System = new_system n limits len page tick in
     let begins : Holds g n s (opening n g) = record {
       count = refl;
-      stand = λ p some low. stands-opened p n (len p) g some low (record { state_is = refl; sends_are = λ d. refl });
+      stand = λ p some low. stands-opened (limits p) p n (len p) g some low (record { state_is = refl; sends_are = λ d. refl });
       gateway = gateway_opening.stands-opened n page tick g;
       given = tt;
       handlers = refl;

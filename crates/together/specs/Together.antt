@@ -7,6 +7,7 @@ use Rattle.packets.specs.declared.packet.Packet.{Packet}
 use Rattle.cluster.specs.Cluster.{opening}
 use Rattle.cluster.specs.Rules.{Act, Run, after_run}
 use Rattle.cluster.specs.Promises.{NoOrphanNode, OutputOnce, ReceivedOnce}
+use Rattle.node.specs.declared.limit.Limits.{Limits}
 use Rattle.node.specs.Node.{TheNode, new_node}
 use Rattle.node.specs.Stands as nodes
 use Rattle.node.specs.Beside.{AllStand}
@@ -20,9 +21,9 @@ pub record System : Type 0 where
   pub gateway : TheGateway
   pub given : List Packet
 
--- n new nodes and their gateway
-abbrev pub new_system : ℕ → (ℕ → ℕ) → ℕ → ℕ → System
-new_system n len page tick = record { nodes = λ p. new_node p n (len p); gateway = new_gateway n page tick; given = [] }
+-- n new nodes, each with its limits, and their gateway
+abbrev pub new_system : ℕ → (ℕ → Limits) → (ℕ → ℕ) → ℕ → ℕ → System
+new_system n limits len page tick = record { nodes = λ p. new_node (limits p) p n (len p); gateway = new_gateway n page tick; given = [] }
 
 -- a call that isn't refused, and what the node or the gateway is then
 pub data Call : Type 0 where
@@ -89,6 +90,7 @@ pub record IsRunOf (n : ℕ) (f : Handlers) (s : System) : Type 0 where
   pub output_once : OutputOnce (after_run (opening n f) acts)
   pub received_once : ReceivedOnce (after_run (opening n f) acts)
 
--- calls of nodes and the gateway in any order, with packets handed over late, twice or never, are a run of a cluster
+-- calls of nodes and the gateway in any order, some of them durable or none, with packets handed over late, twice or never, are a run of a cluster
 abbrev pub CallsRun : Type 0
-CallsRun = (f : Answering) (n page tick : ℕ) (len : ℕ → ℕ) (calls : List Call) → n ≤ 15 → Calls f n (new_system n len page tick) calls → IsRunOf n (handlers_of f len) (after_calls (new_system n len page tick) calls)
+CallsRun = (f : Answering) (n page tick : ℕ) (limits : ℕ → Limits) (len : ℕ → ℕ) (calls : List Call) → n ≤ 15 → Calls f n (new_system n limits len page tick) calls
+    → IsRunOf n (handlers_of f len) (after_calls (new_system n limits len page tick) calls)

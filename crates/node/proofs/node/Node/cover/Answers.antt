@@ -20,6 +20,7 @@ invariant_of-self c =
     let senders : c.args.none.senders ≡ [] = ap (λ (r : Received). r.senders) c.requires in
     let many : c.from.result ≡ length old.receipts.senders = c.from.ensures ∙ c.length-received.ensures.value in
     record {
+      allowed = i.allowed;
       inside = i.inside;
       within = i.within;
       few = i.few;

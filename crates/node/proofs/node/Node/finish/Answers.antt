@@ -32,6 +32,7 @@ invariant_of-self-2 c =
     let room = i.room (ap is_some c.in-Some.is) in
     let inside : (k : ℕ) (g : Given) → slice_get given k ≡ Some g → g.to < length old.logs.items = λ k g e. omega (arith, i.logs_wide, (c.requires.others k g e).0, ap (λ (n : TheNode). n.count) c.self.view_is) in
     record {
+      allowed = i.allowed;
       inside = i.inside;
       within = i.within;
       few = i.few;

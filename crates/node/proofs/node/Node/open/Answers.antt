@@ -14,4 +14,4 @@ returns-clause-stands c f begins =
     let logs : c.loop-made.logs.items ≡ replicate wide no_queue = first_of (search rules, grind (arith, common_steps)) in
     let receipts : c.in_ok-receipts.receipts ≡ record { senders = []; acknowledged = [] } = search rules in
     let out : c.in_ok-out.out ≡ [] = search rules in
-    rw (state, covered, heard, resumed, logs, receipts, out) (stands-opened c.args.me c.args.count c.args.state_len f c.requires.own.0 c.requires.own.1 begins)
+    rw (state, covered, heard, resumed, logs, receipts, out) (stands-opened c.args.limits c.args.me c.args.count c.args.state_len f c.requires.own.0 c.requires.own.1 begins)

@@ -11,7 +11,7 @@ pub returns-clause-some : goal.returns-clause-some
 returns-clause-some c =
     let i = c.self.inside in
     let x : Packet = c.in-Some.packet.now in
-    let n : TheNode = record { me = i.me; count = i.count; life = i.life; state = i.state.items; base = i.base; covered = i.covered.items; receipts = i.receipts; logs = i.logs.items; waiting = i.waiting; heard = i.heard.items; resumed = i.resumed.items; exact = i.exact; working = i.working; frozen = i.frozen; out = i.out } in
+    let n : TheNode = record { limits = i.limits; me = i.me; count = i.count; life = i.life; state = i.state.items; base = i.base; covered = i.covered.items; receipts = i.receipts; logs = i.logs.items; waiting = i.waiting; heard = i.heard.items; resumed = i.resumed.items; exact = i.exact; working = i.working; frozen = i.frozen; out = i.out } in
     let first = pops-first c.pop.result i.out c.pop.new.self c.in-Some.ensures.0 x c.pop.ensures c.in-Some.ensures.1 in
     let P : TheNode → Type 0 = λ v. Takes (Some x) v (record n { out = c.pop.new.self }) in
     (x, c.in_ok-bytes.ensures, subst P c.self.view_is (takes-so (Some x) n c.pop.new.self first))

@@ -9,4 +9,4 @@ use Rattle.process.proofs.process.Process.open.Goals as goal
 pub returns : goal.returns
 returns c =
     let len : c.state_len.result ≡ state_of (image_of (arc_value c.args.image)) = first_of (search rules, grind (arith, common_steps)) in
-    opened (image_of (arc_value c.args.image)) c.args.me c.args.count c.state_len.result c.in_ok-node.node c.in_ok-node.ensures.value len c.in_ok-node.ensures.stands
+    opened (image_of (arc_value c.args.image)) c.args.limits c.args.me c.args.count c.state_len.result c.in_ok-node.node c.in_ok-node.ensures.value len c.in_ok-node.ensures.stands

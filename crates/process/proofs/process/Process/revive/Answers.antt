@@ -9,4 +9,4 @@ use Rattle.process.proofs.process.Process.revive.Goals as goal
 pub returns-in-Ok-clause-revived : goal.returns-in-Ok-clause-revived
 returns-in-Ok-clause-revived c =
     let long : length c.in_ok-kept.kept.state ≡ state_of (image_of (arc_value c.args.image)) = first_of (search rules, grind (arith, common_steps)) in
-    came-back (image_of (arc_value c.args.image)) c.args.kept.now c.args.incarnation c.in_ok-kept.kept c.in-Ok.process c.in_ok-kept.ensures.kept.0 c.in_ok-kept.ensures.kept.1 long c.in-Ok.ensures.value c.in-Ok.ensures.acts
+    came-back (image_of (arc_value c.args.image)) c.args.limits c.args.kept.now c.args.incarnation c.in_ok-kept.kept c.in-Ok.process c.in_ok-kept.ensures.kept.0 c.in_ok-kept.ensures.kept.1 long c.in-Ok.ensures.value c.in-Ok.ensures.acts

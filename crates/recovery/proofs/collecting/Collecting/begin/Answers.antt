@@ -9,7 +9,7 @@ use Rattle.recovery.proofs.collecting.Collecting.begin.Goals as goal
 pub invariant_of-result : goal.invariant_of-result
 invariant_of-result c =
     let k = c.args.kept.now in
-    let own : c.in_ok-own.own ≡ own_of k c.args.incarnation = first_of (search rules, grind (arith, common_steps)) in
+    let own : c.in_ok-own.own ≡ own_of c.args.limits k c.args.incarnation = first_of (search rules, grind (arith, common_steps)) in
     let many : c.loop-made.made ≡ k.count + 1 = omega (arith, c.loop-made-test.false) in
     let told : c.loop-made.told.items ≡ replicate (k.count + 1) (none_told k.length) = c.loop-made.invariant ∙ ap (λ n. replicate n (none_told k.length)) many in
     rw (own, told) (record {

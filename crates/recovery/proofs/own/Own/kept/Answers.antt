@@ -22,6 +22,7 @@ invariant_of-result c =
     let heard : c.resize.new.self.items ≡ replicate (k.count + 1) 0 = first_of (search rules, grind (arith, common_steps)) in
     let lost : c.resize-2.new.self.items ≡ replicate (k.count + 1) false = first_of (search rules, grind (arith, common_steps)) in
     rw (covered, logs, heard, lost) (record {
+      allowed = c.requires.limits;
       inside = t.some;
       within = t.own;
       few = t.few;

@@ -13,6 +13,7 @@ invariant_of-self-2 c =
     let old = c.self.inside in
     let logs : c.log.new.logs.items ≡ given_to c.args.number c.args.given.now old.logs.items = c.in_ok-log.ensures.ok in
     record {
+      allowed = i.allowed;
       inside = i.inside;
       within = i.within;
       few = i.few;

@@ -16,6 +16,7 @@ returned-requires c =
     let same = ap (λ (o : TheOwn). o.count) c.own.view_is in
     let base = ap (λ (o : TheOwn). o.base) c.own.view_is in
     record {
+      allowed = i.allowed;
       inside = i.inside;
       within = i.within;
       few = i.few;
