@@ -54,6 +54,8 @@ class Program:
     def command(self):
         file = self.cluster.file_of(self.number)
         words = [self.cluster.program, "--cluster", file, "--me", str(self.number), "--store", self.store]
+        if self.cluster.places:
+            words = ["ip", "netns", "exec", self.cluster.places[self.number][0], *words]
         return words + self.words
 
     def start(self):
@@ -125,9 +127,9 @@ class Program:
 class Cluster:
     """All programs; what was handed in, and what came out."""
 
-    def __init__(self, folder, name, processes, transport="unix", program=None, words=(), port=7600, proxied=False):
-        """processes: pairs of a name and an image."""
-        self.folder, self.name, self.proxied = folder, name, proxied
+    def __init__(self, folder, name, processes, transport="unix", program=None, words=(), port=7600, proxied=False, places=None):
+        """processes: pairs of a name and an image; places: of each program a network namespace, and its address there."""
+        self.folder, self.name, self.proxied, self.places = folder, name, proxied, places
         self.program = program or program_path()
         self.names = ["gateway"] + [process for process, image in processes]
         self.images = [None] + [os.path.realpath(image) for process, image in processes]
@@ -144,7 +146,7 @@ class Cluster:
 
     def address(self, number, through=False):
         if self.transport == "tcp":
-            return f"tcp:127.0.0.1:{self.port + number}"
+            return f"tcp:{self.places[number][1] if self.places else '127.0.0.1'}:{self.port + number}"
         if self.transport == "nats":
             return f"nats:nats://127.0.0.1:{self.port}"
         return f"unix:{self.path(number, through)}"

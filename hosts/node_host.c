@@ -59,9 +59,8 @@ static int read_image(struct host *host) {
 }
 
 /* Says why a call that has to be taken isn't. */
-static int refused(const struct host *host, const char *call, uint32_t code, uint32_t fault) {
+static int refused(const char *call, uint32_t code, uint32_t fault) {
     if (code == SBLOG_NODE_BYTES) report("%s: %s: fault %u", call, code_words(code), fault);
-    else if (code == SBLOG_NODE_LIMIT && host->options->durable) report("%s: this library has no durable nodes yet", call);
     else report("%s: %s", call, code_words(code));
     return code_status(code);
 }
@@ -89,12 +88,12 @@ static int keep(struct host *host) {
     size_t size;
     uint32_t code = freeze(host, &size);
     if (code == SBLOG_NODE_UNREADY || code == SBLOG_NODE_MEMORY) return STATUS_DONE;
-    if (code != SBLOG_NODE_DONE) return refused(host, "checkpoint", code, 0);
+    if (code != SBLOG_NODE_DONE) return refused("checkpoint", code, 0);
     int status = store_write(&host->store, KEPT, host->bytes, size);
     if (status != STATUS_DONE) return status;
     host->checkpoints++;
     code = sblog_node_saved(&host->node);
-    return code == SBLOG_NODE_DONE ? STATUS_DONE : refused(host, "saved", code, 0);
+    return code == SBLOG_NODE_DONE ? STATUS_DONE : refused("saved", code, 0);
 }
 
 /* The first life: what it begins with is durable, then the incarnation, then whose it is; and then it begins. */
@@ -106,14 +105,14 @@ static int begin_new(struct host *host, const struct owner *owner, uint64_t inca
     }
     uint32_t code = sblog_node_open(host->image, host->image_size, (uint8_t)owner->me, (uint8_t)host->cluster->count, PAGE, TICK,
                                     NUMBERS, RECEIPTS, owner->durable, &host->node);
-    if (code != SBLOG_NODE_DONE) return refused(host, "open", code, 0);
-    if ((code = freeze(host, &size)) != SBLOG_NODE_DONE) return refused(host, "checkpoint", code, 0);
+    if (code != SBLOG_NODE_DONE) return refused("open", code, 0);
+    if ((code = freeze(host, &size)) != SBLOG_NODE_DONE) return refused("checkpoint", code, 0);
     int status = store_write(&host->store, KEPT, host->bytes, size);
     if (status == STATUS_DONE) status = store_write_incarnation(&host->store, 1);
     if (status == STATUS_DONE) status = store_claim(&host->store, owner);
     if (status != STATUS_DONE) return status;
     code = sblog_node_saved(&host->node);
-    return code == SBLOG_NODE_DONE ? STATUS_DONE : refused(host, "saved", code, 0);
+    return code == SBLOG_NODE_DONE ? STATUS_DONE : refused("saved", code, 0);
 }
 
 /* A life after another one: its incarnation is durable first. */
@@ -133,7 +132,7 @@ static int begin_again(struct host *host, const struct owner *owner, uint64_t in
     uint32_t code = sblog_node_revive(host->image, host->image_size, kept, size, incarnation + 1, PAGE, TICK, NUMBERS, RECEIPTS,
                                       owner->durable, &host->node, &fault);
     free(kept);
-    return code == SBLOG_NODE_DONE ? STATUS_DONE : refused(host, KEPT, code, fault);
+    return code == SBLOG_NODE_DONE ? STATUS_DONE : refused(KEPT, code, fault);
 }
 
 static int begin(struct host *host) {
@@ -151,7 +150,7 @@ static int begin(struct host *host) {
     if (status == STATUS_DONE) status = metrics_open(&host->metrics, options->metrics);
     if (status == STATUS_DONE) status = store_read_incarnation(&host->store, &incarnation);
     if (status != STATUS_DONE) return status;
-    if (!has_room(host, ROOM)) return refused(host, "open", SBLOG_NODE_MEMORY, 0);
+    if (!has_room(host, ROOM)) return refused("open", SBLOG_NODE_MEMORY, 0);
     return is_new ? begin_new(host, &owner, incarnation) : begin_again(host, &owner, incarnation);
 }
 

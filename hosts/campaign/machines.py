@@ -1,0 +1,39 @@
+"""Two network namespaces in place of two machines. The link between them delays packets and loses some, where the kernel has
+netem; else it is slow, and drops what waits too long."""
+import subprocess
+
+NAMES = ("sblog-one", "sblog-two")
+ADDRESSES = ("10.77.0.1", "10.77.0.2")
+LINKS = ("netem delay 5ms 2ms loss 1%", "tbf rate 4mbit burst 4kb latency 5ms")
+
+
+def run(words):
+    subprocess.run(words.split(), check=True, stderr=subprocess.DEVNULL)
+
+
+def shapes(name, link):
+    words = f"ip netns exec {name} tc qdisc add dev sblog0 root {link}"
+    return subprocess.run(words.split(), check=False, stderr=subprocess.DEVNULL).returncode == 0
+
+
+class Machines:
+    """`places` has a namespace and an address for each program, by its number: the gateway is on the first, and so in turn."""
+
+    def __init__(self, count):
+        self.places = [(NAMES[number % 2], ADDRESSES[number % 2]) for number in range(count)]
+
+    def __enter__(self):
+        self.__exit__()
+        for name in NAMES:
+            run(f"ip netns add {name}")
+            run(f"ip -n {name} link set lo up")
+        run(f"ip link add sblog0 netns {NAMES[0]} type veth peer name sblog0 netns {NAMES[1]}")
+        for name, address in zip(NAMES, ADDRESSES):
+            run(f"ip -n {name} addr add {address}/24 dev sblog0")
+            run(f"ip -n {name} link set sblog0 up")
+            self.link = next(link for link in LINKS if shapes(name, link))
+        return self
+
+    def __exit__(self, *_):
+        for name in NAMES:
+            subprocess.run(["ip", "netns", "del", name], check=False, stderr=subprocess.DEVNULL)
