@@ -1,5 +1,5 @@
 #!/usr/bin/env python3
-"""The listing of an image of form 3, which `sblog explain` doesn't list: listings.py IMAGE ..
+"""The listing of an image of form 3, to hold beside what `sblog explain` prints: listings.py IMAGE ..
 
 It is written from docs/FORMATS.md ("Rules of form 3", "Listing"), and not from the program: the verdict of a plain
 pass over the code with intervals of whole numbers, and the lines of that page.

@@ -1,5 +1,5 @@
 mod Reasons
 mod Studies
-mod Texts
+pub mod Texts
 mod Together
 mod Ways

@@ -91,7 +91,7 @@ fn target_of(slot: usize, distance: i32) -> i64
 }
 
 /// Writes where a jump leads.
-fn push_jump_cause(
+pub fn push_jump_cause(
     out: &mut String,
     slots: usize,
     slot: usize,
@@ -140,7 +140,8 @@ fn push_mixed_cause(out: &mut String, frame: &Frame, what: &Attributes) -> Resul
     }
 }
 
-fn push_distance_cause(out: &mut String, reg: Reg, by: i64) -> Result<(), AllocError>
+/// Writes by how much a register is moved.
+pub fn push_distance_cause(out: &mut String, reg: Reg, by: i64) -> Result<(), AllocError>
     ensures { OnOk result (string_bytes out.new ≡ string_bytes out.old ++ distance_cause reg by) }
 {
     push_reg(out, reg)?;
@@ -210,7 +211,8 @@ fn push_helper_cause(out: &mut String, form: ImageForm, insn: &Insn) -> Result<(
     }
 }
 
-fn push_count_cause(out: &mut String, number: usize) -> Result<(), AllocError>
+/// Writes that an argument is to be a number.
+pub fn push_count_cause(out: &mut String, number: usize) -> Result<(), AllocError>
     ensures { OnOk result (string_bytes out.new ≡ string_bytes out.old ++ count_cause number) }
 {
     push_with(out, "r", number, " is to be a number")

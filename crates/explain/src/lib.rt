@@ -10,6 +10,8 @@
 //! said of a register is what the least typing says; of code that is refused, that of the slots up to the one that is
 //! named. Of a register that isn't set a reason is named only where it holds (`specs/Why.antt`).
 //!
+//! The functions that write a part of a listing are there for `span_explain`, which lists code of form 3.
+//!
 //! ```text
 //! let text = explain(alloc, &bytes)?;
 //! // form 1, 8 bytes of state
@@ -27,5 +29,8 @@ mod reads;
 mod study;
 mod why;
 
-pub use listing::{explain, listing_of};
+pub use cause::{push_count_cause, push_distance_cause, push_jump_cause};
+pub use kinds::{push_reg, push_signed, push_with, push_with_signed, region_word};
+pub use listing::{explain, listing_of, push_verdict};
+pub use reads::{base, is_read, shifted};
 pub use study::{Study, study_of};

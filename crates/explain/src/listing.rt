@@ -179,14 +179,15 @@ fn push_refused(out: &mut String, rule: Rule, slot: usize) -> Result<(), AllocEr
 }
 
 /// Writes the verdict, in the words of `check`.
-fn push_verdict(out: &mut String, study: &Study) -> Result<(), AllocError>
-    ensures { OnOk result (string_bytes out.new ≡ string_bytes out.old ++ verdict_text study.now.count study.now.refusal) }
+pub fn push_verdict(
+    out: &mut String,
+    count: usize,
+    refusal: Option<(Rule, usize)>,
+) -> Result<(), AllocError>
+    ensures { OnOk result (string_bytes out.new ≡ string_bytes out.old ++ verdict_text count refusal) }
 {
-    match study.refusal {
-        None => {
-            let count = study.count;
-            writeln!(out, "accepted {count} instructions")
-        }
+    match refusal {
+        None => writeln!(out, "accepted {count} instructions"),
         Some((rule, slot)) => push_refused(out, rule, slot),
     }
 }
@@ -221,7 +222,7 @@ pub fn listing_of(alloc: Global, study: &Study) -> Result<String, AllocError>
     for slot in 0..study.slots.len() {
         push_slot(alloc, &mut out, study, &whys, slot)?;
     }
-    push_verdict(&mut out, study)?;
+    push_verdict(&mut out, study.count, study.refusal)?;
     Ok(out)
 }
 

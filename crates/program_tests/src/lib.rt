@@ -12,6 +12,8 @@ mod drawing;
 #[cfg(test)]
 mod explaining;
 #[cfg(test)]
+mod explaining_spans;
+#[cfg(test)]
 mod greatest;
 #[cfg(test)]
 mod running;

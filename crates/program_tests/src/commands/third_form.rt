@@ -20,13 +20,36 @@ static SLICE: [u8; 88] = *b"SBI3\x00\x00\x0a\x00\
 static SLICE_TEXT: &str = "mov r0, 1\nldxb r2, [r1+1]\nldxb r4, [r1+0]\njgt32 r4, r2, +5\n\
     jgt r2, r3, +4\nadd r1, r4\nsub r2, r4\ncall 6\nmov r0, 0\nexit\n";
 
+/// Its listing, by a plain pass in Python over the same code (`model/listings.py`).
+static SLICE_LISTING: &str = "form 3, 0 bytes of state\n\
+    0: mov r0, 1\n\
+    1: ldxb r2, [r1+1]\n\
+    \x20\x20\x20\x20r1 message+0 of 512\n\
+    2: ldxb r4, [r1+0]\n\
+    \x20\x20\x20\x20r1 message+0 of 512\n\
+    3: jgt32 r4, r2, +5\n\
+    \x20\x20\x20\x20r2 number 0 to 255\n\
+    \x20\x20\x20\x20r4 number 0 to 255\n\
+    4: jgt r2, r3, +4\n\
+    \x20\x20\x20\x20r2 number 0 to 255\n\
+    \x20\x20\x20\x20r3 number 0 to 256\n\
+    5: add r1, r4\n\
+    \x20\x20\x20\x20r1 message+0 of 512\n\
+    \x20\x20\x20\x20r4 number 0 to 255\n\
+    6: sub r2, r4\n\
+    \x20\x20\x20\x20r2 number 0 to 255\n\
+    \x20\x20\x20\x20r4 number 0 to 255\n\
+    7: call 6\n\
+    \x20\x20\x20\x20r1 message+0 to 255 of 512\n\
+    \x20\x20\x20\x20r2 number\n\
+    8: mov r0, 0\n\
+    9: exit\n\
+    \x20\x20\x20\x20r0 number 0 to 1\n\
+    accepted 10 instructions\n";
+
 /// What is said of `exit` alone: r0 holds nothing there.
 static NO_NUMBER: &str = "verify refused V10 at slot 0
 i: sblog explain shows why
-";
-
-static NO_IMAGE: &str = "load refused 2
-i: not an image file (assembler text? sblog asm writes images)
 ";
 
 static CUT: &str = "load refused 5
@@ -83,7 +106,8 @@ fn slice_both_ways(rt: HostRuntime) -> Result<(), Fail> {
         0,
         "accepted 10 instructions\n",
         slice,
-    )
+    )?;
+    ends(&rt, "explain i", b"", slice, 0, SLICE_LISTING, slice)
 }
 
 #[test]
@@ -92,18 +116,16 @@ fn refused_images(rt: HostRuntime) -> Result<(), Fail> {
     ends(&rt, "check i", b"", exit_alone, 3, NO_NUMBER, exit_alone)?;
     let cut = &SLICE[..87];
     ends(&rt, "check i", b"", cut, 3, CUT, cut)?;
-    ends(&rt, "dis i", b"", cut, 3, CUT, cut)
+    ends(&rt, "dis i", b"", cut, 3, CUT, cut)?;
+    ends(&rt, "explain i", b"", cut, 3, CUT, cut)
 }
 
-// The same code is refused in form 2, where the message is read behind a test of its length alone; `explain` takes
-// forms 1 and 2.
+// The same code is refused in form 2, where the message is read behind a test of its length alone.
 #[test]
 fn other_forms(rt: HostRuntime) -> Result<(), Fail> {
     let mut second = SLICE.to_vec(rt.alloc())?;
     second[3] = b'2';
     let image = second.as_slice();
     let shown = "verify refused V6 at slot 1\ni: sblog explain shows why\n";
-    ends(&rt, "check i", b"", image, 3, shown, image)?;
-    let slice = SLICE.as_slice();
-    ends(&rt, "explain i", b"", slice, 3, NO_IMAGE, slice)
+    ends(&rt, "check i", b"", image, 3, shown, image)
 }

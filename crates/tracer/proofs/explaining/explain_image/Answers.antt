@@ -1,17 +1,17 @@
 use Rattle.std.proofs.Common.{◌≡◌, ◌∙◌, subst, string_bytes}
-use Rattle.explain.specs.Listing.{IsExplained}
-use Rattle.verifier.specs.ImageFile.{IsUnread}
+use Rattle.images.specs.ImageFile.{IsUnread}
+use Rattle.listings.specs.Explained.{IsExplained}
 use Rattle.tracer.proofs.CauseLemmas.{becomes, read_fault}
-use Rattle.tracer.proofs.HeadLemmas.{head_explained, head_unread}
+use Rattle.tracer.proofs.HeadLemmas.{any_explained, any_unread}
 use Rattle.tracer.proofs.explaining.explain_image.Goals as goal
 
 pub returns-in_err-text-clause-fault : goal.returns-in_err-text-clause-fault
 returns-in_err-text-clause-fault g c =
     becomes c.from_residual-in_err-text.result _ _ c.from_residual-in_err-text.ensures.1
-    (λ f is. read_fault IsUnread head_unread (g.F.Files.content c.args.files.now) (g.F.Files.failed c.read.new.files) c.args.path.now c.as_slice.result.now c.in_err-text.field-0.0 f
+    (λ f is. read_fault IsUnread any_unread (g.F.Files.content c.args.files.now) (g.F.Files.failed c.read.new.files) c.args.path.now c.as_slice.result.now c.in_err-text.field-0.0 f
     (λ known there. c.as_slice.ensures.value ∙ c.in_ok-bytes.ensures.bytes known there) c.in_err-text.ensures.refused is)
 
 pub returns-clause-listing : goal.returns-clause-listing
 returns-clause-listing g c = λ known there.
     let text = string_bytes c.in_ok-text.text in
-    head_explained known text (subst (λ b. IsExplained b text) (c.as_slice.ensures.value ∙ c.in_ok-bytes.ensures.bytes known there) c.in_ok-text.ensures.listing)
+    any_explained known text (subst (λ b. IsExplained b text) (c.as_slice.ensures.value ∙ c.in_ok-bytes.ensures.bytes known there) c.in_ok-text.ensures.listing)

@@ -1,0 +1,3 @@
+mod Words
+mod Frames
+mod Written

@@ -1,0 +1,212 @@
+//! A cause as a sentence, and what to do about it.
+
+ghost use Rattle.std.specs.Prelude.{◌≡◌, ◌<◌, ◌≤◌, ◌++◌, OnOk, codes, decimal, string_bytes};
+ghost use Rattle.std.specs.Fmt.{signed_decimal};
+ghost use Rattle.explain.specs.Kinds.{reg_text};
+ghost use Rattle.span_explain.specs.Kinds.{places_text, range_text, word_text};
+ghost use Rattle.span_explain.specs.Sentence.{cause_advice, cause_text, register_advice, register_words, word_advice, word_words};
+
+use crate::cause::{Cause, RegisterFault, WordFault};
+use crate::kinds::{push_places, push_range, push_word};
+use decode::Reg;
+use explain::{push_count_cause, push_distance_cause, push_jump_cause, push_reg, push_with};
+use limits::SLOTS;
+use regtypes::Region;
+use spans::Span;
+use std::alloc::AllocError;
+
+fn register_words(fault: RegisterFault) -> &'static str
+    ensures { result.now ≡ register_words fault }
+{
+    match fault {
+        RegisterFault::Unset => " is read and isn't set",
+        RegisterFault::PlaceAsNumber => " is read as a number and holds a place",
+        RegisterFault::NumberAsBase => " is the base of a load or store and holds a number",
+        RegisterFault::PlaceStored =>
+            " holds a place, which only a whole word of the stack can keep",
+        RegisterFault::Message => " is a place of the message, which is for reading",
+    }
+}
+
+/// Writes what is done with a part of a place.
+fn push_part(out: &mut String, bytes: u8, what: &str) -> Result<(), AllocError>
+    ensures { OnOk result (string_bytes out.new ≡ string_bytes out.old ++ (codes " holds a place, of which " ++ decimal bytes ++ codes " bytes " ++ what.now)) }
+{
+    push_with(out, " holds a place, of which ", bytes.into(), " bytes ")?;
+    out.push_str(what)
+}
+
+/// Writes what is the matter with a word of the stack.
+fn push_word_words(out: &mut String, fault: WordFault) -> Result<(), AllocError>
+    ensures { OnOk result (string_bytes out.new ≡ string_bytes out.old ++ word_words fault) }
+{
+    match fault {
+        WordFault::Unset => out.push_str(" is read and isn't set"),
+        WordFault::NoNumber => out.push_str(" is to be a number"),
+        WordFault::Read(bytes) => push_part(out, bytes, "are read"),
+        WordFault::Written(bytes) => push_part(out, bytes, "are written"),
+    }
+}
+
+/// Writes two registers that are added.
+fn push_sum(out: &mut String, first: Reg, second: Reg) -> Result<(), AllocError>
+    ensures { OnOk result (string_bytes out.new ≡ string_bytes out.old ++ (reg_text first ++ codes " and " ++ reg_text second ++ codes " are added, and both hold places")) }
+{
+    push_reg(out, first)?;
+    out.push_str(" and ")?;
+    push_reg(out, second)?;
+    out.push_str(" are added, and both hold places")
+}
+
+/// Writes the bytes that are reached.
+fn push_outside(
+    out: &mut String,
+    bytes: u8,
+    region: Region,
+    lo: i64,
+    hi: i64,
+    state_len: u16,
+) -> Result<(), AllocError>
+    ensures { OnOk result (string_bytes out.new ≡ string_bytes out.old ++ (codes "not all of the " ++ decimal bytes ++ codes " bytes at " ++ places_text state_len region lo hi ++ codes " lie there")) }
+{
+    push_with(out, "not all of the ", bytes.into(), " bytes at ")?;
+    push_places(out, region, lo, hi, state_len)?;
+    out.push_str(" lie there")
+}
+
+/// Writes by what a place is moved.
+fn push_moved(out: &mut String, reg: Reg, span: Span) -> Result<(), AllocError>
+    ensures { OnOk result (string_bytes out.new ≡ string_bytes out.old ++ (reg_text reg ++ codes " is moved by " ++ range_text span ++ codes ", out of the places from -32768 to 32767")) }
+{
+    push_reg(out, reg)?;
+    out.push_str(" is moved by ")?;
+    push_range(out, span)?;
+    out.push_str(", out of the places from -32768 to 32767")
+}
+
+/// Writes which helper there isn't.
+fn push_helper(out: &mut String, helper: i32) -> Result<(), AllocError>
+    ensures { OnOk result (string_bytes out.new ≡ string_bytes out.old ++ (codes "form 3 has no helper " ++ signed_decimal helper)) }
+{
+    out.push_str("form 3 has no helper ")?;
+    write!(out, "{helper}")
+}
+
+/// Writes what an argument is to be.
+fn push_payload(out: &mut String, reg: u8, bytes: u16) -> Result<(), AllocError>
+    ensures { OnOk result (string_bytes out.new ≡ string_bytes out.old ++ (codes "r" ++ decimal reg ++ codes " is to be a place, with " ++ decimal bytes ++ codes " bytes from there on in its region")) }
+{
+    push_with(out, "r", reg.into(), " is to be a place, with ")?;
+    write!(out, "{bytes}")?;
+    out.push_str(" bytes from there on in its region")
+}
+
+/// Writes a word of the stack and what is the matter with it.
+fn push_word_cause(out: &mut String, cell: usize, fault: WordFault) -> Result<(), AllocError>
+    ensures { OnOk result (string_bytes out.new ≡ string_bytes out.old ++ (codes "the word at " ++ word_text cell ++ word_words fault)) }
+{
+    out.push_str("the word at ")?;
+    push_word(out, cell)?;
+    push_word_words(out, fault)
+}
+
+/// Writes a register and what is the matter with it.
+fn push_register_cause(out: &mut String, reg: Reg, fault: RegisterFault) -> Result<(), AllocError>
+    ensures { OnOk result (string_bytes out.new ≡ string_bytes out.old ++ (reg_text reg ++ register_words fault)) }
+{
+    push_reg(out, reg)?;
+    out.push_str(register_words(fault))
+}
+
+/// Writes what breaks a rule at a slot.
+pub fn push_cause(
+    out: &mut String,
+    state_len: u16,
+    slots: usize,
+    slot: usize,
+    cause: Cause,
+) -> Result<(), AllocError>
+    requires within { slot < slots }
+    requires short { slots ≤ SLOTS }
+    ensures { OnOk result (string_bytes out.new ≡ string_bytes out.old ++ cause_text state_len slots slot cause) }
+{
+    match cause {
+        Cause::Nothing => Ok(()),
+        Cause::Jump(distance) => push_jump_cause(out, slots, slot, distance),
+        Cause::NothingFollows => out.push_str("nothing follows this instruction"),
+        Cause::FramePointer => out.push_str("r10 is written, and is for reading"),
+        Cause::NoAnswer => out.push_str("r0 is to be a number at the end"),
+        Cause::OfRegister(reg, fault) => push_register_cause(out, reg, fault),
+        Cause::OfWord(cell, fault) => push_word_cause(out, cell, fault),
+        Cause::SumOfPlaces(first, second) => push_sum(out, first, second),
+        Cause::Outside(bytes, region, lo, hi) => {
+            push_outside(out, bytes, region, lo, hi, state_len)
+        }
+        Cause::MovedBy(reg, span) => push_moved(out, reg, span),
+        Cause::ShiftedBy(reg, by) => push_distance_cause(out, reg, by),
+        Cause::NoHelper(helper) => push_helper(out, helper),
+        Cause::NoCount(reg) => push_count_cause(out, reg.into()),
+        Cause::NoPayload(reg, bytes) => push_payload(out, reg, bytes),
+    }
+}
+
+fn register_advice(fault: RegisterFault) -> &'static str
+    ensures { result.now ≡ register_advice fault }
+{
+    match fault {
+        RegisterFault::Unset =>
+            "set it on each way that leads here, alike: a function that gives a pointer or NULL gives an index in its place, and one more for none; what a helper must not lose belongs in r6 to r9",
+        RegisterFault::PlaceAsNumber => "compare and compute with indices in place of pointers",
+        RegisterFault::NumberAsBase =>
+            "load and store at an index of the message, the state or a local array: a pointer that was kept in the state comes back as a number",
+        RegisterFault::PlaceStored =>
+            "keep an index in its place; a pointer is kept by a local variable alone",
+        RegisterFault::Message => "copy it to a local array, and change the copy",
+    }
+}
+
+fn word_advice(fault: WordFault) -> &'static str
+    ensures { result.now ≡ word_advice fault }
+{
+    match fault {
+        WordFault::Unset =>
+            "set the local variable on each way that leads here, alike: a pointer on all, or a number on all",
+        WordFault::NoNumber =>
+            "send or output a local array of numbers, each of which is set on each way that leads here",
+        WordFault::Read(_) | WordFault::Written(_) =>
+            "compare the index of the local array with a number, or mask it, so that no pointer lies within its reach",
+    }
+}
+
+/// What to do about an index.
+const INDEX: &str =
+    "compare the index with a number, or mask it, on each way that leads here, before it is added";
+
+/// What to do about a place that no index moves.
+const REGION: &str =
+    "stay inside the region: the message has 512 bytes with the zeros behind it, the local variables have 512, the state has as many as its image says";
+
+/// What to do about a cause.
+pub fn cause_advice(cause: Cause) -> &'static str
+    ensures { result.now ≡ cause_advice cause }
+{
+    match cause {
+        Cause::Nothing => "read the listing from here upward",
+        Cause::Jump(_) =>
+            "jump forward, to where an instruction begins: write unrolled above a loop of known length, and turn() first in it where clang leaves it as one",
+        Cause::NothingFollows => "end each way with exit",
+        Cause::FramePointer => "copy it by mov, and change the copy",
+        Cause::NoAnswer => "return a number on each way",
+        Cause::OfRegister(_, fault) => register_advice(fault),
+        Cause::OfWord(_, fault) => word_advice(fault),
+        Cause::SumOfPlaces(_, _) => "compare and compute with indices in place of pointers",
+        Cause::Outside(_, _, lo, hi) if hi <= lo => REGION,
+        Cause::Outside(_, _, _, _) => INDEX,
+        Cause::MovedBy(_, _) => INDEX,
+        Cause::ShiftedBy(_, _) => REGION,
+        Cause::NoHelper(_) => "call helper 1 to 6",
+        Cause::NoCount(_) => "give the helper a number, set on each way that leads here",
+        Cause::NoPayload(_, _) =>
+            "compare the length with a number that fits before the call, or give a fixed one, and begin where so many bytes are left",
+    }
+}
