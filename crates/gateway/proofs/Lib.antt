@@ -8,5 +8,4 @@ pub mod Views
 pub mod Opening
 pub mod Since
 pub mod Sendable
-pub mod PageRoom
 pub mod Taking
