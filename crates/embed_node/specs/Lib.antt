@@ -1,4 +1,6 @@
 pub mod Inside
-pub mod Node
+pub mod Answers
+pub mod Calls
+pub mod Giving
 pub mod Opening
-pub mod Reading
+pub mod Standing

@@ -21,6 +21,7 @@ use Rattle.embed_node.specs.declared.opening.Limits.{Limits}
 use Rattle.embed_node.specs.declared.opening.TheConstants.{MOST_PAGE}
 use Rattle.embed_node.specs.declared.fault.Fault.{Fault}
 use Rattle.embed_node.specs.declared.fault.Fault.TheVariants.{Memory, Handle, Image, Bytes, Limit}
+use Rattle.embed_node.specs.Answers.{Answers, AnswersOfBytes}
 
 -- the file is that of this image, of any form, whose code is typable in it
 pub record IsImageIn (file : List ℕ) (image : AnyImage) : Type 0 where
@@ -43,6 +44,10 @@ IsTold why.Memory fault = fault ≡ Memory
 IsTold (why.Kept e) fault = fault ≡ Bytes (kept_fault_number e)
 IsTold why.State fault = fault ≡ Bytes 9
 IsTold why.Incarnation fault = fault ≡ Limit
+
+-- limits, as C gives them
+abbrev pub limits_from : ℕ → ℕ → ℕ → ℕ → ℕ → Limits
+limits_from page tick numbers receipts durable = record { page = page; tick = tick; numbers = numbers; receipts = receipts; durable = durable }
 
 -- the limits are in their ranges
 pub record AreLimits (l : Limits) : Type 0 where
@@ -106,3 +111,12 @@ DoesNotRevive file kept life l old new Image = (old ≡ None) × (new ≡ None) 
 DoesNotRevive file kept life l old new (Bytes f) = (old ≡ None) × (new ≡ None) × (AreLimits l × IsPositive life) × AreRefused file kept life f
 DoesNotRevive file kept life l old new Memory = (old ≡ None) × (new ≡ None) × (AreLimits l × IsPositive life)
 DoesNotRevive file kept life l old new other = ⊥
+
+-- what a code says where a process is opened: of its image file, the process, the processes in all and its limits
+abbrev pub AnswersOpening : List ℕ → ℕ → ℕ → Limits → ℕ → Option TheProcess → Option TheProcess → Type 0
+AnswersOpening file me n l code old new = Answers code old new (Opens file me n l) (DoesNotOpen file me n l)
+
+-- what a code says where a process comes back: of its image file, what was kept, its incarnation and its limits, and of the number of the
+-- fault before and after
+abbrev pub AnswersRevival : List ℕ → List ℕ → ℕ → Limits → ℕ → Option TheProcess → Option TheProcess → ℕ → ℕ → Type 0
+AnswersRevival file kept life l code old new was fault = AnswersOfBytes code old new was fault (Revives file kept life l) (DoesNotRevive file kept life l)

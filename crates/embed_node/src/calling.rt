@@ -1,7 +1,7 @@
 //! Calls of the process of a handle.
 
-ghost use Rattle.std.specs.Prelude.{MatchResult};
-ghost use Rattle.embed_node.specs.Node.{IsClosed, WasClosed, IsReceived, IsUnreceived, HasWorked, HasNotWorked, HasTicked, HasSaved, HasNotSaved};
+ghost use Rattle.embed_node.specs.Answers.{Results};
+ghost use Rattle.embed_node.specs.Calls.{IsClosed, WasClosed, IsReceived, IsUnreceived, HasWorked, HasNotWorked, HasTicked, HasSaved, HasNotSaved};
 
 use crate::fault::Fault;
 use crate::handle::NodeHandle;
@@ -10,7 +10,7 @@ use std::alloc::Global;
 
 /// Closes a handle, and gives the memory of its process back.
 pub(crate) fn close(alloc: Global, handle: &mut NodeHandle) -> Result<(), Fault>
-    ensures { MatchResult result (λ _. IsClosed handle.old.process.value handle.new.process.value) (WasClosed handle.old.process.value handle.new.process.value) }
+    ensures { Results result handle.old.process.value handle.new.process.value IsClosed WasClosed }
 {
     match handle.take(alloc) {
         Some(_process) => Ok(()),
@@ -20,7 +20,7 @@ pub(crate) fn close(alloc: Global, handle: &mut NodeHandle) -> Result<(), Fault>
 
 /// Hands it a packet that came.
 pub(crate) fn receive(alloc: Global, handle: &mut NodeHandle, packet: &[u8]) -> Result<(), Fault>
-    ensures { MatchResult result (λ _. IsReceived packet.now handle.old.process.value handle.new.process.value) (IsUnreceived packet.now handle.old.process.value handle.new.process.value) }
+    ensures { Results result handle.old.process.value handle.new.process.value (IsReceived packet.now) (IsUnreceived packet.now) }
 {
     let Some(mut process) = handle.take(alloc) else {
         return Err(Fault::Handle);
@@ -36,7 +36,7 @@ pub(crate) fn receive(alloc: Global, handle: &mut NodeHandle, packet: &[u8]) -> 
 
 /// Has its handler run.
 pub(crate) fn work(alloc: Global, handle: &mut NodeHandle) -> Result<(), Fault>
-    ensures { MatchResult result (λ _. HasWorked handle.old.process.value handle.new.process.value) (HasNotWorked handle.old.process.value handle.new.process.value) }
+    ensures { Results result handle.old.process.value handle.new.process.value HasWorked HasNotWorked }
 {
     let Some(mut process) = handle.take(alloc) else {
         return Err(Fault::Handle);
@@ -52,7 +52,7 @@ pub(crate) fn work(alloc: Global, handle: &mut NodeHandle) -> Result<(), Fault>
 
 /// Has it send again what isn't answered.
 pub(crate) fn tick(alloc: Global, handle: &mut NodeHandle) -> Result<(), Fault>
-    ensures { MatchResult result (λ _. HasTicked handle.old.process.value handle.new.process.value) (WasClosed handle.old.process.value handle.new.process.value) }
+    ensures { Results result handle.old.process.value handle.new.process.value HasTicked WasClosed }
 {
     let Some(mut process) = handle.take(alloc) else {
         return Err(Fault::Handle);
@@ -64,7 +64,7 @@ pub(crate) fn tick(alloc: Global, handle: &mut NodeHandle) -> Result<(), Fault>
 
 /// Tells it that its checkpoint is durable.
 pub(crate) fn saved(alloc: Global, handle: &mut NodeHandle) -> Result<(), Fault>
-    ensures { MatchResult result (λ _. HasSaved handle.old.process.value handle.new.process.value) (HasNotSaved handle.old.process.value handle.new.process.value) }
+    ensures { Results result handle.old.process.value handle.new.process.value HasSaved HasNotSaved }
 {
     let Some(mut process) = handle.take(alloc) else {
         return Err(Fault::Handle);

@@ -2,15 +2,17 @@
 //! says of handle and buffers stands in the contracts.
 
 ghost use Rattle.std.specs.Prelude.{◌≡◌};
-ghost use Rattle.embed_node.specs.Node.{Answers, written, IsClosed, WasClosed, IsReceived, IsUnreceived, HasWorked, HasNotWorked, HasTicked, HasSaved, HasNotSaved};
-ghost use Rattle.embed_node.specs.Opening.{Opens, DoesNotOpen, Revives, DoesNotRevive};
-ghost use Rattle.embed_node.specs.Reading.{IsTaken, IsUntaken, IsMade, IsUnmade, IsStanding, IsRead, IsUnread};
+ghost use Rattle.embed_node.specs.Answers.{Answers, AnswersOfBytes, OnFault};
+ghost use Rattle.embed_node.specs.Calls.{IsClosed, WasClosed, IsReceived, IsUnreceived, HasWorked, HasNotWorked, HasTicked, HasSaved, HasNotSaved};
+ghost use Rattle.embed_node.specs.Giving.{IsTaken, IsUntaken, IsMade, IsUnmade, IsRead, IsUnread};
+ghost use Rattle.embed_node.specs.Opening.{limits_from, AnswersOpening, AnswersRevival};
+ghost use Rattle.embed_node.specs.Standing.{IsStanding};
 
 use crate::fault::{code, code_of_bytes};
 use crate::handle::NodeHandle;
 use crate::opening::Limits;
 use crate::standing::NodeStanding;
-use crate::{calling, opening, standing, writing};
+use crate::{calling, giving, opening, standing};
 use std::alloc::Global;
 
 /// Opens the process `me` of `n`, which received nothing, by the image file of its handler. The handle has
@@ -28,7 +30,7 @@ pub extern "C" fn sblog_node_open(
     durable: u32,
     node: &mut NodeHandle,
 ) -> u32
-    ensures { Answers result (Opens image.now me n (record { page = page; tick = tick; numbers = numbers; receipts = receipts; durable = durable }) node.old.process.value node.new.process.value) (DoesNotOpen image.now me n (record { page = page; tick = tick; numbers = numbers; receipts = receipts; durable = durable }) node.old.process.value node.new.process.value) }
+    ensures { AnswersOpening image.now me n (limits_from page tick numbers receipts durable) result node.old.process.value node.new.process.value }
 {
     let limits = Limits {
         page,
@@ -56,7 +58,7 @@ pub extern "C" fn sblog_node_revive(
     node: &mut NodeHandle,
     fault: &mut u32,
 ) -> u32
-    ensures { Answers result (Revives image.now kept.now incarnation (record { page = page; tick = tick; numbers = numbers; receipts = receipts; durable = durable }) node.old.process.value node.new.process.value × (fault.new ≡ fault.old)) (λ why. DoesNotRevive image.now kept.now incarnation (record { page = page; tick = tick; numbers = numbers; receipts = receipts; durable = durable }) node.old.process.value node.new.process.value why × (fault.new ≡ written why fault.old)) }
+    ensures { AnswersRevival image.now kept.now incarnation (limits_from page tick numbers receipts durable) result node.old.process.value node.new.process.value fault.old fault.new }
 {
     let limits = Limits {
         page,
@@ -72,7 +74,7 @@ pub extern "C" fn sblog_node_revive(
 /// Closes a handle, and gives the memory of its process back.
 #[unsafe(no_mangle)]
 pub extern "C" fn sblog_node_close(alloc: Global, node: &mut NodeHandle) -> u32
-    ensures { Answers result (IsClosed node.old.process.value node.new.process.value) (WasClosed node.old.process.value node.new.process.value) }
+    ensures { Answers result node.old.process.value node.new.process.value IsClosed WasClosed }
 {
     code(calling::close(alloc, node))
 }
@@ -85,7 +87,7 @@ pub extern "C" fn sblog_node_receive(
     packet: &[u8],
     fault: &mut u32,
 ) -> u32
-    ensures { Answers result (IsReceived packet.now node.old.process.value node.new.process.value × (fault.new ≡ fault.old)) (λ why. IsUnreceived packet.now node.old.process.value node.new.process.value why × (fault.new ≡ written why fault.old)) }
+    ensures { AnswersOfBytes result node.old.process.value node.new.process.value fault.old fault.new (IsReceived packet.now) (IsUnreceived packet.now) }
 {
     code_of_bytes(calling::receive(alloc, node, packet), fault)
 }
@@ -99,15 +101,16 @@ pub extern "C" fn sblog_node_take(
     size: &mut usize,
     to: &mut u8,
 ) -> u32
-    ensures { Answers result (IsTaken node.old.process.value node.new.process.value (record { bytes = out.old; size = size.old }) (record { bytes = out.new; size = size.new }) to.new) (λ why. IsUntaken node.old.process.value node.new.process.value (record { bytes = out.old; size = size.old }) (record { bytes = out.new; size = size.new }) why × (to.new ≡ to.old)) }
+    ensures taken { Answers result node.old.process.value node.new.process.value (IsTaken out.old out.new size.new to.new) (IsUntaken out.old out.new size.old size.new) }
+    ensures kept { OnFault result (to.new ≡ to.old) }
 {
-    code(writing::take(alloc, node, out, size, to))
+    code(giving::take(alloc, node, out, size, to))
 }
 
 /// Has its handler run on the message that it received, or on the next one that is replayed.
 #[unsafe(no_mangle)]
 pub extern "C" fn sblog_node_work(alloc: Global, node: &mut NodeHandle) -> u32
-    ensures { Answers result (HasWorked node.old.process.value node.new.process.value) (HasNotWorked node.old.process.value node.new.process.value) }
+    ensures { Answers result node.old.process.value node.new.process.value HasWorked HasNotWorked }
 {
     code(calling::work(alloc, node))
 }
@@ -115,7 +118,7 @@ pub extern "C" fn sblog_node_work(alloc: Global, node: &mut NodeHandle) -> u32
 /// Has it send again what isn't answered.
 #[unsafe(no_mangle)]
 pub extern "C" fn sblog_node_tick(alloc: Global, node: &mut NodeHandle) -> u32
-    ensures { Answers result (HasTicked node.old.process.value node.new.process.value) (WasClosed node.old.process.value node.new.process.value) }
+    ensures { Answers result node.old.process.value node.new.process.value HasTicked WasClosed }
 {
     code(calling::tick(alloc, node))
 }
@@ -128,15 +131,15 @@ pub extern "C" fn sblog_node_checkpoint(
     out: &mut [u8],
     size: &mut usize,
 ) -> u32
-    ensures { Answers result (IsMade node.old.process.value node.new.process.value (record { bytes = out.old; size = size.old }) (record { bytes = out.new; size = size.new })) (IsUnmade node.old.process.value node.new.process.value (record { bytes = out.old; size = size.old }) (record { bytes = out.new; size = size.new })) }
+    ensures { Answers result node.old.process.value node.new.process.value (IsMade out.old out.new size.new) (IsUnmade out.old out.new size.old size.new) }
 {
-    code(writing::checkpoint(alloc, node, out, size))
+    code(giving::checkpoint(alloc, node, out, size))
 }
 
 /// Tells it that its checkpoint is durable.
 #[unsafe(no_mangle)]
 pub extern "C" fn sblog_node_saved(alloc: Global, node: &mut NodeHandle) -> u32
-    ensures { Answers result (HasSaved node.old.process.value node.new.process.value) (HasNotSaved node.old.process.value node.new.process.value) }
+    ensures { Answers result node.old.process.value node.new.process.value HasSaved HasNotSaved }
 {
     code(calling::saved(alloc, node))
 }
@@ -148,7 +151,8 @@ pub extern "C" fn sblog_node_standing(
     node: &mut NodeHandle,
     out: &mut NodeStanding,
 ) -> u32
-    ensures { Answers result (IsStanding node.old.process.value node.new.process.value out.new) (λ why. WasClosed node.old.process.value node.new.process.value why × (out.new ≡ out.old)) }
+    ensures standing { Answers result node.old.process.value node.new.process.value (IsStanding out.new) WasClosed }
+    ensures kept { OnFault result (out.new ≡ out.old) }
 {
     code(standing::standing(alloc, node, out))
 }
@@ -161,7 +165,7 @@ pub extern "C" fn sblog_node_state(
     out: &mut [u8],
     size: &mut usize,
 ) -> u32
-    ensures { Answers result (IsRead node.old.process.value node.new.process.value (record { bytes = out.old; size = size.old }) (record { bytes = out.new; size = size.new })) (IsUnread node.old.process.value node.new.process.value (record { bytes = out.old; size = size.old }) (record { bytes = out.new; size = size.new })) }
+    ensures { Answers result node.old.process.value node.new.process.value (IsRead out.old out.new size.new) (IsUnread out.old out.new size.old size.new) }
 {
-    code(writing::state(alloc, node, out, size))
+    code(giving::state(alloc, node, out, size))
 }

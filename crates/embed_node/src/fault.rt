@@ -1,7 +1,7 @@
 //! Why a function did nothing.
 
 ghost use Rattle.std.specs.Prelude.{◌≡◌, IfErr, IfOk};
-ghost use Rattle.embed_node.specs.Node.{fault_number, written};
+ghost use Rattle.embed_node.specs.Answers.{fault_number, written};
 
 use thiserror::Error;
 

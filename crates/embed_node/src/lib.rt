@@ -21,10 +21,10 @@
 mod calling;
 mod exports;
 mod fault;
+mod giving;
 mod handle;
 mod loose;
 mod opening;
 mod output;
 mod parts;
 mod standing;
-mod writing;

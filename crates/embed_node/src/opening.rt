@@ -5,6 +5,7 @@ ghost use Rattle.std.specs.Arc.{arc_value};
 ghost use Rattle.handlers.specs.Handler.{image_of};
 ghost use Rattle.node.specs.Node.{IsPositive};
 ghost use Rattle.embed_node.specs.declared.fault.Fault.TheVariants.{Memory};
+ghost use Rattle.embed_node.specs.Answers.{Results};
 ghost use Rattle.embed_node.specs.Opening.{AreLimits, limits_of, IsSeat, IsImageIn, IsNotLoaded, Opens, DoesNotOpen, Revives, DoesNotRevive, IsTold};
 
 use crate::fault::Fault;
@@ -88,7 +89,7 @@ pub(crate) fn open(
     limits: Limits,
     handle: &mut NodeHandle,
 ) -> Result<(), Fault>
-    ensures { MatchResult result (λ _. Opens image.now me n limits handle.old.process.value handle.new.process.value) (DoesNotOpen image.now me n limits handle.old.process.value handle.new.process.value) }
+    ensures { Results result handle.old.process.value handle.new.process.value (Opens image.now me n limits) (DoesNotOpen image.now me n limits) }
 {
     if handle.is_open() {
         return Err(Fault::Handle);
@@ -115,7 +116,7 @@ pub(crate) fn revive(
     limits: Limits,
     handle: &mut NodeHandle,
 ) -> Result<(), Fault>
-    ensures { MatchResult result (λ _. Revives image.now kept.now incarnation limits handle.old.process.value handle.new.process.value) (DoesNotRevive image.now kept.now incarnation limits handle.old.process.value handle.new.process.value) }
+    ensures { Results result handle.old.process.value handle.new.process.value (Revives image.now kept.now incarnation limits) (DoesNotRevive image.now kept.now incarnation limits) }
 {
     if handle.is_open() {
         return Err(Fault::Handle);

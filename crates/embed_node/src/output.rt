@@ -2,7 +2,7 @@
 
 ghost use Rattle.std.specs.Prelude.{◌≡◌, IfErr, OnOk};
 ghost use Rattle.embed_node.specs.declared.fault.Fault.TheVariants.{Room};
-ghost use Rattle.embed_node.specs.Reading.{IsCopied, IsUncopied};
+ghost use Rattle.embed_node.specs.Answers.{IsCopied, IsUncopied};
 
 use crate::fault::Fault;
 

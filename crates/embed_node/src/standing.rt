@@ -1,8 +1,9 @@
 //! How the process of a handle stands, in numbers.
 
-ghost use Rattle.std.specs.Prelude.{◌≡◌, MatchResult};
-ghost use Rattle.embed_node.specs.Node.{WasClosed};
-ghost use Rattle.embed_node.specs.Reading.{words_of, IsStanding};
+ghost use Rattle.std.specs.Prelude.{◌≡◌, OnErr};
+ghost use Rattle.embed_node.specs.Answers.{Results};
+ghost use Rattle.embed_node.specs.Calls.{WasClosed};
+ghost use Rattle.embed_node.specs.Standing.{words_of, IsStanding};
 
 use crate::fault::Fault;
 use crate::handle::NodeHandle;
@@ -59,7 +60,8 @@ pub(crate) fn standing(
     handle: &mut NodeHandle,
     out: &mut NodeStanding,
 ) -> Result<(), Fault>
-    ensures { MatchResult result (λ _. IsStanding handle.old.process.value handle.new.process.value out.new) (λ why. WasClosed handle.old.process.value handle.new.process.value why × (out.new ≡ out.old)) }
+    ensures standing { Results result handle.old.process.value handle.new.process.value (IsStanding out.new) WasClosed }
+    ensures kept { OnErr result (out.new ≡ out.old) }
 {
     let Some(process) = handle.take(alloc) else {
         return Err(Fault::Handle);

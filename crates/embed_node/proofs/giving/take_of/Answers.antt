@@ -2,13 +2,13 @@ use Rattle.std.proofs.Common.{rules, ◌≡◌, ◌∙◌, ap, sym, arith}
 use Rattle.std.specs.Prelude.{Some, None}
 use Rattle.std.proofs.lemmas.Grind.{common_steps}
 use Rattle.process.specs.Packets.{IsFront}
-use Rattle.embed_node.specs.Reading.{IsCopied}
+use Rattle.embed_node.specs.Answers.{IsCopied}
 use Rattle.embed_node.proofs.Fronts.{taken, stays-front}
-use Rattle.embed_node.proofs.writing.take_of.Goals as goal
-use Rattle.embed_node.proofs.writing.take_of.Goals.{in-Some+in-Told-1, in-Some+in-Restored-1, in-Some+in-Delivery-1, in_default}
+use Rattle.embed_node.proofs.giving.take_of.Goals as goal
+use Rattle.embed_node.proofs.giving.take_of.Goals.{in-Some+in-Told-1, in-Some+in-Restored-1, in-Some+in-Delivery-1, in_default}
 
-pub returns : goal.returns
-returns c =
+pub returns-clause-taken : goal.returns-clause-taken
+returns-clause-taken c =
     let front : IsFront c.args.process.now c.in-Ok-Some.bytes.items = first_of (search rules, grind (arith, common_steps)) in
     let x = front.0 in
     let given : c.take.result ≡ Some x = taken c.take.result c.args.process.now.course c.take.new.self.course x front.2.0 c.take.ensures.does front.2.1 in

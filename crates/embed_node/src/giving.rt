@@ -1,7 +1,8 @@
 //! What the process of a handle gives.
 
-ghost use Rattle.std.specs.Prelude.{◌≡◌, MatchResult};
-ghost use Rattle.embed_node.specs.Reading.{IsTaken, IsUntaken, IsMade, IsUnmade, IsRead, IsUnread, TakesOut, LeavesIn, Makes, DoesNotMake};
+ghost use Rattle.std.specs.Prelude.{◌≡◌, MatchResult, OnErr};
+ghost use Rattle.embed_node.specs.Answers.{Results};
+ghost use Rattle.embed_node.specs.Giving.{IsTaken, IsUntaken, IsMade, IsUnmade, IsRead, IsUnread, TakesOut, LeavesIn, Makes, DoesNotMake};
 
 use crate::fault::Fault;
 use crate::handle::NodeHandle;
@@ -17,7 +18,8 @@ pub(crate) fn take(
     size: &mut usize,
     to: &mut u8,
 ) -> Result<(), Fault>
-    ensures { MatchResult result (λ _. IsTaken handle.old.process.value handle.new.process.value (record { bytes = out.old; size = size.old }) (record { bytes = out.new; size = size.new }) to.new) (λ why. IsUntaken handle.old.process.value handle.new.process.value (record { bytes = out.old; size = size.old }) (record { bytes = out.new; size = size.new }) why × (to.new ≡ to.old)) }
+    ensures taken { Results result handle.old.process.value handle.new.process.value (IsTaken out.old out.new size.new to.new) (IsUntaken out.old out.new size.old size.new) }
+    ensures kept { OnErr result (to.new ≡ to.old) }
 {
     let Some(mut process) = handle.take(alloc) else {
         return Err(Fault::Handle);
@@ -34,7 +36,8 @@ fn take_of(
     size: &mut usize,
     to: &mut u8,
 ) -> Result<(), Fault>
-    ensures { MatchResult result (λ _. TakesOut process.old process.new (record { bytes = out.old; size = size.old }) (record { bytes = out.new; size = size.new }) to.new) (λ why. LeavesIn process.old process.new (record { bytes = out.old; size = size.old }) (record { bytes = out.new; size = size.new }) why × (to.new ≡ to.old)) }
+    ensures taken { MatchResult result (λ _. TakesOut out.old out.new size.new to.new process.old process.new) (LeavesIn out.old out.new size.old size.new process.old process.new) }
+    ensures kept { OnErr result (to.new ≡ to.old) }
 {
     let bytes = match process.front_bytes(alloc) {
         Ok(Some(bytes)) => bytes,
@@ -56,7 +59,7 @@ pub(crate) fn checkpoint(
     out: &mut [u8],
     size: &mut usize,
 ) -> Result<(), Fault>
-    ensures { MatchResult result (λ _. IsMade handle.old.process.value handle.new.process.value (record { bytes = out.old; size = size.old }) (record { bytes = out.new; size = size.new })) (IsUnmade handle.old.process.value handle.new.process.value (record { bytes = out.old; size = size.old }) (record { bytes = out.new; size = size.new })) }
+    ensures { Results result handle.old.process.value handle.new.process.value (IsMade out.old out.new size.new) (IsUnmade out.old out.new size.old size.new) }
 {
     let Some(mut process) = handle.take(alloc) else {
         return Err(Fault::Handle);
@@ -72,7 +75,7 @@ fn checkpoint_of(
     out: &mut [u8],
     size: &mut usize,
 ) -> Result<(), Fault>
-    ensures { MatchResult result (λ _. Makes process.old process.new (record { bytes = out.old; size = size.old }) (record { bytes = out.new; size = size.new })) (DoesNotMake process.old process.new (record { bytes = out.old; size = size.old }) (record { bytes = out.new; size = size.new })) }
+    ensures { MatchResult result (λ _. Makes out.old out.new size.new process.old process.new) (DoesNotMake out.old out.new size.old size.new process.old process.new) }
 {
     let bytes = match process.kept_bytes(alloc) {
         Ok(Some(bytes)) => bytes,
@@ -91,7 +94,7 @@ pub(crate) fn state(
     out: &mut [u8],
     size: &mut usize,
 ) -> Result<(), Fault>
-    ensures { MatchResult result (λ _. IsRead handle.old.process.value handle.new.process.value (record { bytes = out.old; size = size.old }) (record { bytes = out.new; size = size.new })) (IsUnread handle.old.process.value handle.new.process.value (record { bytes = out.old; size = size.old }) (record { bytes = out.new; size = size.new })) }
+    ensures { Results result handle.old.process.value handle.new.process.value (IsRead out.old out.new size.new) (IsUnread out.old out.new size.old size.new) }
 {
     let Some(process) = handle.take(alloc) else {
         return Err(Fault::Handle);

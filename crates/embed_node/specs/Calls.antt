@@ -1,5 +1,5 @@
--- What the exports answer (docs/EMBEDDING.md, "A node").
-use Rattle.std.specs.Prelude.{◌≡◌, ◌⊎◌, ℕ, List, Option, Some, None, true, false}
+-- Calls of a node, and what each is answered
+use Rattle.std.specs.Prelude.{◌≡◌, ℕ, List, Option, Some, None, true, false}
 use Rattle.packets.specs.declared.fault.PacketFault.{PacketFault}
 use Rattle.packets.specs.Faults as faults
 use Rattle.packets.specs.declared.packet.Packet.{Packet}
@@ -9,39 +9,8 @@ use Rattle.process.specs.Process.{TheProcess}
 use Rattle.process.specs.Calls as calls
 use Rattle.process.specs.Working as working
 use Rattle.embed_node.specs.declared.fault.Fault.{Fault}
-use Rattle.embed_node.specs.declared.fault.Fault.TheVariants.{Memory, Handle, Image, Room, Absent, Bytes, Unready, Limit}
-
--- the code of a fault, 15 to 23
-abbrev pub fault_number : Fault → ℕ
-fault_number Memory = 15
-fault_number Handle = 16
-fault_number Image = 17
-fault_number Room = 19
-fault_number Absent = 20
-fault_number (Bytes f) = 21
-fault_number Unready = 22
-fault_number Limit = 23
-
--- what a code says: 0 that this was done, any other number why it was not
-abbrev pub Answers : ℕ → Type 0 → (Fault → Type 0) → Type 0
-Answers code done refused = ((code ≡ 0) × done) ⊎ ((why : Fault) × (code ≡ fault_number why) × refused why)
-
--- the number of the fault is written where bytes are refused, and is left alone otherwise
-abbrev pub written : Fault → ℕ → ℕ
-written (Bytes f) was = f
-written other was = was
-
--- the handle is open, and this holds of its process before and after
-abbrev pub OfBoth : Option TheProcess → Option TheProcess → (TheProcess → TheProcess → Type 0) → Type 0
-OfBoth old new holds = (p p' : TheProcess) × (old ≡ Some p) × (new ≡ Some p') × holds p p'
-
--- the handle is open and as it was, and this holds of its process
-abbrev pub OfSame : Option TheProcess → Option TheProcess → (TheProcess → Type 0) → Type 0
-OfSame old new holds = (p : TheProcess) × (old ≡ Some p) × (new ≡ old) × holds p
-
--- the handle is closed, and stays so
-abbrev pub StaysClosed : Option TheProcess → Option TheProcess → Type 0
-StaysClosed old new = (old ≡ None) × (new ≡ None)
+use Rattle.embed_node.specs.declared.fault.Fault.TheVariants.{Memory, Handle, Absent, Bytes, Unready}
+use Rattle.embed_node.specs.Answers.{OfBoth, OfSame, StaysClosed}
 
 -- an open handle is closed now
 abbrev pub IsClosed : Option TheProcess → Option TheProcess → Type 0

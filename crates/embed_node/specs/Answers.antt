@@ -1,0 +1,65 @@
+-- What the exports answer (docs/EMBEDDING.md, "A node").
+use Rattle.std.specs.Prelude.{◌≡◌, ◌⊎◌, ℕ, ◌<◌, ◌≤◌, List, length, Option, Some, None, Result, MatchResult}
+use Rattle.operations.specs.Bytes.{overwritten}
+use Rattle.process.specs.Process.{TheProcess}
+use Rattle.embed_node.specs.declared.fault.Fault.{Fault}
+use Rattle.embed_node.specs.declared.fault.Fault.TheVariants.{Memory, Handle, Image, Room, Absent, Bytes, Unready, Limit}
+
+-- the code of a fault, 15 to 23
+abbrev pub fault_number : Fault → ℕ
+fault_number Memory = 15
+fault_number Handle = 16
+fault_number Image = 17
+fault_number Room = 19
+fault_number Absent = 20
+fault_number (Bytes f) = 21
+fault_number Unready = 22
+fault_number Limit = 23
+
+-- what a code says of a handle, which held one thing before and holds another now: 0 that this was done, any other number why it was not
+abbrev pub Answers : ℕ → Option TheProcess → Option TheProcess → (Option TheProcess → Option TheProcess → Type 0) → (Option TheProcess → Option TheProcess → Fault → Type 0) → Type 0
+Answers code old new done refused = ((code ≡ 0) × done old new) ⊎ ((why : Fault) × (code ≡ fault_number why) × refused old new why)
+
+-- the same of a result
+abbrev pub Results : Result (Unit {0}) Fault → Option TheProcess → Option TheProcess → (Option TheProcess → Option TheProcess → Type 0) → (Option TheProcess → Option TheProcess → Fault → Type 0)
+    → Type 0
+Results result old new done refused = MatchResult result (λ u. done old new) (refused old new)
+
+-- where a code tells a fault, this holds
+abbrev pub OnFault : ℕ → Type 0 → Type 0
+OnFault code kept = (code ≡ 0) ⊎ kept
+
+-- the number of the fault is written where bytes are refused, and is left alone otherwise
+abbrev pub written : Fault → ℕ → ℕ
+written (Bytes f) was = f
+written other was = was
+
+-- what a code says where bytes are handed in, and of the number of their fault before and after
+abbrev pub AnswersOfBytes : ℕ → Option TheProcess → Option TheProcess → ℕ → ℕ → (Option TheProcess → Option TheProcess → Type 0) → (Option TheProcess → Option TheProcess → Fault → Type 0)
+    → Type 0
+AnswersOfBytes code old new was fault done refused =
+    Answers code old new (λ o n. done o n × (fault ≡ was)) (λ o n why. refused o n why × (fault ≡ written why was))
+
+-- the handle is open, and this holds of its process before and after
+abbrev pub OfBoth : Option TheProcess → Option TheProcess → (TheProcess → TheProcess → Type 0) → Type 0
+OfBoth old new holds = (p p' : TheProcess) × (old ≡ Some p) × (new ≡ Some p') × holds p p'
+
+-- the handle is open and as it was, and this holds of its process
+abbrev pub OfSame : Option TheProcess → Option TheProcess → (TheProcess → Type 0) → Type 0
+OfSame old new holds = (p : TheProcess) × (old ≡ Some p) × (new ≡ old) × holds p
+
+-- the handle is closed, and stays so
+abbrev pub StaysClosed : Option TheProcess → Option TheProcess → Type 0
+StaysClosed old new = (old ≡ None) × (new ≡ None)
+
+-- the buffer begins with these bytes, and their number is told
+abbrev pub IsCopied : List ℕ → List ℕ → List ℕ → ℕ → Type 0
+IsCopied bytes old new size = (length bytes ≤ length old) × (new ≡ overwritten old 0 bytes) × (size ≡ length bytes)
+
+-- the buffer is too short for them and unchanged, and their number is told
+abbrev pub IsUncopied : List ℕ → List ℕ → List ℕ → ℕ → Type 0
+IsUncopied bytes old new size = (length old < length bytes) × (new ≡ old) × (size ≡ length bytes)
+
+-- nothing is written
+abbrev pub IsUntouched : List ℕ → List ℕ → ℕ → ℕ → Type 0
+IsUntouched old new was size = (new ≡ old) × (size ≡ was)

@@ -1,0 +1,28 @@
+-- How the process of a handle stands
+use Rattle.std.specs.Prelude.{◌≡◌, Option, if◌then◌else◌}
+use Rattle.node.specs.declared.standing.Standing.{Standing}
+use Rattle.node.specs.Standing.{stage_number}
+use Rattle.process.specs.Process.{TheProcess}
+use Rattle.process.specs.Calls.{standing_at}
+use Rattle.embed_node.specs.declared.standing.NodeStanding.{NodeStanding}
+use Rattle.embed_node.specs.Answers.{OfSame}
+
+-- how it stands, in ten words
+abbrev pub words_of : Standing → NodeStanding
+words_of s =
+    record {
+      length = s.length;
+      base = s.base;
+      incarnation = s.incarnation;
+      stage = stage_number s.stage;
+      exact = (if s.exact then 1 else 0);
+      receipts = s.receipts;
+      entries = s.entries;
+      packets = s.packets;
+      replays = s.replays;
+      waited_for = s.waited_for;
+    }
+
+-- these words say how the process of an open handle stands
+abbrev pub IsStanding : NodeStanding → Option TheProcess → Option TheProcess → Type 0
+IsStanding s old new = OfSame old new (λ p. s ≡ words_of (standing_at p.course))
