@@ -26,6 +26,10 @@ abbrev pub Results : Result (Unit {0}) Fault → Option TheGateway → Option Th
     → Type 0
 Results result old new done refused = MatchResult result (λ u. done old new) (λ why. refused old why × (new ≡ old))
 
+-- the same of a gateway without its handle
+abbrev pub Does : Result (Unit {0}) Fault → TheGateway → TheGateway → (TheGateway → TheGateway → Type 0) → (TheGateway → Fault → Type 0) → Type 0
+Does result old new done refused = MatchResult result (λ u. done old new) (λ why. refused old why × (new ≡ old))
+
 -- where a code tells a fault, this holds
 abbrev pub OnFault : ℕ → Type 0 → Type 0
 OnFault code kept = (code ≡ 0) ⊎ kept

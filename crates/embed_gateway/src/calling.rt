@@ -1,7 +1,7 @@
 //! What the host tells the gateway of a handle.
 
-ghost use Rattle.std.specs.Prelude.{◌≡◌, MatchResult};
-ghost use Rattle.embed_gateway.specs.Answers.{Results};
+ghost use Rattle.std.specs.Prelude.{◌≡◌};
+ghost use Rattle.embed_gateway.specs.Answers.{Does, Results};
 ghost use Rattle.embed_gateway.specs.Calls.{IsLogged, IsReceived, IsTicked, IsUnlogged, IsUnreceived, Logs, LogsNot, Receives, ReceivesNot};
 ghost use Rattle.embed_gateway.specs.Opening.{WasClosed};
 
@@ -15,7 +15,7 @@ use std::alloc::Global;
 
 /// Hands a message in for a process, and writes its SSN.
 fn log(gateway: &mut Gateway, process: u8, payload: &[u8], ssn: &mut u64) -> Result<(), Fault>
-    ensures { MatchResult result (λ _. Logs process payload.now ssn.new gateway.old gateway.new) (λ why. (LogsNot process payload.now gateway.old why × (ssn.new ≡ ssn.old)) × (gateway.new ≡ gateway.old)) }
+    ensures { Does result gateway.old gateway.new (Logs process payload.now ssn.new) (λ g why. LogsNot process payload.now g why × (ssn.new ≡ ssn.old)) }
 {
     if payload.len() > PAYLOAD_BYTES {
         return Err(Fault::Payload);
@@ -48,7 +48,7 @@ pub(crate) fn input(
 
 /// Hands the bytes of a packet in. The number of their first fault is written where they are refused.
 fn hear(alloc: Global, gateway: &mut Gateway, packet: &[u8], fault: &mut u32) -> Result<(), Fault>
-    ensures { MatchResult result (λ _. Receives packet.now gateway.old gateway.new × (fault.new ≡ fault.old)) (λ why. ReceivesNot packet.now fault.old fault.new why × (gateway.new ≡ gateway.old)) }
+    ensures { Does result gateway.old gateway.new (λ g h. Receives packet.now g h × (fault.new ≡ fault.old)) (λ _. ReceivesNot packet.now fault.old fault.new) }
 {
     match gateway.receive_bytes(alloc, packet) {
         Ok(()) => Ok(()),

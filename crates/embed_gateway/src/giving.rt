@@ -1,7 +1,7 @@
 //! What the gateway of a handle gives its host.
 
 ghost use Rattle.std.specs.Prelude.{◌≡◌, MatchResult, OnErr};
-ghost use Rattle.embed_gateway.specs.Answers.{Results};
+ghost use Rattle.embed_gateway.specs.Answers.{Does, Results};
 ghost use Rattle.embed_gateway.specs.Giving.{Gives, GivesNot, IsShown, IsStored, IsTaken, IsTold, IsUnshown, IsUnstored, IsUntaken, IsUntold, Shows, ShowsNot, Spells, Tells, WritesNot};
 ghost use Rattle.stores.specs.Format.{IsStoreBytes};
 ghost use Rattle.stores.specs.Changes.{AreChanges};
@@ -20,7 +20,7 @@ fn give(
     size: &mut usize,
     to: &mut u8,
 ) -> Result<(), Fault>
-    ensures given { MatchResult result (λ _. Gives out.old out.new size.new to.new gateway.old gateway.new) (λ why. GivesNot out.old out.new size.old size.new gateway.old why × (gateway.new ≡ gateway.old)) }
+    ensures given { Does result gateway.old gateway.new (Gives out.old out.new size.new to.new) (GivesNot out.old out.new size.old size.new) }
     ensures kept { OnErr result (to.new ≡ to.old) }
 {
     let Some((name, bytes)) = gateway.first_bytes(alloc)? else {
@@ -60,7 +60,7 @@ fn show(
     out: &mut [u8],
     size: &mut usize,
 ) -> Result<(), Fault>
-    ensures shown { MatchResult result (λ _. Shows process.new ssn.new out.old out.new size.new gateway.old gateway.new) (λ why. ShowsNot out.old out.new size.old size.new gateway.old why × (gateway.new ≡ gateway.old)) }
+    ensures shown { Does result gateway.old gateway.new (Shows process.new ssn.new out.old out.new size.new) (ShowsNot out.old out.new size.old size.new) }
     ensures kept { OnErr result ((process.new ≡ process.old) × (ssn.new ≡ ssn.old)) }
 {
     let Some(output) = gateway.store().first_output() else {
@@ -122,7 +122,7 @@ pub(crate) fn store(
 
 /// Writes the bytes of what happened to a gateway's store, and how many they are, and forgets it.
 fn tell(alloc: Global, gateway: &mut Gateway, out: &mut [u8], size: &mut usize) -> Result<(), Fault>
-    ensures { MatchResult result (λ _. Tells out.old out.new size.new gateway.old gateway.new) (λ why. WritesNot (AreChanges gateway.old.changes) out.old out.new size.old size.new why × (gateway.new ≡ gateway.old)) }
+    ensures { Does result gateway.old gateway.new (Tells out.old out.new size.new) (λ g. WritesNot (AreChanges g.changes) out.old out.new size.old size.new) }
 {
     let bytes = gateway.changes_bytes(alloc)?;
     copy(&bytes, out, size)?;

@@ -2,7 +2,7 @@
 
 ghost use Rattle.std.specs.Prelude.{◌≡◌, ◌↔◌, IsTrue, MatchResult, Some};
 ghost use Rattle.embed_gateway.specs.declared.fault.Fault.TheVariants.{Memory};
-ghost use Rattle.embed_gateway.specs.Answers.{Results};
+ghost use Rattle.embed_gateway.specs.Answers.{Does, Results};
 ghost use Rattle.embed_gateway.specs.Opening.{AreInside, AreLimits, IsApplied, IsClosed, IsLater, IsOpened, IsRevived, IsUnapplied, IsUnlater, IsUnopened, IsUnrevived, WasClosed};
 
 use crate::fault::Fault;
@@ -104,7 +104,7 @@ fn bring_up(
     changes: &[u8],
     fault: &mut u32,
 ) -> Result<(), Fault>
-    ensures { MatchResult result (λ _. IsLater changes.now gateway.old gateway.new × (fault.new ≡ fault.old)) (λ why. IsUnlater changes.now gateway.old fault.old fault.new why × (gateway.new ≡ gateway.old)) }
+    ensures { Does result gateway.old gateway.new (λ g h. IsLater changes.now g h × (fault.new ≡ fault.old)) (λ g. IsUnlater changes.now g fault.old fault.new) }
 {
     if !gateway.is_fresh() {
         return Err(Fault::Early);
