@@ -16,3 +16,11 @@ pub mod GatewaySound
 pub mod Lone
 pub mod LoneCalls
 pub mod Alone
+pub mod Taken
+pub mod Held
+pub mod HeldNode
+pub mod HeldOwn
+pub mod Lasting
+pub mod Durable
+pub mod HeldGateway
+pub mod Keeping

@@ -56,6 +56,7 @@ comes-back-up f len page tick bytes stored =
     let early : 1 < 2 = omega arith in
     record {
       calls = (first, ((first, (tt, (early, (kept_of (new_node usual 1 1 len), (stored 1 first, ((usual, refl), revives usual (kept_of (new_node usual 1 1 len)) 2)))))), ((first, (asks len, (refl, collecting-takes (Some ask) (comes len) [] refl))), ((inl refl, (refl, handed-so ask (new_gateway 1 page tick))), (tt, ((refl, gateways.takes-so (Some told) (asked page tick) [] refl), ((first, (inl refl, (has_all len, (refl, (refl, collecting.handing (asks len) told refl refl))))), ((first, inr (replays len, (refl, recovers len))), ((first, (replayed_of (replays len), (refl, (refl, ends-so (replays len) refl (omega arith))))), ((first, (begins len, (refl, (refl, beginning (replayed_of (replays len)))))), ((first, (resumes len, (refl, returns.takes-so (Some resume) (begins len) [] refl))), ((inl refl, (refl, handed-so resume (sent (asked page tick)))), (tt, ((refl, gateways.takes-so (Some restored) (resumed page tick) [] refl), ((first, (inl refl, (has_answer len, (refl, (refl, restoring.handing (resumes len) restored (is-restoring len)))))), ((first, inr (up (has_answer len), (refl, (refl, returns.is-up (has_answer len) refl)))), tt))))))))))))))));
+      whole = (tt, (tt, (tt, (tt, (tt, (tt, (tt, (tt, (refl, (tt, (tt, (tt, (tt, (tt, (tt, (tt, tt))))))))))))))));
       exact = stays-exact (new_system 1 (λ _. usual) (λ _. len) bytes page tick) (worked len page tick) (refl, (refl, (refl, (refl, (refl, (refl, (refl, (refl, (refl, (refl, (refl, (refl, (refl, (refl, (refl, (refl, tt))))))))))))))));
       alone = (λ q inside other. absurd (omega (arith, inside.0, inside.1, other)), (tt, (tt, (tt, (tt, (tt, (tt, (tt, (tt, (tt, (tt, (tt, (tt, (tt, (tt, (tt, tt))))))))))))))));
       node = up (has_answer len);

@@ -4,3 +4,4 @@ pub mod Back
 pub mod Worked
 pub mod Beside
 pub mod Alone
+pub mod Durable

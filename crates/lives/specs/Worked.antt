@@ -19,6 +19,7 @@ use Rattle.gateway.specs.Calls as gateways
 use Rattle.lives.specs.Process.{Up, Collects, Replays, Replayed, Restores}
 use Rattle.lives.specs.System.{new_system, AreStored, Call, Gave, Handed, Did, Died, Revived, GaveOut, HandedOut, StoredOut, Calls, after_calls, StayExact}
 use Rattle.lives.specs.Alone.{OneAtATime}
+use Rattle.lives.specs.Durable.{ReplayWhole}
 
 -- ---- its packets
 
@@ -100,10 +101,11 @@ worked len page tick =
     ∷ Did 1 (Up (up (has_answer len)))
     ∷ []
 
--- they are such calls, where it fails alone, along which it stays exact; and then it is up in its second incarnation, with the state of zeros
+-- they are such calls, where it fails alone and goes on once all is replayed, along which it stays exact; and then it is up in its second incarnation, with the state of zeros
 pub record IsWorked (f : Answering) (len page tick : ℕ) (bytes : ℕ → List ℕ) : Type 0 where
   pub calls : Calls f 1 (new_system 1 (λ _. usual) (λ _. len) bytes page tick) (worked len page tick)
   pub alone : OneAtATime 1 (new_system 1 (λ _. usual) (λ _. len) bytes page tick) (worked len page tick)
+  pub whole : ReplayWhole (new_system 1 (λ _. usual) (λ _. len) bytes page tick) (worked len page tick)
   pub exact : StayExact 1 (new_system 1 (λ _. usual) (λ _. len) bytes page tick) (worked len page tick)
   pub node : TheNode
   pub is_up : (after_calls (new_system 1 (λ _. usual) (λ _. len) bytes page tick) (worked len page tick)).processes 1 ≡ Up node

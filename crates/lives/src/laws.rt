@@ -3,6 +3,7 @@
 ghost use Rattle.lives.specs.Alone.{LoneFailuresStayExact, LoneLivesRun, NothingIsLostAlone, RecoversExactlyAlone};
 ghost use Rattle.lives.specs.Back.{NothingIsLost, RecoversExactly};
 ghost use Rattle.lives.specs.Beside.{ComesBackBeside};
+ghost use Rattle.lives.specs.Durable.{DurableKeep, DurableLast, StoredStays};
 ghost use Rattle.lives.specs.System.{LivesRun, LossIsDropped};
 ghost use Rattle.lives.specs.Worked.{ComesBackUp};
 
@@ -65,4 +66,24 @@ pub fn comes_back_up()
 /// told by the other and the gateway what they have, recovers, and is up: it fails alone.
 pub fn comes_back_beside()
     ensures { ComesBackBeside }
+{}
+
+/// Whatever fails, all at once too, and whoever meets while they come back: what is stored of a process,
+/// durable or not, is its state after some messages, how many they are and what they send; these only
+/// get more; and where it is up, it has no less, and the state of what it has.
+pub fn stored_stays()
+    ensures { StoredStays }
+{}
+
+/// All that a durable process gave, in all its lives, is what the messages that are stored of it make it
+/// send, each by its SSN. So whatever fails and meets, it takes nothing back.
+pub fn durable_last()
+    ensures { DurableLast }
+{}
+
+/// Whatever fails and meets, what anyone has of a durable process is what the messages that are stored of
+/// it make it send: what another received of it, stored or in memory, in order, without a gap; all that
+/// it ever gave; and each output that the gateway ever handed out of it. So there is no orphan of it.
+pub fn durable_keep()
+    ensures { DurableKeep }
 {}

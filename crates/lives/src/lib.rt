@@ -6,14 +6,17 @@
 //! in any cluster in which it stands. Here these come together: calls of processes in any stage and of
 //! a [`gateway::Gateway`], in any order, with packets handed over late, twice or never, and each of
 //! them killed and brought back at any moment, are a run of a cluster ([`lives_run`]), as long as each
-//! process that is alive tells that it is exact. So its promises are promises of this code, and what comes back is the process that was lost ([`nothing_is_lost`],
-//! [`recovers_exactly`]). Where one at a time fails all tell that they are ([`lone_failures_stay_exact`]).
+//! process that is alive tells that it is exact. So its promises are promises of this code, and what
+//! comes back is the process that was lost ([`nothing_is_lost`], [`recovers_exactly`]). Where one at a
+//! time fails all tell that they are ([`lone_failures_stay_exact`]). Whatever fails, and exact or not,
+//! what is stored of a process only gets more ([`stored_stays`]), and nobody has anything of a durable
+//! one but what is stored of it to be sent ([`durable_keep`]).
 #![tactic(auto)]
 
 mod laws;
 
 pub use laws::{
-    comes_back_beside, comes_back_up, lives_run, lone_failures_stay_exact, lone_lives_run,
-    loss_is_dropped, nothing_is_lost, nothing_is_lost_alone, recovers_exactly,
-    recovers_exactly_alone,
+    comes_back_beside, comes_back_up, durable_keep, durable_last, lives_run,
+    lone_failures_stay_exact, lone_lives_run, loss_is_dropped, nothing_is_lost,
+    nothing_is_lost_alone, recovers_exactly, recovers_exactly_alone, stored_stays,
 };
