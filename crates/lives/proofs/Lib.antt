@@ -24,3 +24,4 @@ pub mod Lasting
 pub mod Durable
 pub mod HeldGateway
 pub mod Keeping
+pub mod Meeting

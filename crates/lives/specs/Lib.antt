@@ -5,3 +5,4 @@ pub mod Worked
 pub mod Beside
 pub mod Alone
 pub mod Durable
+pub mod Meeting

@@ -4,6 +4,7 @@ ghost use Rattle.lives.specs.Alone.{LoneFailuresStayExact, LoneLivesRun, Nothing
 ghost use Rattle.lives.specs.Back.{NothingIsLost, RecoversExactly};
 ghost use Rattle.lives.specs.Beside.{ComesBackBeside};
 ghost use Rattle.lives.specs.Durable.{DurableKeep, DurableLast, StoredStays};
+ghost use Rattle.lives.specs.Meeting.{DurableMeet};
 ghost use Rattle.lives.specs.System.{LivesRun, LossIsDropped};
 ghost use Rattle.lives.specs.Worked.{ComesBackUp};
 
@@ -86,4 +87,10 @@ pub fn durable_last()
 /// it ever gave; and each output that the gateway ever handed out of it. So there is no orphan of it.
 pub fn durable_keep()
     ensures { DurableKeep }
+{}
+
+/// Two durable processes are killed at once, come back as durable ones, and meet, so that one of them
+/// isn't exact: these are such calls.
+pub fn durable_meet()
+    ensures { DurableMeet }
 {}

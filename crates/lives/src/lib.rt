@@ -16,7 +16,7 @@
 mod laws;
 
 pub use laws::{
-    comes_back_beside, comes_back_up, durable_keep, durable_last, lives_run,
+    comes_back_beside, comes_back_up, durable_keep, durable_last, durable_meet, lives_run,
     lone_failures_stay_exact, lone_lives_run, loss_is_dropped, nothing_is_lost,
     nothing_is_lost_alone, recovers_exactly, recovers_exactly_alone, stored_stays,
 };
