@@ -227,80 +227,53 @@ const IMMEDIATES: [(i32, u64); 3] = [
 ];
 
 fn agree(rt: &impl Abort, rows: &[(AluOp, u64, u64, u64, u64)]) {
-    for (op, a, b, whole, half) in rows {
-        let in_64_bits = alu(*op, Width::W64, *a, *b);
-        let in_32_bits = alu(*op, Width::W32, *a, *b);
-        assert!(rt;
-            in_64_bits == *whole && in_32_bits == *half,
-            "{op:?} of {a} and {b}"
-        );
+    for &(op, a, b, whole, half) in rows {
+        assert!(rt; alu(op, Width::W64, a, b) == whole, "of {a} and {b}");
+        assert!(rt; alu(op, Width::W32, a, b) == half, "of {a} and {b}");
     }
 }
 
 #[test]
-fn sums(rt: HostRuntime) {
+fn operations_of_two(rt: HostRuntime) {
     agree(&rt, &SUMS);
-}
-
-#[test]
-fn quotients(rt: HostRuntime) {
     agree(&rt, &QUOTIENTS);
-}
-
-#[test]
-fn bits(rt: HostRuntime) {
     agree(&rt, &BITS);
-}
-
-#[test]
-fn shifts(rt: HostRuntime) {
     agree(&rt, &SHIFTS);
 }
 
 #[test]
 fn jumps(rt: HostRuntime) {
-    for (condition, a, b, whole, half) in &JUMPS {
-        let in_64_bits = holds(*condition, Width::W64, *a, *b);
-        let in_32_bits = holds(*condition, Width::W32, *a, *b);
+    for &(condition, a, b, whole, half) in JUMPS.as_slice() {
         assert!(rt;
-            in_64_bits == *whole && in_32_bits == *half,
-            "{condition:?} of {a} and {b}"
+            holds(condition, Width::W64, a, b) == whole,
+            "of {a} and {b}"
+        );
+        assert!(rt;
+            holds(condition, Width::W32, a, b) == half,
+            "of {a} and {b}"
         );
     }
 }
 
 #[test]
-fn negations(rt: HostRuntime) {
-    for (a, whole, half) in &NEGATIONS {
-        assert_eq!(rt; negated(Width::W64, *a), *whole);
-        assert_eq!(rt; negated(Width::W32, *a), *half);
+fn operations_of_one(rt: HostRuntime) {
+    for &(a, whole, half) in NEGATIONS.as_slice() {
+        assert!(rt; negated(Width::W64, a) == whole, "of {a}");
+        assert!(rt; negated(Width::W32, a) == half, "of {a}");
     }
-}
-
-#[test]
-fn byte_orders(rt: HostRuntime) {
-    for (order, bits, want) in &BYTE_ORDERS {
-        assert_eq!(rt; reordered(*order, *bits, 0x1122_3344_5566_7788), *want);
+    for &(order, bits, want) in BYTE_ORDERS.as_slice() {
+        assert!(rt;
+            reordered(order, bits, 0x1122_3344_5566_7788) == want,
+            "not {want}"
+        );
     }
-}
-
-#[test]
-fn extensions(rt: HostRuntime) {
-    for (extension, a, want) in &EXTENSIONS {
-        assert_eq!(rt; extended(*extension, *a), *want);
+    for &(extension, a, want) in EXTENSIONS.as_slice() {
+        assert!(rt; extended(extension, a) == want, "not {want}");
     }
-}
-
-#[test]
-fn loads(rt: HostRuntime) {
-    for (size, a, want) in &LOADS {
-        assert_eq!(rt; sign_extended(*size, *a), *want, "{size:?} of {a}");
+    for &(size, a, want) in LOADS.as_slice() {
+        assert!(rt; sign_extended(size, a) == want, "not {want}");
     }
-}
-
-#[test]
-fn immediates(rt: HostRuntime) {
-    for (imm, want) in &IMMEDIATES {
-        assert_eq!(rt; word_of_imm(*imm), *want, "of {imm}");
+    for &(imm, want) in IMMEDIATES.as_slice() {
+        assert!(rt; word_of_imm(imm) == want, "not {want}");
     }
 }

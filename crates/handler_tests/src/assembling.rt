@@ -5,7 +5,7 @@ use decode::{
     AluOp, ByteOrder, Condition, Extension, Insn, Operand, Reg, SignedSize, Size, SwapBits, Width,
     encode,
 };
-use std::alloc::Global;
+use std::alloc::{AllocError, Global};
 use std::process::Abort;
 use std::test::Fail;
 
@@ -223,157 +223,134 @@ const REFUSED: [(&str, Rule); 42] = [
     ("lddw r0, 18446744073709551616", Rule::Range),
 ];
 
+/// Whether this line is read as this instruction alone.
+fn is_read(alloc: Global, line: &str, insn: &Insn) -> bool {
+    match assemble(alloc, line) {
+        Ok(insns) => insns.len() == 1 && insns[0] == *insn,
+        Err(_) => false,
+    }
+}
+
+/// Whether this instruction is written as this line.
+fn is_written(alloc: Global, line: &str, insn: &Insn) -> bool {
+    match disassemble(alloc, &[*insn]) {
+        Ok(text) => text.as_str() == line,
+        Err(_) => false,
+    }
+}
+
 /// This line is read as this instruction, and it is written as this line.
-fn is_line(rt: &impl Abort, alloc: Global, line: &str, insn: Insn) -> Result<(), AsmError> {
-    let insns = assemble(alloc, line)?;
-    assert_eq!(rt; insns.as_slice(), [insn].as_slice());
-    let text = disassemble(alloc, &[insn])?;
-    assert_eq!(rt; text.as_str(), line);
-    Ok(())
+fn is_line(rt: &impl Abort, alloc: Global, line: &str, insn: Insn) {
+    let is_line = is_read(alloc, line, &insn) && is_written(alloc, line, &insn);
+    assert!(rt; is_line, "at {line}");
 }
 
-/// The text is refused since this line breaks this rule.
-fn is_refused(rt: &impl Abort, alloc: Global, text: &str, rule: Rule, line: usize) {
-    let refusal = match assemble(alloc, text) {
-        Err(AsmError::Fault { rule, line }) => Some((rule, line)),
-        _ => None,
-    };
-    assert_eq!(rt; refusal, Some((rule, line)), "at {text}");
+/// How many instructions a text has, or the rule that a line of it breaks, and the line.
+fn found(alloc: Global, text: &str) -> Option<Result<usize, (Rule, usize)>> {
+    match assemble(alloc, text) {
+        Ok(insns) => Some(Ok(insns.len())),
+        Err(AsmError::Fault { rule, line }) => Some(Err((rule, line))),
+        Err(AsmError::Memory) => None,
+    }
 }
 
-/// The text has so many instructions.
-fn has_insns(rt: &impl Abort, alloc: Global, text: &str, count: usize) -> Result<(), AsmError> {
-    assert_eq!(rt;
-        assemble(alloc, text)?.len(),
-        count,
-        "in {} bytes",
-        text.len()
-    );
-    Ok(())
+/// The text comes to this.
+fn comes_to(rt: &impl Abort, alloc: Global, text: &str, want: Result<usize, (Rule, usize)>) {
+    assert!(rt; found(alloc, text) == Some(want), "at {text}");
 }
 
-fn each_operation(
-    rt: &impl Abort,
-    alloc: Global,
-    rows: &[(AluOp, &str, &str)],
-) -> Result<(), AsmError> {
-    for &(op, wide, narrow) in rows {
-        let register = Insn::Alu {
+#[test]
+fn operations(rt: HostRuntime) {
+    for &(op, wide, narrow) in OPERATIONS.as_slice() {
+        let insn = Insn::Alu {
             op,
             width: Width::W64,
             dst: R1,
             operand: Operand::Reg(R10),
         };
-        is_line(rt, alloc, wide, register)?;
-        let number = Insn::Alu {
+        is_line(&rt, rt.alloc(), wide, insn);
+        let insn = Insn::Alu {
             op,
             width: Width::W32,
             dst: R0,
             operand: Operand::Imm(-2),
         };
-        is_line(rt, alloc, narrow, number)?;
+        is_line(&rt, rt.alloc(), narrow, insn);
     }
-    Ok(())
 }
 
 #[test]
-fn operations(rt: HostRuntime) -> Result<(), Fail> {
-    each_operation(&rt, rt.alloc(), &OPERATIONS)?;
-    Ok(())
-}
-
-#[test]
-fn extensions(rt: HostRuntime) -> Result<(), Fail> {
+fn extensions_and_swaps(rt: HostRuntime) {
     for &(extension, line) in EXTENSIONS.as_slice() {
         let insn = Insn::MovSx {
             extension,
             dst: R1,
             src: R2,
         };
-        is_line(&rt, rt.alloc(), line, insn)?;
+        is_line(&rt, rt.alloc(), line, insn);
     }
-    Ok(())
-}
-
-#[test]
-fn swaps(rt: HostRuntime) -> Result<(), Fail> {
     for &(order, bits, line) in SWAPS.as_slice() {
         let insn = Insn::End {
             order,
             bits,
             dst: R3,
         };
-        is_line(&rt, rt.alloc(), line, insn)?;
+        is_line(&rt, rt.alloc(), line, insn);
     }
-    Ok(())
 }
 
-fn each_condition(
-    rt: &impl Abort,
-    alloc: Global,
-    rows: &[(Condition, &str, &str)],
-) -> Result<(), AsmError> {
-    for &(condition, wide, narrow) in rows {
-        let number = Insn::JumpIf {
+#[test]
+fn conditions(rt: HostRuntime) {
+    for &(condition, wide, narrow) in CONDITIONS.as_slice() {
+        let insn = Insn::JumpIf {
             condition,
             width: Width::W64,
             dst: R1,
             operand: Operand::Imm(0),
             offset: 5,
         };
-        is_line(rt, alloc, wide, number)?;
-        let register = Insn::JumpIf {
+        is_line(&rt, rt.alloc(), wide, insn);
+        let insn = Insn::JumpIf {
             condition,
             width: Width::W32,
             dst: R1,
             operand: Operand::Reg(R2),
             offset: -1,
         };
-        is_line(rt, alloc, narrow, register)?;
+        is_line(&rt, rt.alloc(), narrow, insn);
     }
-    Ok(())
+}
+
+/// A load, a store of r1 and one of a number of a size are these lines.
+fn is_size(rt: &impl Abort, alloc: Global, size: Size, [load, register, number]: [&str; 3]) {
+    let insn = Insn::Load {
+        size,
+        dst: R3,
+        src: R1,
+        offset: 0,
+    };
+    is_line(rt, alloc, load, insn);
+    let insn = Insn::StoreReg {
+        size,
+        dst: R2,
+        src: R1,
+        offset: -8,
+    };
+    is_line(rt, alloc, register, insn);
+    let insn = Insn::StoreImm {
+        size,
+        dst: R10,
+        offset: 32767,
+        imm: 2147483647,
+    };
+    is_line(rt, alloc, number, insn);
 }
 
 #[test]
-fn conditions(rt: HostRuntime) -> Result<(), Fail> {
-    each_condition(&rt, rt.alloc(), &CONDITIONS)?;
-    Ok(())
-}
-
-fn each_size(
-    rt: &impl Abort,
-    alloc: Global,
-    rows: &[(Size, &str, &str, &str)],
-) -> Result<(), AsmError> {
-    for &(size, load, register, number) in rows {
-        let insn = Insn::Load {
-            size,
-            dst: R3,
-            src: R1,
-            offset: 0,
-        };
-        is_line(rt, alloc, load, insn)?;
-        let insn = Insn::StoreReg {
-            size,
-            dst: R2,
-            src: R1,
-            offset: -8,
-        };
-        is_line(rt, alloc, register, insn)?;
-        let insn = Insn::StoreImm {
-            size,
-            dst: R10,
-            offset: 32767,
-            imm: 2147483647,
-        };
-        is_line(rt, alloc, number, insn)?;
+fn loads_and_stores(rt: HostRuntime) {
+    for &(size, load, register, number) in SIZES.as_slice() {
+        is_size(&rt, rt.alloc(), size, [load, register, number]);
     }
-    Ok(())
-}
-
-#[test]
-fn loads_and_stores(rt: HostRuntime) -> Result<(), Fail> {
-    each_size(&rt, rt.alloc(), &SIZES)?;
     for &(size, line) in SIGNED_SIZES.as_slice() {
         let insn = Insn::LoadSx {
             size,
@@ -381,97 +358,117 @@ fn loads_and_stores(rt: HostRuntime) -> Result<(), Fail> {
             src: R1,
             offset: -32768,
         };
-        is_line(&rt, rt.alloc(), line, insn)?;
+        is_line(&rt, rt.alloc(), line, insn);
     }
-    Ok(())
 }
 
 #[test]
-fn other_words(rt: HostRuntime) -> Result<(), Fail> {
+fn other_words(rt: HostRuntime) {
     for &(line, insn) in OTHER_WORDS.as_slice() {
-        is_line(&rt, rt.alloc(), line, insn)?;
+        is_line(&rt, rt.alloc(), line, insn);
     }
-    Ok(())
+}
+
+/// Whether this text is read as this code, and it is written as this text.
+fn is_code(alloc: Global, text: &str, code: &[u8]) -> Result<bool, Fail> {
+    let insns = assemble(alloc, text)?;
+    let written = encode(alloc, &insns)?;
+    let back = disassemble(alloc, &insns)?;
+    Ok(written.as_slice() == code && back.as_str() == text)
+}
+
+/// The text of the code that sends nine times: a move, then nine times the same three lines, then the end.
+fn sender(alloc: Global) -> Result<String, AllocError> {
+    repeated(
+        alloc,
+        "mov r6, r1\n",
+        "mov r1, 2\nmov r2, r6\ncall 1\n",
+        9,
+        "exit\n",
+    )
+}
+
+/// Whether a text of so many instructions is written as it was read.
+fn is_back(alloc: Global, text: &str, count: usize) -> Result<bool, AsmError> {
+    let insns = assemble(alloc, text)?;
+    let back = disassemble(alloc, &insns)?;
+    Ok(insns.len() == count && back.as_str() == text)
 }
 
 #[test]
-fn adder_there_and_back(rt: HostRuntime) -> Result<(), Fail> {
-    let insns = assemble(rt.alloc(), ADDER)?;
-    assert_eq!(rt;
-        encode(rt.alloc(), &insns)?.as_slice(),
-        ADDER_CODE.as_slice()
-    );
-    assert_eq!(rt; disassemble(rt.alloc(), &insns)?.as_str(), ADDER);
+fn there_and_back(rt: HostRuntime) -> Result<(), Fail> {
+    assert!(rt; is_code(rt.alloc(), ADDER, &ADDER_CODE)?);
+    let text = sender(rt.alloc())?;
+    assert!(rt; is_back(rt.alloc(), text.as_str(), 29)?);
     Ok(())
 }
 
-/// Sends nine times: a move, then nine times the same three lines, then the end.
-#[test]
-fn sender_there_and_back(rt: HostRuntime) -> Result<(), Fail> {
-    let mut text = String::new(rt.alloc());
-    text.push_str("mov r6, r1\n")?;
-    for _ in 0..9 {
-        text.push_str("mov r1, 2\nmov r2, r6\ncall 1\n")?;
-    }
-    text.push_str("exit\n")?;
-    let insns = assemble(rt.alloc(), &text)?;
-    assert_eq!(rt; insns.len(), 29);
-    assert_eq!(rt; disassemble(rt.alloc(), &insns)?.as_str(), text.as_str());
-    Ok(())
-}
+/// The first line with a fault; what follows the last line feed is a line.
+const FIRST_FAULTS: [(&str, Rule, usize); 2] = [
+    ("exit\n#\n\nmov r0, 2147483648\nfoo\n", Rule::Range, 4),
+    ("exit\nfoo", Rule::Word, 2),
+];
 
 #[test]
-fn silent_lines(rt: HostRuntime) -> Result<(), Fail> {
+fn silent_and_refused(rt: HostRuntime) {
     for &(text, count) in SILENT.as_slice() {
-        has_insns(&rt, rt.alloc(), text, count)?;
+        comes_to(&rt, rt.alloc(), text, Ok(count));
     }
-    Ok(())
-}
-
-#[test]
-fn refused(rt: HostRuntime) {
     for &(line, rule) in REFUSED.as_slice() {
-        is_refused(&rt, rt.alloc(), line, rule, 1);
+        comes_to(&rt, rt.alloc(), line, Err((rule, 1)));
+    }
+    for &(text, rule, line) in FIRST_FAULTS.as_slice() {
+        comes_to(&rt, rt.alloc(), text, Err((rule, line)));
     }
 }
 
-#[test]
-fn first_faulty_line(rt: HostRuntime) {
-    let text = "exit\n#\n\nmov r0, 2147483648\nfoo\n";
-    is_refused(&rt, rt.alloc(), text, Rule::Range, 4);
-    // What follows the last line feed is a line.
-    is_refused(&rt, rt.alloc(), "exit\nfoo", Rule::Word, 2);
-}
-
-/// A comment, and then 1,023 slots.
-fn nearly_full(alloc: Global) -> Result<String, Fail> {
-    let mut text = String::new(alloc);
-    text.push_str("# full but for one\n")?;
-    for _ in 0..1023 {
-        text.push_str("exit\n")?;
+/// A text, another one behind it so often, and a last one.
+fn repeated(
+    alloc: Global,
+    first: &str,
+    part: &str,
+    times: u32,
+    last: &str,
+) -> Result<String, AllocError> {
+    let mut text = String::from_str(alloc, first)?;
+    for _ in 0..times {
+        text.push_str(part)?;
     }
+    text.push_str(last)?;
     Ok(text)
 }
 
-#[test]
-fn full(rt: HostRuntime) -> Result<(), Fail> {
-    let mut text = nearly_full(rt.alloc())?;
-    text.push_str("exit\n")?;
-    has_insns(&rt, rt.alloc(), &text, 1024)?;
-    // A number out of range comes first.
-    let mut other = nearly_full(rt.alloc())?;
-    other.push_str("exit\nmov r0, 2147483648")?;
-    is_refused(&rt, rt.alloc(), &other, Rule::Range, 1026);
-    text.push_str("#\nexit")?;
-    is_refused(&rt, rt.alloc(), &text, Rule::Limit, 1027);
-    Ok(())
-}
+/// What stands first, so often, and last, of a text that comes to this: a comment and then 1,023 slots, and one
+/// more; a number out of range comes before the limit; a slot too many behind a comment, and by a wide instruction;
+/// and more than 64 KiB of comments before an instruction.
+const LONG: [(&str, &str, u32, &str, Result<usize, (Rule, usize)>); 5] = [
+    (FULL, "exit\n", 1023, "exit\n", Ok(1024)),
+    (
+        FULL,
+        "exit\n",
+        1023,
+        "exit\nmov r0, 2147483648",
+        Err((Rule::Range, 1026)),
+    ),
+    (
+        FULL,
+        "exit\n",
+        1023,
+        "exit\n#\nexit",
+        Err((Rule::Limit, 1027)),
+    ),
+    (FULL, "exit\n", 1023, "lddw r0, 1", Err((Rule::Limit, 1025))),
+    ("", "# sixteen bytes\n", 5000, "exit\n", Ok(1)),
+];
+
+const FULL: &str = "# full but for one\n";
 
 #[test]
-fn full_but_for_a_wide(rt: HostRuntime) -> Result<(), Fail> {
-    let mut text = nearly_full(rt.alloc())?;
-    text.push_str("lddw r0, 1")?;
-    is_refused(&rt, rt.alloc(), &text, Rule::Limit, 1025);
+fn long_texts(rt: HostRuntime) -> Result<(), Fail> {
+    for &(first, part, times, last, want) in LONG.as_slice() {
+        let text = repeated(rt.alloc(), first, part, times, last)?;
+        comes_to(&rt, rt.alloc(), text.as_str(), want);
+    }
     Ok(())
 }
 
@@ -481,38 +478,29 @@ fn errors_shown(rt: HostRuntime) -> Result<(), Fail> {
         rule: Rule::Range,
         line: 7,
     };
-    let shown = format!(in rt.alloc(); "{fault}")?;
-    assert_eq!(rt; shown.as_str(), "line 7: number out of range (rule 3)");
+    let shown = fault.to_string(rt.alloc())?;
+    assert!(rt; shown.as_str() == "line 7: number out of range (rule 3)");
     Ok(())
 }
 
-// More than 64 KiB of comments, and then an instruction.
-#[test]
-fn long_text(rt: HostRuntime) -> Result<(), Fail> {
-    let mut text = String::new(rt.alloc());
-    for _ in 0..5000 {
-        text.push_str("# sixteen bytes\n")?;
-    }
-    text.push_str("exit\n")?;
-    has_insns(&rt, rt.alloc(), &text, 1)?;
-    Ok(())
+/// How many bytes of code and of text a list has, and how many instructions this code has.
+fn sizes(alloc: Global, insns: &[Insn]) -> Result<(usize, usize, usize), Fail> {
+    let bytes = encode(alloc, insns)?;
+    let back = decode::decode(alloc, &bytes)?;
+    let text = disassemble(alloc, insns)?;
+    Ok((bytes.len(), back.len(), text.len()))
 }
 
 // 72,000 bytes of code, and 90,000 of text.
 #[test]
 fn long_list(rt: HostRuntime) -> Result<(), Fail> {
-    let mut insns = Vec::new(rt.alloc());
-    for _ in 0..9000 {
-        insns.push(Insn::Alu {
-            op: AluOp::Add,
-            width: Width::W64,
-            dst: R1,
-            operand: Operand::Imm(5),
-        })?;
-    }
-    let bytes = encode(rt.alloc(), &insns)?;
-    assert_eq!(rt; bytes.len(), 72_000);
-    assert_eq!(rt; decode::decode(rt.alloc(), &bytes)?.len(), 9000);
-    assert_eq!(rt; disassemble(rt.alloc(), &insns)?.len(), 90_000);
+    let insn = Insn::Alu {
+        op: AluOp::Add,
+        width: Width::W64,
+        dst: R1,
+        operand: Operand::Imm(5),
+    };
+    let insns = vec![in rt.alloc(); insn; 9000]?;
+    assert!(rt; sizes(rt.alloc(), &insns)? == (72_000, 9000, 90_000));
     Ok(())
 }

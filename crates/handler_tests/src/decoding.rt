@@ -126,13 +126,25 @@ const REFUSED: [([u8; 8], Rule); 22] = [
     ([0xb7, 0x01, 8, 0, 0, 0, 0, 0], Rule::Field),
 ];
 
+/// Whether these bytes are read as this instruction alone.
+fn is_read(alloc: Global, bytes: &[u8], insn: &Insn) -> bool {
+    match decode(alloc, bytes) {
+        Ok(insns) => insns.len() == 1 && insns[0] == *insn,
+        Err(_) => false,
+    }
+}
+
+/// Whether this instruction is written as these bytes.
+fn is_written(alloc: Global, bytes: &[u8], insn: &Insn) -> bool {
+    match encode(alloc, &[*insn]) {
+        Ok(written) => written.as_slice() == bytes,
+        Err(_) => false,
+    }
+}
+
 /// These bytes are read as this instruction, and it is written as these bytes.
-fn is_encoded(rt: &impl Abort, alloc: Global, bytes: &[u8], insn: Insn) -> Result<(), DecodeError> {
-    let insns = decode(alloc, bytes)?;
-    assert_eq!(rt; insns.as_slice(), [insn].as_slice());
-    let written = encode(alloc, &[insn])?;
-    assert_eq!(rt; written.as_slice(), bytes);
-    Ok(())
+fn is_encoded(rt: &impl Abort, alloc: Global, bytes: &[u8], insn: Insn) {
+    assert!(rt; is_read(alloc, bytes, &insn) && is_written(alloc, bytes, &insn));
 }
 
 /// The rule that these bytes break and the slot that breaks it, if they are refused.
@@ -145,49 +157,60 @@ fn refusal(alloc: Global, bytes: &[u8]) -> Option<(Rule, usize)> {
 
 /// These bytes are refused since this slot breaks this rule.
 fn is_refused(rt: &impl Abort, alloc: Global, bytes: &[u8], rule: Rule, slot: usize) {
-    assert_eq!(rt; refusal(alloc, bytes), Some((rule, slot)), "at {bytes:?}");
+    assert!(rt; refusal(alloc, bytes) == Some((rule, slot)));
 }
 
-fn each_operation(
+/// An operation by the number -2, and by r10, of these opcodes.
+fn is_operation(
     rt: &impl Abort,
     alloc: Global,
-    rows: &[(AluOp, u8, [u8; 4])],
-) -> Result<(), DecodeError> {
-    for &(op, offset, [k32, x32, k64, x64]) in rows {
-        for (width, k, x) in [(Width::W32, k32, x32), (Width::W64, k64, x64)] {
-            let number = Insn::Alu {
-                op,
-                width,
-                dst: R1,
-                operand: Operand::Imm(-2),
-            };
-            is_encoded(
-                rt,
-                alloc,
-                &[k, 0x01, offset, 0, 0xfe, 0xff, 0xff, 0xff],
-                number,
-            )?;
-            let register = Insn::Alu {
-                op,
-                width,
-                dst: R1,
-                operand: Operand::Reg(R10),
-            };
-            is_encoded(rt, alloc, &[x, 0xa1, offset, 0, 0, 0, 0, 0], register)?;
-        }
+    op: AluOp,
+    width: Width,
+    [number, register, offset]: [u8; 3],
+) {
+    let insn = Insn::Alu {
+        op,
+        width,
+        dst: R1,
+        operand: Operand::Imm(-2),
+    };
+    let bytes = [number, 0x01, offset, 0, 0xfe, 0xff, 0xff, 0xff];
+    is_encoded(rt, alloc, &bytes, insn);
+    let insn = Insn::Alu {
+        op,
+        width,
+        dst: R1,
+        operand: Operand::Reg(R10),
+    };
+    is_encoded(rt, alloc, &[register, 0xa1, offset, 0, 0, 0, 0, 0], insn);
+}
+
+#[test]
+fn operations(rt: HostRuntime) {
+    for &(op, offset, [k32, x32, k64, x64]) in OPERATIONS.as_slice() {
+        is_operation(&rt, rt.alloc(), op, Width::W32, [k32, x32, offset]);
+        is_operation(&rt, rt.alloc(), op, Width::W64, [k64, x64, offset]);
     }
-    Ok(())
 }
 
-#[test]
-fn operations(rt: HostRuntime) -> Result<(), Fail> {
-    each_operation(&rt, rt.alloc(), &OPERATIONS)?;
-    Ok(())
-}
+/// Each negation with its opcode, and each order of bytes with its opcode, and each number of bits.
+const NEGATIONS: [(Width, u8); 2] = [(Width::W32, 0x84), (Width::W64, 0x87)];
+
+const ORDERS: [(ByteOrder, u8); 3] = [
+    (ByteOrder::Little, 0xd4),
+    (ByteOrder::Big, 0xdc),
+    (ByteOrder::Swap, 0xd7),
+];
+
+const BITS: [(SwapBits, u8); 3] = [
+    (SwapBits::Bits16, 16),
+    (SwapBits::Bits32, 32),
+    (SwapBits::Bits64, 64),
+];
 
 #[test]
-fn extensions(rt: HostRuntime) -> Result<(), Fail> {
-    for (extension, opcode, offset) in EXTENSIONS {
+fn operations_of_one_register(rt: HostRuntime) {
+    for &(extension, opcode, offset) in EXTENSIONS.as_slice() {
         let insn = Insn::MovSx {
             extension,
             dst: R1,
@@ -198,201 +221,193 @@ fn extensions(rt: HostRuntime) -> Result<(), Fail> {
             rt.alloc(),
             &[opcode, 0xa1, offset, 0, 0, 0, 0, 0],
             insn,
-        )?;
+        );
     }
-    Ok(())
-}
-
-#[test]
-fn negations(rt: HostRuntime) -> Result<(), Fail> {
-    for (width, opcode) in [(Width::W32, 0x84), (Width::W64, 0x87)] {
+    for &(width, opcode) in NEGATIONS.as_slice() {
         let insn = Insn::Neg { width, dst: R10 };
-        is_encoded(&rt, rt.alloc(), &[opcode, 0x0a, 0, 0, 0, 0, 0, 0], insn)?;
+        is_encoded(&rt, rt.alloc(), &[opcode, 0x0a, 0, 0, 0, 0, 0, 0], insn);
     }
-    Ok(())
-}
-
-#[test]
-fn swaps(rt: HostRuntime) -> Result<(), Fail> {
-    for (order, opcode) in [
-        (ByteOrder::Little, 0xd4),
-        (ByteOrder::Big, 0xdc),
-        (ByteOrder::Swap, 0xd7),
-    ] {
-        for (bits, imm) in [
-            (SwapBits::Bits16, 16),
-            (SwapBits::Bits32, 32),
-            (SwapBits::Bits64, 64),
-        ] {
+    for &(order, opcode) in ORDERS.as_slice() {
+        for &(bits, imm) in BITS.as_slice() {
             let insn = Insn::End {
                 order,
                 bits,
                 dst: R3,
             };
-            is_encoded(&rt, rt.alloc(), &[opcode, 0x03, 0, 0, imm, 0, 0, 0], insn)?;
+            is_encoded(&rt, rt.alloc(), &[opcode, 0x03, 0, 0, imm, 0, 0, 0], insn);
         }
     }
-    Ok(())
 }
 
-fn each_condition(
+/// A condition by a number, and by r10, of these opcodes.
+fn is_condition(
     rt: &impl Abort,
     alloc: Global,
-    rows: &[(Condition, [u8; 4])],
-) -> Result<(), DecodeError> {
-    for &(condition, [k32, x32, k64, x64]) in rows {
-        for (width, k, x) in [(Width::W32, k32, x32), (Width::W64, k64, x64)] {
-            let number = Insn::JumpIf {
-                condition,
-                width,
-                dst: R1,
-                operand: Operand::Imm(0x0403_0201),
-                offset: -2,
-            };
-            is_encoded(rt, alloc, &[k, 0x01, 0xfe, 0xff, 1, 2, 3, 4], number)?;
-            let register = Insn::JumpIf {
-                condition,
-                width,
-                dst: R1,
-                operand: Operand::Reg(R10),
-                offset: 0x0201,
-            };
-            is_encoded(rt, alloc, &[x, 0xa1, 1, 2, 0, 0, 0, 0], register)?;
-        }
+    condition: Condition,
+    width: Width,
+    [number, register]: [u8; 2],
+) {
+    let insn = Insn::JumpIf {
+        condition,
+        width,
+        dst: R1,
+        operand: Operand::Imm(0x0403_0201),
+        offset: -2,
+    };
+    is_encoded(rt, alloc, &[number, 0x01, 0xfe, 0xff, 1, 2, 3, 4], insn);
+    let insn = Insn::JumpIf {
+        condition,
+        width,
+        dst: R1,
+        operand: Operand::Reg(R10),
+        offset: 0x0201,
+    };
+    is_encoded(rt, alloc, &[register, 0xa1, 1, 2, 0, 0, 0, 0], insn);
+}
+
+#[test]
+fn conditions(rt: HostRuntime) {
+    for &(condition, [k32, x32, k64, x64]) in CONDITIONS.as_slice() {
+        is_condition(&rt, rt.alloc(), condition, Width::W32, [k32, x32]);
+        is_condition(&rt, rt.alloc(), condition, Width::W64, [k64, x64]);
     }
-    Ok(())
 }
 
 #[test]
-fn conditions(rt: HostRuntime) -> Result<(), Fail> {
-    each_condition(&rt, rt.alloc(), &CONDITIONS)?;
-    Ok(())
-}
-
-#[test]
-fn jumps_and_calls(rt: HostRuntime) -> Result<(), Fail> {
+fn jumps_and_calls(rt: HostRuntime) {
     for (bytes, insn) in &JUMPS {
-        is_encoded(&rt, rt.alloc(), bytes, *insn)?;
+        is_encoded(&rt, rt.alloc(), bytes, *insn);
     }
-    Ok(())
+    let insn = Insn::Wide {
+        dst: R1,
+        value: 11150031900141442680,
+    };
+    is_encoded(&rt, rt.alloc(), &WIDE, insn);
 }
 
-fn each_size(rt: &impl Abort, alloc: Global, rows: &[(Size, [u8; 3])]) -> Result<(), DecodeError> {
-    for &(size, [load, register, number]) in rows {
-        let insn = Insn::Load {
-            size,
-            dst: R1,
-            src: R10,
-            offset: -2,
-        };
-        is_encoded(rt, alloc, &[load, 0xa1, 0xfe, 0xff, 0, 0, 0, 0], insn)?;
-        let insn = Insn::StoreReg {
-            size,
-            dst: R10,
-            src: R1,
-            offset: 0x0201,
-        };
-        is_encoded(rt, alloc, &[register, 0x1a, 1, 2, 0, 0, 0, 0], insn)?;
-        let insn = Insn::StoreImm {
-            size,
-            dst: R10,
-            offset: -8,
-            imm: -2,
-        };
-        is_encoded(
-            rt,
-            alloc,
-            &[number, 0x0a, 0xf8, 0xff, 0xfe, 0xff, 0xff, 0xff],
-            insn,
-        )?;
-    }
-    Ok(())
+/// A load of r1, and stores of r1 and of the number -2, of these opcodes.
+fn is_size(rt: &impl Abort, alloc: Global, size: Size, [load, register, number]: [u8; 3]) {
+    let insn = Insn::Load {
+        size,
+        dst: R1,
+        src: R10,
+        offset: -2,
+    };
+    is_encoded(rt, alloc, &[load, 0xa1, 0xfe, 0xff, 0, 0, 0, 0], insn);
+    let insn = Insn::StoreReg {
+        size,
+        dst: R10,
+        src: R1,
+        offset: 0x0201,
+    };
+    is_encoded(rt, alloc, &[register, 0x1a, 1, 2, 0, 0, 0, 0], insn);
+    let insn = Insn::StoreImm {
+        size,
+        dst: R10,
+        offset: -8,
+        imm: -2,
+    };
+    let bytes = [number, 0x0a, 0xf8, 0xff, 0xfe, 0xff, 0xff, 0xff];
+    is_encoded(rt, alloc, &bytes, insn);
 }
+
+const SIGNED_SIZES: [(SignedSize, u8); 3] = [
+    (SignedSize::Word, 0x81),
+    (SignedSize::Half, 0x89),
+    (SignedSize::Byte, 0x91),
+];
 
 #[test]
-fn loads_and_stores(rt: HostRuntime) -> Result<(), Fail> {
-    each_size(&rt, rt.alloc(), &SIZES)?;
-    for (size, opcode) in [
-        (SignedSize::Word, 0x81),
-        (SignedSize::Half, 0x89),
-        (SignedSize::Byte, 0x91),
-    ] {
+fn loads_and_stores(rt: HostRuntime) {
+    for &(size, opcodes) in SIZES.as_slice() {
+        is_size(&rt, rt.alloc(), size, opcodes);
+    }
+    for &(size, opcode) in SIGNED_SIZES.as_slice() {
         let insn = Insn::LoadSx {
             size,
             dst: R4,
             src: R3,
             offset: 8,
         };
-        is_encoded(&rt, rt.alloc(), &[opcode, 0x34, 8, 0, 0, 0, 0, 0], insn)?;
+        is_encoded(&rt, rt.alloc(), &[opcode, 0x34, 8, 0, 0, 0, 0, 0], insn);
     }
-    Ok(())
 }
 
-#[test]
-fn wide(rt: HostRuntime) -> Result<(), Fail> {
-    let insn = Insn::Wide {
-        dst: R1,
-        value: 11150031900141442680,
-    };
-    is_encoded(&rt, rt.alloc(), &WIDE, insn)?;
-    Ok(())
+/// How many instructions and slots these bytes have, and the third instruction.
+fn counts(alloc: Global, bytes: &[u8]) -> Option<(usize, usize, Option<Insn>)> {
+    match decode(alloc, bytes) {
+        Ok(insns) => Some((insns.len(), slots(&insns), insns.get(2).copied())),
+        Err(_) => None,
+    }
+}
+
+/// Whether these bytes are written again as they were read.
+fn is_back(alloc: Global, bytes: &[u8]) -> Result<bool, DecodeError> {
+    let insns = decode(alloc, bytes)?;
+    Ok(encode(alloc, &insns)?.as_slice() == bytes)
 }
 
 #[test]
 fn adder_there_and_back(rt: HostRuntime) -> Result<(), Fail> {
-    let insns = decode(rt.alloc(), &ADDER)?;
     let add = Insn::Alu {
         op: AluOp::Add,
         width: Width::W64,
         dst: R4,
         operand: Operand::Reg(R3),
     };
-    assert_eq!(rt; insns.get(2), Some(&add));
-    assert_eq!(rt; slots(&insns), 6);
-    assert_eq!(rt; encode(rt.alloc(), &insns)?.as_slice(), ADDER.as_slice());
-    Ok(())
-}
-
-#[test]
-fn wide_takes_two_slots(rt: HostRuntime) -> Result<(), Fail> {
-    let insns = decode(rt.alloc(), &WIDE)?;
-    assert_eq!(rt; (insns.len(), slots(&insns)), (1, 2));
+    assert!(rt; counts(rt.alloc(), &ADDER) == Some((6, 6, Some(add))));
+    assert!(rt; is_back(rt.alloc(), &ADDER)?);
+    // A wide instruction takes two slots.
+    assert!(rt; counts(rt.alloc(), &WIDE) == Some((1, 2, None)));
     Ok(())
 }
 
 /// The standard's tables without atomic operations and packet access have 117 opcodes.
 #[test]
-fn opcodes(rt: HostRuntime) -> Result<(), Fail> {
+fn opcodes(rt: HostRuntime) {
     let mut known: u32 = 0;
     for opcode in 0..=255u8 {
         if refusal(rt.alloc(), &[opcode, 0, 0, 0, 0, 0, 0, 0]) != Some((Rule::Opcode, 0)) {
             known = known.saturating_add(1);
         }
     }
-    assert_eq!(rt; known, 117);
-    Ok(())
+    assert!(rt; known == 117);
+}
+
+/// A byte of the wide instruction, its place, and the rule that it breaks: a fault of the second slot is one of the
+/// first slot.
+const SECOND_SLOTS: [(usize, u8, Rule); 6] = [
+    (8, 0x01, Rule::Field),
+    (9, 0xbb, Rule::Field),
+    (10, 0x01, Rule::Field),
+    (11, 0x80, Rule::Field),
+    (1, 0x71, Rule::Field),
+    (1, 0x11, Rule::Profile),
+];
+
+/// The first slot with a fault, and after a wide instruction, which counts two: changed bytes of the adder.
+const FIRST_FAULTS: [&[(usize, u8)]; 2] = [
+    &[(20, 1), (32, 0)],
+    &[(8, 0x18), (9, 0x01), (16, 0), (17, 0), (24, 0)],
+];
+
+/// Bytes with some of them changed.
+fn changed(bytes: &mut [u8], changes: &[(usize, u8)]) {
+    for &(place, byte) in changes {
+        if let Some(here) = bytes.get_mut(place) {
+            *here = byte;
+        }
+    }
 }
 
 #[test]
 fn refused_slots(rt: HostRuntime) {
-    for (bytes, rule) in &REFUSED {
-        is_refused(&rt, rt.alloc(), bytes, *rule, 0);
+    for &(bytes, rule) in REFUSED.as_slice() {
+        is_refused(&rt, rt.alloc(), &bytes, rule, 0);
     }
-}
-
-/// A fault of the second slot of a wide instruction is one of its first slot.
-#[test]
-fn refused_second_slots(rt: HostRuntime) {
-    for (place, byte, rule) in [
-        (8, 0x01, Rule::Field),
-        (9, 0xbb, Rule::Field),
-        (10, 0x01, Rule::Field),
-        (11, 0x80, Rule::Field),
-        (1, 0x71, Rule::Field),
-        (1, 0x11, Rule::Profile),
-    ] {
+    for &(place, byte, rule) in SECOND_SLOTS.as_slice() {
         let mut bytes = WIDE;
-        bytes[place] = byte;
+        changed(&mut bytes, &[(place, byte)]);
         is_refused(&rt, rt.alloc(), &bytes, rule, 0);
     }
 }
@@ -401,46 +416,36 @@ fn refused_second_slots(rt: HostRuntime) {
 fn refused_first(rt: HostRuntime) {
     // The length, before the opcode.
     is_refused(&rt, rt.alloc(), &[0xff; 7], Rule::Length, 0);
-    // The first slot with a fault.
     let mut bytes = ADDER;
-    bytes[20] = 1;
-    bytes[32] = 0;
+    changed(&mut bytes, FIRST_FAULTS[0]);
     is_refused(&rt, rt.alloc(), &bytes, Rule::Field, 2);
-    // A wide instruction counts two.
     let mut bytes = ADDER;
-    bytes[8] = 0x18;
-    bytes[9] = 0x01;
-    bytes[16] = 0;
-    bytes[17] = 0;
-    bytes[24] = 0;
+    changed(&mut bytes, FIRST_FAULTS[1]);
     is_refused(&rt, rt.alloc(), &bytes, Rule::Opcode, 3);
 }
 
-/// The error is shown so.
-fn is_shown(rt: &impl Abort, alloc: Global, error: DecodeError, text: &str) -> Result<(), Fail> {
-    assert_eq!(rt; format!(in alloc; "{error}")?.as_str(), text);
-    Ok(())
-}
-
-#[test]
-fn errors_shown(rt: HostRuntime) -> Result<(), Fail> {
-    let fault = DecodeError::Fault {
-        rule: Rule::Register,
-        slot: 3,
-    };
-    is_shown(
-        &rt,
-        rt.alloc(),
-        fault,
+/// Errors, and how they are shown.
+const SHOWN: [(DecodeError, &str); 2] = [
+    (
+        DecodeError::Fault {
+            rule: Rule::Register,
+            slot: 3,
+        },
         "slot 3: register above r10 (rule 4)",
-    )?;
-    is_shown(&rt, rt.alloc(), DecodeError::Memory, "out of memory")?;
-    Ok(())
-}
+    ),
+    (DecodeError::Memory, "out of memory"),
+];
+
+const REGISTERS: [(u8, Option<Reg>); 3] = [(0, Some(R0)), (10, Some(R10)), (11, None)];
 
 #[test]
-fn registers(rt: HostRuntime) {
-    for (number, reg) in [(0, Some(R0)), (10, Some(R10)), (11, None)] {
-        assert_eq!(rt; Reg::new(number), reg, "at {number}");
+fn errors_and_registers(rt: HostRuntime) -> Result<(), Fail> {
+    for (error, text) in &SHOWN {
+        let shown = error.to_string(rt.alloc())?;
+        assert!(rt; shown.as_str() == *text);
     }
+    for &(number, reg) in REGISTERS.as_slice() {
+        assert!(rt; Reg::new(number) == reg);
+    }
+    Ok(())
 }

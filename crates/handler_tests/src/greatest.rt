@@ -7,7 +7,7 @@ use decode::{decode, encode};
 use helpers::{Effects, Who};
 use interp::{CallEnd, call};
 use regtypes::ImageForm;
-use std::alloc::Global;
+use std::alloc::{AllocError, Global};
 use std::test::Fail;
 use verifier::{HeaderFault, Image, ImageError, file, frames_of, load, parts, verify, verify_form};
 
@@ -63,7 +63,7 @@ fn is_read_and_written(alloc: Global, line: &str, code: &[u8], times: usize) -> 
 
 #[test]
 fn a_thousand_of_the_longest_lines(rt: HostRuntime) -> Result<(), Fail> {
-    for (line, code, times) in LONGEST {
+    for &(line, code, times) in LONGEST.as_slice() {
         assert!(rt;
             is_read_and_written(rt.alloc(), line, code, times)?,
             "{line}"
@@ -73,7 +73,7 @@ fn a_thousand_of_the_longest_lines(rt: HostRuntime) -> Result<(), Fail> {
 }
 
 /// `lddw r0, 18446744073709551615` 511 times, `neg r0` and `exit`, with no state.
-fn values(alloc: Global) -> Result<Vec<u8>, Fail> {
+fn values(alloc: Global) -> Result<Vec<u8>, AllocError> {
     let mut file = Vec::from_slice(alloc, &[0x53, 0x42, 0x49, 0x31, 0, 0, 0, 4])?;
     for _ in 0..511 {
         file.extend_from_slice(&[0x18, 0, 0, 0, 0xff, 0xff, 0xff, 0xff])?;
@@ -84,7 +84,7 @@ fn values(alloc: Global) -> Result<Vec<u8>, Fail> {
 }
 
 /// `mov r0, 7`, 1,022 times `jeq r0, 0` to the end, and `exit`, with no state.
-fn jumps(alloc: Global) -> Result<Vec<u8>, Fail> {
+fn jumps(alloc: Global) -> Result<Vec<u8>, AllocError> {
     let mut file = Vec::from_slice(alloc, &[0x53, 0x42, 0x49, 0x31, 0, 0, 0, 4])?;
     file.extend_from_slice(&[0xb7, 0, 0, 0, 7, 0, 0, 0])?;
     for passed in 0..1_022u16 {
@@ -97,7 +97,7 @@ fn jumps(alloc: Global) -> Result<Vec<u8>, Fail> {
 }
 
 /// `stb [r2+N], 9` for N from 2 to 1,023, `mov r0, 5` and `exit`, of form 2 with a state of 1,024 bytes.
-fn stores(alloc: Global) -> Result<Vec<u8>, Fail> {
+fn stores(alloc: Global) -> Result<Vec<u8>, AllocError> {
     let mut file = Vec::from_slice(alloc, &[0x53, 0x42, 0x49, 0x32, 0, 4, 0, 4])?;
     for place in 2..1_024u16 {
         file.extend_from_slice(&[0x72, 0x02])?;
@@ -183,9 +183,11 @@ fn is_called(alloc: Global, bytes: &[u8], steps: u32, r0: u64, sum: u32) -> Resu
 
 #[test]
 fn images_of_1_024_slots_are_called(rt: HostRuntime) -> Result<(), Fail> {
-    let alloc = rt.alloc();
-    assert!(rt; is_called(alloc, &values(alloc)?, 513, 1, 0)?);
-    assert!(rt; is_called(alloc, &jumps(alloc)?, 1_024, 7, 0)?);
-    assert!(rt; is_called(alloc, &stores(alloc)?, 1_024, 5, 9_198)?);
+    let file = values(rt.alloc())?;
+    assert!(rt; is_called(rt.alloc(), &file, 513, 1, 0)?);
+    let file = jumps(rt.alloc())?;
+    assert!(rt; is_called(rt.alloc(), &file, 1_024, 7, 0)?);
+    let file = stores(rt.alloc())?;
+    assert!(rt; is_called(rt.alloc(), &file, 1_024, 5, 9_198)?);
     Ok(())
 }

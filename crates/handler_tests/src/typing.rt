@@ -99,11 +99,16 @@ const SIZED: [(ImageForm, Region, i16, Kind, Option<u8>); 7] = [
 
 /// This instruction breaks the rule of this number, or none, as a call with a state of 8 bytes begins.
 fn breaks(rt: &impl Abort, insn: Insn, rule: Option<u8>) {
-    let broken = match transfer(ImageForm::Sbi1, &insn, &Frame::entry(ImageForm::Sbi1), 8) {
+    let frame = Frame::entry(ImageForm::Sbi1);
+    assert!(rt; broken(ImageForm::Sbi1, &insn, &frame, 8) == rule);
+}
+
+/// The number of the rule that an instruction breaks, if it breaks one.
+fn broken(form: ImageForm, insn: &Insn, frame: &Frame, state_len: u16) -> Option<u8> {
+    match transfer(form, insn, frame, state_len) {
         Ok(_) => None,
         Err(rule) => Some(rule.number()),
-    };
-    assert_eq!(rt; broken, rule, "at {insn:?}");
+    }
 }
 
 #[test]
@@ -117,13 +122,21 @@ fn rules_of_arithmetic(rt: HostRuntime) {
         };
         breaks(&rt, insn, rule);
     }
-    let extended = Insn::MovSx {
-        extension: Extension::W64From8,
-        dst: R3,
-        src: R2,
-    };
-    breaks(&rt, extended, Some(5));
-    breaks(&rt, Insn::Wide { dst: R10, value: 0 }, Some(4));
+    for &(insn, rule) in INSNS.as_slice() {
+        breaks(&rt, insn, rule);
+    }
+    for &(helper, rule) in CALLS.as_slice() {
+        breaks(&rt, Insn::Call { helper }, rule);
+    }
+    assert!(rt; bytes_in(Size::Word) + signed_bytes_in(SignedSize::Half) == 6);
+}
+
+/// Whether a call puts this kind of value into a register by an instruction.
+fn is_put(insn: &Insn, dst: Reg, kind: Kind) -> bool {
+    match transfer(ImageForm::Sbi1, insn, &Frame::entry(ImageForm::Sbi1), 0) {
+        Ok(left) => left.next.kind(dst) == kind,
+        Err(_) => false,
+    }
 }
 
 #[test]
@@ -135,16 +148,12 @@ fn places(rt: HostRuntime) {
             dst,
             operand,
         };
-        let left = match transfer(ImageForm::Sbi1, &insn, &Frame::entry(ImageForm::Sbi1), 0) {
-            Ok(left) => Some(left.next.kind(dst)),
-            Err(_) => None,
-        };
-        assert_eq!(rt; left, Some(Kind::Place(region, at)), "at {insn:?}");
+        assert!(rt; is_put(&insn, dst, Kind::Place(region, at)));
     }
 }
 
 #[test]
-fn rules_of_loads(rt: HostRuntime) {
+fn rules_of_loads_and_stores(rt: HostRuntime) {
     for &(src, offset, rule) in LOADS.as_slice() {
         let insn = Insn::Load {
             size: Size::Double,
@@ -154,17 +163,6 @@ fn rules_of_loads(rt: HostRuntime) {
         };
         breaks(&rt, insn, rule);
     }
-    let extended = Insn::LoadSx {
-        size: SignedSize::Word,
-        dst: R3,
-        src: R2,
-        offset: 4,
-    };
-    breaks(&rt, extended, None);
-}
-
-#[test]
-fn rules_of_stores(rt: HostRuntime) {
     for &(size, dst, offset, rule) in STORES.as_slice() {
         let insn = Insn::StoreImm {
             size,
@@ -174,45 +172,59 @@ fn rules_of_stores(rt: HostRuntime) {
         };
         breaks(&rt, insn, rule);
     }
-    let place = Insn::StoreReg {
-        size: Size::Double,
-        dst: R2,
-        src: R1,
-        offset: 0,
-    };
-    breaks(&rt, place, Some(5));
-    assert_eq!(rt; bytes_in(Size::Word) + signed_bytes_in(SignedSize::Half), 6);
 }
 
-/// Control goes on from this instruction in this way.
-fn flows(rt: &impl Abort, insn: Insn, flow: Flow) {
-    assert_eq!(rt; flow_from(&insn), flow, "at {insn:?}");
-}
+/// Other instructions, and the number of the rule that each breaks.
+const INSNS: [(Insn, Option<u8>); 7] = [
+    (
+        Insn::MovSx {
+            extension: Extension::W64From8,
+            dst: R3,
+            src: R2,
+        },
+        Some(5),
+    ),
+    (Insn::Wide { dst: R10, value: 0 }, Some(4)),
+    (
+        Insn::LoadSx {
+            size: SignedSize::Word,
+            dst: R3,
+            src: R2,
+            offset: 4,
+        },
+        None,
+    ),
+    (
+        Insn::StoreReg {
+            size: Size::Double,
+            dst: R2,
+            src: R1,
+            offset: 0,
+        },
+        Some(5),
+    ),
+    (BRANCH, Some(5)),
+    (Insn::Jump { offset: -1 }, None),
+    (Insn::Exit, Some(10)),
+];
+
+const BRANCH: Insn = Insn::JumpIf {
+    condition: Condition::Equal,
+    width: Width::W64,
+    dst: R1,
+    operand: Operand::Imm(0),
+    offset: 1,
+};
 
 #[test]
-fn rules_of_jumps_helpers_and_the_end(rt: HostRuntime) {
-    let branch = Insn::JumpIf {
-        condition: Condition::Equal,
-        width: Width::W64,
-        dst: R1,
-        operand: Operand::Imm(0),
-        offset: 1,
-    };
-    breaks(&rt, branch, Some(5));
-    flows(&rt, branch, Flow::Forks(1));
-    breaks(&rt, Insn::Jump { offset: -1 }, None);
-    flows(&rt, Insn::Wide { dst: R0, value: 0 }, Flow::Falls(2));
-    for &(helper, rule) in CALLS.as_slice() {
-        breaks(&rt, Insn::Call { helper }, rule);
-    }
-    breaks(&rt, Insn::Exit, Some(10));
+fn flows(rt: HostRuntime) {
+    assert!(rt; flow_from(&BRANCH) == Flow::Forks(1));
+    assert!(rt; flow_from(&Insn::Wide { dst: R0, value: 0 }) == Flow::Falls(2));
 }
 
-/// Of these frames the second allows more, and is what both allow.
-fn is_below(rt: &impl Abort, low: &Frame, high: &Frame) {
-    let order = (leq(low, high), leq(high, low));
-    assert_eq!(rt; order, (true, false));
-    assert_eq!(rt; join(low, high), *high);
+/// Whether of these frames the second allows more, and is what both allow.
+fn is_below(low: &Frame, high: &Frame) -> bool {
+    leq(low, high) && !leq(high, low) && join(low, high) == *high
 }
 
 /// What is shown of each rule.
@@ -240,9 +252,11 @@ const RULES: [(Rule, &str); 10] = [
 
 #[test]
 fn rules_shown(rt: HostRuntime) -> Result<(), Fail> {
-    for &(rule, text) in RULES.as_slice() {
-        assert_eq!(rt; format!(in rt.alloc(); "{rule}")?.as_str(), text);
+    for (rule, text) in &RULES {
+        let shown = rule.to_string(rt.alloc())?;
+        assert!(rt; shown.as_str() == *text);
     }
+    assert!(rt; Rule::V10.number() == 10);
     Ok(())
 }
 
@@ -250,30 +264,34 @@ fn rules_shown(rt: HostRuntime) -> Result<(), Fail> {
 fn order_of_frames(rt: HostRuntime) {
     let entry = Frame::entry(ImageForm::Sbi1);
     let more = entry.with(R3, Kind::Num);
-    is_below(&rt, &more, &entry);
     let other = entry.with(R2, Kind::Place(Region::State, 8));
-    assert_eq!(rt; join(&more, &other).kind(R2), Kind::Unset);
-    assert_eq!(rt; Rule::V10.number(), 10);
+    assert!(rt; is_below(&more, &entry));
+    assert!(rt; join(&more, &other).kind(R2) == Kind::Unset);
+}
+
+/// The least lengths that are known on both ways of a comparison with the message's length, next and taken.
+fn known(frame: &Frame, condition: Condition, width: Width, number: i32) -> Option<(u16, u16)> {
+    let compare = Insn::JumpIf {
+        condition,
+        width,
+        dst: R3,
+        operand: Operand::Imm(number),
+        offset: 1,
+    };
+    match transfer(ImageForm::Sbi2, &compare, frame, 8) {
+        Ok(left) => Some((left.next.low, left.taken.low)),
+        Err(_) => None,
+    }
 }
 
 #[test]
 fn lengths(rt: HostRuntime) {
     let entry = Frame::entry(ImageForm::Sbi2);
     for &(condition, width, number, next, taken) in LENGTHS.as_slice() {
-        let compare = Insn::JumpIf {
-            condition,
-            width,
-            dst: R3,
-            operand: Operand::Imm(number),
-            offset: 1,
-        };
-        let known = match transfer(ImageForm::Sbi2, &compare, &entry, 8) {
-            Ok(left) => Some((left.next.low, left.taken.low)),
-            Err(_) => None,
-        };
-        assert_eq!(rt; known, Some((next, taken)), "at {compare:?}");
+        let known = known(&entry, condition, width, number);
+        assert!(rt; known == Some((next, taken)));
     }
-    assert_eq!(rt; (entry.low, ImageForm::Sbi2.number()), (0, 2));
+    assert!(rt; entry.low == 0 && ImageForm::Sbi2.number() == 2);
 }
 
 #[test]
@@ -281,11 +299,8 @@ fn sized_outputs(rt: HostRuntime) {
     let entry = Frame::entry(ImageForm::Sbi2);
     for &(form, region, at, kind, rule) in SIZED.as_slice() {
         let frame = entry.with(R1, Kind::Place(region, at)).with(R2, kind);
-        let broken = match transfer(form, &Insn::Call { helper: 6 }, &frame, 0) {
-            Ok(_) => None,
-            Err(rule) => Some(rule.number()),
-        };
-        assert_eq!(rt; broken, rule, "{kind:?} bytes at {at} in {form:?}");
+        assert!(rt; broken(form, &Insn::Call { helper: 6 }, &frame, 0) == rule);
     }
-    is_below(&rt, &entry.with(R2, Kind::Len), &entry.with(R2, Kind::Num));
+    let low = entry.with(R2, Kind::Len);
+    assert!(rt; is_below(&low, &entry.with(R2, Kind::Num)));
 }

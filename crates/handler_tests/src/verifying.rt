@@ -1,6 +1,6 @@
 use decode::{Insn, Reg};
 use regtypes::{ImageForm, Kind, Region};
-use std::alloc::Global;
+use std::alloc::{AllocError, Global};
 use std::process::Abort;
 use std::test::Fail;
 use verifier::{HeaderFault, Image, ImageError, file, load, parts, verify, verify_form};
@@ -11,7 +11,7 @@ const ADDER: [u8; 56] = [
     0, 0x95, 0, 0, 0, 0, 0, 0, 0,
 ];
 
-#[derive(Clone, Copy, Debug, PartialEq, Eq)]
+#[derive(Clone, Copy, PartialEq, Eq)]
 enum Verdict {
     Accepted(usize),
     Header(u8),
@@ -30,137 +30,171 @@ fn verdict_of(alloc: Global, bytes: &[u8]) -> Verdict {
     }
 }
 
-// An assertion is proved where it stands, so the tests share those below.
-
 fn is_judged(rt: &impl Abort, alloc: Global, what: &str, bytes: &[u8], verdict: Verdict) {
-    assert_eq!(rt; verdict_of(alloc, bytes), verdict, "{what}");
+    assert!(rt; verdict_of(alloc, bytes) == verdict, "{what}");
 }
 
 /// What a file is, its fourth byte, the length of its state, its slots, and the verdict on it.
 type Row = (&'static str, u8, u8, &'static [[u8; 8]], Verdict);
 
-fn each_judged(rt: &impl Abort, alloc: Global, rows: &[Row]) -> Result<(), Fail> {
+/// The file of this form, with a state of this length, and of these slots.
+fn file_of(
+    alloc: Global,
+    form: u8,
+    state_len: u8,
+    slots: &[[u8; 8]],
+) -> Result<Vec<u8>, AllocError> {
+    let count = u8::try_from(slots.len()).unwrap_or(0);
+    let header = [0x53, 0x42, 0x49, form, state_len, 0, count, 0];
+    let mut bytes = Vec::from_slice(alloc, &header)?;
+    for slot in slots {
+        bytes.extend_from_slice(slot)?;
+    }
+    Ok(bytes)
+}
+
+fn each_judged(rt: &impl Abort, alloc: Global, rows: &[Row]) -> Result<(), AllocError> {
     for &(what, form, state_len, slots, verdict) in rows {
-        let mut bytes = Vec::from_slice(alloc, &[0x53, 0x42, 0x49, form])?;
-        bytes.extend_from_slice(&[state_len, 0, u8::try_from(slots.len())?, 0])?;
-        for slot in slots {
-            bytes.extend_from_slice(slot)?;
-        }
+        let bytes = file_of(alloc, form, state_len, slots)?;
         is_judged(rt, alloc, what, &bytes, verdict);
     }
     Ok(())
 }
 
-fn is_number(rt: &impl Abort, what: &str, number: usize, wanted: usize) {
-    assert_eq!(rt; number, wanted, "{what}");
+/// What the image of a file is: its instructions, counted and listed, and the bytes of its state.
+fn sizes(image: &Image) -> [usize; 3] {
+    let state_len = usize::from(image.state_len());
+    [image.count(), image.code().len(), state_len]
 }
 
-fn is_answer(rt: &impl Abort, what: &str, answer: bool, wanted: bool) {
-    assert_eq!(rt; answer, wanted, "{what}");
-}
-
-fn is_kind(rt: &impl Abort, image: &Image, slot: usize, reg: Reg, wanted: Kind) {
-    let found = image.kinds_at(slot).map(|kinds| kinds.kind(reg));
-    assert_eq!(rt; found, Some(wanted), "of {reg:?} at {slot}");
+fn is_kind(image: &Image, slot: usize, reg: Reg, wanted: Kind) -> bool {
+    match image.kinds_at(slot) {
+        Some(kinds) => kinds.kind(reg) == wanted,
+        None => false,
+    }
 }
 
 #[test]
 fn adder(rt: HostRuntime) -> Result<(), Fail> {
     let image = load(rt.alloc(), &ADDER)?;
-    is_number(&rt, "slots", image.count(), 6);
-    is_number(&rt, "bytes of the state", usize::from(image.state_len()), 8);
-    is_number(&rt, "instructions", image.code().len(), 6);
-    let one = Reg { number: 1 };
-    let three = Reg { number: 3 };
-    is_kind(&rt, &image, 0, one, Kind::Place(Region::Message, 0));
-    is_kind(&rt, &image, 0, three, Kind::Unset);
-    is_kind(&rt, &image, 1, three, Kind::Num);
-    is_answer(&rt, "past the end", image.kinds_at(6).is_none(), true);
+    assert!(rt; sizes(&image) == [6, 6, 8]);
+    let (one, three) = (Reg { number: 1 }, Reg { number: 3 });
+    assert!(rt; is_kind(&image, 0, one, Kind::Place(Region::Message, 0)));
+    assert!(rt; is_kind(&image, 0, three, Kind::Unset));
+    assert!(rt; is_kind(&image, 1, three, Kind::Num));
+    assert!(rt; image.kinds_at(6).is_none());
     Ok(())
 }
 
 // With one allocation refused, want of memory is answered and no verdict on the file.
 #[test]
-fn adder_or_memory(rt: HostRuntime) -> Result<(), Fail> {
+fn adder_or_memory(rt: HostRuntime) {
     let verdict = verdict_of(rt.alloc(), &ADDER);
     assert!(rt; verdict == Verdict::Accepted(6) || verdict == Verdict::Memory);
-    Ok(())
 }
 
-/// The error is shown so.
-fn is_shown(rt: &impl Abort, alloc: Global, error: ImageError, text: &str) -> Result<(), Fail> {
-    assert_eq!(rt; format!(in alloc; "{error}")?.as_str(), text);
-    Ok(())
-}
-
-const HEADER_FAULTS: [(HeaderFault, &str); 5] = [
-    (HeaderFault::TooShort, "header: shorter than a header"),
-    (HeaderFault::Magic, "header: no image file"),
-    (HeaderFault::StateLength, "header: state too long"),
-    (HeaderFault::SlotCount, "header: no slots, or too many"),
+/// Errors, and how they are shown.
+const SHOWN: [(ImageError, &str); 8] = [
     (
-        HeaderFault::FileLength,
+        ImageError::Header(HeaderFault::TooShort),
+        "header: shorter than a header",
+    ),
+    (
+        ImageError::Header(HeaderFault::Magic),
+        "header: no image file",
+    ),
+    (
+        ImageError::Header(HeaderFault::StateLength),
+        "header: state too long",
+    ),
+    (
+        ImageError::Header(HeaderFault::SlotCount),
+        "header: no slots, or too many",
+    ),
+    (
+        ImageError::Header(HeaderFault::FileLength),
         "header: the length is not that of the slots",
     ),
+    (
+        ImageError::Decode {
+            rule: decode::Rule::Register,
+            slot: 3,
+        },
+        "code at slot 3: register above r10 (rule 4)",
+    ),
+    (
+        ImageError::Verify {
+            rule: regtypes::Rule::V6,
+            slot: 4,
+        },
+        "slot 4 breaks V6: an access does not lie in its region, or a place is moved too far",
+    ),
+    (ImageError::Memory, "out of memory"),
 ];
 
 #[test]
 fn errors_shown(rt: HostRuntime) -> Result<(), Fail> {
-    let alloc = rt.alloc();
-    for &(fault, text) in HEADER_FAULTS.as_slice() {
-        is_shown(&rt, alloc, ImageError::Header(fault), text)?;
-    }
-    let decode = ImageError::Decode {
-        rule: decode::Rule::Register,
-        slot: 3,
-    };
-    is_shown(
-        &rt,
-        alloc,
-        decode,
-        "code at slot 3: register above r10 (rule 4)",
-    )?;
-    let verify = ImageError::Verify {
-        rule: regtypes::Rule::V6,
-        slot: 4,
-    };
-    is_shown(
-        &rt,
-        alloc,
-        verify,
-        "slot 4 breaks V6: an access does not lie in its region, or a place is moved too far",
-    )?;
-    is_shown(&rt, alloc, ImageError::Memory, "out of memory")
-}
-
-#[test]
-fn there_and_back(rt: HostRuntime) -> Result<(), Fail> {
-    let (code, state_len, form) = parts(rt.alloc(), &ADDER)?;
-    assert_eq!(rt; form, ImageForm::Sbi1);
-    assert_eq!(rt; state_len, 8);
-    let bytes = file(rt.alloc(), form, &code, 8)?;
-    assert_eq!(rt; bytes.as_slice(), ADDER.as_slice());
-    match file(rt.alloc(), ImageForm::Sbi1, &[], 8) {
-        Err(ImageError::Header(fault)) => assert_eq!(rt; fault.number(), 4),
-        _ => assert!(rt; false),
+    for (error, text) in &SHOWN {
+        let shown = error.to_string(rt.alloc())?;
+        assert!(rt; shown.as_str() == *text);
     }
     Ok(())
 }
 
+/// Whether a file is written again as it was read, and has this form and a state of 8 bytes.
+fn is_back(alloc: Global, bytes: &[u8], wanted: ImageForm) -> Result<bool, ImageError> {
+    let (code, state_len, form) = parts(alloc, bytes)?;
+    let back = file(alloc, form, &code, 8)?;
+    Ok(form == wanted && state_len == 8 && back.as_slice() == bytes)
+}
+
+/// The number of the fault of a file that would have no slots.
+fn fault_of_nothing(alloc: Global) -> Option<u8> {
+    match file(alloc, ImageForm::Sbi1, &[], 8) {
+        Err(ImageError::Header(fault)) => Some(fault.number()),
+        _ => None,
+    }
+}
+
+#[test]
+fn there_and_back(rt: HostRuntime) -> Result<(), Fail> {
+    assert!(rt; is_back(rt.alloc(), &ADDER, ImageForm::Sbi1)?);
+    assert!(rt; fault_of_nothing(rt.alloc()) == Some(4));
+    Ok(())
+}
+
+/// Headers alone: what they say, and the number of the fault.
+const HEADERS: [(&str, &[u8], u8); 4] = [
+    ("no bytes", &[], 1),
+    (
+        "state of 1025 bytes",
+        &[0x53, 0x42, 0x49, 0x31, 0x01, 0x04, 0x00, 0x00],
+        3,
+    ),
+    (
+        "no slots",
+        &[0x53, 0x42, 0x49, 0x31, 0x00, 0x04, 0x00, 0x00],
+        4,
+    ),
+    (
+        "1025 slots",
+        &[0x53, 0x42, 0x49, 0x31, 0x00, 0x04, 0x01, 0x04],
+        4,
+    ),
+];
+
 #[test]
 fn headers(rt: HostRuntime) {
-    let alloc = rt.alloc();
-    is_judged(&rt, alloc, "no bytes", &[], Verdict::Header(1));
-    is_judged(&rt, alloc, "7 bytes", &ADDER[..7], Verdict::Header(1));
-    is_judged(&rt, alloc, "no first byte", &ADDER[1..], Verdict::Header(2));
-    let long = [0x53, 0x42, 0x49, 0x31, 0x01, 0x04, 0x00, 0x00];
-    is_judged(&rt, alloc, "state of 1025 bytes", &long, Verdict::Header(3));
-    let empty = [0x53, 0x42, 0x49, 0x31, 0x00, 0x04, 0x00, 0x00];
-    is_judged(&rt, alloc, "no slots", &empty, Verdict::Header(4));
-    let many = [0x53, 0x42, 0x49, 0x31, 0x00, 0x04, 0x01, 0x04];
-    is_judged(&rt, alloc, "1025 slots", &many, Verdict::Header(4));
-    is_judged(&rt, alloc, "a byte less", &ADDER[..55], Verdict::Header(5));
-    is_judged(&rt, alloc, "a slot less", &ADDER[..48], Verdict::Header(5));
+    for &(what, bytes, fault) in HEADERS.as_slice() {
+        is_judged(&rt, rt.alloc(), what, bytes, Verdict::Header(fault));
+    }
+    let fault = Verdict::Header(2);
+    is_judged(&rt, rt.alloc(), "no first byte", &ADDER[1..], fault);
+    let fault = Verdict::Header(1);
+    is_judged(&rt, rt.alloc(), "7 bytes", &ADDER[..7], fault);
+    let fault = Verdict::Header(5);
+    is_judged(&rt, rt.alloc(), "a byte less", &ADDER[..55], fault);
+    is_judged(&rt, rt.alloc(), "a slot less", &ADDER[..48], fault);
 }
 
 const EXIT: [u8; 8] = [0x95, 0, 0, 0, 0, 0, 0, 0];
@@ -198,16 +232,16 @@ const STRAIGHT: [Row; 5] = [
 ];
 
 #[test]
-fn straight_code(rt: HostRuntime) -> Result<(), Fail> {
-    each_judged(&rt, rt.alloc(), &STRAIGHT)
-}
-
-#[test]
-fn cut_code(rt: HostRuntime) -> Result<(), Fail> {
-    let mut bytes = Vec::from_slice(rt.alloc(), &ADDER[..48])?;
+fn cut_code(rt: HostRuntime) {
+    let mut bytes = ADDER;
     bytes[6] = 5;
-    is_judged(&rt, rt.alloc(), "no exit", &bytes, Verdict::Verify(2, 4));
-    Ok(())
+    is_judged(
+        &rt,
+        rt.alloc(),
+        "no exit",
+        &bytes[..48],
+        Verdict::Verify(2, 4),
+    );
 }
 
 const JUMPS: [Row; 5] = [
@@ -259,11 +293,6 @@ const JUMPS: [Row; 5] = [
     ),
 ];
 
-#[test]
-fn jumps(rt: HostRuntime) -> Result<(), Fail> {
-    each_judged(&rt, rt.alloc(), &JUMPS)
-}
-
 const JOINS: [Row; 3] = [
     (
         "set on one way",
@@ -294,11 +323,6 @@ const JOINS: [Row; 3] = [
         Verdict::Verify(3, 4),
     ),
 ];
-
-#[test]
-fn joins(rt: HostRuntime) -> Result<(), Fail> {
-    each_judged(&rt, rt.alloc(), &JOINS)
-}
 
 const R1_IS_R10: [u8; 8] = [0xbf, 0xa1, 0, 0, 0, 0, 0, 0];
 
@@ -342,11 +366,6 @@ const HELPERS: [Row; 4] = [
 ];
 
 #[test]
-fn helpers(rt: HostRuntime) -> Result<(), Fail> {
-    each_judged(&rt, rt.alloc(), &HELPERS)
-}
-
-#[test]
 fn wide_instruction(rt: HostRuntime) -> Result<(), Fail> {
     let zero = Insn::Wide {
         dst: Reg { number: 0 },
@@ -354,10 +373,8 @@ fn wide_instruction(rt: HostRuntime) -> Result<(), Fail> {
     };
     let code = vec![in rt.alloc(); zero, Insn::Exit]?;
     let image = verify(rt.alloc(), code, 0)?;
-    is_number(&rt, "instructions", image.count(), 2);
-    is_answer(&rt, "first slot", image.kinds_at(0).is_some(), true);
-    is_answer(&rt, "second slot", image.kinds_at(1).is_none(), true);
-    is_answer(&rt, "next slot", image.kinds_at(2).is_some(), true);
+    assert!(rt; image.count() == 2 && image.kinds_at(0).is_some());
+    assert!(rt; image.kinds_at(1).is_none() && image.kinds_at(2).is_some());
     Ok(())
 }
 
@@ -428,42 +445,51 @@ const LONG: [Row; 7] = [
 ];
 
 #[test]
-fn handlers_that_know_the_length(rt: HostRuntime) -> Result<(), Fail> {
-    let alloc = rt.alloc();
-    let mut adder = Vec::from_slice(alloc, &ADDER)?;
-    adder[3] = 0x32;
-    is_judged(&rt, alloc, "form 2", &adder, Verdict::Verify(6, 0));
-    adder[3] = 0x33;
-    is_judged(&rt, alloc, "form 3", &adder, Verdict::Header(2));
-    each_judged(&rt, alloc, &LONG)?;
-    assert_eq!(rt; caller(alloc, ImageForm::Sbi2)?.form(), ImageForm::Sbi2);
-    Ok(())
-}
-
-/// Whether a file and ADDER have the same code, asked of either.
-fn is_same_as_adder(
-    rt: &impl Abort,
-    alloc: Global,
-    what: &str,
-    bytes: &[u8],
-    wanted: bool,
-) -> Result<(), Fail> {
-    let adder = load(alloc, &ADDER)?;
-    let other = load(alloc, bytes)?;
-    let found = (adder.same_code(&other), other.same_code(&adder));
-    assert_eq!(rt; found, (wanted, wanted), "{what}");
+fn files_of_slots(rt: HostRuntime) -> Result<(), Fail> {
+    each_judged(&rt, rt.alloc(), &STRAIGHT)?;
+    each_judged(&rt, rt.alloc(), &JUMPS)?;
+    each_judged(&rt, rt.alloc(), &JOINS)?;
+    each_judged(&rt, rt.alloc(), &HELPERS)?;
+    each_judged(&rt, rt.alloc(), &LONG)?;
     Ok(())
 }
 
 #[test]
+fn handlers_that_know_the_length(rt: HostRuntime) -> Result<(), Fail> {
+    let mut adder = ADDER;
+    adder[3] = 0x32;
+    is_judged(&rt, rt.alloc(), "form 2", &adder, Verdict::Verify(6, 0));
+    adder[3] = 0x33;
+    is_judged(&rt, rt.alloc(), "form 3", &adder, Verdict::Header(2));
+    let form = caller(rt.alloc(), ImageForm::Sbi2)?.form();
+    assert!(rt; form == ImageForm::Sbi2);
+    Ok(())
+}
+
+/// Whether a file and ADDER have the same code, asked of either.
+fn is_same_as_adder(alloc: Global, bytes: &[u8]) -> Result<[bool; 2], ImageError> {
+    let adder = load(alloc, &ADDER)?;
+    let other = load(alloc, bytes)?;
+    Ok([adder.same_code(&other), other.same_code(&adder)])
+}
+
+#[test]
 fn same_code(rt: HostRuntime) -> Result<(), Fail> {
-    let alloc = rt.alloc();
     let mut other = ADDER;
-    is_same_as_adder(&rt, alloc, "same file", &other, true)?;
+    assert!(rt;
+        is_same_as_adder(rt.alloc(), &other)? == [true, true],
+        "same file"
+    );
     other[4] = 9;
-    is_same_as_adder(&rt, alloc, "a byte more of state", &other, true)?;
+    assert!(rt;
+        is_same_as_adder(rt.alloc(), &other)? == [true, true],
+        "a byte more of state"
+    );
     other[44] = 1;
-    is_same_as_adder(&rt, alloc, "r0 is 1", &other, false)?;
+    assert!(rt;
+        is_same_as_adder(rt.alloc(), &other)? == [false, false],
+        "r0 is 1"
+    );
     Ok(())
 }
 
@@ -473,15 +499,22 @@ fn caller(alloc: Global, form: ImageForm) -> Result<Image, Fail> {
     Ok(verify_form(alloc, code, 0, form)?)
 }
 
-#[test]
-fn same_code_of_a_form(rt: HostRuntime) -> Result<(), Fail> {
-    let alloc = rt.alloc();
+/// Whether the caller of form 1 has the same code as its file, and as the caller of form 2; and whether this one has
+/// that of ADDER.
+fn same_codes(alloc: Global) -> Result<[bool; 3], Fail> {
     let first = caller(alloc, ImageForm::Sbi1)?;
     let second = caller(alloc, ImageForm::Sbi2)?;
     let bytes = file(alloc, ImageForm::Sbi1, first.code(), 0)?;
     let (written, adder) = (load(alloc, &bytes)?, load(alloc, &ADDER)?);
-    is_answer(&rt, "same form", first.same_code(&written), true);
-    is_answer(&rt, "another form", first.same_code(&second), false);
-    is_answer(&rt, "another code", second.same_code(&adder), false);
+    Ok([
+        first.same_code(&written),
+        first.same_code(&second),
+        second.same_code(&adder),
+    ])
+}
+
+#[test]
+fn same_code_of_a_form(rt: HostRuntime) -> Result<(), Fail> {
+    assert!(rt; same_codes(rt.alloc())? == [true, false, false]);
     Ok(())
 }

@@ -106,23 +106,16 @@ fn beginnings(alloc: Global, file: &[u8]) -> Result<u64, Fail> {
 // The digests are those of a slow verifier and interpreter that share no code with these.
 #[test]
 fn a_byte_is_changed(rt: HostRuntime) -> Result<(), Fail> {
-    assert_eq!(rt;
-        changed_bytes(rt.alloc(), &FIRST_FORM)?,
-        0x5b46_eb05_63a0_2abe
-    );
-    assert_eq!(rt;
-        changed_bytes(rt.alloc(), &SECOND_FORM)?,
-        0x724b_ed0a_63f7_704f
-    );
+    let first = changed_bytes(rt.alloc(), &FIRST_FORM)?;
+    let second = changed_bytes(rt.alloc(), &SECOND_FORM)?;
+    assert!(rt; first == 0x5b46_eb05_63a0_2abe && second == 0x724b_ed0a_63f7_704f);
     Ok(())
 }
 
 #[test]
 fn a_file_is_cut_off(rt: HostRuntime) -> Result<(), Fail> {
-    assert_eq!(rt; beginnings(rt.alloc(), &FIRST_FORM)?, 0xc80a_e947_4105_7ee0);
-    assert_eq!(rt;
-        beginnings(rt.alloc(), &SECOND_FORM)?,
-        0xc271_ec65_a143_77e0
-    );
+    let first = beginnings(rt.alloc(), &FIRST_FORM)?;
+    let second = beginnings(rt.alloc(), &SECOND_FORM)?;
+    assert!(rt; first == 0xc80a_e947_4105_7ee0 && second == 0xc271_ec65_a143_77e0);
     Ok(())
 }
