@@ -5,6 +5,6 @@
     mov -128(%rdi), %r10        # ldxdw r4, [r2+0]
     add %r9, %r10               # add r4, r3
     mov %r10, -128(%rdi)        # stxdw [r2+0], r4
-    rex mov $0, %eax            # mov r0, 0
+    xor %eax, %eax              # mov r0, 0
     tell 6                      # exit
     ret

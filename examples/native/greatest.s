@@ -8,6 +8,6 @@
     mov %r9, -128(%rdi)         # stxdw [r2+0], r3
     lea 1(%r11), %r11           # the step of the store, which the jump leaves out
 less:
-    rex mov $0, %eax            # mov r0, 0
+    xor %eax, %eax              # mov r0, 0
     tell 5                      # exit
     ret

@@ -1,39 +1,36 @@
 -- Which of the caller's registers code keeps on the stack.
-use Rattle.std.specs.Prelude.{ℕ, List, [], ◌∷◌, slice_index}
+use Rattle.std.specs.Prelude.{◌≡◌, ℕ, ◌==◌, Bool, true, ◌||◌, List, [], ◌∷◌, ◌++◌, slice_index_or, if◌then◌else◌}
 use Rattle.x86.specs.declared.instruction.Instr.{Instr}
 use Rattle.x86.specs.declared.instruction.Instr.TheVariants as instr
 use Rattle.native.specs.declared.saved.Saved.{Saved}
-use Rattle.native.specs.declared.saved.Saved.TheVariants.{NoWord, R5, ToR6, ToR2, ToR7, ToR8, ToR9}
 
--- r0, r1, r3 and r4 stand in registers that no caller minds; r5, r6, r2, r7, r8 and r9, in this order, in the caller's own
-abbrev pub rank : ℕ → ℕ
-rank r = slice_index (0 ∷ 0 ∷ 3 ∷ 0 ∷ 0 ∷ 1 ∷ 2 ∷ 4 ∷ 5 ∷ 6 ∷ []) r
+-- r0, r1, r3 and r4 stand in registers that no caller minds; r2 and r5 to r9 each in one of the caller's own, which are
+-- written only where they are kept
+abbrev pub may_write : Saved → ℕ → Bool
+may_write s r = slice_index_or (true ∷ true ∷ s.r12 ∷ true ∷ true ∷ s.rbx ∷ s.rbp ∷ s.r13 ∷ s.r14 ∷ s.r15 ∷ []) r true
 
--- the code writes no register of a higher rank
-abbrev pub highest : Saved → ℕ
-highest NoWord = 0
-highest R5 = 1
-highest ToR6 = 2
-highest ToR2 = 3
-highest ToR7 = 4
-highest ToR8 = 5
-highest ToR9 = 6
+-- the register of one more is kept
+abbrev pub and_register : Saved → ℕ → Saved
+and_register s r = record {
+  rbx = s.rbx || (r == 5);
+  rbp = s.rbp || (r == 6);
+  r12 = s.r12 || (r == 2);
+  r13 = s.r13 || (r == 7);
+  r14 = s.r14 || (r == 8);
+  r15 = s.r15 || (r == 9);
+}
 
--- of rbx, rbp and r12 to r15, in which they stand, those up to this rank are pushed
+abbrev pub push_if : Bool → ℕ → List Instr
+push_if kept r = if kept then instr.Push r ∷ [] else []
+
+abbrev pub pop_if : Bool → ℕ → List Instr
+pop_if kept r = if kept then instr.Pop r ∷ [] else []
+
+-- those that are kept are pushed, and popped the other way round
 abbrev pub saving : Saved → List Instr
-saving NoWord = []
-saving R5 = instr.Push 3 ∷ []
-saving ToR6 = instr.Push 3 ∷ instr.Push 5 ∷ []
-saving ToR2 = instr.Push 3 ∷ instr.Push 5 ∷ instr.Push 12 ∷ []
-saving ToR7 = instr.Push 3 ∷ instr.Push 5 ∷ instr.Push 12 ∷ instr.Push 13 ∷ []
-saving ToR8 = instr.Push 3 ∷ instr.Push 5 ∷ instr.Push 12 ∷ instr.Push 13 ∷ instr.Push 14 ∷ []
-saving ToR9 = instr.Push 3 ∷ instr.Push 5 ∷ instr.Push 12 ∷ instr.Push 13 ∷ instr.Push 14 ∷ instr.Push 15 ∷ []
+saving s =
+    push_if s.rbx 3 ++ (push_if s.rbp 5 ++ (push_if s.r12 12 ++ (push_if s.r13 13 ++ (push_if s.r14 14 ++ push_if s.r15 15))))
 
 abbrev pub restoring : Saved → List Instr
-restoring NoWord = []
-restoring R5 = instr.Pop 3 ∷ []
-restoring ToR6 = instr.Pop 5 ∷ instr.Pop 3 ∷ []
-restoring ToR2 = instr.Pop 12 ∷ instr.Pop 5 ∷ instr.Pop 3 ∷ []
-restoring ToR7 = instr.Pop 13 ∷ instr.Pop 12 ∷ instr.Pop 5 ∷ instr.Pop 3 ∷ []
-restoring ToR8 = instr.Pop 14 ∷ instr.Pop 13 ∷ instr.Pop 12 ∷ instr.Pop 5 ∷ instr.Pop 3 ∷ []
-restoring ToR9 = instr.Pop 15 ∷ instr.Pop 14 ∷ instr.Pop 13 ∷ instr.Pop 12 ∷ instr.Pop 5 ∷ instr.Pop 3 ∷ []
+restoring s =
+    pop_if s.r15 15 ++ (pop_if s.r14 14 ++ (pop_if s.r13 13 ++ (pop_if s.r12 12 ++ (pop_if s.rbp 5 ++ pop_if s.rbx 3))))

@@ -142,8 +142,20 @@ fn shift_code(op: Shift, width: Width, to: u8, operand: Operand) -> Body
     }
 }
 
-fn move_imm(width: Width, to: u8, imm: u64) -> Body
-    ensures { result ≡ codes.move_imm width to imm }
+/// 0 to a register that holds a word.
+pub(crate) fn clear(to: u8) -> Instr
+    ensures { result ≡ codes.clear to }
+{
+    Instr::Alu {
+        op: Alu::Xor,
+        width: Width::W32,
+        to,
+        from: to,
+    }
+}
+
+fn number_code(width: Width, to: u8, imm: u64) -> Body
+    ensures { result ≡ codes.number_code width to imm }
 {
     match width {
         Width::W64 => {
@@ -154,6 +166,16 @@ fn move_imm(width: Width, to: u8, imm: u64) -> Body
             }
         }
         Width::W32 => Body::One(Instr::MovImm { to, imm }),
+    }
+}
+
+fn move_imm(width: Width, to: u8, imm: u64) -> Body
+    ensures { result ≡ codes.move_imm width to imm }
+{
+    if imm == 0 {
+        Body::One(clear(to))
+    } else {
+        number_code(width, to, imm)
     }
 }
 
@@ -171,7 +193,7 @@ fn move_code(width: Width, to: u8, operand: Operand) -> Body
                     from: gpr(src),
                 })
             } else {
-                Body::One(Instr::MovImm { to, imm: 0 })
+                Body::One(clear(to))
             }
         }
     }

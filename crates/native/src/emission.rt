@@ -1,10 +1,10 @@
 //! Helpers that emit: their tests, what they do, and their answers.
 
-ghost use Rattle.std.specs.Prelude.{◌≡◌, ◌<◌, ◌^◌, ◌++◌, OnOk};
+ghost use Rattle.std.specs.Prelude.{◌≡◌, ◌<◌, ◌≤◌, ◌^◌, ◌++◌, OnOk};
 ghost use Rattle.native.specs.Code.{codes};
 ghost use Rattle.native.specs.Code as specs;
 
-use crate::body::seen;
+use crate::body::{clear, seen};
 use crate::sequence::write_all;
 use decode::{Size, Width};
 use std::alloc::AllocError;
@@ -24,7 +24,7 @@ pub(crate) enum Helper {
 }
 
 // rcx: how many there are; eight are all.
-fn write_room_test(code: &mut Vec<u8>, count_at: u64, none: u64) -> Result<(), AllocError>
+fn write_room_test(code: &mut Vec<u8>, count_at: u64, none: u8) -> Result<(), AllocError>
     ensures { OnOk result (code.new.items ≡ code.old.items ++ codes (specs.room_test count_at none)) }
 {
     write_all(
@@ -42,7 +42,7 @@ fn write_room_test(code: &mut Vec<u8>, count_at: u64, none: u64) -> Result<(), A
                 to: 1,
                 imm: 8,
             },
-            Instr::JumpIf {
+            Instr::JumpIfShort {
                 condition: Condition::AboveEqual,
                 distance: none,
             },
@@ -51,7 +51,7 @@ fn write_room_test(code: &mut Vec<u8>, count_at: u64, none: u64) -> Result<(), A
 }
 
 // The destination is at least 1.
-fn write_least_test(code: &mut Vec<u8>, none: u64) -> Result<(), AllocError>
+fn write_least_test(code: &mut Vec<u8>, none: u8) -> Result<(), AllocError>
     ensures { OnOk result (code.new.items ≡ code.old.items ++ codes (specs.least_test none)) }
 {
     write_all(
@@ -63,7 +63,7 @@ fn write_least_test(code: &mut Vec<u8>, none: u64) -> Result<(), AllocError>
                 to: 8,
                 imm: 1,
             },
-            Instr::JumpIf {
+            Instr::JumpIfShort {
                 condition: Condition::Below,
                 distance: none,
             },
@@ -72,7 +72,7 @@ fn write_least_test(code: &mut Vec<u8>, none: u64) -> Result<(), AllocError>
 }
 
 // It is at most the number of processes.
-fn write_most_test(code: &mut Vec<u8>, none: u64) -> Result<(), AllocError>
+fn write_most_test(code: &mut Vec<u8>, none: u8) -> Result<(), AllocError>
     ensures { OnOk result (code.new.items ≡ code.old.items ++ codes (specs.most_test none)) }
 {
     write_all(
@@ -90,7 +90,7 @@ fn write_most_test(code: &mut Vec<u8>, none: u64) -> Result<(), AllocError>
                 to: 1,
                 from: 8,
             },
-            Instr::JumpIf {
+            Instr::JumpIfShort {
                 condition: Condition::Below,
                 distance: none,
             },
@@ -99,7 +99,7 @@ fn write_most_test(code: &mut Vec<u8>, none: u64) -> Result<(), AllocError>
 }
 
 // It isn't the process itself.
-fn write_other_test(code: &mut Vec<u8>, none: u64) -> Result<(), AllocError>
+fn write_other_test(code: &mut Vec<u8>, none: u8) -> Result<(), AllocError>
     ensures { OnOk result (code.new.items ≡ code.old.items ++ codes (specs.other_test none)) }
 {
     write_all(
@@ -117,7 +117,7 @@ fn write_other_test(code: &mut Vec<u8>, none: u64) -> Result<(), AllocError>
                 to: 8,
                 from: 1,
             },
-            Instr::JumpIf {
+            Instr::JumpIfShort {
                 condition: Condition::Equal,
                 distance: none,
             },
@@ -126,7 +126,7 @@ fn write_other_test(code: &mut Vec<u8>, none: u64) -> Result<(), AllocError>
 }
 
 // All three, each with its distance to the answer.
-fn write_peer_tests(code: &mut Vec<u8>, none: u64, beyond: u64, own: u64) -> Result<(), AllocError>
+fn write_peer_tests(code: &mut Vec<u8>, none: u8, beyond: u8, own: u8) -> Result<(), AllocError>
     ensures { OnOk result (code.new.items ≡ code.old.items ++ codes (specs.peer_tests none beyond own)) }
 {
     write_least_test(code, none)?;
@@ -136,7 +136,7 @@ fn write_peer_tests(code: &mut Vec<u8>, none: u64, beyond: u64, own: u64) -> Res
 }
 
 // A register holds at most 256.
-fn write_length_test(code: &mut Vec<u8>, len: u8, long: u64) -> Result<(), AllocError>
+fn write_length_test(code: &mut Vec<u8>, len: u8, long: u8) -> Result<(), AllocError>
     ensures { OnOk result (code.new.items ≡ code.old.items ++ codes (specs.length_test len long)) }
 {
     write_all(
@@ -148,7 +148,7 @@ fn write_length_test(code: &mut Vec<u8>, len: u8, long: u64) -> Result<(), Alloc
                 to: len,
                 imm: 256,
             },
-            Instr::JumpIf {
+            Instr::JumpIfShort {
                 condition: Condition::Above,
                 distance: long,
             },
@@ -157,25 +157,25 @@ fn write_length_test(code: &mut Vec<u8>, len: u8, long: u64) -> Result<(), Alloc
 }
 
 /// Its tests, which pass by so many bytes.
-pub(crate) fn write_tests(code: &mut Vec<u8>, helper: Helper, size: u64) -> Result<(), AllocError>
-    requires { size < 1000 }
+pub(crate) fn write_tests(code: &mut Vec<u8>, helper: Helper, size: u8) -> Result<(), AllocError>
+    requires { size ≤ 80 }
     ensures { OnOk result (code.new.items ≡ code.old.items ++ codes (specs.tests_of helper size)) }
 {
     match helper {
         Helper::Send => {
-            write_peer_tests(code, size + 40, size + 27, size + 14)?;
-            write_room_test(code, 0, size + 11)?;
+            write_peer_tests(code, size + 28, size + 19, size + 10)?;
+            write_room_test(code, 0, size + 7)?;
             Ok(())
         }
         Helper::Output => write_room_test(code, 8, size),
         Helper::SendSized => {
-            write_peer_tests(code, size + 64, size + 51, size + 38)?;
-            write_room_test(code, 0, size + 35)?;
+            write_peer_tests(code, size + 44, size + 35, size + 26)?;
+            write_room_test(code, 0, size + 23)?;
             write_length_test(code, 9, size)?;
             Ok(())
         }
         Helper::OutputSized => {
-            write_room_test(code, 8, size + 24)?;
+            write_room_test(code, 8, size + 16)?;
             write_length_test(code, 12, size)?;
             Ok(())
         }
@@ -303,7 +303,7 @@ fn write_sized(code: &mut Vec<u8>, at: u64, len: u8) -> Result<(), AllocError>
 }
 
 // The new count and the answer, and past the other answers.
-fn write_good_end(code: &mut Vec<u8>, count_at: u64, past: u64) -> Result<(), AllocError>
+fn write_good_end(code: &mut Vec<u8>, count_at: u64, past: u8) -> Result<(), AllocError>
     ensures { OnOk result (code.new.items ≡ code.old.items ++ codes (specs.good_end count_at past)) }
 {
     write_all(
@@ -315,8 +315,8 @@ fn write_good_end(code: &mut Vec<u8>, count_at: u64, past: u64) -> Result<(), Al
                 disp: count_at,
                 from: 1,
             },
-            Instr::MovImm { to: 0, imm: 0 },
-            Instr::Jump { distance: past },
+            clear(0),
+            Instr::JumpShort { distance: past },
         ],
     )
 }
@@ -328,7 +328,7 @@ fn write_send(code: &mut Vec<u8>, at: u64) -> Result<(), AllocError>
     write_place(code, 64)?;
     write_aim(code)?;
     write_copy(code, at)?;
-    write_good_end(code, 0, 17)?;
+    write_good_end(code, 0, 12)?;
     Ok(())
 }
 
@@ -338,7 +338,7 @@ fn write_output(code: &mut Vec<u8>, at: u64) -> Result<(), AllocError>
 {
     write_place(code, 2240)?;
     write_copy(code, at)?;
-    write_good_end(code, 8, 6)?;
+    write_good_end(code, 8, 5)?;
     Ok(())
 }
 
@@ -348,7 +348,7 @@ fn write_send_sized(code: &mut Vec<u8>, at: u64) -> Result<(), AllocError>
     write_place(code, 64)?;
     write_aim(code)?;
     write_sized(code, at, 9)?;
-    write_good_end(code, 0, 28)?;
+    write_good_end(code, 0, 19)?;
     Ok(())
 }
 
@@ -357,7 +357,7 @@ fn write_output_sized(code: &mut Vec<u8>, at: u64) -> Result<(), AllocError>
 {
     write_place(code, 2240)?;
     write_sized(code, at, 12)?;
-    write_good_end(code, 8, 17)?;
+    write_good_end(code, 8, 12)?;
     Ok(())
 }
 
@@ -381,8 +381,8 @@ pub(crate) fn write_end(code: &mut Vec<u8>, helper: Helper) -> Result<(), AllocE
     let long = Instr::MovImm { to: 0, imm: 3 };
     let no_peer = Instr::MovImm { to: 0, imm: 1 };
     let no_room = Instr::MovImm { to: 0, imm: 2 };
-    let past_one = Instr::Jump { distance: 6 };
-    let past_two = Instr::Jump { distance: 17 };
+    let past_one = Instr::JumpShort { distance: 5 };
+    let past_two = Instr::JumpShort { distance: 12 };
     match helper {
         Helper::Send => write_all(code, &[no_peer, past_one, no_room]),
         Helper::Output => write_all(code, &[no_room]),

@@ -1,6 +1,6 @@
 //! Quotients and remainders.
 
-ghost use Rattle.std.specs.Prelude.{◌≡◌, ◌++◌, OnOk};
+ghost use Rattle.std.specs.Prelude.{◌≡◌, ◌≤◌, ◌++◌, OnOk};
 ghost use Rattle.native.specs.Code as specs;
 ghost use Rattle.native.specs.Code.{codes, IsShort};
 
@@ -36,7 +36,7 @@ fn write_divisor_test(
     code: &mut Vec<u8>,
     width: Width,
     imm: u64,
-    past: u64,
+    past: u8,
 ) -> Result<(), AllocError>
     ensures { OnOk result (code.new.items ≡ code.old.items ++ codes (specs.divisor_test width imm past)) }
 {
@@ -49,12 +49,34 @@ fn write_divisor_test(
                 to: 1,
                 imm,
             },
-            Instr::JumpIf {
+            Instr::JumpIfShort {
                 condition: Condition::Equal,
                 distance: past,
             },
         ],
     )
+}
+
+// How many bytes a width takes.
+fn width_size(width: Width) -> u8
+    ensures value { result ≡ specs.width_size width }
+    ensures few { result ≤ 1 }
+{
+    match width {
+        Width::W32 => 0,
+        Width::W64 => 1,
+    }
+}
+
+/// How many bytes an instruction of one register has, or of one and the same twice.
+pub(crate) fn two_size(width: Width, reg: u8) -> u8
+    ensures value { result ≡ specs.two_size width reg }
+    ensures few { result ≤ 3 }
+{
+    match width {
+        Width::W32 => { if reg / 8 % 2 == 0 { 2 } else { 3 } }
+        Width::W64 => 3,
+    }
 }
 
 // The division by itself: its result is in rax or rdx, and goes to a register.
@@ -101,12 +123,12 @@ pub(crate) fn write_quotient(
     to: u8,
     from: u8,
     none: Instr,
-    size: u64,
+    size: u8,
 ) -> Result<(), AllocError>
     ensures { OnOk result (code.new.items ≡ code.old.items ++ codes (specs.quotient_code first width to from none size)) }
 {
     write_all(code, &[first])?;
-    write_divisor_test(code, width, 0, 27)?;
+    write_divisor_test(code, width, 0, 20 + width_size(width))?;
     write_division(
         code,
         to,
@@ -114,7 +136,7 @@ pub(crate) fn write_quotient(
         Instr::MovImm { to: 2, imm: 0 },
         Instr::Div { width, by: 1 },
     )?;
-    write_all(code, &[Instr::Jump { distance: size }, none])?;
+    write_all(code, &[Instr::JumpShort { distance: size }, none])?;
     Ok(())
 }
 
@@ -136,13 +158,14 @@ pub(crate) fn write_signed(
     from: u8,
     ways: Ways,
 ) -> Result<(), AllocError>
+    requires minus { ways.minus_size ≤ 3 }
+    requires none { ways.none_size ≤ 3 }
     ensures { OnOk result (code.new.items ≡ code.old.items ++ codes (specs.signed_code first width to from ways.minus ways.minus_size ways.none ways.none_size)) }
 {
-    let minus_size = ways.minus_size as u64;
-    let none_size = ways.none_size as u64;
+    let wide = width_size(width);
     write_all(code, &[first])?;
-    write_divisor_test(code, width, 0, minus_size + 38)?;
-    write_divisor_test(code, width, 0xffff_ffff_ffff_ffff, 23)?;
+    write_divisor_test(code, width, 0, ways.minus_size + 23 + 3 * wide)?;
+    write_divisor_test(code, width, 0xffff_ffff_ffff_ffff, 16 + 2 * wide)?;
     write_division(
         code,
         to,
@@ -150,11 +173,11 @@ pub(crate) fn write_signed(
         Instr::Spread { width },
         Instr::SignedDiv { width, by: 1 },
     )?;
-    let past = Instr::Jump {
-        distance: minus_size + 5 + none_size,
+    let past = Instr::JumpShort {
+        distance: ways.minus_size + 2 + ways.none_size,
     };
-    let past_none = Instr::Jump {
-        distance: none_size,
+    let past_none = Instr::JumpShort {
+        distance: ways.none_size,
     };
     write_all(code, &[past, ways.minus, past_none, ways.none])?;
     Ok(())

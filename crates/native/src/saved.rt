@@ -1,100 +1,81 @@
 //! Which of the caller's registers the code keeps on the stack.
 
-ghost use Rattle.std.specs.Prelude.{◌≡◌, ◌≤◌, ℕ, ◌++◌, Some, OnOk};
+ghost use Rattle.std.specs.Prelude.{◌≡◌, true, false, ℕ, ◌||◌, ◌++◌, Some, OnOk};
 ghost use Rattle.native.specs.declared.task.Task.{Task as IsTask};
 ghost use Rattle.native.specs.Operations.{task_for};
 ghost use Rattle.native.specs.Laid.{SaveAll};
 ghost use Rattle.native.specs.Code.{codes};
 ghost use Rattle.native.specs.Saved as specs;
-ghost use Rattle.native.specs.Tasks.{WritesUpTo};
+ghost use Rattle.native.specs.Saved.{may_write};
+ghost use Rattle.native.specs.Tasks.{Includes, WritesWithin};
 
-use crate::sequence::write_all;
 use crate::task::{Task, task_of};
 use decode::Reg;
 use dense::Op;
 use std::alloc::AllocError;
 use x86::Instr;
 
-/// r5, r6, r2, r7, r8 and r9 stand in registers that belong to the caller. Code keeps those up to the last, in this order,
-/// that it writes.
+/// Which of the registers that belong to the caller code keeps: r5, r6, r2, r7, r8 and r9 stand in them.
 #[derive(Clone, Copy)]
-pub enum Saved {
-    NoWord,
-    R5,
-    ToR6,
-    ToR2,
-    ToR7,
-    ToR8,
-    ToR9,
+pub struct Saved {
+    rbx: bool,
+    rbp: bool,
+    r12: bool,
+    r13: bool,
+    r14: bool,
+    r15: bool,
+}
+
+fn either(kept: bool, written: bool) -> bool
+    ensures { result ≡ kept || written }
+{
+    kept || written
 }
 
 impl Saved {
-    /// The highest rank of a register that is written.
-    pub(crate) fn highest(self) -> u8
-        ensures { result ≡ specs.highest self }
+    // The same and the register in which this one stands.
+    fn and_register(self, reg: Reg) -> Saved
+        ensures value { result ≡ specs.and_register self reg.number }
+        ensures writes { may_write result reg.number ≡ true }
+        ensures more { Includes self result }
     {
-        match self {
-            Saved::NoWord => 0,
-            Saved::R5 => 1,
-            Saved::ToR6 => 2,
-            Saved::ToR2 => 3,
-            Saved::ToR7 => 4,
-            Saved::ToR8 => 5,
-            Saved::ToR9 => 6,
+        let written = reg.number;
+        Saved {
+            rbx: either(self.rbx, written == 5),
+            rbp: either(self.rbp, written == 6),
+            r12: either(self.r12, written == 2),
+            r13: either(self.r13, written == 7),
+            r14: either(self.r14, written == 8),
+            r15: either(self.r15, written == 9),
         }
     }
-}
 
-// How many registers of the caller's are kept where this one is written.
-fn rank(reg: Reg) -> u8
-    ensures value { result ≡ specs.rank reg.number }
-    ensures few { result ≤ 6 }
-{
-    let table = [0u8, 0, 3, 0, 0, 1, 2, 4, 5, 6, 0];
-    table[reg.number as usize]
-}
-
-/// The rank of the register that a task writes; 0 where it writes none, and for a helper's answer.
-pub(crate) fn rank_written(task: &Task) -> u8
-    ensures writes { (n : ℕ) → result ≤ n → WritesUpTo n task.now }
-    ensures few { result ≤ 6 }
-{
-    match *task {
-        Task::Compute { dst, .. } => rank(dst),
-        Task::Extend { dst, .. } => rank(dst),
-        Task::Negate { dst, .. } => rank(dst),
-        Task::Reorder { dst, .. } => rank(dst),
-        Task::Load { dst, .. } => rank(dst),
-        Task::LoadSx { dst, .. } => rank(dst),
-        Task::Wide { dst, .. } => rank(dst),
-        _ => 0,
+    // The same and the one that a task writes.
+    fn and_task(self, task: &Task) -> Saved
+        ensures writes { WritesWithin result task.now }
+        ensures more { Includes self result }
+    {
+        match *task {
+            Task::Compute { dst, .. } => self.and_register(dst),
+            Task::Extend { dst, .. } => self.and_register(dst),
+            Task::Negate { dst, .. } => self.and_register(dst),
+            Task::Reorder { dst, .. } => self.and_register(dst),
+            Task::Load { dst, .. } => self.and_register(dst),
+            Task::LoadSx { dst, .. } => self.and_register(dst),
+            Task::Wide { dst, .. } => self.and_register(dst),
+            _ => self,
+        }
     }
-}
 
-// The same of an operation.
-fn rank_of(op: Op, pool: &[u64]) -> u8
-    ensures writes { (t : IsTask) → task_for pool.now op ≡ Some t → (n : ℕ) → result ≤ n → WritesUpTo n t }
-    ensures few { result ≤ 6 }
-{
-    match task_of(op, pool) {
-        Some(task) => rank_written(&task),
-        None => 0,
-    }
-}
-
-// What is kept where this is the highest rank.
-fn saved_for(highest: u8) -> Saved
-    requires { highest ≤ 6 }
-    ensures { highest ≤ specs.highest result }
-{
-    match highest {
-        0 => Saved::NoWord,
-        1 => Saved::R5,
-        2 => Saved::ToR6,
-        3 => Saved::ToR2,
-        4 => Saved::ToR7,
-        5 => Saved::ToR8,
-        _ => Saved::ToR9,
+    // The same of an operation.
+    fn and_op(self, op: Op, pool: &[u64]) -> Saved
+        ensures writes { (t : IsTask) → task_for pool.now op ≡ Some t → WritesWithin result t }
+        ensures more { Includes self result }
+    {
+        match task_of(op, pool) {
+            Some(task) => self.and_task(&task),
+            None => self,
+        }
     }
 }
 
@@ -102,107 +83,62 @@ fn saved_for(highest: u8) -> Saved
 pub(crate) fn saved_of(ops: &[Op], pool: &[u64]) -> Saved
     ensures { SaveAll ops.now pool.now result }
 {
-    let mut highest = 0;
+    let mut saved = Saved {
+        rbx: false,
+        rbp: false,
+        r12: false,
+        r13: false,
+        r14: false,
+        r15: false,
+    };
     for op in ops {
-        highest = rank_of(*op, pool).max(highest);
+        saved = saved.and_op(*op, pool);
     }
-    saved_for(highest)
+    saved
+}
+
+fn push_if(code: &mut Vec<u8>, kept: bool, reg: u8) -> Result<(), AllocError>
+    ensures { OnOk result (code.new.items ≡ code.old.items ++ codes (specs.push_if kept reg)) }
+{
+    if kept {
+        Instr::Push { reg }.write(code)
+    } else {
+        Ok(())
+    }
+}
+
+fn pop_if(code: &mut Vec<u8>, kept: bool, reg: u8) -> Result<(), AllocError>
+    ensures { OnOk result (code.new.items ≡ code.old.items ++ codes (specs.pop_if kept reg)) }
+{
+    if kept {
+        Instr::Pop { reg }.write(code)
+    } else {
+        Ok(())
+    }
 }
 
 /// Pushes what is kept.
 pub(crate) fn write_saving(code: &mut Vec<u8>, saved: Saved) -> Result<(), AllocError>
     ensures { OnOk result (code.new.items ≡ code.old.items ++ codes (specs.saving saved)) }
 {
-    match saved {
-        Saved::NoWord => write_all(code, &[]),
-        Saved::R5 => write_all(code, &[Instr::Push { reg: 3 }]),
-        Saved::ToR6 => write_all(code, &[Instr::Push { reg: 3 }, Instr::Push { reg: 5 }]),
-        Saved::ToR2 => write_all(
-            code,
-            &[
-                Instr::Push { reg: 3 },
-                Instr::Push { reg: 5 },
-                Instr::Push { reg: 12 },
-            ],
-        ),
-        Saved::ToR7 => write_all(
-            code,
-            &[
-                Instr::Push { reg: 3 },
-                Instr::Push { reg: 5 },
-                Instr::Push { reg: 12 },
-                Instr::Push { reg: 13 },
-            ],
-        ),
-        Saved::ToR8 => write_all(
-            code,
-            &[
-                Instr::Push { reg: 3 },
-                Instr::Push { reg: 5 },
-                Instr::Push { reg: 12 },
-                Instr::Push { reg: 13 },
-                Instr::Push { reg: 14 },
-            ],
-        ),
-        Saved::ToR9 => write_all(
-            code,
-            &[
-                Instr::Push { reg: 3 },
-                Instr::Push { reg: 5 },
-                Instr::Push { reg: 12 },
-                Instr::Push { reg: 13 },
-                Instr::Push { reg: 14 },
-                Instr::Push { reg: 15 },
-            ],
-        ),
-    }
+    push_if(code, saved.rbx, 3)?;
+    push_if(code, saved.rbp, 5)?;
+    push_if(code, saved.r12, 12)?;
+    push_if(code, saved.r13, 13)?;
+    push_if(code, saved.r14, 14)?;
+    push_if(code, saved.r15, 15)?;
+    Ok(())
 }
 
 /// Pops it.
 pub(crate) fn write_restoring(code: &mut Vec<u8>, saved: Saved) -> Result<(), AllocError>
     ensures { OnOk result (code.new.items ≡ code.old.items ++ codes (specs.restoring saved)) }
 {
-    match saved {
-        Saved::NoWord => write_all(code, &[]),
-        Saved::R5 => write_all(code, &[Instr::Pop { reg: 3 }]),
-        Saved::ToR6 => write_all(code, &[Instr::Pop { reg: 5 }, Instr::Pop { reg: 3 }]),
-        Saved::ToR2 => write_all(
-            code,
-            &[
-                Instr::Pop { reg: 12 },
-                Instr::Pop { reg: 5 },
-                Instr::Pop { reg: 3 },
-            ],
-        ),
-        Saved::ToR7 => write_all(
-            code,
-            &[
-                Instr::Pop { reg: 13 },
-                Instr::Pop { reg: 12 },
-                Instr::Pop { reg: 5 },
-                Instr::Pop { reg: 3 },
-            ],
-        ),
-        Saved::ToR8 => write_all(
-            code,
-            &[
-                Instr::Pop { reg: 14 },
-                Instr::Pop { reg: 13 },
-                Instr::Pop { reg: 12 },
-                Instr::Pop { reg: 5 },
-                Instr::Pop { reg: 3 },
-            ],
-        ),
-        Saved::ToR9 => write_all(
-            code,
-            &[
-                Instr::Pop { reg: 15 },
-                Instr::Pop { reg: 14 },
-                Instr::Pop { reg: 13 },
-                Instr::Pop { reg: 12 },
-                Instr::Pop { reg: 5 },
-                Instr::Pop { reg: 3 },
-            ],
-        ),
-    }
+    pop_if(code, saved.r15, 15)?;
+    pop_if(code, saved.r14, 14)?;
+    pop_if(code, saved.r13, 13)?;
+    pop_if(code, saved.r12, 12)?;
+    pop_if(code, saved.rbp, 5)?;
+    pop_if(code, saved.rbx, 3)?;
+    Ok(())
 }

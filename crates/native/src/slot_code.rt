@@ -6,10 +6,10 @@ ghost use Rattle.native.specs.Code.{Emits, codes, flushed, skipped, leaving, ent
 ghost use Rattle.native.specs.Code as specs;
 ghost use Rattle.native.specs.Tasks.{is_apt};
 
-use crate::body::{Body, body_of, gpr};
+use crate::body::{Body, body_of, clear, gpr};
 use crate::comparison::{compare_code, condition_of};
 use crate::emission::{Helper, write_end, write_good, write_tests};
-use crate::quotient::{Ways, divisor_code, write_quotient, write_signed};
+use crate::quotient::{Ways, divisor_code, two_size, write_quotient, write_signed};
 use crate::saved::{Saved, write_restoring, write_saving};
 use crate::sequence::write_all;
 use crate::task::Task;
@@ -127,7 +127,7 @@ fn emit_helper(alloc: Global, code: &mut Vec<u8>, helper: Helper, at: u16) -> Re
 {
     let mut good = Vec::new(alloc);
     write_good(&mut good, helper, at as u64)?;
-    let size = good.len() as u64;
+    let size = good.len() as u8;
     write_tests(code, helper, size)?;
     write_good(code, helper, at as u64)?;
     write_end(code, helper)?;
@@ -142,7 +142,7 @@ fn emit_quotient(
     operand: Operand,
     from: u8,
     none: Instr,
-    size: u64,
+    size: u8,
 ) -> Result<(), AllocError>
     ensures { OnOk result (Emits (IsQuotient width dst.number operand from none size) code.old.items code.new.items) }
 {
@@ -160,6 +160,8 @@ fn emit_signed(
     from: u8,
     ways: Ways,
 ) -> Result<(), AllocError>
+    requires minus { ways.minus_size ≤ 3 }
+    requires none { ways.none_size ≤ 3 }
     ensures { OnOk result (Emits (IsSigned width dst.number operand from ways.minus ways.minus_size ways.none ways.none_size) code.old.items code.new.items) }
 {
     let first = divisor_code(width, operand);
@@ -174,9 +176,9 @@ fn emit_sdiv(code: &mut Vec<u8>, width: Width, dst: Reg, operand: Operand) -> Re
     let to = gpr(dst);
     let ways = Ways {
         minus: Instr::Neg { width, to },
-        minus_size: 3,
-        none: Instr::MovImm { to, imm: 0 },
-        none_size: 6,
+        minus_size: two_size(width, to),
+        none: clear(to),
+        none_size: two_size(Width::W32, to),
     };
     emit_signed(code, width, dst, operand, 0, ways)
 }
@@ -187,14 +189,14 @@ fn emit_smod(code: &mut Vec<u8>, width: Width, dst: Reg, operand: Operand) -> Re
 {
     let to = gpr(dst);
     let ways = Ways {
-        minus: Instr::MovImm { to, imm: 0 },
-        minus_size: 6,
+        minus: clear(to),
+        minus_size: two_size(Width::W32, to),
         none: Instr::Mov {
             width,
             to,
             from: to,
         },
-        none_size: 3,
+        none_size: two_size(width, to),
     };
     emit_signed(code, width, dst, operand, 2, ways)
 }
@@ -210,15 +212,17 @@ fn emit_compute(
     ensures { OnOk result (Emits (IsDone (Task.Compute op width dst operand)) code.old.items code.new.items) }
 {
     let to = gpr(dst);
-    let zero = Instr::MovImm { to, imm: 0 };
+    let zero = clear(to);
+    let zero_size = two_size(Width::W32, to);
     let same = Instr::Mov {
         width,
         to,
         from: to,
     };
+    let same_size = two_size(width, to);
     match op {
-        AluOp::Div => emit_quotient(code, width, dst, operand, 0, zero, 6),
-        AluOp::Mod => emit_quotient(code, width, dst, operand, 2, same, 3),
+        AluOp::Div => emit_quotient(code, width, dst, operand, 0, zero, zero_size),
+        AluOp::Mod => emit_quotient(code, width, dst, operand, 2, same, same_size),
         AluOp::Sdiv => emit_sdiv(code, width, dst, operand),
         AluOp::Smod => emit_smod(code, width, dst, operand),
         _ => {
@@ -383,7 +387,7 @@ pub(crate) fn emit_entry(code: &mut Vec<u8>, saved: Saved) -> Result<(), AllocEr
             to: 9,
             from: 2,
         },
-        Instr::MovImm { to: 11, imm: 0 },
+        clear(11),
     ];
     write_all(code, &begin)
 }

@@ -6,22 +6,25 @@ use std::alloc::Global;
 use std::test::Fail;
 
 /// Where the entry ends in the adder's code, as in that of every handler that keeps no register.
-const ENTRY: usize = 0x10;
+const ENTRY: usize = 0x0d;
 
 /// Where the adder's end begins, with the steps in four bytes.
-const END: usize = 0x28;
+const END: usize = 0x21;
 
-/// Where the entry ends in the relay's code, which keeps three registers.
-const RELAY_ENTRY: usize = 0x16;
-
-/// Where its move of 2 into r1 begins.
-const MOVE: usize = 0x19;
+/// Where the move of 2 into r1 begins in the relay's code.
+const MOVE: usize = 0x12;
 
 /// Where its send begins.
-const SEND: usize = 0x1f;
+const SEND: usize = 0x18;
 
 /// Where its end begins.
-const RELAY_END: usize = 0xc1;
+const RELAY_END: usize = 0x96;
+
+/// `push %rbp; push %r12`: r6 and r2 are written.
+const KEPT: [u8; 3] = [0x55, 0x41, 0x54];
+
+/// `pop %r12; pop %rbp; ret`
+const RESTORED: [u8; 4] = [0x41, 0x5c, 0x5d, 0xc3];
 
 /// `lea 1024(%r11), %r11`: the steps are told at the end.
 const STEPS: [u8; 7] = [0x4d, 0x8d, 0x9b, 0x00, 0x04, 0x00, 0x00];
@@ -64,7 +67,7 @@ fn sums_a_word(alloc: Global) -> Result<bool, Fail> {
     let code = [
         (&ADDER_CODE[..ENTRY], 1),
         (&[0x4c, 0x8b, 0x8f, 0x80, 0xfe, 0xff, 0xff], 1),
-        (&[0x40, 0xb8, 0, 0, 0, 0], 1),
+        (&[0x31, 0xc0], 1),
         (&[0x4c, 0x01, 0xc8], 1_020),
         (&[0x48, 0x89, 0x47, 0x80], 1),
         (&STEPS, 1),
@@ -98,12 +101,14 @@ fn sends_what_it_can(alloc: Global) -> Result<bool, Fail> {
         ],
     )?;
     let code = [
-        (&RELAY_CODE[..RELAY_ENTRY], 1),
+        (&KEPT[..], 1),
+        (&ADDER_CODE[..ENTRY], 1),
         (&[0x4c, 0x89, 0xc5], 1),
         (send.as_slice(), 340),
-        (&[0x40, 0xb8, 0, 0, 0, 0], 2),
+        (&[0x31, 0xc0], 2),
         (&STEPS, 1),
-        (&RELAY_CODE[RELAY_END + 4..], 1),
+        (&ADDER_CODE[END + 4..END + 8], 1),
+        (&RESTORED, 1),
     ];
     is_code_of(alloc, &image, &code)
 }

@@ -32,10 +32,10 @@ moves =
     (instr.Mov W64 8 12 ∷ [], 0x4d ∷ 0x89 ∷ 0xe0 ∷ [], Reg 12 (At Record 3) ∷ [], Reg 8 (At Record 3) ∷ []) ∷
     -- mov ecx, r9d
     (instr.Mov W32 1 9 ∷ [], 0x44 ∷ 0x89 ∷ 0xc9 ∷ [], [], Reg 1 (Word 0xf8e8d8d2) ∷ []) ∷
-    -- rex mov ebx, ebx
-    (instr.Mov W32 3 3 ∷ [], 0x40 ∷ 0x89 ∷ 0xdb ∷ [], [], Reg 3 (Word 0xfd29f054) ∷ []) ∷
-    -- rex mov eax, 0xfffffffe
-    (instr.MovImm 0 0xfffffffe ∷ [], 0x40 ∷ 0xb8 ∷ 0xfe ∷ 0xff ∷ 0xff ∷ 0xff ∷ [], [], Reg 0 (Word 0xfffffffe) ∷ []) ∷
+    -- mov ebx, ebx
+    (instr.Mov W32 3 3 ∷ [], 0x89 ∷ 0xdb ∷ [], [], Reg 3 (Word 0xfd29f054) ∷ []) ∷
+    -- mov eax, 0xfffffffe
+    (instr.MovImm 0 0xfffffffe ∷ [], 0xb8 ∷ 0xfe ∷ 0xff ∷ 0xff ∷ 0xff ∷ [], [], Reg 0 (Word 0xfffffffe) ∷ []) ∷
     -- mov r11d, 7
     (instr.MovImm 11 7 ∷ [], 0x41 ∷ 0xbb ∷ 0x07 ∷ 0x00 ∷ 0x00 ∷ 0x00 ∷ [], [], Reg 11 (Word 0x7) ∷ []) ∷
     -- mov rcx, -5
@@ -50,6 +50,8 @@ moves =
     (instr.MovSx extension.W32From8 1 6 ∷ [], 0x40 ∷ 0x0f ∷ 0xbe ∷ 0xce ∷ [], Reg 6 (Word 0x1122334455667780) ∷ [], Reg 1 (Word 0xffffff80) ∷ []) ∷
     -- movsx ecx, bpl
     (instr.MovSx extension.W32From8 1 5 ∷ [], 0x40 ∷ 0x0f ∷ 0xbe ∷ 0xcd ∷ [], Reg 5 (Word 0xffffffffffffff7f) ∷ [], Reg 1 (Word 0x7f) ∷ []) ∷
+    -- movsx esi, bl
+    (instr.MovSx extension.W32From8 6 3 ∷ [], 0x0f ∷ 0xbe ∷ 0xf3 ∷ [], Reg 3 (Word 0xffffffffffffff80) ∷ [], Reg 6 (Word 0xffffff80) ∷ []) ∷
     -- movsx r9d, bx
     (instr.MovSx extension.W32From16 9 3 ∷ [], 0x44 ∷ 0x0f ∷ 0xbf ∷ 0xcb ∷ [], Reg 3 (Word 0x112233445566f788) ∷ [], Reg 9 (Word 0xfffff788) ∷ []) ∷
     -- movsx rbx, r14b
@@ -62,10 +64,10 @@ moves =
     (instr.MovSx extension.W64From32 0 10 ∷ [], 0x49 ∷ 0x63 ∷ 0xc2 ∷ [], Reg 10 (Word 0xffffffff7fffffff) ∷ [], Reg 0 (Word 0x7fffffff) ∷ []) ∷
     -- movzx r13d, r10w
     (instr.MovZx 13 10 ∷ [], 0x45 ∷ 0x0f ∷ 0xb7 ∷ 0xea ∷ [], Reg 10 (Word 0xffffffffffff8001) ∷ [], Reg 13 (Word 0x8001) ∷ []) ∷
-    -- rex movzx eax, ax
-    (instr.MovZx 0 0 ∷ [], 0x40 ∷ 0x0f ∷ 0xb7 ∷ 0xc0 ∷ [], [], Reg 0 (Word 0x7c15) ∷ []) ∷
-    -- rex bswap esi
-    (instr.Swap W32 6 ∷ [], 0x40 ∷ 0x0f ∷ 0xce ∷ [], [], Reg 6 (Word 0x9364097b) ∷ []) ∷
+    -- movzx eax, ax
+    (instr.MovZx 0 0 ∷ [], 0x0f ∷ 0xb7 ∷ 0xc0 ∷ [], [], Reg 0 (Word 0x7c15) ∷ []) ∷
+    -- bswap esi
+    (instr.Swap W32 6 ∷ [], 0x0f ∷ 0xce ∷ [], [], Reg 6 (Word 0x9364097b) ∷ []) ∷
     -- bswap r9
     (instr.Swap W64 9 ∷ [], 0x49 ∷ 0x0f ∷ 0xc9 ∷ [], [], Reg 9 (Word 0xd2d8e8f83ec12a2e) ∷ []) ∷
     -- lea rbp, [rdi + 384]
@@ -82,10 +84,10 @@ moves =
     (instr.LeaBy 10 12 9 (2 ^ 32 - 8) ∷ [], 0x4f ∷ 0x8d ∷ 0x54 ∷ 0x0c ∷ 0xf8 ∷ [], Reg 12 (At Array 4) ∷ Reg 9 (Word 0xffffffffffffffff) ∷ [], Reg 10 (At Array 18446744073709551611) ∷ []) ∷
     -- lea rbx, [rax + rcx + 127]
     (instr.LeaBy 3 0 1 127 ∷ [], 0x48 ∷ 0x8d ∷ 0x5c ∷ 0x08 ∷ 0x7f ∷ [], [], Reg 3 (Word 0xdaa66d2c7ddf74be) ∷ []) ∷
-    -- rex push rbx; push r12; rex pop rax; pop r13
-    (instr.Push 3 ∷ instr.Push 12 ∷ instr.Pop 0 ∷ instr.Pop 13 ∷ [], 0x40 ∷ 0x53 ∷ 0x41 ∷ 0x54 ∷ 0x40 ∷ 0x58 ∷ 0x41 ∷ 0x5d ∷ [], Reg 12 (At Array 9) ∷ [], Reg 0 (At Array 9) ∷ Reg 13 (Word 0x78dde6e5fd29f054) ∷ []) ∷
-    -- push r15; rex push rcx
-    (instr.Push 15 ∷ instr.Push 1 ∷ [], 0x41 ∷ 0x57 ∷ 0x40 ∷ 0x51 ∷ [], [], Pushed ((Word 0x3c6ef372fe94f82a) ∷ (Word 0xe3779b97f4a7c150) ∷ []) ∷ []) ∷
+    -- push rbx; push r12; pop rax; pop r13
+    (instr.Push 3 ∷ instr.Push 12 ∷ instr.Pop 0 ∷ instr.Pop 13 ∷ [], 0x53 ∷ 0x41 ∷ 0x54 ∷ 0x58 ∷ 0x41 ∷ 0x5d ∷ [], Reg 12 (At Array 9) ∷ [], Reg 0 (At Array 9) ∷ Reg 13 (Word 0x78dde6e5fd29f054) ∷ []) ∷
+    -- push r15; push rcx
+    (instr.Push 15 ∷ instr.Push 1 ∷ [], 0x41 ∷ 0x57 ∷ 0x51 ∷ [], [], Pushed ((Word 0x3c6ef372fe94f82a) ∷ (Word 0xe3779b97f4a7c150) ∷ []) ∷ []) ∷
     []
 
 -- sums, bits, products and negations; nothing is said of the flags
@@ -93,8 +95,8 @@ abbrev pub arithmetic : List Row
 arithmetic =
     -- add r9, r8
     (instr.Alu alu.Add W64 9 8 ∷ [], 0x4d ∷ 0x01 ∷ 0xc1 ∷ [], [], Reg 9 (Word 0xbe1e08c47287358f) ∷ Sets (Unknown) ∷ []) ∷
-    -- rex add eax, ecx
-    (instr.Alu alu.Add W32 0 1 ∷ [], 0x40 ∷ 0x01 ∷ 0xc8 ∷ [], [], Reg 0 (Word 0x7ddf743f) ∷ Sets (Unknown) ∷ []) ∷
+    -- add eax, ecx
+    (instr.Alu alu.Add W32 0 1 ∷ [], 0x01 ∷ 0xc8 ∷ [], [], Reg 0 (Word 0x7ddf743f) ∷ Sets (Unknown) ∷ []) ∷
     -- add rdx, r14
     (instr.Alu alu.Add W64 2 14 ∷ [], 0x4c ∷ 0x01 ∷ 0xf2 ∷ [], Reg 2 (Word 0x0) ∷ Reg 14 (Word 0xffffffffffffffff) ∷ [], Reg 2 (Word 0xffffffffffffffff) ∷ Sets (Unknown) ∷ []) ∷
     -- add rbx, -1
@@ -103,12 +105,12 @@ arithmetic =
     (instr.AluImm alu.Add W32 13 0xffffffffffffffff ∷ [], 0x41 ∷ 0x83 ∷ 0xc5 ∷ 0xff ∷ [], [], Reg 13 (Word 0xf612c925) ∷ Sets (Unknown) ∷ []) ∷
     -- add r10, 305419896
     (instr.AluImm alu.Add W64 10 0x12345678 ∷ [], 0x49 ∷ 0x81 ∷ 0xc2 ∷ 0x78 ∷ 0x56 ∷ 0x34 ∷ 0x12 ∷ [], [], Reg 10 (Word 0xcc623af88a67ab5f) ∷ Sets (Unknown) ∷ []) ∷
-    -- rex add esi, 305419896
-    (instr.AluImm alu.Add W32 6 0x12345678 ∷ [], 0x40 ∷ 0x81 ∷ 0xc6 ∷ 0x78 ∷ 0x56 ∷ 0x34 ∷ 0x12 ∷ [], [], Reg 6 (Word 0x8d3dbb0b) ∷ Sets (Unknown) ∷ []) ∷
+    -- add esi, 305419896
+    (instr.AluImm alu.Add W32 6 0x12345678 ∷ [], 0x81 ∷ 0xc6 ∷ 0x78 ∷ 0x56 ∷ 0x34 ∷ 0x12 ∷ [], [], Reg 6 (Word 0x8d3dbb0b) ∷ Sets (Unknown) ∷ []) ∷
     -- or r9, r8
     (instr.Alu alu.Or W64 9 8 ∷ [], 0x4d ∷ 0x09 ∷ 0xc1 ∷ [], [], Reg 9 (Word 0xaffbc7bff9fedcff) ∷ Sets (Unknown) ∷ []) ∷
-    -- rex or eax, ecx
-    (instr.Alu alu.Or W32 0 1 ∷ [], 0x40 ∷ 0x09 ∷ 0xc8 ∷ [], [], Reg 0 (Word 0xffdefc3f) ∷ Sets (Unknown) ∷ []) ∷
+    -- or eax, ecx
+    (instr.Alu alu.Or W32 0 1 ∷ [], 0x09 ∷ 0xc8 ∷ [], [], Reg 0 (Word 0xffdefc3f) ∷ Sets (Unknown) ∷ []) ∷
     -- or rdx, r14
     (instr.Alu alu.Or W64 2 14 ∷ [], 0x4c ∷ 0x09 ∷ 0xf2 ∷ [], Reg 2 (Word 0x0) ∷ Reg 14 (Word 0xffffffffffffffff) ∷ [], Reg 2 (Word 0xffffffffffffffff) ∷ Sets (Unknown) ∷ []) ∷
     -- or rbx, 85
@@ -117,12 +119,12 @@ arithmetic =
     (instr.AluImm alu.Or W32 13 0x55 ∷ [], 0x41 ∷ 0x83 ∷ 0xcd ∷ 0x55 ∷ [], [], Reg 13 (Word 0xf612c977) ∷ Sets (Unknown) ∷ []) ∷
     -- or r10, -2147483648
     (instr.AluImm alu.Or W64 10 0xffffffff80000000 ∷ [], 0x49 ∷ 0x81 ∷ 0xca ∷ 0x00 ∷ 0x00 ∷ 0x00 ∷ 0x80 ∷ [], [], Reg 10 (Word 0xfffffffff83354e7) ∷ Sets (Unknown) ∷ []) ∷
-    -- rex or esi, -2147483648
-    (instr.AluImm alu.Or W32 6 0xffffffff80000000 ∷ [], 0x40 ∷ 0x81 ∷ 0xce ∷ 0x00 ∷ 0x00 ∷ 0x00 ∷ 0x80 ∷ [], [], Reg 6 (Word 0xfb096493) ∷ Sets (Unknown) ∷ []) ∷
+    -- or esi, -2147483648
+    (instr.AluImm alu.Or W32 6 0xffffffff80000000 ∷ [], 0x81 ∷ 0xce ∷ 0x00 ∷ 0x00 ∷ 0x00 ∷ 0x80 ∷ [], [], Reg 6 (Word 0xfb096493) ∷ Sets (Unknown) ∷ []) ∷
     -- and r9, r8
     (instr.Alu alu.And W64 9 8 ∷ [], 0x4d ∷ 0x21 ∷ 0xc1 ∷ [], [], Reg 9 (Word 0xe22410478885890) ∷ Sets (Unknown) ∷ []) ∷
-    -- rex and eax, ecx
-    (instr.Alu alu.And W32 0 1 ∷ [], 0x40 ∷ 0x21 ∷ 0xc8 ∷ [], [], Reg 0 (Word 0x7e007800) ∷ Sets (Unknown) ∷ []) ∷
+    -- and eax, ecx
+    (instr.Alu alu.And W32 0 1 ∷ [], 0x21 ∷ 0xc8 ∷ [], [], Reg 0 (Word 0x7e007800) ∷ Sets (Unknown) ∷ []) ∷
     -- and rdx, r14
     (instr.Alu alu.And W64 2 14 ∷ [], 0x4c ∷ 0x21 ∷ 0xf2 ∷ [], Reg 2 (Word 0x0) ∷ Reg 14 (Word 0xffffffffffffffff) ∷ [], Sets (Unknown) ∷ []) ∷
     -- and rbx, -16
@@ -131,12 +133,12 @@ arithmetic =
     (instr.AluImm alu.And W32 13 0xfffffffffffffff0 ∷ [], 0x41 ∷ 0x83 ∷ 0xe5 ∷ 0xf0 ∷ [], [], Reg 13 (Word 0xf612c920) ∷ Sets (Unknown) ∷ []) ∷
     -- and r10, 2131693327
     (instr.AluImm alu.And W64 10 0x7f0f0f0f ∷ [], 0x49 ∷ 0x81 ∷ 0xe2 ∷ 0x0f ∷ 0x0f ∷ 0x0f ∷ 0x7f ∷ [], [], Reg 10 (Word 0x78030407) ∷ Sets (Unknown) ∷ []) ∷
-    -- rex and esi, 2131693327
-    (instr.AluImm alu.And W32 6 0x7f0f0f0f ∷ [], 0x40 ∷ 0x81 ∷ 0xe6 ∷ 0x0f ∷ 0x0f ∷ 0x0f ∷ 0x7f ∷ [], [], Reg 6 (Word 0x7b090403) ∷ Sets (Unknown) ∷ []) ∷
+    -- and esi, 2131693327
+    (instr.AluImm alu.And W32 6 0x7f0f0f0f ∷ [], 0x81 ∷ 0xe6 ∷ 0x0f ∷ 0x0f ∷ 0x0f ∷ 0x7f ∷ [], [], Reg 6 (Word 0x7b090403) ∷ Sets (Unknown) ∷ []) ∷
     -- sub r9, r8
     (instr.Alu alu.Sub W64 9 8 ∷ [], 0x4d ∷ 0x29 ∷ 0xc1 ∷ [], [], Reg 9 (Word 0x9e3779b97f4a7c15) ∷ Sets (Unknown) ∷ []) ∷
-    -- rex sub eax, ecx
-    (instr.Alu alu.Sub W32 0 1 ∷ [], 0x40 ∷ 0x29 ∷ 0xc8 ∷ [], [], Reg 0 (Word 0x80b583eb) ∷ Sets (Unknown) ∷ []) ∷
+    -- sub eax, ecx
+    (instr.Alu alu.Sub W32 0 1 ∷ [], 0x29 ∷ 0xc8 ∷ [], [], Reg 0 (Word 0x80b583eb) ∷ Sets (Unknown) ∷ []) ∷
     -- sub rdx, r14
     (instr.Alu alu.Sub W64 2 14 ∷ [], 0x4c ∷ 0x29 ∷ 0xf2 ∷ [], Reg 2 (Word 0x0) ∷ Reg 14 (Word 0xffffffffffffffff) ∷ [], Reg 2 (Word 0x1) ∷ Sets (Unknown) ∷ []) ∷
     -- sub rbx, 127
@@ -145,12 +147,12 @@ arithmetic =
     (instr.AluImm alu.Sub W32 13 0x7f ∷ [], 0x41 ∷ 0x83 ∷ 0xed ∷ 0x7f ∷ [], [], Reg 13 (Word 0xf612c8a7) ∷ Sets (Unknown) ∷ []) ∷
     -- sub r10, 128
     (instr.AluImm alu.Sub W64 10 0x80 ∷ [], 0x49 ∷ 0x81 ∷ 0xea ∷ 0x80 ∷ 0x00 ∷ 0x00 ∷ 0x00 ∷ [], [], Reg 10 (Word 0xcc623af878335467) ∷ Sets (Unknown) ∷ []) ∷
-    -- rex sub esi, 128
-    (instr.AluImm alu.Sub W32 6 0x80 ∷ [], 0x40 ∷ 0x81 ∷ 0xee ∷ 0x80 ∷ 0x00 ∷ 0x00 ∷ 0x00 ∷ [], [], Reg 6 (Word 0x7b096413) ∷ Sets (Unknown) ∷ []) ∷
+    -- sub esi, 128
+    (instr.AluImm alu.Sub W32 6 0x80 ∷ [], 0x81 ∷ 0xee ∷ 0x80 ∷ 0x00 ∷ 0x00 ∷ 0x00 ∷ [], [], Reg 6 (Word 0x7b096413) ∷ Sets (Unknown) ∷ []) ∷
     -- xor r9, r8
     (instr.Alu alu.Xor W64 9 8 ∷ [], 0x4d ∷ 0x31 ∷ 0xc1 ∷ [], [], Reg 9 (Word 0xa1d986bb8176846f) ∷ Sets (Unknown) ∷ []) ∷
-    -- rex xor eax, ecx
-    (instr.Alu alu.Xor W32 0 1 ∷ [], 0x40 ∷ 0x31 ∷ 0xc8 ∷ [], [], Reg 0 (Word 0x81de843f) ∷ Sets (Unknown) ∷ []) ∷
+    -- xor eax, ecx
+    (instr.Alu alu.Xor W32 0 1 ∷ [], 0x31 ∷ 0xc8 ∷ [], [], Reg 0 (Word 0x81de843f) ∷ Sets (Unknown) ∷ []) ∷
     -- xor rdx, r14
     (instr.Alu alu.Xor W64 2 14 ∷ [], 0x4c ∷ 0x31 ∷ 0xf2 ∷ [], Reg 2 (Word 0x0) ∷ Reg 14 (Word 0xffffffffffffffff) ∷ [], Reg 2 (Word 0xffffffffffffffff) ∷ Sets (Unknown) ∷ []) ∷
     -- xor rbx, -128
@@ -159,8 +161,12 @@ arithmetic =
     (instr.AluImm alu.Xor W32 13 0xffffffffffffff80 ∷ [], 0x41 ∷ 0x83 ∷ 0xf5 ∷ 0x80 ∷ [], [], Reg 13 (Word 0x9ed36a6) ∷ Sets (Unknown) ∷ []) ∷
     -- xor r10, 2147483647
     (instr.AluImm alu.Xor W64 10 0x7fffffff ∷ [], 0x49 ∷ 0x81 ∷ 0xf2 ∷ 0xff ∷ 0xff ∷ 0xff ∷ 0x7f ∷ [], [], Reg 10 (Word 0xcc623af807ccab18) ∷ Sets (Unknown) ∷ []) ∷
-    -- rex xor esi, 2147483647
-    (instr.AluImm alu.Xor W32 6 0x7fffffff ∷ [], 0x40 ∷ 0x81 ∷ 0xf6 ∷ 0xff ∷ 0xff ∷ 0xff ∷ 0x7f ∷ [], [], Reg 6 (Word 0x4f69b6c) ∷ Sets (Unknown) ∷ []) ∷
+    -- xor esi, 2147483647
+    (instr.AluImm alu.Xor W32 6 0x7fffffff ∷ [], 0x81 ∷ 0xf6 ∷ 0xff ∷ 0xff ∷ 0xff ∷ 0x7f ∷ [], [], Reg 6 (Word 0x4f69b6c) ∷ Sets (Unknown) ∷ []) ∷
+    -- xor eax, eax
+    (instr.Alu alu.Xor W32 0 0 ∷ [], 0x31 ∷ 0xc0 ∷ [], [], Reg 0 (Word 0x0) ∷ Sets (Unknown) ∷ []) ∷
+    -- xor r11d, r11d
+    (instr.Alu alu.Xor W32 11 11 ∷ [], 0x45 ∷ 0x31 ∷ 0xdb ∷ [], [], Reg 11 (Word 0x0) ∷ Sets (Unknown) ∷ []) ∷
     -- imul rax, r11
     (instr.Mul W64 0 11 ∷ [], 0x49 ∷ 0x0f ∷ 0xaf ∷ 0xc3 ∷ [], [], Reg 0 (Word 0x77321da1ab6434ac) ∷ Sets (Unknown) ∷ []) ∷
     -- imul r9d, ebx
@@ -175,8 +181,8 @@ arithmetic =
     (instr.Neg W64 7 ∷ [], 0x48 ∷ 0xf7 ∷ 0xdf ∷ [], [], Reg 7 (Word 0xe44323405ac1f58) ∷ Sets (Unknown) ∷ []) ∷
     -- neg r13d
     (instr.Neg W32 13 ∷ [], 0x41 ∷ 0xf7 ∷ 0xdd ∷ [], [], Reg 13 (Word 0x9ed36da) ∷ Sets (Unknown) ∷ []) ∷
-    -- rex neg ecx
-    (instr.Neg W32 1 ∷ [], 0x40 ∷ 0xf7 ∷ 0xd9 ∷ [], Reg 1 (Word 0x8000000000000000) ∷ [], Reg 1 (Word 0x0) ∷ Sets (Unknown) ∷ []) ∷
+    -- neg ecx
+    (instr.Neg W32 1 ∷ [], 0xf7 ∷ 0xd9 ∷ [], Reg 1 (Word 0x8000000000000000) ∷ [], Reg 1 (Word 0x0) ∷ Sets (Unknown) ∷ []) ∷
     []
 
 -- what a conditional jump reads: carry, zero, sign and overflow
@@ -184,48 +190,48 @@ abbrev pub comparisons : List Row
 comparisons =
     -- cmp r9, r8
     (instr.Alu alu.Cmp W64 9 8 ∷ [], 0x4d ∷ 0x39 ∷ 0xc1 ∷ [], Reg 9 (Word 0x5) ∷ Reg 8 (Word 0x7) ∷ [], Sets (Known true false true false) ∷ []) ∷
-    -- rex cmp ecx, edi
-    (instr.Alu alu.Cmp W32 1 7 ∷ [], 0x40 ∷ 0x39 ∷ 0xf9 ∷ [], Reg 1 (Word 0x5) ∷ Reg 7 (Word 0x7) ∷ [], Sets (Known true false true false) ∷ []) ∷
+    -- cmp ecx, edi
+    (instr.Alu alu.Cmp W32 1 7 ∷ [], 0x39 ∷ 0xf9 ∷ [], Reg 1 (Word 0x5) ∷ Reg 7 (Word 0x7) ∷ [], Sets (Known true false true false) ∷ []) ∷
     -- cmp r9, r8
     (instr.Alu alu.Cmp W64 9 8 ∷ [], 0x4d ∷ 0x39 ∷ 0xc1 ∷ [], Reg 9 (Word 0x7) ∷ Reg 8 (Word 0x5) ∷ [], Sets (Known false false false false) ∷ []) ∷
-    -- rex cmp ecx, edi
-    (instr.Alu alu.Cmp W32 1 7 ∷ [], 0x40 ∷ 0x39 ∷ 0xf9 ∷ [], Reg 1 (Word 0x7) ∷ Reg 7 (Word 0x5) ∷ [], Sets (Known false false false false) ∷ []) ∷
+    -- cmp ecx, edi
+    (instr.Alu alu.Cmp W32 1 7 ∷ [], 0x39 ∷ 0xf9 ∷ [], Reg 1 (Word 0x7) ∷ Reg 7 (Word 0x5) ∷ [], Sets (Known false false false false) ∷ []) ∷
     -- cmp r9, r8
     (instr.Alu alu.Cmp W64 9 8 ∷ [], 0x4d ∷ 0x39 ∷ 0xc1 ∷ [], Reg 9 (Word 0x6) ∷ Reg 8 (Word 0x6) ∷ [], Sets (Known false true false false) ∷ []) ∷
-    -- rex cmp ecx, edi
-    (instr.Alu alu.Cmp W32 1 7 ∷ [], 0x40 ∷ 0x39 ∷ 0xf9 ∷ [], Reg 1 (Word 0x6) ∷ Reg 7 (Word 0x6) ∷ [], Sets (Known false true false false) ∷ []) ∷
+    -- cmp ecx, edi
+    (instr.Alu alu.Cmp W32 1 7 ∷ [], 0x39 ∷ 0xf9 ∷ [], Reg 1 (Word 0x6) ∷ Reg 7 (Word 0x6) ∷ [], Sets (Known false true false false) ∷ []) ∷
     -- cmp r9, r8
     (instr.Alu alu.Cmp W64 9 8 ∷ [], 0x4d ∷ 0x39 ∷ 0xc1 ∷ [], Reg 9 (Word 0x8000000000000000) ∷ Reg 8 (Word 0x1) ∷ [], Sets (Known false false false true) ∷ []) ∷
-    -- rex cmp ecx, edi
-    (instr.Alu alu.Cmp W32 1 7 ∷ [], 0x40 ∷ 0x39 ∷ 0xf9 ∷ [], Reg 1 (Word 0x8000000000000000) ∷ Reg 7 (Word 0x1) ∷ [], Sets (Known true false true false) ∷ []) ∷
+    -- cmp ecx, edi
+    (instr.Alu alu.Cmp W32 1 7 ∷ [], 0x39 ∷ 0xf9 ∷ [], Reg 1 (Word 0x8000000000000000) ∷ Reg 7 (Word 0x1) ∷ [], Sets (Known true false true false) ∷ []) ∷
     -- cmp r9, r8
     (instr.Alu alu.Cmp W64 9 8 ∷ [], 0x4d ∷ 0x39 ∷ 0xc1 ∷ [], Reg 9 (Word 0x1) ∷ Reg 8 (Word 0x8000000000000000) ∷ [], Sets (Known true false true true) ∷ []) ∷
-    -- rex cmp ecx, edi
-    (instr.Alu alu.Cmp W32 1 7 ∷ [], 0x40 ∷ 0x39 ∷ 0xf9 ∷ [], Reg 1 (Word 0x1) ∷ Reg 7 (Word 0x8000000000000000) ∷ [], Sets (Known false false false false) ∷ []) ∷
+    -- cmp ecx, edi
+    (instr.Alu alu.Cmp W32 1 7 ∷ [], 0x39 ∷ 0xf9 ∷ [], Reg 1 (Word 0x1) ∷ Reg 7 (Word 0x8000000000000000) ∷ [], Sets (Known false false false false) ∷ []) ∷
     -- cmp r9, r8
     (instr.Alu alu.Cmp W64 9 8 ∷ [], 0x4d ∷ 0x39 ∷ 0xc1 ∷ [], Reg 9 (Word 0xffffffffffffffff) ∷ Reg 8 (Word 0x1) ∷ [], Sets (Known false false true false) ∷ []) ∷
-    -- rex cmp ecx, edi
-    (instr.Alu alu.Cmp W32 1 7 ∷ [], 0x40 ∷ 0x39 ∷ 0xf9 ∷ [], Reg 1 (Word 0xffffffffffffffff) ∷ Reg 7 (Word 0x1) ∷ [], Sets (Known false false true false) ∷ []) ∷
+    -- cmp ecx, edi
+    (instr.Alu alu.Cmp W32 1 7 ∷ [], 0x39 ∷ 0xf9 ∷ [], Reg 1 (Word 0xffffffffffffffff) ∷ Reg 7 (Word 0x1) ∷ [], Sets (Known false false true false) ∷ []) ∷
     -- cmp r9, r8
     (instr.Alu alu.Cmp W64 9 8 ∷ [], 0x4d ∷ 0x39 ∷ 0xc1 ∷ [], Reg 9 (Word 0x100000005) ∷ Reg 8 (Word 0x6) ∷ [], Sets (Known false false false false) ∷ []) ∷
-    -- rex cmp ecx, edi
-    (instr.Alu alu.Cmp W32 1 7 ∷ [], 0x40 ∷ 0x39 ∷ 0xf9 ∷ [], Reg 1 (Word 0x100000005) ∷ Reg 7 (Word 0x6) ∷ [], Sets (Known true false true false) ∷ []) ∷
+    -- cmp ecx, edi
+    (instr.Alu alu.Cmp W32 1 7 ∷ [], 0x39 ∷ 0xf9 ∷ [], Reg 1 (Word 0x100000005) ∷ Reg 7 (Word 0x6) ∷ [], Sets (Known true false true false) ∷ []) ∷
     -- cmp r9, r8
     (instr.Alu alu.Cmp W64 9 8 ∷ [], 0x4d ∷ 0x39 ∷ 0xc1 ∷ [], Reg 9 (Word 0x80000000) ∷ Reg 8 (Word 0x7fffffff) ∷ [], Sets (Known false false false false) ∷ []) ∷
-    -- rex cmp ecx, edi
-    (instr.Alu alu.Cmp W32 1 7 ∷ [], 0x40 ∷ 0x39 ∷ 0xf9 ∷ [], Reg 1 (Word 0x80000000) ∷ Reg 7 (Word 0x7fffffff) ∷ [], Sets (Known false false false true) ∷ []) ∷
+    -- cmp ecx, edi
+    (instr.Alu alu.Cmp W32 1 7 ∷ [], 0x39 ∷ 0xf9 ∷ [], Reg 1 (Word 0x80000000) ∷ Reg 7 (Word 0x7fffffff) ∷ [], Sets (Known false false false true) ∷ []) ∷
     -- cmp r9, r8
     (instr.Alu alu.Cmp W64 9 8 ∷ [], 0x4d ∷ 0x39 ∷ 0xc1 ∷ [], Reg 9 (Word 0x0) ∷ Reg 8 (Word 0x80000000) ∷ [], Sets (Known true false true false) ∷ []) ∷
-    -- rex cmp ecx, edi
-    (instr.Alu alu.Cmp W32 1 7 ∷ [], 0x40 ∷ 0x39 ∷ 0xf9 ∷ [], Reg 1 (Word 0x0) ∷ Reg 7 (Word 0x80000000) ∷ [], Sets (Known true false true true) ∷ []) ∷
+    -- cmp ecx, edi
+    (instr.Alu alu.Cmp W32 1 7 ∷ [], 0x39 ∷ 0xf9 ∷ [], Reg 1 (Word 0x0) ∷ Reg 7 (Word 0x80000000) ∷ [], Sets (Known true false true true) ∷ []) ∷
     -- cmp r9, r8
     (instr.Alu alu.Cmp W64 9 8 ∷ [], 0x4d ∷ 0x39 ∷ 0xc1 ∷ [], Reg 9 (Word 0x8000000000000000) ∷ Reg 8 (Word 0x0) ∷ [], Sets (Known false false true false) ∷ []) ∷
-    -- rex cmp ecx, edi
-    (instr.Alu alu.Cmp W32 1 7 ∷ [], 0x40 ∷ 0x39 ∷ 0xf9 ∷ [], Reg 1 (Word 0x8000000000000000) ∷ Reg 7 (Word 0x0) ∷ [], Sets (Known false true false false) ∷ []) ∷
+    -- cmp ecx, edi
+    (instr.Alu alu.Cmp W32 1 7 ∷ [], 0x39 ∷ 0xf9 ∷ [], Reg 1 (Word 0x8000000000000000) ∷ Reg 7 (Word 0x0) ∷ [], Sets (Known false true false false) ∷ []) ∷
     -- cmp r9, r8
     (instr.Alu alu.Cmp W64 9 8 ∷ [], 0x4d ∷ 0x39 ∷ 0xc1 ∷ [], Reg 9 (Word 0x80000000) ∷ Reg 8 (Word 0x0) ∷ [], Sets (Known false false false false) ∷ []) ∷
-    -- rex cmp ecx, edi
-    (instr.Alu alu.Cmp W32 1 7 ∷ [], 0x40 ∷ 0x39 ∷ 0xf9 ∷ [], Reg 1 (Word 0x80000000) ∷ Reg 7 (Word 0x0) ∷ [], Sets (Known false false true false) ∷ []) ∷
+    -- cmp ecx, edi
+    (instr.Alu alu.Cmp W32 1 7 ∷ [], 0x39 ∷ 0xf9 ∷ [], Reg 1 (Word 0x80000000) ∷ Reg 7 (Word 0x0) ∷ [], Sets (Known false false true false) ∷ []) ∷
     -- cmp rcx, -1
     (instr.AluImm alu.Cmp W64 1 (2 ^ 64 - 1) ∷ [], 0x48 ∷ 0x83 ∷ 0xf9 ∷ 0xff ∷ [], Reg 1 (Word 0x0) ∷ [], Sets (Known true false false false) ∷ []) ∷
     -- cmp r12d, -1
@@ -264,16 +270,16 @@ comparisons =
     (instr.Test W64 3 14 ∷ [], 0x4c ∷ 0x85 ∷ 0xf3 ∷ [], Reg 3 (Word 0x8000000000000001) ∷ Reg 14 (Word 0x8000000000000002) ∷ [], Sets (Known false false true false) ∷ []) ∷
     -- test r9, rax
     (instr.Test W64 9 0 ∷ [], 0x49 ∷ 0x85 ∷ 0xc1 ∷ [], Reg 9 (Word 0xc) ∷ Reg 0 (Word 0x3) ∷ [], Sets (Known false true false false) ∷ []) ∷
-    -- rex test ecx, esi
-    (instr.Test W32 1 6 ∷ [], 0x40 ∷ 0x85 ∷ 0xf1 ∷ [], Reg 1 (Word 0x8000000080000000) ∷ Reg 6 (Word 0xffffffffffffffff) ∷ [], Sets (Known false false true false) ∷ []) ∷
-    -- rex test ecx, esi
-    (instr.Test W32 1 6 ∷ [], 0x40 ∷ 0x85 ∷ 0xf1 ∷ [], Reg 1 (Word 0x8000000000000000) ∷ Reg 6 (Word 0xffffffffffffffff) ∷ [], Sets (Known false true false false) ∷ []) ∷
+    -- test ecx, esi
+    (instr.Test W32 1 6 ∷ [], 0x85 ∷ 0xf1 ∷ [], Reg 1 (Word 0x8000000080000000) ∷ Reg 6 (Word 0xffffffffffffffff) ∷ [], Sets (Known false false true false) ∷ []) ∷
+    -- test ecx, esi
+    (instr.Test W32 1 6 ∷ [], 0x85 ∷ 0xf1 ∷ [], Reg 1 (Word 0x8000000000000000) ∷ Reg 6 (Word 0xffffffffffffffff) ∷ [], Sets (Known false true false false) ∷ []) ∷
     -- test r10, -2147483648
     (instr.TestImm W64 10 (2 ^ 64 - 2 ^ 31) ∷ [], 0x49 ∷ 0xf7 ∷ 0xc2 ∷ 0x00 ∷ 0x00 ∷ 0x00 ∷ 0x80 ∷ [], Reg 10 (Word 0x8000000000000000) ∷ [], Sets (Known false false true false) ∷ []) ∷
     -- test rbx, 6
     (instr.TestImm W64 3 6 ∷ [], 0x48 ∷ 0xf7 ∷ 0xc3 ∷ 0x06 ∷ 0x00 ∷ 0x00 ∷ 0x00 ∷ [], Reg 3 (Word 0x9) ∷ [], Sets (Known false true false false) ∷ []) ∷
-    -- rex test ebx, 0x80000000
-    (instr.TestImm W32 3 (2 ^ 64 - 2 ^ 31) ∷ [], 0x40 ∷ 0xf7 ∷ 0xc3 ∷ 0x00 ∷ 0x00 ∷ 0x00 ∷ 0x80 ∷ [], Reg 3 (Word 0x8000000080000000) ∷ [], Sets (Known false false true false) ∷ []) ∷
+    -- test ebx, 0x80000000
+    (instr.TestImm W32 3 (2 ^ 64 - 2 ^ 31) ∷ [], 0xf7 ∷ 0xc3 ∷ 0x00 ∷ 0x00 ∷ 0x00 ∷ 0x80 ∷ [], Reg 3 (Word 0x8000000080000000) ∷ [], Sets (Known false false true false) ∷ []) ∷
     -- test r15d, 6
     (instr.TestImm W32 15 6 ∷ [], 0x41 ∷ 0xf7 ∷ 0xc7 ∷ 0x06 ∷ 0x00 ∷ 0x00 ∷ 0x00 ∷ [], Reg 15 (Word 0x8000000000000004) ∷ [], Sets (Known false false false false) ∷ []) ∷
     []
@@ -281,8 +287,8 @@ comparisons =
 -- shifts by a number and by cl; nothing is said of the flags
 abbrev pub shifts : List Row
 shifts =
-    -- rex rol bx, 8
-    (instr.SwapLow 3 ∷ [], 0x66 ∷ 0x40 ∷ 0xc1 ∷ 0xc3 ∷ 0x08 ∷ [], [], Reg 3 (Word 0x78dde6e5fd2954f0) ∷ Sets (Unknown) ∷ []) ∷
+    -- rol bx, 8
+    (instr.SwapLow 3 ∷ [], 0x66 ∷ 0xc1 ∷ 0xc3 ∷ 0x08 ∷ [], [], Reg 3 (Word 0x78dde6e5fd2954f0) ∷ Sets (Unknown) ∷ []) ∷
     -- rol r12w, 8
     (instr.SwapLow 12 ∷ [], 0x66 ∷ 0x41 ∷ 0xc1 ∷ 0xc4 ∷ 0x08 ∷ [], [], Reg 12 (Word 0x8d12e6b76c8114d) ∷ Sets (Unknown) ∷ []) ∷
     -- shl rbx, 5
@@ -293,16 +299,16 @@ shifts =
     (instr.Shift shift.Left W64 0 0 ∷ [], 0x48 ∷ 0xc1 ∷ 0xe0 ∷ 0x00 ∷ [], [], Sets (Unknown) ∷ []) ∷
     -- shl r10d, 31
     (instr.Shift shift.Left W32 10 31 ∷ [], 0x41 ∷ 0xc1 ∷ 0xe2 ∷ 0x1f ∷ [], Reg 10 (Word 0x8000000080000001) ∷ [], Reg 10 (Word 0x80000000) ∷ Sets (Unknown) ∷ []) ∷
-    -- rex shl esi, 4
-    (instr.Shift shift.Left W32 6 4 ∷ [], 0x40 ∷ 0xc1 ∷ 0xe6 ∷ 0x04 ∷ [], [], Reg 6 (Word 0xb0964930) ∷ Sets (Unknown) ∷ []) ∷
+    -- shl esi, 4
+    (instr.Shift shift.Left W32 6 4 ∷ [], 0xc1 ∷ 0xe6 ∷ 0x04 ∷ [], [], Reg 6 (Word 0xb0964930) ∷ Sets (Unknown) ∷ []) ∷
     -- shl r9, cl
     (instr.ShiftBy shift.Left W64 9 ∷ [], 0x49 ∷ 0xd3 ∷ 0xe1 ∷ [], Reg 1 (Word 0x10000000143) ∷ [], Reg 9 (Word 0x715609f7c746c690) ∷ Sets (Unknown) ∷ []) ∷
     -- shl rdi, cl
     (instr.ShiftBy shift.Left W64 7 ∷ [], 0x48 ∷ 0xd3 ∷ 0xe7 ∷ [], Reg 1 (Word 0x40) ∷ [], Sets (Unknown) ∷ []) ∷
     -- shl r8d, cl
     (instr.ShiftBy shift.Left W32 8 ∷ [], 0x41 ∷ 0xd3 ∷ 0xe0 ∷ [], Reg 1 (Word 0x10000000125) ∷ [], Reg 8 (Word 0x33cb97a0) ∷ Sets (Unknown) ∷ []) ∷
-    -- rex shl edx, cl
-    (instr.ShiftBy shift.Left W32 2 ∷ [], 0x40 ∷ 0xd3 ∷ 0xe2 ∷ [], Reg 1 (Word 0x20) ∷ Reg 2 (Word 0xffffffff) ∷ [], Sets (Unknown) ∷ []) ∷
+    -- shl edx, cl
+    (instr.ShiftBy shift.Left W32 2 ∷ [], 0xd3 ∷ 0xe2 ∷ [], Reg 1 (Word 0x20) ∷ Reg 2 (Word 0xffffffff) ∷ [], Sets (Unknown) ∷ []) ∷
     -- shr rbx, 5
     (instr.Shift shift.Right W64 3 5 ∷ [], 0x48 ∷ 0xc1 ∷ 0xeb ∷ 0x05 ∷ [], [], Reg 3 (Word 0x3c6ef372fe94f82) ∷ Sets (Unknown) ∷ []) ∷
     -- shr r12, 63
@@ -311,16 +317,16 @@ shifts =
     (instr.Shift shift.Right W64 0 0 ∷ [], 0x48 ∷ 0xc1 ∷ 0xe8 ∷ 0x00 ∷ [], [], Sets (Unknown) ∷ []) ∷
     -- shr r10d, 31
     (instr.Shift shift.Right W32 10 31 ∷ [], 0x41 ∷ 0xc1 ∷ 0xea ∷ 0x1f ∷ [], Reg 10 (Word 0x8000000080000001) ∷ [], Reg 10 (Word 0x1) ∷ Sets (Unknown) ∷ []) ∷
-    -- rex shr esi, 4
-    (instr.Shift shift.Right W32 6 4 ∷ [], 0x40 ∷ 0xc1 ∷ 0xee ∷ 0x04 ∷ [], [], Reg 6 (Word 0x7b09649) ∷ Sets (Unknown) ∷ []) ∷
+    -- shr esi, 4
+    (instr.Shift shift.Right W32 6 4 ∷ [], 0xc1 ∷ 0xee ∷ 0x04 ∷ [], [], Reg 6 (Word 0x7b09649) ∷ Sets (Unknown) ∷ []) ∷
     -- shr r9, cl
     (instr.ShiftBy shift.Right W64 9 ∷ [], 0x49 ∷ 0xd3 ∷ 0xe9 ∷ [], Reg 1 (Word 0x10000000143) ∷ [], Reg 9 (Word 0x5c55827df1d1b1a) ∷ Sets (Unknown) ∷ []) ∷
     -- shr rdi, cl
     (instr.ShiftBy shift.Right W64 7 ∷ [], 0x48 ∷ 0xd3 ∷ 0xef ∷ [], Reg 1 (Word 0x40) ∷ [], Sets (Unknown) ∷ []) ∷
     -- shr r8d, cl
     (instr.ShiftBy shift.Right W32 8 ∷ [], 0x41 ∷ 0xd3 ∷ 0xe8 ∷ [], Reg 1 (Word 0x10000000125) ∷ [], Reg 8 (Word 0x3ccf2e5) ∷ Sets (Unknown) ∷ []) ∷
-    -- rex shr edx, cl
-    (instr.ShiftBy shift.Right W32 2 ∷ [], 0x40 ∷ 0xd3 ∷ 0xea ∷ [], Reg 1 (Word 0x20) ∷ Reg 2 (Word 0xffffffff) ∷ [], Sets (Unknown) ∷ []) ∷
+    -- shr edx, cl
+    (instr.ShiftBy shift.Right W32 2 ∷ [], 0xd3 ∷ 0xea ∷ [], Reg 1 (Word 0x20) ∷ Reg 2 (Word 0xffffffff) ∷ [], Sets (Unknown) ∷ []) ∷
     -- sar rbx, 5
     (instr.Shift shift.RightSigned W64 3 5 ∷ [], 0x48 ∷ 0xc1 ∷ 0xfb ∷ 0x05 ∷ [], [], Reg 3 (Word 0x3c6ef372fe94f82) ∷ Sets (Unknown) ∷ []) ∷
     -- sar r12, 63
@@ -329,16 +335,16 @@ shifts =
     (instr.Shift shift.RightSigned W64 0 0 ∷ [], 0x48 ∷ 0xc1 ∷ 0xf8 ∷ 0x00 ∷ [], [], Sets (Unknown) ∷ []) ∷
     -- sar r10d, 31
     (instr.Shift shift.RightSigned W32 10 31 ∷ [], 0x41 ∷ 0xc1 ∷ 0xfa ∷ 0x1f ∷ [], Reg 10 (Word 0x8000000080000001) ∷ [], Reg 10 (Word 0xffffffff) ∷ Sets (Unknown) ∷ []) ∷
-    -- rex sar esi, 4
-    (instr.Shift shift.RightSigned W32 6 4 ∷ [], 0x40 ∷ 0xc1 ∷ 0xfe ∷ 0x04 ∷ [], [], Reg 6 (Word 0x7b09649) ∷ Sets (Unknown) ∷ []) ∷
+    -- sar esi, 4
+    (instr.Shift shift.RightSigned W32 6 4 ∷ [], 0xc1 ∷ 0xfe ∷ 0x04 ∷ [], [], Reg 6 (Word 0x7b09649) ∷ Sets (Unknown) ∷ []) ∷
     -- sar r9, cl
     (instr.ShiftBy shift.RightSigned W64 9 ∷ [], 0x49 ∷ 0xd3 ∷ 0xf9 ∷ [], Reg 1 (Word 0x10000000143) ∷ [], Reg 9 (Word 0x5c55827df1d1b1a) ∷ Sets (Unknown) ∷ []) ∷
     -- sar rdi, cl
     (instr.ShiftBy shift.RightSigned W64 7 ∷ [], 0x48 ∷ 0xd3 ∷ 0xff ∷ [], Reg 1 (Word 0x40) ∷ [], Sets (Unknown) ∷ []) ∷
     -- sar r8d, cl
     (instr.ShiftBy shift.RightSigned W32 8 ∷ [], 0x41 ∷ 0xd3 ∷ 0xf8 ∷ [], Reg 1 (Word 0x10000000125) ∷ [], Reg 8 (Word 0x3ccf2e5) ∷ Sets (Unknown) ∷ []) ∷
-    -- rex sar edx, cl
-    (instr.ShiftBy shift.RightSigned W32 2 ∷ [], 0x40 ∷ 0xd3 ∷ 0xfa ∷ [], Reg 1 (Word 0x20) ∷ Reg 2 (Word 0xffffffff) ∷ [], Sets (Unknown) ∷ []) ∷
+    -- sar edx, cl
+    (instr.ShiftBy shift.RightSigned W32 2 ∷ [], 0xd3 ∷ 0xfa ∷ [], Reg 1 (Word 0x20) ∷ Reg 2 (Word 0xffffffff) ∷ [], Sets (Unknown) ∷ []) ∷
     []
 
 -- quotients to rax, remainders to rdx; nothing is said of the flags
@@ -348,8 +354,8 @@ quotients =
     (instr.Div W64 1 ∷ [], 0x48 ∷ 0xf7 ∷ 0xf1 ∷ [], Reg 0 (Word 0xfffffffffffffffd) ∷ Reg 2 (Word 0x0) ∷ Reg 1 (Word 0xa) ∷ [], Reg 0 (Word 0x1999999999999999) ∷ Reg 2 (Word 0x3) ∷ Sets (Unknown) ∷ []) ∷
     -- div r9
     (instr.Div W64 9 ∷ [], 0x49 ∷ 0xf7 ∷ 0xf1 ∷ [], Reg 0 (Word 0x5) ∷ Reg 2 (Word 0x0) ∷ Reg 9 (Word 0x8000000000000000) ∷ [], Reg 0 (Word 0x0) ∷ Reg 2 (Word 0x5) ∷ Sets (Unknown) ∷ []) ∷
-    -- rex div ecx
-    (instr.Div W32 1 ∷ [], 0x40 ∷ 0xf7 ∷ 0xf1 ∷ [], Reg 0 (Word 0x100000003e8) ∷ Reg 2 (Word 0x100000000) ∷ Reg 1 (Word 0x200000007) ∷ [], Reg 0 (Word 0x8e) ∷ Reg 2 (Word 0x6) ∷ Sets (Unknown) ∷ []) ∷
+    -- div ecx
+    (instr.Div W32 1 ∷ [], 0xf7 ∷ 0xf1 ∷ [], Reg 0 (Word 0x100000003e8) ∷ Reg 2 (Word 0x100000000) ∷ Reg 1 (Word 0x200000007) ∷ [], Reg 0 (Word 0x8e) ∷ Reg 2 (Word 0x6) ∷ Sets (Unknown) ∷ []) ∷
     -- div rax
     (instr.Div W64 0 ∷ [], 0x48 ∷ 0xf7 ∷ 0xf0 ∷ [], Reg 0 (Word 0x9) ∷ Reg 2 (Word 0x0) ∷ [], Reg 0 (Word 0x1) ∷ Sets (Unknown) ∷ []) ∷
     -- idiv rcx
@@ -360,8 +366,8 @@ quotients =
     (instr.SignedDiv W64 12 ∷ [], 0x49 ∷ 0xf7 ∷ 0xfc ∷ [], Reg 0 (Word 0xfffffffffffffff9) ∷ Reg 2 (Word 0xffffffffffffffff) ∷ Reg 12 (Word 0xfffffffffffffffe) ∷ [], Reg 0 (Word 0x3) ∷ Sets (Unknown) ∷ []) ∷
     -- idiv r8
     (instr.SignedDiv W64 8 ∷ [], 0x49 ∷ 0xf7 ∷ 0xf8 ∷ [], Reg 0 (Word 0x8000000000000000) ∷ Reg 2 (Word 0xffffffffffffffff) ∷ Reg 8 (Word 0x8000000000000000) ∷ [], Reg 0 (Word 0x1) ∷ Reg 2 (Word 0x0) ∷ Sets (Unknown) ∷ []) ∷
-    -- rex idiv ecx
-    (instr.SignedDiv W32 1 ∷ [], 0x40 ∷ 0xf7 ∷ 0xf9 ∷ [], Reg 0 (Word 0x100fffffff9) ∷ Reg 2 (Word 0xffffffff) ∷ Reg 1 (Word 0x200000002) ∷ [], Reg 0 (Word 0xfffffffd) ∷ Sets (Unknown) ∷ []) ∷
+    -- idiv ecx
+    (instr.SignedDiv W32 1 ∷ [], 0xf7 ∷ 0xf9 ∷ [], Reg 0 (Word 0x100fffffff9) ∷ Reg 2 (Word 0xffffffff) ∷ Reg 1 (Word 0x200000002) ∷ [], Reg 0 (Word 0xfffffffd) ∷ Sets (Unknown) ∷ []) ∷
     -- idiv r11d
     (instr.SignedDiv W32 11 ∷ [], 0x41 ∷ 0xf7 ∷ 0xfb ∷ [], Reg 0 (Word 0x10000000007) ∷ Reg 2 (Word 0x4000000000000) ∷ Reg 11 (Word 0xfffffffe) ∷ [], Reg 0 (Word 0xfffffffd) ∷ Reg 2 (Word 0x1) ∷ Sets (Unknown) ∷ []) ∷
     []
@@ -373,21 +379,21 @@ signs =
     (instr.Spread W64 ∷ [], 0x48 ∷ 0x99 ∷ [], Reg 0 (Word 0x8000000000000000) ∷ [], Reg 2 (Word 0xffffffffffffffff) ∷ []) ∷
     -- cqo
     (instr.Spread W64 ∷ [], 0x48 ∷ 0x99 ∷ [], Reg 0 (Word 0x7fffffffffffffff) ∷ [], Reg 2 (Word 0x0) ∷ []) ∷
-    -- rex cdq
-    (instr.Spread W32 ∷ [], 0x40 ∷ 0x99 ∷ [], Reg 0 (Word 0x80000000) ∷ [], Reg 2 (Word 0xffffffff) ∷ []) ∷
-    -- rex cdq
-    (instr.Spread W32 ∷ [], 0x40 ∷ 0x99 ∷ [], Reg 0 (Word 0x800000007fffffff) ∷ [], Reg 2 (Word 0x0) ∷ []) ∷
+    -- cdq
+    (instr.Spread W32 ∷ [], 0x99 ∷ [], Reg 0 (Word 0x80000000) ∷ [], Reg 2 (Word 0xffffffff) ∷ []) ∷
+    -- cdq
+    (instr.Spread W32 ∷ [], 0x99 ∷ [], Reg 0 (Word 0x800000007fffffff) ∷ [], Reg 2 (Word 0x0) ∷ []) ∷
     []
 
 -- loads, stores and the copy of bytes; the flags stay
 abbrev pub memory : List Row
 memory =
-    -- rex movzx eax, byte ptr [rbp - 384]
-    (instr.Load size.Byte 0 5 (2 ^ 32 - 384) ∷ [], 0x40 ∷ 0x0f ∷ 0xb6 ∷ 0x85 ∷ 0x80 ∷ 0xfe ∷ 0xff ∷ 0xff ∷ [], Reg 5 (At Array 400) ∷ [], Reg 0 (Word 0xd1) ∷ []) ∷
+    -- movzx eax, byte ptr [rbp - 384]
+    (instr.Load size.Byte 0 5 (2 ^ 32 - 384) ∷ [], 0x0f ∷ 0xb6 ∷ 0x85 ∷ 0x80 ∷ 0xfe ∷ 0xff ∷ 0xff ∷ [], Reg 5 (At Array 400) ∷ [], Reg 0 (Word 0xd1) ∷ []) ∷
     -- movzx r9d, word ptr [rbp - 384]
     (instr.Load size.Half 9 5 (2 ^ 32 - 384) ∷ [], 0x44 ∷ 0x0f ∷ 0xb7 ∷ 0x8d ∷ 0x80 ∷ 0xfe ∷ 0xff ∷ 0xff ∷ [], Reg 5 (At Array 400) ∷ [], Reg 9 (Word 0xf6d1) ∷ []) ∷
-    -- rex mov ebx, [rbp - 384]
-    (instr.Load size.Word 3 5 (2 ^ 32 - 384) ∷ [], 0x40 ∷ 0x8b ∷ 0x9d ∷ 0x80 ∷ 0xfe ∷ 0xff ∷ 0xff ∷ [], Reg 5 (At Array 400) ∷ [], Reg 3 (Word 0x401bf6d1) ∷ []) ∷
+    -- mov ebx, [rbp - 384]
+    (instr.Load size.Word 3 5 (2 ^ 32 - 384) ∷ [], 0x8b ∷ 0x9d ∷ 0x80 ∷ 0xfe ∷ 0xff ∷ 0xff ∷ [], Reg 5 (At Array 400) ∷ [], Reg 3 (Word 0x401bf6d1) ∷ []) ∷
     -- mov r14, [rbp - 384]
     (instr.Load size.Double 14 5 (2 ^ 32 - 384) ∷ [], 0x4c ∷ 0x8b ∷ 0xb5 ∷ 0x80 ∷ 0xfe ∷ 0xff ∷ 0xff ∷ [], Reg 5 (At Array 400) ∷ [], Reg 14 (Word 0xd4af8a65401bf6d1) ∷ []) ∷
     -- movsx rsi, byte ptr [rbp - 384]
@@ -398,26 +404,26 @@ memory =
     (instr.LoadSx signed.Word 1 5 (2 ^ 32 - 384) ∷ [], 0x48 ∷ 0x63 ∷ 0x8d ∷ 0x80 ∷ 0xfe ∷ 0xff ∷ 0xff ∷ [], Reg 5 (At Array 400) ∷ [], Reg 1 (Word 0x401bf6d1) ∷ []) ∷
     -- mov [rbp - 384], dil
     (instr.Store size.Byte 5 (2 ^ 32 - 384) 7 ∷ [], 0x40 ∷ 0x88 ∷ 0xbd ∷ 0x80 ∷ 0xfe ∷ 0xff ∷ 0xff ∷ [], Reg 5 (At Array 400) ∷ [], ArrayAt 16 (0xa8 ∷ []) ∷ []) ∷
-    -- rex mov [rbp - 384], bl
-    (instr.Store size.Byte 5 (2 ^ 32 - 384) 3 ∷ [], 0x40 ∷ 0x88 ∷ 0x9d ∷ 0x80 ∷ 0xfe ∷ 0xff ∷ 0xff ∷ [], Reg 5 (At Array 400) ∷ [], ArrayAt 16 (0x54 ∷ []) ∷ []) ∷
-    -- rex mov [rbp - 384], bx
-    (instr.Store size.Half 5 (2 ^ 32 - 384) 3 ∷ [], 0x66 ∷ 0x40 ∷ 0x89 ∷ 0x9d ∷ 0x80 ∷ 0xfe ∷ 0xff ∷ 0xff ∷ [], Reg 5 (At Array 400) ∷ [], ArrayAt 16 (0x54 ∷ 0xf0 ∷ []) ∷ []) ∷
+    -- mov [rbp - 384], bl
+    (instr.Store size.Byte 5 (2 ^ 32 - 384) 3 ∷ [], 0x88 ∷ 0x9d ∷ 0x80 ∷ 0xfe ∷ 0xff ∷ 0xff ∷ [], Reg 5 (At Array 400) ∷ [], ArrayAt 16 (0x54 ∷ []) ∷ []) ∷
+    -- mov [rbp - 384], bx
+    (instr.Store size.Half 5 (2 ^ 32 - 384) 3 ∷ [], 0x66 ∷ 0x89 ∷ 0x9d ∷ 0x80 ∷ 0xfe ∷ 0xff ∷ 0xff ∷ [], Reg 5 (At Array 400) ∷ [], ArrayAt 16 (0x54 ∷ 0xf0 ∷ []) ∷ []) ∷
     -- mov [rbp - 384], r8d
     (instr.Store size.Word 5 (2 ^ 32 - 384) 8 ∷ [], 0x44 ∷ 0x89 ∷ 0x85 ∷ 0x80 ∷ 0xfe ∷ 0xff ∷ 0xff ∷ [], Reg 5 (At Array 400) ∷ [], ArrayAt 16 (0xbd ∷ 0x5c ∷ 0x9e ∷ 0x79 ∷ []) ∷ []) ∷
     -- mov [rbp - 384], rcx
     (instr.Store size.Double 5 (2 ^ 32 - 384) 1 ∷ [], 0x48 ∷ 0x89 ∷ 0x8d ∷ 0x80 ∷ 0xfe ∷ 0xff ∷ 0xff ∷ [], Reg 5 (At Array 400) ∷ [], ArrayAt 16 (0x2a ∷ 0xf8 ∷ 0x94 ∷ 0xfe ∷ 0x72 ∷ 0xf3 ∷ 0x6e ∷ 0x3c ∷ []) ∷ []) ∷
-    -- rex mov byte ptr [rbp - 384], -2
-    (instr.StoreImm size.Byte 5 (2 ^ 32 - 384) (2 ^ 64 - 2) ∷ [], 0x40 ∷ 0xc6 ∷ 0x85 ∷ 0x80 ∷ 0xfe ∷ 0xff ∷ 0xff ∷ 0xfe ∷ [], Reg 5 (At Array 400) ∷ [], ArrayAt 16 (0xfe ∷ []) ∷ []) ∷
-    -- rex mov word ptr [rbp - 384], -2
-    (instr.StoreImm size.Half 5 (2 ^ 32 - 384) (2 ^ 64 - 2) ∷ [], 0x66 ∷ 0x40 ∷ 0xc7 ∷ 0x85 ∷ 0x80 ∷ 0xfe ∷ 0xff ∷ 0xff ∷ 0xfe ∷ 0xff ∷ [], Reg 5 (At Array 400) ∷ [], ArrayAt 16 (0xfe ∷ 0xff ∷ []) ∷ []) ∷
-    -- rex mov dword ptr [rbp - 384], 0x12345678
-    (instr.StoreImm size.Word 5 (2 ^ 32 - 384) 0x12345678 ∷ [], 0x40 ∷ 0xc7 ∷ 0x85 ∷ 0x80 ∷ 0xfe ∷ 0xff ∷ 0xff ∷ 0x78 ∷ 0x56 ∷ 0x34 ∷ 0x12 ∷ [], Reg 5 (At Array 400) ∷ [], ArrayAt 16 (0x78 ∷ 0x56 ∷ 0x34 ∷ 0x12 ∷ []) ∷ []) ∷
+    -- mov byte ptr [rbp - 384], -2
+    (instr.StoreImm size.Byte 5 (2 ^ 32 - 384) (2 ^ 64 - 2) ∷ [], 0xc6 ∷ 0x85 ∷ 0x80 ∷ 0xfe ∷ 0xff ∷ 0xff ∷ 0xfe ∷ [], Reg 5 (At Array 400) ∷ [], ArrayAt 16 (0xfe ∷ []) ∷ []) ∷
+    -- mov word ptr [rbp - 384], -2
+    (instr.StoreImm size.Half 5 (2 ^ 32 - 384) (2 ^ 64 - 2) ∷ [], 0x66 ∷ 0xc7 ∷ 0x85 ∷ 0x80 ∷ 0xfe ∷ 0xff ∷ 0xff ∷ 0xfe ∷ 0xff ∷ [], Reg 5 (At Array 400) ∷ [], ArrayAt 16 (0xfe ∷ 0xff ∷ []) ∷ []) ∷
+    -- mov dword ptr [rbp - 384], 0x12345678
+    (instr.StoreImm size.Word 5 (2 ^ 32 - 384) 0x12345678 ∷ [], 0xc7 ∷ 0x85 ∷ 0x80 ∷ 0xfe ∷ 0xff ∷ 0xff ∷ 0x78 ∷ 0x56 ∷ 0x34 ∷ 0x12 ∷ [], Reg 5 (At Array 400) ∷ [], ArrayAt 16 (0x78 ∷ 0x56 ∷ 0x34 ∷ 0x12 ∷ []) ∷ []) ∷
     -- mov qword ptr [rbp - 384], -2
     (instr.StoreImm size.Double 5 (2 ^ 32 - 384) (2 ^ 64 - 2) ∷ [], 0x48 ∷ 0xc7 ∷ 0x85 ∷ 0x80 ∷ 0xfe ∷ 0xff ∷ 0xff ∷ 0xfe ∷ 0xff ∷ 0xff ∷ 0xff ∷ [], Reg 5 (At Array 400) ∷ [], ArrayAt 16 (0xfe ∷ 0xff ∷ 0xff ∷ 0xff ∷ 0xff ∷ 0xff ∷ 0xff ∷ 0xff ∷ []) ∷ []) ∷
-    -- rex movups xmm0, [rbp - 384]
-    (instr.LoadLong 5 (2 ^ 32 - 384) ∷ [], 0x40 ∷ 0x0f ∷ 0x10 ∷ 0x85 ∷ 0x80 ∷ 0xfe ∷ 0xff ∷ 0xff ∷ [], Reg 5 (At Array 400) ∷ [], Long (0xd1 ∷ 0xf6 ∷ 0x1b ∷ 0x40 ∷ 0x65 ∷ 0x8a ∷ 0xaf ∷ 0xd4 ∷ 0xf9 ∷ 0x1e ∷ 0x43 ∷ 0x68 ∷ 0x8d ∷ 0xb2 ∷ 0xd7 ∷ 0xfc ∷ []) ∷ []) ∷
-    -- rex movups [rbp - 384], xmm0
-    (instr.StoreLong 5 (2 ^ 32 - 384) ∷ [], 0x40 ∷ 0x0f ∷ 0x11 ∷ 0x85 ∷ 0x80 ∷ 0xfe ∷ 0xff ∷ 0xff ∷ [], Reg 5 (At Array 400) ∷ [], ArrayAt 16 (0xc8 ∷ 0xe5 ∷ 0x02 ∷ 0x1f ∷ 0x3c ∷ 0x59 ∷ 0x76 ∷ 0x93 ∷ 0xb0 ∷ 0xcd ∷ 0xea ∷ 0x07 ∷ 0x24 ∷ 0x41 ∷ 0x5e ∷ 0x7b ∷ []) ∷ []) ∷
+    -- movups xmm0, [rbp - 384]
+    (instr.LoadLong 5 (2 ^ 32 - 384) ∷ [], 0x0f ∷ 0x10 ∷ 0x85 ∷ 0x80 ∷ 0xfe ∷ 0xff ∷ 0xff ∷ [], Reg 5 (At Array 400) ∷ [], Long (0xd1 ∷ 0xf6 ∷ 0x1b ∷ 0x40 ∷ 0x65 ∷ 0x8a ∷ 0xaf ∷ 0xd4 ∷ 0xf9 ∷ 0x1e ∷ 0x43 ∷ 0x68 ∷ 0x8d ∷ 0xb2 ∷ 0xd7 ∷ 0xfc ∷ []) ∷ []) ∷
+    -- movups [rbp - 384], xmm0
+    (instr.StoreLong 5 (2 ^ 32 - 384) ∷ [], 0x0f ∷ 0x11 ∷ 0x85 ∷ 0x80 ∷ 0xfe ∷ 0xff ∷ 0xff ∷ [], Reg 5 (At Array 400) ∷ [], ArrayAt 16 (0xc8 ∷ 0xe5 ∷ 0x02 ∷ 0x1f ∷ 0x3c ∷ 0x59 ∷ 0x76 ∷ 0x93 ∷ 0xb0 ∷ 0xcd ∷ 0xea ∷ 0x07 ∷ 0x24 ∷ 0x41 ∷ 0x5e ∷ 0x7b ∷ []) ∷ []) ∷
     -- movzx eax, byte ptr [r12 + 2]
     (instr.Load size.Byte 0 12 2 ∷ [], 0x41 ∷ 0x0f ∷ 0xb6 ∷ 0x44 ∷ 0x24 ∷ 0x02 ∷ [], Reg 12 (At Array 1) ∷ [], Reg 0 (Word 0xf0) ∷ []) ∷
     -- movzx r9d, word ptr [r12 + 2]
@@ -530,8 +536,8 @@ memory =
     (instr.Load size.Double 1 7 0 ∷ [], 0x48 ∷ 0x8b ∷ 0x4f ∷ 0x00 ∷ [], Reg 7 (At Array 40) ∷ [], Reg 1 (Word 0x4c2702ddb8936e49) ∷ []) ∷
     -- {disp8} mov [rdi + 0], r9w
     (instr.Store size.Half 7 0 9 ∷ [], 0x66 ∷ 0x44 ∷ 0x89 ∷ 0x4f ∷ 0x00 ∷ [], Reg 7 (At Record 46) ∷ [], RecordAt 46 (0xd2 ∷ 0xd8 ∷ []) ∷ []) ∷
-    -- rex movups xmm0, [rdi + 16]; rex movups [rsi + 32], xmm0
-    (instr.LoadLong 7 16 ∷ instr.StoreLong 6 32 ∷ [], 0x40 ∷ 0x0f ∷ 0x10 ∷ 0x47 ∷ 0x10 ∷ 0x40 ∷ 0x0f ∷ 0x11 ∷ 0x46 ∷ 0x20 ∷ [], Reg 7 (At Array 16) ∷ Reg 6 (At Record 0) ∷ [], RecordAt 32 (0x21 ∷ 0x46 ∷ 0x6b ∷ 0x90 ∷ 0xb5 ∷ 0xda ∷ 0xff ∷ 0x24 ∷ 0x49 ∷ 0x6e ∷ 0x93 ∷ 0xb8 ∷ 0xdd ∷ 0x02 ∷ 0x27 ∷ 0x4c ∷ []) ∷ Long (0x21 ∷ 0x46 ∷ 0x6b ∷ 0x90 ∷ 0xb5 ∷ 0xda ∷ 0xff ∷ 0x24 ∷ 0x49 ∷ 0x6e ∷ 0x93 ∷ 0xb8 ∷ 0xdd ∷ 0x02 ∷ 0x27 ∷ 0x4c ∷ []) ∷ []) ∷
+    -- movups xmm0, [rdi + 16]; movups [rsi + 32], xmm0
+    (instr.LoadLong 7 16 ∷ instr.StoreLong 6 32 ∷ [], 0x0f ∷ 0x10 ∷ 0x47 ∷ 0x10 ∷ 0x0f ∷ 0x11 ∷ 0x46 ∷ 0x20 ∷ [], Reg 7 (At Array 16) ∷ Reg 6 (At Record 0) ∷ [], RecordAt 32 (0x21 ∷ 0x46 ∷ 0x6b ∷ 0x90 ∷ 0xb5 ∷ 0xda ∷ 0xff ∷ 0x24 ∷ 0x49 ∷ 0x6e ∷ 0x93 ∷ 0xb8 ∷ 0xdd ∷ 0x02 ∷ 0x27 ∷ 0x4c ∷ []) ∷ Long (0x21 ∷ 0x46 ∷ 0x6b ∷ 0x90 ∷ 0xb5 ∷ 0xda ∷ 0xff ∷ 0x24 ∷ 0x49 ∷ 0x6e ∷ 0x93 ∷ 0xb8 ∷ 0xdd ∷ 0x02 ∷ 0x27 ∷ 0x4c ∷ []) ∷ []) ∷
     -- rep movsb
     (instr.CopyBytes ∷ [], 0xf3 ∷ 0xa4 ∷ [], Reg 1 (Word 0x5) ∷ Reg 6 (At Array 3) ∷ Reg 7 (At Record 20) ∷ [], Reg 1 (Word 0x0) ∷ Reg 6 (At Array 8) ∷ Reg 7 (At Record 25) ∷ RecordAt 20 (0xf0 ∷ 0x15 ∷ 0x3a ∷ 0x5f ∷ 0x84 ∷ []) ∷ []) ∷
     -- rep movsb
@@ -588,17 +594,17 @@ short_jumps =
     (condition.Greater, 0x7f ∷ 0x07 ∷ [], 0x3003) ∷
     []
 
--- {disp32} jmp 1f; 2: rex mov eax, 5; ret; 1: {disp32} jmp 2b
+-- {disp32} jmp 1f; 2: mov eax, 5; ret; 1: {disp32} jmp 2b
 abbrev pub program : List ℕ
-program = 0xe9 ∷ 0x07 ∷ 0x00 ∷ 0x00 ∷ 0x00 ∷ 0x40 ∷ 0xb8 ∷ 0x05 ∷ 0x00 ∷ 0x00 ∷ 0x00 ∷ 0xc3 ∷ 0xe9 ∷ 0xf4 ∷ 0xff ∷ 0xff ∷ 0xff ∷ []
+program = 0xe9 ∷ 0x06 ∷ 0x00 ∷ 0x00 ∷ 0x00 ∷ 0xb8 ∷ 0x05 ∷ 0x00 ∷ 0x00 ∷ 0x00 ∷ 0xc3 ∷ 0xe9 ∷ 0xf5 ∷ 0xff ∷ 0xff ∷ 0xff ∷ []
 
 -- the rax with which it returns
 abbrev pub program_answer : ℕ
 program_answer = 0x5
 
--- jmp 1f; 2: rex mov eax, 6; ret; 1: jmp 2b
+-- jmp 1f; 2: mov eax, 6; ret; 1: jmp 2b
 abbrev pub short_program : List ℕ
-short_program = 0xeb ∷ 0x07 ∷ 0x40 ∷ 0xb8 ∷ 0x06 ∷ 0x00 ∷ 0x00 ∷ 0x00 ∷ 0xc3 ∷ 0xeb ∷ 0xf7 ∷ []
+short_program = 0xeb ∷ 0x06 ∷ 0xb8 ∷ 0x06 ∷ 0x00 ∷ 0x00 ∷ 0x00 ∷ 0xc3 ∷ 0xeb ∷ 0xf8 ∷ []
 
 -- the rax with which it returns
 abbrev pub short_program_answer : ℕ

@@ -53,10 +53,39 @@ fn rex_by(width: Width, reg: u8, index: u8, rm: u8) -> u8
     64 + wide + 4 * (reg / 8 % 2) + 2 * (index / 8 % 2) + rm / 8 % 2
 }
 
-fn rex(width: Width, reg: u8, rm: u8) -> u8
-    ensures { result ≡ encoding.rex width reg rm }
+// A REX where it says something.
+fn put_prefix_by(
+    code: &mut Vec<u8>,
+    width: Width,
+    reg: u8,
+    index: u8,
+    rm: u8,
+) -> Result<(), AllocError>
+    ensures { OnOk result (code.new.items ≡ code.old.items ++ encoding.prefix_by width reg index rm) }
 {
-    rex_by(width, reg, 0, rm)
+    let rex = rex_by(width, reg, index, rm);
+    match width {
+        Width::W64 => put(code, rex),
+        Width::W32 => { if rex == 64 { Ok(()) } else { put(code, rex) } }
+    }
+}
+
+fn put_prefix(code: &mut Vec<u8>, width: Width, reg: u8, rm: u8) -> Result<(), AllocError>
+    ensures { OnOk result (code.new.items ≡ code.old.items ++ encoding.prefix width reg rm) }
+{
+    put_prefix_by(code, width, reg, 0, rm)
+}
+
+// The same where one of the registers is a byte.
+fn put_byte_prefix(code: &mut Vec<u8>, byte: u8, reg: u8, rm: u8) -> Result<(), AllocError>
+    ensures { OnOk result (code.new.items ≡ code.old.items ++ encoding.byte_prefix byte reg rm) }
+{
+    let rex = rex_by(Width::W32, reg, 0, rm);
+    if byte < 4 && rex == 64 {
+        Ok(())
+    } else {
+        put(code, rex)
+    }
 }
 
 // ModR/M of two registers.
@@ -131,7 +160,7 @@ fn code_of(condition: Condition) -> u8
 fn put_two(code: &mut Vec<u8>, width: Width, opcode: u8, reg: u8, rm: u8) -> Result<(), AllocError>
     ensures { OnOk result (code.new.items ≡ code.old.items ++ encoding.with_two width opcode reg rm) }
 {
-    put(code, rex(width, reg, rm))?;
+    put_prefix(code, width, reg, rm)?;
     put(code, opcode)?;
     put(code, two(reg, rm))
 }
@@ -146,7 +175,7 @@ fn put_two_0f(
 ) -> Result<(), AllocError>
     ensures { OnOk result (code.new.items ≡ code.old.items ++ encoding.with_two_0f width opcode reg rm) }
 {
-    put(code, rex(width, reg, rm))?;
+    put_prefix(code, width, reg, rm)?;
     put(code, 0x0f)?;
     put(code, opcode)?;
     put(code, two(reg, rm))
@@ -193,7 +222,7 @@ fn put_memory(
 ) -> Result<(), AllocError>
     ensures { OnOk result (code.new.items ≡ code.old.items ++ encoding.with_memory width opcode reg base disp) }
 {
-    put(code, rex(width, reg, base))?;
+    put_prefix(code, width, reg, base)?;
     put(code, opcode)?;
     memory(code, reg, base, disp)
 }
@@ -209,7 +238,7 @@ fn put_memory_0f(
 ) -> Result<(), AllocError>
     ensures { OnOk result (code.new.items ≡ code.old.items ++ encoding.with_memory_0f width opcode reg base disp) }
 {
-    put(code, rex(width, reg, base))?;
+    put_prefix(code, width, reg, base)?;
     put(code, 0x0f)?;
     put(code, opcode)?;
     memory(code, reg, base, disp)
@@ -219,7 +248,12 @@ fn put_movsx(code: &mut Vec<u8>, extension: Extension, to: u8, from: u8) -> Resu
     ensures { OnOk result (code.new.items ≡ code.old.items ++ encoding.movsx extension to from) }
 {
     match extension {
-        Extension::W32From8 => put_two_0f(code, Width::W32, 0xbe, to, from),
+        Extension::W32From8 => {
+            put_byte_prefix(code, from, to, from)?;
+            put(code, 0x0f)?;
+            put(code, 0xbe)?;
+            put(code, two(to, from))
+        }
         Extension::W32From16 => put_two_0f(code, Width::W32, 0xbf, to, from),
         Extension::W64From8 => put_two_0f(code, Width::W64, 0xbe, to, from),
         Extension::W64From16 => put_two_0f(code, Width::W64, 0xbf, to, from),
@@ -248,9 +282,9 @@ fn put_alu_imm(
 // A register in the opcode.
 fn put_named(code: &mut Vec<u8>, width: Width, opcode: u8, reg: u8) -> Result<(), AllocError>
     requires { opcode < 248 }
-    ensures { OnOk result (code.new.items ≡ code.old.items ++ encoding.rex width 0 reg ∷ (opcode + reg % 8) ∷ []) }
+    ensures { OnOk result (code.new.items ≡ code.old.items ++ encoding.prefix width 0 reg ++ (opcode + reg % 8) ∷ []) }
 {
-    put(code, rex(width, 0, reg))?;
+    put_prefix(code, width, 0, reg)?;
     put(code, opcode + reg % 8)
 }
 
@@ -265,7 +299,7 @@ fn put_swap_low(code: &mut Vec<u8>, to: u8) -> Result<(), AllocError>
 fn put_swap(code: &mut Vec<u8>, width: Width, to: u8) -> Result<(), AllocError>
     ensures { OnOk result (code.new.items ≡ code.old.items ++ encoding.bytes_of (Instr.Swap width to)) }
 {
-    put(code, rex(width, 0, to))?;
+    put_prefix(code, width, 0, to)?;
     put(code, 0x0f)?;
     put(code, 0xc8 + to % 8)
 }
@@ -307,7 +341,11 @@ fn put_store(
     ensures { OnOk result (code.new.items ≡ code.old.items ++ encoding.bytes_of (Instr.Store size base disp from)) }
 {
     match size {
-        Size::Byte => put_memory(code, Width::W32, 0x88, from, base, disp),
+        Size::Byte => {
+            put_byte_prefix(code, from, from, base)?;
+            put(code, 0x88)?;
+            memory(code, from, base, disp)
+        }
         Size::Half => {
             put(code, 0x66)?;
             put_memory(code, Width::W32, 0x89, from, base, disp)
@@ -350,7 +388,7 @@ fn put_store_imm(
 fn put_lea_by(code: &mut Vec<u8>, to: u8, base: u8, index: u8, disp: u64) -> Result<(), AllocError>
     ensures { OnOk result (code.new.items ≡ code.old.items ++ encoding.bytes_of (Instr.LeaBy to base index disp)) }
 {
-    put(code, rex_by(Width::W64, to, index, base))?;
+    put_prefix_by(code, Width::W64, to, index, base)?;
     put(code, 0x8d)?;
     memory_by(code, to, base, index, disp)
 }
@@ -426,7 +464,7 @@ impl Instr {
             Instr::Div { width, by } => put_two(code, width, 0xf7, 6, by),
             Instr::SignedDiv { width, by } => put_two(code, width, 0xf7, 7, by),
             Instr::Spread { width } => {
-                put(code, rex(width, 0, 0))?;
+                put_prefix(code, width, 0, 0)?;
                 put(code, 0x99)
             }
             Instr::Load {

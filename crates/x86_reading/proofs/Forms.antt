@@ -1,6 +1,7 @@
 -- Each form read back.
-use Rattle.std.proofs.Common.{◌≡◌, ℕ, ◌+◌, ◌-◌, ◌/◌, ◌%◌, ◌^◌, ◌<◌, ◌≤◌, Bool, true, false, List, [], ◌∷◌, ◌++◌, Some, None, refl, sym, ap, ap₂, ◌∙◌, arith, append_assoc}
-use Rattle.std.specs.Prelude.{if◌then◌else◌, ◌==◌, ◌≢◌}
+use Rattle.std.proofs.Common.{◌≡◌, ℕ, zero, suc, ◌+◌, ◌-◌, ◌/◌, ◌%◌, ◌^◌, ◌<◌, ◌≤◌, Bool, true, false, List, [], ◌∷◌, ◌++◌, Some, None, refl, sym, ap, ap₂, ◌∙◌, arith, append_assoc}
+use Rattle.std.specs.Prelude.{if◌then◌else◌, ◌==◌, ◌&&◌, ◌≢◌, nat_lt}
+use Rattle.std.proofs.lemmas.Bool.Decides.{Decides-eqb}
 use Rattle.decode.specs.declared.insn.Width.{Width}
 use Rattle.decode.specs.declared.insn.Width.TheVariants.{W32, W64}
 use Rattle.decode.specs.declared.insn.Extension.{Extension}
@@ -18,73 +19,130 @@ use Rattle.x86.specs.declared.instruction.Condition.{Condition}
 use Rattle.x86.specs.declared.instruction.Condition.TheVariants as condition
 use Rattle.x86.specs.declared.instruction.Instr.{Instr}
 use Rattle.x86.specs.declared.instruction.Instr.TheVariants as instr
-use Rattle.x86.specs.Encoding.{rex, rex_by, two, with_two, with_two_0f, with_memory, with_memory_0f, memory, memory_by, op_number, shift_number, code_of, is_small, bytes_of}
-use Rattle.x86_reading.specs.Reading.{Reading, behind, one, width_of, base_of, alu_of, shift_of, condition_of, with_op, whole, four_bytes, eight_bytes, signed_byte, Place, Register, Memory, MemoryBy, modrm, on_register, on_memory, by_place, by_place_0f, by_place_66, by_opcode, by_opcode_0f, behind_rex, without_rex, move_number, read, IsNumberOf, ReadsBack, TellOne}
+use Rattle.x86.specs.Encoding.{rex, rex_by, prefix, prefix_by, byte_prefix, two, with_two, with_two_0f, with_memory, with_memory_0f, memory, memory_by, op_number, shift_number, code_of, is_small, bytes_of}
+use Rattle.x86_reading.specs.Reading.{Reading, behind, one, width_of, base_of, alu_of, shift_of, condition_of, with_op, whole, four_bytes, eight_bytes, signed_byte, Place, Register, Memory, MemoryBy, modrm, on_register, on_memory, by_place, by_place_0f, by_place_66, by_opcode, by_opcode_0f, behind_rex, behind_66, by_opcode_66, no_rex, without_rex, read, IsNumberOf, ReadsBack, TellOne}
 use Rattle.x86_reading.proofs.Numbers.{other, read_two, read_four, read_eight, spread_small}
 use Rattle.x86_reading.proofs.Places.{rex_bits, modrm_two, modrm_memory, modrm_memory_by}
 
--- ---- behind a REX
+-- ---- behind a REX, or without one
 
 at_rex : (w : Width) (reg index rm : ℕ) (bs : List ℕ) → read (rex_by w reg index rm ∷ bs) ≡ behind_rex (rex_by w reg index rm) bs
 at_rex w reg index rm bs =
     let p = rex_by w reg index rm in
     ap (λ n. if n == 4 then behind_rex p bs else without_rex p bs) (rex_bits w reg index rm).high
 
--- these opcodes are behind a REX, and have a ModR/M
+-- without a REX these bytes are read as behind one that says nothing
+abbrev IsBare : List ℕ → Type 0
+IsBare bs = read bs ≡ behind_rex no_rex bs
+
+-- of a REX and of none the same is read, by its bits
+by_bits : (b : Bool) (p : ℕ) (bs : List ℕ) → (p == 64) ≡ b → read (p ∷ bs) ≡ behind_rex p bs → IsBare bs → read ((if b then [] else p ∷ []) ++ bs) ≡ behind_rex p bs
+by_bits true p bs e at bare = let f : p ≡ 64 = (Decides-eqb p 64).0 e in bare ∙ ap (λ q. behind_rex q bs) (sym f)
+by_bits false p bs e at bare = at
+
+prefixed : (w : Width) (reg index rm : ℕ) (bs : List ℕ) → IsBare bs → read (prefix_by w reg index rm ++ bs) ≡ behind_rex (rex_by w reg index rm) bs
+prefixed W64 reg index rm bs bare = at_rex W64 reg index rm bs
+prefixed W32 reg index rm bs bare = by_bits (rex_by W32 reg index rm == 64) (rex_by W32 reg index rm) bs refl (at_rex W32 reg index rm bs) bare
+
+prefixed_byte : (byte reg rm : ℕ) (bs : List ℕ) → IsBare bs → read (byte_prefix byte reg rm ++ bs) ≡ behind_rex (rex W32 reg rm) bs
+prefixed_byte byte reg rm bs bare = by_test (nat_lt byte 4)
+  where
+    by_test : (t : Bool) → read ((if t && rex W32 reg rm == 64 then [] else rex W32 reg rm ∷ []) ++ bs) ≡ behind_rex (rex W32 reg rm) bs
+    by_test true = by_bits (rex W32 reg rm == 64) (rex W32 reg rm) bs refl (at_rex W32 reg 0 rm bs) bare
+    by_test false = at_rex W32 reg 0 rm bs
+
+-- these opcodes have a ModR/M, and no other meaning without a REX
 abbrev HasModrm : ℕ → Type 0
 HasModrm op = (p : ℕ) (bs : List ℕ) → behind_rex p (op ∷ bs) ≡ behind (modrm p bs) (λ (n, place). by_place op (width_of p) n place)
 
 abbrev HasModrm_0f : ℕ → Type 0
 HasModrm_0f op = (p : ℕ) (bs : List ℕ) → behind_rex p (15 ∷ op ∷ bs) ≡ behind (modrm p bs) (λ (n, place). by_place_0f op (width_of p) n place)
 
+abbrev Bare : ℕ → Type 0
+Bare op = (bs : List ℕ) → IsBare (op ∷ bs)
+
+abbrev Bare_0f : ℕ → Type 0
+Bare_0f op = (bs : List ℕ) → IsBare (15 ∷ op ∷ bs)
+
 by_modrm : (op : ℕ) (w : Width) (reg index rm : ℕ) (bs rest : List ℕ) (place : Place) → HasModrm op
-    → modrm (rex_by w reg index rm) bs ≡ Some ((reg, place), rest) → read (rex_by w reg index rm ∷ op ∷ bs) ≡ by_place op w reg place rest
+    → modrm (rex_by w reg index rm) bs ≡ Some ((reg, place), rest) → behind_rex (rex_by w reg index rm) (op ∷ bs) ≡ by_place op w reg place rest
 by_modrm op w reg index rm bs rest place has e =
     let p = rex_by w reg index rm in
-    at_rex w reg index rm (op ∷ bs) ∙ has p bs ∙ ap (λ z. behind z (λ (n, place). by_place op (width_of p) n place)) e
+    has p bs ∙ ap (λ z. behind z (λ (n, place). by_place op (width_of p) n place)) e
     ∙ ap (λ v. by_place op v reg place rest) (rex_bits w reg index rm).width
 
 by_modrm_0f : (op : ℕ) (w : Width) (reg index rm : ℕ) (bs rest : List ℕ) (place : Place) → HasModrm_0f op
-    → modrm (rex_by w reg index rm) bs ≡ Some ((reg, place), rest) → read (rex_by w reg index rm ∷ 15 ∷ op ∷ bs) ≡ by_place_0f op w reg place rest
+    → modrm (rex_by w reg index rm) bs ≡ Some ((reg, place), rest) → behind_rex (rex_by w reg index rm) (15 ∷ op ∷ bs) ≡ by_place_0f op w reg place rest
 by_modrm_0f op w reg index rm bs rest place has e =
     let p = rex_by w reg index rm in
-    at_rex w reg index rm (15 ∷ op ∷ bs) ∙ has p bs ∙ ap (λ z. behind z (λ (n, place). by_place_0f op (width_of p) n place)) e
+    has p bs ∙ ap (λ z. behind z (λ (n, place). by_place_0f op (width_of p) n place)) e
     ∙ ap (λ v. by_place_0f op v reg place rest) (rex_bits w reg index rm).width
 
-registers : (op : ℕ) (w : Width) (reg rm : ℕ) (rest : List ℕ) → HasModrm op → reg < 16 → rm < 16
+registers : (op : ℕ) (w : Width) (reg rm : ℕ) (rest : List ℕ) → HasModrm op → Bare op → reg < 16 → rm < 16
     → read (with_two w op reg rm ++ rest) ≡ on_register op w reg rm rest
-registers op w reg rm rest has h k =
+registers op w reg rm rest has bare h k =
     let x = rex_bits w reg 0 rm in
-    by_modrm op w reg 0 rm (two reg rm ∷ rest) rest (Register rm) has (modrm_two (rex w reg rm) reg rm rest x.r x.b h k)
+    ap read (append_assoc (prefix w reg rm) (op ∷ two reg rm ∷ []) rest)
+    ∙ prefixed w reg 0 rm (op ∷ two reg rm ∷ rest) (bare (two reg rm ∷ rest))
+    ∙ by_modrm op w reg 0 rm (two reg rm ∷ rest) rest (Register rm) has (modrm_two (rex w reg rm) reg rm rest x.r x.b h k)
 
-registers_0f : (op : ℕ) (w : Width) (reg rm : ℕ) (rest : List ℕ) → HasModrm_0f op → reg < 16 → rm < 16
+-- and then a number
+registers_then : (op : ℕ) (w : Width) (reg rm : ℕ) (more rest : List ℕ) → HasModrm op → Bare op → reg < 16 → rm < 16
+    → read ((with_two w op reg rm ++ more) ++ rest) ≡ on_register op w reg rm (more ++ rest)
+registers_then op w reg rm more rest has bare h k =
+    ap read (append_assoc (with_two w op reg rm) more rest) ∙ registers op w reg rm (more ++ rest) has bare h k
+
+registers_0f : (op : ℕ) (w : Width) (reg rm : ℕ) (rest : List ℕ) → HasModrm_0f op → Bare_0f op → reg < 16 → rm < 16
     → read (with_two_0f w op reg rm ++ rest) ≡ by_place_0f op w reg (Register rm) rest
-registers_0f op w reg rm rest has h k =
+registers_0f op w reg rm rest has bare h k =
     let x = rex_bits w reg 0 rm in
-    by_modrm_0f op w reg 0 rm (two reg rm ∷ rest) rest (Register rm) has (modrm_two (rex w reg rm) reg rm rest x.r x.b h k)
+    ap read (append_assoc (prefix w reg rm) (15 ∷ op ∷ two reg rm ∷ []) rest)
+    ∙ prefixed w reg 0 rm (15 ∷ op ∷ two reg rm ∷ rest) (bare (two reg rm ∷ rest))
+    ∙ by_modrm_0f op w reg 0 rm (two reg rm ∷ rest) rest (Register rm) has (modrm_two (rex w reg rm) reg rm rest x.r x.b h k)
 
-in_memory : (op : ℕ) (w : Width) (reg base disp : ℕ) (rest : List ℕ) → HasModrm op → reg < 16 → base < 16 → disp < 2 ^ 32
+in_memory : (op : ℕ) (w : Width) (reg base disp : ℕ) (rest : List ℕ) → HasModrm op → Bare op → reg < 16 → base < 16 → disp < 2 ^ 32
     → read (with_memory w op reg base disp ++ rest) ≡ on_memory op w reg base disp rest
-in_memory op w reg base disp rest has h k l =
+in_memory op w reg base disp rest has bare h k l =
     let x = rex_bits w reg 0 base in
-    by_modrm op w reg 0 base (memory reg base disp ++ rest) rest (Memory base disp) has (modrm_memory (rex w reg base) reg base disp rest x.r x.x x.b h k l)
+    let m = memory reg base disp in
+    ap read (append_assoc (prefix w reg base) (op ∷ m) rest)
+    ∙ prefixed w reg 0 base (op ∷ (m ++ rest)) (bare (m ++ rest))
+    ∙ by_modrm op w reg 0 base (m ++ rest) rest (Memory base disp) has (modrm_memory (rex w reg base) reg base disp rest x.r x.x x.b h k l)
 
-in_memory_0f : (op : ℕ) (w : Width) (reg base disp : ℕ) (rest : List ℕ) → HasModrm_0f op → reg < 16 → base < 16 → disp < 2 ^ 32
+in_memory_0f : (op : ℕ) (w : Width) (reg base disp : ℕ) (rest : List ℕ) → HasModrm_0f op → Bare_0f op → reg < 16 → base < 16 → disp < 2 ^ 32
     → read (with_memory_0f w op reg base disp ++ rest) ≡ by_place_0f op w reg (Memory base disp) rest
-in_memory_0f op w reg base disp rest has h k l =
+in_memory_0f op w reg base disp rest has bare h k l =
     let x = rex_bits w reg 0 base in
-    by_modrm_0f op w reg 0 base (memory reg base disp ++ rest) rest (Memory base disp) has (modrm_memory (rex w reg base) reg base disp rest x.r x.x x.b h k l)
+    let m = memory reg base disp in
+    ap read (append_assoc (prefix w reg base) (15 ∷ op ∷ m) rest)
+    ∙ prefixed w reg 0 base (15 ∷ op ∷ (m ++ rest)) (bare (m ++ rest))
+    ∙ by_modrm_0f op w reg 0 base (m ++ rest) rest (Memory base disp) has (modrm_memory (rex w reg base) reg base disp rest x.r x.x x.b h k l)
 
 -- behind 66
-half_register : (reg rm : ℕ) (op : ℕ) (rest : List ℕ) → reg < 16 → rm < 16 → read (102 ∷ (with_two W32 op reg rm ++ rest)) ≡ by_place_66 op reg (Register rm) rest
-half_register reg rm op rest h k =
-    let x = rex_bits W32 reg 0 rm in
-    ap (λ z. behind z (λ (n, place). by_place_66 op n place)) (modrm_two (rex W32 reg rm) reg rm rest x.r x.b h k)
+by_bits_66 : (b : Bool) (p op : ℕ) (bs : List ℕ) → (p == 64) ≡ b → p / 16 ≡ 4 → behind_66 (op ∷ bs) ≡ by_opcode_66 no_rex op bs → behind_66 ((if b then [] else p ∷ []) ++ op ∷ bs) ≡ by_opcode_66 p op bs
+by_bits_66 true p op bs e high bare = let f : p ≡ 64 = (Decides-eqb p 64).0 e in bare ∙ ap (λ q. by_opcode_66 q op bs) (sym f)
+by_bits_66 false p op bs e high bare = ap (λ n. if n == 4 then by_opcode_66 p op bs else by_opcode_66 no_rex p (op ∷ bs)) high
 
-half_memory : (reg base disp : ℕ) (op : ℕ) (rest : List ℕ) → reg < 16 → base < 16 → disp < 2 ^ 32 → read (102 ∷ (with_memory W32 op reg base disp ++ rest)) ≡ by_place_66 op reg (Memory base disp) rest
-half_memory reg base disp op rest h k l =
+prefixed_66 : (reg rm op : ℕ) (bs : List ℕ) → behind_66 (op ∷ bs) ≡ by_opcode_66 no_rex op bs → behind_66 (prefix W32 reg rm ++ op ∷ bs) ≡ by_opcode_66 (rex W32 reg rm) op bs
+prefixed_66 reg rm op bs bare = by_bits_66 (rex W32 reg rm == 64) (rex W32 reg rm) op bs refl (rex_bits W32 reg 0 rm).high bare
+
+abbrev Bare_66 : ℕ → Type 0
+Bare_66 op = (bs : List ℕ) → behind_66 (op ∷ bs) ≡ by_opcode_66 no_rex op bs
+
+half_register : (reg rm : ℕ) (op : ℕ) (rest : List ℕ) → Bare_66 op → reg < 16 → rm < 16 → read (102 ∷ (with_two W32 op reg rm ++ rest)) ≡ by_place_66 op reg (Register rm) rest
+half_register reg rm op rest bare h k =
+    let x = rex_bits W32 reg 0 rm in
+    ap behind_66 (append_assoc (prefix W32 reg rm) (op ∷ two reg rm ∷ []) rest)
+    ∙ prefixed_66 reg rm op (two reg rm ∷ rest) (bare (two reg rm ∷ rest))
+    ∙ ap (λ z. behind z (λ (n, place). by_place_66 op n place)) (modrm_two (rex W32 reg rm) reg rm rest x.r x.b h k)
+
+half_memory : (reg base disp : ℕ) (op : ℕ) (rest : List ℕ) → Bare_66 op → reg < 16 → base < 16 → disp < 2 ^ 32 → read (102 ∷ (with_memory W32 op reg base disp ++ rest)) ≡ by_place_66 op reg (Memory base disp) rest
+half_memory reg base disp op rest bare h k l =
     let x = rex_bits W32 reg 0 base in
-    ap (λ z. behind z (λ (n, place). by_place_66 op n place)) (modrm_memory (rex W32 reg base) reg base disp rest x.r x.x x.b h k l)
+    let m = memory reg base disp in
+    ap behind_66 (append_assoc (prefix W32 reg base) (op ∷ m) rest)
+    ∙ prefixed_66 reg base op (m ++ rest) (bare (m ++ rest))
+    ∙ ap (λ z. behind z (λ (n, place). by_place_66 op n place)) (modrm_memory (rex W32 reg base) reg base disp rest x.r x.x x.b h k l)
 
 -- ---- numbers behind
 
@@ -119,164 +177,143 @@ shift_low shift.Left = omega arith
 shift_low shift.Right = omega arith
 shift_low shift.RightSigned = omega arith
 
-condition_again : (x : Condition) → condition_of (128 + code_of x - 128) ≡ Some x
-condition_again condition.Below = refl
-condition_again condition.AboveEqual = refl
-condition_again condition.Equal = refl
-condition_again condition.NotEqual = refl
-condition_again condition.BelowEqual = refl
-condition_again condition.Above = refl
-condition_again condition.Less = refl
-condition_again condition.GreaterEqual = refl
-condition_again condition.LessEqual = refl
-condition_again condition.Greater = refl
-
 -- ---- registers in an opcode
 
--- an opcode by its upper five bits
-by_high : (p op high : ℕ) (bs : List ℕ) → op / 8 ≡ high
-    → by_opcode p op bs
-    ≡ (if high == 10 then whole (instr.Push (base_of p op)) bs else if high == 11 then whole (instr.Pop (base_of p op)) bs
-    else if high == 23 then move_number p (base_of p op) bs else if op == 153 then whole (instr.Spread (width_of p)) bs
-    else behind (modrm p bs) (λ (n, place). by_place op (width_of p) n place))
-by_high p op high bs e =
-    ap (λ n. if n == 10 then whole (instr.Push (base_of p op)) bs else if n == 11 then whole (instr.Pop (base_of p op)) bs
-    else if n == 23 then move_number p (base_of p op) bs else if op == 153 then whole (instr.Spread (width_of p)) bs
-    else behind (modrm p bs) (λ (n, place). by_place op (width_of p) n place)) e
+-- each register
+sixteen : (P : ℕ → Type 0) → P 0 → P 1 → P 2 → P 3 → P 4 → P 5 → P 6 → P 7 → P 8 → P 9 → P 10 → P 11 → P 12 → P 13 → P 14 → P 15 → (r : ℕ) → r < 16 → P r
+sixteen P a b c d e f g h i j k l m n o p zero z = a
+sixteen P a b c d e f g h i j k l m n o p (suc zero) z = b
+sixteen P a b c d e f g h i j k l m n o p (suc (suc zero)) z = c
+sixteen P a b c d e f g h i j k l m n o p (suc (suc (suc zero))) z = d
+sixteen P a b c d e f g h i j k l m n o p (suc (suc (suc (suc zero)))) z = e
+sixteen P a b c d e f g h i j k l m n o p (suc (suc (suc (suc (suc zero))))) z = f
+sixteen P a b c d e f g h i j k l m n o p (suc (suc (suc (suc (suc (suc zero)))))) z = g
+sixteen P a b c d e f g h i j k l m n o p (suc (suc (suc (suc (suc (suc (suc zero))))))) z = h
+sixteen P a b c d e f g h i j k l m n o p (suc (suc (suc (suc (suc (suc (suc (suc zero)))))))) z = i
+sixteen P a b c d e f g h i j k l m n o p (suc (suc (suc (suc (suc (suc (suc (suc (suc zero))))))))) z = j
+sixteen P a b c d e f g h i j k l m n o p (suc (suc (suc (suc (suc (suc (suc (suc (suc (suc zero)))))))))) z = k
+sixteen P a b c d e f g h i j k l m n o p (suc (suc (suc (suc (suc (suc (suc (suc (suc (suc (suc zero))))))))))) z = l
+sixteen P a b c d e f g h i j k l m n o p (suc (suc (suc (suc (suc (suc (suc (suc (suc (suc (suc (suc zero)))))))))))) z = m
+sixteen P a b c d e f g h i j k l m n o p (suc (suc (suc (suc (suc (suc (suc (suc (suc (suc (suc (suc (suc zero))))))))))))) z = n
+sixteen P a b c d e f g h i j k l m n o p (suc (suc (suc (suc (suc (suc (suc (suc (suc (suc (suc (suc (suc (suc zero)))))))))))))) z = o
+sixteen P a b c d e f g h i j k l m n o p (suc (suc (suc (suc (suc (suc (suc (suc (suc (suc (suc (suc (suc (suc (suc zero))))))))))))))) z = p
+sixteen P a b c d e f g h i j k l m n o p (suc (suc (suc (suc (suc (suc (suc (suc (suc (suc (suc (suc (suc (suc (suc (suc r)))))))))))))))) zz = absurd (omega arith)
 
-not_0f : (p op : ℕ) (bs : List ℕ) → 16 ≤ op → behind_rex p (op ∷ bs) ≡ by_opcode p op bs
-not_0f p op bs h = other op 15 (behind (one bs) (by_opcode_0f p)) (by_opcode p op bs) (λ e. omega arith)
+push : (rest : List ℕ) (r : ℕ) → r < 16 → read (bytes_of (instr.Push r) ++ rest) ≡ Some (instr.Push r, rest)
+push rest = sixteen (λ r. read (bytes_of (instr.Push r) ++ rest) ≡ Some (instr.Push r, rest)) refl refl refl refl refl refl refl refl refl refl refl refl refl refl refl refl
 
-push : (r : ℕ) (rest : List ℕ) → r < 16 → read (rex W32 0 r ∷ (80 + r % 8) ∷ rest) ≡ Some (instr.Push r, rest)
-push r rest h =
-    let p = rex W32 0 r in
-    let op = 80 + r % 8 in
-    let b = (rex_bits W32 0 0 r).b in
-    let e : base_of p op ≡ r = omega arith in
-    at_rex W32 0 0 r (op ∷ rest) ∙ not_0f p op rest (omega arith) ∙ by_high p op 10 rest (omega arith) ∙ ap (λ n. Some (instr.Push n, rest)) e
+pop : (rest : List ℕ) (r : ℕ) → r < 16 → read (bytes_of (instr.Pop r) ++ rest) ≡ Some (instr.Pop r, rest)
+pop rest = sixteen (λ r. read (bytes_of (instr.Pop r) ++ rest) ≡ Some (instr.Pop r, rest)) refl refl refl refl refl refl refl refl refl refl refl refl refl refl refl refl
 
-pop : (r : ℕ) (rest : List ℕ) → r < 16 → read (rex W32 0 r ∷ (88 + r % 8) ∷ rest) ≡ Some (instr.Pop r, rest)
-pop r rest h =
-    let p = rex W32 0 r in
-    let op = 88 + r % 8 in
-    let b = (rex_bits W32 0 0 r).b in
-    let e : base_of p op ≡ r = omega arith in
-    at_rex W32 0 0 r (op ∷ rest) ∙ not_0f p op rest (omega arith) ∙ by_high p op 11 rest (omega arith) ∙ ap (λ n. Some (instr.Pop n, rest)) e
+move_imm : (bs : List ℕ) (r : ℕ) → r < 16 → read (prefix W32 0 r ++ (184 + r % 8) ∷ bs) ≡ behind (four_bytes bs) (λ imm. whole (instr.MovImm r imm))
+move_imm bs = sixteen (λ r. read (prefix W32 0 r ++ (184 + r % 8) ∷ bs) ≡ behind (four_bytes bs) (λ imm. whole (instr.MovImm r imm))) refl refl refl refl refl refl refl refl refl refl refl refl refl refl refl refl
 
--- of 32 bits or 64
-abbrev moved : Width → ℕ → List ℕ → Reading Instr
-moved W32 r bs = behind (four_bytes bs) (λ imm. whole (instr.MovImm r imm))
-moved W64 r bs = behind (eight_bytes bs) (λ imm. whole (instr.MovWide r imm))
+move_wide : (bs : List ℕ) (r : ℕ) → r < 16 → read (prefix W64 0 r ++ (184 + r % 8) ∷ bs) ≡ behind (eight_bytes bs) (λ imm. whole (instr.MovWide r imm))
+move_wide bs = sixteen (λ r. read (prefix W64 0 r ++ (184 + r % 8) ∷ bs) ≡ behind (eight_bytes bs) (λ imm. whole (instr.MovWide r imm))) refl refl refl refl refl refl refl refl refl refl refl refl refl refl refl refl
 
-move_is : (p : ℕ) (w : Width) (r s : ℕ) (bs : List ℕ) → width_of p ≡ w → r ≡ s → move_number p r bs ≡ moved w s bs
-move_is p W32 r s bs e f =
-    ap₂ (λ v n. elim v as (λ w. Reading Instr) [ W32 ↦ behind (four_bytes bs) (λ imm. whole (instr.MovImm n imm)) | W64 ↦ behind (eight_bytes bs) (λ imm. whole (instr.MovWide n imm)) ]) e f
-move_is p W64 r s bs e f =
-    ap₂ (λ v n. elim v as (λ w. Reading Instr) [ W32 ↦ behind (four_bytes bs) (λ imm. whole (instr.MovImm n imm)) | W64 ↦ behind (eight_bytes bs) (λ imm. whole (instr.MovWide n imm)) ]) e f
+swap : (w : Width) (rest : List ℕ) (r : ℕ) → r < 16 → read (bytes_of (instr.Swap w r) ++ rest) ≡ Some (instr.Swap w r, rest)
+swap W32 rest = sixteen (λ r. read (bytes_of (instr.Swap W32 r) ++ rest) ≡ Some (instr.Swap W32 r, rest)) refl refl refl refl refl refl refl refl refl refl refl refl refl refl refl refl
+swap W64 rest = sixteen (λ r. read (bytes_of (instr.Swap W64 r) ++ rest) ≡ Some (instr.Swap W64 r, rest)) refl refl refl refl refl refl refl refl refl refl refl refl refl refl refl refl
 
-move_imm : (w : Width) (r : ℕ) (bs : List ℕ) → r < 16 → read (rex w 0 r ∷ (184 + r % 8) ∷ bs) ≡ moved w r bs
-move_imm w r bs h =
-    let p = rex w 0 r in
-    let op = 184 + r % 8 in
-    let b = (rex_bits w 0 0 r).b in
-    let e : base_of p op ≡ r = omega arith in
-    at_rex w 0 0 r (op ∷ bs) ∙ not_0f p op bs (omega arith) ∙ by_high p op 23 bs (omega arith) ∙ move_is p w (base_of p op) r bs (rex_bits w 0 0 r).width e
-
-swap : (w : Width) (r : ℕ) (rest : List ℕ) → r < 16 → read (rex w 0 r ∷ 15 ∷ (200 + r % 8) ∷ rest) ≡ Some (instr.Swap w r, rest)
-swap w r rest h =
-    let p = rex w 0 r in
-    let op = 200 + r % 8 in
-    let b = (rex_bits w 0 0 r).b in
-    let e : base_of p op ≡ r = omega arith in
-    let high : op / 8 ≡ 25 = omega arith in
-    at_rex w 0 0 r (15 ∷ op ∷ rest)
-    ∙ ap (λ n. if n == 25 then whole (instr.Swap (width_of p) (base_of p op)) rest else behind (modrm p rest) (λ (n, place). by_place_0f op (width_of p) n place)) high
-    ∙ ap₂ (λ v n. Some (instr.Swap v n, rest)) (rex_bits w 0 0 r).width e
+spread_over : (w : Width) (rest : List ℕ) → read (bytes_of (instr.Spread w) ++ rest) ≡ Some (instr.Spread w, rest)
+spread_over W32 rest = refl
+spread_over W64 rest = refl
 
 -- ---- forms
 
 alu_two : (a : Alu) (w : Width) (to from : ℕ) (rest : List ℕ) → to < 16 → from < 16 → read (bytes_of (instr.Alu a w to from) ++ rest) ≡ Some (instr.Alu a w to from, rest)
-alu_two alu.Add w to from rest h k = registers 1 w from to rest (λ p bs. refl) k h
-alu_two alu.Or w to from rest h k = registers 9 w from to rest (λ p bs. refl) k h
-alu_two alu.And w to from rest h k = registers 33 w from to rest (λ p bs. refl) k h
-alu_two alu.Sub w to from rest h k = registers 41 w from to rest (λ p bs. refl) k h
-alu_two alu.Xor w to from rest h k = registers 49 w from to rest (λ p bs. refl) k h
-alu_two alu.Cmp w to from rest h k = registers 57 w from to rest (λ p bs. refl) k h
+alu_two alu.Add w to from rest h k = registers 1 w from to rest (λ p bs. refl) (λ bs. refl) k h
+alu_two alu.Or w to from rest h k = registers 9 w from to rest (λ p bs. refl) (λ bs. refl) k h
+alu_two alu.And w to from rest h k = registers 33 w from to rest (λ p bs. refl) (λ bs. refl) k h
+alu_two alu.Sub w to from rest h k = registers 41 w from to rest (λ p bs. refl) (λ bs. refl) k h
+alu_two alu.Xor w to from rest h k = registers 49 w from to rest (λ p bs. refl) (λ bs. refl) k h
+alu_two alu.Cmp w to from rest h k = registers 57 w from to rest (λ p bs. refl) (λ bs. refl) k h
 
 alu_number : (small : Bool) (a : Alu) (w : Width) (to imm : ℕ) (rest : List ℕ) → to < 16 → imm < 2 ^ 32 → is_small imm ≡ small
     → read ((if small then with_two w 131 (op_number a) to ++ imm % 256 ∷ [] else with_two w 129 (op_number a) to ++ le_bytes 4 imm) ++ rest) ≡ Some (instr.AluImm a w to imm, rest)
 alu_number true a w to imm rest h k s =
-    registers 131 w (op_number a) to (imm % 256 ∷ rest) (λ p bs. refl) (op_low a) h
+    registers_then 131 w (op_number a) to (imm % 256 ∷ []) rest (λ p bs. refl) (λ bs. refl) (op_low a) h
     ∙ ap (λ o. with_op o (λ a. behind (signed_byte (imm % 256 ∷ rest)) (λ imm. whole (instr.AluImm a w to imm)))) (alu_again a)
     ∙ ap (λ v. Some (instr.AluImm a w to v, rest)) (spread_small imm k s)
 alu_number false a w to imm rest h k s =
-    registers 129 w (op_number a) to (le_bytes 4 imm ++ rest) (λ p bs. refl) (op_low a) h
+    registers_then 129 w (op_number a) to (le_bytes 4 imm) rest (λ p bs. refl) (λ bs. refl) (op_low a) h
     ∙ ap (λ o. with_op o (λ a. behind (four_bytes (le_bytes 4 imm ++ rest)) (λ imm. whole (instr.AluImm a w to imm)))) (alu_again a)
     ∙ word_behind imm rest (λ imm. instr.AluImm a w to imm) k
 
 extended : (x : Extension) (to from : ℕ) (rest : List ℕ) → to < 16 → from < 16 → read (bytes_of (instr.MovSx x to from) ++ rest) ≡ Some (instr.MovSx x to from, rest)
-extended extension.W32From8 to from rest h k = registers_0f 190 W32 to from rest (λ p bs. refl) h k
-extended extension.W32From16 to from rest h k = registers_0f 191 W32 to from rest (λ p bs. refl) h k
-extended extension.W64From8 to from rest h k = registers_0f 190 W64 to from rest (λ p bs. refl) h k
-extended extension.W64From16 to from rest h k = registers_0f 191 W64 to from rest (λ p bs. refl) h k
-extended extension.W64From32 to from rest h k = registers 99 W64 to from rest (λ p bs. refl) h k
+extended extension.W32From8 to from rest h k =
+    let x = rex_bits W32 to 0 from in
+    let bs = two to from ∷ rest in
+    ap read (append_assoc (byte_prefix from to from) (15 ∷ 190 ∷ two to from ∷ []) rest)
+    ∙ prefixed_byte from to from (15 ∷ 190 ∷ bs) refl
+    ∙ by_modrm_0f 190 W32 to 0 from bs rest (Register from) (λ p bs. refl) (modrm_two (rex W32 to from) to from rest x.r x.b h k)
+extended extension.W32From16 to from rest h k = registers_0f 191 W32 to from rest (λ p bs. refl) (λ bs. refl) h k
+extended extension.W64From8 to from rest h k = registers_0f 190 W64 to from rest (λ p bs. refl) (λ bs. refl) h k
+extended extension.W64From16 to from rest h k = registers_0f 191 W64 to from rest (λ p bs. refl) (λ bs. refl) h k
+extended extension.W64From32 to from rest h k = registers 99 W64 to from rest (λ p bs. refl) (λ bs. refl) h k
 
 times : (w : Width) (to from : ℕ) (rest : List ℕ) → to < 16 → from < 16 → read (bytes_of (instr.Mul w to from) ++ rest) ≡ Some (instr.Mul w to from, rest)
-times W32 to from rest h k = registers_0f 175 W32 to from rest (λ p bs. refl) h k
-times W64 to from rest h k = registers_0f 175 W64 to from rest (λ p bs. refl) h k
+times W32 to from rest h k = registers_0f 175 W32 to from rest (λ p bs. refl) (λ bs. refl) h k
+times W64 to from rest h k = registers_0f 175 W64 to from rest (λ p bs. refl) (λ bs. refl) h k
 
 shifted : (s : Shift) (w : Width) (to count : ℕ) (rest : List ℕ) → to < 16 → count < 2 ^ 8 → read (bytes_of (instr.Shift s w to count) ++ rest) ≡ Some (instr.Shift s w to count, rest)
 shifted s w to count rest h k =
     let e : count % 256 ≡ count = omega arith in
-    registers 193 w (shift_number s) to (count % 256 ∷ rest) (λ p bs. refl) (shift_low s) h
+    registers_then 193 w (shift_number s) to (count % 256 ∷ []) rest (λ p bs. refl) (λ bs. refl) (shift_low s) h
     ∙ ap (λ o. with_op o (λ s. behind (one (count % 256 ∷ rest)) (λ count. whole (instr.Shift s w to count)))) (shift_again s)
     ∙ ap (λ n. Some (instr.Shift s w to n, rest)) e
 
 shifted_by : (s : Shift) (w : Width) (to : ℕ) (rest : List ℕ) → to < 16 → read (bytes_of (instr.ShiftBy s w to) ++ rest) ≡ Some (instr.ShiftBy s w to, rest)
 shifted_by s w to rest h =
-    registers 211 w (shift_number s) to rest (λ p bs. refl) (shift_low s) h
+    registers 211 w (shift_number s) to rest (λ p bs. refl) (λ bs. refl) (shift_low s) h
     ∙ ap (λ o. with_op o (λ s. whole (instr.ShiftBy s w to) rest)) (shift_again s)
 
 loaded : (z : Size) (to base disp : ℕ) (rest : List ℕ) → to < 16 → base < 16 → disp < 2 ^ 32 → read (bytes_of (instr.Load z to base disp) ++ rest) ≡ Some (instr.Load z to base disp, rest)
-loaded size.Byte to base disp rest h k l = in_memory_0f 182 W32 to base disp rest (λ p bs. refl) h k l
-loaded size.Half to base disp rest h k l = in_memory_0f 183 W32 to base disp rest (λ p bs. refl) h k l
-loaded size.Word to base disp rest h k l = in_memory 139 W32 to base disp rest (λ p bs. refl) h k l
-loaded size.Double to base disp rest h k l = in_memory 139 W64 to base disp rest (λ p bs. refl) h k l
+loaded size.Byte to base disp rest h k l = in_memory_0f 182 W32 to base disp rest (λ p bs. refl) (λ bs. refl) h k l
+loaded size.Half to base disp rest h k l = in_memory_0f 183 W32 to base disp rest (λ p bs. refl) (λ bs. refl) h k l
+loaded size.Word to base disp rest h k l = in_memory 139 W32 to base disp rest (λ p bs. refl) (λ bs. refl) h k l
+loaded size.Double to base disp rest h k l = in_memory 139 W64 to base disp rest (λ p bs. refl) (λ bs. refl) h k l
 
 loaded_signed : (z : SignedSize) (to base disp : ℕ) (rest : List ℕ) → to < 16 → base < 16 → disp < 2 ^ 32 → read (bytes_of (instr.LoadSx z to base disp) ++ rest) ≡ Some (instr.LoadSx z to base disp, rest)
-loaded_signed signed.Byte to base disp rest h k l = in_memory_0f 190 W64 to base disp rest (λ p bs. refl) h k l
-loaded_signed signed.Half to base disp rest h k l = in_memory_0f 191 W64 to base disp rest (λ p bs. refl) h k l
-loaded_signed signed.Word to base disp rest h k l = in_memory 99 W64 to base disp rest (λ p bs. refl) h k l
+loaded_signed signed.Byte to base disp rest h k l = in_memory_0f 190 W64 to base disp rest (λ p bs. refl) (λ bs. refl) h k l
+loaded_signed signed.Half to base disp rest h k l = in_memory_0f 191 W64 to base disp rest (λ p bs. refl) (λ bs. refl) h k l
+loaded_signed signed.Word to base disp rest h k l = in_memory 99 W64 to base disp rest (λ p bs. refl) (λ bs. refl) h k l
 
 stored : (z : Size) (base disp from : ℕ) (rest : List ℕ) → base < 16 → disp < 2 ^ 32 → from < 16 → read (bytes_of (instr.Store z base disp from) ++ rest) ≡ Some (instr.Store z base disp from, rest)
-stored size.Byte base disp from rest k l h = in_memory 136 W32 from base disp rest (λ p bs. refl) h k l
-stored size.Half base disp from rest k l h = half_memory from base disp 137 rest h k l
-stored size.Word base disp from rest k l h = in_memory 137 W32 from base disp rest (λ p bs. refl) h k l
-stored size.Double base disp from rest k l h = in_memory 137 W64 from base disp rest (λ p bs. refl) h k l
+stored size.Byte base disp from rest k l h =
+    let x = rex_bits W32 from 0 base in
+    let m = memory from base disp in
+    ap read (append_assoc (byte_prefix from from base) (136 ∷ m) rest)
+    ∙ prefixed_byte from from base (136 ∷ (m ++ rest)) refl
+    ∙ by_modrm 136 W32 from 0 base (m ++ rest) rest (Memory base disp) (λ p bs. refl) (modrm_memory (rex W32 from base) from base disp rest x.r x.x x.b h k l)
+stored size.Half base disp from rest k l h = half_memory from base disp 137 rest (λ bs. refl) h k l
+stored size.Word base disp from rest k l h = in_memory 137 W32 from base disp rest (λ p bs. refl) (λ bs. refl) h k l
+stored size.Double base disp from rest k l h = in_memory 137 W64 from base disp rest (λ p bs. refl) (λ bs. refl) h k l
 
 stored_number : (z : Size) (base disp imm : ℕ) (rest : List ℕ) → base < 16 → disp < 2 ^ 32 → IsNumberOf z imm → read (bytes_of (instr.StoreImm z base disp imm) ++ rest) ≡ Some (instr.StoreImm z base disp imm, rest)
 stored_number size.Byte base disp imm rest k l h =
     let e : imm % 256 ≡ imm = omega arith in
     ap read (append_assoc (with_memory W32 198 0 base disp) (le_bytes 1 imm) rest)
-    ∙ in_memory 198 W32 0 base disp (imm % 256 ∷ rest) (λ p bs. refl) (omega arith) k l
+    ∙ in_memory 198 W32 0 base disp (imm % 256 ∷ rest) (λ p bs. refl) (λ bs. refl) (omega arith) k l
     ∙ ap (λ n. Some (instr.StoreImm size.Byte base disp n, rest)) e
 stored_number size.Half base disp imm rest k l h =
     ap read (append_assoc (102 ∷ with_memory W32 199 0 base disp) (le_bytes 2 imm) rest)
-    ∙ half_memory 0 base disp 199 (le_bytes 2 imm ++ rest) (omega arith) k l
+    ∙ half_memory 0 base disp 199 (le_bytes 2 imm ++ rest) (λ bs. refl) (omega arith) k l
     ∙ ap (λ z. behind z (λ imm. whole (instr.StoreImm size.Half base disp imm))) (read_two imm rest h)
 stored_number size.Word base disp imm rest k l h =
     ap read (append_assoc (with_memory W32 199 0 base disp) (le_bytes 4 imm) rest)
-    ∙ in_memory 199 W32 0 base disp (le_bytes 4 imm ++ rest) (λ p bs. refl) (omega arith) k l
+    ∙ in_memory 199 W32 0 base disp (le_bytes 4 imm ++ rest) (λ p bs. refl) (λ bs. refl) (omega arith) k l
     ∙ word_behind imm rest (λ imm. instr.StoreImm size.Word base disp imm) h
 stored_number size.Double base disp imm rest k l h =
     ap read (append_assoc (with_memory W64 199 0 base disp) (le_bytes 4 imm) rest)
-    ∙ in_memory 199 W64 0 base disp (le_bytes 4 imm ++ rest) (λ p bs. refl) (omega arith) k l
+    ∙ in_memory 199 W64 0 base disp (le_bytes 4 imm ++ rest) (λ p bs. refl) (λ bs. refl) (omega arith) k l
     ∙ word_behind imm rest (λ imm. instr.StoreImm size.Double base disp imm) h
 
 indexed : (to base index disp : ℕ) (rest : List ℕ) → to < 16 → base < 16 → index < 16 → index ≢ 4 → disp < 2 ^ 32 → read (bytes_of (instr.LeaBy to base index disp) ++ rest) ≡ Some (instr.LeaBy to base index disp, rest)
 indexed to base index disp rest h k i ne l =
     let x = rex_bits W64 to index base in
-    by_modrm 141 W64 to index base (memory_by to base index disp ++ rest) rest (MemoryBy base index disp) (λ p bs. refl)
+    at_rex W64 to index base (141 ∷ (memory_by to base index disp ++ rest))
+    ∙ by_modrm 141 W64 to index base (memory_by to base index disp ++ rest) rest (MemoryBy base index disp) (λ p bs. refl)
     (modrm_memory_by (rex_by W64 to index base) to base index disp rest x.r x.x x.b h k i ne l)
 
 short_if : (x : Condition) (distance : ℕ) (rest : List ℕ) → read (bytes_of (instr.JumpIfShort x distance) ++ rest) ≡ Some (instr.JumpIfShort x (distance % 256), rest)
@@ -291,48 +328,58 @@ short_if condition.GreaterEqual distance rest = refl
 short_if condition.LessEqual distance rest = refl
 short_if condition.Greater distance rest = refl
 
+long_if : (x : Condition) (distance : ℕ) (rest : List ℕ) → distance < 2 ^ 32 → read (bytes_of (instr.JumpIf x distance) ++ rest) ≡ Some (instr.JumpIf x distance, rest)
+long_if condition.Below distance rest h = word_behind distance rest (λ d. instr.JumpIf condition.Below d) h
+long_if condition.AboveEqual distance rest h = word_behind distance rest (λ d. instr.JumpIf condition.AboveEqual d) h
+long_if condition.Equal distance rest h = word_behind distance rest (λ d. instr.JumpIf condition.Equal d) h
+long_if condition.NotEqual distance rest h = word_behind distance rest (λ d. instr.JumpIf condition.NotEqual d) h
+long_if condition.BelowEqual distance rest h = word_behind distance rest (λ d. instr.JumpIf condition.BelowEqual d) h
+long_if condition.Above distance rest h = word_behind distance rest (λ d. instr.JumpIf condition.Above d) h
+long_if condition.Less distance rest h = word_behind distance rest (λ d. instr.JumpIf condition.Less d) h
+long_if condition.GreaterEqual distance rest h = word_behind distance rest (λ d. instr.JumpIf condition.GreaterEqual d) h
+long_if condition.LessEqual distance rest h = word_behind distance rest (λ d. instr.JumpIf condition.LessEqual d) h
+long_if condition.Greater distance rest h = word_behind distance rest (λ d. instr.JumpIf condition.Greater d) h
+
 -- each instruction is read in its bytes
 pub reads_back : ReadsBack
-reads_back (instr.Mov w to from) rest h = registers 137 w from to rest (λ p bs. refl) h.1 h.0
-reads_back (instr.MovImm to imm) rest h = move_imm W32 to (le_bytes 4 imm ++ rest) h.0 ∙ word_behind imm rest (λ imm. instr.MovImm to imm) h.1
-reads_back (instr.MovSigned to imm) rest h = registers 199 W64 0 to (le_bytes 4 imm ++ rest) (λ p bs. refl) (omega arith) h.0 ∙ word_behind imm rest (λ imm. instr.MovSigned to imm) h.1
-reads_back (instr.MovWide to imm) rest h = move_imm W64 to (le_bytes 8 imm ++ rest) h.0 ∙ ap (λ z. behind z (λ imm. whole (instr.MovWide to imm))) (read_eight imm rest h.1)
+reads_back (instr.Mov w to from) rest h = registers 137 w from to rest (λ p bs. refl) (λ bs. refl) h.1 h.0
+reads_back (instr.MovImm to imm) rest h = ap read (append_assoc (prefix W32 0 to) ((184 + to % 8) ∷ le_bytes 4 imm) rest) ∙ move_imm (le_bytes 4 imm ++ rest) to h.0 ∙ word_behind imm rest (λ imm. instr.MovImm to imm) h.1
+reads_back (instr.MovSigned to imm) rest h = registers_then 199 W64 0 to (le_bytes 4 imm) rest (λ p bs. refl) (λ bs. refl) (omega arith) h.0 ∙ word_behind imm rest (λ imm. instr.MovSigned to imm) h.1
+reads_back (instr.MovWide to imm) rest h = move_wide (le_bytes 8 imm ++ rest) to h.0 ∙ ap (λ z. behind z (λ imm. whole (instr.MovWide to imm))) (read_eight imm rest h.1)
 reads_back (instr.MovSx x to from) rest h = extended x to from rest h.0 h.1
-reads_back (instr.MovZx to from) rest h = registers_0f 183 W32 to from rest (λ p bs. refl) h.0 h.1
+reads_back (instr.MovZx to from) rest h = registers_0f 183 W32 to from rest (λ p bs. refl) (λ bs. refl) h.0 h.1
 reads_back (instr.Alu op w to from) rest h = alu_two op w to from rest h.0 h.1
 reads_back (instr.AluImm op w to imm) rest h = alu_number (is_small imm) op w to imm rest h.0 h.1 refl
-reads_back (instr.Test w a b) rest h = registers 133 w b a rest (λ p bs. refl) h.1 h.0
-reads_back (instr.TestImm w a imm) rest h = registers 247 w 0 a (le_bytes 4 imm ++ rest) (λ p bs. refl) (omega arith) h.0 ∙ word_behind imm rest (λ imm. instr.TestImm w a imm) h.1
+reads_back (instr.Test w a b) rest h = registers 133 w b a rest (λ p bs. refl) (λ bs. refl) h.1 h.0
+reads_back (instr.TestImm w a imm) rest h = registers_then 247 w 0 a (le_bytes 4 imm) rest (λ p bs. refl) (λ bs. refl) (omega arith) h.0 ∙ word_behind imm rest (λ imm. instr.TestImm w a imm) h.1
 reads_back (instr.Mul w to from) rest h = times w to from rest h.0 h.1
-reads_back (instr.MulImm w to from imm) rest h = registers 105 w to from (le_bytes 4 imm ++ rest) (λ p bs. refl) h.0 h.1 ∙ word_behind imm rest (λ imm. instr.MulImm w to from imm) h.2
-reads_back (instr.Neg w to) rest h = registers 247 w 3 to rest (λ p bs. refl) (omega arith) h
+reads_back (instr.MulImm w to from imm) rest h = registers_then 105 w to from (le_bytes 4 imm) rest (λ p bs. refl) (λ bs. refl) h.0 h.1 ∙ word_behind imm rest (λ imm. instr.MulImm w to from imm) h.2
+reads_back (instr.Neg w to) rest h = registers 247 w 3 to rest (λ p bs. refl) (λ bs. refl) (omega arith) h
 reads_back (instr.Shift op w to count) rest h = shifted op w to count rest h.0 h.1
 reads_back (instr.ShiftBy op w to) rest h = shifted_by op w to rest h
-reads_back (instr.SwapLow to) rest h = half_register 0 to 193 (8 ∷ rest) (omega arith) h
-reads_back (instr.Swap w to) rest h = swap w to rest h
-reads_back (instr.Div w by) rest h = registers 247 w 6 by rest (λ p bs. refl) (omega arith) h
-reads_back (instr.SignedDiv w by) rest h = registers 247 w 7 by rest (λ p bs. refl) (omega arith) h
-reads_back (instr.Spread w) rest h = at_rex w 0 0 0 (153 ∷ rest) ∙ ap (λ v. Some (instr.Spread v, rest)) (rex_bits w 0 0 0).width
+reads_back (instr.SwapLow to) rest h = ap (λ l. read (102 ∷ l)) (append_assoc (with_two W32 193 0 to) (8 ∷ []) rest) ∙ half_register 0 to 193 (8 ∷ rest) (λ bs. refl) (omega arith) h
+reads_back (instr.Swap w to) rest h = swap w rest to h
+reads_back (instr.Div w by) rest h = registers 247 w 6 by rest (λ p bs. refl) (λ bs. refl) (omega arith) h
+reads_back (instr.SignedDiv w by) rest h = registers 247 w 7 by rest (λ p bs. refl) (λ bs. refl) (omega arith) h
+reads_back (instr.Spread w) rest h = spread_over w rest
 reads_back (instr.Load z to base disp) rest h = loaded z to base disp rest h.0 h.1 h.2
 reads_back (instr.LoadSx z to base disp) rest h = loaded_signed z to base disp rest h.0 h.1 h.2
 reads_back (instr.Store z base disp from) rest h = stored z base disp from rest h.0 h.1 h.2
 reads_back (instr.StoreImm z base disp imm) rest h = stored_number z base disp imm rest h.0 h.1 h.2
-reads_back (instr.LoadLong base disp) rest h = in_memory_0f 16 W32 0 base disp rest (λ p bs. refl) (omega arith) h.0 h.1
-reads_back (instr.StoreLong base disp) rest h = in_memory_0f 17 W32 0 base disp rest (λ p bs. refl) (omega arith) h.0 h.1
-reads_back (instr.Lea to base disp) rest h = in_memory 141 W64 to base disp rest (λ p bs. refl) h.0 h.1 h.2
+reads_back (instr.LoadLong base disp) rest h = in_memory_0f 16 W32 0 base disp rest (λ p bs. refl) (λ bs. refl) (omega arith) h.0 h.1
+reads_back (instr.StoreLong base disp) rest h = in_memory_0f 17 W32 0 base disp rest (λ p bs. refl) (λ bs. refl) (omega arith) h.0 h.1
+reads_back (instr.Lea to base disp) rest h = in_memory 141 W64 to base disp rest (λ p bs. refl) (λ bs. refl) h.0 h.1 h.2
 reads_back (instr.LeaBy to base index disp) rest h = indexed to base index disp rest h.0 h.1 h.2 h.3 h.4
 reads_back (instr.Jump distance) rest h = word_behind distance rest (λ distance. instr.Jump distance) h
-reads_back (instr.JumpIf x distance) rest h =
-    ap (λ o. with_op o (λ x. behind (four_bytes (le_bytes 4 distance ++ rest)) (λ distance. whole (instr.JumpIf x distance)))) (condition_again x)
-    ∙ word_behind distance rest (λ distance. instr.JumpIf x distance) h
+reads_back (instr.JumpIf x distance) rest h = long_if x distance rest h
 reads_back (instr.JumpShort distance) rest h =
     let e : distance % 256 ≡ distance = omega arith in
     ap (λ d. Some (instr.JumpShort d, rest)) e
 reads_back (instr.JumpIfShort x distance) rest h =
     let e : distance % 256 ≡ distance = omega arith in
     short_if x distance rest ∙ ap (λ d. Some (instr.JumpIfShort x d, rest)) e
-reads_back (instr.Push r) rest h = push r rest h
-reads_back (instr.Pop r) rest h = pop r rest h
+reads_back (instr.Push r) rest h = push rest r h
+reads_back (instr.Pop r) rest h = pop rest r h
 reads_back instr.CopyBytes rest h = refl
 reads_back instr.Return rest h = refl
 

@@ -207,7 +207,7 @@ by_place_66 op n (MemoryBy base index d) bs = None
 abbrev pub move_number : ℕ → ℕ → List ℕ → Reading Instr
 move_number p r bs = elim (width_of p) as (λ w. Reading Instr) [ W32 ↦ behind (four_bytes bs) (λ imm. whole (instr.MovImm r imm)) | W64 ↦ behind (eight_bytes bs) (λ imm. whole (instr.MovWide r imm)) ]
 
--- an opcode of one byte behind a REX; the low three bits of 50, 58 and B8 are a register
+-- an opcode of one byte, by its REX; the low three bits of 50, 58 and B8 are a register
 abbrev pub by_opcode : ℕ → ℕ → List ℕ → Reading Instr
 by_opcode p op bs =
     if op / 8 == 10 then whole (instr.Push (base_of p op)) bs  -- 50+r
@@ -226,10 +226,23 @@ abbrev pub behind_rex : ℕ → List ℕ → Reading Instr
 behind_rex p bs =
     behind (one bs) (λ op bs. if op == 15 then behind (one bs) (by_opcode_0f p) else by_opcode p op bs)
 
+-- without a REX all is as behind one that says nothing
+abbrev pub no_rex : ℕ
+no_rex = 64
+
 -- behind 66
+abbrev pub by_opcode_66 : ℕ → ℕ → List ℕ → Reading Instr
+by_opcode_66 p op bs = behind (modrm p bs) (λ (n, place). by_place_66 op n place)
+
 abbrev pub behind_66 : List ℕ → Reading Instr
 behind_66 bs =
-    behind (one bs) (λ p bs. behind (one bs) (λ op bs. behind (modrm p bs) (λ (n, place). by_place_66 op n place)))
+    behind (one bs) (λ b bs. if is_rex b then behind (one bs) (by_opcode_66 b) else by_opcode_66 no_rex b bs)
+
+-- behind 0F without a REX, where jumps are too
+abbrev pub behind_0f : ℕ → List ℕ → Reading Instr
+behind_0f b bs =
+    if b / 16 == 8 then with_op (condition_of (b - 128)) (λ x. behind (four_bytes bs) (λ distance. whole (instr.JumpIf x distance)))  -- 0F 80+cc cd
+    else by_opcode_0f no_rex b bs
 
 -- what has no REX
 abbrev pub without_rex : ℕ → List ℕ → Reading Instr
@@ -238,10 +251,10 @@ without_rex b bs =
     else if b == 233 then behind (four_bytes bs) (λ distance. whole (instr.Jump distance))  -- E9 cd
     else if b == 235 then behind (one bs) (λ distance. whole (instr.JumpShort distance))  -- EB cb
     else if b / 16 == 7 then with_op (condition_of (b - 112)) (λ x. behind (one bs) (λ distance. whole (instr.JumpIfShort x distance)))  -- 70+cc cb
-    else if b == 15 then behind (one bs) (λ c bs. with_op (condition_of (c - 128)) (λ x. behind (four_bytes bs) (λ distance. whole (instr.JumpIf x distance))))  -- 0F 80+cc cd
+    else if b == 15 then behind (one bs) behind_0f
     else if b == 243 then behind (one bs) (λ op bs. if op == 164 then whole instr.CopyBytes bs else None)  -- F3 A4
     else if b == 195 then whole instr.Return bs  -- C3
-    else None
+    else by_opcode no_rex b bs
 
 -- the instruction at the front, and the bytes behind it
 abbrev pub read : List ℕ → Reading Instr

@@ -1,4 +1,4 @@
-use Rattle.std.proofs.Common.{◌++◌, ap, ◌∙◌, sym, length, arith, subst, ◌<◌}
+use Rattle.std.proofs.Common.{◌++◌, ap, ◌∙◌, sym, length, arith, subst, ◌≤◌}
 use Rattle.native.specs.Code as specs
 use Rattle.native.proofs.Emitted.{call_is}
 use Rattle.native.proofs.Lengths.{good_few}
@@ -18,4 +18,4 @@ write_tests-requires c =
     let good = specs.good_of h c.args.at in
     let written = c.in_ok-write_good.ensures ∙ ap (λ l. l ++ specs.codes good) c.new-good.ensures.items in
     let size = c.len-size.ensures ∙ c.write_good.new.code.ok.0 ∙ ap length written in
-    subst (λ n. n < 1000) (sym size) (good_few h c.args.at)
+    subst (λ n. n ≤ 80) (sym size) (good_few h c.args.at)

@@ -36,14 +36,14 @@ returns-clause-short_jumps c = refl
 
 pub returns-clause-program : goal.returns-clause-program
 returns-clause-program c = (
-  instr.Jump 7,
+  instr.Jump 6,
   (refl, (refl, (refl, (refl, (refl, tt))))),
-  (instr.Jump 0xfffffff4, (refl, (refl, (refl, (refl, (refl, tt))))), (instr.MovImm 0 5, (refl, (refl, (refl, (refl, (refl, (refl, tt)))))), (instr.Return, (refl, tt), (refl, refl)))),
+  (instr.Jump 0xfffffff5, (refl, (refl, (refl, (refl, (refl, tt))))), (instr.MovImm 0 5, (refl, (refl, (refl, (refl, (refl, tt))))), (instr.Return, (refl, tt), (refl, refl)))),
 )
 
 pub returns-clause-short_program : goal.returns-clause-short_program
 returns-clause-short_program c = (
-  instr.JumpShort 7,
+  instr.JumpShort 6,
   (refl, (refl, tt)),
-  (instr.JumpShort 0xf7, (refl, (refl, tt)), (instr.MovImm 0 6, (refl, (refl, (refl, (refl, (refl, (refl, tt)))))), (instr.Return, (refl, tt), (refl, refl)))),
+  (instr.JumpShort 0xf8, (refl, (refl, tt)), (instr.MovImm 0 6, (refl, (refl, (refl, (refl, (refl, tt))))), (instr.Return, (refl, tt), (refl, refl)))),
 )
