@@ -233,6 +233,7 @@ SBLOG_SESSION_ASSERT(offsetof(sblog_session, at) == 0, "place of at");
 SBLOG_SESSION_ASSERT(offsetof(sblog_session, held) == 8, "place of held");
 #undef SBLOG_SESSION_ASSERT
 
+/* The images may be of form 1, 2 or 3, and of different forms side by side. */
 uint32_t sblog_session_open(const uint8_t *files, size_t files_len, const uint32_t *lengths,
                             size_t count, sblog_session *handle);
 uint32_t sblog_session_close(sblog_session *handle);

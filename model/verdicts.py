@@ -283,7 +283,7 @@ class Instruction:
 def accepted(data):
     """The image of a file and how many instructions it has. `Refused` has what is wrong with it."""
     try:
-        image = handlers.load(data)
+        image = handlers.load(data, forms=(1, 2))
     except handlers.LoadRefused as refused:
         raise Refused(f"load refused {refused}") from None
     starts = instructions_of(image)

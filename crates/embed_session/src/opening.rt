@@ -1,25 +1,26 @@
 //! Sessions of image files.
 
 ghost use Rattle.std.specs.Prelude.{◌≡◌, ◌≤◌, MatchResult, OnOk, IfErr, length, map};
-ghost use Rattle.std.specs.Arc.{arc_value};
+ghost use Rattle.handlers.specs.Image.{image_in};
 ghost use Rattle.embed_session.specs.Inside.Loading.{AreMore, IsUnread};
 ghost use Rattle.embed_session.specs.Opening.{IsImageIn, IsMisfit, IsOpened, IsRefused, IsUnopened};
 ghost use Rattle.embed_session.specs.Session.{Results};
 
 use crate::fault::Fault;
 use crate::handle::SessionHandle;
+use handlers::Handler;
 use limits::PROCESSES;
 use sessions::Service;
 use std::alloc::Global;
 use std::sync::Arc;
-use verifier::{Image, ImageError, load};
+use verifier::ImageError;
 use world::Refusal;
 
-/// The image of a file.
-fn image_of(alloc: Global, file: &[u8]) -> Result<Arc<Image>, Fault>
-    ensures { MatchResult result (λ image. IsImageIn file.now (arc_value image)) (IsUnread (IsRefused file.now)) }
+/// The handler of an image file.
+fn handler_of(alloc: Global, file: &[u8]) -> Result<Arc<Handler>, Fault>
+    ensures { MatchResult result (λ image. IsImageIn file.now (image_in image)) (IsUnread (IsRefused file.now)) }
 {
-    let image = match load(alloc, file) {
+    let image = match Handler::load(alloc, file) {
         Ok(image) => image,
         Err(ImageError::Memory) => return Err(Fault::Session(Refusal::Memory)),
         Err(_) => return Err(Fault::File),
@@ -35,9 +36,9 @@ fn load_each(
     alloc: Global,
     files: &[u8],
     lengths: &[u32],
-    images: &mut Vec<Arc<Image>>,
+    images: &mut Vec<Arc<Handler>>,
 ) -> Result<(), Fault>
-    ensures loaded { OnOk result (AreMore files.now lengths.now (map arc_value images.old.items) (map arc_value images.new.items)) }
+    ensures loaded { OnOk result (AreMore files.now lengths.now (map image_in images.old.items) (map image_in images.new.items)) }
     ensures refused { IfErr result (IsUnread (IsMisfit files.now lengths.now)) }
 {
     let Some((first, rest)) = lengths.split_first() else {
@@ -51,7 +52,7 @@ fn load_each(
         return Err(Fault::File);
     }
     let (file, others) = files.split_at(size);
-    let image = image_of(alloc, file)?;
+    let image = handler_of(alloc, file)?;
     if images.push(image).is_err() {
         return Err(Fault::Session(Refusal::Memory));
     }

@@ -2,6 +2,7 @@
 //! `model/sessions.py`, the codes by docs/EMBEDDING.md.
 
 mod greatest;
+mod ordinary_c;
 
 use crate::entry::Record;
 use crate::exports::*;

@@ -1,2 +1,3 @@
 pub mod Handler
+pub mod Image
 pub mod Answer

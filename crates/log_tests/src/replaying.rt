@@ -3,6 +3,7 @@
 ghost use Rattle.std.specs.Prelude.{◌≤◌};
 
 use super::logging;
+use handlers::Handler;
 use helpers::{Payload, Who};
 use limits::{PARTIES, PROCESSES};
 use replay::{Job, Plan, Spare, Ticket, collect, collect_from, resync};
@@ -11,7 +12,6 @@ use sender_log::Log;
 use std::alloc::Global;
 use std::sync::Arc;
 use std::test::Fail;
-use verifier::load;
 use world::Message;
 
 /// `mov r0, 0`, `exit`, for a state of no bytes.
@@ -95,7 +95,7 @@ fn replay_one(
     let Some((rsn, message)) = plan.next_job() else {
         return Ok(None);
     };
-    let image = load(alloc, &QUIET)?;
+    let image = Handler::load(alloc, &QUIET)?;
     let state = Vec::from_slice(alloc, &[0; 0])?;
     if image.state_len() != 0 || message.sender == 1 || message.sender > 2 {
         return Err("another image, or another sender")?;

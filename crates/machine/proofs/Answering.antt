@@ -1,20 +1,18 @@
 -- What the answer of a handler adds to the state and the log of its process
-use Rattle.std.proofs.Common.{◌≡◌, ℕ, ◌-◌, ◌<◌, ◌≤◌, List, [], ◌∷◌, ◌++◌, length, refl, sym, ap, ◌∙◌, subst, arith}
+use Rattle.std.proofs.Common.{◌≡◌, ℕ, ◌-◌, ◌≤◌, List, [], ◌∷◌, ◌++◌, length, sym, ap, ◌∙◌, subst, arith}
 use Rattle.std.specs.Prelude.{Option, Some, None, slice_index_or}
 use Rattle.sender_log.specs.Log.{IsDestination, queue_of}
-use Rattle.verifier.specs.Typed.{Typed}
-use Rattle.interp.specs.HandlerCall.{handled_by}
+use Rattle.handlers.specs.Answer.{answered, run_of, shown}
 use Rattle.replay.specs.Task.{TheTask, IsAnswer, answer_of, handled}
 use Rattle.world.specs.declared.message.Message.{Message}
 use Rattle.world.specs.declared.packet.Packet.{Packet}
 use Rattle.world.specs.History.{nth}
 use Rattle.world.specs.Handlers.{Handlers}
-use Rattle.world.specs.Fold.{handlers_of, emitted_to, seen}
+use Rattle.world.specs.Fold.{handlers_of, emitted_to}
 use Rattle.world.specs.World.{World}
 use Rattle.world.proofs.FoldLemmas.{handlers_of-push, sends-push}
 use Rattle.machine.specs.Outbox.{TheOutbox, Gives}
 use Rattle.machine.specs.Fields.{IsLogOf}
-use Rattle.machine.specs.Process.{TheProcess}
 use Rattle.machine.specs.Simulation.{TheMachine, Keeps, Shows, Stands, process_at}
 use Rattle.machine.specs.Jobs.{Matches}
 use Rattle.machine.proofs.JobLemmas.{nth-inside}
@@ -38,7 +36,7 @@ shows-packets m w s slots wire wire_is =
     }
 
 -- a process whose state is that of these messages: with the message of its job, they have the state and the sends that the handler gave
-module _ (m : TheMachine) (w : World) (s : Stands m w) (t : TheTask) (k : Matches m t) (a : IsAnswer t (answer_of t)) (sizes : length m.images ≡ length m.processes) (same_slots : (e : Typed) → (slice_index_or m.images (t.who.me - 1) e).slots ≡ t.image.slots)
+module _ (m : TheMachine) (w : World) (s : Stands m w) (t : TheTask) (k : Matches m t) (a : IsAnswer t (answer_of t)) (sizes : length m.images ≡ length m.processes)
     (g : List Message) (state_was : (process_at m t.who.me).state ≡ w.handlers.state t.who.me g) where
   abbrev me : ℕ
   me = t.who.me
@@ -49,14 +47,14 @@ module _ (m : TheMachine) (w : World) (s : Stands m w) (t : TheTask) (k : Matche
   abbrev gx : List Message
   gx = g ++ x ∷ []
 
-  answers : handled_by (slice_index_or m.images (me - 1) t.image).form (slice_index_or m.images (me - 1) t.image).slots (record { me = me; from = x.sender; count = length m.images }) ((handlers_of m.images).state me g) (seen (slice_index_or m.images (me - 1) t.image).form x.payload) ≡ Some (answer_of t)
+  answers : answered (slice_index_or m.images (me - 1) t.image) (record { me = me; from = x.sender; count = length m.images }) ((handlers_of m.images).state me g) x.payload ≡ Some (answer_of t)
   answers =
-      let slots_are = sym (same_slots t.image) in
+      let code_is = sym (k.code t.image) in
       let form_is = sym (k.form t.image) in
       let count_is : t.who.count ≡ length m.images = k.count ∙ sym sizes in
       let state_is : t.state ≡ (handlers_of m.images).state me g = sym k.state ∙ state_was ∙ ap (λ (f : Handlers). f.state me g) s.shows.handlers in
-      let same : handled t ≡ handled_by (slice_index_or m.images (me - 1) t.image).form (slice_index_or m.images (me - 1) t.image).slots (record { me = me; from = x.sender; count = length m.images }) ((handlers_of m.images).state me g) (seen (slice_index_or m.images (me - 1) t.image).form x.payload) =
-      λ i. handled_by (form_is i) (slots_are i) (record { me = me; from = k.from i; count = count_is i }) (state_is i) (seen (form_is i) x.payload) in
+      let same : handled t ≡ answered (slice_index_or m.images (me - 1) t.image) (record { me = me; from = x.sender; count = length m.images }) ((handlers_of m.images).state me g) x.payload =
+      λ i. run_of (form_is i) (code_is i) (record { me = me; from = k.from i; count = count_is i }) (state_is i) (shown (form_is i) x.payload) in
       sym same ∙ a.answers
 
   image_at : nth m.images me ≡ Some (slice_index_or m.images (me - 1) t.image)

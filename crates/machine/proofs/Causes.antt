@@ -1,23 +1,20 @@
 -- The causes of a refusal, as the machine's fields tell them
-use Rattle.std.proofs.Common.{◌≡◌, ◌≢◌, ℕ, zero, suc, ◌+◌, ◌-◌, ◌<◌, ◌≤◌, List, [], ◌∷◌, length, Bool, true, false, refl, sym, ap, ◌∙◌, arith}
+use Rattle.std.proofs.Common.{◌≡◌, ◌≢◌, ℕ, zero, suc, ◌+◌, ◌-◌, ◌<◌, ◌≤◌, List, [], ◌∷◌, length, Bool, true, false, refl, ap, ◌∙◌, arith}
 use Rattle.std.specs.Prelude.{◌==◌, ◌&&◌, ◌||◌, not, nat_lt, nat_le, Option, Some, None, is_some, count_by, slice_index_or, option_and_then}
 use Rattle.std.proofs.lemmas.Bool.Decides.{nat_tests}
 use Rattle.limits.specs.declared.TheConstants.{PACKETS}
 use Rattle.sender_log.specs.Queue.{is_logged}
 use Rattle.sender_log.specs.Log.{queue_of}
-use Rattle.world.specs.declared.message.Message.{Message}
 use Rattle.world.specs.declared.packet.Packet.{Packet}
-use Rattle.world.specs.declared.packet.Packet.TheVariants.{Delivery}
 use Rattle.world.specs.declared.call.Call.TheVariants.{Input, Transmit, Copy, Lose, Arrive}
 use Rattle.world.specs.World.{World}
-use Rattle.world.specs.Logs.{sent, released_to, is_entry}
+use Rattle.world.specs.Logs.{released_to, is_entry}
 use Rattle.world.specs.Bounds.{is_none, open_jobs, journal_full, wire_full}
-use Rattle.world.specs.Answers.{Next, judge}
 use Rattle.world.specs.Refusals.{least, refusal_of, cause_of, is_to_busy, starts, one_if}
 use Rattle.machine.specs.Outside.{is_taken}
 use Rattle.machine.specs.Simulation.{TheMachine, Stands, log_at, is_up_at}
 use Rattle.machine.specs.Sending.{busy, live, placing, released_at}
-use Rattle.machine.proofs.Standing.{wire-is, jobs, live-is, packets-is, up_is, up_at, down_at, entry_at, released_is, released_sent}
+use Rattle.machine.proofs.Standing.{wire-is, jobs, live-is, packets-is, up_is, up_at, down_at, entry_at, released_is}
 
 -- An input
 

@@ -1,31 +1,28 @@
 -- The steps of checkpoints
 use Rattle.std.proofs.Common.{◌≡◌, ◌≢◌, ℕ, suc, ◌+◌, ◌-◌, ◌<◌, ◌≤◌, List, length, map, take, set, max, replicate, Bool, true, false, refl, sym, ap, ◌∙◌, subst, arith, true≢false}
-use Rattle.std.specs.Prelude.{◌==◌, nat_le, Option, None, is_some, slice_index_or}
+use Rattle.std.specs.Prelude.{◌==◌, nat_le, Option, None, slice_index_or}
 use Rattle.std.proofs.lemmas.Bool.Decides.{nat_tests}
 use Rattle.std.proofs.lemmas.List.{get_or-map, get_or-replicate, length-map, length-replicate, take_all}
 use Rattle.limits.specs.declared.TheConstants.{PROCESSES}
-use Rattle.rsn.specs.Receipts.{Received}
 use Rattle.send_gate.specs.Gate.{Releases}
-use Rattle.sender_log.specs.Queue.{TheQueue, no_queue}
+use Rattle.sender_log.specs.Queue.{no_queue}
 use Rattle.sender_log.specs.Log.{queue_of}
-use Rattle.checkpoint.specs.Saved.{TheSaved, nothing_kept, kept_of, saved_of}
+use Rattle.checkpoint.specs.Saved.{nothing_kept, kept_of, saved_of}
 use Rattle.world.specs.declared.message.Message.{Message}
 use Rattle.world.specs.declared.call.Call.TheVariants.{Checkpoint}
 use Rattle.world.specs.declared.answer.Answer.TheVariants.{Saved}
-use Rattle.world.specs.History.{Payload}
 use Rattle.world.specs.Phases.{Phase, Up, Busy, Down, Replaying, Resync, is_up, is_down}
 use Rattle.world.specs.World.{World, put}
 use Rattle.world.specs.Logs.{length_in, payloads, sent, sent_in_all, run_of, run_to}
 use Rattle.world.specs.Refusals.{refusal_of}
 use Rattle.theorems.proofs.RunLemmas.{run_to-whole, run_to-is}
-use Rattle.machine.specs.Process.{TheProcess, received, all_acknowledged, IsSaved}
+use Rattle.machine.specs.Process.{TheProcess, IsSaved}
 use Rattle.machine.specs.Fields.{IsSoundAt}
-use Rattle.machine.specs.Stable.{Saves}
-use Rattle.machine.specs.Stage.{is_live, is_lost, held_by, MayWork}
+use Rattle.machine.specs.Stage.{is_live, held_by, MayWork}
 use Rattle.machine.specs.Simulation.{TheMachine, Stands, StandsAt, Steps, Keeps, Holds, process_at, log_at, gate_at, is_up_at, sent_by}
 use Rattle.machine.specs.declared.stage.Stage.{Stage}
 use Rattle.machine.specs.declared.stage.Stage.TheVariants as stages
-use Rattle.machine.proofs.Standing.{at_process, keeps_at, holds_at, up_at, down_at, is_live-at, held-live, live-lost, up-down}
+use Rattle.machine.proofs.Standing.{at_process, keeps_at, holds_at, up_at, down_at, is_live-at, held-live, live-lost}
 use Rattle.machine.proofs.Steps.{step}
 use Rattle.machine.proofs.Releasing.{holds-released}
 use Rattle.machine.proofs.OneProcess.{Same, shows-one}

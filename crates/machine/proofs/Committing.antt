@@ -12,8 +12,6 @@ use Rattle.rsn.specs.Receipts.{Received}
 use Rattle.sender_log.specs.Log.{queue_of}
 use Rattle.send_gate.specs.declared.gate.Held.{Held}
 use Rattle.send_gate.specs.Gate.{TheGate, count_to}
-use Rattle.verifier.specs.Typed.{Typed}
-use Rattle.checkpoint.specs.Saved.{TheSaved}
 use Rattle.replay.specs.Task.{TheTask, IsAnswer, answer_of}
 use Rattle.world.specs.declared.message.Message.{Message}
 use Rattle.world.specs.declared.packet.Packet.{Packet}
@@ -21,7 +19,7 @@ use Rattle.world.specs.declared.packet.Packet.TheVariants.{Number}
 use Rattle.world.specs.declared.call.Call.TheVariants.{Finish}
 use Rattle.world.specs.declared.answer.Answer.TheVariants.{Committed}
 use Rattle.world.specs.History.{count_of}
-use Rattle.world.specs.Phases.{Phase, Up, Busy, is_up, is_down}
+use Rattle.world.specs.Phases.{Up, Busy}
 use Rattle.world.specs.Fold.{emitted_to}
 use Rattle.world.specs.World.{World, put}
 use Rattle.world.specs.Logs.{sent, run_to, run_of}
@@ -30,12 +28,12 @@ use Rattle.theorems.proofs.ListLemmas.{take-all, take-push}
 use Rattle.theorems.proofs.RunLemmas.{run_to-is, run_to-ends}
 use Rattle.machine.specs.Process.{TheProcess, received, HasSent, Commits}
 use Rattle.machine.specs.Stable.{Saves}
-use Rattle.machine.specs.Stage.{is_live, is_lost, held_by, phase_of, IsNextAfter}
+use Rattle.machine.specs.Stage.{is_live, held_by, phase_of, IsNextAfter}
 use Rattle.machine.specs.declared.stage.Stage.{Stage}
 use Rattle.machine.specs.declared.stage.Stage.TheVariants as stages
 use Rattle.machine.specs.Wire.{Puts}
 use Rattle.machine.specs.Fields.{IsLogOf}
-use Rattle.machine.specs.Simulation.{TheMachine, StandsAt, Keeps, Holds, Shows, Stands, Steps, process_at, log_at, gate_at, is_up_at, sent_by}
+use Rattle.machine.specs.Simulation.{TheMachine, StandsAt, Keeps, Holds, Shows, Stands, Steps, process_at, log_at, is_up_at, sent_by}
 use Rattle.machine.specs.Jobs.{Matches}
 use Rattle.machine.specs.Arrival.{IsOpen}
 use Rattle.machine.proofs.ReceiptLemmas.{InOrderFrom-push}
@@ -105,7 +103,7 @@ live-idle n stages.Down e = absurd (false≢true e)
 live-idle n (stages.Replaying plan alone) e = absurd (false≢true e)
 live-idle n (stages.Resync peers) e = absurd (false≢true e)
 
-module _ (m : TheMachine) (w : World) (s : Stands m w) (t : TheTask) (k : Matches m t) (a : IsAnswer t (answer_of t)) (sizes : length m.images ≡ length m.processes) (same_slots : (e : Typed) → (slice_index_or m.images (t.who.me - 1) e).slots ≡ t.image.slots) (y : TheProcess) (c : Commits t (process_at m t.who.me) y) (up : is_up_at m t.who.me ≡ true) where
+module _ (m : TheMachine) (w : World) (s : Stands m w) (t : TheTask) (k : Matches m t) (a : IsAnswer t (answer_of t)) (sizes : length m.images ≡ length m.processes) (y : TheProcess) (c : Commits t (process_at m t.who.me) y) (up : is_up_at m t.who.me ≡ true) where
   abbrev me : ℕ
   me = t.who.me
 
@@ -194,7 +192,7 @@ module _ (m : TheMachine) (w : World) (s : Stands m w) (t : TheTask) (k : Matche
   stands_after : StandsAt (length m.processes) me y (w.handlers.state me) (w.handlers.sends me) hx Up (w.incarnation me) (w.acknowledged me) (w.saved me) (w.saved_trims me)
   stands_after =
       record {
-        state_is = λ e. c.state ∙ sym (state_after m w s t k a sizes same_slots h state_was) ∙ sym (ap (w.handlers.state me) held_now);
+        state_is = λ e. c.state ∙ sym (state_after m w s t k a sizes h state_was) ∙ sym (ap (w.handlers.state me) held_now);
         gone = λ e. absurd (false≢true (sym (live-lost y.stage live_now) ∙ e));
         senders = ap (λ (r : Received). r.senders) c.receipts ∙ ap (λ xs. xs ++ x.sender ∷ []) senders_was ∙ sym (map_push (λ (z : Message). z.sender) h x) ∙ sym (ap (map (λ (z : Message). z.sender)) held_now);
         flags = ap (λ (r : Received). length r.acknowledged) c.receipts ∙ length-append was.receipts.acknowledged (false ∷ []) ∙ ap (λ j. j + 1) flags_was ∙ sym longer ∙ sym received_now;
@@ -223,7 +221,7 @@ module _ (m : TheMachine) (w : World) (s : Stands m w) (t : TheTask) (k : Matche
     keeps_after : Keeps (queue_of d y.outbox.log) (w.trims me d) (w.handlers.sends me (take (length hx) hx) d) (w.numbers me d)
     keeps_after =
         subst (λ ps. Keeps (queue_of d y.outbox.log) (w.trims me d) ps (w.numbers me d)) (sym (ap (λ l. w.handlers.sends me l d) (take-all hx)))
-        (keeps-given m w s t k a sizes same_slots h state_was d was.outbox y.outbox c.outbox (dest-of (length m.processes) me d was.outbox log_of to other) kept numbers_within)
+        (keeps-given m w s t k a sizes h state_was d was.outbox y.outbox c.outbox (dest-of (length m.processes) me d was.outbox log_of to other) kept numbers_within)
 
     module _ (sent_all : HasSent was) where
       run_same : run_to (w.acknowledged me) (length hx) ≡ run_of w me
@@ -240,7 +238,7 @@ module _ (m : TheMachine) (w : World) (s : Stands m w) (t : TheTask) (k : Matche
           let before : take (length h) h ≡ h = take-all h in
           let counted : count_to d c.outbox.held ≡ length (emitted_to d (answer_of t).effects) = c.outbox.counts d (dest-of (length m.processes) me d was.outbox log_of to other) in
           ap (λ l. length (w.handlers.sends me l d)) whole
-          ∙ ap length (sends_after m w s t k a sizes same_slots h state_was d)
+          ∙ ap length (sends_after m w s t k a sizes h state_was d)
           ∙ length-append (w.handlers.sends me h d) (emitted_to d (answer_of t).effects)
           ∙ (λ i. length (w.handlers.sends me (sym before i) d) + sym counted i)
 

@@ -1,15 +1,14 @@
 -- The steps of crashes
-use Rattle.std.proofs.Common.{◌≡◌, ◌≢◌, ℕ, ◌+◌, ◌-◌, ◌<◌, ◌≤◌, length, set, Bool, true, false, refl, sym, ap, ◌∙◌, subst, arith, true≢false}
+use Rattle.std.proofs.Common.{◌≡◌, ℕ, ◌+◌, ◌-◌, ◌<◌, ◌≤◌, length, set, Bool, true, false, refl, sym, ap, ◌∙◌, arith, true≢false}
 use Rattle.std.specs.Prelude.{◌==◌, None, nat_lt, slice_index_or, replicate}
 use Rattle.std.proofs.lemmas.Bool.Decides.{nat_tests}
 use Rattle.std.proofs.lemmas.List.{get_or-replicate, length-replicate}
 use Rattle.std.proofs.Math.ListN.{get_or-eq_default}
 use Rattle.limits.specs.declared.TheConstants.{PARTIES}
-use Rattle.verifier.specs.Typed.{Typed}
 use Rattle.sender_log.specs.Queue.{TheQueue, no_queue}
 use Rattle.world.specs.declared.call.Call.TheVariants.{Crash}
 use Rattle.world.specs.declared.answer.Answer.TheVariants.{Crashed}
-use Rattle.world.specs.Phases.{Down, is_up, is_down}
+use Rattle.world.specs.Phases.{Down}
 use Rattle.world.specs.World.{World, put}
 use Rattle.world.specs.Refusals.{refusal_of}
 use Rattle.machine.specs.Process.{TheProcess, crashed}

@@ -1,16 +1,15 @@
 -- What the fields say of a result that is taken in, and what they keep
-use Rattle.std.proofs.Common.{◌≡◌, ◌≢◌, ℕ, suc, ◌+◌, ◌-◌, ◌<◌, ◌≤◌, List, [], ◌∷◌, ◌++◌, length, length-append, map, Bool, true, false, refl, sym, ap, ◌∙◌, subst, arith, set}
-use Rattle.std.specs.Prelude.{◌==◌, ◌&&◌, not, nat_le, Option, Some, None, is_some, slice_index_or}
-use Rattle.std.specs.Arc.{arc_value}
+use Rattle.std.proofs.Common.{◌≡◌, ◌≢◌, ℕ, ◌+◌, ◌-◌, ◌<◌, ◌≤◌, List, [], ◌∷◌, ◌++◌, length, length-append, map, Bool, true, false, refl, sym, ap, ◌∙◌, subst, arith, set}
+use Rattle.std.specs.Prelude.{◌==◌, nat_le, Option, Some, None, is_some, slice_index_or}
 use Rattle.std.specs.List.{list_all}
 use Rattle.std.proofs.lemmas.Bool.{false≢true}
 use Rattle.std.proofs.lemmas.Bool.Decides.{nat_tests}
 use Rattle.std.specs.Vec.{with_item}
 use Rattle.std.proofs.lemmas.List.{get_or_default, get_or-set_same, length-map, length-set, set-get_or}
 use Rattle.std.proofs.lemmas.List.Folds.{list_all-append}
+use Rattle.handlers.specs.Image.{TheImage, image_in}
 use Rattle.rsn.specs.Receipts.{Received, accepted, acknowledged, run_of}
 use Rattle.rsn.proofs.ReceiptLemmas.{run_of-reaches, run_of-bound, run_of-push}
-use Rattle.verifier.specs.Typed.{Typed}
 use Rattle.checkpoint.specs.Saved.{TheSaved, is_sender}
 use Rattle.replay.specs.Plan.{ThePlan, numbered}
 use Rattle.replay.specs.Task.{TheTask, MayCall, IsAnswer, answer_of}
@@ -20,8 +19,7 @@ use Rattle.machine.specs.Process.{TheProcess, idle_process, received, advanced, 
 use Rattle.machine.specs.Stage.{is_live, is_lost, IsInPlan, IsNextIn}
 use Rattle.machine.specs.declared.stage.Stage.{Stage}
 use Rattle.machine.specs.declared.stage.Stage.TheVariants as stages
-use Rattle.machine.specs.Outbox.{Gives}
-use Rattle.machine.specs.Fields.{view_of, IsLogOf, IsSound, IsSoundAt}
+use Rattle.machine.specs.Fields.{view_of, IsSound, IsSoundAt}
 use Rattle.machine.specs.Jobs.{Matches}
 use Rattle.machine.specs.Recovering.{MaySettle}
 use Rattle.machine.specs.Simulation.{TheMachine, process_at, is_up_at}
@@ -33,9 +31,9 @@ use Rattle.machine.proofs.Restoring.{put-sound}
 -- the process of a task that matches
 module _ (inside : Inside) (i : IsSound inside) (m : TheMachine) (view_is : view_of inside ≡ m) (t : TheTask) (k : Matches m t) where
   pub sizes : length m.images ≡ length m.processes
-  sizes = subst (λ (v : TheMachine). length v.images ≡ length v.processes) view_is (length-map inside.images.items arc_value ∙ i.images)
+  sizes = subst (λ (v : TheMachine). length v.images ≡ length v.processes) view_is (length-map inside.images.items image_in ∙ i.images)
 
-  pub sound : (e : Typed) → IsSoundAt (length m.processes) t.who.me (slice_index_or m.images (t.who.me - 1) e).len m.calls (process_at m t.who.me)
+  pub sound : (e : TheImage) → IsSoundAt (length m.processes) t.who.me (slice_index_or m.images (t.who.me - 1) e).len m.calls (process_at m t.who.me)
   sound e =
       let P : TheMachine → Type 0 = λ v. t.who.me ≤ length v.processes → IsSoundAt (length v.processes) t.who.me (slice_index_or v.images (t.who.me - 1) e).len v.calls (process_at v t.who.me) in
       subst P view_is (λ within. sound_at inside i t.who.me (idle_process 0 0 0) e k.inside within) k.within
@@ -167,13 +165,13 @@ module _ (i : Inside) (s : IsSound i) (m : TheMachine) (view_is : view_of i ≡ 
       let calls : m.calls ≡ i.calls = ap (λ (v : TheMachine). v.calls) (sym view_is) in
       omega (arith, room i s m view_is t k, ap received was-at, calls)
 
-  sound-was : (e : Typed) → IsSoundAt (length i.processes.items) p (slice_index_or (map arc_value i.images.items) (p - 1) e).len i.calls was
-  sound-was e = subst (IsSoundAt (length i.processes.items) p (slice_index_or (map arc_value i.images.items) (p - 1) e).len i.calls) (sym here) (sound_at i s p was e positive-at within-at)
+  sound-was : (e : TheImage) → IsSoundAt (length i.processes.items) p (slice_index_or (map image_in i.images.items) (p - 1) e).len i.calls was
+  sound-was e = subst (IsSoundAt (length i.processes.items) p (slice_index_or (map image_in i.images.items) (p - 1) e).len i.calls) (sym here) (sound_at i s p was e positive-at within-at)
 
   -- where nothing was taken in, nothing changed
   module _ (y : TheProcess) (undone : y ≡ was) where
     pub undone-sound : IsSound (record i { processes = with_item i.processes (p - 1) y })
-    undone-sound = put-sound i s p y positive-at within-at (λ e. subst (IsSoundAt (length i.processes.items) p (slice_index_or (map arc_value i.images.items) (p - 1) e).len i.calls) (sym undone) (sound-was e))
+    undone-sound = put-sound i s p y positive-at within-at (λ e. subst (IsSoundAt (length i.processes.items) p (slice_index_or (map image_in i.images.items) (p - 1) e).len i.calls) (sym undone) (sound-was e))
 
     pub undone-view : view_of (record i { processes = with_item i.processes (p - 1) y }) ≡ m
     undone-view =

@@ -4,7 +4,7 @@ use Rattle.std.specs.Prelude.{◌==◌, if◌then◌else◌, nat_lt, Option, Som
 use Rattle.std.proofs.lemmas.Bool.Decides.{nat_tests}
 use Rattle.std.proofs.lemmas.List.{append_assoc, drop_more, get_or-append_right, get_or-map, get_or-set_same, get_or-set_other, length-map, length-set, length-take-le, map-append, set_at, set-get_or, take_more}
 use Rattle.std.proofs.Math.ListN.{get_or-eq_default}
-use Rattle.verifier.specs.Typed.{Typed}
+use Rattle.handlers.specs.Image.{TheImage}
 use Rattle.sender_log.specs.Queue.{TheQueue, no_queue, unnumbered, up_to}
 use Rattle.sender_log.specs.Log.{TheLog, queue_of, with_queue}
 use Rattle.world.specs.History.{Payload}
@@ -130,8 +130,8 @@ module _ {X : Type 0} (f : X → X) (xs ys : List X) (i : ℕ) (x v : X) where
       ∙ sym (append_assoc front (f here ∷ []) rest) ∙ ap (λ l. l ++ rest) (sym more)
 
 -- all processes are sound
-pub processes-forgot : (xs : List TheProcess) (images : List Typed) (p k calls : ℕ) → ((q : ℕ) (d : TheProcess) (e : Typed) → q < length xs → IsSoundAt (length xs) (suc q) (slice_index_or images q e).len calls (slice_index_or xs q d))
-    → (ys : List TheProcess) → ys ≡ map (unnumbered_at p k) xs → (q : ℕ) (d : TheProcess) (e : Typed) → q < length ys → IsSoundAt (length ys) (suc q) (slice_index_or images q e).len calls (slice_index_or ys q d)
+pub processes-forgot : (xs : List TheProcess) (images : List TheImage) (p k calls : ℕ) → ((q : ℕ) (d : TheProcess) (e : TheImage) → q < length xs → IsSoundAt (length xs) (suc q) (slice_index_or images q e).len calls (slice_index_or xs q d))
+    → (ys : List TheProcess) → ys ≡ map (unnumbered_at p k) xs → (q : ℕ) (d : TheProcess) (e : TheImage) → q < length ys → IsSoundAt (length ys) (suc q) (slice_index_or images q e).len calls (slice_index_or ys q d)
 processes-forgot xs images p k calls all ys is q d e h =
     let len : length ys ≡ length xs = ap length is ∙ length-map xs (unnumbered_at p k) in
     let low : q < length xs = omega (arith, len, h) in

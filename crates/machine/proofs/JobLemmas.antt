@@ -6,7 +6,7 @@ use Rattle.std.proofs.lemmas.List.{get_or-set_same, length-set}
 use Rattle.std.proofs.lemmas.Option.{slice_get-get_or}
 use Rattle.decode.specs.declared.insn.Insn.{Insn}
 use Rattle.helpers.specs.declared.effects.Who.{Who}
-use Rattle.verifier.specs.Typed.{Typed}
+use Rattle.handlers.specs.Image.{TheImage}
 use Rattle.replay.specs.Task.{TheTask}
 use Rattle.theorems.proofs.ListLemmas.{nth-within, take-length}
 use Rattle.world.specs.declared.message.Message.{Message}
@@ -55,7 +55,7 @@ nth-inside xs (suc p) d h k =
     slice_get-get_or xs p d (omega arith) ∙ ap (λ q. Some (slice_index_or xs q d)) (sym back)
 
 -- an image of this number is one of the images
-image-within : (images : List Typed) (p : ℕ) (code : List Insn) (o : Option Typed) → nth images p ≡ o → HasCode o code → p ≤ length images
+image-within : (images : List TheImage) (p : ℕ) (code : List Insn) (o : Option TheImage) → nth images p ≡ o → HasCode o code → p ≤ length images
 image-within images p code None e has = absurd has
 image-within images p code (Some x) e has = (nth-within images p x e).1
 
@@ -140,6 +140,6 @@ begun-matches m new to x t slots b positive within =
       state = ap (λ (z : TheProcess). z.state) at ∙ sym b.state;
       from = ap (λ (q : Who). q.from) b.who ∙ ap (λ (z : Message). z.sender) (sym b.message_is);
       count = ap (λ (q : Who). q.count) b.who ∙ sym len;
-      form = λ e. ap (λ (z : Typed). z.form) (ap (λ zs. slice_index_or zs (t.who.me - 1) e) images ∙ ap (λ q. slice_index_or m.images (q - 1) e) me_is ∙ sym (b.image e));
-      code = λ e. ap (λ (z : Typed). z.code) (ap (λ zs. slice_index_or zs (t.who.me - 1) e) images ∙ ap (λ q. slice_index_or m.images (q - 1) e) me_is ∙ sym (b.image e));
+      form = λ e. ap (λ (z : TheImage). z.form) (ap (λ zs. slice_index_or zs (t.who.me - 1) e) images ∙ ap (λ q. slice_index_or m.images (q - 1) e) me_is ∙ sym (b.image e));
+      code = λ e. ap (λ (z : TheImage). z.code) (ap (λ zs. slice_index_or zs (t.who.me - 1) e) images ∙ ap (λ q. slice_index_or m.images (q - 1) e) me_is ∙ sym (b.image e));
     }

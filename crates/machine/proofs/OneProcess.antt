@@ -1,17 +1,15 @@
 -- A machine and a world of which one process has changed
-use Rattle.std.proofs.Common.{◌≡◌, ◌≢◌, ℕ, zero, suc, ◌-◌, ◌<◌, ◌≤◌, List, length, take, set, Bool, true, false, refl, sym, ap, ◌∙◌, subst, arith}
+use Rattle.std.proofs.Common.{◌≡◌, ◌≢◌, ℕ, suc, ◌-◌, ◌<◌, ◌≤◌, List, length, take, set, Bool, true, false, refl, sym, ap, ◌∙◌, subst, arith}
 use Rattle.std.specs.Prelude.{◌==◌, Option, slice_index_or}
 use Rattle.std.proofs.lemmas.Bool.Decides.{nat_tests}
 use Rattle.std.proofs.lemmas.List.{get_or-set_same, get_or-set_other, length-set}
 use Rattle.sender_log.specs.Log.{queue_of}
 use Rattle.world.specs.declared.message.Message.{Message}
-use Rattle.world.specs.History.{Payload}
-use Rattle.world.specs.Phases.{Phase, Up, is_up, is_down}
+use Rattle.world.specs.Phases.{Phase, is_up, is_down}
 use Rattle.world.specs.World.{World}
 use Rattle.world.specs.Logs.{length_in, payloads, sent, run_of, run_to}
 use Rattle.machine.specs.Process.{TheProcess, idle_process}
 use Rattle.machine.specs.Simulation.{TheMachine, StandsAt, Keeps, Holds, Shows, process_at, log_at, gate_at, sent_by}
-use Rattle.machine.proofs.Updates.{set-is}
 
 -- the changed process, and the others
 module _ (m : TheMachine) (p : ℕ) (y : TheProcess) (positive : 0 < p) (within : p ≤ length m.processes) where

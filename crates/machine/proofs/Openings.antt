@@ -9,8 +9,8 @@ use Rattle.std.proofs.lemmas.Bool.{false≢true}
 use Rattle.std.proofs.lemmas.Bool.Decides.{nat_tests}
 use Rattle.std.proofs.lemmas.Option.{slice_get-get_or}
 use Rattle.limits.specs.declared.TheConstants.{PARTIES, STATE_BYTES}
-use Rattle.regtypes.specs.declared.image_form.ImageForm.TheVariants.{Sbi1}
-use Rattle.verifier.specs.Typed.{Typed}
+use Rattle.images.specs.declared.file_form.FileForm.TheVariants.{Sbi1}
+use Rattle.handlers.specs.Image.{TheImage}
 use Rattle.checkpoint.specs.Saved.{TheKept, nothing_kept}
 use Rattle.sender_log.specs.Queue.{TheQueue, no_queue}
 use Rattle.sender_log.specs.Log.{queue_of}
@@ -30,28 +30,28 @@ use Rattle.machine.specs.Simulation.{TheMachine, StandsAt, Keeps, Holds, Shows, 
 use Rattle.machine.specs.Fields.{IsSoundAt, IsLogOf}
 use Rattle.machine.specs.Opening.{AreIdle}
 
-idle-split : (n : ℕ) (images : List Typed) (i : Typed) (ps : List TheProcess) → AreIdle n images ps → (p : ℕ) (d : TheProcess) (e : Typed) → p < suc (length images) → (b : Bool) → nat_lt p (length images) ≡ b
+idle-split : (n : ℕ) (images : List TheImage) (i : TheImage) (ps : List TheProcess) → AreIdle n images ps → (p : ℕ) (d : TheProcess) (e : TheImage) → p < suc (length images) → (b : Bool) → nat_lt p (length images) ≡ b
     → slice_index_or (ps ++ idle_process (suc (length images)) n i.len ∷ []) p d ≡ idle_process (suc p) n (slice_index_or (images ++ i ∷ []) p e).len
 idle-split n images i ps a p d e h true f =
     let inside : p < length images = grind (arith, nat_tests) in
     let here : p < length ps = omega (arith, a.count, inside) in
     get_or_append_left ps (idle_process (suc (length images)) n i.len ∷ []) d p here ∙ a.idle p d e inside
-    ∙ ap (λ (x : Typed). idle_process (suc p) n x.len) (sym (get_or_append_left images (i ∷ []) e p inside))
+    ∙ ap (λ (x : TheImage). idle_process (suc p) n x.len) (sym (get_or_append_left images (i ∷ []) e p inside))
 idle-split n images i ps a p d e h false f =
     let last : length images ≡ p = (let past : length images ≤ p = grind (arith, nat_tests) in omega (arith, past, h)) in
     get_or_push ps (idle_process (suc (length images)) n i.len) d p (a.count ∙ last) ∙ ap (λ k. idle_process (suc k) n i.len) last
-    ∙ ap (λ (x : Typed). idle_process (suc p) n x.len) (sym (get_or_push images i e p last))
+    ∙ ap (λ (x : TheImage). idle_process (suc p) n x.len) (sym (get_or_push images i e p last))
 
 -- one process more
-pub idle-push : (n : ℕ) (images : List Typed) (i : Typed) (ps : List TheProcess) → i.len ≤ STATE_BYTES → AreIdle n images ps → AreIdle n (images ++ i ∷ []) (ps ++ idle_process (suc (length images)) n i.len ∷ [])
+pub idle-push : (n : ℕ) (images : List TheImage) (i : TheImage) (ps : List TheProcess) → i.len ≤ STATE_BYTES → AreIdle n images ps → AreIdle n (images ++ i ∷ []) (ps ++ idle_process (suc (length images)) n i.len ∷ [])
 idle-push n images i ps short a = record {
   count = omega (arith, length_push ps (idle_process (suc (length images)) n i.len), length_push images i, a.count);
-  short = All-push (λ (x : Typed). x.len ≤ STATE_BYTES) images i a.short short;
+  short = All-push (λ (x : TheImage). x.len ≤ STATE_BYTES) images i a.short short;
   idle = λ p d e h. idle-split n images i ps a p d e (let l = length_push images i in omega (arith, l, h)) (nat_lt p (length images)) refl;
 }
 
 -- the images are those that were handed in
-pub idle-handed : {X : Type 0} (image_of : X → Typed) (given items : List X) (ps : List TheProcess) → given ≡ items → AreIdle (length given) (map image_of given) ps → AreIdle (length (map image_of items)) (map image_of items) ps
+pub idle-handed : {X : Type 0} (image_of : X → TheImage) (given items : List X) (ps : List TheProcess) → given ≡ items → AreIdle (length given) (map image_of given) ps → AreIdle (length (map image_of items)) (map image_of items) ps
 idle-handed image_of given items ps same a = subst (λ n. AreIdle n (map image_of items) ps) (sym (length-map items image_of)) (subst (λ l. AreIdle (length l) (map image_of l) ps) same a)
 
 -- a list of one value, read anywhere with that value as default
@@ -62,14 +62,14 @@ replicate-split n k x false e = get_or-eq_default (replicate n x) x {n = k} (let
 pub replicate-at : {X : Type 0} (n k : ℕ) (x : X) → slice_index_or (replicate n x) k x ≡ x
 replicate-at n k x = replicate-split n k x (nat_lt k n) refl
 
-abbrev none : Typed
-none = record { form = Sbi1; code = []; slots = []; table = []; len = 0; low = 0 }
+abbrev none : TheImage
+none = record { form = Sbi1; code = []; len = 0 }
 
 -- the machine that opens with these images and processes
-abbrev pub fresh : List Typed → List TheProcess → TheMachine
+abbrev pub fresh : List TheImage → List TheProcess → TheMachine
 fresh images ps = record { images = images; processes = ps; outside = empty_outside (length images); slots = []; started = 0; calls = 0 }
 
-module _ (images : List Typed) (ps : List TheProcess) (a : AreIdle (length images) images ps) where
+module _ (images : List TheImage) (ps : List TheProcess) (a : AreIdle (length images) images ps) where
   within : (p : ℕ) → p < length ps → p < length images
   within p h = omega (arith, a.count, h)
 
@@ -173,7 +173,7 @@ module _ (images : List Typed) (ps : List TheProcess) (a : AreIdle (length image
       let f = handlers_of images in
       record { shows = shown; sound = opens-sound n f (handlers-grow images); tidy = opens-tidy n f; gated = opens-gated n f (handlers-start images); unsent = refl }
 
-  pub idle-sound : (p : ℕ) (d : TheProcess) (e : Typed) → p < length ps → IsSoundAt (length ps) (suc p) (slice_index_or images p e).len 0 (slice_index_or ps p d)
+  pub idle-sound : (p : ℕ) (d : TheProcess) (e : TheImage) → p < length ps → IsSoundAt (length ps) (suc p) (slice_index_or images p e).len 0 (slice_index_or ps p d)
   idle-sound p d e h =
       let len = (slice_index_or images p e).len in
       let sound : IsSoundAt (length ps) (suc p) len 0 (idle_process (suc p) (length images) len) =

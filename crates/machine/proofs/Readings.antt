@@ -1,6 +1,6 @@
 -- What is read of a process, as each world that the machine stands for has it
-use Rattle.std.proofs.Common.{◌≡◌, ◌≢◌, ℕ, ◌+◌, ◌-◌, ◌<◌, ◌≤◌, List, [], length, map, take, Bool, true, false, true≢false, refl, sym, ap, ◌∙◌, arith}
-use Rattle.std.specs.Prelude.{◌==◌, if◌then◌else◌, Option, Some, None, is_some, slice_index_or}
+use Rattle.std.proofs.Common.{◌≡◌, ℕ, ◌+◌, ◌<◌, ◌≤◌, List, [], length, map, take, Bool, true, false, true≢false, refl, sym, ap, ◌∙◌, arith}
+use Rattle.std.specs.Prelude.{◌==◌, if◌then◌else◌, Option, Some, None, is_some}
 use Rattle.std.proofs.lemmas.Bool.{false≢true}
 use Rattle.std.proofs.lemmas.Bool.Decides.{nat_tests}
 use Rattle.std.proofs.lemmas.List.{length-map}
@@ -10,10 +10,10 @@ use Rattle.sender_log.specs.Queue.{no_queue}
 use Rattle.sender_log.specs.Log.{queue_of}
 use Rattle.world.specs.declared.message.Message.{Message}
 use Rattle.world.specs.declared.phase.PhaseName.TheVariants as names
-use Rattle.world.specs.Phases.{Phase, Up, Busy, Down, Replaying, Resync, is_up, is_down, name_of}
+use Rattle.world.specs.Phases.{Phase, Up, Busy, Down, Replaying, Resync, is_down, name_of}
 use Rattle.world.specs.World.{World}
 use Rattle.world.specs.Logs.{length_in, length_of, state_of}
-use Rattle.machine.specs.Process.{TheProcess, received}
+use Rattle.machine.specs.Process.{received}
 use Rattle.machine.specs.Outbox.{TheOutbox}
 use Rattle.machine.specs.Stage.{is_lost, held_by, phase_of}
 use Rattle.machine.specs.declared.stage.Stage.{Stage}

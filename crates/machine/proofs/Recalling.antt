@@ -1,18 +1,17 @@
 -- The step of a result that is replayed
-use Rattle.std.proofs.Common.{◌≡◌, ◌≢◌, ℕ, suc, ◌+◌, ◌-◌, ◌<◌, ◌≤◌, List, [], ◌∷◌, ◌++◌, length, length-append, map, take, set, Bool, true, false, refl, sym, ap, ◌∙◌, subst, arith}
-use Rattle.std.specs.Prelude.{◌==◌, nat_lt, Option, Some, None, slice_get, slice_index_or}
+use Rattle.std.proofs.Common.{◌≡◌, ◌≢◌, ℕ, suc, ◌+◌, ◌-◌, ◌<◌, ◌≤◌, List, [], ◌∷◌, ◌++◌, length, length-append, take, set, Bool, true, false, refl, sym, ap, ◌∙◌, subst, arith}
+use Rattle.std.specs.Prelude.{◌==◌, nat_lt, Some, None, slice_get, slice_index_or}
 use Rattle.std.proofs.lemmas.Bool.{false≢true}
 use Rattle.std.proofs.lemmas.Bool.Decides.{nat_tests}
 use Rattle.std.proofs.lemmas.List.{get_or_append_left, get_or-set_same, get_or-set_other, length-map, length-set, map_push}
 use Rattle.rsn.specs.Receipts.{Received}
 use Rattle.sender_log.specs.Log.{queue_of}
-use Rattle.verifier.specs.Typed.{Typed}
 use Rattle.replay.specs.Plan.{ThePlan}
 use Rattle.replay.specs.Task.{TheTask, IsAnswer, answer_of}
 use Rattle.world.specs.declared.message.Message.{Message}
 use Rattle.world.specs.declared.call.Call.TheVariants.{Finish}
 use Rattle.world.specs.declared.answer.Answer.TheVariants.{Replayed}
-use Rattle.world.specs.Phases.{Phase, Replaying, is_up, is_down}
+use Rattle.world.specs.Phases.{Replaying, is_up, is_down}
 use Rattle.world.specs.World.{World, put}
 use Rattle.world.specs.Logs.{sent}
 use Rattle.world.specs.Calls.{peers as peers_of, ready}
@@ -22,12 +21,11 @@ use Rattle.theorems.proofs.ListLemmas.{take-all, take-length, take-next}
 use Rattle.theorems.proofs.RunLemmas.{run_to-whole}
 use Rattle.machine.specs.Process.{TheProcess, received, advanced, Recalls}
 use Rattle.machine.specs.Stable.{Saves}
-use Rattle.machine.specs.Stage.{is_live, is_lost, held_by, phase_of, MayWork, Replays, IsInPlan}
-use Rattle.machine.specs.declared.stage.Stage.{Stage}
+use Rattle.machine.specs.Stage.{is_lost, held_by, phase_of, MayWork, Replays}
 use Rattle.machine.specs.declared.stage.Stage.TheVariants as stages
 use Rattle.machine.specs.Fields.{IsLogOf}
 use Rattle.machine.specs.Recovering.{SettlesAt}
-use Rattle.machine.specs.Simulation.{TheMachine, StandsAt, Keeps, Shows, Stands, Steps, process_at, log_at, gate_at, is_up_at}
+use Rattle.machine.specs.Simulation.{TheMachine, StandsAt, Keeps, Shows, Stands, Steps, process_at, log_at, is_up_at}
 use Rattle.machine.specs.Jobs.{Matches}
 use Rattle.machine.specs.Arrival.{IsOpen}
 use Rattle.machine.proofs.ReceiptLemmas.{senders}
@@ -40,7 +38,7 @@ use Rattle.machine.proofs.Answering.{state_after, keeps-given, dest-of}
 use Rattle.machine.proofs.Others.{life, others, together, replaced, now_at, but-replaced, but-world, shows-calls, up-but, ShowsBut}
 use Rattle.machine.proofs.Settling.{IsCaughtUp, peers-are, peers-within, settled}
 
-module _ (m : TheMachine) (w : World) (s : Stands m w) (t : TheTask) (k : Matches m t) (a : IsAnswer t (answer_of t)) (sizes : length m.images ≡ length m.processes) (same_slots : (e : Typed) → (slice_index_or m.images (t.who.me - 1) e).slots ≡ t.image.slots) (y : TheProcess) (c : Recalls t (process_at m t.who.me) y)
+module _ (m : TheMachine) (w : World) (s : Stands m w) (t : TheTask) (k : Matches m t) (a : IsAnswer t (answer_of t)) (sizes : length m.images ≡ length m.processes) (y : TheProcess) (c : Recalls t (process_at m t.who.me) y)
     (plan : ThePlan) (alone : Bool) (stage_is : (process_at m t.who.me).stage ≡ stages.Replaying plan alone) (log_of : IsLogOf (length m.processes) t.who.me (process_at m t.who.me).outbox.log) where
   abbrev n : ℕ
   n = length m.processes
@@ -131,7 +129,7 @@ module _ (m : TheMachine) (w : World) (s : Stands m w) (t : TheTask) (k : Matche
   stage_now = c.stage ∙ ap advanced stage_is
 
   state_now : y.state ≡ w.handlers.state me gx
-  state_now = c.state ∙ sym (state_after m w s t k a sizes same_slots g state_was)
+  state_now = c.state ∙ sym (state_after m w s t k a sizes g state_was)
 
   senders_now : y.receipts.senders ≡ senders gx
   senders_now = ap (λ (r : Received). r.senders) c.receipts ∙ ap (λ xs. xs ++ x.sender ∷ []) senders_was ∙ sym (map_push (λ (z : Message). z.sender) g x)
@@ -189,7 +187,7 @@ module _ (m : TheMachine) (w : World) (s : Stands m w) (t : TheTask) (k : Matche
     numbers_within i j e = let l : i ≤ length (sent w me d) = ((s.tidy me).numbered d i j e).1 in omega (arith, l, ap length sent_is)
 
     keeps_now : Keeps (queue_of d y.outbox.log) (w.trims me d) (w.handlers.sends me gx d) (w.numbers me d)
-    keeps_now = keeps-given m w s t k a sizes same_slots g state_was d was.outbox y.outbox c.outbox (dest-of n me d was.outbox log_of to other) kept numbers_within
+    keeps_now = keeps-given m w s t k a sizes g state_was d was.outbox y.outbox c.outbox (dest-of n me d was.outbox log_of to other) kept numbers_within
 
   shut_now : (d : ℕ) → slice_index_or y.outbox.gate.released d 0 ≡ 0
   shut_now d = ap (λ rs. slice_index_or rs d 0) c.outbox.released ∙ s.shows.shut me d k.inside k.within (ap is_up phase_was)

@@ -1,10 +1,10 @@
 -- The causes that refuse a checkpoint, a crash or a return, as the machine's fields tell them
-use Rattle.std.proofs.Common.{◌≡◌, ◌≢◌, ℕ, zero, suc, ◌+◌, ◌-◌, ◌<◌, ◌≤◌, List, [], ◌∷◌, length, Bool, true, false, refl, sym, ap, ◌∙◌, arith}
-use Rattle.std.specs.Prelude.{◌==◌, ◌&&◌, ◌||◌, not, nat_lt, nat_le, cond, Option, None, Some, is_some, count_by, slice_index_or, option_and_then}
+use Rattle.std.proofs.Common.{◌≡◌, ℕ, zero, suc, ◌+◌, ◌-◌, ◌<◌, ◌≤◌, List, [], ◌∷◌, length, Bool, true, false, refl, ap, ◌∙◌, arith}
+use Rattle.std.specs.Prelude.{◌==◌, ◌&&◌, ◌||◌, not, nat_lt, nat_le, cond, None, Some, is_some, count_by, slice_index_or, option_and_then}
 use Rattle.std.proofs.lemmas.Bool.Decides.{nat_tests}
 use Rattle.std.proofs.lemmas.List.Sums.{sum_by-cons}
-use Rattle.world.specs.declared.call.Call.TheVariants.{Checkpoint, Trim, Crash, Recover, RecoverAlone, ReplayBegin, Resync}
-use Rattle.world.specs.Phases.{is_up, is_down, is_busy, is_working, is_replaying, todo_of, has}
+use Rattle.world.specs.declared.call.Call.TheVariants.{Checkpoint, Trim, Crash, Recover, RecoverAlone}
+use Rattle.world.specs.Phases.{is_up, is_busy, is_working}
 use Rattle.world.specs.World.{World}
 use Rattle.world.specs.Bounds.{any_below}
 use Rattle.world.specs.Refusals.{least, refusal_of, cause_of, one_if, others_up}

@@ -1,11 +1,11 @@
 -- The causes that refuse a job that is replayed, or numbers that are restored, as the machine's fields tell them
 use Rattle.std.proofs.Common.{◌≡◌, ◌≢◌, ℕ, zero, suc, ◌+◌, ◌<◌, ◌≤◌, List, [], ◌∷◌, length, Bool, true, false, refl, sym, ap, ◌∙◌, arith}
-use Rattle.std.specs.Prelude.{◌==◌, ◌&&◌, ◌||◌, not, nat_lt, nat_le, if◌then◌else◌, Option, None, Some, is_some, slice_get, slice_index_or}
+use Rattle.std.specs.Prelude.{◌==◌, ◌&&◌, nat_lt, nat_le, if◌then◌else◌, Option, None, Some, is_some, slice_index_or}
 use Rattle.std.proofs.lemmas.Bool.Decides.{nat_tests}
 use Rattle.std.proofs.lemmas.Option.{slice_get-get_or}
 use Rattle.world.specs.declared.message.Message.{Message}
 use Rattle.world.specs.declared.call.Call.TheVariants.{ReplayBegin, Resync as ResyncWith}
-use Rattle.world.specs.Phases.{is_up, is_working, is_replaying, todo_of, has, those}
+use Rattle.world.specs.Phases.{is_working, is_replaying, todo_of, has, those}
 use Rattle.world.specs.World.{World}
 use Rattle.world.specs.Refusals.{refusal_of}
 use Rattle.machine.specs.declared.stage.Stage.{Stage}

@@ -1,12 +1,12 @@
 -- The step by which a job is replayed
-use Rattle.std.proofs.Common.{◌≡◌, ◌≢◌, ℕ, suc, ◌+◌, ◌-◌, ◌<◌, ◌≤◌, List, length, take, set, Bool, true, false, refl, sym, ap, ◌∙◌, subst, arith}
+use Rattle.std.proofs.Common.{◌≡◌, ◌≢◌, ℕ, ◌+◌, ◌-◌, ◌<◌, ◌≤◌, List, length, take, set, Bool, true, false, refl, sym, ap, ◌∙◌, subst, arith}
 use Rattle.std.specs.Prelude.{◌==◌, nat_lt, Option, Some, None, Result, Ok, Err, IfOk, IfErr, slice_get, slice_index_or}
 use Rattle.std.proofs.Math.ListN.{get_or-eq_default}
 use Rattle.std.proofs.lemmas.Bool.{false≢true}
 use Rattle.std.proofs.lemmas.Bool.Decides.{nat_tests}
 use Rattle.sender_log.specs.Log.{queue_of}
 use Rattle.helpers.specs.declared.effects.Who.{Who}
-use Rattle.verifier.specs.Typed.{Typed}
+use Rattle.handlers.specs.Image.{TheImage}
 use Rattle.replay.specs.Plan.{ThePlan}
 use Rattle.replay.specs.Task.{TheTask}
 use Rattle.world.specs.declared.message.Message.{Message}
@@ -118,17 +118,17 @@ module _ (m : TheMachine) (w : World) (s : Stands m w) (room p calls : ℕ) (x :
       refl
 
 -- a job that is handed out is open: its image is one of the machine's
-image-at : (t : Typed) (images : List Typed) (k : ℕ) → ((e : Typed) → t ≡ slice_index_or images k e) → k < length images
+image-at : (t : TheImage) (images : List TheImage) (k : ℕ) → ((e : TheImage) → t ≡ slice_index_or images k e) → k < length images
 image-at t images k all = by_place (nat_lt k (length images)) refl
   where
     by_place : (b : Bool) → nat_lt k (length images) ≡ b → k < length images
     by_place true e = grind (arith, nat_tests)
     by_place false e =
         let past : length images ≤ k = grind (arith, nat_tests) in
-        let a : Typed = record t { len = 0 } in
-        let b : Typed = record t { len = 1 } in
-        let zero_is : t.len ≡ 0 = ap (λ (x : Typed). x.len) (all a ∙ get_or-eq_default images a past) in
-        let one_is : t.len ≡ 1 = ap (λ (x : Typed). x.len) (all b ∙ get_or-eq_default images b past) in
+        let a : TheImage = record t { len = 0 } in
+        let b : TheImage = record t { len = 1 } in
+        let zero_is : t.len ≡ 0 = ap (λ (x : TheImage). x.len) (all a ∙ get_or-eq_default images a past) in
+        let one_is : t.len ≡ 1 = ap (λ (x : TheImage). x.len) (all b ∙ get_or-eq_default images b past) in
         absurd (omega (arith, zero_is, one_is))
 
 -- the task that a process begins is that of its open job, in each world that the machine stands for then

@@ -1,12 +1,11 @@
 -- A process that is back as its checkpoint says is sound
 use Rattle.std.proofs.Common.{◌≡◌, ℕ, ◌+◌, ◌-◌, ◌<◌, ◌≤◌, List, [], ◌++◌, length, map, take, drop, set, sym, ap, ◌∙◌, subst, arith}
 use Rattle.std.specs.Prelude.{Bool, slice_index_or}
-use Rattle.std.specs.Arc.{arc_value}
 use Rattle.std.specs.List.{list_all}
 use Rattle.std.specs.Vec.{with_item, with_items}
 use Rattle.std.proofs.lemmas.List.{append-nil, drop_all, get_or_default, get_or-set_same, length-map, length-set, take_all}
 use Rattle.limits.specs.declared.TheConstants.{ENTRIES}
-use Rattle.verifier.specs.Typed.{Typed}
+use Rattle.handlers.specs.Image.{TheImage, image_in}
 use Rattle.rsn.specs.Receipts.{run_of}
 use Rattle.checkpoint.specs.declared.form.Form.TheVariants.{Second}
 use Rattle.checkpoint.specs.Saved.{TheSaved, Fits, is_sender, log_again, queue_again}
@@ -51,14 +50,14 @@ restored-sound n me len calls x plan alone i fits before fresh =
 
 -- one process takes the place of another
 pub put-sound : (m : Inside) → IsSound m → (p : ℕ) (y : TheProcess) → 0 < p → p ≤ length m.processes.items
-    → ((e : Typed) → IsSoundAt (length m.processes.items) p (slice_index_or (map arc_value m.images.items) (p - 1) e).len m.calls y) → IsSound (record m { processes = with_item m.processes (p - 1) y })
+    → ((e : TheImage) → IsSoundAt (length m.processes.items) p (slice_index_or (map image_in m.images.items) (p - 1) e).len m.calls y) → IsSound (record m { processes = with_item m.processes (p - 1) y })
 put-sound m i p y positive within now =
     let len = length-set m.processes.items (p - 1) y in
     record {
       some = omega (arith, len, i.some);
       few = omega (arith, len, i.few);
       images = i.images ∙ sym len;
-      processes = sound-put m.processes.items (map arc_value m.images.items) p m.calls y positive within i.processes now;
+      processes = sound-put m.processes.items (map image_in m.images.items) p m.calls y positive within i.processes now;
       outside = subst (λ n. IsLogOf n 0 m.outside.log) (sym len) i.outside;
       calls = i.calls;
       started = i.started;
@@ -101,7 +100,7 @@ forgotten-sound m s p k ys is o out =
       some = omega (arith, len, s.some);
       few = omega (arith, len, s.few);
       images = s.images ∙ sym len;
-      processes = processes-forgot was (map arc_value m.images.items) p k m.calls s.processes zs zs_are;
+      processes = processes-forgot was (map image_in m.images.items) p k m.calls s.processes zs zs_are;
       outside = subst (λ (v : TheOutside). IsLogOf (length zs) 0 v.log) (sym out) (subst (λ n. IsLogOf n 0 (forgot p k m.outside.log)) (sym len) (log-forgot (length was) 0 p k m.outside.log s.outside));
       calls = s.calls;
       started = s.started;
@@ -130,8 +129,8 @@ module _ (i : Inside) (m : TheMachine) (p k : ℕ) (plan : ThePlan) (alone : Boo
   back-sound s fits before fresh =
       let saved : (process_at m p).saved ≡ was.saved = sym (ap (λ (x : TheProcess). x.saved) was_is) in
       put-sound i s p y positive inside
-      (λ e. subst (IsSoundAt (length i.processes.items) p (slice_index_or (map arc_value i.images.items) (p - 1) e).len i.calls) (sym is)
-      (restored-sound (length i.processes.items) p _ i.calls was plan alone (subst (IsSoundAt (length i.processes.items) p (slice_index_or (map arc_value i.images.items) (p - 1) e).len i.calls) (sym here) (sound_at i s p was e positive inside))
+      (λ e. subst (IsSoundAt (length i.processes.items) p (slice_index_or (map image_in i.images.items) (p - 1) e).len i.calls) (sym is)
+      (restored-sound (length i.processes.items) p _ i.calls was plan alone (subst (IsSoundAt (length i.processes.items) p (slice_index_or (map image_in i.images.items) (p - 1) e).len i.calls) (sym here) (sound_at i s p was e positive inside))
       (subst (Fits Second) saved fits) (before ∙ ap (λ (z : TheSaved). length z.senders) saved) fresh))
 
   pub back-settles : MaySettle (view_of now) p

@@ -1,5 +1,5 @@
 -- The step by which numbers are restored
-use Rattle.std.proofs.Common.{◌≡◌, ◌≢◌, ℕ, zero, suc, ◌+◌, ◌-◌, ◌<◌, ◌≤◌, List, [], ◌∷◌, ◌++◌, length, take, set, Bool, true, false, refl, sym, ap, ◌∙◌, subst, arith}
+use Rattle.std.proofs.Common.{◌≡◌, ◌≢◌, ℕ, zero, suc, ◌+◌, ◌-◌, ◌<◌, ◌≤◌, List, [], ◌∷◌, ◌++◌, length, set, Bool, true, false, refl, sym, ap, ◌∙◌, subst, arith}
 use Rattle.std.specs.Prelude.{◌==◌, ◌&&◌, not, nat_lt, nat_le, if◌then◌else◌, Option, Some, None, slice_get, slice_index_or}
 use Rattle.std.proofs.lemmas.Bool.{false≢true}
 use Rattle.std.proofs.lemmas.Bool.Decides.{nat_tests}
@@ -7,13 +7,13 @@ use Rattle.std.proofs.lemmas.List.{get_or_append_left, get_or-append_right, get_
 use Rattle.std.proofs.lemmas.Option.{slice_get-get_or, slice_get_past}
 use Rattle.rsn.specs.Receipts.{numbers_from, numbers_of}
 use Rattle.sender_log.specs.Queue.{TheQueue, no_queue, is_logged, known, numbers_at, renumbered}
-use Rattle.sender_log.specs.Log.{TheLog, queue_of}
+use Rattle.sender_log.specs.Log.{queue_of}
 use Rattle.sender_log.proofs.QueueLemmas.{length-numbers_at}
 use Rattle.world.specs.declared.message.Message.{Message}
 use Rattle.world.specs.declared.call.Call.TheVariants.{Resync as ResyncWith}
 use Rattle.world.specs.declared.answer.Answer.TheVariants.{Restored}
 use Rattle.world.specs.History.{count_of, rsn_of}
-use Rattle.world.specs.Phases.{Phase, Resync, is_up, is_down, todo_of, those, without}
+use Rattle.world.specs.Phases.{Resync, is_up, is_down, todo_of, those, without}
 use Rattle.world.specs.World.{World, put}
 use Rattle.world.specs.Logs.{sent, is_entry}
 use Rattle.world.specs.Calls.{told, ready, restored}
@@ -23,7 +23,7 @@ use Rattle.theorems.proofs.ListLemmas.{take-all}
 use Rattle.theorems.proofs.RunLemmas.{run_to-whole}
 use Rattle.machine.specs.Process.{TheProcess, Settles}
 use Rattle.machine.specs.Outbox.{with_messages}
-use Rattle.machine.specs.Stage.{is_live, is_lost, held_by, phase_of, is_to_do, MayWork}
+use Rattle.machine.specs.Stage.{is_lost, held_by, phase_of, is_to_do, MayWork}
 use Rattle.machine.specs.declared.stage.Stage.{Stage}
 use Rattle.machine.specs.declared.stage.Stage.TheVariants as stages
 use Rattle.machine.specs.declared.stage.Peers.{Peers}

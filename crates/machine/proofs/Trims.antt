@@ -1,11 +1,11 @@
 -- The steps of trims
 use Rattle.std.proofs.Common.{◌≡◌, ◌≢◌, ℕ, zero, suc, ◌+◌, ◌-◌, ◌<◌, ◌≤◌, List, [], ◌∷◌, ◌++◌, length, map, take, drop, set, min, max, Bool, true, false, refl, sym, ap, ◌∙◌, subst, arith, true≢false}
-use Rattle.std.specs.Prelude.{◌==◌, ◌&&◌, not, nat_lt, count_by, Option, Some, None, if◌then◌else◌, slice_index_or, slice_get, cond}
+use Rattle.std.specs.Prelude.{◌==◌, nat_lt, count_by, Option, Some, None, if◌then◌else◌, slice_index_or, slice_get, cond}
 use Rattle.std.proofs.lemmas.Bool.Decides.{nat_tests}
-use Rattle.std.proofs.lemmas.List.{append_assoc, get_or-drop, get_or-set_same, get_or-set_other, length-append, length-drop, length-set, length-take, take-append-drop, take_all, set-get_or}
+use Rattle.std.proofs.lemmas.List.{append_assoc, get_or-drop, get_or-set_same, get_or-set_other, length-append, length-drop, length-set, length-take, take-append-drop}
 use Rattle.std.proofs.lemmas.List.Sums.{sum_by-cons}
 use Rattle.sender_log.specs.Queue.{TheQueue, no_queue, count_up_to, trimmed}
-use Rattle.sender_log.specs.Log.{TheLog, queue_of, with_queue}
+use Rattle.sender_log.specs.Log.{TheLog, queue_of}
 use Rattle.world.specs.declared.message.Message.{Message}
 use Rattle.world.specs.declared.call.Call.TheVariants.{Trim}
 use Rattle.world.specs.declared.answer.Answer.TheVariants.{Trimmed}
@@ -18,7 +18,6 @@ use Rattle.theorems.specs.Invariants.Sound.{Sound}
 use Rattle.world.specs.Refusals.{refusal_of}
 use Rattle.machine.specs.Process.{TheProcess, idle_process, trimmed_at}
 use Rattle.machine.specs.Fields.{IsSoundAt}
-use Rattle.machine.specs.Queue.{IsRest}
 use Rattle.machine.specs.Saving.{covered_at, drops, dropped_by, dropped_to, trimmed_log, trimmed_to, without_covered}
 use Rattle.machine.specs.Simulation.{TheMachine, Shows, Stands, StandsAt, Steps, Keeps, process_at, log_at, is_up_at}
 use Rattle.machine.proofs.Standing.{rest-length, up-down, is_up-phase_of, is_live-at, live-lost}

@@ -1,8 +1,8 @@
 -- What an arrival answers, and what a result that comes back has to be
 use Rattle.std.specs.Prelude.{◌≡◌, ℕ, ◌+◌, ◌<◌, List, Option, Some, None, Result, Ok, Err, true}
 use Rattle.decode.specs.declared.insn.Insn.{Insn}
-use Rattle.regtypes.specs.declared.image_form.ImageForm.{ImageForm}
-use Rattle.verifier.specs.Typed.{Typed}
+use Rattle.images.specs.declared.file_form.FileForm.{FileForm}
+use Rattle.handlers.specs.Image.{TheImage}
 use Rattle.replay.specs.Task.{TheTask}
 use Rattle.world.specs.declared.message.Message.{Message}
 use Rattle.world.specs.declared.packet.Packet.{Packet}
@@ -39,17 +39,17 @@ finished_of (Committed rsn key) = answers.Committed rsn key
 finished_of (Replayed rsn) = answers.Replayed rsn
 
 -- the image that was found has this code; None, for a number without a process, has none
-abbrev pub HasCode : Option Typed → List Insn → Type 0
+abbrev pub HasCode : Option TheImage → List Insn → Type 0
 HasCode None code = ⊥
 HasCode (Some image) code = image.code ≡ code
 
--- the image that was found has this form, `SBI1` or `SBI2`; None, for a number without a process, has none
-abbrev pub HasForm : Option Typed → ImageForm → Type 0
+-- the image that was found has this form, `SBI1`, `SBI2` or `SBI3`; None, for a number without a process, has none
+abbrev pub HasForm : Option TheImage → FileForm → Type 0
 HasForm None form = ⊥
 HasForm (Some image) form = image.form ≡ form
 
 -- the task is that of the job that its process has open in this world, live or replayed, in all that a result is compared by
-pub record IsOpen (images : List Typed) (t : TheTask) (w : World) : Type 0 where
+pub record IsOpen (images : List TheImage) (t : TheTask) (w : World) : Type 0 where
   pub inside : is_inside w t.who.me ≡ true
   pub incarnation : t.incarnation ≡ w.incarnation t.who.me
   pub rsn : t.rsn ≡ length_of w t.who.me + 1

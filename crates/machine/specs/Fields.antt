@@ -1,9 +1,8 @@
 -- The fields behind what clauses see of a machine
 use Rattle.std.specs.Prelude.{◌≡◌, ◌≢◌, ℕ, suc, ◌+◌, ◌<◌, ◌≤◌, List, length, map, Option, Some, None, is_some, true, false, slice_index_or}
-use Rattle.std.specs.Arc.{arc_value}
 use Rattle.std.specs.List.{list_all}
 use Rattle.limits.specs.declared.TheConstants.{ENTRIES, PACKETS, PROCESSES, STATE_BYTES}
-use Rattle.verifier.specs.Typed.{Typed}
+use Rattle.handlers.specs.Image.{TheImage, image_in}
 use Rattle.sender_log.specs.Log.{TheLog, queue_of}
 use Rattle.world.specs.declared.packet.Packet.{Packet}
 use Rattle.world.specs.declared.packet.Packet.TheVariants.{Delivery, Number, Acknowledgement}
@@ -17,7 +16,7 @@ use Rattle.machine.specs.declared.machine.Machine.TheInside.{Inside}
 
 -- a machine as clauses see it: no capacities, and images by value, whether or not processes share them
 abbrev pub view_of : Inside → TheMachine
-view_of m = record { images = map arc_value m.images.items; processes = m.processes.items; outside = m.outside; slots = m.wire; started = m.started; calls = m.calls }
+view_of m = record { images = map image_in m.images.items; processes = m.processes.items; outside = m.outside; slots = m.wire; started = m.started; calls = m.calls }
 
 -- a packet that n processes may have on the wire: a message of one, or of the outside, for another; a number that a process
 -- gave to a message of another, or of the outside; or the acknowledgement of such a number
@@ -59,7 +58,7 @@ pub record IsSound (m : Inside) : Type 0 where
   pub some : 0 < length m.processes.items
   pub few : length m.processes.items ≤ PROCESSES
   pub images : length m.images.items ≡ length m.processes.items
-  pub processes : (p : ℕ) (d : TheProcess) (e : Typed) → p < length m.processes.items → IsSoundAt (length m.processes.items) (suc p) (slice_index_or (map arc_value m.images.items) p e).len m.calls (slice_index_or m.processes.items p d)
+  pub processes : (p : ℕ) (d : TheProcess) (e : TheImage) → p < length m.processes.items → IsSoundAt (length m.processes.items) (suc p) (slice_index_or (map image_in m.images.items) p e).len m.calls (slice_index_or m.processes.items p d)
   pub outside : IsLogOf (length m.processes.items) 0 m.outside.log
   pub calls : m.calls ≤ ENTRIES + 1
   pub started : m.started ≤ m.calls

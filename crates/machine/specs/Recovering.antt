@@ -3,7 +3,6 @@ use Rattle.std.specs.Prelude.{◌≡◌, ℕ, ◌-◌, ◌<◌, ◌≤◌, List,
 use Rattle.limits.specs.declared.TheConstants.{ENTRIES, PARTIES}
 use Rattle.sender_log.specs.Queue.{unnumbered}
 use Rattle.sender_log.specs.Log.{TheLog, queue_of, with_queue}
-use Rattle.replay.specs.Plan.{ThePlan}
 use Rattle.world.specs.declared.call.Call.{Call}
 use Rattle.world.specs.declared.call.Call.TheVariants.{Recover, RecoverAlone}
 use Rattle.world.specs.declared.refusal.Refusal.{Refusal}

@@ -1,10 +1,10 @@
 -- Which worlds a machine stands for, and what a call owes
 use Rattle.std.specs.Prelude.{◌≡◌, ◌≢◌, ℕ, suc, ◌+◌, ◌-◌, ◌<◌, ◌≤◌, List, [], length, map, take, Option, Some, None, Result, Ok, Err, Bool, true, false, ◌==◌, ◌||◌, nat_le, if◌then◌else◌, slice_index_or}
 use Rattle.std.specs.List.{filter}
+use Rattle.handlers.specs.Image.{TheImage}
 use Rattle.sender_log.specs.Queue.{TheQueue}
 use Rattle.sender_log.specs.Log.{TheLog, queue_of}
 use Rattle.send_gate.specs.Gate.{TheGate, count_to}
-use Rattle.verifier.specs.Typed.{Typed}
 use Rattle.world.specs.declared.message.Message.{Message}
 use Rattle.world.specs.declared.packet.Packet.{Packet}
 use Rattle.world.specs.declared.call.Call.{Call}
@@ -32,7 +32,7 @@ use Rattle.machine.specs.Queue.{IsRest}
 
 -- what clauses see of a machine: no capacities. The processes and their images are those of numbers 1, 2, ..
 pub record TheMachine : Type 0 where
-  pub images : List Typed
+  pub images : List TheImage
   pub processes : List TheProcess
   pub outside : TheOutside
   pub slots : List (Option Packet)

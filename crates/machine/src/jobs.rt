@@ -1,18 +1,17 @@
 //! Jobs: begun, compared and finished.
 
 ghost use Rattle.std.specs.Prelude.{◌≡◌, ◌+◌, ◌≤◌, ◌↔◌, true, false, IsTrue, IfOk, IfErr, OnOk};
-ghost use Rattle.std.specs.Bool.{OnTrue};
 ghost use Rattle.world.specs.declared.refusal.Refusal.TheVariants.{Memory};
 ghost use Rattle.machine.specs.Arrival.{Finishes};
-ghost use Rattle.machine.specs.Jobs.{MayBegin, Begins, Matches, HaveSlots};
+ghost use Rattle.machine.specs.Jobs.{MayBegin, Begins, Matches};
 ghost use Rattle.machine.specs.Simulation.{is_up_at};
 
 use crate::arrival::Finished;
 use crate::machine::Machine;
+use handlers::Handler;
 use limits::ENTRIES;
 use replay::{Done, Job, Task, Ticket};
 use std::sync::Arc;
-use verifier::Image;
 use world::{Message, Packet, Refusal};
 
 impl Machine {
@@ -46,8 +45,7 @@ impl Machine {
     /// Whether the task is that of the job that its process has open. All that it takes is
     /// compared, but not its serial number.
     pub fn is_open(&self, task: &Task) -> bool
-        ensures matches { IsTrue result ↔ Matches self.now task.now }
-        ensures slots { OnTrue result (HaveSlots self.now task.now) }
+        ensures { IsTrue result ↔ Matches self.now task.now }
     {
         let me = task.process();
         if !self.is_inside(me) {
@@ -64,7 +62,7 @@ impl Machine {
         {
             return false;
         }
-        let image: &Image = &self.images[me as usize - 1];
+        let image: &Handler = &self.images[me as usize - 1];
         image.same_code(task.image())
     }
 
@@ -89,7 +87,6 @@ impl Machine {
     fn commit(&mut self, done: Done) -> Result<Finished, (Refusal, Done)>
         requires calls { self.old.calls ≤ ENTRIES }
         requires matches { Matches self.old done }
-        requires slots { HaveSlots self.old done }
         requires up { is_up_at self.old done.who.me ≡ true }
         ensures step { Finishes self.old self.new done result }
         ensures calls { OnOk result (self.new.calls ≡ self.old.calls + 1) }
@@ -119,7 +116,6 @@ impl Machine {
     fn recall(&mut self, done: Done) -> Result<Finished, (Refusal, Done)>
         requires calls { self.old.calls ≤ ENTRIES }
         requires matches { Matches self.old done }
-        requires slots { HaveSlots self.old done }
         requires down { is_up_at self.old done.who.me ≡ false }
         ensures step { Finishes self.old self.new done result }
         ensures calls { OnOk result (self.new.calls ≡ self.old.calls + 1) }

@@ -1,7 +1,7 @@
 //! A machine, and what is read of it.
 
 ghost use Rattle.std.specs.Prelude.{◌≡◌, ℕ, ◌+◌, ◌<◌, ◌≤◌, ◌&&◌, [], true, false, IfOk, is_some, count_by, length, map, nat_lt, nat_le};
-ghost use Rattle.std.specs.Arc.{arc_value};
+ghost use Rattle.handlers.specs.Image.{image_in};
 ghost use Rattle.world.specs.Phases.{name_of, is_down};
 ghost use Rattle.world.specs.World.{World};
 ghost use Rattle.world.specs.Logs.{state_of, length_of};
@@ -14,6 +14,7 @@ use crate::outside::Outside;
 use crate::process::Process;
 use crate::stage::Stage;
 use crate::wire::Wire;
+use handlers::Handler;
 use helpers::Who;
 use limits::PROCESSES;
 use replay::Spare;
@@ -23,14 +24,13 @@ use sender_log::Log;
 use std::alloc::{AllocError, Global};
 use std::marker::Model;
 use std::sync::Arc;
-use verifier::Image;
 use world::{Message, Packet, PhaseName, Refusal};
 
 /// Processes 1 to n, the outside and the wire.
 #[derive(Drop)]
 pub struct Machine {
     pub(crate) alloc: Global,
-    pub(crate) images: Vec<Arc<Image>>,
+    pub(crate) images: Vec<Arc<Handler>>,
     pub(crate) processes: Vec<Process>,
     pub(crate) outside: Outside,
     pub(crate) wire: Wire,
@@ -53,9 +53,9 @@ impl Model for Machine {
 }
 
 // For each image a process that received nothing, numbered from 1.
-fn idle_processes(alloc: Global, images: &[Arc<Image>]) -> Result<Vec<Process>, AllocError>
+fn idle_processes(alloc: Global, images: &[Arc<Handler>]) -> Result<Vec<Process>, AllocError>
     requires { length images.now ≤ PROCESSES }
-    ensures { IfOk result (λ v. AreIdle (length images.now) (map arc_value images.now) v.items) }
+    ensures { IfOk result (λ v. AreIdle (length images.now) (map image_in images.now) v.items) }
 {
     let n = images.len() as u8;
     let mut processes = Vec::new(alloc);
@@ -67,9 +67,9 @@ fn idle_processes(alloc: Global, images: &[Arc<Image>]) -> Result<Vec<Process>, 
 }
 
 impl Machine {
-    /// Processes with these images, which received nothing. There are 1 to 15.
-    pub fn open(alloc: Global, images: Vec<Arc<Image>>) -> Result<Machine, Refusal>
-        ensures { Opens (map arc_value images.items) result }
+    /// Processes with the handlers of these images, which received nothing. There are 1 to 15.
+    pub fn open(alloc: Global, images: Vec<Arc<Handler>>) -> Result<Machine, Refusal>
+        ensures { Opens (map image_in images.items) result }
     {
         let count = images.len();
         if count == 0 || count > PROCESSES {

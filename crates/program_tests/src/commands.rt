@@ -2,6 +2,7 @@
 
 mod folder;
 mod machine_code;
+mod ordinary_c;
 mod scenarios;
 mod streams;
 mod text;

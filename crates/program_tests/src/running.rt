@@ -6,10 +6,10 @@ mod lives;
 mod reports;
 mod runs;
 
+use handlers::Handler;
 use std::alloc::Global;
 use std::sync::Arc;
 use std::test::Fail;
-use verifier::{Image, load};
 
 /// Gives each message out.
 const ECHO: [u8; 24] = [
@@ -25,12 +25,12 @@ pub(crate) const ADDER: [u8; 56] = [
 ];
 
 /// The image of a file.
-pub(crate) fn image(alloc: Global, file: &[u8]) -> Result<Arc<Image>, Fail> {
-    Ok(Arc::new(alloc, load(alloc, file)?)?)
+pub(crate) fn image(alloc: Global, file: &[u8]) -> Result<Arc<Handler>, Fail> {
+    Ok(Arc::new(alloc, Handler::load(alloc, file)?)?)
 }
 
 /// As many adders.
-pub(crate) fn adders(alloc: Global, count: usize) -> Result<Vec<Arc<Image>>, Fail>
+pub(crate) fn adders(alloc: Global, count: usize) -> Result<Vec<Arc<Handler>>, Fail>
     ensures { IfOk result (λ v. length v.items ≡ count) }
 {
     let mut images = Vec::new(alloc);

@@ -2,23 +2,23 @@
 use Rattle.std.specs.Prelude.{◌≡◌, ◌≢◌, ◌≤◌, ℕ, List, [], length, Option, Some, None}
 use Rattle.limits.specs.declared.TheConstants.{PROCESSES}
 use Rattle.helpers.specs.declared.effects.Who.{Who}
-use Rattle.verifier.specs.Typed.{Typed}
-use Rattle.interp.specs.HandlerCall.{Handled, IsHandled, handled_by}
+use Rattle.interp.specs.HandlerCall.{Handled}
+use Rattle.handlers.specs.Image.{TheImage}
+use Rattle.handlers.specs.Answer.{HasRun, answered}
 use Rattle.world.specs.declared.message.Message.{Message}
-use Rattle.world.specs.Fold.{seen}
 
 -- which job it is, what is run, and on what
 pub record TheTask : Type 0 where
   pub serial : ℕ
   pub incarnation : ℕ
   pub rsn : ℕ
-  pub image : Typed
+  pub image : TheImage
   pub state : List ℕ
   pub message : Message
   pub who : Who
 
 -- an image may be called with this state, as this process
-pub record MayCall (image : Typed) (state : List ℕ) (who : Who) : Type 0 where
+pub record MayCall (image : TheImage) (state : List ℕ) (who : Who) : Type 0 where
   pub state_len : length state ≡ image.len
   pub inside : 1 ≤ who.me
   pub within : who.me ≤ who.count
@@ -28,7 +28,7 @@ pub record MayCall (image : Typed) (state : List ℕ) (who : Who) : Type 0 where
 
 -- what the run of the task's image on its state and message leaves; None where it faults or doesn't exit
 abbrev pub handled : TheTask → Option Handled
-handled t = handled_by t.image.form t.image.slots t.who t.state (seen t.image.form t.message.payload)
+handled t = answered t.image t.who t.state t.message.payload
 
 -- what the handler leaves, if it answers
 abbrev pub given : Option Handled → Handled
@@ -42,7 +42,7 @@ answer_of t = given (handled t)
 -- the handler's answer to this task: that of a run from its entry to its exit, which makes at most as many steps as there are
 -- instructions
 pub record IsAnswer (t : TheTask) (h : Handled) : Type 0 where
-  pub runs : IsHandled t.image.form t.image.slots t.who t.state (seen t.image.form t.message.payload) h
+  pub runs : HasRun t.image t.who t.state t.message.payload h
   pub answers : handled t ≡ Some h
   pub within : h.steps ≤ length t.image.code
   pub state_len : length h.state ≡ t.image.len

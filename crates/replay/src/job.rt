@@ -1,21 +1,17 @@
 //! Handler calls that are to be made.
 
-ghost use Rattle.std.specs.Prelude.{◌≡◌, IfOk, OnOk, length};
-ghost use Rattle.std.specs.Arc.{arc_value};
-ghost use Rattle.interp.specs.Configuration.{IsLong};
+ghost use Rattle.std.specs.Prelude.{◌≡◌, IfOk, OnOk};
+ghost use Rattle.handlers.specs.Image.{image_in};
 ghost use Rattle.replay.specs.Task.{TheTask, MayCall};
-ghost use Rattle.world.specs.Fold.{seen};
 
 use crate::done::Done;
 use crate::spare::Spare;
 use crate::task::{Task, Ticket};
-use helpers::{Effects, Payload, Who};
-use interp::call;
-use regtypes::ImageForm;
+use handlers::Handler;
+use helpers::{Effects, Who};
 use std::alloc::{AllocError, Global};
 use std::marker::Model;
 use std::sync::Arc;
-use verifier::Image;
 use world::Message;
 
 /// A handler call that is to be made, with the place for the state that it leaves.
@@ -37,17 +33,6 @@ impl Model for Job {
     ghost invariant = { λ j. j.next.items ≡ j.task.state };
 }
 
-/// What the handler of an image sees of a payload.
-fn seen<'a>(image: &Image, payload: &'a Payload) -> &'a [u8]
-    ensures value { result.now ≡ seen image.now.form payload.now }
-    ensures size { IsLong image.now.form (length result.now) }
-{
-    match image.form() {
-        ImageForm::Sbi1 => payload.view64(),
-        ImageForm::Sbi2 => payload.as_slice(),
-    }
-}
-
 // Has a list the bytes of a state.
 fn refill(list: &mut Vec<u8>, state: &[u8]) -> Result<(), AllocError>
     ensures { OnOk result (list.new.items ≡ state.now) }
@@ -57,19 +42,19 @@ fn refill(list: &mut Vec<u8>, state: &[u8]) -> Result<(), AllocError>
 }
 
 impl Job {
-    /// The call of an image with a copy of this state. It takes over the places of an earlier job,
+    /// The call of a handler with a copy of this state. It takes over the places of an earlier job,
     /// or makes them here, so that running takes no memory.
     pub fn new(
         alloc: Global,
         spare: Option<Spare>,
         ticket: Ticket,
-        image: Arc<Image>,
+        image: Arc<Handler>,
         state: &[u8],
         message: Message,
         who: Who,
     ) -> Result<Job, AllocError>
-        requires { MayCall (arc_value image) state.now who }
-        ensures { IfOk result (λ j. j ≡ record { serial = ticket.serial; incarnation = ticket.incarnation; rsn = ticket.rsn; image = arc_value image; state = state.now; message = message; who = who }) }
+        requires { MayCall (image_in image) state.now who }
+        ensures { IfOk result (λ j. j ≡ record { serial = ticket.serial; incarnation = ticket.incarnation; rsn = ticket.rsn; image = image_in image; state = state.now; message = message; who = who }) }
     {
         let spare = match spare {
             Some(spare) => spare,
@@ -109,10 +94,9 @@ impl Job {
             mut effects,
         } = self;
         effects.clear();
-        let end = call(
-            task.image(),
+        let end = task.image().call(
             next.as_mut_slice(),
-            seen(task.image(), task.payload()),
+            task.payload(),
             task.who(),
             &mut effects,
         );

@@ -1,14 +1,14 @@
 //! All that a handler call takes.
 
 ghost use Rattle.std.specs.Prelude.{◌≡◌};
-ghost use Rattle.std.specs.Arc.{arc_value};
+ghost use Rattle.handlers.specs.Image.{image_in, the_image};
 ghost use Rattle.std.specs.Box.{box_value};
 ghost use Rattle.replay.specs.Task.{TheTask, MayCall};
 
+use handlers::Handler;
 use helpers::{Payload, Who};
 use std::marker::Model;
 use std::sync::Arc;
-use verifier::Image;
 use world::Message;
 
 /// Which of a session's jobs a job is.
@@ -26,14 +26,14 @@ pub struct Ticket {
 #[derive(Drop)]
 pub struct Task {
     ticket: Ticket,
-    image: Arc<Image>,
+    image: Arc<Handler>,
     state: Vec<u8>,
     message: Box<Message>,
     who: Who,
 }
 
 impl Model for Task {
-    ghost use Rattle.std.specs.Arc.{arc_value};
+    ghost use Rattle.handlers.specs.Image.{image_in};
     ghost use Rattle.std.specs.Box.{box_value};
     ghost use Rattle.replay.specs.Task.{TheTask, MayCall};
 
@@ -43,25 +43,25 @@ impl Model for Task {
       serial = t.ticket.serial;
       incarnation = t.ticket.incarnation;
       rsn = t.ticket.rsn;
-      image = arc_value t.image;
+      image = image_in t.image;
       state = t.state.items;
       message = box_value t.message;
       who = t.who;
     } };
 
-    ghost invariant = { λ t. MayCall (arc_value t.image) t.state.items t.who };
+    ghost invariant = { λ t. MayCall (image_in t.image) t.state.items t.who };
 }
 
 impl Task {
     pub(crate) fn new(
         ticket: Ticket,
-        image: Arc<Image>,
+        image: Arc<Handler>,
         state: Vec<u8>,
         message: Box<Message>,
         who: Who,
     ) -> Task
-        requires { MayCall (arc_value image) state.items who }
-        ensures { result ≡ record { serial = ticket.serial; incarnation = ticket.incarnation; rsn = ticket.rsn; image = arc_value image; state = state.items; message = box_value message; who = who } }
+        requires { MayCall (image_in image) state.items who }
+        ensures { result ≡ record { serial = ticket.serial; incarnation = ticket.incarnation; rsn = ticket.rsn; image = image_in image; state = state.items; message = box_value message; who = who } }
     {
         Task {
             ticket,
@@ -106,9 +106,9 @@ impl Task {
         self.ticket.rsn
     }
 
-    /// The image whose code is run.
-    pub fn image(&self) -> &Image
-        ensures { result.now ≡ self.now.image }
+    /// The handler that is called.
+    pub fn image(&self) -> &Handler
+        ensures { the_image result.now ≡ self.now.image }
     {
         &self.image
     }

@@ -6,7 +6,7 @@ use Rattle.std.proofs.lemmas.List.{get_or_append_left, get_or_push, length-map}
 use Rattle.std.proofs.lemmas.List.Elements.{All-push}
 use Rattle.std.proofs.lemmas.List.Sums.{sum_by-append}
 use Rattle.limits.specs.declared.TheConstants.{SEATS, WORKERS}
-use Rattle.verifier.specs.Typed.{Typed}
+use Rattle.handlers.specs.Image.{TheImage}
 use Rattle.world.specs.declared.entry.Entry.{Entry}
 use Rattle.world.specs.Fold.{handlers_of}
 use Rattle.world.specs.Legal.{Legal, world_of}
@@ -118,7 +118,7 @@ pub record Leave {L : Type 0} (workers budget : ℕ) (opened closed : TheSession
   pub continues : Continues opened closed
   pub grew : length closed.entries + answered_by (manned workers opened.seats) ≡ length opened.entries + shared.answers_of shares
 
-live_new : {L : Type 0} → (names : List (List ℕ)) (images : List Typed) (workers budget : ℕ) (closed : TheSession) (shares : List (Share L)) (ended : List Ended) (old new : List ℕ)
+live_new : {L : Type 0} → (names : List (List ℕ)) (images : List TheImage) (workers budget : ℕ) (closed : TheSession) (shares : List (Share L)) (ended : List Ended) (old new : List ℕ)
     → workers ≤ WORKERS → Leave workers budget (record { images = images; entries = []; seats = new_seats SEATS }) closed shares → IsLegal closed → All HasMemory shares
     → ended ≡ map ended_of shares → new ≡ old ++ results_text names closed.images closed.entries → IsLive names images workers budget ended old new
 live_new names images workers budget closed shares ended old new few leave legal memory ends written =
@@ -132,14 +132,14 @@ live_new names images workers budget closed shares ended old new few leave legal
       all = count;
       each = end_from budget 1 seats shares men.fresh_all leave.served memory;
       entries = closed.entries;
-      legal = subst (λ (is : List Typed). Legal (length is) (handlers_of is) closed.entries) same legal;
+      legal = subst (λ (is : List TheImage). Legal (length is) (handlers_of is) closed.entries) same legal;
       allowed = subst (λ (es : List Entry). are_allowed (world_of (length images) (handlers_of images) []) es ≡ true) (sym leave.continues.entries) leave.continues.allowed;
       as_many = many ∙ sym (ends_answered shares);
-      text = written ∙ ap (λ (is : List Typed). old ++ results_text names is closed.entries) same;
+      text = written ∙ ap (λ (is : List TheImage). old ++ results_text names is closed.entries) same;
     })
 
 -- the text of what they leave, and how they ended
-pub live_by : {L : Type 0} → (names : List (List ℕ)) (images : List Typed) (workers budget : ℕ) (opened closed : TheSession) (shares : List (Share L)) (ended : List Ended) (old new : List ℕ)
+pub live_by : {L : Type 0} → (names : List (List ℕ)) (images : List TheImage) (workers budget : ℕ) (opened closed : TheSession) (shares : List (Share L)) (ended : List Ended) (old new : List ℕ)
     → workers ≤ WORKERS → opened ≡ record { images = images; entries = []; seats = new_seats SEATS } → Leave workers budget opened closed shares → IsLegal closed
     → All HasMemory shares → ended ≡ map ended_of shares → new ≡ old ++ results_text names closed.images closed.entries → IsLive names images workers budget ended old new
 live_by names images workers budget opened closed shares ended old new few is leave legal memory ends written =

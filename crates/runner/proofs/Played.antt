@@ -2,7 +2,7 @@
 use Rattle.std.proofs.Common.{◌≡◌, ◌∙◌, ℕ, List, [], ◌∷◌, ◌++◌, append_assoc, length, take, Option, Some, None, Result, Ok, Err, refl, sym, ap, subst, inl, inr, arith}
 use Rattle.std.specs.Result.{OnErr}
 use Rattle.std.proofs.lemmas.List.{append-nil, take_all}
-use Rattle.verifier.specs.Typed.{Typed}
+use Rattle.handlers.specs.Image.{TheImage}
 use Rattle.world.specs.declared.call.Call.{Call}
 use Rattle.world.specs.Fold.{handlers_of}
 use Rattle.world.specs.Legal.{Legal}
@@ -92,7 +92,7 @@ played-more at mid next steps step old so new are is = (
 )
 
 -- all of them, from the beginning on
-pub played-out : (images : List Typed) (end : Position) (steps : List Step) (old mid : List ℕ)
+pub played-out : (images : List TheImage) (end : Position) (steps : List Step) (old mid : List ℕ)
     → (played : ArePlayed steps (beginning images) end old mid) → Legal (length end.images) (handlers_of end.images) end.entries
     → AreCarriedOut images steps played.0 end.entries
 played-out images end steps old mid played legal =
@@ -101,11 +101,11 @@ played-out images end steps old mid played legal =
       end = end;
       leads = played.1;
       accepted = refl;
-      legal = subst (λ (is : List Typed). Legal (length is) (handlers_of is) end.entries) same legal;
+      legal = subst (λ (is : List TheImage). Legal (length is) (handlers_of is) end.entries) same legal;
     }
 
 -- and what a session came to
-pub played-run : (names : List (List ℕ)) (images : List Typed) (end : Position) (steps : List Step) (old mid new : List ℕ)
+pub played-run : (names : List (List ℕ)) (images : List TheImage) (end : Position) (steps : List Step) (old mid new : List ℕ)
     → ArePlayed steps (beginning images) end old mid → Legal (length end.images) (handlers_of end.images) end.entries → new ≡ mid ++ results_text names end.images end.entries
     → IsRun names images steps old new
 played-run names images end steps old mid new played legal text =
@@ -116,26 +116,26 @@ played-run names images end steps old mid new played legal text =
       carried = played-out images end steps old mid played legal;
       text = text ∙ ap (λ (m : List ℕ). m ++ results_text names end.images end.entries) played.2
           ∙ append_assoc old played.0 (results_text names end.images end.entries)
-          ∙ ap (λ (is : List Typed). old ++ (played.0 ++ results_text names is end.entries)) same;
+          ∙ ap (λ (is : List TheImage). old ++ (played.0 ++ results_text names is end.entries)) same;
     }
 
 -- and the first of them alone
-played-cut : (images : List Typed) (end : Position) (steps : List Step) (count : ℕ) (old new : List ℕ)
+played-cut : (images : List TheImage) (end : Position) (steps : List Step) (count : ℕ) (old new : List ℕ)
     → ArePlayed (take count steps) (beginning images) end old new → CutsOff steps count end → IsCut images steps old new
 played-cut images end steps count old new played stops =
     record { count = count; lines = played.0; end = end; leads = played.1; stops = stops; text = played.2 }
 
 -- none of them
-pub cut-none : (images : List Typed) (steps : List Step) (old new : List ℕ) → new ≡ old → IsCut images steps old new
+pub cut-none : (images : List TheImage) (steps : List Step) (old new : List ℕ) → new ≡ old → IsCut images steps old new
 cut-none images steps old new same =
     subst (IsCut images steps old) (sym same) (played-cut images (beginning images) steps 0 old old (played-none (beginning images) old) (inl refl))
 
 -- those before one that finds no memory
-pub played-to : (images : List Typed) (steps : List Step) (old new : List ℕ) → ArePlayedTo steps (beginning images) old new → IsCut images steps old new
+pub played-to : (images : List TheImage) (steps : List Step) (old new : List ℕ) → ArePlayedTo steps (beginning images) old new → IsCut images steps old new
 played-to images steps old new to = played-cut images to.end steps to.count old new to.played (inr (inl (to.step, to.next, to.finds)))
 
 -- and all of them, to the end
-pub played-all : (images : List Typed) (end : Position) (steps : List Step) (old new : List ℕ)
+pub played-all : (images : List TheImage) (end : Position) (steps : List Step) (old new : List ℕ)
     → ArePlayed steps (beginning images) end old new → IsCut images steps old new
 played-all images end steps old new played =
     let whole : take (length steps) steps ≡ steps = take_all (length steps) steps (omega arith) in

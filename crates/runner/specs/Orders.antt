@@ -1,7 +1,7 @@
 -- What it is to carry out an order of a scenario (docs/FORMATS.md, "Carrying out").
 use Rattle.std.specs.Prelude.{◌≡◌, ◌≤◌, ◌+◌, ◌-◌, ◌^◌, ◌⊎◌, ℕ, List, [], ◌∷◌, ◌++◌, length, replicate, Option, Some, None, slice_index_or, slice_set}
 use Rattle.limits.specs.declared.TheConstants.{ENTRIES, PARTIES}
-use Rattle.verifier.specs.Typed.{Typed}
+use Rattle.handlers.specs.Image.{TheImage}
 use Rattle.replay.specs.Task.{TheTask}
 use Rattle.world.specs.declared.call.Call.{Call}
 use Rattle.world.specs.declared.call.Call.TheVariants as call
@@ -25,13 +25,13 @@ use Rattle.runner.specs.Word.{message_word}
 -- where a run stands: the images of the processes 1, 2, .., the accepted calls, by process the job that is held, and how many
 -- messages the outside handed in
 pub record Position : Type 0 where
-  pub images : List Typed
+  pub images : List TheImage
   pub entries : List Entry
   pub held : List (Option TheTask)
   pub inputs : ℕ
 
 -- nothing was done so far
-abbrev pub beginning : List Typed → Position
+abbrev pub beginning : List TheImage → Position
 beginning images = record { images = images; entries = []; held = replicate PARTIES None; inputs = 0 }
 
 -- the world where the journal leads

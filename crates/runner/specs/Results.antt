@@ -1,6 +1,6 @@
 -- What a session came to, as text: the trace of its journal, and the report (docs/FORMATS.md, "Trace" and "Report").
 use Rattle.std.specs.Prelude.{ℕ, ◌+◌, List, [], ◌∷◌, ◌++◌, Bool, flat_map, length, if◌then◌else◌}
-use Rattle.verifier.specs.Typed.{Typed}
+use Rattle.handlers.specs.Image.{TheImage}
 use Rattle.world.specs.declared.message.Message.{Message}
 use Rattle.world.specs.declared.entry.Entry.{Entry}
 use Rattle.world.specs.Fold.{handlers_of}
@@ -39,6 +39,6 @@ abbrev pub report_text : List (List ℕ) → World → Bool → List ℕ
 report_text names w exact = processes_text w names ++ (outputs_text names w.shown ++ exact_line exact)
 
 -- what processes of these names and images came to by these entries: the trace, and then the report of the world where they lead
-abbrev pub results_text : List (List ℕ) → List Typed → List Entry → List ℕ
+abbrev pub results_text : List (List ℕ) → List TheImage → List Entry → List ℕ
 results_text names images entries =
     trace_text entries ++ report_text names (world_of (length images) (handlers_of images) entries) (is_exact_of images entries)

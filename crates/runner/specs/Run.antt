@@ -1,6 +1,6 @@
 -- What a run of a scenario writes (docs/FORMATS.md, "Carrying out").
 use Rattle.std.specs.Prelude.{◌≡◌, ◌⊎◌, ℕ, List, [], ◌∷◌, ◌++◌, codes, decimal, length, slice_get, take, Option, Some, None}
-use Rattle.verifier.specs.Typed.{Typed}
+use Rattle.handlers.specs.Image.{TheImage}
 use Rattle.world.specs.declared.entry.Entry.{Entry}
 use Rattle.world.specs.Fold.{handlers_of}
 use Rattle.world.specs.Legal.{Legal}
@@ -21,18 +21,18 @@ RunsThrough old (step ∷ steps) lines new =
     × CarriesOut old step.order next refused × RunsThrough next steps rest new × (lines ≡ refused_text step.line refused ++ rest)
 
 -- all orders are carried out from the beginning on: the refused ones have these lines, and these calls were accepted
-pub record AreCarriedOut (images : List Typed) (steps : List Step) (lines : List ℕ) (entries : List Entry) : Type 0 where
+pub record AreCarriedOut (images : List TheImage) (steps : List Step) (lines : List ℕ) (entries : List Entry) : Type 0 where
   pub end : Position
   pub leads : RunsThrough (beginning images) steps lines end
   pub accepted : entries ≡ end.entries
   pub legal : Legal (length images) (handlers_of images) entries
 
 -- the orders lead to this journal
-abbrev pub IsJournal : List Typed → List Step → List Entry → Type 0
+abbrev pub IsJournal : List TheImage → List Step → List Entry → Type 0
 IsJournal images steps entries = (lines : List ℕ) × AreCarriedOut images steps lines entries
 
 -- all orders are carried out, and behind the old text stand the refused lines, the trace and the report
-pub record IsRun (names : List (List ℕ)) (images : List Typed) (steps : List Step) (old new : List ℕ) : Type 0 where
+pub record IsRun (names : List (List ℕ)) (images : List TheImage) (steps : List Step) (old new : List ℕ) : Type 0 where
   pub lines : List ℕ
   pub entries : List Entry
   pub carried : AreCarriedOut images steps lines entries
@@ -45,7 +45,7 @@ CutsOff steps count here =
     (count ≡ 0) ⊎ (((step : Step) × (slice_get steps count ≡ Some step) × FindsNoMemory here step.order) ⊎ (count ≡ length steps))
 
 -- so many of the first orders are carried out, and behind the old text stand the refused lines alone
-pub record IsCut (images : List Typed) (steps : List Step) (old new : List ℕ) : Type 0 where
+pub record IsCut (images : List TheImage) (steps : List Step) (old new : List ℕ) : Type 0 where
   pub count : ℕ
   pub lines : List ℕ
   pub end : Position

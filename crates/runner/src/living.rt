@@ -1,7 +1,7 @@
 //! Runs by workers.
 
 ghost use Rattle.std.specs.Prelude.{◌≡◌, ◌↔◌, ◌≤◌, ◌+◌, ◌++◌, All, IfOk, IsTrue, OnErr, OnOk, [], length, map, string_bytes};
-ghost use Rattle.std.specs.Arc.{arc_value};
+ghost use Rattle.handlers.specs.Image.{image_in};
 ghost use Rattle.machine.specs.Opening.{AreFew};
 ghost use Rattle.scenario.specs.Process.{names_of};
 ghost use Rattle.sessions.specs.Journal.{IsLegal};
@@ -18,6 +18,7 @@ use crate::ended::{Ended, ends_of};
 use crate::feeds::feeds_of;
 use crate::opening::want_of_memory;
 use crate::results::push_results;
+use handlers::Handler;
 use indexmap::IndexMap;
 use limits::{SEATS, WORKERS};
 use scenario::{Process, Scenario};
@@ -27,7 +28,6 @@ use std::marker::Brand;
 use std::sync::ledger::{Blank, Ledger};
 use std::sync::{Arc, Wait};
 use std::thread::Threads;
-use verifier::Image;
 use workers::{Closed, Open, RunError, run};
 use world::{Feed, Refusal};
 
@@ -61,12 +61,12 @@ fn push_closed<L: Ledger>(
 fn opened<L: Ledger>(
     alloc: Global,
     blank: Blank,
-    images: Vec<Arc<Image>>,
+    images: Vec<Arc<Handler>>,
 ) -> Result<Session<L>, AllocError>
     requires name { blank.name ≡ L.name }
     requires parts { (blank.parts ≡ L.parts) × (blank.parts ≡ SEATS) }
-    requires few { AreFew (map arc_value images.items) }
-    ensures { IfOk result (λ s. s ≡ record { images = map arc_value images.items; entries = []; seats = new_seats SEATS }) }
+    requires few { AreFew (map image_in images.items) }
+    ensures { IfOk result (λ s. s ≡ record { images = map image_in images.items; entries = []; seats = new_seats SEATS }) }
 {
     let session: Session<L> = Session::open(alloc, blank, images).map_err(want_of_memory)?;
     Ok(session)
@@ -104,17 +104,17 @@ fn live_in<L: Ledger + Send + Sync, R: Threads + Wait + Sync>(
     alloc: Global,
     blank: Blank,
     scenario: &Scenario,
-    images: Vec<Arc<Image>>,
+    images: Vec<Arc<Handler>>,
     workers: u8,
     budget: u32,
     out: &mut String,
 ) -> Result<Vec<Ended>, AllocError>
     requires name { blank.name ≡ L.name }
     requires parts { (blank.parts ≡ L.parts) × (blank.parts ≡ SEATS) }
-    requires few { AreFew (map arc_value images.items) }
+    requires few { AreFew (map image_in images.items) }
     requires named { length scenario.now.processes.entries ≡ length images.items }
     requires workers { (1 ≤ workers) × (workers ≤ WORKERS) }
-    ensures written { IfOk result (λ ended. IsLive (names_of scenario.now.processes) (map arc_value images.items) workers budget ended.items (string_bytes out.old) (string_bytes out.new)) }
+    ensures written { IfOk result (λ ended. IsLive (names_of scenario.now.processes) (map image_in images.items) workers budget ended.items (string_bytes out.old) (string_bytes out.new)) }
     ensures unchanged { OnErr result (string_bytes out.new ≡ string_bytes out.old) }
 {
     let feeds = feeds_of(alloc, scenario.steps.as_slice())?;
@@ -134,15 +134,15 @@ pub fn live<R: Threads + Wait + Sync>(
     rt: &R,
     alloc: Global,
     scenario: &Scenario,
-    images: Vec<Arc<Image>>,
+    images: Vec<Arc<Handler>>,
     workers: u8,
     budget: u32,
     out: &mut String,
 ) -> Result<Vec<Ended>, AllocError>
-    requires few { AreFew (map arc_value images.items) }
+    requires few { AreFew (map image_in images.items) }
     requires named { length scenario.now.processes.entries ≡ length images.items }
     requires workers { (1 ≤ workers) × (workers ≤ WORKERS) }
-    ensures written { IfOk result (λ ended. IsLive (names_of scenario.now.processes) (map arc_value images.items) workers budget ended.items (string_bytes out.old) (string_bytes out.new)) }
+    ensures written { IfOk result (λ ended. IsLive (names_of scenario.now.processes) (map image_in images.items) workers budget ended.items (string_bytes out.old) (string_bytes out.new)) }
     ensures unchanged { OnErr result (string_bytes out.new ≡ string_bytes out.old) }
 {
     let blank = Blank::new(SEATS as u64);

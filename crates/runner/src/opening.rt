@@ -1,19 +1,19 @@
 //! How a run begins.
 
 ghost use Rattle.std.specs.Prelude.{◌≡◌, IfOk, None, map, replicate};
-ghost use Rattle.std.specs.Arc.{arc_value};
+ghost use Rattle.handlers.specs.Image.{image_in};
 ghost use Rattle.machine.specs.Opening.{AreFew};
 ghost use Rattle.world.specs.declared.refusal.Refusal.TheVariants.{Memory};
 ghost use Rattle.runner.specs.Orders.{beginning};
 ghost use Rattle.runner.specs.Inside.{position_of};
 
 use crate::player::Player;
+use handlers::Handler;
 use limits::PARTIES;
 use replay::Job;
 use sessions::Service;
 use std::alloc::{AllocError, Global};
 use std::sync::Arc;
-use verifier::Image;
 use world::Refusal;
 
 /// Want of memory, which a refusal told.
@@ -39,9 +39,9 @@ fn places(alloc: Global) -> Result<Vec<Option<Job>>, AllocError>
 
 impl Player {
     /// Before the first order, over 1 to 15 images.
-    pub(crate) fn open(alloc: Global, images: Vec<Arc<Image>>) -> Result<Player, AllocError>
-        requires { AreFew (map arc_value images.items) }
-        ensures { IfOk result (λ player. position_of player ≡ beginning (map arc_value images.items)) }
+    pub(crate) fn open(alloc: Global, images: Vec<Arc<Handler>>) -> Result<Player, AllocError>
+        requires { AreFew (map image_in images.items) }
+        ensures { IfOk result (λ player. position_of player ≡ beginning (map image_in images.items)) }
     {
         let session = Service::open(alloc, images).map_err(want_of_memory)?;
         let held = places(alloc)?;

@@ -1,7 +1,7 @@
 //! Runs of a scenario.
 
 ghost use Rattle.std.specs.Prelude.{◌≡◌, ◌≢◌, ◌≤◌, ◌+◌, ◌*◌, ◌++◌, ℕ, IfErr, IfOk, OnErr, OnOk, Some, length, map, string_bytes, string_capacity, string_len};
-ghost use Rattle.std.specs.Arc.{arc_value};
+ghost use Rattle.handlers.specs.Image.{image_in};
 ghost use Rattle.machine.specs.Opening.{AreFew};
 ghost use Rattle.scenario.specs.Process.{names_of};
 ghost use Rattle.runner.specs.Orders.{FindsNoMemory, beginning};
@@ -10,12 +10,12 @@ ghost use Rattle.runner.specs.Run.{IsCut, IsJournal, IsRun, refused_text};
 
 use crate::player::Player;
 use crate::results::push_results;
+use handlers::Handler;
 use itoa::Buffer;
 use scenario::{Scenario, Step};
 use sessions::copied;
 use std::alloc::{AllocError, Global};
 use std::sync::Arc;
-use verifier::Image;
 use world::{Entry, Refusal};
 
 /// How many bytes the line of a refused order has at most: 20 digits of its line, and 3 of a number.
@@ -100,12 +100,12 @@ impl Player {
 fn played(
     alloc: Global,
     steps: &[Step],
-    images: Vec<Arc<Image>>,
+    images: Vec<Arc<Handler>>,
     out: &mut String,
 ) -> Result<Player, AllocError>
-    requires { AreFew (map arc_value images.items) }
-    ensures done { IfOk result (λ player. ArePlayed steps.now (beginning (map arc_value images.items)) (position_of player) (string_bytes out.old) (string_bytes out.new)) }
-    ensures short { OnErr result (IsCut (map arc_value images.items) steps.now (string_bytes out.old) (string_bytes out.new)) }
+    requires { AreFew (map image_in images.items) }
+    ensures done { IfOk result (λ player. ArePlayed steps.now (beginning (map image_in images.items)) (position_of player) (string_bytes out.old) (string_bytes out.new)) }
+    ensures short { OnErr result (IsCut (map image_in images.items) steps.now (string_bytes out.old) (string_bytes out.new)) }
 {
     let mut player = Player::open(alloc, images)?;
     make_room(out, steps.len())?;
@@ -121,13 +121,13 @@ fn played(
 pub fn run(
     alloc: Global,
     scenario: &Scenario,
-    images: Vec<Arc<Image>>,
+    images: Vec<Arc<Handler>>,
     out: &mut String,
 ) -> Result<(), AllocError>
-    requires few { AreFew (map arc_value images.items) }
+    requires few { AreFew (map image_in images.items) }
     requires named { length scenario.now.processes.entries ≡ length images.items }
-    ensures done { OnOk result (IsRun (names_of scenario.now.processes) (map arc_value images.items) scenario.now.steps.items (string_bytes out.old) (string_bytes out.new)) }
-    ensures short { OnErr result (IsCut (map arc_value images.items) scenario.now.steps.items (string_bytes out.old) (string_bytes out.new)) }
+    ensures done { OnOk result (IsRun (names_of scenario.now.processes) (map image_in images.items) scenario.now.steps.items (string_bytes out.old) (string_bytes out.new)) }
+    ensures short { OnErr result (IsCut (map image_in images.items) scenario.now.steps.items (string_bytes out.old) (string_bytes out.new)) }
 {
     let player = played(alloc, scenario.steps.as_slice(), images, out)?;
     // The journal is told to be legal.
@@ -140,10 +140,10 @@ pub fn run(
 pub fn journal_of(
     alloc: Global,
     scenario: &Scenario,
-    images: Vec<Arc<Image>>,
+    images: Vec<Arc<Handler>>,
 ) -> Result<Vec<Entry>, AllocError>
-    requires { AreFew (map arc_value images.items) }
-    ensures { IfOk result (λ v. IsJournal (map arc_value images.items) scenario.now.steps.items v.items) }
+    requires { AreFew (map image_in images.items) }
+    ensures { IfOk result (λ v. IsJournal (map image_in images.items) scenario.now.steps.items v.items) }
 {
     let mut lines = String::new(alloc);
     let player = played(alloc, scenario.steps.as_slice(), images, &mut lines)?;

@@ -4,13 +4,14 @@
 ghost use Rattle.machine.specs.Stepping.{TakesNoResult};
 
 mod greatest;
+mod ordinary_c;
 
+use handlers::Handler;
 use helpers::Payload;
 use sessions::Service;
 use std::alloc::Global;
 use std::sync::Arc;
 use std::test::Fail;
-use verifier::{Image, load};
 use world::{Answer, Call, PhaseName};
 
 /// Adds the first word of a message to the first word of its state.
@@ -223,7 +224,7 @@ const REFUSED: &[Step] = &[
 fn open(alloc: Global, files: &[&[u8]]) -> Result<Service, Fail> {
     let mut images = Vec::new(alloc);
     for file in files {
-        images.push(Arc::new(alloc, load(alloc, file)?)?)?;
+        images.push(Arc::new(alloc, Handler::load(alloc, file)?)?)?;
     }
     Ok(Service::open(alloc, images)?)
 }
@@ -254,7 +255,7 @@ fn there_are_1_to_15_processes(rt: HostRuntime) -> Result<(), Fail> {
     for (count, opens) in [(0, false), (1, true), (15, true), (16, false)] {
         let mut images = Vec::new(alloc);
         for _ in 0..count {
-            images.push(Arc::new(alloc, load(alloc, &ADDER)?)?)?;
+            images.push(Arc::new(alloc, Handler::load(alloc, &ADDER)?)?)?;
         }
         assert_eq!(rt; Service::open(alloc, images).is_ok(), opens);
     }

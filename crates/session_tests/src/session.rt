@@ -12,6 +12,7 @@ mod saving;
 mod script;
 
 use crashing::Course;
+use handlers::Handler;
 use helpers::Payload;
 use limits::SEATS;
 use replay::Done;
@@ -23,7 +24,6 @@ use std::process::Abort;
 use std::sync::Arc;
 use std::sync::ledger::{Blank, Ledger};
 use std::test::Fail;
-use verifier::{Image, load};
 use world::{Answer, Call, Entry, Feed, PhaseName, Refusal};
 
 /// Adds the first word of a message to the first word of its state.
@@ -78,25 +78,25 @@ enum Cast {
     RelayAndEcho,
 }
 
-fn images(alloc: Global, cast: Cast) -> Result<Vec<Arc<Image>>, Fail> {
+fn images(alloc: Global, cast: Cast) -> Result<Vec<Arc<Handler>>, Fail> {
     let mut images = Vec::new(alloc);
     match cast {
         Cast::Adders(count) => {
             for _ in 0..count {
-                images.push(Arc::new(alloc, load(alloc, &ADDER)?)?)?;
+                images.push(Arc::new(alloc, Handler::load(alloc, &ADDER)?)?)?;
             }
         }
-        Cast::WideAdder => images.push(Arc::new(alloc, load(alloc, &WIDE_ADDER)?)?)?,
+        Cast::WideAdder => images.push(Arc::new(alloc, Handler::load(alloc, &WIDE_ADDER)?)?)?,
         Cast::RelayAndEcho => {
-            images.push(Arc::new(alloc, load(alloc, &RELAY)?)?)?;
-            images.push(Arc::new(alloc, load(alloc, &ECHO)?)?)?;
+            images.push(Arc::new(alloc, Handler::load(alloc, &RELAY)?)?)?;
+            images.push(Arc::new(alloc, Handler::load(alloc, &ECHO)?)?)?;
         }
     }
     Ok(images)
 }
 
 /// Processes with these images, each waiting for its first message.
-fn open<L: Ledger>(alloc: Global, blank: Blank, images: Vec<Arc<Image>>) -> Result<Stage<L>, Fail>
+fn open<L: Ledger>(alloc: Global, blank: Blank, images: Vec<Arc<Handler>>) -> Result<Stage<L>, Fail>
     requires name { blank.name ≡ L.name }
     requires parts { (blank.parts ≡ L.parts) × (blank.parts ≡ SEATS) }
 {
@@ -126,7 +126,7 @@ fn play_in<L: Ledger>(
     rt: &impl Abort,
     alloc: Global,
     blank: Blank,
-    images: Vec<Arc<Image>>,
+    images: Vec<Arc<Handler>>,
     scene: Scene,
 ) -> Result<(), Fail>
     requires name { blank.name ≡ L.name }

@@ -2,7 +2,7 @@
 use Rattle.std.proofs.Common.{◌≡◌, ℕ, Bool, ◌||◌, ◌==◌, zero, suc, ◌+◌, ◌-◌, ◌≤◌, List, [], ◌∷◌, ◌++◌, length, length-append, append_assoc, true, false, refl, sym, ap, ◌∙◌, subst, arith}
 use Rattle.std.specs.Prelude.{◌&&◌, Option, Some, None, Result, Ok, Err, option_and_then, unwrap_or}
 use Rattle.limits.specs.declared.TheConstants.{ENTRIES}
-use Rattle.verifier.specs.Typed.{Typed}
+use Rattle.handlers.specs.Image.{TheImage}
 use Rattle.world.specs.declared.call.Call.{Call}
 use Rattle.world.specs.declared.answer.Answer.{Answer}
 use Rattle.world.specs.declared.entry.Entry.{Entry}
@@ -103,8 +103,8 @@ module _ (m m' : TheMachine) (es : List Entry) (seats : List (Option TheSeat)) (
   keeps calls room =
       let push = world_after-push (opening (length m.images) (handlers_of m.images)) es e in
       let len : length (es ++ e ∷ []) ≡ length es + 1 = length-append es (e ∷ []) in
-      let P : List Typed → Type 0 = λ images. Stands m' (world_of (length images) (handlers_of images) (es ++ e ∷ [])) in
-      let Q : List Typed → Type 0 = λ images. length (es ++ e ∷ []) + open_jobs (world_of (length images) (handlers_of images) (es ++ e ∷ [])) ≤ ENTRIES in
+      let P : List TheImage → Type 0 = λ images. Stands m' (world_of (length images) (handlers_of images) (es ++ e ∷ [])) in
+      let Q : List TheImage → Type 0 = λ images. length (es ++ e ∷ []) + open_jobs (world_of (length images) (handlers_of images) (es ++ e ∷ [])) ≤ ENTRIES in
       let leads : Stands m' (here m' (es ++ e ∷ [])) = subst P (sym taken.images) (subst (Stands m') (sym push) taken.stands) in
       record {
         legal = rw taken.images (Legal-push (length m.images) (handlers_of m.images) es e s.legal may (record { accepted = taken.accepted; answered = taken.answered; becomes = refl }));
@@ -150,9 +150,9 @@ no-jobs zero = refl
 no-jobs (suc n) = omega (arith, no-jobs n)
 
 -- a session that opens
-pub opened : (m : TheMachine) (images : List Typed) → m.images ≡ images → m.calls ≡ 0 → Stands m (opening (length images) (handlers_of images)) → IsSession m []
+pub opened : (m : TheMachine) (images : List TheImage) → m.images ≡ images → m.calls ≡ 0 → Stands m (opening (length images) (handlers_of images)) → IsSession m []
 opened m images is calls stands =
-    let P : List Typed → Type 0 = λ images. Stands m (opening (length images) (handlers_of images)) in
+    let P : List TheImage → Type 0 = λ images. Stands m (opening (length images) (handlers_of images)) in
     let leads : Stands m (here m []) = subst P (sym is) stands in
     record { legal = tt; leads = leads; sizes = sizes-are m [] leads; calls = calls; room = omega (arith, no-jobs (suc (length m.images))) }
 
@@ -162,8 +162,8 @@ returns-to old new worker p k is more single =
     let es : List Entry = old.entries ++ recovery worker p k ∷ more in
     let joined : new.entries ++ more ≡ es = ap (λ (s : TheSession). s.entries ++ more) is ∙ append_assoc old.entries (recovery worker p k ∷ []) more in
     let images : new.images ≡ old.images = ap (λ (s : TheSession). s.images) is in
-    let P : List Typed → List Entry → Type 0 = λ images xs. IsSingle (length images) (handlers_of images) xs in
-    let Q : List Typed → List Entry → Type 0 = λ images xs. RecoversExactly (world_at old) (world_of (length images) (handlers_of images) xs) p k more in
+    let P : List TheImage → List Entry → Type 0 = λ images xs. IsSingle (length images) (handlers_of images) xs in
+    let Q : List TheImage → List Entry → Type 0 = λ images xs. RecoversExactly (world_at old) (world_of (length images) (handlers_of images) xs) p k more in
     let given : P old.images es = subst (λ i. P i es) images (subst (P new.images) joined single) in
     let all : Q old.images es = recovers-exactly (length old.images) (handlers_of old.images) old.entries more worker p k given in
     subst (Q new.images) (sym joined) (subst (λ i. Q i es) (sym images) all)

@@ -1,6 +1,6 @@
 -- Sessions of one caller, who has no seat
 use Rattle.std.specs.Prelude.{◌≡◌, ℕ, List, [], length, Result, Ok, Err}
-use Rattle.verifier.specs.Typed.{Typed}
+use Rattle.handlers.specs.Image.{TheImage}
 use Rattle.world.specs.declared.call.Call.{Call}
 use Rattle.world.specs.declared.call.Call.TheVariants.{Recover}
 use Rattle.world.specs.declared.answer.Answer.{Answer}
@@ -37,7 +37,7 @@ abbrev pub Returns : TheSession → TheSession → Call → Answer → Type 0
 Returns old new call answer = (p k : ℕ) → call ≡ Recover p → answer ≡ Kept k → ReturnsTo old new p k
 
 -- a session of these images with an empty journal and no seats; or there are none or too many; or memory ran out
-abbrev pub OpensAlone : List Typed → Result TheSession Refusal → Type 0
+abbrev pub OpensAlone : List TheImage → Result TheSession Refusal → Type 0
 OpensAlone images (Ok s) = AreFew images × (s ≡ record { images = images; entries = []; seats = [] })
 OpensAlone images (Err NoSuchProcess) = ¬ AreFew images
 OpensAlone images (Err Memory) = AreFew images

@@ -1,7 +1,7 @@
 //! Sessions of one caller, and their calls.
 
 ghost use Rattle.std.specs.Prelude.{◌≡◌, ◌≤◌, IfOk, [], true, length, map};
-ghost use Rattle.std.specs.Arc.{arc_value};
+ghost use Rattle.handlers.specs.Image.{image_in};
 ghost use Rattle.world.specs.Useful.{may_call};
 ghost use Rattle.machine.specs.Simulation.{answering};
 ghost use Rattle.machine.specs.Stepping.{TakesNoResult, answer_in};
@@ -11,13 +11,13 @@ ghost use Rattle.sessions.specs.Service.{OpensAlone, Owes, OwesAs, Returns, own_
 
 use crate::journal::Journal;
 use crate::slip::Brief;
+use handlers::Handler;
 use limits::ENTRIES;
 use machine::{Finished, Machine, Reply};
 use replay::Done;
 use std::alloc::Global;
 use std::marker::Model;
 use std::sync::Arc;
-use verifier::Image;
 use world::{Call, Refusal};
 
 /// Processes 1 to n, with the journal of the calls that led to where they are. Its caller is
@@ -42,11 +42,11 @@ impl Model for Service {
 }
 
 impl Service {
-    /// Processes 1 to n with these images, each up, with a state of zeros and in its first
+    /// Processes 1 to n with the handlers of these images, of any form, each up, with a state of zeros and in its first
     /// incarnation, and an empty journal. It refuses no images or more than 15 (`NoSuchProcess`),
     /// and want of memory.
-    pub fn open(alloc: Global, images: Vec<Arc<Image>>) -> Result<Service, Refusal>
-        ensures { OpensAlone (map arc_value images.items) result }
+    pub fn open(alloc: Global, images: Vec<Arc<Handler>>) -> Result<Service, Refusal>
+        ensures { OpensAlone (map image_in images.items) result }
     {
         let machine = Machine::open(alloc, images)?;
         let journal = Journal::new(alloc);

@@ -1,7 +1,7 @@
 //! Sessions of many callers.
 
 ghost use Rattle.std.specs.Prelude.{◌≡◌, ◌↔◌, ◌+◌, ◌≤◌, IfNone, IfOk, IfSome, IsTrue, None, Some, [], true, false, length, map, slice_set};
-ghost use Rattle.std.specs.Arc.{arc_value};
+ghost use Rattle.handlers.specs.Image.{image_in};
 ghost use Rattle.world.specs.Useful.{may_call};
 ghost use Rattle.machine.specs.Simulation.{answering};
 ghost use Rattle.machine.specs.Stepping.{TakesNoResult, answer_in};
@@ -16,6 +16,7 @@ ghost use Rattle.sessions.specs.Journal.{IsLegal, world_at, room_at, Adds, Takes
 use crate::seat::{Seat, settle};
 use crate::service::Service;
 use crate::share::Share;
+use handlers::Handler;
 use limits::SEATS;
 use machine::{Finished, Reply};
 use replay::{Done, Job};
@@ -23,7 +24,6 @@ use std::alloc::{AllocError, Global};
 use std::marker::Model;
 use std::sync::Arc;
 use std::sync::ledger::{Blank, Book, Ledger, Share as Part};
-use verifier::Image;
 use world::{Answer, Call, Feed, Refusal};
 
 /// A service that many may call, the book that counts their accepted calls, and the seats that
@@ -67,10 +67,14 @@ impl<L: Ledger> Session<L> {
     /// Processes 1 to n with these images, each up, with a state of zeros and in its first
     /// incarnation, an empty journal, and 17 seats. It refuses no images or more than 15
     /// (`NoSuchProcess`), and want of memory.
-    pub fn open(alloc: Global, blank: Blank, images: Vec<Arc<Image>>) -> Result<Session<L>, Refusal>
+    pub fn open(
+        alloc: Global,
+        blank: Blank,
+        images: Vec<Arc<Handler>>,
+    ) -> Result<Session<L>, Refusal>
         requires name { blank.name ≡ L.name }
         requires parts { (blank.parts ≡ L.parts) × (L.parts ≡ SEATS) }
-        ensures { OpensWith (map arc_value images.items) result }
+        ensures { OpensWith (map image_in images.items) result }
     {
         let service = Service::open(alloc, images)?;
         let (book, parts) = blank.open::<L>();

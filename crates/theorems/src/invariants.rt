@@ -1,7 +1,7 @@
 //! What every call keeps.
 
 ghost use Rattle.std.specs.Prelude.{ℕ, List};
-ghost use Rattle.verifier.specs.Typed.{Typed};
+ghost use Rattle.handlers.specs.Image.{TheImage};
 ghost use Rattle.world.specs.declared.entry.Entry.{Entry};
 ghost use Rattle.world.specs.Fold.{handlers_of};
 ghost use Rattle.world.specs.Handlers.{Handlers};
@@ -16,8 +16,8 @@ ghost use Rattle.theorems.specs.Invariants.Tidy.{Tidy};
 /// What the handler of an image sent or put out, it doesn't take back; and it sends and puts out
 /// nothing before its first message.
 pub fn handlers_grow()
-    ensures grow { (images : List Typed) → Grows (handlers_of images) }
-    ensures start { (images : List Typed) → Starts (handlers_of images) }
+    ensures grow { (images : List TheImage) → Grows (handlers_of images) }
+    ensures start { (images : List TheImage) → Starts (handlers_of images) }
 {}
 
 /// Whatever fails, and however failures overlap, the world is sound.

@@ -3,10 +3,10 @@ use Rattle.std.proofs.Common.{◌≡◌, ◌≢◌, ◌<◌, ◌+◌, ◌∙◌,
 use Rattle.std.specs.Prelude.{slice_get}
 use Rattle.std.specs.declared.alloc.Global.{Global}
 use Rattle.std.specs.String.{string_bytes}
-use Rattle.verifier.specs.Typed.{Typed}
 use Rattle.verifier.specs.declared.fault.ImageError.{ImageError}
 use Rattle.verifier.specs.declared.fault.ImageError.TheVariants as image
 use Rattle.verifier.specs.ImageFile as image_file
+use Rattle.handlers.specs.Image.{TheImage}
 use Rattle.machine.specs.Opening.{AreFew}
 use Rattle.scenario.specs.Scenario as scenario
 use Rattle.scenario.specs.Scenario.{IsScenario}
@@ -15,10 +15,10 @@ use Rattle.scenario.specs.declared.process.Process.{Process}
 use Rattle.scenario.specs.declared.scenario.Scenario.{Scenario}
 use Rattle.scenario.specs.declared.scenario.ScenarioError.{ScenarioError}
 use Rattle.scenario.specs.declared.scenario.ScenarioError.TheVariants as error
-use Rattle.tracer.specs.Check.{IsImageFault, IsLoaded}
+use Rattle.tracer.specs.Check.{HasImage, IsImageFault}
 use Rattle.tracer.specs.Fault.{fault_of_image, IsFaultOfScenario}
 use Rattle.tracer.specs.Files.{Content}
-use Rattle.tracer.specs.Inside.{ImagesFault, IsPlainFault, IsReadAs, IsStagedAs, LoadFault}
+use Rattle.tracer.specs.Inside.{HandlerFault, ImagesFault, IsPlainFault, IsReadAs, IsStagedAs, LoadFault}
 use Rattle.tracer.specs.Program.{FaultOf}
 use Rattle.tracer.specs.Stage.{AreLoaded, AreRefused, IsStaged, IsUnstaged}
 use Rattle.tracer.specs.declared.fault.Fault.{Fault}
@@ -56,23 +56,23 @@ pushed f xs ys y b more is = ap (map f) more ∙ map_push f xs y ∙ ap (λ z. m
 
 -- ---- images
 
-loaded_append : (content : Content) (es : List Entry) (is : List Typed) (e : Entry) (image : Typed)
-    → AreLoaded content es is → IsLoaded content (string_bytes e.1.path) image → AreLoaded content (es ++ e ∷ []) (is ++ image ∷ [])
+loaded_append : (content : Content) (es : List Entry) (is : List TheImage) (e : Entry) (image : TheImage)
+    → AreLoaded content es is → HasImage content (string_bytes e.1.path) image → AreLoaded content (es ++ e ∷ []) (is ++ image ∷ [])
 loaded_append content [] [] e image all last = (last, tt)
 loaded_append content [] (i ∷ is) e image all last = absurd all
 loaded_append content (x ∷ xs) [] e image all last = absurd all
 loaded_append content (x ∷ xs) (i ∷ is) e image all last = (all.0, loaded_append content xs is e image all.1 last)
 
 -- one image more is loaded
-pub loaded_more : (content : Content) (es : List Entry) (i : ℕ) (is js : List Typed) (e : Entry) (image : Typed) → slice_get es i ≡ Some e
-    → AreLoaded content (take i es) is → IsLoaded content (string_bytes e.1.path) image → js ≡ is ++ image ∷ [] → AreLoaded content (take (i + 1) es) js
+pub loaded_more : (content : Content) (es : List Entry) (i : ℕ) (is js : List TheImage) (e : Entry) (image : TheImage) → slice_get es i ≡ Some e
+    → AreLoaded content (take i es) is → HasImage content (string_bytes e.1.path) image → js ≡ is ++ image ∷ [] → AreLoaded content (take (i + 1) es) js
 loaded_more content es i is js e image at all last more =
     let next : i + 1 ≡ suc i = omega arith in
     subst (λ (xs : List Entry). AreLoaded content xs js) (sym (taken es i e at) ∙ ap (λ n. take n es) (sym next))
     (subst (AreLoaded content (take i es ++ e ∷ [])) (sym more) (loaded_append content (take i es) is e image all last))
 
 -- as many images are loaded as there are processes
-pub as_many : (content : Content) (es : List Entry) (is : List Typed) → AreLoaded content es is → length es ≡ length is
+pub as_many : (content : Content) (es : List Entry) (is : List TheImage) → AreLoaded content es is → length es ≡ length is
 as_many content [] [] all = refl
 as_many content [] (i ∷ is) all = absurd all
 as_many content (x ∷ xs) [] all = absurd all
@@ -83,7 +83,7 @@ one_or_more [] some = absurd (some refl)
 one_or_more (x ∷ xs) some = omega arith
 
 -- a session can have them
-pub are_few : (content : Content) (allowed : Allowed) (path : List ℕ) (s : Scenario) (is : List Typed) → IsStagedAs content allowed path s is → AreFew is
+pub are_few : (content : Content) (allowed : Allowed) (path : List ℕ) (s : Scenario) (is : List TheImage) → IsStagedAs content allowed path s is → AreFew is
 are_few content allowed path s is staged =
     let same = as_many content s.processes.entries is staged.1 in
     let written = staged.0.2 in
@@ -111,8 +111,8 @@ load_fault content failed path f (inr why) = subst (FaultOf content failed path 
     by (image.Verify rule slot) refused = λ bytes there. (image.Verify rule slot, refused bytes there, refl)
 
 -- the image of a process, behind those that are loaded
-pub images_fault : (content : Content) (failed : Bool) (es : List Entry) (i : ℕ) (is : List Typed) (e : Entry) (f : Fault) → slice_get es i ≡ Some e
-    → AreLoaded content (take i es) is → LoadFault content failed (string_bytes e.1.path) f → ImagesFault content failed es f
+pub images_fault : (content : Content) (failed : Bool) (es : List Entry) (i : ℕ) (is : List TheImage) (e : Entry) (f : Fault) → slice_get es i ≡ Some e
+    → AreLoaded content (take i es) is → HandlerFault content failed (string_bytes e.1.path) f → ImagesFault content failed es f
 images_fault content failed es i is e f at all (inl plain) = inl plain
 images_fault content failed es i is e f at all (inr why) = inr (
   why.0,
@@ -160,7 +160,7 @@ scenario_fault content failed allowed path bytes error.Memory (fault.Scenario n 
 scenario_fault content failed allowed path bytes e fault.InputOutput read why is = elim is [ ]
 
 -- what is staged, where the bytes of the scenario's file are known
-pub staged : (content : Content) (allowed : Allowed) (path known : List ℕ) (s : Scenario) (is : List Typed) → IsStagedAs content allowed path s is
+pub staged : (content : Content) (allowed : Allowed) (path known : List ℕ) (s : Scenario) (is : List TheImage) → IsStagedAs content allowed path s is
     → content path ≡ Some known → IsStaged content allowed known s is
 staged content allowed path known s is all there =
     record { written = subst (λ (b : List ℕ). IsScenario allowed b s) (all.0.1 known there) all.0.2; loaded = all.1 }

@@ -3,10 +3,9 @@ use Rattle.std.specs.Prelude.{◌≡◌, ℕ, List, ◌++◌, Some, codes, decim
 use Rattle.decode.specs.declared.insn.Insn.{Insn}
 use Rattle.images.specs.declared.file_form.FileForm.{FileForm}
 use Rattle.images.specs.ImageFile as any
-use Rattle.verifier.specs.ImageFile.{IsFile, IsRefusal}
+use Rattle.verifier.specs.ImageFile.{IsRefusal}
 use Rattle.verifier.specs.declared.fault.ImageError.{ImageError}
-use Rattle.verifier.specs.Typed.{Typed}
-use Rattle.verifier.specs.Verdict.{IsImageOf}
+use Rattle.handlers.specs.Image.{TheImage}
 use Rattle.tracer.specs.Fault.{fault_of_image}
 use Rattle.tracer.specs.Files.{Content}
 use Rattle.tracer.specs.declared.fault.Fault.{Fault}
@@ -28,12 +27,14 @@ pub record IsAccepted (bytes : List ℕ) (count : ℕ) : Type 0 where
 abbrev pub IsUnaccepted : List ℕ → Fault → Type 0
 IsUnaccepted bytes f = (e : ImageError) × any.IsRefusal bytes e × (f ≡ fault_of_image e)
 
--- ---- an image that is to be run: one of form 1 or 2
+-- ---- an image whose handler is to be run, of any form
 
--- the file at the path, where it is known, is that of this image
-abbrev pub IsLoaded : Content → List ℕ → Typed → Type 0
-IsLoaded content path image = (bytes : List ℕ) → content path ≡ Some bytes
-    → IsFile image.form image.code image.len bytes × IsImageOf image.form image.code image.len image
+-- the file at the path, where it is known, is that of this image, whose code is typable
+abbrev pub HasImage : Content → List ℕ → TheImage → Type 0
+HasImage content path image = (bytes : List ℕ) → content path ≡ Some bytes
+    → any.IsFile image.form image.code image.len bytes × any.IsTypable image.form image.code image.len
+
+-- ---- an image that is to be compiled: one of form 1 or 2
 
 -- the fault is the reason why bytes are no file of typable code in form 1 or 2; want of memory says nothing of them
 abbrev pub IsImageFault : List ℕ → Fault → Type 0

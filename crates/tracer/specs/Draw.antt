@@ -1,8 +1,8 @@
 -- The command `draw` (docs/FORMATS.md, "Commands").
 use Rattle.std.specs.Prelude.{ℕ, List, length}
+use Rattle.handlers.specs.Image.{TheImage}
 use Rattle.diagram.specs.Picture.{IsPicture}
 use Rattle.runner.specs.Run.{IsJournal}
-use Rattle.verifier.specs.Typed.{Typed}
 use Rattle.world.specs.declared.entry.Entry.{Entry}
 use Rattle.scenario.specs.declared.order.Allowed.TheVariants.{All}
 use Rattle.scenario.specs.declared.scenario.Scenario.{Scenario}
@@ -12,7 +12,7 @@ use Rattle.tracer.specs.Stage.{IsStaged}
 -- the bytes are a scenario, whose run with the images of its processes leads to a journal with a picture of this text
 pub record IsDrawn (content : Content) (bytes text : List ℕ) : Type 0 where
   pub scenario : Scenario
-  pub images : List Typed
+  pub images : List TheImage
   pub staged : IsStaged content All bytes scenario images
   pub entries : List Entry
   pub journal : IsJournal images scenario.steps.items entries

@@ -1,8 +1,8 @@
 -- The command `live` (docs/FORMATS.md, "Commands").
 use Rattle.std.specs.Prelude.{ℕ, List, []}
+use Rattle.handlers.specs.Image.{TheImage}
 use Rattle.runner.specs.Live.{IsLive}
 use Rattle.runner.specs.declared.ended.Ended.{Ended}
-use Rattle.verifier.specs.Typed.{Typed}
 use Rattle.scenario.specs.Process.{names_of}
 use Rattle.scenario.specs.declared.order.Allowed.TheVariants.{Inputs}
 use Rattle.scenario.specs.declared.scenario.Scenario.{Scenario}
@@ -12,7 +12,7 @@ use Rattle.tracer.specs.Stage.{IsStaged}
 -- the bytes are a scenario of inputs, and so many workers, each with this budget, leave this text of it with the images of its processes
 pub record IsLiveText (content : Content) (workers budget : ℕ) (bytes text : List ℕ) : Type 0 where
   pub scenario : Scenario
-  pub images : List Typed
+  pub images : List TheImage
   pub staged : IsStaged content Inputs bytes scenario images
   pub ended : List Ended
   pub live : IsLive (names_of scenario.processes) images workers budget ended [] text

@@ -3,25 +3,25 @@ use Rattle.std.specs.Prelude.{◌≡◌, ℕ, List, [], ◌∷◌, ◌++◌, Som
 use Rattle.std.specs.declared.alloc.Global.{Global}
 use Rattle.std.specs.Str.{IsUtf8}
 use Rattle.std.specs.String.{string_bytes}
-use Rattle.verifier.specs.Typed.{Typed}
+use Rattle.handlers.specs.Image.{TheImage}
 use Rattle.scenario.specs.Scenario as scenario
 use Rattle.scenario.specs.declared.order.Allowed.{Allowed}
 use Rattle.scenario.specs.declared.process.Process.{Process}
 use Rattle.scenario.specs.declared.scenario.Scenario.{Scenario}
 use Rattle.scenario.specs.declared.scenario.ScenarioError.TheVariants.{Line}
-use Rattle.tracer.specs.Check.{IsImageFault, IsLoaded}
+use Rattle.tracer.specs.Check.{HasImage, IsUnaccepted}
 use Rattle.tracer.specs.Files.{Content}
 use Rattle.tracer.specs.declared.fault.Fault.{Fault}
 use Rattle.tracer.specs.declared.fault.Fault.TheVariants as fault
 
 -- these are the images of the processes, in their order
-abbrev pub AreLoaded : Content → List (String Global × Process) → List Typed → Type 0
+abbrev pub AreLoaded : Content → List (String Global × Process) → List TheImage → Type 0
 AreLoaded content [] [] = Unit {0}
-AreLoaded content (e ∷ es) (image ∷ images) = IsLoaded content (string_bytes e.1.path) image × AreLoaded content es images
+AreLoaded content (e ∷ es) (image ∷ images) = HasImage content (string_bytes e.1.path) image × AreLoaded content es images
 AreLoaded content processes images = ⊥
 
 -- the bytes are this scenario with such orders, and these are the images of its processes
-pub record IsStaged (content : Content) (allowed : Allowed) (bytes : List ℕ) (s : Scenario) (images : List Typed) : Type 0 where
+pub record IsStaged (content : Content) (allowed : Allowed) (bytes : List ℕ) (s : Scenario) (images : List TheImage) : Type 0 where
   pub written : scenario.IsScenario allowed bytes s
   pub loaded : AreLoaded content s.processes.entries images
 
@@ -31,9 +31,9 @@ pub record AreRefused (content : Content) (processes : List (String Global × Pr
   pub process : String Global × Process
   pub after : List (String Global × Process)
   pub whole : processes ≡ before ++ process ∷ after
-  pub images : List Typed
+  pub images : List TheImage
   pub loaded : AreLoaded content before images
-  pub refused : (bytes : List ℕ) → content (string_bytes process.1.path) ≡ Some bytes → IsImageFault bytes f
+  pub refused : (bytes : List ℕ) → content (string_bytes process.1.path) ≡ Some bytes → IsUnaccepted bytes f
 
 -- why the bytes of a scenario's file can't be carried out: they are no text, or one that is refused at a line; or an image is refused.
 -- Want of memory says nothing

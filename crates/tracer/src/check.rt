@@ -1,13 +1,15 @@
 //! The command `check`.
 
 ghost use Rattle.std.specs.Prelude.{◌≡◌, ℕ, List, IfErr, IfOk, Some};
-ghost use Rattle.tracer.specs.Check.{IsAccepted, IsLoaded, IsUnaccepted, accepted_text};
-ghost use Rattle.tracer.specs.Inside.{LoadFault};
+ghost use Rattle.handlers.specs.Image.{the_image};
+ghost use Rattle.tracer.specs.Check.{HasImage, IsAccepted, IsUnaccepted, accepted_text};
+ghost use Rattle.tracer.specs.Inside.{HandlerFault, IsLoaded, LoadFault};
 ghost use Rattle.tracer.specs.Program.{FaultOf};
 
 use crate::fault::Fault;
 use crate::files::Files;
 use crate::site::Site;
+use handlers::Handler;
 use limits::SLOTS;
 use std::alloc::Global;
 use std::fmt;
@@ -32,7 +34,23 @@ impl fmt::Display for Accepted {
     }
 }
 
-/// The image of form 1 or 2 of a file, which is to be run.
+/// The handler of the image of any form of a file, which is to be run.
+pub fn load_handler<F: Files>(
+    alloc: Global,
+    path: &str,
+    files: &mut F,
+    site: &mut Site,
+) -> Result<Handler, Fault>
+    ensures loaded { IfOk result (λ h. HasImage (F.content files.old) path.now (the_image h)) }
+    ensures same { F.content files.new ≡ F.content files.old }
+    ensures fault { IfErr result (HandlerFault (F.content files.old) (F.failed files.new) path.now) }
+{
+    let bytes = site.read(alloc, path, Some(IMAGE_LIMIT), files)?;
+    let handler = Handler::load(alloc, bytes.as_slice())?;
+    Ok(handler)
+}
+
+/// The image of form 1 or 2 of a file, which is to be compiled.
 pub fn load_image<F: Files>(
     alloc: Global,
     path: &str,

@@ -1,27 +1,27 @@
 //! Scenarios with the images of their processes.
 
 ghost use Rattle.std.specs.Prelude.{◌≡◌, IfErr, IfOk, map};
-ghost use Rattle.std.specs.Arc.{arc_value};
+ghost use Rattle.handlers.specs.Image.{image_in};
 ghost use Rattle.tracer.specs.Fault.{IsFaultOfScenario};
 ghost use Rattle.tracer.specs.Inside.{ImagesFault, IsReadAs, IsStagedAs};
 ghost use Rattle.tracer.specs.Program.{FaultOf};
 ghost use Rattle.tracer.specs.Stage.{AreLoaded, IsUnstaged};
 
-use crate::check::load_image;
+use crate::check::load_handler;
 use crate::fault::Fault;
 use crate::files::Files;
 use crate::site::Site;
+use handlers::Handler;
 use indexmap::IndexMap;
 use scenario::{Allowed, Process, Scenario, ScenarioError, mistake_of, parse};
 use std::alloc::{AllocError, Global};
 use std::sync::Arc;
-use verifier::Image;
 
-/// A scenario, and the images of its processes, in their order.
+/// A scenario, and the handlers of its processes, in their order.
 #[derive(Drop)]
 pub struct Staged {
     pub scenario: Scenario,
-    pub images: Vec<Arc<Image>>,
+    pub images: Vec<Arc<Handler>>,
 }
 
 /// Reads a scenario. A file that is not UTF-8 can't be read as a text: `Fault::InputOutput`.
@@ -68,14 +68,14 @@ fn said(alloc: Global, text: &str, line: usize, allowed: Allowed) -> Result<Stri
     }
 }
 
-/// Loads the images of processes, in their order.
+/// Loads the images of processes, of any form, in their order.
 fn load_images<F: Files>(
     alloc: Global,
     processes: &IndexMap<String, Process>,
     files: &mut F,
     site: &mut Site,
-) -> Result<Vec<Arc<Image>>, Fault>
-    ensures loaded { IfOk result (λ v. AreLoaded (F.content files.old) processes.now.entries (map arc_value v.items)) }
+) -> Result<Vec<Arc<Handler>>, Fault>
+    ensures loaded { IfOk result (λ v. AreLoaded (F.content files.old) processes.now.entries (map image_in v.items)) }
     ensures same { F.content files.new ≡ F.content files.old }
     ensures fault { IfErr result (ImagesFault (F.content files.old) (F.failed files.new) processes.now.entries) }
 {
@@ -85,7 +85,7 @@ fn load_images<F: Files>(
             unreachable!();
         };
         site.enter(alloc, name.as_str())?;
-        let image = load_image(alloc, process.path.as_str(), files, site)?;
+        let image = load_handler(alloc, process.path.as_str(), files, site)?;
         images.push(Arc::new(alloc, image)?)?;
     }
     Ok(images)
@@ -99,7 +99,7 @@ pub fn stage<F: Files>(
     files: &mut F,
     site: &mut Site,
 ) -> Result<Staged, Fault>
-    ensures staged { IfOk result (λ s. IsStagedAs (F.content files.old) allowed path.now s.scenario (map arc_value s.images.items)) }
+    ensures staged { IfOk result (λ s. IsStagedAs (F.content files.old) allowed path.now s.scenario (map image_in s.images.items)) }
     ensures same { F.content files.new ≡ F.content files.old }
     ensures fault { IfErr result (FaultOf (F.content files.old) (F.failed files.new) path.now
         (IsUnstaged (F.content files.old) allowed)) }

@@ -3,11 +3,12 @@ use Rattle.std.proofs.Common.{◌≡◌, ℕ, List, [], ◌∷◌, ◌++◌, len
 use Rattle.std.specs.Prelude.{Some, if◌then◌else◌, ◌==◌}
 use Rattle.std.proofs.lemmas.List.Sums.{fold-append}
 use Rattle.helpers.specs.declared.effects.Sent.{Sent}
-use Rattle.verifier.specs.Typed.{Typed}
-use Rattle.interp.specs.HandlerCall.{Handled, handled_by}
+use Rattle.interp.specs.HandlerCall.{Handled}
+use Rattle.handlers.specs.Image.{TheImage}
+use Rattle.handlers.specs.Answer.{answered}
 use Rattle.world.specs.declared.message.Message.{Message}
 use Rattle.world.specs.History.{nth}
-use Rattle.world.specs.Fold.{Folded, joined, taken_in, folded, unfolded, seen, payloads_to, emitted_to, handlers_of}
+use Rattle.world.specs.Fold.{Folded, joined, taken_in, folded, unfolded, payloads_to, emitted_to, handlers_of}
 
 pub payloads_to-append : (d : ℕ) (xs ys : List Sent) → payloads_to d (xs ++ ys) ≡ payloads_to d xs ++ payloads_to d ys
 payloads_to-append d [] ys = refl
@@ -26,16 +27,16 @@ emitted_to-joined d f a = split (d == 0)
     split true = refl
     split false = payloads_to-append d f.effects.sends a.effects.sends
 
-pub folded-push : (n p : ℕ) (image : Typed) (h : List Message) (m : Message) → folded n p (Some image) (h ++ m ∷ []) ≡ taken_in n image p (folded n p (Some image) h) m
+pub folded-push : (n p : ℕ) (image : TheImage) (h : List Message) (m : Message) → folded n p (Some image) (h ++ m ∷ []) ≡ taken_in n image p (folded n p (Some image) h) m
 folded-push n p image h m = fold-append (taken_in n image p) (unfolded image.len) h (m ∷ [])
 
 -- the handler's answer to one more message
-module _ (images : List Typed) (p : ℕ) (image : Typed) (h : List Message) (m : Message) (a : Handled) (at : nth images p ≡ Some image) (answers : handled_by image.form image.slots (record { me = p; from = m.sender; count = length images }) ((handlers_of images).state p h) (seen image.form m.payload) ≡ Some a) where
+module _ (images : List TheImage) (p : ℕ) (image : TheImage) (h : List Message) (m : Message) (a : Handled) (at : nth images p ≡ Some image) (answers : answered image (record { me = p; from = m.sender; count = length images }) ((handlers_of images).state p h) m.payload ≡ Some a) where
   here : folded (length images) p (nth images p) h ≡ folded (length images) p (Some image) h
   here = ap (λ o. folded (length images) p o h) at
 
-  given : handled_by image.form image.slots (record { me = p; from = m.sender; count = length images }) (folded (length images) p (Some image) h).state (seen image.form m.payload) ≡ Some a
-  given = ap (λ (f : Folded). handled_by image.form image.slots (record { me = p; from = m.sender; count = length images }) f.state (seen image.form m.payload)) (sym here) ∙ answers
+  given : answered image (record { me = p; from = m.sender; count = length images }) (folded (length images) p (Some image) h).state m.payload ≡ Some a
+  given = ap (λ (f : Folded). answered image (record { me = p; from = m.sender; count = length images }) f.state m.payload) (sym here) ∙ answers
 
   folded_is : folded (length images) p (nth images p) (h ++ m ∷ []) ≡ joined (folded (length images) p (Some image) h) (Some a)
   folded_is =
@@ -55,5 +56,5 @@ module _ (images : List Typed) (p : ℕ) (image : Typed) (h : List Message) (m :
       ∙ ap (λ (f : Folded). emitted_to d f.effects ++ emitted_to d a.effects) (sym here)
 
 -- a process that received nothing has a state of zeros
-pub handlers_of-nothing : (images : List Typed) (p : ℕ) (image : Typed) → nth images p ≡ Some image → (handlers_of images).state p [] ≡ (unfolded image.len).state
+pub handlers_of-nothing : (images : List TheImage) (p : ℕ) (image : TheImage) → nth images p ≡ Some image → (handlers_of images).state p [] ≡ (unfolded image.len).state
 handlers_of-nothing images p image at = ap (λ o. (folded (length images) p o []).state) at

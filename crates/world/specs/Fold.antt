@@ -2,11 +2,9 @@
 use Rattle.std.specs.Prelude.{ℕ, List, [], ◌∷◌, ◌++◌, length, replicate, fold, Option, Some, None, ◌==◌, if◌then◌else◌}
 use Rattle.helpers.specs.declared.effects.Sent.{Sent}
 use Rattle.helpers.specs.Effects.{Emitted}
-use Rattle.helpers.specs.Payload.{view64}
-use Rattle.regtypes.specs.declared.image_form.ImageForm.{ImageForm}
-use Rattle.regtypes.specs.declared.image_form.ImageForm.TheVariants.{Sbi1, Sbi2}
-use Rattle.verifier.specs.Typed.{Typed}
-use Rattle.interp.specs.HandlerCall.{Handled, handled_by}
+use Rattle.interp.specs.HandlerCall.{Handled}
+use Rattle.handlers.specs.Image.{TheImage}
+use Rattle.handlers.specs.Answer.{answered}
 use Rattle.world.specs.declared.message.Message.{Message}
 use Rattle.world.specs.History.{Payload, nth}
 use Rattle.world.specs.Handlers.{Handlers}
@@ -25,17 +23,12 @@ abbrev pub joined : Folded → Option Handled → Folded
 joined f None = f
 joined f (Some h) = record { state = h.state; effects = record { sends = f.effects.sends ++ h.effects.sends; outputs = f.effects.outputs ++ h.effects.outputs } }
 
--- what a handler sees of a payload: in form 1 the first 64 bytes, filled up with zeros
-abbrev pub seen : ImageForm → List ℕ → List ℕ
-seen Sbi1 payload = view64 payload
-seen Sbi2 payload = payload
-
 -- the process p of n, with this image, takes in one more message
-abbrev pub taken_in : ℕ → Typed → ℕ → Folded → Message → Folded
-taken_in n image p f m = joined f (handled_by image.form image.slots (record { me = p; from = m.sender; count = n }) f.state (seen image.form m.payload))
+abbrev pub taken_in : ℕ → TheImage → ℕ → Folded → Message → Folded
+taken_in n image p f m = joined f (answered image (record { me = p; from = m.sender; count = n }) f.state m.payload)
 
 -- and a history, from the state of zeros on
-abbrev pub folded : ℕ → ℕ → Option Typed → List Message → Folded
+abbrev pub folded : ℕ → ℕ → Option TheImage → List Message → Folded
 folded n p None h = unfolded 0
 folded n p (Some image) h = fold (taken_in n image p) (unfolded image.len) h
 
@@ -49,7 +42,7 @@ abbrev pub emitted_to : ℕ → Emitted → List Payload
 emitted_to d e = if d == 0 then e.outputs else payloads_to d e.sends
 
 -- the handlers of processes 1, 2, .. with these images
-abbrev pub handlers_of : List Typed → Handlers
+abbrev pub handlers_of : List TheImage → Handlers
 handlers_of images = record {
   state = λ p h. (folded (length images) p (nth images p) h).state;
   sends = λ p h d. emitted_to d (folded (length images) p (nth images p) h).effects;

@@ -1,6 +1,6 @@
 -- What loading owes
 use Rattle.std.specs.Prelude.{◌≡◌, ℕ, List, ◌++◌}
-use Rattle.verifier.specs.Typed.{Typed}
+use Rattle.handlers.specs.Image.{TheImage}
 use Rattle.world.specs.declared.refusal.Refusal.TheVariants.{Memory}
 use Rattle.embed_session.specs.declared.fault.Fault.{Fault}
 use Rattle.embed_session.specs.declared.fault.Fault.TheVariants.{Session, File}
@@ -13,5 +13,5 @@ IsUnread misfit (Session Memory) = Unit {0}
 IsUnread misfit other = ⊥
 
 -- the images of the files, behind those that were there
-abbrev pub AreMore : List ℕ → List ℕ → List Typed → List Typed → Type 0
-AreMore files lengths old new = (images : List Typed) × (new ≡ old ++ images) × AreFiles files lengths images
+abbrev pub AreMore : List ℕ → List ℕ → List TheImage → List TheImage → Type 0
+AreMore files lengths old new = (images : List TheImage) × (new ≡ old ++ images) × AreFiles files lengths images

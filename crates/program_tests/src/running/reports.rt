@@ -1,6 +1,7 @@
 //! Traces and reports.
 
 use super::{ADDER, ECHO, image};
+use handlers::Handler;
 use helpers::Payload;
 use runner::push_results;
 use scenario::{Allowed, Scenario, parse};
@@ -8,11 +9,10 @@ use sessions::Service;
 use std::alloc::Global;
 use std::sync::Arc;
 use std::test::Fail;
-use verifier::Image;
 use world::Call;
 
 /// The images of an echo and two adders.
-fn images(alloc: Global) -> Result<Vec<Arc<Image>>, Fail> {
+fn images(alloc: Global) -> Result<Vec<Arc<Handler>>, Fail> {
     let mut images = Vec::new(alloc);
     images.push(image(alloc, &ECHO)?)?;
     images.push(image(alloc, &ADDER)?)?;
@@ -22,7 +22,7 @@ fn images(alloc: Global) -> Result<Vec<Arc<Image>>, Fail> {
 
 /// What these processes came to, after one message that the first one gave out and a crash of the
 /// last one.
-fn results(alloc: Global, scenario: &Scenario, images: Vec<Arc<Image>>) -> Result<String, Fail> {
+fn results(alloc: Global, scenario: &Scenario, images: Vec<Arc<Handler>>) -> Result<String, Fail> {
     let mut service = Service::open(alloc, images)?;
     service.call(&Call::Input {
         to: 1,

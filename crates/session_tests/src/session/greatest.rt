@@ -4,6 +4,7 @@ ghost use Rattle.std.specs.Prelude.{◌≡◌};
 
 use super::script::{Act, Step};
 use super::{ADDER, Cast, Stage, follow, open};
+use handlers::Handler;
 use helpers::Payload;
 use limits::SEATS;
 use std::alloc::Global;
@@ -12,7 +13,6 @@ use std::process::Abort;
 use std::sync::Arc;
 use std::sync::ledger::{Blank, Ledger};
 use std::test::Fail;
-use verifier::{Image, load};
 use world::{Answer, Message, PhaseName};
 
 /// 10,000 messages for one destination, of the word 1 each, are logged before the first one is sent.
@@ -49,7 +49,7 @@ const OUTPUT: [u8; 24] = [
 
 const END: [u8; 16] = [0xb7, 0, 0, 0, 0, 0, 0, 0, 0x95, 0, 0, 0, 0, 0, 0, 0];
 
-fn fan_and_adder(alloc: Global) -> Result<Vec<Arc<Image>>, Fail> {
+fn fan_and_adder(alloc: Global) -> Result<Vec<Arc<Handler>>, Fail> {
     let mut fan = Vec::from_slice(alloc, &HEAD)?;
     for _ in 0..8 {
         fan.extend_from_slice(&SEND)?;
@@ -59,8 +59,8 @@ fn fan_and_adder(alloc: Global) -> Result<Vec<Arc<Image>>, Fail> {
     }
     fan.extend_from_slice(&END)?;
     let mut images = Vec::new(alloc);
-    images.push(Arc::new(alloc, load(alloc, &fan)?)?)?;
-    images.push(Arc::new(alloc, load(alloc, &ADDER)?)?)?;
+    images.push(Arc::new(alloc, Handler::load(alloc, &fan)?)?)?;
+    images.push(Arc::new(alloc, Handler::load(alloc, &ADDER)?)?)?;
     Ok(images)
 }
 
@@ -99,7 +99,7 @@ fn fanned_in<L: Ledger>(
     rt: &impl Abort,
     alloc: Global,
     blank: Blank,
-    images: Vec<Arc<Image>>,
+    images: Vec<Arc<Handler>>,
 ) -> Result<(), Fail>
     requires name { blank.name ≡ L.name }
     requires parts { (blank.parts ≡ L.parts) × (blank.parts ≡ SEATS) }

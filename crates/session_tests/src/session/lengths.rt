@@ -3,6 +3,7 @@
 ghost use Rattle.std.specs.Prelude.{◌≡◌};
 
 use super::{ECHO, Stage, open};
+use handlers::Handler;
 use helpers::Payload;
 use limits::SEATS;
 use std::alloc::Global;
@@ -11,7 +12,6 @@ use std::process::Abort;
 use std::sync::Arc;
 use std::sync::ledger::{Blank, Ledger};
 use std::test::Fail;
-use verifier::load;
 
 /// Gives each message out at its length: `mov r2, r3`, `call 6`, `mov r0, 0` and `exit` in form 2.
 const SIZED_ECHO: [u8; 40] = [
@@ -38,7 +38,7 @@ fn shown_in<L: Ledger>(
     requires parts { (blank.parts ≡ L.parts) × (blank.parts ≡ SEATS) }
 {
     let mut images = Vec::new(alloc);
-    images.push(Arc::new(alloc, load(alloc, image)?)?)?;
+    images.push(Arc::new(alloc, Handler::load(alloc, image)?)?)?;
     let mut stage: Stage<L> = open(alloc, blank, images)?;
     let [first, second] = messages;
     assert_eq!(rt; stage.say(1, 1, first), 0);

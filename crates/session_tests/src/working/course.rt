@@ -2,6 +2,7 @@
 
 ghost use Rattle.std.specs.Prelude.{◌≡◌};
 
+use handlers::Handler;
 use helpers::Payload;
 use limits::SEATS;
 use sessions::{Session, copied};
@@ -11,7 +12,6 @@ use std::sync::ledger::{Blank, Ledger};
 use std::sync::{Arc, Wait};
 use std::test::Fail;
 use std::thread::Threads;
-use verifier::{Image, load};
 use workers::{Closed, End, Share, Turnstile, run};
 use world::{Entry, Feed};
 
@@ -88,10 +88,10 @@ pub(crate) fn word(number: u32, dst: u8, value: u8) -> Feed {
 }
 
 /// The images of so many adders.
-pub(crate) fn adders(alloc: Global, count: u8) -> Result<Vec<Arc<Image>>, Fail> {
+pub(crate) fn adders(alloc: Global, count: u8) -> Result<Vec<Arc<Handler>>, Fail> {
     let mut images = Vec::new(alloc);
     for _ in 0..count {
-        images.push(Arc::new(alloc, load(alloc, &ADDER)?)?)?;
+        images.push(Arc::new(alloc, Handler::load(alloc, &ADDER)?)?)?;
     }
     Ok(images)
 }

@@ -1,7 +1,7 @@
 use Rattle.std.proofs.Common.{rules, ◌∙◌, length, map, sym, ap, subst, string_bytes}
-use Rattle.std.specs.Arc.{arc_value}
 use Rattle.std.proofs.lemmas.List.{length-map}
 use Rattle.limits.specs.declared.TheConstants.{SEATS}
+use Rattle.handlers.specs.Image.{image_in}
 use Rattle.sessions.specs.Journal.{TheSession}
 use Rattle.sessions.specs.Seats.{IsWhole}
 use Rattle.scenario.specs.Process.{names_of}
@@ -22,7 +22,7 @@ served-requires-clause-can g c =
 pub push_closed-requires : goal.push_closed-requires
 push_closed-requires g c =
     let images = c.in_ok-closed.ensures.continues.images ∙ ap (λ (s : TheSession). s.images) c.in_ok-session.ensures in
-    c.requires.named ∙ sym (length-map c.args.images.items arc_value) ∙ sym (ap length images)
+    c.requires.named ∙ sym (length-map c.args.images.items image_in) ∙ sym (ap length images)
 
 pub returns-clause-written : goal.returns-clause-written
 returns-clause-written g c =
@@ -34,6 +34,6 @@ returns-clause-written g c =
       continues = c.in_ok-closed.ensures.continues;
       grew = c.in_ok-closed.ensures.grew;
     } in
-    live_by (names_of c.args.scenario.now.processes) (map arc_value c.args.images.items) c.args.workers c.args.budget opened closed shares c.in_ok-ended.ended.items
+    live_by (names_of c.args.scenario.now.processes) (map image_in c.args.images.items) c.args.workers c.args.budget opened closed shares c.in_ok-ended.ended.items
     (string_bytes c.args.out.now) (string_bytes c.push_closed.new.out) c.requires.workers.1 c.in_ok-session.ensures leave c.in_ok-closed.ensures.legal
     c.in_ok-push_closed.ensures.served (c.in_ok-ended.ensures ∙ ap (map ended_of) c.as_slice-3.ensures.value) c.in_ok-push_closed.ensures.written

@@ -1,5 +1,5 @@
 use Rattle.std.proofs.Common.{◌≡◌, ℕ, List, inr, length, map, string_bytes, subst, sym, true}
-use Rattle.std.specs.Arc.{arc_value}
+use Rattle.handlers.specs.Image.{image_in}
 use Rattle.cli.specs.Asks.{Draw}
 use Rattle.diagram.specs.Picture.{IsPicture}
 use Rattle.scenario.specs.declared.order.Allowed.TheVariants.{All}
@@ -12,13 +12,13 @@ use Rattle.tracer.proofs.drawing.picture_of.Goals as goal
 
 pub journal_of-requires : goal.journal_of-requires
 journal_of-requires g c =
-    are_few (g.F.Files.content c.args.files.now) All c.args.path.now c.in_ok-scenario.field-0.scenario (map arc_value c.in_ok-scenario.field-0.images.items)
+    are_few (g.F.Files.content c.args.files.now) All c.args.path.now c.in_ok-scenario.field-0.scenario (map image_in c.in_ok-scenario.field-0.images.items)
     c.in_ok-scenario.ensures.staged
 
 pub returns-clause-drawn : goal.returns-clause-drawn
 returns-clause-drawn g c = λ known there.
     let s = c.in_ok-scenario.field-0.scenario in
-    let images = map arc_value c.in_ok-scenario.field-0.images.items in
+    let images = map image_in c.in_ok-scenario.field-0.images.items in
     record {
       scenario = s;
       images = images;
@@ -32,7 +32,7 @@ pub returns-in_err-spare_images-clause-fault : goal.returns-in_err-spare_images-
 returns-in_err-spare_images-clause-fault g c =
     let content = g.F.Files.content c.args.files.now in
     let s = c.in_ok-scenario.field-0.scenario in
-    let images = map arc_value c.in_ok-scenario.field-0.images.items in
+    let images = map image_in c.in_ok-scenario.field-0.images.items in
     let one = g.F.Files.may_be_one in
     becomes c.from_residual-in_err-spare_images.result _ _ c.from_residual-in_err-spare_images.ensures.1
     (λ f is. inr (own_input_of ((path : List ℕ) × IsImagePath s.processes.entries path × (one path c.args.place.now ≡ true))
@@ -43,7 +43,7 @@ returns-in_err-spare_images-clause-fault g c =
 pub returns-clause-spared : goal.returns-clause-spared
 returns-clause-spared g c = λ known there.
     let s = c.in_ok-scenario.field-0.scenario in
-    let images = map arc_value c.in_ok-scenario.field-0.images.items in (
+    let images = map image_in c.in_ok-scenario.field-0.images.items in (
       s,
       (staged (g.F.Files.content c.args.files.now) All c.args.path.now known s images c.in_ok-scenario.ensures.staged there).written,
       c.in_ok-spare_images.ensures.apart,

@@ -1,6 +1,6 @@
 use Rattle.std.proofs.Common.{◌≡◌, ◌∙◌, List, ℕ, length, map, rules, string_bytes, subst}
 use Rattle.std.proofs.lemmas.List.{length-map}
-use Rattle.std.specs.Arc.{arc_value}
+use Rattle.handlers.specs.Image.{image_in}
 use Rattle.machine.specs.Opening.{AreFew}
 use Rattle.runner.specs.Live.{IsLive}
 use Rattle.scenario.specs.Process.{names_of}
@@ -10,22 +10,22 @@ use Rattle.tracer.proofs.living.live_scenario.Goals as goal
 
 pub live-requires-clause-few : goal.live-requires-clause-few
 live-requires-clause-few g c =
-    let few : AreFew (map arc_value c.in_ok-scenario.field-0.images.items) =
-    are_few (g.F.Files.content c.args.files.now) Inputs c.args.path.now c.in_ok-scenario.field-0.scenario (map arc_value c.in_ok-scenario.field-0.images.items)
+    let few : AreFew (map image_in c.in_ok-scenario.field-0.images.items) =
+    are_few (g.F.Files.content c.args.files.now) Inputs c.args.path.now c.in_ok-scenario.field-0.scenario (map image_in c.in_ok-scenario.field-0.images.items)
     c.in_ok-scenario.ensures.staged in
     search rules
 
 pub live-requires-clause-named : goal.live-requires-clause-named
 live-requires-clause-named g c =
     let named : length c.in_ok-scenario.field-0.scenario.processes.entries ≡ length c.in_ok-scenario.field-0.images.items =
-    as_many (g.F.Files.content c.args.files.now) c.in_ok-scenario.field-0.scenario.processes.entries (map arc_value c.in_ok-scenario.field-0.images.items)
-    c.in_ok-scenario.ensures.staged.1 ∙ length-map c.in_ok-scenario.field-0.images.items arc_value in
+    as_many (g.F.Files.content c.args.files.now) c.in_ok-scenario.field-0.scenario.processes.entries (map image_in c.in_ok-scenario.field-0.images.items)
+    c.in_ok-scenario.ensures.staged.1 ∙ length-map c.in_ok-scenario.field-0.images.items image_in in
     search rules
 
 pub returns-clause-report : goal.returns-clause-report
 returns-clause-report g c = λ known there.
     let s = c.in_ok-scenario.field-0.scenario in
-    let images = map arc_value c.in_ok-scenario.field-0.images.items in
+    let images = map image_in c.in_ok-scenario.field-0.images.items in
     record {
       scenario = s;
       images = images;

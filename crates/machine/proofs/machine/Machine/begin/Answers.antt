@@ -1,11 +1,10 @@
 use Rattle.std.proofs.Common.{rules, ◌≡◌, ◌<◌, ◌≤◌, ◌+◌, ◌-◌, false, arith, subst, sym, ap, ◌∙◌, length, map, slice_index_or}
 use Rattle.std.specs.Prelude.{Some}
-use Rattle.std.specs.Arc.{arc_value}
 use Rattle.std.proofs.lemmas.Grind.{common_steps}
 use Rattle.std.proofs.lemmas.List.{length-set, get_or-map, get_or_default}
 use Rattle.limits.specs.declared.TheConstants.{ENTRIES}
 use Rattle.helpers.specs.declared.effects.Who.{Who}
-use Rattle.verifier.specs.Typed.{Typed}
+use Rattle.handlers.specs.Image.{TheImage, image_in, the_image}
 use Rattle.machine.specs.Process.{TheProcess, idle_process}
 use Rattle.machine.specs.Simulation.{TheMachine, process_at}
 use Rattle.machine.specs.Fields.{view_of, AreCarried, IsLogOf, IsSoundAt}
@@ -21,8 +20,8 @@ new-requires c =
     let sender : c.args.message.sender ≤ length m.processes = subst (λ (v : TheMachine). c.args.message.sender ≤ length v.processes) (sym c.self.view_is) c.requires.from in
     let positive = c.requires.inside in
     let inside : me - 1 < length c.self.inside.images.items = omega (arith, c.self.invariant.images, within, positive) in
-    let image = arc_value c.in_ok-image.image in
-    let image_is : slice_index_or m.images (me - 1) image ≡ image = get_or-map arc_value c.self.inside.images.items (me - 1) c.index.result.now image inside ∙ ap arc_value (sym c.index.ensures) ∙ sym c.in_ok-image.ensures in
+    let image = image_in c.in_ok-image.image in
+    let image_is : slice_index_or m.images (me - 1) image ≡ image = get_or-map image_in c.self.inside.images.items (me - 1) c.index.result.now image inside ∙ ap image_in (sym c.index.ensures) ∙ sym (ap the_image c.in_ok-image.ensures) in
     let xs = c.self.inside.processes.items in
     let begun = c.index-begun.result.now in
     let at : begun ≡ process_at m me = c.index-begun.ensures ∙ get_or_default xs (me - 1) begun (idle_process 0 0 0) (omega (arith, within, positive)) in
@@ -31,7 +30,7 @@ new-requires c =
     let back : is_lost (process_at m me).stage ≡ false = subst (λ (v : TheMachine). is_lost (process_at v me).stage ≡ false) (sym c.self.view_is) c.requires.back in
     let called : TheMachine → Who = λ v. record { me = me; from = c.args.message.sender; count = length v.processes } in
     let who : c.who-who.result ≡ record { me = me; from = c.args.message.sender; count = length m.processes } = c.who-who.ensures ∙ ap called (sym c.self.view_is) in
-    let len : length c.state.result.now ≡ image.len = ap length state_is ∙ (sound_at c.self.inside c.self.invariant me (idle_process 0 0 0) image positive within).state back ∙ ap (λ (e : Typed). e.len) image_is in
+    let len : length c.state.result.now ≡ image.len = ap length state_is ∙ (sound_at c.self.inside c.self.invariant me (idle_process 0 0 0) image positive within).state back ∙ ap (λ (e : TheImage). e.len) image_is in
     rw who (record { state_len = len; inside = positive; within = within; few = few; sender = sender; other = c.requires.other })
 
 -- where the job isn't made, the places of the last one are gone, and nothing else
@@ -46,7 +45,7 @@ invariant_of-self-2 c =
     let me = c.args.me in
     let i = c.self.invariant in
     let xs = c.self.inside.processes.items in
-    let images = map arc_value c.self.inside.images.items in
+    let images = map image_in c.self.inside.images.items in
     let y = c.begin.new.self in
     let was = c.index_mut-process.result.now in
     let positive = c.requires.inside in
@@ -55,8 +54,8 @@ invariant_of-self-2 c =
     let here : was ≡ slice_index_or xs (me - 1) was = first_of (search rules, grind (arith, common_steps)) in
     let begins : y ≡ record was { working = Some c.args.message } = first_of (search rules, grind (arith, common_steps)) in
     let at : was ≡ process_at c.args.self.now me = here ∙ get_or_default xs (me - 1) was (idle_process 0 0 0) (omega (arith, positive, within)) ∙ ap (λ (v : TheMachine). process_at v me) c.self.view_is in
-    let sound : (e : Typed) → IsSoundAt (length xs) me (slice_index_or images (me - 1) e).len c.self.inside.calls was = λ e. subst (IsSoundAt (length xs) me (slice_index_or images (me - 1) e).len c.self.inside.calls) (sym here) (sound_at c.self.inside i me was e positive within) in
-    let now : (e : Typed) → IsSoundAt (length xs) me (slice_index_or images (me - 1) e).len (c.self.inside.calls + 1) y =
+    let sound : (e : TheImage) → IsSoundAt (length xs) me (slice_index_or images (me - 1) e).len c.self.inside.calls was = λ e. subst (IsSoundAt (length xs) me (slice_index_or images (me - 1) e).len c.self.inside.calls) (sym here) (sound_at c.self.inside i me was e positive within) in
+    let now : (e : TheImage) → IsSoundAt (length xs) me (slice_index_or images (me - 1) e).len (c.self.inside.calls + 1) y =
     λ e. subst (IsSoundAt (length xs) me (slice_index_or images (me - 1) e).len (c.self.inside.calls + 1)) (sym begins)
     (sound-begun (length xs) me _ c.self.inside.calls was c.args.message (sound e) (subst (λ (x : TheProcess). IsNextFor x.stage c.args.message) (sym at) c.requires.next)) in
     let len = length-set xs (me - 1) y in

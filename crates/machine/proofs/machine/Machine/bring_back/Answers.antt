@@ -1,9 +1,8 @@
 use Rattle.std.proofs.Common.{◌≡◌, ℕ, ◌+◌, ◌<◌, ◌≤◌, length, map, true, false, subst, sym, ap, ◌∙◌, arith}
 use Rattle.std.specs.Prelude.{◌==◌}
-use Rattle.std.specs.Arc.{arc_value}
 use Rattle.std.proofs.lemmas.Bool.Decides.{nat_tests}
 use Rattle.std.proofs.lemmas.List.{length-map}
-use Rattle.verifier.specs.Typed.{Typed}
+use Rattle.handlers.specs.Image.{TheImage, image_in}
 use Rattle.rsn.specs.Receipts.{Received}
 use Rattle.checkpoint.specs.declared.form.Form.TheVariants.{Second}
 use Rattle.checkpoint.specs.Saved.{TheSaved, Fits, log_again}
@@ -75,7 +74,7 @@ returns-clause-step c w s =
     let is_plan : IsPlan (found (logs_of m) p) x.saved.senders plan.messages = subst (λ ss. IsPlan (found (logs_of m) p) ss plan.messages) senders c.in_ok-plan.ensures.plan in
     let before : plan.before ≡ length x.saved.senders = c.in_ok-plan.ensures.start.0 ∙ ap length senders in
     let kept : k ≡ length x.saved.senders + length plan.messages = omega (arith, c.length.ensures.value, c.len.ensures, ap length senders) in
-    let image : Typed = some-of (map arc_value c.self.inside.images.items) (omega (arith, length-map c.self.inside.images.items arc_value, c.self.invariant.images, c.self.invariant.some)) in
+    let image : TheImage = some-of (map image_in c.self.inside.images.items) (omega (arith, length-map c.self.inside.images.items image_in, c.self.invariant.images, c.self.invariant.some)) in
     let old : TheMachine = view_of c.self.inside in
     let x_is : (process_at old p).saved ≡ x.saved = ap (λ (v : TheMachine). (process_at v p).saved) c.self.view_is in
     let fits : Fits Second (process_at old p).saved = subst (Fits Second) (saved ∙ sym x_is) c.in_ok-receipts.ensures.fits in

@@ -1,8 +1,8 @@
-use Rattle.std.proofs.Common.{rules, ◌≡◌, ◌<◌, ◌≤◌, length, sym, ap, ◌∙◌, true, false, arith}
+use Rattle.std.proofs.Common.{◌≡◌, length, sym, ap, ◌∙◌}
 use Rattle.std.specs.Prelude.{◌&&◌, is_some}
 use Rattle.machine.specs.Process.{TheProcess}
 use Rattle.machine.specs.Simulation.{process_at}
-use Rattle.machine.specs.Stage.{is_live, is_lost}
+use Rattle.machine.specs.Stage.{is_live}
 use Rattle.machine.proofs.RecoveryCauses.{inside-of, checkpoint-down, checkpoint-busy, checkpoint-full, checkpoint-free}
 use Rattle.machine.proofs.machine.Machine.checkpoint_cause.Goals as goal
 

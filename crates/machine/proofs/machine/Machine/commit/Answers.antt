@@ -1,10 +1,9 @@
 use Rattle.std.proofs.Common.{rules, ◌≡◌, ◌≢◌, ◌<◌, ◌≤◌, ◌+◌, ◌-◌, ℕ, arith, subst, sym, ap, ◌∙◌, length, map, set, slice_index_or, refl, true, suc}
 use Rattle.std.specs.Prelude.{Some, None}
-use Rattle.std.specs.Arc.{arc_value}
 use Rattle.std.proofs.lemmas.Grind.{common_steps}
 use Rattle.std.proofs.lemmas.List.{get_or_default, length-set, set-get_or}
 use Rattle.limits.specs.declared.TheConstants.{ENTRIES, PACKETS}
-use Rattle.verifier.specs.Typed.{Typed}
+use Rattle.handlers.specs.Image.{TheImage, image_in}
 use Rattle.world.specs.declared.message.Message.{Message}
 use Rattle.world.specs.declared.packet.Packet.TheVariants.{Number}
 use Rattle.world.specs.declared.call.Call.TheVariants.{Finish}
@@ -57,7 +56,7 @@ invariant_of-self c =
       some = omega (arith, len, i.some);
       few = omega (arith, len, i.few);
       images = i.images ∙ sym len;
-      processes = subst (λ zs. (q : ℕ) (d : TheProcess) (e : Typed) → q < length zs → IsSoundAt (length zs) (suc q) (slice_index_or (map arc_value c.self.inside.images.items) q e).len c.self.inside.calls (slice_index_or zs q d)) (sym kept) i.processes;
+      processes = subst (λ zs. (q : ℕ) (d : TheProcess) (e : TheImage) → q < length zs → IsSoundAt (length zs) (suc q) (slice_index_or (map image_in c.self.inside.images.items) q e).len c.self.inside.calls (slice_index_or zs q d)) (sym kept) i.processes;
       outside = subst (λ n. IsLogOf n 0 c.self.inside.outside.log) (sym len) i.outside;
       calls = i.calls;
       started = i.started;
@@ -79,7 +78,7 @@ invariant_of-self-2 c =
     let t = c.args.done in
     let i = c.self.invariant in
     let xs = c.self.inside.processes.items in
-    let images = map arc_value c.self.inside.images.items in
+    let images = map image_in c.self.inside.images.items in
     let y = c.commit.new.self in
     let was = c.index_mut-process.result.now in
     let k = c.requires.matches in
@@ -94,14 +93,14 @@ invariant_of-self-2 c =
     let same : length y.state ≡ length was.state = first_of (search rules, grind (arith, common_steps)) in
     let calls : c.args.self.now.calls ≡ c.self.inside.calls = ap (λ (v : TheMachine). v.calls) (sym c.self.view_is) in
     let fits : received was + 1 ≤ c.self.inside.calls = omega (arith, room c.self.inside c.self.invariant c.args.self.now c.self.view_is t k, ap received at, calls) in
-    let sound_was : (e : Typed) → IsSoundAt (length xs) p (slice_index_or images (p - 1) e).len c.self.inside.calls was = λ e. subst (IsSoundAt (length xs) p (slice_index_or images (p - 1) e).len c.self.inside.calls) (sym here) (sound_at c.self.inside i p was e positive within) in
+    let sound_was : (e : TheImage) → IsSoundAt (length xs) p (slice_index_or images (p - 1) e).len c.self.inside.calls was = λ e. subst (IsSoundAt (length xs) p (slice_index_or images (p - 1) e).len c.self.inside.calls) (sym here) (sound_at c.self.inside i p was e positive within) in
     let len = length-set xs (p - 1) y in
     let may : MayCall t.image t.state t.who = subst (λ (z : TheTask). MayCall z.image z.state z.who) c.task-task.ensures c.who-me.ensures.callable in
     let sender_is : c.message-message.result.sender ≡ t.message.sender = ap (λ (z : Message). z.sender) c.message-message.ensures ∙ ap (λ (z : TheTask). z.message.sender) c.task-task.ensures in
     let count : length c.args.self.now.processes ≡ length xs = ap (λ (v : TheMachine). length v.processes) (sym c.self.view_is) in
     let from : c.message-message.result.sender ≤ length xs = omega (arith, sender_is, k.from, k.count, count, may.sender) in
     let other : c.message-message.result.sender ≢ p = λ e. may.other (k.from ∙ sym sender_is ∙ e ∙ p_is) in
-    let now : (e : Typed) → IsSoundAt (length xs) p (slice_index_or images (p - 1) e).len (c.self.inside.calls + 1) y = λ e.
+    let now : (e : TheImage) → IsSoundAt (length xs) p (slice_index_or images (p - 1) e).len (c.self.inside.calls + 1) y = λ e.
     sound-committed (length xs) p _ c.self.inside.calls t was y (sound_was e) commits live same (omega (arith, sender_is, from)) (λ f. other (sender_is ∙ f)) fits in
     let rsn_is : c.rsn-rsn.result ≡ t.rsn = c.rsn-rsn.ensures ∙ ap (λ (z : TheTask). z.rsn) c.task-task.ensures in
     let first : 0 < c.rsn-rsn.result = omega (arith, rsn_is, k.rsn) in
@@ -148,6 +147,6 @@ returns-clause-step c =
     (subst (λ k. Puts c.self.inside.wire slots c.in-Ok.key None (Some k)) (λ i. Number (p_is i) (message_is i).sender (message_is i).ssn (rsn_is i) (incarnation_is i)) c.in-Ok.ensures.wire.1) in
     let P : TheMachine → ℕ → ℕ → Type 0 = λ v p r. (w : World) → Stands m w → IsOpen m.images t w × Steps m (record v { processes = set v.processes (p - 1) y; slots = slots; calls = c.self.inside.calls + 1 }) 0 (Finish t.who.me) (Committed r c.in-Ok.key) w in
     moved P c.self.view_is p_is rsn_is (λ w s. (
-      is_open m w s t k c.in-Ok.ensures.answer many c.requires.slots y commits c.requires.up,
-      committed m w s t k c.in-Ok.ensures.answer many c.requires.slots y commits c.requires.up (sound c.self.inside c.self.invariant m c.self.view_is t k t.image).log sent c.in-Ok.key (c.self.inside.calls + 1) slots c.in-Ok.ensures.wire.0 puts,
+      is_open m w s t k c.in-Ok.ensures.answer many y commits c.requires.up,
+      committed m w s t k c.in-Ok.ensures.answer many y commits c.requires.up (sound c.self.inside c.self.invariant m c.self.view_is t k t.image).log sent c.in-Ok.key (c.self.inside.calls + 1) slots c.in-Ok.ensures.wire.0 puts,
     ))

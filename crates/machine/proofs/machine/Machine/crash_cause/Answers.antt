@@ -1,4 +1,4 @@
-use Rattle.std.proofs.Common.{rules, ◌≡◌, length, sym, ap, ◌∙◌, true, false}
+use Rattle.std.proofs.Common.{◌≡◌, length, sym, ap, ◌∙◌, true, false}
 use Rattle.std.specs.Prelude.{◌+◌, ◌<◌, ◌≤◌, Bool, is_some}
 use mir.Val.{bool_byte}
 use Rattle.world.specs.Refusals.{one_if}

@@ -1,4 +1,4 @@
-use Rattle.std.proofs.Common.{rules, arith, ◌≡◌, ◌≤◌, ◌<◌, ◌+◌, ◌*◌, ℕ, suc, length, sym, ap, ◌∙◌, subst}
+use Rattle.std.proofs.Common.{arith, ◌≡◌, ◌+◌, suc, length, ap, ◌∙◌}
 use Rattle.machine.specs.Saving.{dropped_by, dropped_to, trimmed_to, without_covered}
 use Rattle.machine.specs.Simulation.{TheMachine}
 use Rattle.machine.proofs.Trims.{width-to}

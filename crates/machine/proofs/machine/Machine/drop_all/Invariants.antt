@@ -1,4 +1,4 @@
-use Rattle.std.proofs.Common.{◌≡◌, ◌≤◌, ◌+◌, ◌*◌, ℕ, suc, length}
+use Rattle.std.proofs.Common.{◌≡◌, ◌≤◌, ◌+◌, ◌*◌, suc, length}
 use Rattle.limits.specs.declared.TheConstants.{SENDS}
 use Rattle.machine.specs.Saving.{dropped_to, trimmed_to}
 use Rattle.machine.proofs.machine.Machine.drop_all.Given as goal

@@ -1,8 +1,7 @@
-use Rattle.std.proofs.Common.{rules, arith, ◌≡◌, ◌<◌, ◌≤◌, ◌+◌, ◌-◌, ℕ, List, subst, sym, ap, ◌∙◌, slice_index_or, length, map, set}
-use Rattle.std.specs.Arc.{arc_value}
+use Rattle.std.proofs.Common.{rules, arith, ◌≡◌, ◌<◌, ◌≤◌, ◌-◌, subst, sym, ◌∙◌, slice_index_or, length, map}
 use Rattle.std.proofs.lemmas.Grind.{common_steps}
 use Rattle.std.proofs.lemmas.List.{length-set}
-use Rattle.verifier.specs.Typed.{Typed}
+use Rattle.handlers.specs.Image.{TheImage, image_in}
 use Rattle.machine.specs.Process.{trimmed_at}
 use Rattle.machine.specs.Fields.{AreCarried, IsLogOf, IsSoundAt}
 use Rattle.machine.specs.Simulation.{TheMachine}
@@ -15,7 +14,7 @@ invariant_of-self-2 c =
     let i = c.self.invariant in
     let p = c.args.s in
     let xs = c.self.inside.processes.items in
-    let images = map arc_value c.self.inside.images.items in
+    let images = map image_in c.self.inside.images.items in
     let was = c.index_mut.result.now in
     let y = c.trim-2.new.self in
     let positive : 0 < p = omega (arith, c.if-s-eq0.false) in
@@ -23,7 +22,7 @@ invariant_of-self-2 c =
     let here : was ≡ slice_index_or xs (p - 1) was = first_of (search rules, grind (arith, common_steps)) in
     let is : y ≡ trimmed_at c.args.d c.covered-covered.result was = c.trim-2.ensures.after in
     let len = length-set xs (p - 1) y in
-    let now : (e : Typed) → IsSoundAt (length xs) p (slice_index_or images (p - 1) e).len c.self.inside.calls y =
+    let now : (e : TheImage) → IsSoundAt (length xs) p (slice_index_or images (p - 1) e).len c.self.inside.calls y =
     λ e. rw is (trimmed-sound (length xs) p _ c.self.inside.calls c.args.d c.covered-covered.result was (subst (IsSoundAt (length xs) p (slice_index_or images (p - 1) e).len c.self.inside.calls) (sym here) (sound_at c.self.inside i p was e positive within))) in
     record {
       some = omega (arith, len, i.some);

@@ -1,8 +1,7 @@
-use Rattle.std.proofs.Common.{◌≡◌, ◌≤◌, length, subst, sym, ap, ◌∙◌, refl, true, false, true≢false, arith}
-use Rattle.std.proofs.lemmas.Bool.{OnTrue_at}
+use Rattle.std.proofs.Common.{◌≡◌, subst, sym, ap, ◌∙◌, refl, true≢false, arith}
 use Rattle.replay.specs.Task.{TheTask}
-use Rattle.machine.specs.Jobs.{Matches, HaveSlots}
-use Rattle.machine.specs.Simulation.{TheMachine, is_up_at}
+use Rattle.machine.specs.Jobs.{Matches}
+use Rattle.machine.specs.Simulation.{is_up_at}
 use Rattle.machine.proofs.JobLemmas.{matches}
 use Rattle.machine.proofs.machine.Machine.finish.Goals as goal
 
@@ -11,7 +10,7 @@ returns-then-not-is_open-clause-step c =
     let m = c.args.self.now in
     let t = c.args.done in
     let task_is = c.task-task.ensures in
-    let none : Matches m t → ⊥ = λ k. true≢false (sym (c.is_open.ensures.matches.1 (subst (Matches m) (sym task_is) k)) ∙ c.if-not-is_open.true) in
+    let none : Matches m t → ⊥ = λ k. true≢false (sym (c.is_open.ensures.1 (subst (Matches m) (sym task_is) k)) ∙ c.if-not-is_open.true) in
     (refl, refl, λ w s o. none (matches m t w s o))
 
 pub is_up-requires : goal.is_up-requires
@@ -19,8 +18,7 @@ is_up-requires c =
     let m = c.args.self.now in
     let t = c.args.done in
     let task_is = c.task-task.ensures in
-    let k : Matches m t = subst (Matches m) task_is (c.is_open.ensures.matches.0 c.if-not-is_open.false) in
-    let slots : HaveSlots m t = subst (HaveSlots m) task_is (OnTrue_at c.if-not-is_open.false c.is_open.ensures.slots) in
+    let k : Matches m t = subst (Matches m) task_is (c.is_open.ensures.0 c.if-not-is_open.false) in
     let me_is : c.process.result ≡ t.who.me = c.process.ensures ∙ ap (λ (z : TheTask). z.who.me) task_is in
     omega (arith, me_is, k.within)
 
@@ -29,28 +27,16 @@ commit-requires-clause-matches c =
     let m = c.args.self.now in
     let t = c.args.done in
     let task_is = c.task-task.ensures in
-    let k : Matches m t = subst (Matches m) task_is (c.is_open.ensures.matches.0 c.if-not-is_open.false) in
-    let slots : HaveSlots m t = subst (HaveSlots m) task_is (OnTrue_at c.if-not-is_open.false c.is_open.ensures.slots) in
+    let k : Matches m t = subst (Matches m) task_is (c.is_open.ensures.0 c.if-not-is_open.false) in
     let me_is : c.process.result ≡ t.who.me = c.process.ensures ∙ ap (λ (z : TheTask). z.who.me) task_is in
     k
-
-pub commit-requires-clause-slots : goal.commit-requires-clause-slots
-commit-requires-clause-slots c =
-    let m = c.args.self.now in
-    let t = c.args.done in
-    let task_is = c.task-task.ensures in
-    let k : Matches m t = subst (Matches m) task_is (c.is_open.ensures.matches.0 c.if-not-is_open.false) in
-    let slots : HaveSlots m t = subst (HaveSlots m) task_is (OnTrue_at c.if-not-is_open.false c.is_open.ensures.slots) in
-    let me_is : c.process.result ≡ t.who.me = c.process.ensures ∙ ap (λ (z : TheTask). z.who.me) task_is in
-    slots
 
 pub commit-requires-clause-up : goal.commit-requires-clause-up
 commit-requires-clause-up c =
     let m = c.args.self.now in
     let t = c.args.done in
     let task_is = c.task-task.ensures in
-    let k : Matches m t = subst (Matches m) task_is (c.is_open.ensures.matches.0 c.if-not-is_open.false) in
-    let slots : HaveSlots m t = subst (HaveSlots m) task_is (OnTrue_at c.if-not-is_open.false c.is_open.ensures.slots) in
+    let k : Matches m t = subst (Matches m) task_is (c.is_open.ensures.0 c.if-not-is_open.false) in
     let me_is : c.process.result ≡ t.who.me = c.process.ensures ∙ ap (λ (z : TheTask). z.who.me) task_is in
     ap (is_up_at m) (sym me_is) ∙ sym c.is_up.ensures ∙ c.if-is_up.true
 
@@ -59,27 +45,15 @@ recall-requires-clause-matches c =
     let m = c.args.self.now in
     let t = c.args.done in
     let task_is = c.task-task.ensures in
-    let k : Matches m t = subst (Matches m) task_is (c.is_open.ensures.matches.0 c.if-not-is_open.false) in
-    let slots : HaveSlots m t = subst (HaveSlots m) task_is (OnTrue_at c.if-not-is_open.false c.is_open.ensures.slots) in
+    let k : Matches m t = subst (Matches m) task_is (c.is_open.ensures.0 c.if-not-is_open.false) in
     let me_is : c.process.result ≡ t.who.me = c.process.ensures ∙ ap (λ (z : TheTask). z.who.me) task_is in
     k
-
-pub recall-requires-clause-slots : goal.recall-requires-clause-slots
-recall-requires-clause-slots c =
-    let m = c.args.self.now in
-    let t = c.args.done in
-    let task_is = c.task-task.ensures in
-    let k : Matches m t = subst (Matches m) task_is (c.is_open.ensures.matches.0 c.if-not-is_open.false) in
-    let slots : HaveSlots m t = subst (HaveSlots m) task_is (OnTrue_at c.if-not-is_open.false c.is_open.ensures.slots) in
-    let me_is : c.process.result ≡ t.who.me = c.process.ensures ∙ ap (λ (z : TheTask). z.who.me) task_is in
-    slots
 
 pub recall-requires-clause-down : goal.recall-requires-clause-down
 recall-requires-clause-down c =
     let m = c.args.self.now in
     let t = c.args.done in
     let task_is = c.task-task.ensures in
-    let k : Matches m t = subst (Matches m) task_is (c.is_open.ensures.matches.0 c.if-not-is_open.false) in
-    let slots : HaveSlots m t = subst (HaveSlots m) task_is (OnTrue_at c.if-not-is_open.false c.is_open.ensures.slots) in
+    let k : Matches m t = subst (Matches m) task_is (c.is_open.ensures.0 c.if-not-is_open.false) in
     let me_is : c.process.result ≡ t.who.me = c.process.ensures ∙ ap (λ (z : TheTask). z.who.me) task_is in
     ap (is_up_at m) (sym me_is) ∙ sym c.is_up.ensures ∙ c.if-is_up.false

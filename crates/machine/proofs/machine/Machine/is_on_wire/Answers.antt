@@ -1,4 +1,4 @@
-use Rattle.std.proofs.Common.{◌≡◌, ◌≤◌, false, refl, ℕ, sym, ◌∙◌, ap, arith, slice_index_or}
+use Rattle.std.proofs.Common.{◌≡◌, ◌≤◌, false, ℕ, sym, ◌∙◌, ap, arith, slice_index_or}
 use Rattle.std.specs.Prelude.{Some, None, option_copied}
 use Rattle.limits.specs.declared.TheConstants.{PACKETS}
 use Rattle.machine.specs.Wire.{AreListed}

@@ -1,17 +1,14 @@
 use Rattle.std.proofs.Common.{rules, ◌≡◌, ℕ, ◌<◌, ◌-◌, arith, sym, ap, ◌∙◌, length, map, List, slice_index_or}
-use Rattle.std.specs.Arc.{arc_value}
 use Rattle.std.proofs.lemmas.Grind.{common_steps}
-use Rattle.std.proofs.lemmas.Bool.{OnTrue_at, OnTrue_from}
 use Rattle.std.proofs.lemmas.Bool.Decides.{nat_tests}
 use Rattle.std.proofs.lemmas.List.{get_or-map}
-use Rattle.verifier.specs.Typed.{Typed}
-use Rattle.machine.specs.Jobs.{HaveSlots}
+use Rattle.handlers.specs.Image.{TheImage, image_in, the_image}
 use Rattle.machine.specs.Simulation.{TheMachine}
 use Rattle.machine.proofs.machine.Machine.is_open.Goals as goal
 use Rattle.machine.proofs.machine.Machine.is_open.Goals.{After-same_code}
 
 -- the image at a place
-at_place : {X : Type 0} (image_of : X → Typed) (items : List X) (images : List Typed) (p me : ℕ) (x : X) (e : Typed) → images ≡ map image_of items → p ≡ me → p - 1 < length items → x ≡ slice_index_or items (p - 1) x → slice_index_or images (me - 1) e ≡ image_of x
+at_place : {X : Type 0} (image_of : X → TheImage) (items : List X) (images : List TheImage) (p me : ℕ) (x : X) (e : TheImage) → images ≡ map image_of items → p ≡ me → p - 1 < length items → x ≡ slice_index_or items (p - 1) x → slice_index_or images (me - 1) e ≡ image_of x
 at_place image_of items images p me x e are same inside at =
     ap (λ zs. slice_index_or zs (me - 1) e) are
     ∙ ap (λ q. slice_index_or (map image_of items) (q - 1) e) (sym same)
@@ -19,22 +16,22 @@ at_place image_of items images p me x e are same inside at =
     ∙ ap image_of (sym at)
 
 -- the image that is compared
-stored : (c : After-same_code) → (e : Typed) → slice_index_or c.args.self.now.images (c.args.task.now.who.me - 1) e ≡ c.deref-image.result.now
+stored : (c : After-same_code) → (e : TheImage) → slice_index_or c.args.self.now.images (c.args.task.now.who.me - 1) e ≡ the_image c.deref-image.result.now
 stored c e =
     let inside : c.process-me.result - 1 < length c.self.inside.images.items = first_of (search rules, grind (arith, common_steps, nat_tests)) in
-    at_place arc_value c.self.inside.images.items c.args.self.now.images c.process-me.result c.args.task.now.who.me c.index.result.now e (ap (λ (v : TheMachine). v.images) (sym c.self.view_is)) c.process-me.ensures inside c.index.ensures
-    ∙ sym c.deref-image.ensures
+    at_place image_in c.self.inside.images.items c.args.self.now.images c.process-me.result c.args.task.now.who.me c.index.result.now e (ap (λ (v : TheMachine). v.images) (sym c.self.view_is)) c.process-me.ensures inside c.index.ensures
+    ∙ ap the_image (sym c.deref-image.ensures)
 
 -- what the comparison of the images says of a part of them
-alike : {X : Type 0} (part : Typed → X) (c : After-same_code) (e : Typed) → part c.deref-image.result.now ≡ part c.image.result.now → part (slice_index_or c.args.self.now.images (c.args.task.now.who.me - 1) e) ≡ part c.args.task.now.image
+alike : {X : Type 0} (part : TheImage → X) (c : After-same_code) (e : TheImage) → part (the_image c.deref-image.result.now) ≡ part (the_image c.image.result.now) → part (slice_index_or c.args.self.now.images (c.args.task.now.who.me - 1) e) ≡ part c.args.task.now.image
 alike part c e same = ap part (stored c e) ∙ same ∙ ap part c.image.ensures
 
-pub returns-clause-matches : goal.returns-clause-matches
-returns-clause-matches c =
+pub returns : goal.returns
+returns c =
     let t = c.args.task.now in
-    let g = (goal.at.returns-clause-matches c).After-same_code in (
+    let g = (goal.at.returns c).After-same_code in (
       λ yes.
-          let k = c.same_code.ensures.same.0 yes in
+          let k = c.same_code.ensures.0 yes in
           record {
             inside = first_of (search rules, grind (arith, common_steps, nat_tests));
             within = first_of (search rules, grind (arith, common_steps, nat_tests));
@@ -50,13 +47,8 @@ returns-clause-matches c =
       λ k.
           let at = sym (stored g t.image) in
           let is = sym c.image.ensures in
-          c.same_code.ensures.same.1 (
-            ap (λ (z : Typed). z.form) at ∙ k.form t.image ∙ ap (λ (z : Typed). z.form) is,
-            ap (λ (z : Typed). z.code) at ∙ k.code t.image ∙ ap (λ (z : Typed). z.code) is,
+          c.same_code.ensures.1 (
+            ap (λ (z : TheImage). z.form) at ∙ k.form t.image ∙ ap (λ (z : TheImage). z.form) is,
+            ap (λ (z : TheImage). z.code) at ∙ k.code t.image ∙ ap (λ (z : TheImage). z.code) is,
           ),
     )
-
-pub returns-clause-slots : goal.returns-clause-slots
-returns-clause-slots c =
-    let g = (goal.at.returns-clause-slots c).After-same_code in
-    OnTrue_from c.same_code.result (HaveSlots c.args.self.now c.args.task.now) (λ yes e. alike (λ z. z.slots) g e (OnTrue_at yes c.same_code.ensures.slots))

@@ -1,4 +1,4 @@
-use Rattle.std.proofs.Common.{rules, ◌≡◌, length, true, false, arith, sym, ◌∙◌}
+use Rattle.std.proofs.Common.{rules, ◌≡◌, length, arith, sym, ◌∙◌}
 use Rattle.std.specs.Prelude.{◌&&◌, nat_lt, nat_le}
 use Rattle.std.proofs.lemmas.Grind.{common_steps}
 use Rattle.machine.specs.Simulation.{process_at}

@@ -1,9 +1,9 @@
 use Rattle.std.proofs.Common.{rules, ◌≡◌, ◌<◌, ◌≤◌, ◌+◌, ℕ, length, map, refl, sym, ap, ◌∙◌, subst, arith}
-use Rattle.std.specs.Arc.{arc_value}
 use Rattle.std.specs.Prelude.{Option, None, List, slice_index_or}
 use Rattle.std.proofs.lemmas.Grind.{common_steps}
 use Rattle.std.proofs.lemmas.List.{length-map}
 use Rattle.limits.specs.declared.TheConstants.{PACKETS, PROCESSES}
+use Rattle.handlers.specs.Image.{image_in}
 use Rattle.sender_log.specs.Log.{queue_of}
 use Rattle.world.specs.declared.packet.Packet.{Packet}
 use Rattle.machine.specs.Outside.{TheOutside, empty_outside}
@@ -13,16 +13,16 @@ use Rattle.machine.proofs.machine.Machine.open.Goals as goal
 
 pub invariant_of-result : goal.invariant_of-result
 invariant_of-result c =
-    let images = map arc_value c.args.images.items in
+    let images = map image_in c.args.images.items in
     let xs = c.in_ok-processes.processes.items in
     let few : (0 < length images) × (length images ≤ PROCESSES) = first_of (search rules, grind (arith, common_steps)) in
     let count : c.len-count.result ≡ length images = first_of (search rules, grind (arith, common_steps)) in
-    let idle = idle-handed arc_value c.as_slice.result.now c.args.images.items xs c.as_slice.ensures.value c.in_ok-processes.ensures in
+    let idle = idle-handed image_in c.as_slice.result.now c.args.images.items xs c.as_slice.ensures.value c.in_ok-processes.ensures in
     let outside = c.in_ok-outside.ensures ∙ ap empty_outside count in
     record {
       some = omega (arith, idle.count, few.0);
       few = omega (arith, idle.count, few.1);
-      images = omega (arith, idle.count, length-map c.args.images.items arc_value);
+      images = omega (arith, idle.count, length-map c.args.images.items image_in);
       processes = idle-sound images xs idle;
       outside = subst (λ (o : TheOutside). IsLogOf (length xs) 0 o.log) (sym outside) (outside-sound images xs idle);
       calls = omega arith;
@@ -35,9 +35,9 @@ invariant_of-result c =
 
 pub returns : goal.returns
 returns c =
-    let images = map arc_value c.args.images.items in
+    let images = map image_in c.args.images.items in
     let few : (0 < length images) × (length images ≤ PROCESSES) = first_of (search rules, grind (arith, common_steps)) in
     let count : c.len-count.result ≡ length images = first_of (search rules, grind (arith, common_steps)) in
-    let idle = idle-handed arc_value c.as_slice.result.now c.args.images.items c.in_ok-processes.processes.items c.as_slice.ensures.value c.in_ok-processes.ensures in
+    let idle = idle-handed image_in c.as_slice.result.now c.args.images.items c.in_ok-processes.processes.items c.as_slice.ensures.value c.in_ok-processes.ensures in
     let outside = c.in_ok-outside.ensures ∙ ap empty_outside count in
     rw (outside, c.new-2.ensures) (few, refl, refl, opens images c.in_ok-processes.processes.items idle)

@@ -1,4 +1,4 @@
-use Rattle.std.proofs.Common.{ℕ, ◌≤◌, length, arith}
+use Rattle.std.proofs.Common.{ℕ, arith}
 use Rattle.world.specs.declared.call.Call.TheVariants.{Resync as ResyncWith}
 use Rattle.machine.specs.Picking.{IsPick}
 use Rattle.machine.proofs.Picks.{resync-nowhere, upto-more}

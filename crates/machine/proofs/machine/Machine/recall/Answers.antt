@@ -1,16 +1,16 @@
-use Rattle.std.proofs.Common.{◌≡◌, ◌<◌, ◌≤◌, ◌+◌, ◌-◌, ℕ, arith, subst, sym, ap, ◌∙◌, length, set, refl, Bool, true, false, true≢false}
-use Rattle.std.specs.Prelude.{Result, Ok, Err, OnOk, OnErr, is_err, Option, Some, None, nat_lt, unwrap_or, if◌then◌else◌}
+use Rattle.std.proofs.Common.{◌≡◌, ◌<◌, ◌+◌, ◌-◌, ℕ, arith, subst, sym, ap, ◌∙◌, length, set, refl, Bool, true, false, true≢false}
+use Rattle.std.specs.Prelude.{Result, Ok, Err, OnOk, OnErr, is_err, Some, None, nat_lt, unwrap_or, if◌then◌else◌}
 use Rattle.std.specs.Vec.{with_item}
 use Rattle.std.proofs.lemmas.Bool.Decides.{nat_tests}
 use Rattle.world.specs.declared.call.Call.TheVariants.{Finish}
 use Rattle.world.specs.declared.answer.Answer.TheVariants.{Replayed}
 use Rattle.replay.specs.Task.{TheTask, MayCall, IsAnswer, answer_of}
 use Rattle.replay.specs.Plan.{ThePlan}
-use Rattle.machine.specs.Process.{TheProcess, received, Recalls}
+use Rattle.machine.specs.Process.{received, Recalls}
 use Rattle.machine.specs.Stage.{is_replayed}
 use Rattle.machine.specs.Recovering.{SettlesAt}
 use Rattle.machine.specs.Fields.{view_of}
-use Rattle.machine.specs.Simulation.{TheMachine, Steps, process_at}
+use Rattle.machine.specs.Simulation.{TheMachine, Steps}
 use Rattle.machine.proofs.JobLemmas.{opens}
 use Rattle.machine.proofs.Restoring.{count-sound}
 use Rattle.machine.proofs.Finishing.{sizes, sound, fits-at, next-of, undone-sound, undone-view, replays-at, recalled-sound, recalled-settles, recalled-view, recalls-at, stage-then}
@@ -177,7 +177,7 @@ returns-clause-step c w s =
     let then_is = stage-then i c.self.invariant m c.self.view_is t k c.requires.down p p_is was c.index_mut-process.ensures.value y recalls flags a may in
     let at = recalls-at i c.self.invariant m c.self.view_is t k c.requires.down p p_is was c.index_mut-process.ensures.value y recalls flags a may in
     let view = recalled-view i c.self.invariant m c.self.view_is t k c.requires.down p p_is was c.index_mut-process.ensures.value y recalls flags a may in
-    let left = (works m w s t k a many c.requires.slots y at plan replays.1 replays.2 log_of).left in
+    let left = (works m w s t k a many y at plan replays.1 replays.2 log_of).left in
     let told : (if nat_lt (plan.replayed + 1) (length plan.messages) then None else Some replays.1) ≡ c.is_replayed.result = ap is_replayed (sym then_is) ∙ ap is_replayed (sym c.stage.ensures) ∙ sym c.is_replayed.ensures in
     let P : TheMachine → Type 0 = λ v. Steps m (record v { calls = calls }) 0 (Finish t.who.me) (Replayed t.rsn) w in (
       opens m t w s many k,
@@ -192,10 +192,10 @@ returns-clause-step c w s =
                 let by_number : SettlesAt t.who.me b.in-Some.alone old new = subst (λ q. SettlesAt q b.in-Some.alone old new) p_is b.settle.ensures in
                 let by_kind : SettlesAt t.who.me replays.1 old new = subst (λ z. SettlesAt t.who.me z old new) (sym e.1) by_number in
                 let there : SettlesAt t.who.me replays.1 (record m { processes = set m.processes (t.who.me - 1) y }) new = subst (λ v. SettlesAt t.who.me replays.1 v new) view by_kind in
-                subst P (sym (c.self-2.view_is ∙ b.self-is)) (settles m w s t k a many c.requires.slots y at plan replays.1 replays.2 log_of last calls new there)
+                subst P (sym (c.self-2.view_is ∙ b.self-is)) (settles m w s t k a many y at plan replays.1 replays.2 log_of last calls new there)
             | in_default b ↦
                 let some = going (nat_lt (plan.replayed + 1) (length plan.messages)) replays.1 (told ∙ b.in_default.is) in
                 let more : plan.replayed + 1 < length plan.messages = goes-at plan.replayed (length plan.messages) some in
-                subst P (sym (c.self-2.view_is ∙ b.self-is ∙ view)) (goes-on m w s t k a many c.requires.slots y at plan replays.1 replays.2 log_of more calls)
+                subst P (sym (c.self-2.view_is ∙ b.self-is ∙ view)) (goes-on m w s t k a many y at plan replays.1 replays.2 log_of more calls)
           ]),
     )

@@ -1,9 +1,9 @@
 use Rattle.std.proofs.Common.{arith, ◌≡◌, ◌<◌, ◌+◌, subst, sym, ap, ◌∙◌, slice_index_or, length}
 use Rattle.std.specs.Prelude.{Some, None}
-use Rattle.std.specs.Arc.{arc_value}
 use Rattle.helpers.specs.declared.effects.Who.{Who}
 use Rattle.std.proofs.lemmas.List.{length-map}
 use Rattle.limits.specs.declared.TheConstants.{ENTRIES}
+use Rattle.handlers.specs.Image.{image_in}
 use Rattle.world.specs.declared.packet.Packet.TheVariants.{Delivery, Number}
 use Rattle.world.specs.declared.call.Call.TheVariants.{Arrive}
 use Rattle.world.specs.declared.answer.Answer.TheVariants.{Started, Duplicate, Early}
@@ -91,7 +91,7 @@ returns-in_ok-job-in-Next-clause-job c =
     let b = c.in_ok-job-in-Next.ensures.ok in
     let v = c.begin.new.self in
     let inside = c.self-in-Next.inside in
-    let sizes : length (view_of inside).images ≡ length (view_of inside).processes = length-map inside.images.items arc_value ∙ c.self-in-Next.invariant.images in
+    let sizes : length (view_of inside).images ≡ length (view_of inside).processes = length-map inside.images.items image_in ∙ c.self-in-Next.invariant.images in
     let P : TheMachine → Type 0 = λ u. length u.images ≡ length u.processes → (w : World) → Stands (record u { slots = slots }) w → IsOpen u.images c.in_ok-job-in-Next.job w in
     subst P (sym c.self-in-Next.view_is) (λ sizes w s. opens (record v { slots = slots }) c.in_ok-job-in-Next.job w s sizes (begun-matches m v c.args.to c.args.message c.in_ok-job-in-Next.job slots b c.requires.to c.requires.may.carried.0)) sizes
 

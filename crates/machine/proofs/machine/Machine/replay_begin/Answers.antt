@@ -1,7 +1,5 @@
-use Rattle.std.proofs.Common.{◌≡◌, ◌≢◌, ◌<◌, ◌≤◌, length, refl, sym, ap, ◌∙◌, arith}
+use Rattle.std.proofs.Common.{◌≡◌, ◌≢◌, ◌≤◌, length, refl, sym, ap, ◌∙◌, arith}
 use Rattle.std.specs.Prelude.{Result, Ok, Err, IfOk, Some}
-use Rattle.replay.specs.Task.{TheTask}
-use Rattle.world.specs.declared.refusal.Refusal.{Refusal}
 use Rattle.machine.specs.Process.{TheProcess}
 use Rattle.machine.specs.Stage.{next_job}
 use Rattle.machine.specs.Arrival.{IsHandedOut}

@@ -1,11 +1,11 @@
-use Rattle.std.proofs.Common.{◌≡◌, ◌<◌, ◌≤◌, ◌+◌, ◌-◌, ◌++◌, length, set, sym, ap, ◌∙◌, arith}
+use Rattle.std.proofs.Common.{◌≡◌, ◌<◌, ◌+◌, ◌-◌, ◌++◌, length, set, sym, ap, ◌∙◌, arith}
 use Rattle.std.specs.Prelude.{Result, Ok, Err, IfOk, slice_index_or}
 use Rattle.std.proofs.lemmas.List.{get_or_append_left, get_or-append-add, set-append_left, set-append_right, get_or_default}
 use Rattle.sender_log.specs.Queue.{known}
 use Rattle.sender_log.specs.Log.{queue_of}
 use Rattle.machine.specs.Process.{TheProcess, idle_process}
 use Rattle.machine.specs.Simulation.{TheMachine, process_at}
-use Rattle.machine.proofs.Splits.{split-was, split-log, resynced-sound, resynced-view}
+use Rattle.machine.proofs.Splits.{split-log, resynced-sound, resynced-view}
 use Rattle.machine.proofs.machine.Machine.restore_numbers.Goals as goal
 use Rattle.machine.proofs.machine.Machine.restore_numbers.Goals.{then-p-r, else-p-r}
 

@@ -1,4 +1,4 @@
-use Rattle.std.proofs.Common.{◌≢◌, ◌≤◌, length, arith, sym, ap, ◌∙◌}
+use Rattle.std.proofs.Common.{◌≢◌, arith, sym, ap, ◌∙◌}
 use Rattle.std.specs.Prelude.{None, not, option_and_then}
 use Rattle.world.specs.declared.call.Call.TheVariants.{Resync as ResyncWith}
 use Rattle.world.specs.Refusals.{refusal_of, cause_of}

@@ -1,4 +1,4 @@
-use Rattle.std.proofs.Common.{rules, ◌≡◌, ◌≤◌, ◌<◌, ◌+◌, arith, ap, subst, sym, ◌∙◌, length, true, false, refl, true≢false}
+use Rattle.std.proofs.Common.{rules, ◌≡◌, ◌≤◌, ◌<◌, ◌+◌, arith, ap, subst, sym, ◌∙◌, length, true, false, true≢false}
 use Rattle.std.specs.Prelude.{Some, None}
 use Rattle.std.proofs.lemmas.Grind.{common_steps}
 use Rattle.limits.specs.declared.TheConstants.{ENTRIES, PACKETS}

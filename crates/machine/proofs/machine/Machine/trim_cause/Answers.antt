@@ -1,9 +1,5 @@
-use Rattle.std.proofs.Common.{rules, ◌≡◌, ◌<◌, ◌≤◌, length, sym, ap, ◌∙◌, true, false, arith}
-use Rattle.std.specs.Prelude.{◌&&◌, is_some}
+use Rattle.std.proofs.Common.{rules, ◌≤◌, length, arith}
 use Rattle.std.proofs.lemmas.Grind.{common_steps}
-use Rattle.machine.specs.Process.{TheProcess}
-use Rattle.machine.specs.Simulation.{process_at}
-use Rattle.machine.specs.Stage.{is_live, is_lost}
 use Rattle.machine.proofs.RecoveryCauses.{trim-full, trim-free}
 use Rattle.machine.proofs.machine.Machine.trim_cause.Goals as goal
 

@@ -17,14 +17,14 @@ use Rattle.sessions.proofs.service.Service.finish_of.Goals.{After-append}
 pub returns-then-is_open-clause-takes : goal.returns-then-is_open-clause-takes
 returns-then-is_open-clause-takes c =
     let m = c.self.inside.machine in
-    let k : Matches m c.args.done = subst (Matches m) c.task.ensures (c.is_open.ensures.matches.0 c.if-is_open.true) in
+    let k : Matches m c.args.done = subst (Matches m) c.task.ensures (c.is_open.ensures.0 c.if-is_open.true) in
     rw (← c.self.view_is, c.reserve.ensures.entries) (refl, refl, refl, opens m c.args.done (here m c.self.inside.journal.entries) c.self.invariant.0.leads (sym c.self.invariant.0.sizes) k)
 
 pub returns-then-not-reserve-clause-takes : goal.returns-then-not-reserve-clause-takes
 returns-then-not-reserve-clause-takes c =
     let m = c.self.inside.machine in
     let es = c.self.inside.journal.entries in
-    let none : IsOpen m.images c.args.done (here m es) → ⊥ = λ o. true≢false (sym (c.is_open.ensures.matches.1 (subst (Matches m) (sym c.task.ensures) (matches m c.args.done (here m es) c.self.invariant.0.leads o))) ∙ c.if-is_open.false) in
+    let none : IsOpen m.images c.args.done (here m es) → ⊥ = λ o. true≢false (sym (c.is_open.ensures.1 (subst (Matches m) (sym c.task.ensures) (matches m c.args.done (here m es) c.self.invariant.0.leads o))) ∙ c.if-is_open.false) in
     rw (← c.self.view_is, c.reserve.ensures.entries) (refl, refl, refl, none)
 
 done : (c : After-append) → Grows c.args.worker c.self.inside.machine c.finish.new.self c.self.inside.journal.entries c.append.new.self.entries (Finish c.args.done.who.me) (finished_of c.in_ok-finished.finished)
