@@ -265,7 +265,8 @@ impl Machine {
         }
     }
 
-    // An acknowledgement arrives at the receiver.
+    // An acknowledgement arrives at the receiver, whose sends that waited for it are released
+    // (`Process::acknowledge`).
     fn acknowledge(&mut self, room: u32, key: usize, packet: Packet) -> Arrival
         requires may { MayArrive self.old room key packet }
         requires acknowledgement { IsAcknowledgement packet }

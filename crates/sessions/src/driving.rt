@@ -75,6 +75,7 @@ impl Service {
         let Some(job) = reply.job else {
             return Ok(1);
         };
+        // (the machine made the job: the handler runs here, outside of it)
         let Err((refusal, _)) = self.finish_of(worker, job.run()) else {
             return Ok(2);
         };

@@ -98,6 +98,7 @@ impl Service {
             return Err(cause.unwrap_or(Refusal::Memory));
         };
         let single = self.machine.keeps_single(call);
+        // (`step` goes to the machine's method of the call's name)
         let reply = self.machine.step(room, call)?;
         self.exact = self.exact && single;
         self.journal.append(worker, brief, reply.answer);
