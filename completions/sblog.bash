@@ -16,7 +16,7 @@ _sblog() {
     [[ ${COMP_WORDS[1]} == --unproved ]] && at=2
     if [[ $COMP_CWORD -eq $at ]]; then
         local names='run live draw check explain asm pack dis native help --help --unproved --version'
-        [[ $at -eq 2 ]] && names='run check explain dis'
+        [[ $at -eq 2 ]] && names='run draw check explain asm pack dis native'
         COMPREPLY=($(compgen -W "$names" -- "$word"))
         return
     fi
