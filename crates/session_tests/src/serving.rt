@@ -6,32 +6,13 @@ ghost use Rattle.machine.specs.Stepping.{TakesNoResult};
 mod greatest;
 mod ordinary_c;
 
-use handlers::Handler;
+use crate::fixtures::{ADDER, ADDERS, ECHO, RELAY, images};
 use helpers::Payload;
 use sessions::Service;
 use std::alloc::Global;
-use std::sync::Arc;
+use std::process::Abort;
 use std::test::Fail;
 use world::{Answer, Call, PhaseName};
-
-/// Adds the first word of a message to the first word of its state.
-const ADDER: [u8; 56] = [
-    0x53, 0x42, 0x49, 0x31, 0x08, 0x00, 0x06, 0x00, 0x79, 0x13, 0, 0, 0, 0, 0, 0, 0x79, 0x24, 0, 0,
-    0, 0, 0, 0, 0x0f, 0x34, 0, 0, 0, 0, 0, 0, 0x7b, 0x42, 0, 0, 0, 0, 0, 0, 0xb7, 0, 0, 0, 0, 0, 0,
-    0, 0x95, 0, 0, 0, 0, 0, 0, 0,
-];
-
-/// Sends each message on to process 2.
-const RELAY: [u8; 40] = [
-    0x53, 0x42, 0x49, 0x31, 0x00, 0x00, 0x04, 0x00, 0xbf, 0x12, 0, 0, 0, 0, 0, 0, 0xb7, 0x01, 0, 0,
-    0x02, 0, 0, 0, 0x85, 0, 0, 0, 0x01, 0, 0, 0, 0x95, 0, 0, 0, 0, 0, 0, 0,
-];
-
-/// Gives each message out.
-const ECHO: [u8; 24] = [
-    0x53, 0x42, 0x49, 0x31, 0x00, 0x00, 0x02, 0x00, 0x85, 0, 0, 0, 0x02, 0, 0, 0, 0x95, 0, 0, 0, 0,
-    0, 0, 0,
-];
 
 /// A call of a script.
 #[derive(Clone, Copy)]
@@ -221,43 +202,40 @@ const REFUSED: &[Step] = &[
     Step::Ends(4, false),
 ];
 
-fn open(alloc: Global, files: &[&[u8]]) -> Result<Service, Fail> {
-    let mut images = Vec::new(alloc);
-    for file in files {
-        images.push(Arc::new(alloc, Handler::load(alloc, file)?)?)?;
-    }
-    Ok(Service::open(alloc, images)?)
-}
-
 /// The place of the first step that goes wrong, from 0.
-fn first_wrong(alloc: Global, files: &[&[u8]], script: &[Step]) -> Result<Option<usize>, Fail> {
-    let mut service = open(alloc, files)?;
+fn first_wrong(service: &mut Service, script: &[Step]) -> Option<usize> {
     for (place, step) in script.iter().enumerate() {
-        if !holds(&mut service, *step) {
-            return Ok(Some(place));
+        if !holds(service, *step) {
+            return Some(place);
         }
     }
-    Ok(None)
+    None
 }
 
-#[test]
-fn scripts_hold(rt: HostRuntime) -> Result<(), Fail> {
-    let alloc = rt.alloc();
-    assert_eq!(rt; first_wrong(alloc, &[&ADDER], CRASH)?, None);
-    assert_eq!(rt; first_wrong(alloc, &[&RELAY, &ECHO], RELAYED)?, None);
-    assert_eq!(rt; first_wrong(alloc, &[&RELAY, &ECHO], REFUSED)?, None);
+/// Follows a script in a service of its own.
+fn follow(rt: &impl Abort, alloc: Global, files: &[&[u8]], script: &[Step]) -> Result<(), Fail> {
+    let mut service = Service::open(alloc, images(alloc, files)?)?;
+    assert!(rt; first_wrong(&mut service, script).is_none());
     Ok(())
 }
 
 #[test]
+fn scripts_hold(rt: HostRuntime) -> Result<(), Fail> {
+    follow(&rt, rt.alloc(), &[&ADDER], CRASH)?;
+    follow(&rt, rt.alloc(), &[&RELAY, &ECHO], RELAYED)?;
+    follow(&rt, rt.alloc(), &[&RELAY, &ECHO], REFUSED)
+}
+
+/// Whether a service of these handlers opens.
+fn opens(alloc: Global, files: &[&[u8]]) -> Result<bool, Fail> {
+    Ok(Service::open(alloc, images(alloc, files)?).is_ok())
+}
+
+#[test]
 fn there_are_1_to_15_processes(rt: HostRuntime) -> Result<(), Fail> {
-    let alloc = rt.alloc();
-    for (count, opens) in [(0, false), (1, true), (15, true), (16, false)] {
-        let mut images = Vec::new(alloc);
-        for _ in 0..count {
-            images.push(Arc::new(alloc, Handler::load(alloc, &ADDER)?)?)?;
-        }
-        assert_eq!(rt; Service::open(alloc, images).is_ok(), opens);
-    }
+    assert!(rt; !opens(rt.alloc(), &[])?);
+    assert!(rt; opens(rt.alloc(), &ADDERS[..1])?);
+    assert!(rt; opens(rt.alloc(), &ADDERS[..15])?);
+    assert!(rt; !opens(rt.alloc(), &ADDERS)?);
     Ok(())
 }

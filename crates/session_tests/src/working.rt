@@ -113,8 +113,8 @@ const RUNS: [(Case, Left); 5] = [
 
 #[test]
 fn each_feed_is_taken_once(rt: HostRuntime) -> Result<(), Fail> {
-    for (case, left) in RUNS {
-        assert_eq!(rt; follow(&rt, rt.alloc(), case, &Open)?, Outcome::Ran(left));
+    for (case, left) in &RUNS {
+        assert!(rt; follow(&rt, rt.alloc(), *case, &Open)? == Outcome::Ran(*left));
     }
     Ok(())
 }
@@ -126,52 +126,56 @@ const BUDGETS: [(u32, usize); 6] = [(0, 0), (1, 2), (2, 2), (3, 4), (4, 4), (5, 
 
 #[test]
 fn a_budget_ends_a_worker(rt: HostRuntime) -> Result<(), Fail> {
-    for (budget, entries) in BUDGETS {
+    for (budget, entries) in &BUDGETS {
         let case = Case {
-            budget,
+            budget: *budget,
             feeds: Feeds::Rows(&FIVE),
             ..ADDER
         };
         let Outcome::Ran(left) = follow(&rt, rt.alloc(), case, &Open)? else {
             return Err("the run was refused")?;
         };
-        assert_eq!(rt;
-            (left.entries, left.spent, left.is_counted),
-            (entries, 1, true)
-        );
+        assert!(rt; left.entries == *entries && left.spent == 1 && left.is_counted);
     }
     Ok(())
 }
 
-/// Runs that are refused: no workers, too many, and seats that are out.
-const REFUSED: [Case; 4] = [
-    Case {
-        workers: 0,
-        ..ADDER
-    },
-    Case {
-        workers: 17,
-        ..ADDER
-    },
-    Case {
-        before: Before::SeatOut(0),
-        ..ADDER
-    },
-    Case {
-        before: Before::SeatOut(16),
-        ..ADDER
-    },
+/// Runs that are refused, with the entries that stay: no workers, too many, and seats that are out.
+const REFUSED: [(Case, usize); 4] = [
+    (
+        Case {
+            workers: 0,
+            ..ADDER
+        },
+        0,
+    ),
+    (
+        Case {
+            workers: 17,
+            ..ADDER
+        },
+        0,
+    ),
+    (
+        Case {
+            before: Before::SeatOut(0),
+            ..ADDER
+        },
+        1,
+    ),
+    (
+        Case {
+            before: Before::SeatOut(16),
+            ..ADDER
+        },
+        1,
+    ),
 ];
 
 #[test]
 fn a_refused_run_gives_the_session_back(rt: HostRuntime) -> Result<(), Fail> {
-    for case in REFUSED {
-        let outcome = follow(&rt, rt.alloc(), case, &Open)?;
-        let entries = match case.before {
-            Before::SeatOut(_) => 1,
-            _ => 0
-        };
-        assert_eq!(rt; outcome, Outcome::Refused(1, entries));
+    for (case, entries) in &REFUSED {
+        assert!(rt; follow(&rt, rt.alloc(), *case, &Open)? == Outcome::Refused(1, *entries));
     }
     Ok(())
 }
@@ -185,30 +189,33 @@ const OVERLAP: Case = Case {
     before: Before::Nothing,
 };
 
+const OVERLAPPED: Left = Left {
+    entries: 12,
+    quiet: 2,
+    first: (1, 3),
+    second: (1, 5),
+    ..QUIET
+};
+
 #[test]
 fn handlers_run_while_the_lock_is_free(rt: HostRuntime) -> Result<(), Fail> {
     let crossed = Crossed::new();
     let outcome = follow(&rt, rt.alloc(), OVERLAP, &crossed)?;
     assert!(rt; crossed.is_crossed());
-    let left = Left {
-        entries: 12,
-        quiet: 2,
-        first: (1, 3),
-        second: (1, 5),
-        ..QUIET
-    };
-    assert_eq!(rt; outcome, Outcome::Ran(left));
+    assert!(rt; outcome == Outcome::Ran(OVERLAPPED));
     Ok(())
 }
 
+/// Three jobs, each of whose results was told.
+const WATCHED: Watched = Watched {
+    seen: Some((3, 3)),
+    end: End::Quiet,
+    entries: 18,
+};
+
 #[test]
 fn results_are_told_after_they_were_accepted(rt: HostRuntime) -> Result<(), Fail> {
-    let watched = Watched {
-        seen: Some((3, 3)),
-        end: End::Quiet,
-        entries: 18,
-    };
-    assert_eq!(rt; watch(&rt, rt.alloc())?, watched);
+    assert!(rt; watch(&rt, rt.alloc())? == WATCHED);
     Ok(())
 }
 
@@ -255,8 +262,8 @@ const ALONE: [(Trouble, Alone); 3] = [
 
 #[test]
 fn a_worker_alone_ends_as_it_should(rt: HostRuntime) -> Result<(), Fail> {
-    for (trouble, alone) in ALONE {
-        assert_eq!(rt; meet(&rt, rt.alloc(), trouble)?, alone);
+    for (trouble, alone) in &ALONE {
+        assert!(rt; meet(&rt, rt.alloc(), *trouble)? == *alone);
     }
     Ok(())
 }

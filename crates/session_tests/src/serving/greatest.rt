@@ -1,6 +1,7 @@
 //! Services at the limits of docs/FORMATS.md: full journals, a full wire, and many messages.
 
-use super::{ADDER, Act, Step, first_wrong};
+use super::{Act, Step, follow};
+use crate::fixtures::ADDER;
 use std::test::Fail;
 use world::{Answer, PhaseName};
 
@@ -104,22 +105,18 @@ const MANY: &[Step] = &[
 
 #[test]
 fn full_journals_take_no_call(rt: HostRuntime) -> Result<(), Fail> {
-    let alloc = rt.alloc();
-    assert_eq!(rt; first_wrong(alloc, &[&ADDER], JOURNAL)?, None);
-    assert_eq!(rt; first_wrong(alloc, &[&ADDER], DOWN)?, None);
-    assert_eq!(rt; first_wrong(alloc, &[&ADDER, &ADDER], RESTORING)?, None);
-    assert_eq!(rt; first_wrong(alloc, &[&ADDER], DRIVEN)?, None);
-    Ok(())
+    follow(&rt, rt.alloc(), &[&ADDER], JOURNAL)?;
+    follow(&rt, rt.alloc(), &[&ADDER], DOWN)?;
+    follow(&rt, rt.alloc(), &[&ADDER, &ADDER], RESTORING)?;
+    follow(&rt, rt.alloc(), &[&ADDER], DRIVEN)
 }
 
 #[test]
 fn a_full_wire_takes_no_packet(rt: HostRuntime) -> Result<(), Fail> {
-    assert_eq!(rt; first_wrong(rt.alloc(), &[&ADDER], WIRE)?, None);
-    Ok(())
+    follow(&rt, rt.alloc(), &[&ADDER], WIRE)
 }
 
 #[test]
 fn eight_thousand_messages_come_back(rt: HostRuntime) -> Result<(), Fail> {
-    assert_eq!(rt; first_wrong(rt.alloc(), &[&ADDER], MANY)?, None);
-    Ok(())
+    follow(&rt, rt.alloc(), &[&ADDER], MANY)
 }

@@ -1,6 +1,7 @@
 //! What a machine tells of its processes.
 
-use super::{Cast, images, word};
+use super::{Cast, word};
+use crate::fixtures::images;
 use machine::{Arrival, Finished, Machine};
 use send_gate::Held;
 use std::alloc::Global;
@@ -14,8 +15,8 @@ const ROOM: u32 = 100;
 /// A relay that received a message and sends it on to an echo, and the key of the packet that tells
 /// the message's number.
 fn relayed(rt: &impl Abort, alloc: Global) -> Result<(Machine, usize), Fail> {
-    let mut machine = Machine::open(alloc, images(alloc, Cast::RelayAndEcho)?)?;
-    assert_eq!(rt; machine.calls(), 0);
+    let mut machine = Machine::open(alloc, images(alloc, Cast::RelayAndEcho.files())?)?;
+    assert!(rt; machine.calls() == 0);
     let feed = Feed {
         number: 7,
         dst: 1,
@@ -34,25 +35,25 @@ fn relayed(rt: &impl Abort, alloc: Global) -> Result<(Machine, usize), Fail> {
 
 /// What is read while the message isn't acknowledged.
 fn before(rt: &impl Abort, machine: &Machine) {
-    assert_eq!(rt; machine.count(), 2);
-    assert_eq!(rt; machine.incarnation(1), 1);
+    assert!(rt; machine.count() == 2);
+    assert!(rt; machine.incarnation(1) == 1);
     let receipts = machine.receipts(1);
-    assert_eq!(rt; receipts.length(), 1);
-    assert_eq!(rt; receipts.sender(1), 0);
+    assert!(rt; receipts.length() == 1);
+    assert!(rt; receipts.sender(1) == 0);
     assert!(rt; !receipts.is_acknowledged(1));
-    assert_eq!(rt; machine.receipts(2).length(), 0);
-    assert_eq!(rt; machine.gate(1).last(), Some(Held { dst: 2, rsn: 1 }));
-    assert_eq!(rt; machine.gate(1).released(2), 0);
+    assert!(rt; machine.receipts(2).length() == 0);
+    assert!(rt; machine.gate(1).last() == Some(Held { dst: 2, rsn: 1 }));
+    assert!(rt; machine.gate(1).released(2) == 0);
     assert!(rt; matches!(machine.log(0).entry(1, 1), Some((_, None))));
 }
 
 /// What is read once it is.
 fn after(rt: &impl Abort, machine: &Machine) {
-    assert_eq!(rt; machine.count(), 2);
+    assert!(rt; machine.count() == 2);
     let receipts = machine.receipts(1);
-    assert_eq!(rt; receipts.run_length(), 1);
-    assert_eq!(rt; machine.gate(1).last(), None);
-    assert_eq!(rt; machine.gate(1).released(2), 1);
+    assert!(rt; receipts.run_length() == 1);
+    assert!(rt; machine.gate(1).last() == None);
+    assert!(rt; machine.gate(1).released(2) == 1);
     assert!(rt; matches!(machine.log(0).entry(1, 1), Some((_, Some(1)))));
     assert!(rt; matches!(machine.log(1).entry(2, 1), Some(([5, ..], None))));
 }
@@ -61,7 +62,7 @@ fn after(rt: &impl Abort, machine: &Machine) {
 fn a_machine_tells_what_was_received_and_sent(rt: HostRuntime) -> Result<(), Fail> {
     let (mut machine, number) = relayed(&rt, rt.alloc())?;
     before(&rt, &machine);
-    assert_eq!(rt; machine.calls(), 4);
+    assert!(rt; machine.calls() == 4);
     let Arrival::Numbered(key) = machine.arrive(ROOM, number)? else {
         return Err("the number is not recorded")?;
     };

@@ -2,7 +2,9 @@
 
 ghost use Rattle.machine.specs.Stepping.{TakesNoResult};
 
-use super::{Stage, word};
+use super::{Stage, is_five, word};
+use helpers::Payload;
+use limits::PAYLOAD_BYTES;
 use replay::{Done, Job};
 use std::sync::ledger::Ledger;
 use world::{Answer, Call, Feed, PhaseName, Refusal};
@@ -12,8 +14,10 @@ use world::{Answer, Call, Feed, PhaseName, Refusal};
 pub(crate) enum Act {
     /// A word for a process, with a new feed number.
     Input(u8, u8),
-    /// One with the feed number of the first entry's, 0.
+    /// One with the feed number of the first entry's, 1.
     Again(u8, u8),
+    /// A message of these bytes, at most 256, for a process, with a new feed number.
+    Says(u8, &'static [u8]),
     Transmit(u8, u8, u32),
     Copy(usize),
     Lose(usize),
@@ -43,6 +47,16 @@ pub(crate) enum Step {
     Refuses(Act, u8),
     /// These two are accepted in turn, so often.
     Repeats(Act, Act, u32),
+    /// A word for a process is handed in, sent and taken in: a job is started.
+    Starts(u8, u8),
+    /// The seat of a worker is taken, a word for a process is handed in, and the seat brought back,
+    /// which was answered once.
+    HandsIn(u8, u8, u8),
+    /// The seat of a worker is at hand, or not. It is taken and brought back.
+    Sits(u8, bool),
+    /// These bytes are handed in for the first process so often, and each time a drive makes so many
+    /// calls.
+    Pours(&'static [u8], u32, u32),
     /// The result that is held, if there is one, is stale if it is of this process, else accepted.
     Brings(u8),
     /// A drive with this budget makes so many calls.
@@ -57,10 +71,24 @@ pub(crate) enum Step {
     IsBare(u8, PhaseName, u32),
     /// The outputs that were shown are these: each one's sender, SSN and word.
     Shows(&'static [(u8, u32, u8)]),
+    /// They are these: each one's sender, SSN and bytes.
+    Tells(&'static [(u8, u32, &'static [u8])]),
+    /// They are so many of one process, all with these bytes.
+    TellsAll(u8, usize, &'static [u8]),
     /// The state of a process has this length, and this byte at this place.
     Keeps(u8, usize, usize, u8),
     /// The checkpoint of a process has these bytes, and so many zeros behind them.
     Saves(u8, &'static [u8], usize),
+    /// It has so many bytes.
+    SavesBytes(u8, usize),
+    /// The result that is held is that of the word 5 on a state of zeros, and of the first job.
+    HoldsFive,
+    /// The journal is that of one message with this word.
+    IsOneMessage(u8),
+    /// The entries of the journal are of these workers.
+    Workers(&'static [u8]),
+    /// The seat that the calls are made by was answered so often.
+    Counts(u32),
     /// The entry at this place, from 0, has this answer.
     Answered(usize, Answer),
     /// The journal has so many entries.
@@ -88,6 +116,10 @@ impl<L: Ledger> Stage<L> {
                 matches!(self.act(act), Err(refusal) if refusal.number() == number)
             }
             Step::Repeats(first, second, times) => self.repeats(first, second, times),
+            Step::Starts(dst, value) => self.begins(dst, value),
+            Step::HandsIn(worker, dst, value) => self.hands_in(worker, dst, value),
+            Step::Sits(worker, wanted) => self.is_at_hand(worker) == wanted,
+            Step::Pours(bytes, times, calls) => self.pours(bytes, times, calls),
             Step::Brings(p) => self.brings(p),
             Step::Drives(budget, accepted) => self.drives(budget) == Some(accepted),
             Step::Settles => self.drives(1_000).is_some_and(|made| made < 1_000) && self.is_quiet(),
@@ -102,8 +134,15 @@ impl<L: Ledger> Stage<L> {
             Step::IsAt(p, phase, length, first) => self.is_at(p, phase, length, first),
             Step::IsBare(p, phase, length) => self.is_bare(p, phase, length),
             Step::Shows(outputs) => self.shows(outputs),
+            Step::Tells(outputs) => self.tells(outputs),
+            Step::TellsAll(sender, count, bytes) => self.tells_all(sender, count, bytes),
             Step::Keeps(p, length, place, value) => self.keeps(p, length, place, value),
             Step::Saves(p, head, zeros) => self.saves(p, head, zeros),
+            Step::SavesBytes(p, count) => self.saves_bytes(p, count),
+            Step::HoldsFive => matches!(&self.last, Some(done) if is_five(done)),
+            Step::IsOneMessage(value) => self.has_one_message(value),
+            Step::Workers(workers) => self.is_of(workers),
+            Step::Counts(answers) => self.seat.answered() == answers,
             Step::Answered(place, answer) => {
                 matches!(self.session.service().journal().get(place), Some(slip) if slip.entry().answer == answer)
             }
@@ -118,6 +157,45 @@ impl<L: Ledger> Stage<L> {
     fn repeats(&mut self, first: Act, second: Act, times: u32) -> bool {
         for _ in 0..times {
             if self.act(first).is_err() || self.act(second).is_err() {
+                return false;
+            }
+        }
+        true
+    }
+
+    fn begins(&mut self, dst: u8, value: u8) -> bool {
+        let Ok(Answer::Logged(ssn)) = self.act(Act::Input(dst, value)) else {
+            return false;
+        };
+        let Ok(Answer::Placed(key)) = self.act(Act::Transmit(0, dst, ssn)) else {
+            return false;
+        };
+        matches!(self.act(Act::Arrive(key)), Ok(Answer::Started(_)))
+    }
+
+    fn hands_in(&mut self, worker: u8, dst: u8, value: u8) -> bool {
+        let number = self.next_number();
+        let Some(mut seat) = self.session.sit(worker) else {
+            return false;
+        };
+        let feed = feed_of(number, dst, word(value));
+        let is_right = self.session.input(&mut seat, &feed).is_ok() && seat.answered() == 1;
+        self.session.rise(seat);
+        is_right
+    }
+
+    fn is_at_hand(&mut self, worker: u8) -> bool {
+        let Some(seat) = self.session.sit(worker) else {
+            return false;
+        };
+        let is_right = seat.worker() == worker;
+        self.session.rise(seat);
+        is_right
+    }
+
+    fn pours(&mut self, bytes: &[u8], times: u32, calls: u32) -> bool {
+        for _ in 0..times {
+            if self.says(1, bytes).is_err() || self.drives(100) != Some(calls) {
                 return false;
             }
         }
@@ -184,14 +262,67 @@ impl<L: Ledger> Stage<L> {
         true
     }
 
+    fn tells(&self, outputs: &[(u8, u32, &[u8])]) -> bool {
+        let shown = self.session.service().shown_since(0);
+        if shown.len() != outputs.len() {
+            return false;
+        }
+        for (message, output) in shown.iter().zip(outputs) {
+            let (sender, ssn, bytes) = *output;
+            if message.sender != sender
+                || message.ssn != ssn
+                || message.payload.as_slice() != bytes
+            {
+                return false;
+            }
+        }
+        true
+    }
+
+    fn tells_all(&self, sender: u8, count: usize, bytes: &[u8]) -> bool {
+        let shown = self.session.service().shown_since(0);
+        let mut ssn = 0u32;
+        for message in shown {
+            ssn = ssn.saturating_add(1);
+            if message.sender != sender
+                || message.ssn != ssn
+                || message.payload.as_slice() != bytes
+            {
+                return false;
+            }
+        }
+        shown.len() == count
+    }
+
+    fn saves_bytes(&self, p: u8, count: usize) -> bool {
+        if p == 0 || p > self.session.service().count() {
+            return false;
+        }
+        self.session.service().saved(p).len() == count
+    }
+
+    fn is_of(&self, workers: &[u8]) -> bool {
+        for (slip, worker) in self.session.service().journal().iter().zip(workers) {
+            if slip.entry().worker != *worker {
+                return false;
+            }
+        }
+        self.entries() == workers.len()
+    }
+
+    /// A feed number that no feed has.
+    fn next_number(&self) -> u32 {
+        u32::try_from(self.entries())
+            .unwrap_or(u32::MAX)
+            .saturating_add(1)
+    }
+
     /// The answer to this act.
     pub(crate) fn act(&mut self, act: Act) -> Result<Answer, Refusal> {
         match act {
-            Act::Input(dst, value) => {
-                let number = u32::try_from(self.entries()).unwrap_or(u32::MAX);
-                self.feeds(number, dst, value)
-            }
-            Act::Again(dst, value) => self.feeds(0, dst, value),
+            Act::Input(dst, value) => self.feeds(self.next_number(), dst, word(value)),
+            Act::Again(dst, value) => self.feeds(1, dst, word(value)),
+            Act::Says(dst, bytes) => self.says(dst, bytes),
             Act::Transmit(from, to, ssn) => self.calls(&Call::Transmit { from, to, ssn }),
             Act::Copy(key) => self.calls(&Call::Copy { key }),
             Act::Lose(key) => self.calls(&Call::Lose { key }),
@@ -208,13 +339,17 @@ impl<L: Ledger> Stage<L> {
         }
     }
 
-    fn feeds(&mut self, number: u32, dst: u8, value: u8) -> Result<Answer, Refusal> {
-        let feed = Feed {
-            number,
-            dst,
-            payload: word(value),
-        };
+    fn feeds(&mut self, number: u32, dst: u8, payload: Payload) -> Result<Answer, Refusal> {
+        let feed = feed_of(number, dst, payload);
         self.session.input(&mut self.seat, &feed)
+    }
+
+    /// The answer to these bytes. More than 256 are no message.
+    fn says(&mut self, dst: u8, bytes: &[u8]) -> Result<Answer, Refusal> {
+        if bytes.len() > PAYLOAD_BYTES {
+            return Err(Refusal::NoPacket);
+        }
+        self.feeds(self.next_number(), dst, Payload::from_slice(bytes))
     }
 
     /// The answer to a call.
@@ -260,5 +395,13 @@ impl<L: Ledger> Stage<L> {
             Ok(finished) => (Ok(finished.answer()), None),
             Err((refusal, done)) => (Err(refusal), Some(done)),
         }
+    }
+}
+
+fn feed_of(number: u32, dst: u8, payload: Payload) -> Feed {
+    Feed {
+        number,
+        dst,
+        payload,
     }
 }

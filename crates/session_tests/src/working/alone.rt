@@ -2,9 +2,10 @@
 
 ghost use Rattle.std.specs.Prelude.{◌≡◌};
 
-use super::course::{adders, place_of, word};
+use super::course::{place_of, word};
 use super::turnstiles::{Crasher, Watcher};
-use crossbeam_channel::{Receiver, Sender};
+use crate::fixtures::{ADDER, images};
+use crossbeam_channel::Receiver;
 use limits::SEATS;
 use replay::Job;
 use sessions::Session;
@@ -29,7 +30,7 @@ pub(crate) enum Trouble {
 
 /// How the worker ended, how many of its calls were accepted, and the journal's length and the
 /// process's phase and place then; and length and place after all was driven on.
-#[derive(Clone, Copy, PartialEq, Eq, Debug)]
+#[derive(Clone, Copy, PartialEq, Eq)]
 pub(crate) struct Alone {
     pub(crate) end: End,
     pub(crate) answered: u32,
@@ -40,13 +41,13 @@ pub(crate) struct Alone {
     pub(crate) last: (u32, u8),
 }
 
-// A channel with each of the feeds, and then so many last items.
+// A channel with each of the feeds, and then so many last items, that is closed behind them.
 fn channel_of(
     rt: &impl Wait,
     alloc: Global,
     feeds: &[Feed],
     last: u8,
-) -> Result<(Sender<Item>, Receiver<Item>), Fail> {
+) -> Result<Receiver<Item>, Fail> {
     let (to, items) = crossbeam_channel::unbounded(alloc)?;
     for feed in feeds {
         if to.send(rt, Item::Feed(*feed)).is_err() {
@@ -58,7 +59,7 @@ fn channel_of(
             return Err("nobody takes the last item")?;
         }
     }
-    Ok((to, items))
+    Ok(items)
 }
 
 // A job that nobody runs yet: the word 5, handed in, sent and taken in.
@@ -103,14 +104,18 @@ fn meet_in<L: Ledger + Send + Sync, R: Wait + Sync>(
     requires name { blank.name ≡ L.name }
     requires parts { (blank.parts ≡ L.parts) × (blank.parts ≡ SEATS) }
 {
-    let mut session: Session<L> = Session::open(alloc, blank, adders(alloc, 1)?)?;
-    let feeds = [word(1, 1, 5)];
-    let (job, (to, items)) = match trouble {
-        Trouble::Closed => (None, channel_of(rt, alloc, &feeds, 0)?),
-        Trouble::Crash => (None, channel_of(rt, alloc, &feeds, 1)?),
-        Trouble::Held => (held(&mut session)?, channel_of(rt, alloc, &[], 1)?),
+    let mut session: Session<L> = Session::open(alloc, blank, images(alloc, &[&ADDER])?)?;
+    let five = [word(1, 1, 5)];
+    let (feeds, last) = match trouble {
+        Trouble::Closed => (five.as_slice(), 0),
+        Trouble::Crash => (five.as_slice(), 1),
+        Trouble::Held => (&five[..0], 1),
     };
-    drop(to);
+    let items = channel_of(rt, alloc, feeds, last)?;
+    let job = match trouble {
+        Trouble::Held => held(&mut session)?,
+        _ => None
+    };
     let Some(seat) = session.sit(1) else {
         return Err("worker 1 has no seat")?;
     };
@@ -144,7 +149,7 @@ pub(crate) fn meet<R: Wait + Sync>(rt: &R, alloc: Global, trouble: Trouble) -> R
 
 /// What a worker alone did with three feeds: how many jobs it ran and results it told, with the lock
 /// free and after they were accepted, and how many entries the journal has.
-#[derive(Clone, Copy, PartialEq, Eq, Debug)]
+#[derive(Clone, Copy, PartialEq, Eq)]
 pub(crate) struct Watched {
     pub(crate) seen: Option<(u32, u32)>,
     pub(crate) end: End,
@@ -159,10 +164,9 @@ fn watch_in<L: Ledger + Send + Sync, R: Wait + Sync>(
     requires name { blank.name ≡ L.name }
     requires parts { (blank.parts ≡ L.parts) × (blank.parts ≡ SEATS) }
 {
-    let mut session: Session<L> = Session::open(alloc, blank, adders(alloc, 1)?)?;
+    let mut session: Session<L> = Session::open(alloc, blank, images(alloc, &[&ADDER])?)?;
     let feeds = [word(1, 1, 5), word(2, 1, 6), word(3, 1, 7)];
-    let (to, items) = channel_of(rt, alloc, &feeds, 1)?;
-    drop(to);
+    let items = channel_of(rt, alloc, &feeds, 1)?;
     let Some(seat) = session.sit(1) else {
         return Err("worker 1 has no seat")?;
     };

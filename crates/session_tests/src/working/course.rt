@@ -2,25 +2,18 @@
 
 ghost use Rattle.std.specs.Prelude.{◌≡◌};
 
-use handlers::Handler;
+use crate::fixtures::{ADDERS, images};
 use helpers::Payload;
 use limits::SEATS;
 use sessions::{Session, copied};
 use std::alloc::Global;
 use std::marker::Brand;
+use std::sync::Wait;
 use std::sync::ledger::{Blank, Ledger};
-use std::sync::{Arc, Wait};
 use std::test::Fail;
 use std::thread::Threads;
 use workers::{Closed, End, Share, Turnstile, run};
 use world::{Entry, Feed};
-
-/// Adds the first word of a message to the first word of its state.
-const ADDER: [u8; 56] = [
-    0x53, 0x42, 0x49, 0x31, 0x08, 0x00, 0x06, 0x00, 0x79, 0x13, 0, 0, 0, 0, 0, 0, 0x79, 0x24, 0, 0,
-    0, 0, 0, 0, 0x0f, 0x34, 0, 0, 0, 0, 0, 0, 0x7b, 0x42, 0, 0, 0, 0, 0, 0, 0xb7, 0, 0, 0, 0, 0, 0,
-    0, 0x95, 0, 0, 0, 0, 0, 0, 0,
-];
 
 /// What a run is fed with.
 #[derive(Clone, Copy)]
@@ -44,7 +37,7 @@ pub(crate) enum Before {
 /// A run on a session of so many adders.
 #[derive(Clone, Copy)]
 pub(crate) struct Case {
-    pub(crate) processes: u8,
+    pub(crate) processes: usize,
     pub(crate) workers: u8,
     pub(crate) budget: u32,
     pub(crate) feeds: Feeds,
@@ -52,7 +45,7 @@ pub(crate) struct Case {
 }
 
 /// What a run left.
-#[derive(Clone, Copy, PartialEq, Eq, Debug)]
+#[derive(Clone, Copy, PartialEq, Eq)]
 pub(crate) struct Left {
     pub(crate) entries: usize,
     /// How many workers ended as quiet, and how many by their budget.
@@ -69,7 +62,7 @@ pub(crate) struct Left {
 }
 
 /// What came of a run.
-#[derive(Clone, Copy, PartialEq, Eq, Debug)]
+#[derive(Clone, Copy, PartialEq, Eq)]
 pub(crate) enum Outcome {
     Ran(Left),
     /// It was refused with this number, and the session came back with so many entries.
@@ -85,15 +78,6 @@ pub(crate) fn word(number: u32, dst: u8, value: u8) -> Feed {
         dst,
         payload: Payload::from(bytes),
     }
-}
-
-/// The images of so many adders.
-pub(crate) fn adders(alloc: Global, count: u8) -> Result<Vec<Arc<Handler>>, Fail> {
-    let mut images = Vec::new(alloc);
-    for _ in 0..count {
-        images.push(Arc::new(alloc, Handler::load(alloc, &ADDER)?)?)?;
-    }
-    Ok(images)
 }
 
 /// How many messages a process received, and the head of its state.
@@ -186,7 +170,8 @@ fn follow_in<L: Ledger + Send + Sync, R: Threads + Wait + Sync, G: Turnstile>(
     requires name { blank.name ≡ L.name }
     requires parts { (blank.parts ≡ L.parts) × (blank.parts ≡ SEATS) }
 {
-    let mut session: Session<L> = Session::open(alloc, blank, adders(alloc, case.processes)?)?;
+    let files = ADDERS.get(..case.processes).unwrap_or(&ADDERS);
+    let mut session: Session<L> = Session::open(alloc, blank, images(alloc, files)?)?;
     prepare(&mut session, case.before)?;
     let before = copied(alloc, session.service().journal())?;
     let feeds = feeds_of(alloc, case.feeds)?;
