@@ -108,11 +108,11 @@ exact
 const EXIT_ALONE: &[u8] = b"SBI3\x08\x00\x01\x00\x95\x00\x00\x00\x00\x00\x00\x00";
 
 /// Carries out one line on a scenario of both handlers.
-fn ended<R: Threads + Wait + Sync + AllocGlobal>(
+fn ended<'a, R: Threads + Wait + Sync + AllocGlobal>(
     rt: &R,
     line: &str,
-    scenario: &[u8],
-    gossip: &[u8],
+    scenario: &'a [u8],
+    gossip: &'a [u8],
 ) -> Result<super::Ended, Fail> {
     let files = [
         ("s", scenario),
