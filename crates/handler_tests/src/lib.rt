@@ -17,6 +17,8 @@ mod emitting;
 #[cfg(test)]
 mod greatest;
 #[cfg(test)]
+mod machine_code;
+#[cfg(test)]
 mod typing;
 #[cfg(test)]
 mod verifying;

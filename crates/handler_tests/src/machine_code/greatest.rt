@@ -1,7 +1,7 @@
 //! Machine code of images of 1,024 slots, the most that there are. The code expected was put together
 //! from the lines of `examples/native`, and GNU `as` gives the same bytes.
 
-use crate::compiling::{ADDER_CODE, RELAY_CODE, code_of};
+use super::compiling::{ADDER_CODE, RELAY_CODE, code_of};
 use std::alloc::Global;
 use std::test::Fail;
 

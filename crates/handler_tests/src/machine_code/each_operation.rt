@@ -1,4 +1,4 @@
-use crate::compiling::code_of;
+use super::compiling::code_of;
 use std::test::Fail;
 
 /// The header of an image of form 2, with a state of 256 bytes and 157 slots.
