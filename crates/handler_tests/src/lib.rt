@@ -1,4 +1,5 @@
-//! Tests of a handler's side: values from outside, of the crates from `decode` to `interp`.
+//! Tests of a handler's side: values from outside, of the crates from `decode` to `interp`, of those of
+//! form 3, and of machine code.
 //!
 //! A crate with tests is proved twice, with them and without; so these stand in a crate of their
 //! own, which has nothing else in it.
@@ -18,6 +19,8 @@ mod emitting;
 mod greatest;
 #[cfg(test)]
 mod machine_code;
+#[cfg(test)]
+mod third_form;
 #[cfg(test)]
 mod typing;
 #[cfg(test)]
