@@ -1,148 +1,165 @@
+//! Command lines, what they ask for, and what is told of those that ask for nothing.
+
 use cli::{Refusal, Request, Usage, parse_words};
 use images::FileForm;
+use std::alloc::Global;
 use std::test::Fail;
+
+/// Lines, and what each asks for.
+const REQUESTS: [(&str, Request<'static>); 12] = [
+    ("check adder.sbi", Request::Check { image: "adder.sbi" }),
+    ("run a.txt", Request::Run { scenario: "a.txt" }),
+    (
+        "live a.txt --workers 16 --budget 1",
+        Request::Live {
+            scenario: "a.txt",
+            workers: 16,
+            budget: 1,
+        },
+    ),
+    (
+        "live --budget=1000000 a.txt --workers=1",
+        Request::Live {
+            scenario: "a.txt",
+            workers: 1,
+            budget: 1_000_000,
+        },
+    ),
+    (
+        "draw a.txt a.svg",
+        Request::Draw {
+            scenario: "a.txt",
+            picture: "a.svg",
+        },
+    ),
+    (
+        "asm adder.s adder.sbi --state 8",
+        Request::Asm {
+            source: "adder.s",
+            image: "adder.sbi",
+            state: 8,
+            form: FileForm::Sbi1,
+        },
+    ),
+    (
+        "asm --state=1024 adder.s adder.sbi",
+        Request::Asm {
+            source: "adder.s",
+            image: "adder.sbi",
+            state: 1024,
+            form: FileForm::Sbi1,
+        },
+    ),
+    (
+        "asm adder.s adder.sbi --form 2 --state 0",
+        Request::Asm {
+            source: "adder.s",
+            image: "adder.sbi",
+            state: 0,
+            form: FileForm::Sbi2,
+        },
+    ),
+    ("explain adder.sbi", Request::Explain { image: "adder.sbi" }),
+    (
+        "pack adder.code adder.sbi --form=3 --state=8",
+        Request::Pack {
+            code: "adder.code",
+            image: "adder.sbi",
+            state: 8,
+            form: FileForm::Sbi3,
+        },
+    ),
+    ("dis adder.sbi", Request::Dis { image: "adder.sbi" }),
+    (
+        "native adder.sbi adder.bin",
+        Request::Native {
+            image: "adder.sbi",
+            code: "adder.bin",
+        },
+    ),
+];
+
+/// Whether a line asks for this.
+fn is_request(alloc: Global, line: &str, want: &Request<'_>) -> Result<bool, Fail> {
+    let words: Vec<&str> = line.split_whitespace().collect(alloc)?;
+    match parse_words(alloc, words.as_slice()) {
+        Ok(request) => Ok(request == *want),
+        Err(_) => Ok(false),
+    }
+}
 
 #[test]
 fn requests(rt: HostRuntime) -> Result<(), Fail> {
-    let alloc = rt.alloc();
-    let (image, scenario) = ("adder.sbi", "a.txt");
-    let cases = [
-        ("check adder.sbi", Request::Check { image }),
-        ("run a.txt", Request::Run { scenario }),
-        (
-            "live a.txt --workers 16 --budget 1",
-            Request::Live {
-                scenario,
-                workers: 16,
-                budget: 1,
-            },
-        ),
-        (
-            "live --budget=1000000 a.txt --workers=1",
-            Request::Live {
-                scenario,
-                workers: 1,
-                budget: 1_000_000,
-            },
-        ),
-        (
-            "draw a.txt a.svg",
-            Request::Draw {
-                scenario,
-                picture: "a.svg",
-            },
-        ),
-        (
-            "asm adder.s adder.sbi --state 8",
-            Request::Asm {
-                source: "adder.s",
-                image,
-                state: 8,
-                form: FileForm::Sbi1,
-            },
-        ),
-        (
-            "asm --state=1024 adder.s adder.sbi",
-            Request::Asm {
-                source: "adder.s",
-                image,
-                state: 1024,
-                form: FileForm::Sbi1,
-            },
-        ),
-        (
-            "asm adder.s adder.sbi --form 2 --state 0",
-            Request::Asm {
-                source: "adder.s",
-                image,
-                state: 0,
-                form: FileForm::Sbi2,
-            },
-        ),
-        ("explain adder.sbi", Request::Explain { image }),
-        (
-            "pack adder.code adder.sbi --form=3 --state=8",
-            Request::Pack {
-                code: "adder.code",
-                image,
-                state: 8,
-                form: FileForm::Sbi3,
-            },
-        ),
-        ("dis adder.sbi", Request::Dis { image }),
-        (
-            "native adder.sbi adder.bin",
-            Request::Native {
-                image,
-                code: "adder.bin",
-            },
-        ),
-    ];
-    for (line, want) in cases {
-        let words: Vec<&str> = line.split_whitespace().collect(alloc)?;
-        match parse_words(alloc, words.as_slice()) {
-            Ok(request) => assert!(rt; request == want, "at {line}"),
-            Err(_) => assert!(rt; false, "refused {line}"),
-        }
+    for (place, (line, want)) in REQUESTS.iter().enumerate() {
+        assert!(rt; is_request(rt.alloc(), *line, want)?, "row {place}");
     }
     Ok(())
 }
 
+/// What is told of a line that asks for nothing.
+fn told(alloc: Global, line: &str) -> Result<String, Fail> {
+    let words: Vec<&str> = line.split_whitespace().collect(alloc)?;
+    match parse_words(alloc, words.as_slice()) {
+        Err(Refusal::Usage(Usage { text, .. })) => Ok(text),
+        _ => Err("taken")?,
+    }
+}
+
+/// Whether this stands in what is told of a line, which ends as a line does.
+fn is_told(alloc: Global, line: &str, part: &str) -> Result<bool, Fail> {
+    let text = told(alloc, line)?;
+    Ok(text.as_str().contains(part) && text.as_str().ends_with('\n'))
+}
+
+/// Lines that ask for nothing, and a part of what is told of each.
+const USAGE: [(&str, &str); 38] = [
+    ("", "Usage: sblog <COMMAND>"),
+    ("fly", "unrecognized subcommand 'fly'"),
+    ("check", "<IMAGE>"),
+    ("check a b", "unexpected argument 'b' found"),
+    ("check a b c d e f", "unexpected argument 'b' found"),
+    ("asm a b --state 8 c d e", "unexpected argument 'c' found"),
+    ("first a 5", "unrecognized subcommand 'first'"),
+    ("run", "<SCENARIO>"),
+    ("run a b", "unexpected argument 'b' found"),
+    ("live a --workers 4", "--budget <B>"),
+    ("live a --budget 4", "--workers <N>"),
+    ("live --workers 4 --budget 4", "<SCENARIO>"),
+    ("live a --workers 0 --budget 4", "invalid value '0'"),
+    ("live a --workers 17 --budget 4", "invalid value '17'"),
+    ("live a --workers 4 --budget 0", "invalid value '0'"),
+    (
+        "live a --workers 4 --budget 1000001",
+        "invalid value '1000001'",
+    ),
+    ("draw a", "<OUT>"),
+    ("draw a b c", "unexpected argument 'c' found"),
+    ("asm a b", "--state <N>"),
+    ("asm a --state 0", "<OUT>"),
+    ("asm a b --state 1025", "invalid value '1025'"),
+    ("asm a b --state eight", "invalid value 'eight'"),
+    ("asm a b --state 8 --form 0", "invalid value '0'"),
+    ("asm a b --state 8 --form 4", "invalid value '4'"),
+    ("asm a b --state 8 --form", "--form <F>"),
+    ("asm a b --state 8 --form 1 --form 1", "--form <F>"),
+    ("explain", "<IMAGE>"),
+    ("explain a b", "unexpected argument 'b' found"),
+    ("pack a b", "--state <N>"),
+    ("pack a --state 0", "<OUT>"),
+    ("pack a b --state 1025", "invalid value '1025'"),
+    ("pack a b --state 8 --form 4", "invalid value '4'"),
+    ("dis", "<IMAGE>"),
+    ("native a", "<OUT>"),
+    ("native a b c", "unexpected argument 'c' found"),
+    ("--help", "Usage: sblog <COMMAND>"),
+    ("help run", "Usage: sblog run <SCENARIO>"),
+    ("check --help", "Usage: sblog check <IMAGE>"),
+];
+
 #[test]
 fn usage_texts(rt: HostRuntime) -> Result<(), Fail> {
-    let alloc = rt.alloc();
-    let cases = [
-        ("", "Usage: sblog <COMMAND>"),
-        ("fly", "unrecognized subcommand 'fly'"),
-        ("check", "<IMAGE>"),
-        ("check a b", "unexpected argument 'b' found"),
-        ("check a b c d e f", "unexpected argument 'b' found"),
-        ("asm a b --state 8 c d e", "unexpected argument 'c' found"),
-        ("first a 5", "unrecognized subcommand 'first'"),
-        ("run", "<SCENARIO>"),
-        ("run a b", "unexpected argument 'b' found"),
-        ("live a --workers 4", "--budget <B>"),
-        ("live a --budget 4", "--workers <N>"),
-        ("live --workers 4 --budget 4", "<SCENARIO>"),
-        ("live a --workers 0 --budget 4", "invalid value '0'"),
-        ("live a --workers 17 --budget 4", "invalid value '17'"),
-        ("live a --workers 4 --budget 0", "invalid value '0'"),
-        (
-            "live a --workers 4 --budget 1000001",
-            "invalid value '1000001'",
-        ),
-        ("draw a", "<OUT>"),
-        ("draw a b c", "unexpected argument 'c' found"),
-        ("asm a b", "--state <N>"),
-        ("asm a --state 0", "<OUT>"),
-        ("asm a b --state 1025", "invalid value '1025'"),
-        ("asm a b --state eight", "invalid value 'eight'"),
-        ("asm a b --state 8 --form 0", "invalid value '0'"),
-        ("asm a b --state 8 --form 4", "invalid value '4'"),
-        ("asm a b --state 8 --form", "--form <F>"),
-        ("asm a b --state 8 --form 1 --form 1", "--form <F>"),
-        ("explain", "<IMAGE>"),
-        ("explain a b", "unexpected argument 'b' found"),
-        ("pack a b", "--state <N>"),
-        ("pack a --state 0", "<OUT>"),
-        ("pack a b --state 1025", "invalid value '1025'"),
-        ("pack a b --state 8 --form 4", "invalid value '4'"),
-        ("dis", "<IMAGE>"),
-        ("native a", "<OUT>"),
-        ("native a b c", "unexpected argument 'c' found"),
-        ("--help", "Usage: sblog <COMMAND>"),
-        ("help run", "Usage: sblog run <SCENARIO>"),
-        ("check --help", "Usage: sblog check <IMAGE>"),
-    ];
-    for (line, part) in cases {
-        let words: Vec<&str> = line.split_whitespace().collect(alloc)?;
-        match parse_words(alloc, words.as_slice()) {
-            Err(Refusal::Usage(Usage { text, .. })) => {
-                assert!(rt; text.as_str().contains(part), "at {line}: {text}");
-                assert!(rt; text.as_str().ends_with('\n'), "at {line}: {text}");
-            }
-            _ => assert!(rt; false, "taken: {line}"),
-        }
+    for (place, (line, part)) in USAGE.iter().enumerate() {
+        assert!(rt; is_told(rt.alloc(), *line, *part)?, "row {place}");
     }
     Ok(())
 }
@@ -259,28 +276,31 @@ Options:
   -h, --help  Print help
 ";
 
+/// The lines that ask for these pages.
+const HELP: [&str; 10] = [
+    "--help",
+    "run --help",
+    "live --help",
+    "draw --help",
+    "check --help",
+    "explain --help",
+    "asm --help",
+    "pack --help",
+    "dis --help",
+    "native --help",
+];
+
+/// What is told of each line, one behind the other.
+fn pages(alloc: Global, lines: &[&str]) -> Result<String, Fail> {
+    let mut pages = String::new(alloc);
+    for line in lines {
+        pages.push_str(told(alloc, *line)?.as_str())?;
+    }
+    Ok(pages)
+}
+
 #[test]
 fn help_pages(rt: HostRuntime) -> Result<(), Fail> {
-    let alloc = rt.alloc();
-    let mut pages: String = String::new(alloc);
-    for line in [
-        "--help",
-        "run --help",
-        "live --help",
-        "draw --help",
-        "check --help",
-        "explain --help",
-        "asm --help",
-        "pack --help",
-        "dis --help",
-        "native --help",
-    ] {
-        let words: Vec<&str> = line.split_whitespace().collect(alloc)?;
-        match parse_words(alloc, words.as_slice()) {
-            Err(Refusal::Usage(Usage { text, .. })) => pages.push_str(text.as_str())?,
-            _ => assert!(rt; false, "taken: {line}"),
-        }
-    }
-    assert_eq!(rt; pages.as_str(), PAGES);
+    assert!(rt; pages(rt.alloc(), &HELP)?.as_str() == PAGES);
     Ok(())
 }

@@ -128,20 +128,48 @@ const PACKETS_PARTS: [&str; 6] = [
     "<line class='message cut' x1='310' y1='100' x2='334' y2='139'/>",
 ];
 
-#[test]
-fn small_journals(rt: HostRuntime) -> Result<(), Fail> {
-    let cases = [
-        (MESSAGE.as_slice(), MESSAGE_PARTS.as_slice()),
-        (RECOVERY.as_slice(), RECOVERY_PARTS.as_slice()),
-        (PACKETS.as_slice(), PACKETS_PARTS.as_slice()),
-    ];
-    for &(calls, parts) in cases.as_slice() {
-        let entries = behind_input(rt.alloc(), calls)?;
-        let text = picture(rt.alloc(), entries.as_slice())?;
-        for &part in parts {
-            assert!(rt; text.as_str().contains(part), "{part} in {text}");
+fn has_all(text: &str, parts: &[&str]) -> bool {
+    for part in parts {
+        if !text.contains(*part) {
+            return false;
         }
     }
+    true
+}
+
+fn has_none(text: &str, parts: &[&str]) -> bool {
+    for part in parts {
+        if text.contains(*part) {
+            return false;
+        }
+    }
+    true
+}
+
+/// Whether the picture of these calls has these parts, and lacks those.
+fn is_drawn(
+    alloc: Global,
+    calls: &[(Call, Answer)],
+    parts: &[&str],
+    others: &[&str],
+) -> Result<bool, Fail> {
+    let entries = behind_input(alloc, calls)?;
+    let text = picture(alloc, entries.as_slice())?;
+    Ok(has_all(text.as_str(), parts) && has_none(text.as_str(), others))
+}
+
+#[test]
+fn small_journals(rt: HostRuntime) -> Result<(), Fail> {
+    let alloc = rt.alloc();
+    assert!(rt;
+        is_drawn(alloc, &MESSAGE, &MESSAGE_PARTS, &[])?,
+        "a message"
+    );
+    assert!(rt;
+        is_drawn(alloc, &RECOVERY, &RECOVERY_PARTS, &[])?,
+        "a recovery"
+    );
+    assert!(rt; is_drawn(alloc, &PACKETS, &PACKETS_PARTS, &[])?, "packets");
     Ok(())
 }
 
@@ -177,25 +205,20 @@ const NOTHING: [(Call, Answer); 10] = [
     (Call::Trim { to: 9 }, Answer::Early),
 ];
 
+const WIDE_PARTS: [&str; 3] = [
+    "width='1598' height='432'",
+    "<text class='place' x='1530' y='18'>51</text>",
+    "<text class='more' x='1438' y='182'>1 near</text>",
+];
+
 /// What names nobody leaves no mark, and no sign in the legend; 50 columns further names are written again.
 #[test]
 fn nonsense_and_width(rt: HostRuntime) -> Result<(), Fail> {
     let mut calls = Vec::new(rt.alloc());
     for _ in 0..5 {
-        for &call in NOTHING.as_slice() {
-            calls.push(call)?;
-        }
+        calls.extend_from_slice(&NOTHING)?;
     }
-    let entries = behind_input(rt.alloc(), calls.as_slice())?;
-    let text = picture(rt.alloc(), entries.as_slice())?;
-    for part in [
-        "width='1598' height='432'",
-        "<text class='place' x='1530' y='18'>51</text>",
-        "<text class='more' x='1438' y='182'>1 near</text>",
-    ] {
-        assert!(rt; text.as_str().contains(part), "{part} in {text}");
-    }
-    assert!(rt; !text.as_str().contains("y2='139'"), "{text}");
-    assert!(rt; !text.as_str().contains("crash, its new"), "{text}");
+    let others = ["y2='139'", "crash, its new"];
+    assert!(rt; is_drawn(rt.alloc(), calls.as_slice(), &WIDE_PARTS, &others)?);
     Ok(())
 }

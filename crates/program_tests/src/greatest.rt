@@ -89,11 +89,9 @@ const TRACED: [&str; 2] = [
 fn a_full_journal_is_traced(rt: HostRuntime) -> Result<(), Fail> {
     let alloc = rt.alloc();
     let entries = full_journal(alloc)?;
+    assert!(rt; entries.len() == 65_536 && entries.as_slice() == its_entries(alloc)?.as_slice());
     let trace = trace_text(alloc, entries.as_slice())?;
-    assert_eq!(rt; entries.len(), 65_536);
-    assert!(rt; entries.as_slice() == its_entries(alloc)?.as_slice());
-    assert!(rt; trace.as_str().starts_with(TRACED[0]));
-    assert!(rt; trace.as_str().ends_with(TRACED[1]));
+    assert!(rt; trace.as_str().starts_with(TRACED[0]) && trace.as_str().ends_with(TRACED[1]));
     Ok(())
 }
 
@@ -111,10 +109,13 @@ fn a_full_journal_is_drawn(rt: HostRuntime) -> Result<(), Fail> {
     let scenario = parse(alloc, "process a x\n", Allowed::All)?;
     let entries = its_entries(alloc)?;
     let picture = draw(alloc, &scenario.processes, entries.as_slice())?;
-    for part in DRAWN {
-        assert!(rt; picture.as_str().contains(part), "{part}");
-    }
-    assert!(rt; picture.as_str().ends_with("</svg>\n"));
+    let text = picture.as_str();
+    assert!(rt;
+        text.contains(DRAWN[0])
+            && text.contains(DRAWN[1])
+            && text.contains(DRAWN[2])
+            && text.ends_with("</svg>\n")
+    );
     Ok(())
 }
 
@@ -147,20 +148,24 @@ fn lived<R: Threads + Wait + Sync>(
     Ok((out, ended.len()))
 }
 
-/// Which of the workers made which call is open. 728 is 0x2d8; 16 lines follow those of the entries.
-#[test]
-fn sixteen_workers_and_fifteen_processes(rt: HostRuntime) -> Result<(), Fail> {
-    let alloc = rt.alloc();
-    let (out, ended) = lived(&rt, alloc, fed(alloc)?.as_str())?;
+/// What they leave, behind the lines of the entries. 728 is 0x2d8.
+fn report(alloc: Global) -> Result<String, Fail> {
     let mut report = String::new(alloc);
     for number in 10..25u8 {
         let line = "up 728 d802000000000000\n";
         report.push_str(format!(in alloc; "process sixteenletters{number} {line}")?.as_str())?;
     }
     report.push_str("exact\n")?;
-    assert_eq!(rt; ended, 16);
-    assert_eq!(rt; out.as_str().lines().count(), 65_520 + 16);
-    assert!(rt; out.as_str().ends_with(report.as_str()));
+    Ok(report)
+}
+
+/// Which of the workers made which call is open.
+#[test]
+fn sixteen_workers_and_fifteen_processes(rt: HostRuntime) -> Result<(), Fail> {
+    let alloc = rt.alloc();
+    let (out, ended) = lived(&rt, alloc, fed(alloc)?.as_str())?;
+    let is_long = out.as_str().lines().count() == 65_520 + 16;
+    assert!(rt; ended == 16 && is_long && out.as_str().ends_with(report(alloc)?.as_str()));
     Ok(())
 }
 
@@ -223,16 +228,17 @@ verify refused V3 at slot 1022
 ",
 );
 
+/// Whether so many stores and this code are listed so.
+fn is_listed(alloc: Global, times: u32, (code, told): (&[u8], &str)) -> Result<bool, Fail> {
+    let file = stores(alloc, times, code)?;
+    let text = explain(alloc, &file)?;
+    Ok(file.len() == 8_200 && text.as_str() == listing(alloc, times, told)?.as_str())
+}
+
 #[test]
 fn images_of_1_024_slots_are_listed(rt: HostRuntime) -> Result<(), Fail> {
-    let alloc = rt.alloc();
-    for (times, (code, told)) in [(1_015, ACCEPTED), (1_013, LOST)] {
-        let file = stores(alloc, times, code)?;
-        let text = explain(alloc, &file)?;
-        let want = listing(alloc, times, told)?;
-        assert_eq!(rt; file.len(), 8_200);
-        assert!(rt; text.as_str() == want.as_str(), "at {told}");
-    }
+    assert!(rt; is_listed(rt.alloc(), 1_015, ACCEPTED)?);
+    assert!(rt; is_listed(rt.alloc(), 1_013, LOST)?);
     Ok(())
 }
 
@@ -282,10 +288,11 @@ fn long_words_are_taken(rt: HostRuntime) -> Result<(), Fail> {
         state: 1024,
         form: FileForm::Sbi3,
     };
-    match parse_words(alloc, words.as_slice()) {
-        Ok(request) => assert!(rt; request == want),
-        Err(_) => assert!(rt; false, "refused"),
-    }
+    let is_taken = match parse_words(alloc, words.as_slice()) {
+        Ok(request) => request == want,
+        Err(_) => false,
+    };
+    assert!(rt; is_taken);
     Ok(())
 }
 

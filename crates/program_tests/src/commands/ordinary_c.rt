@@ -1,11 +1,7 @@
 //! Scenarios of ordinary C: processes whose images are of form 3, over files in memory.
 
-use super::carried;
-use super::folder::Folder;
-use std::process::Abort;
-use std::sync::Wait;
+use super::scenes::{Bytes, Scene, Seen, play};
 use std::test::Fail;
-use std::thread::Threads;
 
 /// `examples/handlers/gossip.c`, as clang 19 makes it: it keeps the greatest version of a value, and tells it
 /// to two peers that a hash of the version chooses; of version 12 process 1 tells 10 and 2.
@@ -107,56 +103,73 @@ exact
 /// The listing of `exit` alone is refused: r0 holds nothing there.
 const EXIT_ALONE: &[u8] = b"SBI3\x08\x00\x01\x00\x95\x00\x00\x00\x00\x00\x00\x00";
 
-/// Carries out one line on a scenario of both handlers.
-fn ended<'a, R: Threads + Wait + Sync + AllocGlobal>(
-    rt: &R,
-    line: &str,
-    scenario: &'a [u8],
-    gossip: &'a [u8],
-) -> Result<super::Ended, Fail> {
-    let files = [
-        ("s", scenario),
-        ("gossip.sbi", gossip),
-        ("dedup.sbi", DEDUP),
-    ];
-    let mut files = Folder::new(rt.alloc(), files.as_slice())?;
-    Ok(carried(rt, line, &mut files)?)
-}
+const GOSSIPED: [Scene; 1] = [(
+    &[
+        ("s", Bytes::Are(SCENARIO)),
+        ("gossip.sbi", Bytes::Are(GOSSIP)),
+        ("dedup.sbi", Bytes::Are(DEDUP)),
+    ],
+    &[("run s", 0, Seen::Text(RUN), &[])],
+)];
 
 #[test]
 fn a_message_goes_through_two_processes(rt: HostRuntime) -> Result<(), Fail> {
-    let ended = ended(&rt, "run s", SCENARIO, GOSSIP)?;
-    assert_eq!(rt; ended.status, 0);
-    assert!(rt; ended.out.as_slice() == RUN.as_bytes());
-    assert!(rt; ended.err.is_empty());
-    Ok(())
+    play(&rt, &GOSSIPED)
 }
+
+const SHARED: [Scene; 1] = [(
+    &[
+        ("s", Bytes::Are(LIVED)),
+        ("gossip.sbi", Bytes::Are(GOSSIP)),
+        ("dedup.sbi", Bytes::Are(DEDUP)),
+    ],
+    &[(
+        "live s --workers 4 --budget 1000",
+        0,
+        Seen::Has(&[LEFT]),
+        &[],
+    )],
+)];
 
 #[test]
 fn four_workers_share_it(rt: HostRuntime) -> Result<(), Fail> {
-    let ended = ended(&rt, "live s --workers 4 --budget 1000", LIVED, GOSSIP)?;
-    assert_eq!(rt; ended.status, 0);
-    assert!(rt; ended.out.as_slice().ends_with(LEFT.as_bytes()));
-    Ok(())
+    play(&rt, &SHARED)
 }
+
+const REFUSED: [Scene; 2] = [
+    (
+        &[
+            ("s", Bytes::Are(SCENARIO)),
+            ("gossip.sbi", Bytes::Are(EXIT_ALONE)),
+            ("dedup.sbi", Bytes::Are(DEDUP)),
+        ],
+        &[(
+            "run s",
+            3,
+            Seen::Text(
+                "verify refused V10 at slot 0\nprocess a, gossip.sbi: sblog explain shows why\n",
+            ),
+            &[],
+        )],
+    ),
+    (
+        &[
+            ("s", Bytes::Are(SCENARIO)),
+            ("gossip.sbi", Bytes::First(GOSSIP, 287)),
+            ("dedup.sbi", Bytes::Are(DEDUP)),
+        ],
+        &[(
+            "run s",
+            3,
+            Seen::Text(
+                "load refused 5\nprocess a, gossip.sbi: not as long as its header says: 8 bytes, and 8 for each slot\n",
+            ),
+            &[],
+        )],
+    ),
+];
 
 #[test]
 fn what_is_no_typable_code_of_form_3_is_refused(rt: HostRuntime) -> Result<(), Fail> {
-    let rows = [
-        (
-            EXIT_ALONE,
-            "verify refused V10 at slot 0\nprocess a, gossip.sbi: sblog explain shows why\n",
-        ),
-        (
-            &GOSSIP[..287],
-            "load refused 5\nprocess a, gossip.sbi: not as long as its header says: 8 bytes, and 8 for each slot\n",
-        ),
-    ];
-    for (image, told) in rows.iter() {
-        let ended = ended(&rt, "run s", SCENARIO, *image)?;
-        assert_eq!(rt; ended.status, 3);
-        assert!(rt; ended.out.is_empty());
-        assert!(rt; ended.err.as_slice() == told.as_bytes(), "{told}");
-    }
-    Ok(())
+    play(&rt, &REFUSED)
 }

@@ -1,56 +1,47 @@
 //! The commands `run`, `live` and `draw` over files in memory.
 
-use super::folder::Folder;
-use super::{ADDER, Ended, carried};
-use std::alloc::{AllocError, Global};
+use super::ADDER;
+use super::scenes::{Bytes, Line, Named, Scene, Seen, play, plays};
 use std::process::Abort;
-use std::str;
 use std::sync::Wait;
 use std::test::Fail;
 use std::thread::Threads;
 
-/// A scenario at the path `s`, an image at `adder.sbi`, one that is cut off at `cut.sbi`, and a file at
-/// `out` that has the bytes `old`.
-fn folder(alloc: Global, scenario: &[u8]) -> Result<Folder, AllocError> {
-    let files = [
-        ("s", scenario),
-        ("adder.sbi", ADDER.as_slice()),
-        ("cut.sbi", &ADDER[..55]),
-        ("out", b"old".as_slice()),
-    ];
-    Folder::new(alloc, files.as_slice())
-}
+const OLD: Bytes = Bytes::Are(b"old");
 
-/// Carries out one line on a scenario, and tests its status and what it shows on each stream.
-fn ends<R: Threads + Wait + Sync + Abort + AllocGlobal>(
+/// What lies beside a scenario at the path `s`: an image, one that is cut off, and a file at `out`.
+const FILES: [Named; 3] = [
+    ("adder.sbi", Bytes::Are(&ADDER)),
+    ("cut.sbi", Bytes::First(&ADDER, 55)),
+    ("out", OLD),
+];
+
+/// The file at `out` is as it was.
+const LEFT: &[(&str, Seen)] = &[("out", Seen::Is(OLD))];
+
+/// A line, the scenario, the status, and what is shown or told.
+type Row = (&'static str, &'static [u8], u8, &'static str);
+
+/// Carries out each line on its scenario.
+fn play_rows<R: Threads + Wait + Sync + Abort + AllocGlobal>(
     rt: &R,
-    line: &str,
-    scenario: &[u8],
-    status: u8,
-    shown: &str,
-    told: &str,
+    rows: &[Row],
 ) -> Result<(), Fail> {
-    let mut files = folder(rt.alloc(), scenario)?;
-    let ended = carried(rt, line, &mut files)?;
-    assert_eq!(rt; ended.status, status, "at {line}, {told}");
-    assert!(rt;
-        ended.out.as_slice() == shown.as_bytes(),
-        "at {line}, {told}"
-    );
-    assert!(rt;
-        ended.err.as_slice() == told.as_bytes(),
-        "at {line}, {told}"
-    );
-    assert!(rt; files.bytes("out") == b"old".as_slice(), "at {line}");
+    for (place, (line, scenario, status, shown)) in rows.iter().enumerate() {
+        let named = [("s", Bytes::Are(*scenario))];
+        let lines: [Line; 1] = [(*line, *status, Seen::Text(*shown), LEFT)];
+        assert!(rt; plays(rt, &FILES, &named, &lines)?, "row {place}");
+    }
     Ok(())
 }
 
-/// A line, the scenario, and what is shown of it. One worker takes turns alone: it leaves of a message
-/// what `run` leaves of it, but that each entry is its own.
-const SHOWN: [(&str, &[u8], &str); 4] = [
+/// One worker takes turns alone: it leaves of a message what `run` leaves of it, but that each entry is
+/// its own.
+const SHOWN: [Row; 4] = [
     (
         "run s",
         b"process a adder.sbi\ninput a 5\ndrive 10\n",
+        0,
         "000001 w0 input 1 1 -> logged 1
 000002 w0 transmit 0 1 1 -> packet 0
 000003 w0 arrive 0 -> started 1
@@ -65,6 +56,7 @@ exact
         "run s",
         b"process a adder.sbi\ninput a 5\ntransmit outside a 1\narrive 0\n\
         crash a\nfinish a\nrecover a\ndrive 100",
+        0,
         "line 6 refused 9
 000001 w0 input 1 1 -> logged 1
 000002 w0 transmit 0 1 1 -> packet 0
@@ -83,6 +75,7 @@ exact
     (
         "live s --workers 1 --budget 100",
         b"process a adder.sbi\ninput a 5\n",
+        0,
         "000001 w1 input 1 1 -> logged 1
 000002 w1 transmit 0 1 1 -> packet 0
 000003 w1 arrive 0 -> started 1
@@ -96,98 +89,116 @@ exact
     (
         "live s --workers 16 --budget 1000000",
         b"process a adder.sbi\n",
+        0,
         "process a up 0 0000000000000000\nexact\n",
     ),
 ];
 
-/// Four workers take a hundred messages. Which of them made which call is open.
 #[test]
-fn four_workers(rt: HostRuntime) -> Result<(), Fail> {
-    let mut scenario: Vec<u8> = b"process a adder.sbi\n".to_vec(rt.alloc())?;
-    for _ in 0..100 {
-        scenario.extend_from_slice(b"input a 1\n")?;
-    }
-    let mut files = folder(rt.alloc(), &scenario)?;
-    let line = "live s --workers 4 --budget 10000";
-    let ended = carried(&rt, line, &mut files)?;
-    let text = str::from_utf8(ended.out.as_slice()).unwrap_or("");
-    assert_eq!(rt; ended.status, 0);
-    assert!(rt; ended.err.is_empty());
-    assert_eq!(rt; text.lines().count(), 602);
-    assert!(rt;
-        text.ends_with("\nprocess a up 100 6400000000000000\nexact\n"),
-        "{text}"
-    );
-    Ok(())
+fn what_is_shown(rt: HostRuntime) -> Result<(), Fail> {
+    play_rows(&rt, &SHOWN)
 }
 
+/// Four workers take a hundred messages. Which of them made which call is open.
+const SHARED: [Scene; 1] = [(
+    &[
+        (
+            "s",
+            Bytes::Repeat(b"process a adder.sbi\n", b"input a 1\n", 100, b""),
+        ),
+        ("adder.sbi", Bytes::Are(&ADDER)),
+    ],
+    &[(
+        "live s --workers 4 --budget 10000",
+        0,
+        Seen::Lines(602, "\nprocess a up 100 6400000000000000\nexact\n"),
+        &[],
+    )],
+)];
+
+#[test]
+fn four_workers(rt: HostRuntime) -> Result<(), Fail> {
+    play(&rt, &SHARED)
+}
+
+const OPENING: &[u8] = b"process a adder.sbi\ninput a 1\ntransmit outside a 1\n";
+
 /// A full wire or journal refuses the next call by its number, and the run goes on.
+const FULL: [Scene; 2] = [
+    (
+        &[
+            ("s", Bytes::Repeat(OPENING, b"copy 0\n", 4095, b"copy 0\n")),
+            ("adder.sbi", Bytes::Are(&ADDER)),
+        ],
+        &[(
+            "run s",
+            0,
+            Seen::Between(
+                "line 4099 refused 13\n",
+                "\nprocess a up 0 0000000000000000\nexact\n",
+            ),
+            &[],
+        )],
+    ),
+    (
+        &[
+            (
+                "s",
+                Bytes::Repeat(OPENING, b"copy 0\nlose 1\n", 32767, b"lose 0\n"),
+            ),
+            ("adder.sbi", Bytes::Are(&ADDER)),
+        ],
+        &[(
+            "run s",
+            0,
+            Seen::Between(
+                "line 65538 refused 12\n",
+                "\nprocess a up 0 0000000000000000\nexact\n",
+            ),
+            &[],
+        )],
+    ),
+];
+
 #[test]
 fn full_wire_and_journal(rt: HostRuntime) -> Result<(), Fail> {
-    let cases: [(&str, u32, &str, &str); 2] = [
-        ("copy 0\n", 4095, "copy 0\n", "line 4099 refused 13\n"),
-        (
-            "copy 0\nlose 1\n",
-            32767,
-            "lose 0\n",
-            "line 65538 refused 12\n",
-        ),
-    ];
-    for (lines, times, last, told) in cases {
-        let opening = b"process a adder.sbi\ninput a 1\ntransmit outside a 1\n";
-        let mut scenario: Vec<u8> = opening.to_vec(rt.alloc())?;
-        for _ in 0..times {
-            scenario.extend_from_slice(lines.as_bytes())?;
-        }
-        scenario.extend_from_slice(last.as_bytes())?;
-        let mut files = folder(rt.alloc(), &scenario)?;
-        let ended = carried(&rt, "run s", &mut files)?;
-        let text = str::from_utf8(ended.out.as_slice()).unwrap_or("");
-        assert_eq!(rt; ended.status, 0, "at {told}");
-        assert!(rt; text.starts_with(told), "at {told}");
-        assert!(rt;
-            text.ends_with("\nprocess a up 0 0000000000000000\nexact\n"),
-            "at {told}"
-        );
-    }
-    Ok(())
+    play(&rt, &FULL)
 }
 
 /// An image of 1,024 slots, which puts 1,020 times a message's word into its state.
-fn largest(alloc: Global) -> Result<Vec<u8>, AllocError> {
-    let mut file: Vec<u8> = b"SBI1\x08\x00\x00\x04".to_vec(alloc)?;
-    file.extend_from_slice(b"\x79\x13\x00\x00\x00\x00\x00\x00\xb7\x00\x00\x00\x00\x00\x00\x00")?;
-    for _ in 0..1020 {
-        file.extend_from_slice(b"\x0f\x30\x00\x00\x00\x00\x00\x00")?;
-    }
-    file.extend_from_slice(b"\x7b\x02\x00\x00\x00\x00\x00\x00\x95\x00\x00\x00\x00\x00\x00\x00")?;
-    Ok(file)
-}
+const LARGEST: [Scene; 1] = [(
+    &[
+        ("s", Bytes::Are(b"process a i\ninput a 5\ndrive 10\n")),
+        (
+            "i",
+            Bytes::Repeat(
+                b"SBI1\x08\x00\x00\x04\
+                \x79\x13\x00\x00\x00\x00\x00\x00\xb7\x00\x00\x00\x00\x00\x00\x00",
+                b"\x0f\x30\x00\x00\x00\x00\x00\x00",
+                1020,
+                b"\x7b\x02\x00\x00\x00\x00\x00\x00\x95\x00\x00\x00\x00\x00\x00\x00",
+            ),
+        ),
+    ],
+    &[
+        (
+            "check i",
+            0,
+            Seen::Text("accepted 1024 instructions\n"),
+            &[],
+        ),
+        (
+            "run s",
+            0,
+            Seen::Has(&["\nprocess a up 1 ec13000000000000\nexact\n"]),
+            &[],
+        ),
+    ],
+)];
 
 #[test]
 fn largest_image(rt: HostRuntime) -> Result<(), Fail> {
-    let image = largest(rt.alloc())?;
-    let scenario = b"process a i\ninput a 5\ndrive 10\n".as_slice();
-    let named = [("s", scenario), ("i", image.as_slice())];
-    let mut files = Folder::new(rt.alloc(), named.as_slice())?;
-    let checked = carried(&rt, "check i", &mut files)?;
-    assert!(rt; checked.out.as_slice() == b"accepted 1024 instructions\n".as_slice());
-    let ended = carried(&rt, "run s", &mut files)?;
-    let text = str::from_utf8(ended.out.as_slice()).unwrap_or("");
-    assert_eq!(rt; ended.status, 0);
-    assert!(rt;
-        text.ends_with("\nprocess a up 1 ec13000000000000\nexact\n"),
-        "{text}"
-    );
-    Ok(())
-}
-
-#[test]
-fn what_is_shown(rt: HostRuntime) -> Result<(), Fail> {
-    for (line, scenario, shown) in SHOWN {
-        ends(&rt, line, scenario, 0, shown, "")?;
-    }
-    Ok(())
+    play(&rt, &LARGEST)
 }
 
 /// What is told where nothing is at the path `folder`.
@@ -201,48 +212,47 @@ process a, cut.sbi: not as long as its header says: 8 bytes, and 8 for each slot
 /// What is told where OUT is a file that is read.
 const OWN_INPUT: &str = "error: OUT is a file that is read\n";
 
+const DRIVEN: Bytes = Bytes::Are(b"process a adder.sbi\ninput a 5\ndrive 10\n");
+
+/// What the files are where no picture was written.
+const UNCHANGED: &[(&str, Seen)] = &[
+    ("s", Seen::Is(DRIVEN)),
+    ("adder.sbi", Seen::Is(Bytes::Are(&ADDER))),
+    ("out", Seen::Is(OLD)),
+];
+
 /// A picture is at its place whole, or all is as it was.
+const PICTURES: [Line; 5] = [
+    ("draw s folder", 6, Seen::Text(NO_FOLDER), UNCHANGED),
+    ("draw folder out", 6, Seen::Text(NO_FOLDER), UNCHANGED),
+    ("draw s s", 2, Seen::Text(OWN_INPUT), UNCHANGED),
+    ("draw s adder.sbi", 2, Seen::Text(OWN_INPUT), UNCHANGED),
+    (
+        "draw s out",
+        0,
+        Seen::Nothing,
+        &[
+            ("s", Seen::Is(DRIVEN)),
+            ("adder.sbi", Seen::Is(Bytes::Are(&ADDER))),
+            (
+                "out",
+                Seen::Has(&[
+                    "<svg xmlns='http://www.w3.org/2000/svg' width='900' height='354' ",
+                    "<text class='name' x='12' y='182'>1 a</text>",
+                    "</svg>\n",
+                ]),
+            ),
+        ],
+    ),
+];
+
 #[test]
 fn pictures(rt: HostRuntime) -> Result<(), Fail> {
-    let sized = "<svg xmlns='http://www.w3.org/2000/svg' width='900' height='354' ";
-    let named = "<text class='name' x='12' y='182'>1 a</text>";
-    let cases = [
-        ("draw s out", 0, "", [sized, named]),
-        ("draw s folder", 6, NO_FOLDER, ["old", "old"]),
-        ("draw folder out", 6, NO_FOLDER, ["old", "old"]),
-        ("draw s s", 2, OWN_INPUT, ["old", "old"]),
-        ("draw s adder.sbi", 2, OWN_INPUT, ["old", "old"]),
-    ];
-    for (line, want, told, parts) in cases {
-        let scenario = b"process a adder.sbi\ninput a 5\ndrive 10\n".as_slice();
-        let mut files = folder(rt.alloc(), scenario)?;
-        let Ended {
-            status,
-            out,
-            err,
-            ..
-        } = carried(&rt, line, &mut files)?;
-        assert_eq!(rt; status, want, "at {line}");
-        assert!(rt;
-            out.is_empty() && err.as_slice() == told.as_bytes(),
-            "at {line}"
-        );
-        assert!(rt; files.bytes("s") == scenario, "at {line}");
-        assert!(rt; files.bytes("adder.sbi") == ADDER.as_slice(), "at {line}");
-        let left = str::from_utf8(files.bytes("out")).unwrap_or("");
-        for part in parts {
-            assert!(rt; left.contains(part), "at {line}: {left}");
-        }
-        assert!(rt;
-            left == "old" || left.ends_with("</svg>\n"),
-            "at {line}: {left}"
-        );
-    }
+    assert!(rt; plays(&rt, &FILES, &[("s", DRIVEN)], &PICTURES)?);
     Ok(())
 }
 
-/// A line, the scenario, the status, and what is told.
-const REFUSED: [(&str, &[u8], u8, &str); 15] = [
+const REFUSED: [Row; 15] = [
     (
         "run s",
         b"",
@@ -330,8 +340,5 @@ const REFUSED: [(&str, &[u8], u8, &str); 15] = [
 
 #[test]
 fn refused_scenarios(rt: HostRuntime) -> Result<(), Fail> {
-    for (line, scenario, status, told) in REFUSED {
-        ends(&rt, line, scenario, status, "", told)?;
-    }
-    Ok(())
+    play_rows(&rt, &REFUSED)
 }

@@ -2,9 +2,12 @@
 
 use super::ADDER;
 use super::folder::Folder;
+use std::alloc::Global;
 use std::io;
 use std::io::Write;
+use std::sync::Wait;
 use std::test::Fail;
+use std::thread::Threads;
 use tracer::{Failure, Reason, Written, sblog};
 
 /// A writer that takes two bytes at a time, and fails when it has so many.
@@ -30,54 +33,68 @@ impl Write for Short {
     }
 }
 
+/// A line, how much each stream takes, the status, and what each has then.
+const CASES: [(&str, [usize; 2], u8, [&str; 2]); 8] = [
+    ("check a", [100, 100], 0, ["accepted 6 instructions\n", ""]),
+    ("check a", [5, 100], 6, ["accep", "input or output\n"]),
+    ("check a", [0, 100], 6, ["", "input or output\n"]),
+    ("check a", [0, 3], 6, ["", "inp"]),
+    (
+        "check b",
+        [100, 100],
+        6,
+        ["", "input or output\nb: no such file or folder\n"],
+    ),
+    ("check b", [100, 0], 6, ["", ""]),
+    ("fly", [100, 7], 6, ["", "error: "]),
+    (
+        "asm b a --state 8",
+        [0, 20],
+        6,
+        ["", "input or output\nb: n"],
+    ),
+];
+
+fn with_room(alloc: Global, room: usize) -> Short {
+    Short {
+        bytes: Vec::new(alloc),
+        room,
+    }
+}
+
+/// The status of a line, over streams that take so much, if they have this then.
+fn status<R: Threads + Wait + Sync + AllocGlobal>(
+    rt: &R,
+    line: &str,
+    room: [usize; 2],
+    shown: [&str; 2],
+) -> Result<Option<u8>, Fail> {
+    let words: Vec<&str> = line.split_whitespace().collect(rt.alloc())?;
+    let mut files = Folder::new(rt.alloc(), [("a", ADDER.as_slice())].as_slice())?;
+    let (mut out, mut err) = (
+        with_room(rt.alloc(), room[0]),
+        with_room(rt.alloc(), room[1]),
+    );
+    let (mut reports, mut faults) = (Written::new(&mut out), Written::new(&mut err));
+    let status = sblog(
+        rt,
+        rt.alloc(),
+        words.as_slice(),
+        &mut files,
+        &mut reports,
+        &mut faults,
+    );
+    let is_right = out.bytes.as_slice() == shown[0].as_bytes()
+        && err.bytes.as_slice() == shown[1].as_bytes();
+    Ok(if is_right { Some(status) } else { None })
+}
+
 #[test]
 fn short_and_failing_streams(rt: HostRuntime) -> Result<(), Fail> {
-    let alloc = rt.alloc();
-    let cases = [
-        ("check a", 100, 100, 0, "accepted 6 instructions\n", ""),
-        ("check a", 5, 100, 6, "accep", "input or output\n"),
-        ("check a", 0, 100, 6, "", "input or output\n"),
-        ("check a", 0, 3, 6, "", "inp"),
-        (
-            "check b",
-            100,
-            100,
-            6,
-            "",
-            "input or output\nb: no such file or folder\n",
-        ),
-        ("check b", 100, 0, 6, "", ""),
-        ("fly", 100, 7, 6, "", "error: "),
-        ("asm b a --state 8", 0, 20, 6, "", "input or output\nb: n"),
-    ];
-    for (line, room, space, want, shown, told) in cases {
-        let words: Vec<&str> = line.split_whitespace().collect(alloc)?;
-        let mut files = Folder::new(alloc, [("a", ADDER.as_slice())].as_slice())?;
-        let mut out = Short {
-            bytes: Vec::new(alloc),
-            room,
-        };
-        let mut err = Short {
-            bytes: Vec::new(alloc),
-            room: space,
-        };
-        let (mut reports, mut faults) = (Written::new(&mut out), Written::new(&mut err));
-        let status = sblog(
-            &rt,
-            alloc,
-            words.as_slice(),
-            &mut files,
-            &mut reports,
-            &mut faults,
-        );
-        assert_eq!(rt; status, want, "at {line}, {room}, {space}");
+    for (place, (line, room, want, shown)) in CASES.iter().enumerate() {
         assert!(rt;
-            out.bytes.as_slice() == shown.as_bytes(),
-            "at {line}, {room}, {space}"
-        );
-        assert!(rt;
-            err.bytes.as_slice() == told.as_bytes(),
-            "at {line}, {room}, {space}"
+            status(&rt, line, *room, *shown)? == Some(*want),
+            "row {place}"
         );
     }
     Ok(())
@@ -85,12 +102,8 @@ fn short_and_failing_streams(rt: HostRuntime) -> Result<(), Fail> {
 
 #[test]
 fn failures_shown(rt: HostRuntime) -> Result<(), Fail> {
-    let texts = [
-        (Failure::Memory, "out of memory"),
-        (Failure::InputOutput(Reason::Other), "input or output"),
-    ];
-    for (failure, text) in texts {
-        assert_eq!(rt; format!(in rt.alloc(); "{failure}")?.as_str(), text);
-    }
+    let memory = Failure::Memory.to_string(rt.alloc())?;
+    let other = Failure::InputOutput(Reason::Other).to_string(rt.alloc())?;
+    assert!(rt; memory.as_str() == "out of memory" && other.as_str() == "input or output");
     Ok(())
 }

@@ -1,269 +1,447 @@
 //! The commands `asm`, `pack` and `dis` over files in memory.
 
-use super::folder::Folder;
-use super::{ADDER, carried};
-use std::alloc::{AllocError, Global};
-use std::process::Abort;
-use std::str;
-use std::sync::Wait;
+use super::ADDER;
+use super::scenes::{Bytes, Named, Scene, Seen, play};
 use std::test::Fail;
-use std::thread::Threads;
 
-/// A text, or code, at the path `s` and an image at the path `i`.
-fn folder(alloc: Global, text: &[u8], image: &[u8]) -> Result<Folder, AllocError> {
-    Folder::new(alloc, [("s", text), ("i", image)].as_slice())
-}
+const OLD: Bytes = Bytes::Are(b"old");
 
-static ADDER_TEXT: &str = "ldxdw r3, [r1+0]\nldxdw r4, [r2+0]\nadd r4, r3\nstxdw [r2+0], r4\n\
-    mov r0, 0\nexit\n";
+const ADDER_FILE: Bytes = Bytes::Are(&ADDER);
 
-static SLOTS: &str = "load refused 4
+/// The adder as a file of form 2.
+const SECOND: Bytes = Bytes::OfForm(&ADDER, b'2');
+
+const ADDER_TEXT: Bytes = Bytes::Are(
+    b"ldxdw r3, [r1+0]\nldxdw r4, [r2+0]\nadd r4, r3\nstxdw [r2+0], r4\n\
+    mov r0, 0\nexit\n",
+);
+
+const SLOTS: Seen = Seen::Text(
+    "load refused 4
 s: an image has 1 to 1,024 slots, and its text at most 1,048,576 bytes
-";
+",
+);
 
-static NO_OPCODE: &str = "decode refused 2 at slot 0
+const NO_OPCODE: Seen = Seen::Text(
+    "decode refused 2 at slot 0
 s: no instruction has this opcode
-";
+",
+);
 
-static NO_FILE: &str = "input or output
+const NO_FILE: Seen = Seen::Text(
+    "input or output
 x: no such file or folder
-";
+",
+);
 
-/// Carries out one line, and tests its status and what it shows and leaves at `i`.
-fn ends<R: Threads + Wait + Sync + Abort + AllocGlobal>(
-    rt: &R,
-    line: &str,
-    files: &mut Folder,
-    status: u8,
-    shown: &str,
-    left: &[u8],
-) -> Result<(), Fail> {
-    let ended = carried(rt, line, files)?;
-    assert_eq!(rt; ended.status, status, "at {line}, {shown}");
-    let (told, silent) = if status == 0 {
-        (&ended.out, &ended.err)
-    } else {
-        (&ended.err, &ended.out)
-    };
-    assert!(rt; told.as_slice() == shown.as_bytes(), "at {line}, {shown}");
-    assert!(rt; silent.is_empty(), "at {line}, {shown}");
-    assert!(rt; files.bytes("i") == left, "at {line}, {shown}");
-    Ok(())
-}
+const BOTH_WAYS: [Scene; 1] = [(
+    &[("s", ADDER_TEXT), ("i", OLD)],
+    &[
+        (
+            "asm s i --state 8",
+            0,
+            Seen::Nothing,
+            &[("i", Seen::Is(ADDER_FILE))],
+        ),
+        (
+            "dis i",
+            0,
+            Seen::Is(ADDER_TEXT),
+            &[("i", Seen::Is(ADDER_FILE))],
+        ),
+        (
+            "asm s i --state 8 --form 2",
+            0,
+            Seen::Nothing,
+            &[("i", Seen::Is(SECOND))],
+        ),
+    ],
+)];
 
 #[test]
 fn adder_both_ways(rt: HostRuntime) -> Result<(), Fail> {
-    let mut files = folder(rt.alloc(), ADDER_TEXT.as_bytes(), b"old")?;
-    let adder = ADDER.as_slice();
-    ends(&rt, "asm s i --state 8", &mut files, 0, "", adder)?;
-    ends(&rt, "dis i", &mut files, 0, ADDER_TEXT, adder)?;
-    let mut second = adder.to_vec(rt.alloc())?;
-    second[3] = b'2';
-    ends(
-        &rt,
-        "asm s i --state 8 --form 2",
-        &mut files,
-        0,
-        "",
-        &second,
-    )
+    play(&rt, &BOTH_WAYS)
 }
 
-// The bytes of code get a header, and code that has no file leaves the one that is there.
+const CODE: [Named; 2] = [("s", Bytes::Behind(&ADDER, 8)), ("i", OLD)];
+
+/// The bytes of code get a header, and code that has no file leaves the one that is there.
+const PACKED: [Scene; 6] = [
+    (
+        &CODE,
+        &[(
+            "pack s i --state 8",
+            0,
+            Seen::Nothing,
+            &[("i", Seen::Is(ADDER_FILE))],
+        )],
+    ),
+    (
+        &CODE,
+        &[(
+            "pack s i --state 8 --form 2",
+            0,
+            Seen::Nothing,
+            &[("i", Seen::Is(SECOND))],
+        )],
+    ),
+    (
+        &[("s", Bytes::Are(ADDER_CODE_CUT)), ("i", OLD)],
+        &[(
+            "pack s i --state 8",
+            3,
+            Seen::Text(
+                "decode refused 1 at slot 0\ns: the code isn't whole slots, of 8 bytes each\n",
+            ),
+            &[("i", Seen::Is(OLD))],
+        )],
+    ),
+    (
+        &[("s", Bytes::Are(b"")), ("i", OLD)],
+        &[("pack s i --state 8", 3, SLOTS, &[("i", Seen::Is(OLD))])],
+    ),
+    (
+        &[
+            (
+                "s",
+                Bytes::Repeat(b"", b"\x95\x00\x00\x00\x00\x00\x00\x00", 1025, b""),
+            ),
+            ("i", OLD),
+        ],
+        &[("pack s i --state 8", 3, SLOTS, &[("i", Seen::Is(OLD))])],
+    ),
+    (
+        &[("s", Bytes::First(&ADDER, 8)), ("i", OLD)],
+        &[("pack s i --state 8", 3, NO_OPCODE, &[("i", Seen::Is(OLD))])],
+    ),
+];
+
+/// The adder's code without its last byte.
+const ADDER_CODE_CUT: &[u8] = b"\x79\x13\x00\x00\x00\x00\x00\x00\x79\x24\x00\x00\x00\x00\x00\x00\
+    \x0f\x34\x00\x00\x00\x00\x00\x00\x7b\x42\x00\x00\x00\x00\x00\x00\
+    \xb7\x00\x00\x00\x00\x00\x00\x00\x95\x00\x00\x00\x00\x00\x00";
+
 #[test]
 fn packed_code(rt: HostRuntime) -> Result<(), Fail> {
-    let alloc = rt.alloc();
-    let mut second = ADDER.to_vec(alloc)?;
-    second[3] = b'2';
-    let mut many: Vec<u8> = Vec::new(alloc);
-    for _ in 0..1025 {
-        many.extend_from_slice(b"\x95\x00\x00\x00\x00\x00\x00\x00")?;
-    }
-    let (adder, other) = (ADDER.as_slice(), second.as_slice());
-    let code = &ADDER[8..];
-    let cases = [
-        ("--state 8", code, 0, "", adder),
-        ("--state 8 --form 2", code, 0, "", other),
-        (
-            "--state 8",
-            &ADDER[8..55],
-            3,
-            "decode refused 1 at slot 0\ns: the code isn't whole slots, of 8 bytes each\n",
-            b"old",
-        ),
-        ("--state 8", b"", 3, SLOTS, b"old"),
-        ("--state 8", many.as_slice(), 3, SLOTS, b"old"),
-        ("--state 8", &adder[..8], 3, NO_OPCODE, b"old"),
-    ];
-    for (options, text, status, shown, left) in cases {
-        let mut files = folder(alloc, text, b"old")?;
-        let line = format!(in alloc; "pack s i {options}")?;
-        ends(&rt, line.as_str(), &mut files, status, shown, left)?;
-    }
-    Ok(())
+    play(&rt, &PACKED)
 }
 
-// A wide instruction is one line.
+const WIDE_IMAGE: &[u8] = b"SBI1\x00\x00\x02\x00\
+    \x18\x01\x00\x00\x78\x56\x34\x12\x00\x00\x00\x00\xf0\xde\xbc\x9a";
+
+/// A wide instruction is one line.
+const WIDE: [Scene; 1] = [(
+    &[("s", Bytes::Behind(WIDE_IMAGE, 8)), ("i", OLD)],
+    &[
+        (
+            "pack s i --state 0",
+            0,
+            Seen::Nothing,
+            &[("i", Seen::Is(Bytes::Are(WIDE_IMAGE)))],
+        ),
+        (
+            "dis i",
+            0,
+            Seen::Text("lddw r1, 11150031900141442680\n"),
+            &[("i", Seen::Is(Bytes::Are(WIDE_IMAGE)))],
+        ),
+    ],
+)];
+
 #[test]
 fn wide_instruction(rt: HostRuntime) -> Result<(), Fail> {
-    let code = b"\x18\x01\x00\x00\x78\x56\x34\x12\x00\x00\x00\x00\xf0\xde\xbc\x9a".as_slice();
-    let image = b"SBI1\x00\x00\x02\x00\
-        \x18\x01\x00\x00\x78\x56\x34\x12\x00\x00\x00\x00\xf0\xde\xbc\x9a";
-    let mut files = folder(rt.alloc(), code, b"old")?;
-    ends(&rt, "pack s i --state 0", &mut files, 0, "", image)?;
-    let line = "lddw r1, 11150031900141442680\n";
-    ends(&rt, "dis i", &mut files, 0, line, image)
+    play(&rt, &WIDE)
 }
 
-// More than a text or code may have is refused, but for a line that is refused before.
+/// A comment of 1,048,571 bytes, in parts.
+const HASHES: &[u8] = b"################";
+
+const ELEVEN: &[u8] = b"###########";
+
+const EXIT: Bytes = Bytes::Are(b"SBI1\x00\x00\x01\x00\x95\x00\x00\x00\x00\x00\x00\x00");
+
+/// More than a text or code may have is refused, but for a line that is refused before.
+const LONG: [Scene; 6] = [
+    (
+        &[
+            ("s", Bytes::Repeat(ELEVEN, HASHES, 65_535, b"\nexit")),
+            ("i", OLD),
+        ],
+        &[(
+            "asm s i --state 0",
+            0,
+            Seen::Nothing,
+            &[("i", Seen::Is(EXIT))],
+        )],
+    ),
+    (
+        &[("s", Bytes::Repeat(b"", b"\x00", 8193, b"")), ("i", OLD)],
+        &[("pack s i --state 0", 3, SLOTS, &[("i", Seen::Is(OLD))])],
+    ),
+    (
+        &[("s", Bytes::Repeat(b"", b"\x00", 8192, b"")), ("i", OLD)],
+        &[("pack s i --state 0", 3, NO_OPCODE, &[("i", Seen::Is(OLD))])],
+    ),
+    (
+        &[
+            ("s", Bytes::Repeat(ELEVEN, HASHES, 65_535, b"\nexit\n")),
+            ("i", OLD),
+        ],
+        &[("asm s i --state 0", 3, SLOTS, &[("i", Seen::Is(OLD))])],
+    ),
+    (
+        &[
+            (
+                "s",
+                Bytes::Repeat(ELEVEN, HASHES, 65_535, b"\nexit\xff\nfly\n"),
+            ),
+            ("i", OLD),
+        ],
+        &[("asm s i --state 0", 3, SLOTS, &[("i", Seen::Is(OLD))])],
+    ),
+    (
+        &[
+            (
+                "s",
+                Bytes::Repeat(b"fly\n###########", HASHES, 65_535, b"\nexit"),
+            ),
+            ("i", OLD),
+        ],
+        &[(
+            "asm s i --state 0",
+            3,
+            Seen::Text("asm refused 1 at line 1\ns: no instruction has the line's first word\n"),
+            &[("i", Seen::Is(OLD))],
+        )],
+    ),
+];
+
 #[test]
 fn long_sources(rt: HostRuntime) -> Result<(), Fail> {
-    let alloc = rt.alloc();
-    let mut text: Vec<u8> = vec![in alloc; b'#'; 1_048_571]?;
-    text.extend_from_slice(b"\nexit")?;
-    let mut code: Vec<u8> = vec![in alloc; 0; 8193]?;
-    let exit = b"SBI1\x00\x00\x01\x00\x95\x00\x00\x00\x00\x00\x00\x00".as_slice();
-    let mut files = folder(alloc, &text, b"old")?;
-    ends(&rt, "asm s i --state 0", &mut files, 0, "", exit)?;
-    let refused = SLOTS;
-    let mut files = folder(alloc, &code, b"old")?;
-    ends(&rt, "pack s i --state 0", &mut files, 3, refused, b"old")?;
-    code.pop();
-    let mut files = folder(alloc, &code, b"old")?;
-    ends(&rt, "pack s i --state 0", &mut files, 3, NO_OPCODE, b"old")?;
-    for (end, told) in [(b"\n".as_slice(), refused), (b"\xff\nfly\n", refused)] {
-        let mut longer = text.clone()?;
-        longer.extend_from_slice(end)?;
-        let mut files = folder(alloc, &longer, b"old")?;
-        ends(&rt, "asm s i --state 0", &mut files, 3, told, b"old")?;
-    }
-    let (unknown, mut early): (&str, Vec<u8>) = (
-        "asm refused 1 at line 1\ns: no instruction has the line's first word\n",
-        Vec::from_slice(alloc, b"fly\n")?,
-    );
-    early.extend_from_slice(&text)?;
-    let mut files = folder(alloc, &early, b"old")?;
-    ends(&rt, "asm s i --state 0", &mut files, 3, unknown, b"old")
+    play(&rt, &LONG)
 }
+
+const NO_WORD: Seen = Seen::Text(
+    "asm refused 1 at line 1\ns: no instruction has the line's first word\n",
+);
+
+const REFUSED: [Scene; 7] = [
+    (
+        &[("s", Bytes::Are(b"foo\n")), ("i", OLD)],
+        &[("asm s i --state 8", 3, NO_WORD, &[("i", Seen::Is(OLD))])],
+    ),
+    (
+        &[("s", Bytes::Are(b"mov r11, 0")), ("i", OLD)],
+        &[(
+            "asm s i --state 8",
+            3,
+            Seen::Text(
+                "asm refused 2 at line 1\ns: the operands aren't those of the line's first word\n",
+            ),
+            &[("i", Seen::Is(OLD))],
+        )],
+    ),
+    (
+        &[("s", Bytes::Are(b"mov r0, 2147483648")), ("i", OLD)],
+        &[(
+            "asm s i --state 8",
+            3,
+            Seen::Text("asm refused 3 at line 1\ns: a number is out of its range\n"),
+            &[("i", Seen::Is(OLD))],
+        )],
+    ),
+    (
+        &[("s", Bytes::Are(b"# two\n\nexit\nexit 1\n")), ("i", OLD)],
+        &[(
+            "asm s i --state 8",
+            3,
+            Seen::Text(
+                "asm refused 2 at line 4\ns: the operands aren't those of the line's first word\n",
+            ),
+            &[("i", Seen::Is(OLD))],
+        )],
+    ),
+    (
+        &[("s", Bytes::Are(b"")), ("i", OLD)],
+        &[("asm s i --state 8", 3, SLOTS, &[("i", Seen::Is(OLD))])],
+    ),
+    (
+        &[("s", Bytes::Are(b"# nothing\n\n")), ("i", OLD)],
+        &[("asm s i --state 8", 3, SLOTS, &[("i", Seen::Is(OLD))])],
+    ),
+    (
+        &[("s", Bytes::Are(b"# \xff\nexit\n")), ("i", OLD)],
+        &[(
+            "asm s i --state 8",
+            6,
+            Seen::Text("input or output\ns: not UTF-8, so no text\n"),
+            &[("i", Seen::Is(OLD))],
+        )],
+    ),
+];
 
 #[test]
 fn refused_texts_write_nothing(rt: HostRuntime) -> Result<(), Fail> {
-    let cases = [
-        (
-            b"foo\n".as_slice(),
-            3,
-            "asm refused 1 at line 1\ns: no instruction has the line's first word\n",
-        ),
-        (
-            b"mov r11, 0".as_slice(),
-            3,
-            "asm refused 2 at line 1\ns: the operands aren't those of the line's first word\n",
-        ),
-        (
-            b"mov r0, 2147483648".as_slice(),
-            3,
-            "asm refused 3 at line 1\ns: a number is out of its range\n",
-        ),
-        (
-            b"# two\n\nexit\nexit 1\n".as_slice(),
-            3,
-            "asm refused 2 at line 4\ns: the operands aren't those of the line's first word\n",
-        ),
-        (b"".as_slice(), 3, SLOTS),
-        (b"# nothing\n\n".as_slice(), 3, SLOTS),
-        (
-            b"# \xff\nexit\n".as_slice(),
-            6,
-            "input or output\ns: not UTF-8, so no text\n",
-        ),
-    ];
-    for (text, status, shown) in cases {
-        let mut files = folder(rt.alloc(), text, b"old")?;
-        ends(&rt, "asm s i --state 8", &mut files, status, shown, b"old")?;
-    }
-    Ok(())
+    play(&rt, &REFUSED)
 }
+
+/// What an image of 1,024 slots begins with, with a state of 1,024 bytes, and a slot of `exit`.
+const HEAD: &[u8] = b"SBI1\x00\x04\x00\x04";
+
+const EXIT_SLOT: &[u8] = b"\x95\x00\x00\x00\x00\x00\x00\x00";
+
+const EXITS: Bytes = Bytes::Repeat(HEAD, EXIT_SLOT, 1024, b"");
+
+/// The same and one byte more, and eight more.
+const ONE_MORE: Bytes = Bytes::Repeat(HEAD, EXIT_SLOT, 1024, b"\x95");
+
+const EIGHT_MORE: Bytes = Bytes::Repeat(HEAD, EXIT_SLOT, 1025, b"");
+
+const OTHER_LENGTH: Seen = Seen::Text(
+    "load refused 5\ni: not as long as its header says: 8 bytes, and 8 for each slot\n",
+);
+
+/// Nothing follows the largest image, also behind as many bytes as are read of one.
+const LARGEST: [Scene; 4] = [
+    (
+        &[("s", Bytes::Repeat(b"", b"exit\n", 1024, b"")), ("i", OLD)],
+        &[(
+            "asm s i --state 1024",
+            0,
+            Seen::Nothing,
+            &[("i", Seen::Is(EXITS))],
+        )],
+    ),
+    (
+        &[
+            ("s", Bytes::Repeat(b"", b"exit\n", 1025, b"")),
+            ("i", EXITS),
+        ],
+        &[
+            (
+                "asm s i --state 0",
+                3,
+                Seen::Text(
+                    "asm refused 4 at line 1025\ns: with this line there are more than 1,024 slots\n",
+                ),
+                &[("i", Seen::Is(EXITS))],
+            ),
+            (
+                "check i",
+                3,
+                Seen::Text("verify refused V10 at slot 0\ni: sblog explain shows why\n"),
+                &[("i", Seen::Is(EXITS))],
+            ),
+        ],
+    ),
+    (
+        &[("s", Bytes::Are(b"")), ("i", ONE_MORE)],
+        &[("check i", 3, OTHER_LENGTH, &[("i", Seen::Is(ONE_MORE))])],
+    ),
+    (
+        &[("s", Bytes::Are(b"")), ("i", EIGHT_MORE)],
+        &[("check i", 3, OTHER_LENGTH, &[("i", Seen::Is(EIGHT_MORE))])],
+    ),
+];
 
 #[test]
 fn at_most_1024_slots(rt: HostRuntime) -> Result<(), Fail> {
-    let alloc = rt.alloc();
-    let mut text: Vec<u8> = Vec::new(alloc);
-    let mut file: Vec<u8> = Vec::new(alloc);
-    file.extend_from_slice(b"SBI1\x00\x04\x00\x04")?;
-    for _ in 0..1024 {
-        text.extend_from_slice(b"exit\n")?;
-        file.extend_from_slice(b"\x95\x00\x00\x00\x00\x00\x00\x00")?;
-    }
-    let mut longer = text.clone()?;
-    longer.extend_from_slice(b"exit\n")?;
-    let mut files = folder(alloc, &text, b"old")?;
-    ends(&rt, "asm s i --state 1024", &mut files, 0, "", &file)?;
-    let mut files = folder(alloc, &longer, &file)?;
-    let refused = "asm refused 4 at line 1025\ns: with this line there are more than 1,024 slots\n";
-    ends(&rt, "asm s i --state 0", &mut files, 3, refused, &file)?;
-    // Nothing follows the largest image, also behind as many bytes as are read of one.
-    let unset = "verify refused V10 at slot 0\ni: sblog explain shows why\n";
-    ends(&rt, "check i", &mut files, 3, unset, &file)?;
-    for rest in [b"\x95".as_slice(), b"\x00\x00\x00\x00\x00\x00\x00"] {
-        file.extend_from_slice(rest)?;
-        let mut files = folder(alloc, b"", &file)?;
-        let longer =
-            "load refused 5\ni: not as long as its header says: 8 bytes, and 8 for each slot\n";
-        ends(&rt, "check i", &mut files, 3, longer, &file)?;
-    }
-    Ok(())
+    play(&rt, &LARGEST)
 }
 
-// As many of the longest lines as an image has slots, there and back.
+const LONGEST_LINES: Bytes = Bytes::Repeat(b"", b"jsgt32 r10, -2147483648, -32768\n", 1024, b"");
+
+const LONGEST_IMAGE: Bytes = Bytes::Repeat(HEAD, b"\x66\x0a\x00\x80\x00\x00\x00\x80", 1024, b"");
+
+/// As many of the longest lines as an image has slots, there and back.
+const LONGEST: [Scene; 1] = [(
+    &[("s", LONGEST_LINES), ("i", OLD)],
+    &[
+        (
+            "asm s i --state 1024",
+            0,
+            Seen::Nothing,
+            &[("i", Seen::Is(LONGEST_IMAGE))],
+        ),
+        (
+            "dis i",
+            0,
+            Seen::Is(LONGEST_LINES),
+            &[("i", Seen::Is(LONGEST_IMAGE))],
+        ),
+        (
+            "check i",
+            3,
+            Seen::Text("verify refused V1 at slot 0\ni: sblog explain shows why\n"),
+            &[("i", Seen::Is(LONGEST_IMAGE))],
+        ),
+    ],
+)];
+
 #[test]
 fn a_thousand_of_the_longest_lines(rt: HostRuntime) -> Result<(), Fail> {
-    let alloc = rt.alloc();
-    let mut text: Vec<u8> = Vec::new(alloc);
-    let mut file: Vec<u8> = Vec::from_slice(alloc, b"SBI1\x00\x04\x00\x04")?;
-    for _ in 0..1024 {
-        text.extend_from_slice(b"jsgt32 r10, -2147483648, -32768\n")?;
-        file.extend_from_slice(b"\x66\x0a\x00\x80\x00\x00\x00\x80")?;
-    }
-    let lines = str::from_utf8(&text).unwrap_or("");
-    let mut files = folder(alloc, &text, b"old")?;
-    ends(&rt, "asm s i --state 1024", &mut files, 0, "", &file)?;
-    ends(&rt, "dis i", &mut files, 0, lines, &file)?;
-    let backward = "verify refused V1 at slot 0\ni: sblog explain shows why\n";
-    ends(&rt, "check i", &mut files, 3, backward, &file)
+    play(&rt, &LONGEST)
 }
+
+/// `exit` alone with a state of 8 bytes.
+const EXIT_OF_8: Bytes = Bytes::Are(b"SBI1\x08\x00\x01\x00\x95\x00\x00\x00\x00\x00\x00\x00");
+
+const OWN: Seen = Seen::Text("error: OUT is a file that is read\n");
+
+const PATHS: [Scene; 2] = [
+    (
+        &[("s", Bytes::Are(b"exit")), ("i", EXIT_OF_8)],
+        &[
+            (
+                "dis i",
+                0,
+                Seen::Text("exit\n"),
+                &[("i", Seen::Is(EXIT_OF_8))],
+            ),
+            ("dis x", 6, NO_FILE, &[("i", Seen::Is(EXIT_OF_8))]),
+            ("asm i i --state 8", 2, OWN, &[("i", Seen::Is(EXIT_OF_8))]),
+            ("pack i i --state 8", 2, OWN, &[("i", Seen::Is(EXIT_OF_8))]),
+            ("asm x x --state 8", 2, OWN, &[("i", Seen::Is(EXIT_OF_8))]),
+            (
+                "asm x i --state 8",
+                6,
+                NO_FILE,
+                &[("i", Seen::Is(EXIT_OF_8))],
+            ),
+            (
+                "asm s x --state 8",
+                6,
+                NO_FILE,
+                &[("i", Seen::Is(EXIT_OF_8))],
+            ),
+            (
+                "dis s",
+                3,
+                Seen::Text("load refused 1\ns: fewer than the 8 bytes of a header\n"),
+                &[("i", Seen::Is(EXIT_OF_8))],
+            ),
+        ],
+    ),
+    (
+        &[
+            (
+                "s",
+                Bytes::Are(b"SBI1\x08\x00\x01\x00\x0f\x34\x00\x00\x01\x00\x00\x00"),
+            ),
+            ("i", EXIT_OF_8),
+        ],
+        &[(
+            "dis s",
+            3,
+            Seen::Text(
+                "decode refused 3 at slot 0\ns: a field that the instruction doesn't use isn't zero\n",
+            ),
+            &[("i", Seen::Is(EXIT_OF_8))],
+        )],
+    ),
+];
 
 #[test]
 fn paths_and_images(rt: HostRuntime) -> Result<(), Fail> {
-    let exit = b"SBI1\x08\x00\x01\x00\x95\x00\x00\x00\x00\x00\x00\x00".as_slice();
-    let mut files = folder(rt.alloc(), b"exit", exit)?;
-    ends(&rt, "dis i", &mut files, 0, "exit\n", exit)?;
-    ends(&rt, "dis x", &mut files, 6, NO_FILE, exit)?;
-    let own = "error: OUT is a file that is read\n";
-    for line in [
-        "asm i i --state 8",
-        "pack i i --state 8",
-        "asm x x --state 8",
-    ] {
-        ends(&rt, line, &mut files, 2, own, exit)?;
-    }
-    ends(&rt, "asm x i --state 8", &mut files, 6, NO_FILE, exit)?;
-    ends(&rt, "asm s x --state 8", &mut files, 6, NO_FILE, exit)?;
-    ends(
-        &rt,
-        "dis s",
-        &mut files,
-        3,
-        "load refused 1\ns: fewer than the 8 bytes of a header\n",
-        exit,
-    )?;
-    let bad_field = b"SBI1\x08\x00\x01\x00\x0f\x34\x00\x00\x01\x00\x00\x00";
-    let mut files = folder(rt.alloc(), bad_field, exit)?;
-    ends(
-        &rt,
-        "dis s",
-        &mut files,
-        3,
-        "decode refused 3 at slot 0\ns: a field that the instruction doesn't use isn't zero\n",
-        exit,
-    )
+    play(&rt, &PATHS)
 }

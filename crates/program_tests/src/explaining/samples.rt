@@ -94,9 +94,9 @@ static HANDLERS: [(&[u8], &str); 4] = [
 
 #[test]
 fn handlers_in_c(rt: HostRuntime) -> Result<(), Fail> {
-    for (image, verdict) in HANDLERS {
-        let text = explain(rt.alloc(), image)?;
-        assert!(rt; text.as_str().ends_with(verdict), "{text}");
+    for (place, (image, verdict)) in HANDLERS.iter().enumerate() {
+        let text = explain(rt.alloc(), *image)?;
+        assert!(rt; text.as_str().ends_with(*verdict), "image {place}");
     }
     Ok(())
 }

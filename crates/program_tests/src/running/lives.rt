@@ -31,24 +31,27 @@ fn lived<R: Threads + Wait + Sync>(
     Ok(out)
 }
 
-#[test]
-fn a_hundred_messages(rt: HostRuntime) -> Result<(), Fail> {
-    let alloc = rt.alloc();
+/// A process and so many inputs.
+fn fed(alloc: Global, count: u32) -> Result<String, Fail> {
     let mut text = String::from_str(alloc, "process a x\n")?;
-    for line in 0..100 {
+    for _ in 0..count {
         text.push_str("input a 1\n")?;
     }
-    let out = lived(&rt, alloc, text.as_str(), 4)?;
+    Ok(text)
+}
+
+#[test]
+fn a_hundred_messages(rt: HostRuntime) -> Result<(), Fail> {
+    let text = fed(rt.alloc(), 100)?;
+    let out = lived(&rt, rt.alloc(), text.as_str(), 4)?;
     let last = "process a up 100 6400000000000000\nexact\n";
-    assert!(rt; out.as_str().ends_with(last));
-    assert_eq!(rt; out.as_str().lines().count(), 602);
+    assert!(rt; out.as_str().ends_with(last) && out.as_str().lines().count() == 602);
     Ok(())
 }
 
 #[test]
 fn no_message(rt: HostRuntime) -> Result<(), Fail> {
-    let alloc = rt.alloc();
-    let out = lived(&rt, alloc, "process a x\n", 2)?;
-    assert_eq!(rt; out.as_str(), "process a up 0 0000000000000000\nexact\n");
+    let out = lived(&rt, rt.alloc(), "process a x\n", 2)?;
+    assert!(rt; out.as_str() == "process a up 0 0000000000000000\nexact\n");
     Ok(())
 }

@@ -38,105 +38,126 @@ const SPACE: &str = "a space at the beginning or the end, or two in a row";
 
 const BYTES: &str = "bytes are pairs of 0 to 9 and a to f, at most 256 pairs, or - for none";
 
+const SPACED: [(&str, &str); 6] = [
+    (
+        "drive 5\r",
+        "a carriage return: lines end with a line feed alone",
+    ),
+    ("drive\t5", "a tab: words stand with one space between them"),
+    (" drive 5", SPACE),
+    ("drive 5 ", SPACE),
+    ("drive  5", SPACE),
+    ("drive 5 # all", "a comment stands on a line of its own"),
+];
+
 #[test]
 fn what_stands_between_words(rt: HostRuntime) -> Result<(), Fail> {
-    let rows = [
-        (
-            "drive 5\r",
-            "a carriage return: lines end with a line feed alone",
-        ),
-        ("drive\t5", "a tab: words stand with one space between them"),
-        (" drive 5", SPACE),
-        ("drive 5 ", SPACE),
-        ("drive  5", SPACE),
-        ("drive 5 # all", "a comment stands on a line of its own"),
-    ];
-    assert!(rt; tell(rt.alloc(), &rows)?);
+    assert!(rt; tell(rt.alloc(), &SPACED)?);
     Ok(())
 }
+
+const ORDERS: [(&str, &str); 16] = [
+    ("input b 5", "no process is named b; declared are a, c"),
+    (
+        "input outside 5",
+        "no process is named outside; declared are a, c",
+    ),
+    (
+        "transmit outside d 1",
+        "no process is named d; declared are a, c",
+    ),
+    ("resync a e", "no process is named e; declared are a, c"),
+    ("crash A", "no process is named A; declared are a, c"),
+    ("input a", "more or fewer words than in: input NAME WORD"),
+    ("drive", "more or fewer words than in: drive BUDGET"),
+    ("crash a c", "more or fewer words than in: crash NAME"),
+    (
+        "drive 07",
+        "07 is no number: 0, or digits without a leading zero, below 2^32",
+    ),
+    (
+        "drive 4294967296",
+        "4294967296 is no number: 0, or digits without a leading zero, below 2^32",
+    ),
+    (
+        "drive -1",
+        "-1 is no number: 0, or digits without a leading zero, below 2^32",
+    ),
+    (
+        "input a 18446744073709551616",
+        "18446744073709551616 is no number: 0, or digits without a leading zero, below 2^64",
+    ),
+    ("bytes a 05FF", BYTES),
+    ("bytes a 5", BYTES),
+    ("bytes a 0x05", BYTES),
+    (
+        "deliver 5",
+        "no line begins with deliver: process, input, bytes, transmit, copy, lose, arrive, finish, checkpoint, trim, crash, recover, alone, replay, resync and drive do",
+    ),
+];
 
 #[test]
 fn words_of_orders(rt: HostRuntime) -> Result<(), Fail> {
-    let rows = [
-        ("input b 5", "no process is named b; declared are a, c"),
-        (
-            "input outside 5",
-            "no process is named outside; declared are a, c",
-        ),
-        (
-            "transmit outside d 1",
-            "no process is named d; declared are a, c",
-        ),
-        ("resync a e", "no process is named e; declared are a, c"),
-        ("crash A", "no process is named A; declared are a, c"),
-        ("input a", "more or fewer words than in: input NAME WORD"),
-        ("drive", "more or fewer words than in: drive BUDGET"),
-        ("crash a c", "more or fewer words than in: crash NAME"),
-        (
-            "drive 07",
-            "07 is no number: 0, or digits without a leading zero, below 2^32",
-        ),
-        (
-            "drive 4294967296",
-            "4294967296 is no number: 0, or digits without a leading zero, below 2^32",
-        ),
-        (
-            "drive -1",
-            "-1 is no number: 0, or digits without a leading zero, below 2^32",
-        ),
-        (
-            "input a 18446744073709551616",
-            "18446744073709551616 is no number: 0, or digits without a leading zero, below 2^64",
-        ),
-        ("bytes a 05FF", BYTES),
-        ("bytes a 5", BYTES),
-        ("bytes a 0x05", BYTES),
-        (
-            "deliver 5",
-            "no line begins with deliver: process, input, bytes, transmit, copy, lose, arrive, finish, checkpoint, trim, crash, recover, alone, replay, resync and drive do",
-        ),
-    ];
-    assert!(rt; tell(rt.alloc(), &rows)?);
+    assert!(rt; tell(rt.alloc(), &ORDERS)?);
     Ok(())
 }
+
+const PROCESSES: [(&str, &str); 6] = [
+    (
+        "process d",
+        "more or fewer words than in: process NAME PATH",
+    ),
+    (
+        "process d x y",
+        "more or fewer words than in: process NAME PATH",
+    ),
+    (
+        "process 1st x",
+        "1st is no name: 1 to 16 of a to z and 0 to 9, a letter first, and not outside",
+    ),
+    (
+        "process outside x",
+        "outside is no name: 1 to 16 of a to z and 0 to 9, a letter first, and not outside",
+    ),
+    ("process c x", "c is declared above"),
+    (
+        "drive 1\nprocess d x",
+        "processes are declared before the first order",
+    ),
+];
 
 #[test]
 fn lines_of_processes(rt: HostRuntime) -> Result<(), Fail> {
-    let alloc = rt.alloc();
-    let rows = [
-        (
-            "process d",
-            "more or fewer words than in: process NAME PATH",
-        ),
-        (
-            "process d x y",
-            "more or fewer words than in: process NAME PATH",
-        ),
-        (
-            "process 1st x",
-            "1st is no name: 1 to 16 of a to z and 0 to 9, a letter first, and not outside",
-        ),
-        (
-            "process outside x",
-            "outside is no name: 1 to 16 of a to z and 0 to 9, a letter first, and not outside",
-        ),
-        ("process c x", "c is declared above"),
-        (
-            "drive 1\nprocess d x",
-            "processes are declared before the first order",
-        ),
-    ];
-    assert!(rt; tell(alloc, &rows)?);
-    let none = "no line declares a process: process NAME PATH";
-    assert!(rt; is_told(alloc, "# nothing\ndrive 5\n", Allowed::All, none)?);
-    let first = "no process is named a; none is declared above";
-    assert!(rt; is_told(alloc, "crash a\nprocess a x\n", Allowed::All, first)?);
+    assert!(rt; tell(rt.alloc(), &PROCESSES)?);
     Ok(())
 }
 
+/// Whole texts, and what is said of their first faulty line.
+const TEXTS: [(&str, Allowed, &str); 3] = [
+    (
+        "# nothing\ndrive 5\n",
+        Allowed::All,
+        "no line declares a process: process NAME PATH",
+    ),
+    (
+        "crash a\nprocess a x\n",
+        Allowed::All,
+        "no process is named a; none is declared above",
+    ),
+    (
+        "process a x\ncrash a\n",
+        Allowed::Inputs,
+        "only input and bytes lines can stand here",
+    ),
+];
+
 #[test]
-fn inputs_alone(rt: HostRuntime) -> Result<(), Fail> {
-    let words = "only input and bytes lines can stand here";
-    assert!(rt; is_told(rt.alloc(), "process a x\ncrash a\n", Allowed::Inputs, words)?);
+fn whole_texts(rt: HostRuntime) -> Result<(), Fail> {
+    for (place, (text, allowed, words)) in TEXTS.iter().enumerate() {
+        assert!(rt;
+            is_told(rt.alloc(), *text, *allowed, *words)?,
+            "row {place}"
+        );
+    }
     Ok(())
 }

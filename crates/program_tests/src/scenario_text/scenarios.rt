@@ -9,12 +9,12 @@ use std::test::Fail;
 const TWO: &str = "# a run\n\nprocess a adder.sbi\nprocess b2 x/y.sbi\n";
 
 /// Whether a line behind two processes is this order.
-fn is_order(alloc: Global, line: &str, order: Order) -> Result<bool, Fail> {
+fn is_order(alloc: Global, line: &str, order: &Order) -> Result<bool, Fail> {
     let text = format!(in alloc; "{TWO}{line}\n")?;
     match parse(alloc, text.as_str(), Allowed::All) {
         Ok(scenario) => {
             let steps = scenario.steps.as_slice();
-            Ok(steps.len() == 1 && steps[0].line == 5 && steps[0].order == order)
+            Ok(steps.len() == 1 && steps[0].line == 5 && steps[0].order == *order)
         }
         Err(_) => Ok(false),
     }
@@ -34,88 +34,74 @@ fn is_faulty(alloc: Global, line: &str) -> Result<bool, Fail> {
     Ok(is_refused(alloc, text.as_str(), 5))
 }
 
+/// Each order but `bytes`.
+const ORDERS: [(&str, Order); 17] = [
+    (
+        "input a 18446744073709551615",
+        Order::Input {
+            to: 1,
+            word: 18446744073709551615,
+        },
+    ),
+    ("input b2 0", Order::Input { to: 2, word: 0 }),
+    (
+        "transmit outside a 1",
+        Order::Transmit {
+            from: 0,
+            to: 1,
+            ssn: 1,
+        },
+    ),
+    (
+        "transmit b2 outside 4294967295",
+        Order::Transmit {
+            from: 2,
+            to: 0,
+            ssn: 4294967295,
+        },
+    ),
+    ("copy 0", Order::Copy { key: 0 }),
+    ("lose 12", Order::Lose { key: 12 }),
+    ("arrive 4294967295", Order::Arrive { key: 4294967295 }),
+    ("finish a", Order::Finish { process: 1 }),
+    ("checkpoint b2", Order::Checkpoint { process: 2 }),
+    ("trim a", Order::Trim { to: 1 }),
+    ("trim outside", Order::Trim { to: 0 }),
+    ("crash a", Order::Crash { process: 1 }),
+    ("recover a", Order::Recover { process: 1 }),
+    ("alone a", Order::RecoverAlone { process: 1 }),
+    ("replay a", Order::ReplayBegin { process: 1 }),
+    (
+        "resync b2 a",
+        Order::Resync {
+            process: 2,
+            peer: 1,
+        },
+    ),
+    ("drive 10", Order::Drive { budget: 10 }),
+];
+
 #[test]
 fn each_order(rt: HostRuntime) -> Result<(), Fail> {
-    let alloc = rt.alloc();
-    let word = 18446744073709551615;
+    for (place, (line, order)) in ORDERS.iter().enumerate() {
+        assert!(rt; is_order(rt.alloc(), *line, order)?, "row {place}");
+    }
+    Ok(())
+}
+
+#[test]
+fn orders_with_bytes(rt: HostRuntime) -> Result<(), Fail> {
+    let two = Order::Bytes {
+        to: 1,
+        payload: Payload::from_slice(&[5, 255]),
+    };
+    let none = Order::Bytes {
+        to: 1,
+        payload: Payload::new(),
+    };
     assert!(rt;
-        is_order(
-            alloc,
-            "input a 18446744073709551615",
-            Order::Input { to: 1, word }
-        )?
+        is_order(rt.alloc(), "bytes a 05ff", &two)? && is_order(rt.alloc(), "bytes a -", &none)?
     );
-    assert!(rt; is_order(alloc, "input b2 0", Order::Input { to: 2, word: 0 })?);
-    assert!(rt;
-        is_order(
-            alloc,
-            "bytes a 05ff",
-            Order::Bytes {
-                to: 1,
-                payload: Payload::from_slice(&[5, 255])
-            }
-        )?
-    );
-    assert!(rt;
-        is_order(
-            alloc,
-            "bytes a -",
-            Order::Bytes {
-                to: 1,
-                payload: Payload::new()
-            }
-        )?
-    );
-    assert!(rt;
-        is_order(
-            alloc,
-            "transmit outside a 1",
-            Order::Transmit {
-                from: 0,
-                to: 1,
-                ssn: 1
-            }
-        )?
-    );
-    assert!(rt;
-        is_order(
-            alloc,
-            "transmit b2 outside 4294967295",
-            Order::Transmit {
-                from: 2,
-                to: 0,
-                ssn: 4294967295
-            }
-        )?
-    );
-    assert!(rt; is_order(alloc, "copy 0", Order::Copy { key: 0 })?);
-    assert!(rt; is_order(alloc, "lose 12", Order::Lose { key: 12 })?);
-    assert!(rt;
-        is_order(
-            alloc,
-            "arrive 4294967295",
-            Order::Arrive { key: 4294967295 }
-        )?
-    );
-    assert!(rt; is_order(alloc, "finish a", Order::Finish { process: 1 })?);
-    assert!(rt; is_order(alloc, "checkpoint b2", Order::Checkpoint { process: 2 })?);
-    assert!(rt; is_order(alloc, "trim a", Order::Trim { to: 1 })?);
-    assert!(rt; is_order(alloc, "trim outside", Order::Trim { to: 0 })?);
-    assert!(rt; is_order(alloc, "crash a", Order::Crash { process: 1 })?);
-    assert!(rt; is_order(alloc, "recover a", Order::Recover { process: 1 })?);
-    assert!(rt; is_order(alloc, "alone a", Order::RecoverAlone { process: 1 })?);
-    assert!(rt; is_order(alloc, "replay a", Order::ReplayBegin { process: 1 })?);
-    assert!(rt;
-        is_order(
-            alloc,
-            "resync b2 a",
-            Order::Resync {
-                process: 2,
-                peer: 1
-            }
-        )?
-    );
-    assert!(rt; is_order(alloc, "drive 10", Order::Drive { budget: 10 })?);
     Ok(())
 }
 
@@ -161,55 +147,74 @@ const FAULTY: [&str; 36] = [
 
 #[test]
 fn each_fault(rt: HostRuntime) -> Result<(), Fail> {
-    for line in FAULTY.as_slice() {
-        assert!(rt; is_faulty(rt.alloc(), line)?);
+    for (place, line) in FAULTY.iter().enumerate() {
+        assert!(rt; is_faulty(rt.alloc(), *line)?, "row {place}");
     }
     Ok(())
 }
 
+/// Whether a text has two processes, of which the second stands in line 3, and no order.
+fn is_of_two(alloc: Global, text: &str) -> Result<bool, Fail> {
+    let scenario = parse(alloc, text, Allowed::All)?;
+    let Some((name, process)) = scenario.processes.get_index(1) else {
+        return Ok(false);
+    };
+    Ok(
+        scenario.processes.len() == 2
+            && scenario.steps.is_empty()
+            && name.as_str() == "b"
+            && process.path.as_str() == "x/y"
+            && process.line == 3,
+    )
+}
+
 #[test]
 fn processes(rt: HostRuntime) -> Result<(), Fail> {
-    let alloc = rt.alloc();
-    let scenario = parse(
-        alloc,
-        "process abcdefghij123456 a.sbi\n# more\nprocess b x/y",
-        Allowed::All,
-    )?;
-    assert_eq!(rt; scenario.processes.len(), 2);
-    assert_eq!(rt; scenario.steps.len(), 0);
-    match scenario.processes.get_index(1) {
-        Some((name, process)) => {
-            assert!(rt; name.as_str() == "b" && process.path.as_str() == "x/y");
-            assert_eq!(rt; process.line, 3);
-        }
-        None => assert!(rt; false),
-    }
-    assert!(rt; is_refused(alloc, "", 0));
-    assert!(rt; is_refused(alloc, "# nothing\n", 0));
-    assert!(rt; is_refused(alloc, "drive 1\n", 0));
-    assert!(rt; is_refused(alloc, "process a adder.sbi\ndrive 07", 2));
-    assert!(rt; is_refused(alloc, "process abcdefghij1234567 a.sbi\n", 1));
-    assert!(rt; is_refused(alloc, "process A a.sbi\n", 1));
-    assert!(rt; is_refused(alloc, "process 1a a.sbi\n", 1));
-    assert!(rt; is_refused(alloc, "process a\n", 1));
-    assert!(rt; is_refused(alloc, "process a \n", 1));
-    assert!(rt; is_refused(alloc, "process outside a.sbi\n", 1));
-    assert!(rt; is_refused(alloc, "process a a.sbi\nprocess a b.sbi\n", 2));
-    assert!(rt; is_refused(alloc, "process a a.sbi\ndrive 1\nprocess b b.sbi\n", 3));
+    let text = "process abcdefghij123456 a.sbi\n# more\nprocess b x/y";
+    assert!(rt; is_of_two(rt.alloc(), text)?);
     Ok(())
+}
+
+/// Texts, and the line that each is refused at.
+const REFUSED: [(&str, usize); 12] = [
+    ("", 0),
+    ("# nothing\n", 0),
+    ("drive 1\n", 0),
+    ("process a adder.sbi\ndrive 07", 2),
+    ("process abcdefghij1234567 a.sbi\n", 1),
+    ("process A a.sbi\n", 1),
+    ("process 1a a.sbi\n", 1),
+    ("process a\n", 1),
+    ("process a \n", 1),
+    ("process outside a.sbi\n", 1),
+    ("process a a.sbi\nprocess a b.sbi\n", 2),
+    ("process a a.sbi\ndrive 1\nprocess b b.sbi\n", 3),
+];
+
+#[test]
+fn refused_texts(rt: HostRuntime) {
+    for (place, (text, line)) in REFUSED.iter().enumerate() {
+        assert!(rt; is_refused(rt.alloc(), *text, *line), "row {place}");
+    }
 }
 
 /// A name and a number each have a letter of their own.
 const FIFTEEN: &str =
     "process a p\nprocess b p\nprocess c p\nprocess d p\nprocess e p\nprocess f p\nprocess g p\nprocess h p\nprocess i p\nprocess j p\nprocess k p\nprocess l p\nprocess m p\nprocess n p\nprocess o p\n";
 
+/// How many processes and orders a text has.
+fn counts(alloc: Global, text: &str, allowed: Allowed) -> Result<(usize, usize), Fail> {
+    let scenario = parse(alloc, text, allowed)?;
+    Ok((scenario.processes.len(), scenario.steps.len()))
+}
+
 #[test]
 fn fifteen_processes(rt: HostRuntime) -> Result<(), Fail> {
     let alloc = rt.alloc();
-    let scenario = parse(alloc, FIFTEEN, Allowed::All)?;
-    assert_eq!(rt; scenario.processes.len(), 15);
     let more = format!(in alloc; "{FIFTEEN}process p p\n")?;
-    assert!(rt; is_refused(alloc, more.as_str(), 16));
+    assert!(rt;
+        counts(alloc, FIFTEEN, Allowed::All)? == (15, 0) && is_refused(alloc, more.as_str(), 16)
+    );
     Ok(())
 }
 
@@ -221,10 +226,10 @@ fn long_payloads(rt: HostRuntime) -> Result<(), Fail> {
         digits.push_str("a0")?;
     }
     let text = format!(in alloc; "process a p\nbytes a {digits}\n")?;
-    let scenario = parse(alloc, text.as_str(), Allowed::All)?;
-    assert_eq!(rt; scenario.steps.len(), 1);
     let more = format!(in alloc; "process a p\nbytes a {digits}a0\n")?;
-    assert!(rt; is_refused(alloc, more.as_str(), 2));
+    assert!(rt;
+        counts(alloc, text.as_str(), Allowed::All)? == (1, 1) && is_refused(alloc, more.as_str(), 2)
+    );
     Ok(())
 }
 
@@ -236,23 +241,27 @@ fn long_text(rt: HostRuntime) -> Result<(), Fail> {
         text.push_str("# sixteen bytes\n")?;
     }
     text.push_str("process a p\ninput a 5\n")?;
-    let scenario = parse(rt.alloc(), text.as_str(), Allowed::All)?;
-    assert_eq!(rt; scenario.steps.len(), 1);
+    assert!(rt; counts(rt.alloc(), text.as_str(), Allowed::All)? == (1, 1));
     Ok(())
+}
+
+/// Whether a text with other orders than inputs is refused at this line.
+fn is_refused_of_inputs(alloc: Global, text: &str, line: usize) -> bool {
+    match parse(alloc, text, Allowed::Inputs) {
+        Ok(_) => false,
+        Err(error) => error == ScenarioError::Line(line),
+    }
 }
 
 #[test]
 fn inputs_alone(rt: HostRuntime) -> Result<(), Fail> {
     let alloc = rt.alloc();
     let text = "process a adder.sbi\ninput a 5\nbytes a 05\n";
-    assert_eq!(rt; parse(alloc, text, Allowed::Inputs)?.steps.len(), 2);
     let crash = "process a adder.sbi\ninput a 5\ncrash a\ndrive x\n";
-    let bare = "drive 1\n";
-    for (text, line) in [(crash, 3), (bare, 1)] {
-        match parse(alloc, text, Allowed::Inputs) {
-            Ok(_) => assert!(rt; false, "taken: {text}"),
-            Err(error) => assert_eq!(rt; error, ScenarioError::Line(line)),
-        }
-    }
+    assert!(rt;
+        counts(alloc, text, Allowed::Inputs)? == (1, 2)
+            && is_refused_of_inputs(alloc, crash, 3)
+            && is_refused_of_inputs(alloc, "drive 1\n", 1)
+    );
     Ok(())
 }

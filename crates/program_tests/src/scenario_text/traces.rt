@@ -2,38 +2,75 @@
 
 use helpers::Payload;
 use scenario::trace_text;
-use std::alloc::Global;
+use std::alloc::{AllocError, Global};
 use std::test::Fail;
 use world::{Answer, Call, Entry};
 
-/// Whether the trace of the entries is this text.
-fn is_trace(alloc: Global, entries: &[Entry], text: &str) -> bool {
-    match trace_text(alloc, entries) {
-        Ok(trace) => trace.as_str() == text,
-        Err(_) => false,
+/// A call of a trace. A table can borrow it, as it has no payload.
+#[derive(Clone, Copy)]
+enum Made {
+    /// The outside hands in the word 5 for process 1, under this feed number.
+    Input(u32),
+    /// The outside sends its first message to process 1.
+    Transmit,
+    Copy(usize),
+    Arrive(usize),
+    Finish(u8),
+    Crash(u8),
+    Recover(u8),
+    Alone(u8),
+    Replay(u8),
+    Resync(u8, u8),
+}
+
+fn call_of(made: Made) -> Call {
+    match made {
+        Made::Input(feed) => Call::Input {
+            to: 1,
+            feed,
+            payload: Payload::from_slice(&[5, 0, 0, 0, 0, 0, 0, 0]),
+        },
+        Made::Transmit => Call::Transmit {
+            from: 0,
+            to: 1,
+            ssn: 1,
+        },
+        Made::Copy(key) => Call::Copy { key },
+        Made::Arrive(key) => Call::Arrive { key },
+        Made::Finish(process) => Call::Finish { process },
+        Made::Crash(process) => Call::Crash { process },
+        Made::Recover(process) => Call::Recover { process },
+        Made::Alone(process) => Call::RecoverAlone { process },
+        Made::Replay(process) => Call::ReplayBegin { process },
+        Made::Resync(process, peer) => Call::Resync { process, peer },
     }
 }
 
-/// An entry of no worker.
-fn by_nobody(call: Call, answer: Answer) -> Entry {
-    Entry {
-        worker: 0,
-        call,
-        answer,
+/// The entries of these calls and answers, of no worker.
+fn entries(alloc: Global, rows: &[(Made, Answer)]) -> Result<Vec<Entry>, AllocError> {
+    let mut entries = Vec::new(alloc);
+    for (made, answer) in rows {
+        let call = call_of(*made);
+        entries.push(Entry {
+            worker: 0,
+            call,
+            answer: *answer,
+        })?;
     }
+    Ok(entries)
 }
 
-/// One input of the outside to process 1.
-fn input(feed: u32) -> Call {
-    Call::Input {
-        to: 1,
-        feed,
-        payload: Payload::from_slice(&[5, 0, 0, 0, 0, 0, 0, 0]),
-    }
+/// Whether the trace of these calls and answers is this text.
+fn is_trace(alloc: Global, rows: &[(Made, Answer)], text: &str) -> Result<bool, Fail> {
+    let entries = entries(alloc, rows)?;
+    Ok(trace_text(alloc, entries.as_slice())?.as_str() == text)
 }
 
-fn arrive(key: usize) -> Call {
-    Call::Arrive { key }
+/// Whether an entry alone is the line of these words.
+fn is_line(alloc: Global, entry: Entry, call: &str, answer: &str) -> Result<bool, Fail> {
+    let worker = entry.worker;
+    let line = format!(in alloc; "000001 w{worker} {call} -> {answer}\n")?;
+    Ok(trace_text(alloc, &[entry])?.as_str() == line.as_str())
 }
 
 /// Each call with its text, but `input` and `resync`, which have more to say.
@@ -102,126 +139,120 @@ const ANSWERS: [(Answer, &str); 19] = [
 
 #[test]
 fn each_call(rt: HostRuntime) -> Result<(), Fail> {
-    for &(call, words) in CALLS.as_slice() {
+    for (place, (call, words)) in CALLS.iter().enumerate() {
         let entry = Entry {
             worker: 16,
-            call,
+            call: *call,
             answer: Answer::Lost,
         };
-        let text = format!(in rt.alloc(); "000001 w16 {words} -> lost\n")?;
-        assert!(rt; is_trace(rt.alloc(), &[entry], text.as_str()));
+        assert!(rt; is_line(rt.alloc(), entry, *words, "lost")?, "row {place}");
     }
-    let fed = by_nobody(input(4294967295), Answer::Logged(1));
-    assert!(rt;
-        is_trace(
-            rt.alloc(),
-            &[fed],
-            "000001 w0 input 1 4294967295 -> logged 1\n"
-        )
-    );
     Ok(())
 }
 
 #[test]
 fn each_answer(rt: HostRuntime) -> Result<(), Fail> {
-    for &(answer, words) in ANSWERS.as_slice() {
-        let entry = by_nobody(arrive(0), answer);
-        let text = format!(in rt.alloc(); "000001 w0 arrive 0 -> {words}\n")?;
-        assert!(rt; is_trace(rt.alloc(), &[entry], text.as_str()));
+    for (place, (answer, words)) in ANSWERS.iter().enumerate() {
+        let entry = Entry {
+            worker: 0,
+            call: Call::Arrive { key: 0 },
+            answer: *answer,
+        };
+        assert!(rt;
+            is_line(rt.alloc(), entry, "arrive 0", *words)?,
+            "row {place}"
+        );
     }
     Ok(())
 }
 
-/// A message of the outside to a process, from its input until its number is acknowledged.
+/// Rows, and the text of their trace.
+const TRACES: [(&[(Made, Answer)], &str); 5] = [
+    (&[], ""),
+    (
+        &[(Made::Input(4294967295), Answer::Logged(1))],
+        "000001 w0 input 1 4294967295 -> logged 1\n",
+    ),
+    // A message of the outside to a process, from its input until its number is acknowledged.
+    (
+        &[
+            (Made::Input(1), Answer::Logged(1)),
+            (Made::Transmit, Answer::Placed(0)),
+            (Made::Arrive(0), Answer::Started(1)),
+            (Made::Finish(1), Answer::Committed { rsn: 1, key: 0 }),
+            (Made::Arrive(0), Answer::Numbered(0)),
+            (Made::Arrive(0), Answer::Acknowledged),
+        ],
+        "000001 w0 input 1 1 -> logged 1\n000002 w0 transmit 0 1 1 -> packet 0\n000003 w0 arrive 0 -> started 1\n000004 w0 finish 1 -> committed 1 0\n000005 w0 arrive 0 -> numbered 0\n000006 w0 arrive 0 -> acknowledged\n",
+    ),
+    // A number packet of an incarnation that has ended arrives after the recovery.
+    (
+        &[
+            (Made::Input(1), Answer::Logged(1)),
+            (Made::Transmit, Answer::Placed(0)),
+            (Made::Arrive(0), Answer::Started(1)),
+            (Made::Finish(1), Answer::Committed { rsn: 1, key: 0 }),
+            (Made::Copy(0), Answer::Placed(1)),
+            (Made::Arrive(0), Answer::Numbered(0)),
+            (Made::Arrive(0), Answer::Acknowledged),
+            (Made::Crash(1), Answer::Crashed(2)),
+            (Made::Recover(1), Answer::Kept(1)),
+            (Made::Replay(1), Answer::Started(2)),
+            (Made::Finish(1), Answer::Replayed(1)),
+            (Made::Arrive(1), Answer::Stale),
+        ],
+        "000001 w0 input 1 1 -> logged 1
+000002 w0 transmit 0 1 1 -> packet 0
+000003 w0 arrive 0 -> started 1
+000004 w0 finish 1 -> committed 1 0
+000005 w0 copy 0 -> packet 1
+000006 w0 arrive 0 -> numbered 0
+000007 w0 arrive 0 -> acknowledged
+000008 w0 crash 1 -> crashed 2
+000009 w0 recover 1 -> kept 1
+000010 w0 replay 1 -> started 2
+000011 w0 finish 1 -> replayed 1
+000012 w0 arrive 1 -> stale
+",
+    ),
+    // Two processes crash, and come back alone.
+    (
+        &[
+            (Made::Crash(1), Answer::Crashed(2)),
+            (Made::Crash(2), Answer::Crashed(2)),
+            (Made::Alone(1), Answer::Kept(0)),
+            (Made::Alone(2), Answer::Kept(0)),
+            (Made::Resync(2, 1), Answer::Restored(0)),
+        ],
+        "000001 w0 crash 1 -> crashed 2\n000002 w0 crash 2 -> crashed 2\n000003 w0 alone 1 -> kept 0\n000004 w0 alone 2 -> kept 0\n000005 w0 resync 2 1 -> restored 0\n",
+    ),
+];
+
 #[test]
-fn one_message(rt: HostRuntime) -> Result<(), Fail> {
-    let transmit = Call::Transmit {
-        from: 0,
-        to: 1,
-        ssn: 1,
-    };
-    let committed = Answer::Committed { rsn: 1, key: 0 };
-    let entries = [
-        by_nobody(input(1), Answer::Logged(1)),
-        by_nobody(transmit, Answer::Placed(0)),
-        by_nobody(arrive(0), Answer::Started(1)),
-        by_nobody(Call::Finish { process: 1 }, committed),
-        by_nobody(arrive(0), Answer::Numbered(0)),
-        by_nobody(arrive(0), Answer::Acknowledged),
-    ];
-    let text =
-        "000001 w0 input 1 1 -> logged 1\n000002 w0 transmit 0 1 1 -> packet 0\n000003 w0 arrive 0 -> started 1\n000004 w0 finish 1 -> committed 1 0\n000005 w0 arrive 0 -> numbered 0\n000006 w0 arrive 0 -> acknowledged\n";
-    assert!(rt; is_trace(rt.alloc(), &entries, text));
-    assert!(rt; is_trace(rt.alloc(), &[], ""));
+fn whole_traces(rt: HostRuntime) -> Result<(), Fail> {
+    for (place, (rows, text)) in TRACES.iter().enumerate() {
+        assert!(rt; is_trace(rt.alloc(), *rows, *text)?, "row {place}");
+    }
     Ok(())
 }
 
-/// A number packet of an incarnation that has ended arrives after the recovery.
-#[test]
-fn old_number(rt: HostRuntime) -> Result<(), Fail> {
-    let transmit = Call::Transmit {
-        from: 0,
-        to: 1,
-        ssn: 1,
-    };
-    let committed = Answer::Committed { rsn: 1, key: 0 };
-    let entries = [
-        by_nobody(input(1), Answer::Logged(1)),
-        by_nobody(transmit, Answer::Placed(0)),
-        by_nobody(arrive(0), Answer::Started(1)),
-        by_nobody(Call::Finish { process: 1 }, committed),
-        by_nobody(Call::Copy { key: 0 }, Answer::Placed(1)),
-        by_nobody(arrive(0), Answer::Numbered(0)),
-        by_nobody(arrive(0), Answer::Acknowledged),
-        by_nobody(Call::Crash { process: 1 }, Answer::Crashed(2)),
-        by_nobody(Call::Recover { process: 1 }, Answer::Kept(1)),
-        by_nobody(Call::ReplayBegin { process: 1 }, Answer::Started(2)),
-        by_nobody(Call::Finish { process: 1 }, Answer::Replayed(1)),
-        by_nobody(arrive(1), Answer::Stale),
-    ];
-    let before =
-        "000001 w0 input 1 1 -> logged 1\n000002 w0 transmit 0 1 1 -> packet 0\n000003 w0 arrive 0 -> started 1\n000004 w0 finish 1 -> committed 1 0\n000005 w0 copy 0 -> packet 1\n000006 w0 arrive 0 -> numbered 0\n000007 w0 arrive 0 -> acknowledged\n";
-    let after =
-        "000008 w0 crash 1 -> crashed 2\n000009 w0 recover 1 -> kept 1\n000010 w0 replay 1 -> started 2\n000011 w0 finish 1 -> replayed 1\n000012 w0 arrive 1 -> stale\n";
-    let text = format!(in rt.alloc(); "{before}{after}")?;
-    assert!(rt; is_trace(rt.alloc(), &entries, text.as_str()));
-    Ok(())
-}
-
-/// Two processes crash, and come back alone.
-#[test]
-fn two_crashes(rt: HostRuntime) -> Result<(), Fail> {
-    let resync = Call::Resync {
-        process: 2,
-        peer: 1,
-    };
-    let entries = [
-        by_nobody(Call::Crash { process: 1 }, Answer::Crashed(2)),
-        by_nobody(Call::Crash { process: 2 }, Answer::Crashed(2)),
-        by_nobody(Call::RecoverAlone { process: 1 }, Answer::Kept(0)),
-        by_nobody(Call::RecoverAlone { process: 2 }, Answer::Kept(0)),
-        by_nobody(resync, Answer::Restored(0)),
-    ];
-    let text =
-        "000001 w0 crash 1 -> crashed 2\n000002 w0 crash 2 -> crashed 2\n000003 w0 alone 1 -> kept 0\n000004 w0 alone 2 -> kept 0\n000005 w0 resync 2 1 -> restored 0\n";
-    assert!(rt; is_trace(rt.alloc(), &entries, text));
-    Ok(())
-}
+/// What a trace of 65,536 lines of 28 bytes begins and ends with.
+const LONG: [&str; 2] = [
+    "000001 w0 arrive 1 -> stale\n000002 w0",
+    "\n065535 w0 arrive 1 -> stale\n065536 w0 arrive 1 -> stale\n",
+];
 
 /// The places of a long journal have six digits too.
 #[test]
 fn places_have_six_digits(rt: HostRuntime) -> Result<(), Fail> {
-    let stale = by_nobody(arrive(1), Answer::Stale);
+    let stale = Entry {
+        worker: 0,
+        call: Call::Arrive { key: 1 },
+        answer: Answer::Stale,
+    };
     let entries = vec![in rt.alloc(); stale; 65536]?;
     let trace = trace_text(rt.alloc(), entries.as_slice())?;
-    assert!(rt;
-        trace
-            .as_str()
-            .starts_with("000001 w0 arrive 1 -> stale\n000002 w0")
-    );
-    assert!(rt;
-        trace.as_str().ends_with("\n065535 w0 arrive 1 -> stale\n065536 w0 arrive 1 -> stale\n")
-    );
-    assert_eq!(rt; trace.len(), 65536 * 28);
+    let text = trace.as_str();
+    assert!(rt; text.starts_with(LONG[0]) && text.ends_with(LONG[1]) && text.len() == 65536 * 28);
     Ok(())
 }
