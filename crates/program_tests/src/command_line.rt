@@ -1,5 +1,6 @@
 //! Command lines, what they ask for, and what is told of those that ask for nothing.
 
+use crate::rows::holds;
 use cli::{Refusal, Request, Usage, parse_words};
 use images::FileForm;
 use std::alloc::Global;
@@ -91,7 +92,7 @@ fn is_request(alloc: Global, line: &str, want: &Request<'_>) -> Result<bool, Fai
 #[test]
 fn requests(rt: HostRuntime) -> Result<(), Fail> {
     for (place, (line, want)) in REQUESTS.iter().enumerate() {
-        assert!(rt; is_request(rt.alloc(), *line, want)?, "row {place}");
+        holds(&rt, place, is_request(rt.alloc(), *line, want)?);
     }
     Ok(())
 }
@@ -159,7 +160,7 @@ const USAGE: [(&str, &str); 38] = [
 #[test]
 fn usage_texts(rt: HostRuntime) -> Result<(), Fail> {
     for (place, (line, part)) in USAGE.iter().enumerate() {
-        assert!(rt; is_told(rt.alloc(), *line, *part)?, "row {place}");
+        holds(&rt, place, is_told(rt.alloc(), *line, *part)?);
     }
     Ok(())
 }

@@ -2,6 +2,7 @@ ghost use Rattle.std.specs.Prelude.{◌≤◌};
 
 mod samples;
 
+use crate::rows::holds;
 use assemble::assemble;
 use explain::explain;
 use limits::STATE_BYTES;
@@ -271,7 +272,7 @@ fn is_listed(alloc: Global, case: &(ImageForm, u16, &str, &str)) -> Result<bool,
 #[test]
 fn listings(rt: HostRuntime) -> Result<(), Fail> {
     for (place, case) in CASES.iter().enumerate() {
-        assert!(rt; is_listed(rt.alloc(), case)?, "case {place}");
+        holds(&rt, place, is_listed(rt.alloc(), case)?);
     }
     Ok(())
 }

@@ -2,6 +2,7 @@
 
 ghost use Rattle.std.specs.Prelude.{◌≤◌};
 
+use crate::rows::holds;
 use assemble::assemble;
 use images::{FileForm, file};
 use limits::STATE_BYTES;
@@ -384,7 +385,7 @@ fn is_listed(alloc: Global, case: &(u16, &str, &str)) -> Result<bool, Fail> {
 #[test]
 fn listings_of_form_3(rt: HostRuntime) -> Result<(), Fail> {
     for (place, case) in CASES.iter().enumerate() {
-        assert!(rt; is_listed(rt.alloc(), case)?, "case {place}");
+        holds(&rt, place, is_listed(rt.alloc(), case)?);
     }
     Ok(())
 }

@@ -16,6 +16,8 @@ mod explaining_spans;
 #[cfg(test)]
 mod greatest;
 #[cfg(test)]
+mod rows;
+#[cfg(test)]
 mod running;
 #[cfg(test)]
 mod scenario_text;

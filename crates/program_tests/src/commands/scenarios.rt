@@ -2,6 +2,7 @@
 
 use super::ADDER;
 use super::scenes::{Bytes, Line, Named, Scene, Seen, play, plays};
+use crate::rows::holds;
 use std::process::Abort;
 use std::sync::Wait;
 use std::test::Fail;
@@ -30,7 +31,7 @@ fn play_rows<R: Threads + Wait + Sync + Abort + AllocGlobal>(
     for (place, (line, scenario, status, shown)) in rows.iter().enumerate() {
         let named = [("s", Bytes::Are(*scenario))];
         let lines: [Line; 1] = [(*line, *status, Seen::Text(*shown), LEFT)];
-        assert!(rt; plays(rt, &FILES, &named, &lines)?, "row {place}");
+        holds(rt, place, plays(rt, &FILES, &named, &lines)?);
     }
     Ok(())
 }

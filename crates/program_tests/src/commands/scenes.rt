@@ -2,6 +2,7 @@
 
 use super::folder::Folder;
 use super::{Ended, carried};
+use crate::rows::holds;
 use std::alloc::{AllocError, Global};
 use std::process::Abort;
 use std::str;
@@ -183,7 +184,7 @@ pub(crate) fn play<R: Threads + Wait + Sync + Abort + AllocGlobal>(
     scenes: &[Scene],
 ) -> Result<(), Fail> {
     for (place, (named, lines)) in scenes.iter().enumerate() {
-        assert!(rt; plays(rt, *named, &[], *lines)?, "scene {place}");
+        holds(rt, place, plays(rt, *named, &[], *lines)?);
     }
     Ok(())
 }

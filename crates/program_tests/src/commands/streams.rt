@@ -2,6 +2,7 @@
 
 use super::ADDER;
 use super::folder::Folder;
+use crate::rows::holds;
 use std::alloc::Global;
 use std::io;
 use std::io::Write;
@@ -92,10 +93,7 @@ fn status<R: Threads + Wait + Sync + AllocGlobal>(
 #[test]
 fn short_and_failing_streams(rt: HostRuntime) -> Result<(), Fail> {
     for (place, (line, room, want, shown)) in CASES.iter().enumerate() {
-        assert!(rt;
-            status(&rt, line, *room, *shown)? == Some(*want),
-            "row {place}"
-        );
+        holds(&rt, place, status(&rt, line, *room, *shown)? == Some(*want));
     }
     Ok(())
 }

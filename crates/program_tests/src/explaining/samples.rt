@@ -1,5 +1,6 @@
 //! The images of `examples/c`, as `clang` made them, and how many instructions `llvm-objdump` lists of each.
 
+use crate::rows::holds;
 use explain::explain;
 use std::test::Fail;
 
@@ -96,7 +97,7 @@ static HANDLERS: [(&[u8], &str); 4] = [
 fn handlers_in_c(rt: HostRuntime) -> Result<(), Fail> {
     for (place, (image, verdict)) in HANDLERS.iter().enumerate() {
         let text = explain(rt.alloc(), *image)?;
-        assert!(rt; text.as_str().ends_with(*verdict), "image {place}");
+        holds(&rt, place, text.as_str().ends_with(*verdict));
     }
     Ok(())
 }

@@ -1,6 +1,7 @@
 //! Scenarios, and what their runs write.
 
 use super::adders;
+use crate::rows::holds;
 use runner::{journal_of, run};
 use scenario::{Allowed, Scenario, parse, trace_text};
 use std::alloc::Global;
@@ -183,7 +184,7 @@ const CASES: [[&str; 2]; 5] = [CRASH, REFUSED, REPLACED, HELD, LOST];
 #[test]
 fn runs(rt: HostRuntime) -> Result<(), Fail> {
     for (place, case) in CASES.iter().enumerate() {
-        assert!(rt; writes(rt.alloc(), case)?, "case {place}");
+        holds(&rt, place, writes(rt.alloc(), case)?);
     }
     Ok(())
 }

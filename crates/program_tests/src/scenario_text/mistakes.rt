@@ -1,5 +1,6 @@
 //! What is said of faulty lines.
 
+use crate::rows::holds;
 use scenario::{Allowed, ScenarioError, mistake_of, parse};
 use std::alloc::Global;
 use std::test::Fail;
@@ -154,10 +155,7 @@ const TEXTS: [(&str, Allowed, &str); 3] = [
 #[test]
 fn whole_texts(rt: HostRuntime) -> Result<(), Fail> {
     for (place, (text, allowed, words)) in TEXTS.iter().enumerate() {
-        assert!(rt;
-            is_told(rt.alloc(), *text, *allowed, *words)?,
-            "row {place}"
-        );
+        holds(&rt, place, is_told(rt.alloc(), *text, *allowed, *words)?);
     }
     Ok(())
 }

@@ -1,5 +1,6 @@
 //! Texts of scenarios, and their faults.
 
+use crate::rows::holds;
 use helpers::Payload;
 use scenario::{Allowed, Order, ScenarioError, parse};
 use std::alloc::Global;
@@ -84,7 +85,7 @@ const ORDERS: [(&str, Order); 17] = [
 #[test]
 fn each_order(rt: HostRuntime) -> Result<(), Fail> {
     for (place, (line, order)) in ORDERS.iter().enumerate() {
-        assert!(rt; is_order(rt.alloc(), *line, order)?, "row {place}");
+        holds(&rt, place, is_order(rt.alloc(), *line, order)?);
     }
     Ok(())
 }
@@ -148,7 +149,7 @@ const FAULTY: [&str; 36] = [
 #[test]
 fn each_fault(rt: HostRuntime) -> Result<(), Fail> {
     for (place, line) in FAULTY.iter().enumerate() {
-        assert!(rt; is_faulty(rt.alloc(), *line)?, "row {place}");
+        holds(&rt, place, is_faulty(rt.alloc(), *line)?);
     }
     Ok(())
 }
@@ -194,7 +195,7 @@ const REFUSED: [(&str, usize); 12] = [
 #[test]
 fn refused_texts(rt: HostRuntime) {
     for (place, (text, line)) in REFUSED.iter().enumerate() {
-        assert!(rt; is_refused(rt.alloc(), *text, *line), "row {place}");
+        holds(&rt, place, is_refused(rt.alloc(), *text, *line));
     }
 }
 

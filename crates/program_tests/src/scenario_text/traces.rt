@@ -1,5 +1,6 @@
 //! Traces that were worked out by hand.
 
+use crate::rows::holds;
 use helpers::Payload;
 use scenario::trace_text;
 use std::alloc::{AllocError, Global};
@@ -145,7 +146,7 @@ fn each_call(rt: HostRuntime) -> Result<(), Fail> {
             call: *call,
             answer: Answer::Lost,
         };
-        assert!(rt; is_line(rt.alloc(), entry, *words, "lost")?, "row {place}");
+        holds(&rt, place, is_line(rt.alloc(), entry, *words, "lost")?);
     }
     Ok(())
 }
@@ -158,10 +159,7 @@ fn each_answer(rt: HostRuntime) -> Result<(), Fail> {
             call: Call::Arrive { key: 0 },
             answer: *answer,
         };
-        assert!(rt;
-            is_line(rt.alloc(), entry, "arrive 0", *words)?,
-            "row {place}"
-        );
+        holds(&rt, place, is_line(rt.alloc(), entry, "arrive 0", *words)?);
     }
     Ok(())
 }
@@ -231,7 +229,7 @@ const TRACES: [(&[(Made, Answer)], &str); 5] = [
 #[test]
 fn whole_traces(rt: HostRuntime) -> Result<(), Fail> {
     for (place, (rows, text)) in TRACES.iter().enumerate() {
-        assert!(rt; is_trace(rt.alloc(), *rows, *text)?, "row {place}");
+        holds(&rt, place, is_trace(rt.alloc(), *rows, *text)?);
     }
     Ok(())
 }
