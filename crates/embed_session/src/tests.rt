@@ -8,7 +8,6 @@ use crate::entry::Record;
 use crate::exports::*;
 use crate::handle::SessionHandle;
 use std::alloc::Global;
-use std::test::Fail;
 
 /// Adds the first word of a message to the first word of its state.
 const ADDER: [u8; 56] = [
@@ -167,25 +166,31 @@ fn front(out: &mut [u8; 64], room: usize) -> &mut [u8] {
     &mut out[..room]
 }
 
-/// The place of the first call of a list, from 0, whose answer is another one.
-fn first_wrong(alloc: Global, calls: &[(Act, u32, usize)]) -> Option<usize> {
+/// Whether each call of a list is answered as its row says.
+fn hold(alloc: Global, calls: &[(Act, u32, usize)]) -> bool {
     let mut handle = SessionHandle::closed(alloc);
-    first_wrong_of(alloc, &mut handle, calls)
+    hold_through(alloc, &mut handle, calls)
 }
 
 /// The same of a list of calls through this handle.
-fn first_wrong_of(
+fn hold_through(alloc: Global, handle: &mut SessionHandle, calls: &[(Act, u32, usize)]) -> bool {
+    let mut out = [0; 64];
+    hold_into(alloc, handle, calls, &mut out)
+}
+
+/// The same with this buffer.
+fn hold_into(
     alloc: Global,
     handle: &mut SessionHandle,
     calls: &[(Act, u32, usize)],
-) -> Option<usize> {
-    let mut out = [0; 64];
-    for (place, (act, code, number)) in calls.iter().enumerate() {
-        if answer(alloc, handle, *act, &mut out) != (*code, *number) {
-            return Some(place);
+    out: &mut [u8; 64],
+) -> bool {
+    for (act, code, number) in calls {
+        if answer(alloc, handle, *act, out) != (*code, *number) {
+            return false;
         }
     }
-    None
+    true
 }
 
 /// An adder: a message, a crash, a checkpoint. The trace has a line of 32 bytes, of `input`, before
@@ -391,35 +396,34 @@ const CLOSED: &[(Act, u32, usize)] = &[
 ];
 
 #[test]
-fn codes_and_numbers(rt: HostRuntime) -> Result<(), Fail> {
+fn codes_and_numbers(rt: HostRuntime) {
     let alloc = rt.alloc();
-    assert_eq!(rt; first_wrong(alloc, ADDING), None);
-    assert_eq!(rt; first_wrong(alloc, RELAYING), None);
-    assert_eq!(rt; first_wrong(alloc, STUCK), None);
-    assert_eq!(rt; first_wrong(alloc, SCHEDULED), None);
-    assert_eq!(rt; first_wrong(alloc, ENDING), None);
-    assert_eq!(rt; first_wrong(alloc, CLOSED), None);
-    Ok(())
+    assert!(rt; hold(alloc, ADDING));
+    assert!(rt; hold(alloc, RELAYING));
+    assert!(rt; hold(alloc, STUCK));
+    assert!(rt; hold(alloc, SCHEDULED));
+    assert!(rt; hold(alloc, ENDING));
+    assert!(rt; hold(alloc, CLOSED));
 }
 
+/// A message whose line of the trace is read, and then its output.
+const TRACED: &[(Act, u32, usize)] = &[
+    (Act::Open(&RELAY_AND_ECHO, &[40, 24]), 0, 99),
+    (Act::Input(1, 1, 1), 0, 1),
+    (Act::Trace(64), 0, 32),
+];
+
+const SHOWN: &[(Act, u32, usize)] = &[(Act::Drive(100), 0, 12), (Act::Shown(0, 64), 0, 64)];
+
 #[test]
-fn bytes(rt: HostRuntime) -> Result<(), Fail> {
+fn bytes(rt: HostRuntime) {
     let alloc = rt.alloc();
     let mut handle = SessionHandle::closed(alloc);
     let mut out = [0; 64];
-    for act in [
-        Act::Open(&RELAY_AND_ECHO, &[40, 24]),
-        Act::Input(1, 1, 1),
-        Act::Trace(64),
-    ] {
-        assert_eq!(rt; answer(alloc, &mut handle, act, &mut out).0, 0);
-    }
+    assert!(rt; hold_into(alloc, &mut handle, TRACED, &mut out));
     assert!(rt; out.starts_with(b"000001 w0 input 1 1 -> logged 1\n"));
-    for act in [Act::Drive(100), Act::Shown(0, 64)] {
-        assert_eq!(rt; answer(alloc, &mut handle, act, &mut out).0, 0);
-    }
-    assert_eq!(rt; (out[0], out[1], out[63]), (7, 0, 0));
-    Ok(())
+    assert!(rt; hold_into(alloc, &mut handle, SHOWN, &mut out));
+    assert!(rt; out[0] == 7 && out[1] == 0 && out[63] == 0);
 }
 
 /// Whether a record is one of nobody's with these numbers of call and answer.
@@ -432,28 +436,32 @@ fn has_numbers(record: &Record, call: &[u64], answer: &[u64]) -> bool {
     record.worker == 0 && call_numbers.as_slice() == call && answer_numbers.as_slice() == answer
 }
 
+/// Whether these are the entries of an input of two bytes 7, and of what became of it.
+fn are_first(records: &[Record; 4]) -> bool {
+    let [input, transmit, _, finish] = records;
+    has_numbers(input, &[1, 9, 0], &[1, 0])
+        && has_numbers(transmit, &[0, 1, 1], &[0, 0])
+        && has_numbers(finish, &[1, 0, 0], &[1, 0])
+        && input.payload_len == 2
+        && input.payload[1] == 7
+        && input.payload[2] == 0
+        && input.payload[255] == 0
+        && transmit.payload_len == 0
+        && transmit.payload[0] == 0
+}
+
+const RECEIVED: &[(Act, u32, usize)] = &[
+    (Act::Open(&ADDER, &[56]), 0, 99),
+    (Act::Input(1, 9, 2), 0, 1),
+    (Act::Drive(100), 0, 5),
+];
+
 #[test]
-fn records(rt: HostRuntime) -> Result<(), Fail> {
+fn records(rt: HostRuntime) {
     let alloc = rt.alloc();
     let mut handle = SessionHandle::closed(alloc);
-    let mut out = [0; 64];
-    for act in [
-        Act::Open(&ADDER, &[56]),
-        Act::Input(1, 9, 2),
-        Act::Drive(100),
-    ] {
-        assert_eq!(rt; answer(alloc, &mut handle, act, &mut out).0, 0);
-    }
+    assert!(rt; hold_through(alloc, &mut handle, RECEIVED));
     let (mut records, mut count) = ([BLANK; 4], 0);
     let code = sblog_session_entries(alloc, &mut handle, 0, &mut records, &mut count);
-    assert_eq!(rt; (code, count), (0, 4));
-    assert!(rt; has_numbers(&records[0], &[1, 9, 0], &[1, 0]));
-    assert!(rt; has_numbers(&records[1], &[0, 1, 1], &[0, 0]));
-    assert!(rt; has_numbers(&records[3], &[1, 0, 0], &[1, 0]));
-    let input = &records[0];
-    assert_eq!(rt; (input.payload_len, input.payload[1]), (2, 7));
-    assert_eq!(rt; (input.payload[2], input.payload[255]), (0, 0));
-    let transmit = &records[1];
-    assert_eq!(rt; (transmit.payload_len, transmit.payload[0]), (0, 0));
-    Ok(())
+    assert!(rt; code == 0 && count == 4 && are_first(&records));
 }

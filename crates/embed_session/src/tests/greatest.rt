@@ -1,6 +1,6 @@
 //! Handles at the limits of docs/FORMATS.md.
 
-use super::{ADDER, Act, answer, first_wrong_of};
+use super::{ADDER, Act, answer, hold_through};
 use crate::exports::*;
 use crate::handle::SessionHandle;
 use std::alloc::{AllocError, Global};
@@ -38,8 +38,7 @@ fn fifteen_processes_of_1_024_slots(rt: HostRuntime) -> Result<(), Fail> {
     let files = fifteen_files(alloc)?;
     let mut handle = SessionHandle::closed(alloc);
     let code = sblog_session_open(alloc, &files, &[8_200; 15], &mut handle);
-    assert_eq!(rt; code, 0);
-    assert_eq!(rt; first_wrong_of(alloc, &mut handle, LAST), None);
+    assert!(rt; code == 0 && hold_through(alloc, &mut handle, LAST));
     Ok(())
 }
 
@@ -56,19 +55,26 @@ const MANY: &[(Act, u32, usize)] = &[
     (Act::Journal, 0, 64_004),
 ];
 
+/// So many messages are logged under the feed numbers from 1.
+fn are_logged(alloc: Global, handle: &mut SessionHandle, count: u32) -> bool {
+    let mut out = [0; 64];
+    for feed in 1..=count {
+        if answer(alloc, handle, Act::Input(1, feed, 8), &mut out) != (0, feed as usize) {
+            return false;
+        }
+    }
+    true
+}
+
+const OPENED: &[(Act, u32, usize)] = &[(Act::Open(&ADDER, &[56]), 0, 99)];
+
 #[test]
-fn eight_thousand_messages(rt: HostRuntime) -> Result<(), Fail> {
+fn eight_thousand_messages(rt: HostRuntime) {
     let alloc = rt.alloc();
     let mut handle = SessionHandle::closed(alloc);
-    let mut out = [0; 64];
-    let opened = answer(alloc, &mut handle, Act::Open(&ADDER, &[56]), &mut out);
-    assert_eq!(rt; opened, (0, 99));
-    for feed in 1..=8_000u32 {
-        let logged = answer(alloc, &mut handle, Act::Input(1, feed, 8), &mut out);
-        assert_eq!(rt; logged, (0, feed as usize));
-    }
-    assert_eq!(rt; first_wrong_of(alloc, &mut handle, MANY), None);
-    Ok(())
+    assert!(rt; hold_through(alloc, &mut handle, OPENED));
+    assert!(rt; are_logged(alloc, &mut handle, 8_000));
+    assert!(rt; hold_through(alloc, &mut handle, MANY));
 }
 
 /// A packet, and as many copies as the wire takes.
@@ -85,18 +91,24 @@ const FULL: &[(Act, u32, usize)] = &[
     (Act::Transmit(0, 1, 1), 0, 4_095),
 ];
 
+/// A packet is copied to each key from 1 on, up to this one.
+fn are_copied(alloc: Global, handle: &mut SessionHandle, last: usize) -> bool {
+    let mut out = [0; 64];
+    for key in 1..=last {
+        if answer(alloc, handle, Act::Copy(0), &mut out) != (0, key) {
+            return false;
+        }
+    }
+    true
+}
+
 #[test]
-fn a_full_wire(rt: HostRuntime) -> Result<(), Fail> {
+fn a_full_wire(rt: HostRuntime) {
     let alloc = rt.alloc();
     let mut handle = SessionHandle::closed(alloc);
-    let mut out = [0; 64];
-    assert_eq!(rt; first_wrong_of(alloc, &mut handle, FIRST), None);
-    for key in 1..4_096 {
-        let copied = answer(alloc, &mut handle, Act::Copy(0), &mut out);
-        assert_eq!(rt; copied, (0, key));
-    }
-    assert_eq!(rt; first_wrong_of(alloc, &mut handle, FULL), None);
-    Ok(())
+    assert!(rt; hold_through(alloc, &mut handle, FIRST));
+    assert!(rt; are_copied(alloc, &mut handle, 4_095));
+    assert!(rt; hold_through(alloc, &mut handle, FULL));
 }
 
 /// How many entries a journal has at most, and how many bytes the trace has of each of these.
@@ -104,24 +116,32 @@ const ENTRIES: usize = 65_536;
 
 const LINE: usize = 30;
 
+/// The lines of a full journal of trims for the outside.
+fn lines(alloc: Global) -> Result<String, Fail> {
+    let mut lines = String::new(alloc);
+    for place in 1..=ENTRIES {
+        lines.push_str(format!(in alloc; "{place:06} w0 trim 0 -> trimmed 0\n")?.as_str())?;
+    }
+    Ok(lines)
+}
+
+const FILLED: &[(Act, u32, usize)] = &[(Act::Open(&ADDER, &[56]), 0, 99), (Act::Fill(0), 0, 0)];
+
+/// What a call for the trace answers with this buffer, and the size that it tells.
+fn traced(alloc: Global, handle: &mut SessionHandle, trace: &mut [u8]) -> (u32, usize) {
+    let mut size = 0;
+    let code = sblog_session_trace(alloc, handle, trace, &mut size);
+    (code, size)
+}
+
 #[test]
 fn a_full_journal_is_traced(rt: HostRuntime) -> Result<(), Fail> {
     let alloc = rt.alloc();
     let mut handle = SessionHandle::closed(alloc);
-    let mut out = [0; 64];
-    for act in [Act::Open(&ADDER, &[56]), Act::Fill(0)] {
-        assert_eq!(rt; answer(alloc, &mut handle, act, &mut out).0, 0);
-    }
-    let mut want = String::new(alloc);
-    for place in 1..=ENTRIES {
-        want.push_str(format!(in alloc; "{place:06} w0 trim 0 -> trimmed 0\n")?.as_str())?;
-    }
+    assert!(rt; hold_through(alloc, &mut handle, FILLED));
     let mut trace = Vec::from_elem(alloc, 0u8, ENTRIES * LINE)?;
-    let mut size = 0;
-    let short = sblog_session_trace(alloc, &mut handle, &mut trace[1..], &mut size);
-    assert_eq!(rt; (short, size), (19, ENTRIES * LINE));
-    let code = sblog_session_trace(alloc, &mut handle, &mut trace, &mut size);
-    assert_eq!(rt; (code, size), (0, ENTRIES * LINE));
-    assert!(rt; trace.as_slice() == want.as_str().as_bytes());
+    assert!(rt; traced(alloc, &mut handle, &mut trace[1..]) == (19, ENTRIES * LINE));
+    assert!(rt; traced(alloc, &mut handle, &mut trace) == (0, ENTRIES * LINE));
+    assert!(rt; trace.as_slice() == lines(alloc)?.as_str().as_bytes());
     Ok(())
 }
