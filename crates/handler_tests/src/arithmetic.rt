@@ -7,7 +7,6 @@ use decode::Condition::{
 };
 use decode::{AluOp, ByteOrder, Condition, Extension, SignedSize, SwapBits, Width};
 use operations::{alu, extended, holds, negated, reordered, sign_extended, word_of_imm};
-use std::process::Abort;
 
 // -1, the least and the greatest signed value, in 64 bits and in 32
 const ONES: u64 = 0xffff_ffff_ffff_ffff;
@@ -226,54 +225,84 @@ const IMMEDIATES: [(i32, u64); 3] = [
     (2_147_483_647, 0x7fff_ffff),
 ];
 
-fn agree(rt: &impl Abort, rows: &[(AluOp, u64, u64, u64, u64)]) {
+fn agree(rows: &[(AluOp, u64, u64, u64, u64)]) -> bool {
     for &(op, a, b, whole, half) in rows {
-        assert!(rt; alu(op, Width::W64, a, b) == whole, "of {a} and {b}");
-        assert!(rt; alu(op, Width::W32, a, b) == half, "of {a} and {b}");
+        if alu(op, Width::W64, a, b) != whole || alu(op, Width::W32, a, b) != half {
+            return false;
+        }
     }
+    true
 }
 
 #[test]
 fn operations_of_two(rt: HostRuntime) {
-    agree(&rt, &SUMS);
-    agree(&rt, &QUOTIENTS);
-    agree(&rt, &BITS);
-    agree(&rt, &SHIFTS);
+    assert!(rt; agree(&SUMS));
+    assert!(rt; agree(&QUOTIENTS));
+    assert!(rt; agree(&BITS));
+    assert!(rt; agree(&SHIFTS));
+}
+
+fn all_hold(rows: &[(Condition, u64, u64, bool, bool)]) -> bool {
+    for &(condition, a, b, whole, half) in rows {
+        if holds(condition, Width::W64, a, b) != whole
+            || holds(condition, Width::W32, a, b) != half
+        {
+            return false;
+        }
+    }
+    true
 }
 
 #[test]
 fn jumps(rt: HostRuntime) {
-    for &(condition, a, b, whole, half) in JUMPS.as_slice() {
-        assert!(rt;
-            holds(condition, Width::W64, a, b) == whole,
-            "of {a} and {b}"
-        );
-        assert!(rt;
-            holds(condition, Width::W32, a, b) == half,
-            "of {a} and {b}"
-        );
+    assert!(rt; all_hold(&JUMPS));
+}
+
+fn are_negated(rows: &[(u64, u64, u64)]) -> bool {
+    for &(a, whole, half) in rows {
+        if negated(Width::W64, a) != whole || negated(Width::W32, a) != half {
+            return false;
+        }
     }
+    true
+}
+
+fn are_reordered(rows: &[(ByteOrder, SwapBits, u64)]) -> bool {
+    for &(order, bits, want) in rows {
+        if reordered(order, bits, 0x1122_3344_5566_7788) != want {
+            return false;
+        }
+    }
+    true
+}
+
+fn are_extended(rows: &[(Extension, u64, u64)], loads: &[(SignedSize, u64, u64)]) -> bool {
+    for &(extension, a, want) in rows {
+        if extended(extension, a) != want {
+            return false;
+        }
+    }
+    for &(size, a, want) in loads {
+        if sign_extended(size, a) != want {
+            return false;
+        }
+    }
+    true
+}
+
+fn are_words(rows: &[(i32, u64)]) -> bool {
+    for &(imm, want) in rows {
+        if word_of_imm(imm) != want {
+            return false;
+        }
+    }
+    true
 }
 
 #[test]
 fn operations_of_one(rt: HostRuntime) {
-    for &(a, whole, half) in NEGATIONS.as_slice() {
-        assert!(rt; negated(Width::W64, a) == whole, "of {a}");
-        assert!(rt; negated(Width::W32, a) == half, "of {a}");
-    }
-    for &(order, bits, want) in BYTE_ORDERS.as_slice() {
-        assert!(rt;
-            reordered(order, bits, 0x1122_3344_5566_7788) == want,
-            "not {want}"
-        );
-    }
-    for &(extension, a, want) in EXTENSIONS.as_slice() {
-        assert!(rt; extended(extension, a) == want, "not {want}");
-    }
-    for &(size, a, want) in LOADS.as_slice() {
-        assert!(rt; sign_extended(size, a) == want, "not {want}");
-    }
-    for &(imm, want) in IMMEDIATES.as_slice() {
-        assert!(rt; word_of_imm(imm) == want, "not {want}");
-    }
+    assert!(rt; are_negated(&NEGATIONS));
+    assert!(rt; are_reordered(&BYTE_ORDERS));
+    assert!(rt; are_extended(&EXTENSIONS, &LOADS));
+    assert!(rt; are_words(&IMMEDIATES));
 }
