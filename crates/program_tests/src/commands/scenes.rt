@@ -60,20 +60,22 @@ fn repeated(alloc: Global, parts: [&[u8]; 3], times: u32) -> Result<Vec<u8>, All
     Ok(bytes)
 }
 
-fn of_form(alloc: Global, file: &[u8], form: u8) -> Result<Vec<u8>, AllocError> {
-    let mut bytes = file.to_vec(alloc)?;
-    if let Some(place) = bytes.get_mut(3) {
-        *place = form;
-    }
-    Ok(bytes)
+fn front(bytes: &[u8], count: usize) -> &[u8] {
+    bytes.get(..count).unwrap_or(&[])
+}
+
+fn behind(bytes: &[u8], count: usize) -> &[u8] {
+    bytes.get(count..).unwrap_or(&[])
 }
 
 fn made(alloc: Global, bytes: Bytes) -> Result<Vec<u8>, AllocError> {
     match bytes {
         Bytes::Are(bytes) => bytes.to_vec(alloc),
-        Bytes::First(bytes, count) => bytes.get(..count).unwrap_or(&[]).to_vec(alloc),
-        Bytes::Behind(bytes, count) => bytes.get(count..).unwrap_or(&[]).to_vec(alloc),
-        Bytes::OfForm(file, form) => of_form(alloc, file, form),
+        Bytes::First(bytes, count) => front(bytes, count).to_vec(alloc),
+        Bytes::Behind(bytes, count) => behind(bytes, count).to_vec(alloc),
+        Bytes::OfForm(file, form) => {
+            repeated(alloc, [front(file, 3), &[form], behind(file, 4)], 1)
+        }
         Bytes::Repeat(head, part, times, end) => repeated(alloc, [head, part, end], times),
     }
 }
