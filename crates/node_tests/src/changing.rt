@@ -51,52 +51,54 @@ fn unfit(alloc: Global, changes: &[Change]) -> Result<u64, Fail> {
     })
 }
 
-#[test]
-fn changes_are_spelled(rt: HostRuntime) -> Result<(), Fail> {
-    let alloc = rt.alloc();
-    let changes = decode_changes(alloc, &CHANGES)?;
-    assert_eq!(rt; changes.len(), 8);
-    assert_eq!(rt;
-        encode_changes(alloc, &changes)?.as_slice(),
-        CHANGES.as_slice()
-    );
-    Ok(())
+/// How many changes the bytes are, if they are written again as they were read.
+fn count(alloc: Global, bytes: &[u8]) -> Result<Option<usize>, Fail> {
+    let changes = decode_changes(alloc, bytes)?;
+    let is_same = encode_changes(alloc, &changes)?.as_slice() == bytes;
+    Ok(if is_same { Some(changes.len()) } else { None })
 }
 
 #[test]
-fn changes_are_refused(rt: HostRuntime) -> Result<(), Fail> {
-    let alloc = rt.alloc();
-    assert!(rt;
-        matches!(
-            decode_changes(alloc, &CHANGES[..87]),
-            Err(ChangesError::Spelling)
-        )
-    );
-    assert!(rt; matches!(decode_changes(alloc, &[8]), Err(ChangesError::Spelling)));
-    assert!(rt; matches!(decode_changes(alloc, &[]), Ok(_)));
+fn changes_are_spelled(rt: HostRuntime) -> Result<(), Fail> {
+    assert!(rt; count(rt.alloc(), &CHANGES)? == Some(8) && count(rt.alloc(), &[])? == Some(0));
     Ok(())
+}
+
+fn is_refused(alloc: Global, bytes: &[u8]) -> bool {
+    matches!(decode_changes(alloc, bytes), Err(ChangesError::Spelling))
+}
+
+#[test]
+fn changes_are_refused(rt: HostRuntime) {
+    assert!(rt; is_refused(rt.alloc(), &CHANGES[..87]) && is_refused(rt.alloc(), &[8]));
+}
+
+/// Whether these changes of the store come to these bytes.
+fn come_to(alloc: Global, bytes: &[u8], later: &[u8]) -> Result<bool, Fail> {
+    let mut store = decode_store(alloc, &STORE)?;
+    store.apply_all(alloc, &decode_changes(alloc, bytes)?)?;
+    Ok(encode_store(alloc, &store)?.as_slice() == later)
 }
 
 #[test]
 fn changes_happen(rt: HostRuntime) -> Result<(), Fail> {
-    let alloc = rt.alloc();
-    let mut store = decode_store(alloc, &STORE)?;
-    store.apply_all(alloc, &decode_changes(alloc, &CHANGES)?)?;
-    assert_eq!(rt; encode_store(alloc, &store)?.as_slice(), LATER.as_slice());
-    assert_eq!(rt;
-        later_bytes(alloc, &STORE, &CHANGES)?.as_slice(),
-        LATER.as_slice()
-    );
+    assert!(rt; come_to(rt.alloc(), &CHANGES, &LATER)?);
+    assert!(rt; later_bytes(rt.alloc(), &STORE, &CHANGES)?.as_slice() == LATER.as_slice());
     Ok(())
 }
+
+const DROPPED: Change = Change::Dropped { process: 1, ssn: 6 };
+
+const TAKEN: Change = Change::Taken { outputs: 1 };
 
 #[test]
 fn the_first_change_that_does_not_fit_is_named(rt: HostRuntime) -> Result<(), Fail> {
     let alloc = rt.alloc();
-    let dropped = Change::Dropped { process: 1, ssn: 6 };
-    let taken = Change::Taken { outputs: 1 };
-    assert_eq!(rt; unfit(alloc, &[dropped, taken])?, 0);
-    assert_eq!(rt; unfit(alloc, &[dropped, taken, taken])?, 3);
-    assert_eq!(rt; unfit(alloc, &[Change::Dropped { process: 3, ssn: 6 }])?, 1);
+    let other = Change::Dropped { process: 3, ssn: 6 };
+    assert!(rt;
+        unfit(alloc, &[DROPPED, TAKEN])? == 0
+            && unfit(alloc, &[DROPPED, TAKEN, TAKEN])? == 3
+            && unfit(alloc, &[other])? == 1
+    );
     Ok(())
 }

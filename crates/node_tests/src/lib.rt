@@ -7,6 +7,8 @@
 #[cfg(test)]
 mod changing;
 #[cfg(test)]
+mod counters;
+#[cfg(test)]
 mod counting;
 #[cfg(test)]
 mod dying;

@@ -1,7 +1,7 @@
 use packets::crc32c;
 use std::alloc::Global;
 use std::test::Fail;
-use stores::{StoreError, decode_store, same_bytes_again};
+use stores::{Store, StoreError, decode_store, same_bytes_again};
 
 /// Process 1 of 2 has shown two outputs, of which the second isn't taken, and is in incarnation 3,
 /// resumed; of its inputs the first four are dropped, the fifth is its 9th message, the sixth has no
@@ -39,51 +39,70 @@ fn refusal_with(alloc: Global, place: usize, byte: u8) -> Result<u8, Fail> {
 
 #[test]
 fn a_store_is_spelled(rt: HostRuntime) -> Result<(), Fail> {
-    let alloc = rt.alloc();
-    assert_eq!(rt;
-        same_bytes_again(alloc, &STORE)?.as_slice(),
-        STORE.as_slice()
-    );
+    assert!(rt; same_bytes_again(rt.alloc(), &STORE)?.as_slice() == STORE.as_slice());
     Ok(())
+}
+
+/// Whether the store is that of these bytes.
+fn is_read(store: &Store) -> bool {
+    if store.count() != 2 {
+        return false;
+    }
+    let peer = store.peer(1);
+    (peer.shown(), peer.heard(), peer.resumed()) == (2, 3, true)
+        && (peer.dropped(), peer.last()) == (4, 7)
+        && peer.is_kept(5)
+        && !store.peer(2).resumed()
 }
 
 #[test]
 fn a_store_is_read(rt: HostRuntime) -> Result<(), Fail> {
-    let alloc = rt.alloc();
-    let store = decode_store(alloc, &STORE)?;
-    assert_eq!(rt; store.count(), 2);
-    let peer = store.peer(1);
-    assert_eq!(rt; (peer.shown(), peer.heard(), peer.resumed()), (2, 3, true));
-    assert_eq!(rt; (peer.dropped(), peer.last()), (4, 7));
-    assert!(rt; peer.is_kept(5));
-    assert_eq!(rt; store.peer(2).resumed(), false);
-    match store.first_output() {
-        Some(output) => assert!(rt; output.payload.as_slice() == b"out".as_slice()),
-        None => assert!(rt; false),
-    }
+    let store = decode_store(rt.alloc(), &STORE)?;
+    let is_out = match store.first_output() {
+        Some(output) => output.payload.as_slice() == b"out".as_slice(),
+        None => false,
+    };
+    assert!(rt; is_read(&store) && is_out);
     Ok(())
+}
+
+/// The first so many bytes of the store, and their refusal.
+const CUT: [(usize, u8); 2] = [(15, 1), (109, 3)];
+
+/// A place, the byte there, and the refusal: another form; too many processes; no reserved byte; one
+/// process more; one that has shown too many; a first SSN that is 0; what is neither resumed nor not; an
+/// incarnation that is 0.
+const CHANGED: [(usize, u8, u8); 8] = [
+    (3, 0x32, 2),
+    (4, 16, 4),
+    (7, 1, 5),
+    (4, 3, 6),
+    (15, 0x80, 7),
+    (42, 0, 7),
+    (24, 2, 7),
+    (33, 0, 7),
+];
+
+fn are_cut(alloc: Global, rows: &[(usize, u8)]) -> bool {
+    for (count, number) in rows {
+        if refusal(alloc, STORE.get(..*count).unwrap_or(&[])) != *number {
+            return false;
+        }
+    }
+    true
+}
+
+fn are_changed(alloc: Global, rows: &[(usize, u8, u8)]) -> Result<bool, Fail> {
+    for (place, byte, number) in rows {
+        if refusal_with(alloc, *place, *byte)? != *number {
+            return Ok(false);
+        }
+    }
+    Ok(true)
 }
 
 #[test]
 fn a_store_is_refused(rt: HostRuntime) -> Result<(), Fail> {
-    let alloc = rt.alloc();
-    assert_eq!(rt; refusal(alloc, &STORE[..15]), 1);
-    assert_eq!(rt; refusal_with(alloc, 3, 0x32)?, 2);
-    assert_eq!(rt; refusal(alloc, &STORE[..109]), 3);
-    assert_eq!(rt; refusal_with(alloc, 4, 16)?, 4);
-    assert_eq!(rt; refusal_with(alloc, 7, 1)?, 5);
-    Ok(())
-}
-
-#[test]
-fn fields_of_a_store_are_refused(rt: HostRuntime) -> Result<(), Fail> {
-    let alloc = rt.alloc();
-    // There is one process more; one that has shown too many; a first SSN that is 0.
-    assert_eq!(rt; refusal_with(alloc, 4, 3)?, 6);
-    assert_eq!(rt; refusal_with(alloc, 15, 0x80)?, 7);
-    assert_eq!(rt; refusal_with(alloc, 42, 0)?, 7);
-    // What is neither resumed nor not; an incarnation that is 0.
-    assert_eq!(rt; refusal_with(alloc, 24, 2)?, 7);
-    assert_eq!(rt; refusal_with(alloc, 33, 0)?, 7);
+    assert!(rt; are_cut(rt.alloc(), &CUT) && are_changed(rt.alloc(), &CHANGED)?);
     Ok(())
 }
