@@ -1,6 +1,6 @@
 //! Instructions to text.
 
-ghost use Rattle.std.specs.Prelude.{◌≡◌, ◌++◌, OnOk, IfOk, codes, string_bytes};
+ghost use Rattle.std.specs.Prelude.{◌≡◌, ◌++◌, ◌∷◌, [], OnOk, IfOk, codes, string_bytes};
 ghost use Rattle.std.specs.List.{AllByRecursion};
 ghost use Rattle.decode.specs.Encoding.{Fits, OperandFits};
 ghost use Rattle.assemble.specs.Inside.Mnemonic.{mnemonic_of, word};
@@ -69,83 +69,118 @@ fn push_operands(out: &mut String, insn: &Insn) -> Result<(), AllocError>
     ensures fits { OnOk result (Fits insn.now) }
 {
     match *insn {
-        Insn::Alu { dst, operand, .. } => {
-            push_first(out, dst)?;
-            push_source(out, operand)
-        }
-        Insn::MovSx { dst, src, .. } => {
-            push_first(out, dst)?;
-            push_register(out, src)
-        }
-        Insn::Neg { dst, .. } | Insn::End { dst, .. } => {
-            out.push(' ')?;
-            push_register(out, dst)
-        }
-        Insn::Jump { offset } => {
-            out.push(' ')?;
-            push_signed(out, offset.into())
-        }
-        Insn::JumpLong { distance } => {
-            out.push(' ')?;
-            push_signed(out, distance)
-        }
+        Insn::Alu { dst, operand, .. } => push_both(out, dst, operand),
+        Insn::MovSx { dst, src, .. } => push_both(out, dst, Operand::Reg(src)),
+        Insn::Neg { dst, .. } | Insn::End { dst, .. } => push_alone(out, dst),
+        Insn::Jump { offset } => push_distance(out, offset.into()),
+        Insn::JumpLong { distance } => push_distance(out, distance),
         Insn::JumpIf {
             dst,
             operand,
             offset,
             ..
-        } => {
-            push_first(out, dst)?;
-            push_source(out, operand)?;
-            out.push_str(", ")?;
-            push_signed(out, offset.into())
-        }
-        Insn::Call { helper } => {
-            out.push(' ')?;
-            push_number(out, helper)
-        }
+        } => push_condition(out, dst, operand, offset),
+        Insn::Call { helper } => push_helper(out, helper),
         Insn::Exit => Ok(()),
         Insn::Load {
             dst,
             src,
             offset,
             ..
-        } => {
-            push_first(out, dst)?;
-            push_address(out, src, offset)
-        }
+        } => push_load(out, dst, src, offset),
         Insn::LoadSx {
             dst,
             src,
             offset,
             ..
-        } => {
-            push_first(out, dst)?;
-            push_address(out, src, offset)
-        }
+        } => push_load(out, dst, src, offset),
         Insn::StoreReg {
             dst,
             src,
             offset,
             ..
-        } => {
-            push_first_address(out, dst, offset)?;
-            push_register(out, src)
-        }
+        } => push_store(out, dst, offset, Operand::Reg(src)),
         Insn::StoreImm {
             dst,
             offset,
             imm,
             ..
-        } => {
-            push_first_address(out, dst, offset)?;
-            push_number(out, imm)
-        }
-        Insn::Wide { dst, value } => {
-            push_first(out, dst)?;
-            push_value(out, value)
-        }
+        } => push_store(out, dst, offset, Operand::Imm(imm)),
+        Insn::Wide { dst, value } => push_wide(out, dst, value),
     }
+}
+
+/// Writes a register, and a number or a register behind it.
+fn push_both(out: &mut String, dst: Reg, operand: Operand) -> Result<(), AllocError>
+    ensures written { OnOk result (string_bytes out.new ≡ string_bytes out.old ++ tail (register dst ∷ source operand ∷ [])) }
+    ensures fits { OnOk result (OperandFits operand) }
+{
+    push_first(out, dst)?;
+    push_source(out, operand)
+}
+
+/// Writes a register alone.
+fn push_alone(out: &mut String, dst: Reg) -> Result<(), AllocError>
+    ensures { OnOk result (string_bytes out.new ≡ string_bytes out.old ++ tail (register dst ∷ [])) }
+{
+    out.push(' ')?;
+    push_register(out, dst)
+}
+
+/// Writes how far a jump goes.
+fn push_distance(out: &mut String, distance: i32) -> Result<(), AllocError>
+    ensures { OnOk result (string_bytes out.new ≡ string_bytes out.old ++ tail (with_sign distance ∷ [])) }
+{
+    out.push(' ')?;
+    push_signed(out, distance)
+}
+
+/// Writes what is compared, and how far the jump goes.
+fn push_condition(
+    out: &mut String,
+    dst: Reg,
+    operand: Operand,
+    offset: i16,
+) -> Result<(), AllocError>
+    ensures written { OnOk result (string_bytes out.new ≡ string_bytes out.old ++ tail (register dst ∷ source operand ∷ with_sign offset ∷ [])) }
+    ensures fits { OnOk result (OperandFits operand) }
+{
+    push_both(out, dst, operand)?;
+    out.push_str(", ")?;
+    push_signed(out, offset.into())
+}
+
+/// Writes a helper's number.
+fn push_helper(out: &mut String, helper: i32) -> Result<(), AllocError>
+    ensures { OnOk result (string_bytes out.new ≡ string_bytes out.old ++ tail (number helper ∷ [])) }
+{
+    out.push(' ')?;
+    push_number(out, helper)
+}
+
+/// Writes a register and the address of what it gets.
+fn push_load(out: &mut String, dst: Reg, src: Reg, offset: i16) -> Result<(), AllocError>
+    ensures { OnOk result (string_bytes out.new ≡ string_bytes out.old ++ tail (register dst ∷ address src offset ∷ [])) }
+{
+    push_first(out, dst)?;
+    push_address(out, src, offset)
+}
+
+/// Writes an address and what is stored there.
+fn push_store(out: &mut String, dst: Reg, offset: i16, operand: Operand) -> Result<(), AllocError>
+    ensures written { OnOk result (string_bytes out.new ≡ string_bytes out.old ++ tail (address dst offset ∷ source operand ∷ [])) }
+    ensures fits { OnOk result (OperandFits operand) }
+{
+    push_first_address(out, dst, offset)?;
+    push_source(out, operand)
+}
+
+/// Writes a register and the wide number that it gets.
+fn push_wide(out: &mut String, dst: Reg, value: u64) -> Result<(), AllocError>
+    ensures { OnOk result (string_bytes out.new ≡ string_bytes out.old ++ tail (register dst ∷ numeral value ∷ [])) }
+{
+    push_first(out, dst)?;
+    push_value(out, value)
 }
 
 /// Writes a register and the comma after it.

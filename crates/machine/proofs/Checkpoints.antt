@@ -152,6 +152,7 @@ module _ (m : TheMachine) (w : World) (s : Stands m w) (room p calls : ℕ) (y :
     });
   })
 
+  -- a checkpoint is a step
   pub checkpoint-step : refusal_of w room (Checkpoint p) ≡ None → Steps m (record m { processes = set m.processes (p - 1) y; calls = calls }) room (Checkpoint p) (Saved (length (process_at m p).receipts.senders)) w
   checkpoint-step accepted =
       step m (record m { processes = set m.processes (p - 1) y; calls = calls }) room (Checkpoint p) (Saved (length (process_at m p).receipts.senders)) w s accepted (ap Saved many)

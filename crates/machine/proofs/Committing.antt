@@ -119,6 +119,7 @@ module _ (m : TheMachine) (w : World) (s : Stands m w) (t : TheTask) (k : Matche
   abbrev was : TheProcess
   was = process_at m me
 
+  -- the job is open in the world
   pub is_open : IsOpen m.images t w
   is_open = opens m t w s sizes k
 
@@ -152,6 +153,7 @@ module _ (m : TheMachine) (w : World) (s : Stands m w) (t : TheTask) (k : Matche
   longer : length hx ≡ length h + 1
   longer = length-append h (x ∷ [])
 
+  -- its number is the next
   pub rsn_is : t.rsn ≡ length h + 1
   rsn_is = sym k.rsn ∙ ap (λ j. j + 1) length_now
 
@@ -281,6 +283,7 @@ module _ (m : TheMachine) (w : World) (s : Stands m w) (t : TheTask) (k : Matche
         shows-packets (record m { processes = set m.processes (me - 1) y; calls = calls }) between shows_between slots (put w.wire key (Some (Number me x.sender x.ssn (length h + 1) (w.incarnation me))))
         (λ j. ap (λ n. put w.wire key n j) number ∙ put-wire w m.slots slots key None (Some (Number me x.sender x.ssn t.rsn t.incarnation)) s.shows.wire puts j)
 
+    -- a result that is taken in is a step
     pub committed : Steps m next 0 (Finish me) (Committed t.rsn key) w
     committed =
         step m next 0 (Finish me) (Committed t.rsn key) w s (rw (is_open.inside, busy) refl) (rw busy (key, ((rw wire-is low), s.shows.wire key ∙ puts.before), ap (λ r. Committed r key) rsn_is))

@@ -37,6 +37,7 @@ module _ (m : TheMachine) (w : World) (s : Stands m w) (room p calls : ℕ) (out
   others : (q : ℕ) → (q == p) ≡ false → Same w w.history (put w.phase p Down) w.saved w.saved_trims (put w.acknowledged p (λ k. false)) (put w.released p (λ d. 0)) (put w.incarnation p (w.incarnation p + 1)) (put w.trims p (w.saved_trims p)) (put w.numbers p (λ d i. None)) q
   others q e = record { history_is = refl; phase_is = rw e refl; saved_is = refl; saved_trims_is = refl; acknowledged_is = rw e refl; released_is = rw e refl; incarnation_is = rw e refl; trims_is = rw e refl; numbers_is = rw e refl }
 
+  -- a crash is a step
   pub crash-step : refusal_of w room (Crash p) ≡ None → Steps m (record m { processes = set m.processes (p - 1) (crashed outbox (process_at m p)); calls = calls }) room (Crash p) (Crashed ((process_at m p).incarnation + 1)) w
   crash-step accepted =
       step m (record m { processes = set m.processes (p - 1) (crashed outbox (process_at m p)); calls = calls }) room (Crash p) (Crashed ((process_at m p).incarnation + 1)) w s accepted (ap (λ n. Crashed (n + 1)) (sym at.incarnation_is))

@@ -30,9 +30,11 @@ use Rattle.machine.proofs.Restoring.{put-sound}
 
 -- the process of a task that matches
 module _ (inside : Inside) (i : IsSound inside) (m : TheMachine) (view_is : view_of inside ≡ m) (t : TheTask) (k : Matches m t) where
+  -- there is an image for each process
   pub sizes : length m.images ≡ length m.processes
   sizes = subst (λ (v : TheMachine). length v.images ≡ length v.processes) view_is (length-map inside.images.items image_in ∙ i.images)
 
+  -- its process is sound
   pub sound : (e : TheImage) → IsSoundAt (length m.processes) t.who.me (slice_index_or m.images (t.who.me - 1) e).len m.calls (process_at m t.who.me)
   sound e =
       let P : TheMachine → Type 0 = λ v. t.who.me ≤ length v.processes → IsSoundAt (length v.processes) t.who.me (slice_index_or v.images (t.who.me - 1) e).len v.calls (process_at v t.who.me) in
@@ -97,15 +99,19 @@ run-on n r s flags all =
 
 -- what a process has that took in a replayed result
 module _ (n me len calls : ℕ) (t : TheTask) (was y : TheProcess) (s : IsSoundAt n me len calls was) (c : Recalls t was y) (plan : ThePlan) (alone : Bool) (stage_is : was.stage ≡ stages.Replaying plan alone) (flags : length was.receipts.acknowledged ≡ received was) where
+  -- it has received one message more
   pub one-more : received y ≡ received was + 1
   one-more = ap (λ (r : Received). length r.senders) c.receipts ∙ length-append was.receipts.senders (t.message.sender ∷ [])
 
+  -- which are all acknowledged
   pub whole-now : run_of y.receipts.acknowledged ≡ received y
   whole-now = ap (λ (r : Received). run_of r.acknowledged) c.receipts ∙ run-on (received was) was.receipts t.message.sender flags (s.whole (ap is_live stage_is)) ∙ sym one-more
 
+  -- it isn't lost
   pub back-now : is_lost y.stage ≡ false
   back-now = ap is_lost (c.stage ∙ ap advanced stage_is)
 
+  -- and it is sound
   pub sound-recalled : length y.state ≡ length was.state → t.message.sender ≤ n → t.message.sender ≢ me → received was + 1 ≤ calls → IsSoundAt n me len calls y
   sound-recalled same from other room =
       let idle : one_if (is_some y.working) ≡ 0 = ap (λ o. one_if (is_some o)) c.working in
@@ -148,18 +154,22 @@ module _ (i : Inside) (s : IsSound i) (m : TheMachine) (view_is : view_of i ≡ 
   pub within-at : p ≤ length i.processes.items
   within-at = subst (λ (v : TheMachine). p ≤ length v.processes) (sym view_is) (omega (arith, p_is, k.within))
 
+  -- it is the machine's process of this number
   pub was-at : was ≡ process_at m t.who.me
   was-at = here ∙ get_or_default i.processes.items (p - 1) was (idle_process 0 0 0) (omega (arith, positive-at, within-at)) ∙ ap (λ (v : TheMachine). process_at v p) view_is ∙ ap (process_at m) p_is
 
   off : is_live (process_at m t.who.me).stage ≡ false
   off = let apart : (t.who.me == 0) ≡ false = grind (arith, nat_tests, k.inside) in rw apart at down
 
+  -- it replays
   pub replays-at : (plan : ThePlan) × (alone : Bool) × ((process_at m t.who.me).stage ≡ stages.Replaying plan alone)
   replays-at = replaying-stage (process_at m t.who.me).stage (process_at m t.who.me).working (received (process_at m t.who.me)) t.message off (sound i s m view_is t k t.image).planned k.message
 
+  -- the message of the job is the next of its plan
   pub next-of : IsNextAt was.stage t
   next-of = subst (λ (x : TheProcess). IsNextAt x.stage t) (sym was-at) (next-at (process_at m t.who.me).stage (process_at m t.who.me).working (received (process_at m t.who.me)) t (sound i s m view_is t k t.image).planned k.message k.rsn)
 
+  -- what it received, and one more, are calls that were made
   pub fits-at : received was + 1 ≤ i.calls
   fits-at =
       let calls : m.calls ≡ i.calls = ap (λ (v : TheMachine). v.calls) (sym view_is) in
@@ -188,11 +198,13 @@ module _ (i : Inside) (s : IsSound i) (m : TheMachine) (view_is : view_of i ≡ 
     same-length : length y.state ≡ length was.state
     same-length = ap length c.state ∙ a.state_len ∙ sym may.state_len ∙ sym (ap length k.state) ∙ sym (ap (λ (x : TheProcess). length x.state) was-at)
 
+    -- with the result taken in, the machine is sound
     pub recalled-sound : IsSound (record i { processes = with_item i.processes (p - 1) y })
     recalled-sound =
         put-sound i s p y positive-at within-at (λ e. sound-recalled (length i.processes.items) p _ i.calls t was y (sound-was e) c replays-at.0 replays-at.1 stage-at flags same-length
         (omega (arith, k.from, k.count, count-at, may.sender)) (λ f. may.other (k.from ∙ f ∙ p_is)) fits-at)
 
+    -- the process may settle
     pub recalled-settles : MaySettle (view_of (record i { processes = with_item i.processes (p - 1) y })) p
     recalled-settles =
         let at : process_at (view_of (record i { processes = with_item i.processes (p - 1) y })) p ≡ y = get_or-set_same i.processes.items (p - 1) y (idle_process 0 0 0) (omega (arith, positive-at, within-at)) in
@@ -208,8 +220,10 @@ module _ (i : Inside) (s : IsSound i) (m : TheMachine) (view_is : view_of i ≡ 
     pub recalls-at : Recalls t (process_at m t.who.me) y
     recalls-at = subst (λ x. Recalls t x y) was-at c
 
+    -- and the machine is the one with that process
     pub recalled-view : view_of (record i { processes = with_item i.processes (p - 1) y }) ≡ record m { processes = set m.processes (t.who.me - 1) y }
     recalled-view = λ j. record (view_is j) { processes = set (view_is j).processes (p_is j - 1) y }
 
+    -- of whose plan one message more is replayed
     pub stage-then : y.stage ≡ stages.Replaying (record replays-at.0 { replayed = replays-at.0.replayed + 1 }) replays-at.1
     stage-then = c.stage ∙ ap advanced stage-at

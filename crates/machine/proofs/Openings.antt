@@ -166,6 +166,7 @@ module _ (images : List TheImage) (ps : List TheProcess) (a : AreIdle (length im
         outside = refl;
       }
 
+  -- the machine stands for the opening world
   pub opens : Stands (fresh images ps) (opening (length images) (handlers_of images))
   unfolding m w
   opens =
@@ -173,6 +174,7 @@ module _ (images : List TheImage) (ps : List TheProcess) (a : AreIdle (length im
       let f = handlers_of images in
       record { shows = shown; sound = opens-sound n f (handlers-grow images); tidy = opens-tidy n f; gated = opens-gated n f (handlers-start images); unsent = refl }
 
+  -- its processes are sound, and so is the outside
   pub idle-sound : (p : ℕ) (d : TheProcess) (e : TheImage) → p < length ps → IsSoundAt (length ps) (suc p) (slice_index_or images p e).len 0 (slice_index_or ps p d)
   idle-sound p d e h =
       let len = (slice_index_or images p e).len in

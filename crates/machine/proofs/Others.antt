@@ -147,9 +147,11 @@ module _ (m : TheMachine) (p : ℕ) (y : TheProcess) (inside : 0 < p) (within : 
   abbrev pub replaced : TheMachine
   replaced = record m { processes = set m.processes (p - 1) y }
 
+  -- there are as many processes
   pub same_width : length replaced.processes ≡ length m.processes
   same_width = length-set m.processes (p - 1) y
 
+  -- p is the new one, and the others are as they were, with their logs
   pub now_at : process_at replaced p ≡ y
   now_at = get_or-set_same m.processes (p - 1) y (idle_process 0 0 0) (omega arith)
 
@@ -163,9 +165,11 @@ module _ (m : TheMachine) (p : ℕ) (y : TheProcess) (inside : 0 < p) (within : 
       by_number true e = refl
       by_number false e = ap (λ (z : TheProcess). z.outbox.log) (others_at q (grind (arith, nat_tests)) other)
 
+  -- p's log is that of the new one
   pub log_now : log_at replaced p ≡ y.outbox.log
   log_now = let apart : (p == 0) ≡ false = grind (arith, nat_tests) in rw apart (ap (λ (z : TheProcess). z.outbox.log) now_at)
 
+  -- what was shown of the others still is
   pub but-replaced : (n : ℕ) (w : World) → ShowsBut n p m w → ShowsBut n p replaced w
   but-replaced n w b =
       record {
@@ -190,6 +194,7 @@ module _ (p : ℕ) (inside : 0 < p) (m : TheMachine) (w v : World)
   abbrev u : World
   u = record w { history = v.history; phase = v.phase; saved = v.saved; saved_trims = v.saved_trims; acknowledged = v.acknowledged; released = v.released; incarnation = v.incarnation; trims = v.trims; numbers = v.numbers }
 
+  -- what is shown of the others is that of the new world too
   pub but-world : (n : ℕ) → ShowsBut n p m w → ShowsBut n p m v
   but-world n b =
       subst (ShowsBut n p m) (sym rest) (record {

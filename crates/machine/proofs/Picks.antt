@@ -100,6 +100,7 @@ module _ (m : TheMachine) (w : World) (s : Stands m w) (from to : ℕ) (inside :
     unknown : length numbers ≤ i - 1 → rsn_of (w.history to) from i ≡ None
     unknown above = rsn_from-none 0 (λ _. 0) from i (w.history to) at.in_order (omega (arith, count, above))
 
+    -- the number of a message is what the judgement tells
     pub number-is : rsn_of (w.history to) from i ≡ known_as (judged numbers i)
     number-is = by_place (nat_lt (i - 1) (length numbers)) refl (i - 1 == length numbers)
       where

@@ -60,26 +60,31 @@ module _ (m : TheMachine) (w : World) (s : Stands m w) (p : ℕ) (inside : 0 < p
   stage_is : (b : Bool) → is_down (w.phase p) ≡ b → is_lost (process_at m p).stage ≡ b
   stage_is b e = sym (down_is m w s p inside within) ∙ e
 
+  -- one that isn't down has the state of its history
   pub state-back : is_down (w.phase p) ≡ false → (process_at m p).state ≡ state_of w p
   state-back e =
       let back : is_lost (process_at m p).stage ≡ false = stage_is false e in
       at.state_is back ∙ ap (w.handlers.state p) (sym (held_at m w s p inside within back))
 
+  -- one that is down has none
   pub state-gone : is_down (w.phase p) ≡ true → (process_at m p).state ≡ []
   state-gone e = (at.gone (stage_is true e)).0
 
+  -- one that has its state has as many messages in it as it received
   pub length-back : is_lost (process_at m p).stage ≡ false → received (process_at m p) ≡ length_of w p
   length-back back =
       ap length at.senders ∙ length-map (held_by (process_at m p).stage (w.saved p) (w.history p)) (λ (x : Message). x.sender)
       ∙ ap length (sym (held_at m w s p inside within back))
       ∙ take-length (w.history p) (length_of w p) (length_in-within (w.phase p) (w.history p) (w.saved p) (s.sound.saved p) (s.sound.replays p))
 
+  -- one that is down, as many as its checkpoint
   pub length-gone : is_lost (process_at m p).stage ≡ true → length (process_at m p).saved.senders ≡ length_of w p
   length-gone lost =
       ap length at.saves.senders_are ∙ length-map (take (w.saved p) (w.history p)) (λ (x : Message). x.sender)
       ∙ take-length (w.history p) (w.saved p) (s.sound.saved p)
       ∙ sym (length_in-down (w.phase p) (w.history p) (w.saved p) (down_is m w s p inside within ∙ lost))
 
+  -- its phase, incarnation, receipts and gate are those of the world
   pub phase-is : w.phase p ≡ phase_of (length m.processes) (process_at m p).stage (process_at m p).working
   phase-is = at.phase_is
 

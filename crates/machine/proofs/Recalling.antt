@@ -58,12 +58,14 @@ module _ (m : TheMachine) (w : World) (s : Stands m w) (t : TheTask) (k : Matche
   abbrev then : ThePlan
   then = record plan { replayed = plan.replayed + 1 }
 
+  -- the job is open in the world
   pub open_now : IsOpen m.images t w
   open_now = opens m t w s sizes k
 
   at_me : StandsAt n me was (w.handlers.state me) (w.handlers.sends me) h (w.phase me) (w.incarnation me) (w.acknowledged me) (w.saved me) (w.saved_trims me)
   at_me = at_process m w s me k.inside k.within
 
+  -- its message is the next of the plan
   pub works : Replays plan (Some x) (w.saved me) h
   works = subst (λ z. MayWork z (Some x) (w.saved me) h) stage_is (subst (λ o. MayWork was.stage o (w.saved me) h) k.message at_me.works)
 

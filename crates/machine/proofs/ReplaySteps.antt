@@ -111,6 +111,7 @@ module _ (m : TheMachine) (w : World) (s : Stands m w) (room p calls : ℕ) (x :
       (λ d to other up. let e = rw (self-same p) at up in absurd (false≢true e))
       (λ d down. s.shows.shut p d positive within (ap is_up phase_was))
 
+  -- a job of the next message of the plan is a step
   pub begins-again : refusal_of w room (ReplayBegin p) ≡ None → (serial : ℕ) → serial ≡ m.started + 1 → Steps m (record m { processes = set m.processes (p - 1) begun; started = m.started + 1; calls = calls }) room (ReplayBegin p) (Started serial) w
   begins-again accepted serial is =
       step m (record m { processes = set m.processes (p - 1) begun; started = m.started + 1; calls = calls }) room (ReplayBegin p) (Started serial) w s accepted (ap Started (is ∙ ap (λ k. k + 1) (sym s.shows.started)))

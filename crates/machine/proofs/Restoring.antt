@@ -30,6 +30,7 @@ log-again n me len calls x i fits =
       width = (let e = length-map x.saved.queues queue_again in let f = fits.queues in omega (arith, e, f, i.count));
     }
 
+-- so is the process
 pub restored-sound : (n me len calls : ℕ) (x : TheProcess) (plan : ThePlan) (alone : Bool) → IsSoundAt n me len calls x → Fits Second x.saved → plan.before ≡ length x.saved.senders → plan.replayed ≡ 0
     → IsSoundAt n me len calls (restored plan alone x)
 restored-sound n me len calls x plan alone i fits before fresh =
@@ -125,6 +126,7 @@ module _ (i : Inside) (m : TheMachine) (p k : ℕ) (plan : ThePlan) (alone : Boo
   abbrev now : Inside
   now = record i { processes = with_item i.processes (p - 1) y }
 
+  -- that machine is sound
   pub back-sound : IsSound i → Fits Second (process_at m p).saved → plan.before ≡ length (process_at m p).saved.senders → plan.replayed ≡ 0 → IsSound (record i { processes = with_item i.processes (p - 1) y })
   back-sound s fits before fresh =
       let saved : (process_at m p).saved ≡ was.saved = sym (ap (λ (x : TheProcess). x.saved) was_is) in
@@ -133,6 +135,7 @@ module _ (i : Inside) (m : TheMachine) (p k : ℕ) (plan : ThePlan) (alone : Boo
       (restored-sound (length i.processes.items) p _ i.calls was plan alone (subst (IsSoundAt (length i.processes.items) p (slice_index_or (map image_in i.images.items) (p - 1) e).len i.calls) (sym here) (sound_at i s p was e positive inside))
       (subst (Fits Second) saved fits) (before ∙ ap (λ (z : TheSaved). length z.senders) saved) fresh))
 
+  -- the process may settle in it
   pub back-settles : MaySettle (view_of now) p
   back-settles =
       let at : process_at (view_of now) p ≡ restored plan alone was = get_or-set_same i.processes.items (p - 1) y (idle_process 0 0 0) (omega (arith, positive, inside)) ∙ is in
@@ -144,5 +147,6 @@ module _ (i : Inside) (m : TheMachine) (p k : ℕ) (plan : ThePlan) (alone : Boo
         whole = ap (λ (x : TheProcess). run_of x.receipts.acknowledged) at ∙ run-replicate (length was.saved.senders) ∙ sym (ap received at);
       }
 
+  -- and it is the one that forgot, with the process restored
   pub back-shown : view_of now ≡ record (forgotten p k m) { processes = set (forgotten p k m).processes (p - 1) (restored plan alone (process_at m p)) }
   back-shown = λ j. record (forgets j) { processes = set (forgets j).processes (p - 1) (back-is j) }

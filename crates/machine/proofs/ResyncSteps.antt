@@ -318,6 +318,7 @@ module _ (m : TheMachine) (w : World) (s : Stands m w) (room p r calls : ℕ) (p
   pub count-here : known (queue_of r (log_at between p)).numbers ≡ known (renumbered ns q).numbers
   count-here = ap (λ l. known (queue_of r l).numbers) (log_now m p given positive within) ∙ ap (λ k. known k.numbers) queue-here
 
+  -- numbers that are restored are a step
   pub resyncs : refusal_of w room (ResyncWith p r) ≡ None → Settles left given y → Steps m (record between { processes = set between.processes (p - 1) y; calls = calls }) room (ResyncWith p r) (Restored (known (renumbered ns q).numbers)) w
   resyncs accepted t =
       let todo = without (todo_of (w.phase p)) r in

@@ -37,6 +37,7 @@ pub wire-is : WIRE ≡ PACKETS
 unfolding WIRE
 wire-is = refl
 
+-- what the phase of a process tells is told by its stage and its open job
 pub is_working-phase_of : (n : ℕ) (t : Stage) (o : Option Message) (saved : ℕ) (h : List Message) → MayWork t o saved h → is_working (phase_of n t o) ≡ is_some o
 is_working-phase_of n stages.Live None saved h may = refl
 is_working-phase_of n stages.Live (Some m) saved h may = refl
@@ -72,6 +73,7 @@ live-lost stages.Down e = absurd (false≢true e)
 live-lost (stages.Replaying plan alone) e = refl
 live-lost (stages.Resync peers) e = refl
 
+-- and the same of a phase
 pub up-down : (p : Phase) → is_up p ≡ true → is_down p ≡ false
 up-down Up e = refl
 up-down (Busy m) e = refl

@@ -131,6 +131,7 @@ listed-insert old new keys place key packet within below above vacant now others
         let differ : other ≢ key = grind (arith, nat_tests) in
         contains-insert keys place key other within (listed.all other k (sym (others other differ) ∙ found))
 
+-- a place that has a packet has one packet
 pub there : (o : Option Packet) → IsSome o → (k : Packet) × (o ≡ Some k)
 there None h = absurd (cc)
 there (Some k) h = (k, refl)

@@ -42,6 +42,17 @@ pub record Call : Type 0 where
   pub files : List ℕ
   pub file_lengths : List ℕ
 
+-- the call that these make
+abbrev pub the_call : (words word_lengths names name_lengths files file_lengths : List ℕ) → Call
+the_call words word_lengths names name_lengths files file_lengths = record {
+  words = words;
+  word_lengths = word_lengths;
+  names = names;
+  name_lengths = name_lengths;
+  files = files;
+  file_lengths = file_lengths;
+}
+
 -- the lengths fit the bytes, words and names are texts, and each name has a file
 abbrev pub IsCall : Call → Type 0
 IsCall c = AreParts IsUtf8 c.words c.word_lengths × AreParts IsUtf8 c.names c.name_lengths

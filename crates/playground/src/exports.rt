@@ -1,7 +1,7 @@
 //! What the page calls.
 
 ghost use Rattle.std.specs.Prelude.{◌≤◌, IfErr, IfOk, MatchResult};
-ghost use Rattle.playground.specs.Calls.{Answers, IsAnswered, IsNotCall, IsPut, IsNotPut};
+ghost use Rattle.playground.specs.Calls.{Answers, IsAnswered, IsNotCall, IsPut, IsNotPut, the_call};
 
 use crate::answer::Answer;
 use crate::calling::carry_out;
@@ -28,9 +28,9 @@ fn answer(
     files: &[u8],
     file_lengths: &[u32],
 ) -> Result<Answer, Misfit>
-    ensures answered { IfOk result (IsAnswered (record { words = words.now; word_lengths = word_lengths.now; names = names.now; name_lengths = name_lengths.now; files = files.now; file_lengths = file_lengths.now })) }
+    ensures answered { IfOk result (IsAnswered (the_call words.now word_lengths.now names.now name_lengths.now files.now file_lengths.now)) }
     ensures status { IfOk result (λ a. a.status ≤ 6) }
-    ensures misfit { IfErr result (IsNotCall (record { words = words.now; word_lengths = word_lengths.now; names = names.now; name_lengths = name_lengths.now; files = files.now; file_lengths = file_lengths.now })) }
+    ensures misfit { IfErr result (IsNotCall (the_call words.now word_lengths.now names.now name_lengths.now files.now file_lengths.now)) }
 {
     if name_lengths.len() != file_lengths.len() {
         return Err(Misfit::Shape);
@@ -82,7 +82,7 @@ pub extern "C" fn sblog_page(
     out: &mut [u8],
     sizes: &mut Sizes,
 ) -> u32
-    ensures { Answers result (record { words = words.now; word_lengths = word_lengths.now; names = names.now; name_lengths = name_lengths.now; files = files.now; file_lengths = file_lengths.now }) out.old out.new sizes.old sizes.new }
+    ensures { Answers result (the_call words.now word_lengths.now names.now name_lengths.now files.now file_lengths.now) out.old out.new sizes.old sizes.new }
 {
     let answered = match answer(
         alloc,

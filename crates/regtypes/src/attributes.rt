@@ -1,8 +1,8 @@
 //! What an instruction reads, writes and reaches.
 
-ghost use Rattle.std.specs.Prelude.{◌≡◌, ◌≤◌};
+ghost use Rattle.std.specs.Prelude.{◌≡◌, ◌≤◌, Some};
 ghost use Rattle.decode.specs.Encoding.{bytes_in, loaded};
-ghost use Rattle.regtypes.specs.Attributes.{register_of, computes, loads, stores, alu_attributes, attributes_of};
+ghost use Rattle.regtypes.specs.Attributes.{register_of, nothing, computes, loads, stores, alu_attributes, attributes_of};
 
 use crate::form::{Form, form_from};
 use decode::{Insn, Operand, Reg, SignedSize, Size};
@@ -118,6 +118,16 @@ fn stores(bytes: u8, base: Reg, offset: i16, operand: Option<Reg>) -> Attributes
     }
 }
 
+fn compares(number: Reg, operand: &Operand) -> Attributes
+    ensures { result ≡ record nothing { number = Some number; operand = register_of operand.now } }
+{
+    Attributes {
+        number: Some(number),
+        operand: register(operand),
+        ..NOTHING
+    }
+}
+
 fn alu_attributes(form: &Form, dst: Reg, operand: &Operand) -> Attributes
     ensures { result ≡ alu_attributes form.now dst operand.now }
 {
@@ -149,17 +159,9 @@ pub fn attributes_from(insn: &Insn) -> Attributes
             operand,
         } => alu_attributes(&form_from(op, width, operand), dst, &operand),
         Insn::MovSx { dst, src, .. } => computes(None, Some(src), dst),
-        Insn::Neg { dst, .. } => computes(None, Some(dst), dst),
-        Insn::End { dst, .. } => computes(None, Some(dst), dst),
-        Insn::Jump { .. } => NOTHING,
-        Insn::JumpLong { .. } => NOTHING,
-        Insn::JumpIf { dst, operand, .. } => Attributes {
-            number: Some(dst),
-            operand: register(&operand),
-            ..NOTHING
-        },
-        Insn::Call { .. } => NOTHING,
-        Insn::Exit => NOTHING,
+        Insn::Neg { dst, .. } | Insn::End { dst, .. } => computes(None, Some(dst), dst),
+        Insn::Jump { .. } | Insn::JumpLong { .. } | Insn::Call { .. } | Insn::Exit => NOTHING,
+        Insn::JumpIf { dst, operand, .. } => compares(dst, &operand),
         Insn::Load {
             size,
             dst,

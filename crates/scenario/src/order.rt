@@ -74,18 +74,9 @@ fn with_operands(processes: &IndexMap<String, Process>, verb: Verb, text: &str) 
     ensures { ReadsOperands (names_of processes.now) verb text.now result }
 {
     match verb {
-        Verb::Input => {
-            let (to, word) = receiver_and_word(processes, text)?;
-            Some(Order::Input { to, word })
-        }
-        Verb::Bytes => {
-            let (to, payload) = receiver_and_payload(processes, text)?;
-            Some(Order::Bytes { to, payload })
-        }
-        Verb::Transmit => {
-            let (from, (to, ssn)) = party_and_message(processes, text)?;
-            Some(Order::Transmit { from, to, ssn })
-        }
+        Verb::Input => input_of(processes, text),
+        Verb::Bytes => bytes_of(processes, text),
+        Verb::Transmit => transmit_of(processes, text),
         Verb::Copy => Some(Order::Copy {
             key: number_of(text)?,
         }),
@@ -116,12 +107,45 @@ fn with_operands(processes: &IndexMap<String, Process>, verb: Verb, text: &str) 
         Verb::Replay => Some(Order::ReplayBegin {
             process: named_process(processes, text)?,
         }),
-        Verb::Resync => {
-            let (process, peer) = two_processes(processes, text)?;
-            Some(Order::Resync { process, peer })
-        }
+        Verb::Resync => resync_of(processes, text),
         Verb::Drive => Some(Order::Drive {
             budget: number_of(text)?,
         }),
     }
+}
+
+/// The order that hands in a word.
+fn input_of(processes: &IndexMap<String, Process>, text: &str) -> Option<Order>
+    requires { AreNamed processes.now }
+    ensures { ReadsOperands (names_of processes.now) Verb.Input text.now result }
+{
+    let (to, word) = receiver_and_word(processes, text)?;
+    Some(Order::Input { to, word })
+}
+
+/// The order that hands in bytes.
+fn bytes_of(processes: &IndexMap<String, Process>, text: &str) -> Option<Order>
+    requires { AreNamed processes.now }
+    ensures { ReadsOperands (names_of processes.now) Verb.Bytes text.now result }
+{
+    let (to, payload) = receiver_and_payload(processes, text)?;
+    Some(Order::Bytes { to, payload })
+}
+
+/// The order that transmits a message.
+fn transmit_of(processes: &IndexMap<String, Process>, text: &str) -> Option<Order>
+    requires { AreNamed processes.now }
+    ensures { ReadsOperands (names_of processes.now) Verb.Transmit text.now result }
+{
+    let (from, (to, ssn)) = party_and_message(processes, text)?;
+    Some(Order::Transmit { from, to, ssn })
+}
+
+/// The order that gives messages for a peer their numbers back.
+fn resync_of(processes: &IndexMap<String, Process>, text: &str) -> Option<Order>
+    requires { AreNamed processes.now }
+    ensures { ReadsOperands (names_of processes.now) Verb.Resync text.now result }
+{
+    let (process, peer) = two_processes(processes, text)?;
+    Some(Order::Resync { process, peer })
 }

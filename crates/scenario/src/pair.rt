@@ -1,9 +1,6 @@
 //! Operands with a space between them.
 
-ghost use Rattle.std.specs.Prelude.{decimal, length};
-ghost use Rattle.scenario.specs.Hex.{IsPayload, hex_text};
-ghost use Rattle.scenario.specs.Inside.Reads.{Both, HasBits, IsParty, Reads, spaced};
-ghost use Rattle.scenario.specs.Order.{IsProcess, party_text, process_text};
+ghost use Rattle.scenario.specs.Inside.Reads.{ReadsBytes, ReadsMessage, ReadsPeers, ReadsReceiver, ReadsWord};
 ghost use Rattle.scenario.specs.Process.{AreNamed, names_of};
 
 use crate::hex::payload_of;
@@ -16,7 +13,7 @@ use indexmap::IndexMap;
 /// A process and a word.
 pub fn receiver_and_word(processes: &IndexMap<String, Process>, text: &str) -> Option<(u8, u64)>
     requires { AreNamed processes.now }
-    ensures { Reads (spaced (process_text (names_of processes.now)) decimal) (Both (IsProcess (length (names_of processes.now))) (HasBits 64)) text.now result }
+    ensures { ReadsWord (names_of processes.now) text.now result }
 {
     let (name, word) = split_at_space(text)?;
     let process = named_process(processes, name)?;
@@ -30,7 +27,7 @@ pub fn receiver_and_payload(
     text: &str,
 ) -> Option<(u8, Payload)>
     requires { AreNamed processes.now }
-    ensures { Reads (spaced (process_text (names_of processes.now)) hex_text) (Both (IsProcess (length (names_of processes.now))) IsPayload) text.now result }
+    ensures { ReadsBytes (names_of processes.now) text.now result }
 {
     let (name, bytes) = split_at_space(text)?;
     let process = named_process(processes, name)?;
@@ -41,7 +38,7 @@ pub fn receiver_and_payload(
 /// Two processes.
 pub fn two_processes(processes: &IndexMap<String, Process>, text: &str) -> Option<(u8, u8)>
     requires { AreNamed processes.now }
-    ensures { Reads (spaced (process_text (names_of processes.now)) (process_text (names_of processes.now))) (Both (IsProcess (length (names_of processes.now))) (IsProcess (length (names_of processes.now)))) text.now result }
+    ensures { ReadsPeers (names_of processes.now) text.now result }
 {
     let (left, right) = split_at_space(text)?;
     let process = named_process(processes, left)?;
@@ -52,7 +49,7 @@ pub fn two_processes(processes: &IndexMap<String, Process>, text: &str) -> Optio
 /// A receiver and a message's number.
 fn party_and_number(processes: &IndexMap<String, Process>, text: &str) -> Option<(u8, u32)>
     requires { AreNamed processes.now }
-    ensures { Reads (spaced (party_text (names_of processes.now)) decimal) (Both (IsParty (length (names_of processes.now))) (HasBits 32)) text.now result }
+    ensures { ReadsReceiver (names_of processes.now) text.now result }
 {
     let (name, number) = split_at_space(text)?;
     let party = party_of(processes, name)?;
@@ -66,7 +63,7 @@ pub fn party_and_message(
     text: &str,
 ) -> Option<(u8, (u8, u32))>
     requires { AreNamed processes.now }
-    ensures { Reads (spaced (party_text (names_of processes.now)) (spaced (party_text (names_of processes.now)) decimal)) (Both (IsParty (length (names_of processes.now))) (Both (IsParty (length (names_of processes.now))) (HasBits 32))) text.now result }
+    ensures { ReadsMessage (names_of processes.now) text.now result }
 {
     let (name, message) = split_at_space(text)?;
     let sender = party_of(processes, name)?;

@@ -1,20 +1,22 @@
 -- Image files: the bytes "SBI1" or "SBI2" by the form, the state's length and the number of slots in two bytes each, the code; numbers are little-endian.
-use Rattle.std.specs.Prelude.{◌≡◌, ◌≢◌, ◌<◌, ◌≤◌, ◌⊎◌, ℕ, ◌+◌, ◌*◌, ◌++◌, length, take, drop, List, [], ◌∷◌}
+use Rattle.std.specs.Prelude.{◌≡◌, ◌≢◌, ◌<◌, ◌≤◌, ◌⊎◌, ℕ, ◌+◌, ◌*◌, ◌++◌, length, take, drop, List, [], ◌∷◌, Result, IfOk, IfErr}
 use Rattle.std.specs.Int.{w16, to_le_bytes, from_le_bytes}
 use Rattle.std.specs.List.{AllByRecursion}
 use Rattle.limits.specs.declared.TheConstants.{SLOTS, STATE_BYTES}
 use Rattle.decode.specs.declared.insn.Insn.{Insn}
 use Rattle.regtypes.specs.declared.image_form.ImageForm.{ImageForm}
 use Rattle.regtypes.specs.declared.image_form.ImageForm.TheVariants.{Sbi1, Sbi2}
-use Rattle.decode.specs.Slots.{slots}
+use Rattle.decode.specs.Slots.{slots, slots_of}
 use Rattle.decode.specs.Encoding.{Fits, encoding}
 use Rattle.decode.specs.declared.fault.Rule.{Rule}
 use Rattle.decode.specs.First.{IsFirst}
 use Rattle.decode.specs.Refusal as decoding
+use Rattle.regtypes.specs.Typing.{Table, IsTyping}
 use Rattle.verifier.specs.declared.fault.HeaderFault.{HeaderFault}
 use Rattle.verifier.specs.declared.fault.HeaderFault.TheVariants.{TooShort, Magic, StateLength, SlotCount, FileLength}
 use Rattle.verifier.specs.declared.fault.ImageError.{ImageError}
 use Rattle.verifier.specs.declared.fault.ImageError.TheVariants.{Memory, Header, Decode, Verify}
+use Rattle.verifier.specs.Typed.{Typed}
 use Rattle.verifier.specs.Verdict as verdict
 
 -- ---- the bytes
@@ -31,6 +33,11 @@ pub record IsFile (form : ImageForm) (code : List Insn) (len : ℕ) (bytes : Lis
   pub state : len ≤ STATE_BYTES
   pub some : 0 < slots code
   pub short : slots code ≤ SLOTS
+
+-- a file of typable code is loaded, unless memory runs out
+abbrev pub LoadsTypable : List ℕ → Result Typed ImageError → Type 0
+LoadsTypable bytes result = (form : ImageForm) (code : List Insn) (len : ℕ) (t : Table) → IsFile form code len bytes → IsTyping form (slots_of code) len t
+    → IfOk result (verdict.IsImageOf form code len) × IfErr result (λ e. e ≡ Memory)
 
 -- ---- refusals
 

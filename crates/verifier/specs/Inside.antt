@@ -3,3 +3,4 @@ pub mod Header
 pub mod Pass
 pub mod Places
 pub mod Dense
+pub mod Image

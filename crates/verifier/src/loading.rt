@@ -2,11 +2,9 @@
 
 ghost use Rattle.std.specs.Prelude.{◌≡◌, ℕ, List, IfOk, IfErr};
 ghost use Rattle.decode.specs.declared.insn.Insn.{Insn};
-ghost use Rattle.decode.specs.Slots.{slots_of};
 ghost use Rattle.regtypes.specs.declared.image_form.ImageForm.{ImageForm};
-ghost use Rattle.regtypes.specs.Typing.{Table, IsTyping};
 ghost use Rattle.verifier.specs.declared.fault.ImageError.TheVariants.{Memory};
-ghost use Rattle.verifier.specs.ImageFile.{IsFile, IsUnread, IsRefusal};
+ghost use Rattle.verifier.specs.ImageFile.{IsFile, IsUnread, IsRefusal, LoadsTypable};
 ghost use Rattle.verifier.specs.Verdict.{IsImageOf};
 
 use crate::fault::{ImageError, VerifyError};
@@ -41,7 +39,7 @@ pub fn load(alloc: Global, bytes: &[u8]) -> Result<Image, ImageError>
     ensures found { IfOk result (λ image. IsFile image.form image.code image.len bytes.now) }
     ensures image { IfOk result (λ image. IsImageOf image.form image.code image.len image) }
     // A file of typable code is loaded, unless memory runs out.
-    ensures only { (form : ImageForm) (code : List Insn) (len : ℕ) (t : Table) → IsFile form code len bytes.now → IsTyping form (slots_of code) len t → IfOk result (IsImageOf form code len) × IfErr result (λ e. e ≡ Memory) }
+    ensures only { LoadsTypable bytes.now result }
     ensures refused { IfErr result (IsRefusal bytes.now) }
 {
     let (code, state_len, form) = parts(alloc, bytes)?;

@@ -40,14 +40,34 @@ HasBits k n = n < 2 ^ k
 abbrev pub IsParty : ℕ → ℕ → Type 0
 IsParty n p = p ≤ n
 
+-- the process and the word that are written so
+abbrev pub ReadsWord : List (List ℕ) → List ℕ → Option (ℕ × ℕ) → Type 0
+ReadsWord names text result = Reads (spaced (process_text names) decimal) (Both (IsProcess (length names)) (HasBits 64)) text result
+
+-- a process and bytes
+abbrev pub ReadsBytes : List (List ℕ) → List ℕ → Option (ℕ × List ℕ) → Type 0
+ReadsBytes names text result = Reads (spaced (process_text names) hex_text) (Both (IsProcess (length names)) IsPayload) text result
+
+-- two processes
+abbrev pub ReadsPeers : List (List ℕ) → List ℕ → Option (ℕ × ℕ) → Type 0
+ReadsPeers names text result = Reads (spaced (process_text names) (process_text names)) (Both (IsProcess (length names)) (IsProcess (length names))) text result
+
+-- a receiver and a message's number
+abbrev pub ReadsReceiver : List (List ℕ) → List ℕ → Option (ℕ × ℕ) → Type 0
+ReadsReceiver names text result = Reads (spaced (party_text names) decimal) (Both (IsParty (length names)) (HasBits 32)) text result
+
+-- a sender, a receiver and a message's number
+abbrev pub ReadsMessage : List (List ℕ) → List ℕ → Option (ℕ × (ℕ × ℕ)) → Type 0
+ReadsMessage names text result =
+    Reads (spaced (party_text names) (spaced (party_text names) decimal)) (Both (IsParty (length names)) (Both (IsParty (length names)) (HasBits 32))) text result
+
 -- none of the operands of this kind is the text
 abbrev pub NoOperands : List (List ℕ) → Verb → List ℕ → Type 0
-NoOperands names verb.Input text = Reads (spaced (process_text names) decimal) (Both (IsProcess (length names)) (HasBits 64)) text None
-NoOperands names verb.Bytes text = Reads (spaced (process_text names) hex_text) (Both (IsProcess (length names)) IsPayload) text None
-NoOperands names verb.Transmit text =
-    Reads (spaced (party_text names) (spaced (party_text names) decimal)) (Both (IsParty (length names)) (Both (IsParty (length names)) (HasBits 32))) text None
+NoOperands names verb.Input text = ReadsWord names text None
+NoOperands names verb.Bytes text = ReadsBytes names text None
+NoOperands names verb.Transmit text = ReadsMessage names text None
 NoOperands names verb.Trim text = Reads (party_text names) (IsParty (length names)) text None
-NoOperands names verb.Resync text = Reads (spaced (process_text names) (process_text names)) (Both (IsProcess (length names)) (IsProcess (length names))) text None
+NoOperands names verb.Resync text = ReadsPeers names text None
 NoOperands names verb.Copy text = Reads decimal (HasBits 32) text None
 NoOperands names verb.Lose text = Reads decimal (HasBits 32) text None
 NoOperands names verb.Arrive text = Reads decimal (HasBits 32) text None
