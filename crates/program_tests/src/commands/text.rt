@@ -138,7 +138,7 @@ fn long_sources(rt: HostRuntime) -> Result<(), Fail> {
         ends(&rt, "asm s i --state 0", &mut files, 3, told, b"old")?;
     }
     let (unknown, mut early): (&str, Vec<u8>) = (
-        "asm refused 1 at line 1\ns: no instruction has the line's first word\n",
+        "asm refused 1 at line 1\ns: no instruction has the line's first word\nline 1: no instruction has the word fly: add, sub, mul, div, sdiv, mod, smod, or, and, xor, lsh, rsh, arsh, neg, mov, movsx8 to movsx32, ja, jal, jeq, jne, jgt, jge, jlt, jle, jsgt, jsge, jslt, jsle, jset, le, be and swap with 16, 32 or 64, ldxb, ldxh, ldxw, ldxdw, stxb to stxdw, stb to stdw, lddw, call and exit do; with 32 behind it, half as wide\n",
         Vec::from_slice(alloc, b"fly\n")?,
     );
     early.extend_from_slice(&text)?;
@@ -152,22 +152,22 @@ fn refused_texts_write_nothing(rt: HostRuntime) -> Result<(), Fail> {
         (
             b"foo\n".as_slice(),
             3,
-            "asm refused 1 at line 1\ns: no instruction has the line's first word\n",
+            "asm refused 1 at line 1\ns: no instruction has the line's first word\nline 1: no instruction has the word foo: add, sub, mul, div, sdiv, mod, smod, or, and, xor, lsh, rsh, arsh, neg, mov, movsx8 to movsx32, ja, jal, jeq, jne, jgt, jge, jlt, jle, jsgt, jsge, jslt, jsle, jset, le, be and swap with 16, 32 or 64, ldxb, ldxh, ldxw, ldxdw, stxb to stxdw, stb to stdw, lddw, call and exit do; with 32 behind it, half as wide\n",
         ),
         (
             b"mov r11, 0".as_slice(),
             3,
-            "asm refused 2 at line 1\ns: the operands aren't those of the line's first word\n",
+            "asm refused 2 at line 1\ns: the operands aren't those of the line's first word\nline 1: r11 is no register: r0 to r10\n",
         ),
         (
             b"mov r0, 2147483648".as_slice(),
             3,
-            "asm refused 3 at line 1\ns: a number is out of its range\n",
+            "asm refused 3 at line 1\ns: a number is out of its range\nline 1: 2147483648 is out of its range, -2147483648 to 2147483647\n",
         ),
         (
             b"# two\n\nexit\nexit 1\n".as_slice(),
             3,
-            "asm refused 2 at line 4\ns: the operands aren't those of the line's first word\n",
+            "asm refused 2 at line 4\ns: the operands aren't those of the line's first word\nline 4: more or fewer operands than in: exit, alone\n",
         ),
         (b"".as_slice(), 3, SLOTS),
         (b"# nothing\n\n".as_slice(), 3, SLOTS),

@@ -126,6 +126,7 @@ fn other_forms(rt: HostRuntime) -> Result<(), Fail> {
     let mut second = SLICE.to_vec(rt.alloc())?;
     second[3] = b'2';
     let image = second.as_slice();
-    let shown = "verify refused V6 at slot 1\ni: sblog explain shows why\n";
+    let shown =
+        "verify refused V6 at slot 1\ni: sblog explain shows why (the image is of form 2; ordinary C wants --form 3)\n";
     ends(&rt, "check i", b"", image, 3, shown, image)
 }
