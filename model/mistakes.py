@@ -1,4 +1,5 @@
-"""What is said of the first faulty line of a scenario, as docs/FORMATS.md says ("What is said of a line")."""
+"""What is said of the first faulty line of a scenario and of an assembler text, as docs/FORMATS.md says ("What is said of a line",
+"What is said of a line of assembler text")."""
 
 import re
 
@@ -88,3 +89,99 @@ def reading(kind, word, names):
 def shown(word):
     """A word on a terminal: 40 letters at most, and `?` for what is no visible letter of ASCII."""
     return "".join(letter if "!" <= letter <= "~" else "?" for letter in word[:40]) + ".." * (len(word) > 40)
+
+
+# ---- assembler texts
+
+WIDE = "add sub mul div sdiv or and lsh rsh mod smod xor mov arsh".split()
+JUMPS = "jeq jgt jge jset jne jsgt jsge jlt jle jslt jsle".split()
+ENDS = [f"{order}{bits}" for order in ("le", "be", "swap") for bits in (16, 32, 64)]
+# Words, the operands of an instruction of theirs, and what each of these is.
+SHAPES = [
+    (WIDE + [f"{word}32" for word in WIDE], " r1, r2 or r1, 5", "RS"),
+    (["neg", "neg32", *ENDS], " r1", "R"),
+    ("movsx8 movsx16 movsx32 mov32sx8 mov32sx16".split(), " r1, r2", "RR"),
+    (["ja"], " +2", "O"),
+    (["jal"], " +2", "L"),
+    (JUMPS + [f"{word}32" for word in JUMPS], " r1, r2, +2 or r1, 5, +2", "RSO"),
+    (["call"], " 1", "N"),
+    (["exit"], ", alone", ""),
+    ("ldxb ldxh ldxw ldxdw ldxsb ldxsh ldxsw".split(), " r1, [r2+0]", "RA"),
+    ("stxb stxh stxw stxdw".split(), " [r1+0], r2", "AR"),
+    ("stb sth stw stdw".split(), " [r1+0], 5", "AN"),
+    (["lddw"], " r1, 5", "RU"),
+]
+BY_WORD = {word: (form, kinds) for words, form, kinds in SHAPES for word in words}
+REGISTER = "r(?:[0-9]|10)"
+PLAIN, SIGNED = "(?:0|[1-9][0-9]*)", "(?:[+](?:0|[1-9][0-9]*)|-[1-9][0-9]*)"
+NUMBER = f"(?:{PLAIN}|-[1-9][0-9]*)"
+WRITTEN = {
+    "R": f"{REGISTER}()", "S": f"{REGISTER}()|({NUMBER})", "N": f"({NUMBER})", "U": f"({PLAIN})",
+    "O": f"({SIGNED})", "L": f"({SIGNED})", "A": rf"\[{REGISTER}({SIGNED})\]",
+}
+DECIMAL = "0, or decimal digits without a leading zero"
+SHAPE = {
+    "R": "is no register: r0 to r10",
+    "S": f"is no register, r0 to r10, and no number: {DECIMAL}, behind a - where it is negative",
+    "N": f"is no number: {DECIMAL}, behind a - where it is negative",
+    "U": f"is no number: {DECIMAL} or a sign",
+    "A": "is no place: a register and a distance with its sign, in brackets, as [r1+0] or [r10-8]",
+    "O": "is no distance: decimal digits without a leading zero, behind a + or a -, as +2, or +0",
+}
+SHAPE["L"] = SHAPE["O"]
+RANGES = {"S": 31, "N": 31, "L": 31, "A": 15, "O": 15}
+INSTRUCTIONS = (
+    "add, sub, mul, div, sdiv, mod, smod, or, and, xor, lsh, rsh, arsh, neg, mov, movsx8 to movsx32, ja, jal, jeq, jne, jgt, jge,"
+    " jlt, jle, jsgt, jsge, jslt, jsle, jset, le, be and swap with 16, 32 or 64, ldxb, ldxh, ldxw, ldxdw, stxb to stxdw, stb to"
+    " stdw, lddw, call and exit do; with 32 behind it, half as wide"
+)
+
+
+def of_text(line):
+    """What is said of a line of an assembler text that is refused, by its own operands, or None."""
+    if not line or line.startswith("#"):
+        return None
+    if "\r" in line:
+        return "a carriage return: lines end with a line feed alone"
+    if "\t" in line:
+        return "a tab: one space stands behind a word or a comma"
+    if line[0] == " ":
+        return "a space before the first word"
+    if any(mark in line for mark in ("#", ";", "//")):
+        return "a comment stands on a line of its own, which begins with #"
+    if line[-1] == " " or "  " in line:
+        return "a space at the end, or two in a row"
+    word, _, rest = line.partition(" ")
+    if word not in BY_WORD:
+        return of_word(word)
+    form, kinds = BY_WORD[word]
+    operands = rest.split(",") if rest else []
+    if len(operands) != len(kinds):
+        return f"more or fewer operands than in: {word}{form}"
+    if " ," in rest or any(not it.startswith(" ") for it in operands[1:]):
+        return "a comma and one space stand between operands, and no space before the comma"
+    operands = rest.split(", ") if rest else []
+    found = [(kind, it, re.fullmatch(WRITTEN[kind], it)) for kind, it in zip(kinds, operands)]
+    wrong = [f"{plain(it)} {SHAPE[kind]}" for kind, it, match in found if not match]
+    return next(iter(wrong or [f"{plain(it)} is out of its range, {low} to {high}" for kind, it, match in found
+                               for low, high in [bounds(kind)] if not low <= int(next(filter(None, match.groups()), 0)) <= high]), None)
+
+
+def of_word(word):
+    """What is said of a word that no instruction has."""
+    if word.endswith(":"):
+        return "there are no labels: a jump has its distance in slots, as ja +2"
+    if re.search("[A-Z]", word):
+        return f"{plain(word)} has a capital letter: words are in small ones"
+    return f"no instruction has the word {plain(word)}: {INSTRUCTIONS}"
+
+
+def bounds(kind):
+    """The least and the greatest number that can stand in an operand."""
+    bits = RANGES.get(kind)
+    return (-(2**bits), 2**bits - 1) if bits else (0, 2**64 - 1)
+
+
+def plain(word):
+    """A word or an operand on a terminal, whose spaces stay."""
+    return "".join(letter if " " <= letter <= "~" else "?" for letter in word[:40]) + ".." * (len(word) > 40)

@@ -1,6 +1,7 @@
 //! The commands of the program, over files and streams in memory.
 
 mod folder;
+mod kinds;
 mod machine_code;
 mod ordinary_c;
 mod scenarios;

@@ -4,6 +4,8 @@
 #![tactic(auto)]
 
 #[cfg(test)]
+mod assembler_text;
+#[cfg(test)]
 mod command_line;
 #[cfg(test)]
 mod commands;

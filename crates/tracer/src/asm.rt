@@ -6,10 +6,11 @@ ghost use Rattle.tracer.specs.Inside.{IsNoUsage};
 
 use crate::fault::Fault;
 use crate::judged::{TEXT_LIMIT, judged};
-use assemble::assemble;
+use crate::site::Site;
+use assemble::{assemble, mistake_of};
 use images::{FileForm, file};
 use limits::STATE_BYTES;
-use std::alloc::Global;
+use std::alloc::{AllocError, Global};
 use verifier::HeaderFault;
 
 /// The bytes that decide what a source comes to: as many as a text has at most, and one more.
@@ -35,4 +36,45 @@ pub fn asm(alloc: Global, source: &[u8], state: u16, form: FileForm) -> Result<V
     }
     let bytes = file(alloc, form, code.as_slice(), state)?;
     Ok(bytes)
+}
+
+/// The same of the file at a site, which keeps what is wrong with the line that is refused.
+pub fn asm_at(
+    alloc: Global,
+    source: &[u8],
+    state: u16,
+    form: FileForm,
+    site: &mut Site,
+) -> Result<Vec<u8>, Fault>
+    requires { state ≤ STATE_BYTES }
+    ensures written { IfOk result (λ v. (whole : List ℕ) → source.now ≡ take SOURCE_LIMIT whole
+        → IsAssembled whole state form v.items) }
+    ensures refused { IfErr result (λ f. (whole : List ℕ) → source.now ≡ take SOURCE_LIMIT whole → IsUnassembled whole f) }
+    ensures kind { IfErr result IsNoUsage }
+{
+    match asm(alloc, source, state, form) {
+        Ok(bytes) => Ok(bytes),
+        Err(fault) => {
+            let Ok(words) = said(alloc, source, &fault) else {
+                return Err(Fault::Memory);
+            };
+            site.words = words;
+            Err(fault)
+        }
+    }
+}
+
+/// What is wrong with the line of a source that is refused, as a line of text; of any other fault nothing.
+fn said(alloc: Global, source: &[u8], fault: &Fault) -> Result<String, AllocError> {
+    let Fault::Assemble { line, .. } = fault else {
+        return Ok(String::new(alloc));
+    };
+    let line = *line;
+    let Ok(text) = str::from_utf8(judged(source)) else {
+        return Ok(String::new(alloc));
+    };
+    match mistake_of(text, line) {
+        Some(mistake) => format!(in alloc; "line {line}: {mistake}\n"),
+        None => Ok(String::new(alloc)),
+    }
 }

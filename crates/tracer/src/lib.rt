@@ -26,6 +26,7 @@ mod explaining;
 mod fault;
 mod files;
 mod judged;
+mod kind;
 mod living;
 mod machine_code;
 mod own_input;

@@ -6,7 +6,7 @@ ghost use Rattle.tracer.specs.Inside.{EndsShort, IsWriteFault};
 ghost use Rattle.tracer.specs.Program.{IsAnswer, IsAnswered, IsCause, IsCutShort, IsDone, IsFault, IsShort, IsTold, Leaves};
 ghost use Rattle.tracer.specs.declared.fault.Fault.TheVariants.{Memory};
 
-use crate::asm::{SOURCE_LIMIT, asm};
+use crate::asm::{SOURCE_LIMIT, asm_at};
 use crate::check::check;
 use crate::dis::dis;
 use crate::drawing::draw_scenario;
@@ -71,7 +71,7 @@ fn write_image<F: Files>(
 {
     spare(alloc, source, image, files)?;
     let text = site.read(alloc, source, Some(SOURCE_LIMIT), files)?;
-    let bytes = asm(alloc, text.as_slice(), state, form)?;
+    let bytes = asm_at(alloc, text.as_slice(), state, form, site)?;
     site.write(image, bytes.as_slice(), files)?;
     Ok(())
 }

@@ -6,6 +6,7 @@ ghost use Rattle.tracer.specs.Said.{place_text};
 ghost use Rattle.tracer.specs.declared.files.Failure.TheVariants.{Memory};
 
 use crate::files::{Failure, Files, Reason};
+use crate::kind::{Kind, kind_of};
 use std::alloc::{AllocError, Global};
 use std::fmt;
 
@@ -17,6 +18,10 @@ pub struct Site {
     pub path: String,
     /// Why it was not read or written, where that failed.
     pub reason: Option<Reason>,
+    /// What it looks like, where it was read.
+    pub kind: Kind,
+    /// What is wrong with the line of it that is named, as a line of text, or nothing.
+    pub words: String,
 }
 
 impl Site {
@@ -26,6 +31,8 @@ impl Site {
             process: None,
             path: String::new(alloc),
             reason: None,
+            kind: Kind::Other,
+            words: String::new(alloc),
         }
     }
 
@@ -38,6 +45,7 @@ impl Site {
     /// The file at this path is what is read or written next.
     fn reach(&mut self, path: &str) -> Result<(), AllocError> {
         self.reason = None;
+        self.kind = Kind::Other;
         self.path.clear();
         self.path.push_str(path)
     }
@@ -65,7 +73,10 @@ impl Site {
     {
         self.reach(path)?;
         match files.read(alloc, path, limit) {
-            Ok(bytes) => Ok(bytes),
+            Ok(bytes) => {
+                self.kind = kind_of(bytes.as_slice());
+                Ok(bytes)
+            }
             Err(failure) => {
                 self.keep(failure);
                 Err(failure)

@@ -210,7 +210,9 @@ const LONG: [Scene; 6] = [
         &[(
             "asm s i --state 0",
             3,
-            Seen::Text("asm refused 1 at line 1\ns: no instruction has the line's first word\n"),
+            Seen::Text(
+                "asm refused 1 at line 1\ns: no instruction has the line's first word\nline 1: no instruction has the word fly: add, sub, mul, div, sdiv, mod, smod, or, and, xor, lsh, rsh, arsh, neg, mov, movsx8 to movsx32, ja, jal, jeq, jne, jgt, jge, jlt, jle, jsgt, jsge, jslt, jsle, jset, le, be and swap with 16, 32 or 64, ldxb, ldxh, ldxw, ldxdw, stxb to stxdw, stb to stdw, lddw, call and exit do; with 32 behind it, half as wide\n",
+            ),
             &[("i", Seen::Is(OLD))],
         )],
     ),
@@ -222,7 +224,7 @@ fn long_sources(rt: HostRuntime) -> Result<(), Fail> {
 }
 
 const NO_WORD: Seen = Seen::Text(
-    "asm refused 1 at line 1\ns: no instruction has the line's first word\n",
+    "asm refused 1 at line 1\ns: no instruction has the line's first word\nline 1: no instruction has the word foo: add, sub, mul, div, sdiv, mod, smod, or, and, xor, lsh, rsh, arsh, neg, mov, movsx8 to movsx32, ja, jal, jeq, jne, jgt, jge, jlt, jle, jsgt, jsge, jslt, jsle, jset, le, be and swap with 16, 32 or 64, ldxb, ldxh, ldxw, ldxdw, stxb to stxdw, stb to stdw, lddw, call and exit do; with 32 behind it, half as wide\n",
 );
 
 const REFUSED: [Scene; 7] = [
@@ -236,7 +238,7 @@ const REFUSED: [Scene; 7] = [
             "asm s i --state 8",
             3,
             Seen::Text(
-                "asm refused 2 at line 1\ns: the operands aren't those of the line's first word\n",
+                "asm refused 2 at line 1\ns: the operands aren't those of the line's first word\nline 1: r11 is no register: r0 to r10\n",
             ),
             &[("i", Seen::Is(OLD))],
         )],
@@ -246,7 +248,9 @@ const REFUSED: [Scene; 7] = [
         &[(
             "asm s i --state 8",
             3,
-            Seen::Text("asm refused 3 at line 1\ns: a number is out of its range\n"),
+            Seen::Text(
+                "asm refused 3 at line 1\ns: a number is out of its range\nline 1: 2147483648 is out of its range, -2147483648 to 2147483647\n",
+            ),
             &[("i", Seen::Is(OLD))],
         )],
     ),
@@ -256,7 +260,7 @@ const REFUSED: [Scene; 7] = [
             "asm s i --state 8",
             3,
             Seen::Text(
-                "asm refused 2 at line 4\ns: the operands aren't those of the line's first word\n",
+                "asm refused 2 at line 4\ns: the operands aren't those of the line's first word\nline 4: more or fewer operands than in: exit, alone\n",
             ),
             &[("i", Seen::Is(OLD))],
         )],

@@ -137,7 +137,9 @@ const OTHER_FORM: [Scene; 1] = [(
     &[(
         "check i",
         3,
-        Seen::Text("verify refused V6 at slot 1\ni: sblog explain shows why\n"),
+        Seen::Text(
+            "verify refused V6 at slot 1\ni: sblog explain shows why (the image is of form 2; ordinary C wants --form 3)\n",
+        ),
         &[("i", Seen::Is(OF_FORM_2))],
     )],
 )];

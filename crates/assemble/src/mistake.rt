@@ -1,0 +1,293 @@
+//! What is wrong with the first faulty line of a text, in words.
+
+use crate::fault::Fault;
+use crate::mnemonic::{Mnemonic, mnemonic_named};
+use crate::number::{distance_of, number_of, offset_of, value_of};
+use crate::operands::{address_of, register_of, source_of};
+use std::fmt;
+
+/// The most letters of a word that are shown.
+const SHOWN_LIMIT: usize = 40;
+
+/// What stands at an operand's place.
+#[derive(Clone, Copy, PartialEq, Eq, Debug)]
+pub enum Wanted {
+    Register,
+    /// A register or a number.
+    Source,
+    /// A number of 32 bits.
+    Number,
+    /// A number of 64 bits, without a sign.
+    Value,
+    /// A register and a distance of 16 bits, in brackets.
+    Address,
+    /// A distance of 16 bits, behind its sign.
+    Offset,
+    /// The same of 32 bits.
+    Distance,
+}
+
+/// What is wrong with a line, and what can stand there. It prints as a sentence, without a line's end.
+#[derive(Clone, Copy, PartialEq, Eq, Debug)]
+pub enum Mistake<'a> {
+    CarriageReturn,
+    Tab,
+    /// A space before the first word.
+    Indent,
+    /// Something behind an instruction that looks like a comment.
+    Comment,
+    /// A space at the end, or two in a row.
+    Space,
+    /// A comma without the space behind it, or with one before it.
+    Comma,
+    /// The first word is a label.
+    Label,
+    /// The first word has a capital letter.
+    Capital { word: &'a str },
+    /// No instruction has this word.
+    Word { word: &'a str },
+    /// Too many operands or too few; an instruction of this word has such ones.
+    Operands { word: &'a str, form: &'static str },
+    /// An operand that isn't written as what stands at its place.
+    Shape { word: &'a str, wanted: Wanted },
+    /// An operand whose number is out of its range.
+    Range { word: &'a str, wanted: Wanted },
+}
+
+/// What is wrong with the line of this number, the first faulty one of a text, counted from 1. `None` is said of a line
+/// that isn't faulty by itself.
+pub fn mistake_of(text: &str, number: usize) -> Option<Mistake<'_>> {
+    let line = text.split('\n').nth(number.checked_sub(1)?)?;
+    if line.is_empty() || line.starts_with('#') {
+        return None;
+    }
+    let spaced = spacing(line);
+    if spaced.is_some() {
+        return spaced;
+    }
+    let (word, operands) = match line.split_once(' ') {
+        Some((word, operands)) => (word, Some(operands)),
+        None => (line, None),
+    };
+    match mnemonic_named(word.as_bytes()) {
+        Some(mnemonic) => operating(word, mnemonic, operands),
+        None => Some(naming(word)),
+    }
+}
+
+/// What is wrong with what stands between a line's words.
+fn spacing(line: &str) -> Option<Mistake<'_>> {
+    if line.contains('\r') {
+        return Some(Mistake::CarriageReturn);
+    }
+    if line.contains('\t') {
+        return Some(Mistake::Tab);
+    }
+    if line.starts_with(' ') {
+        return Some(Mistake::Indent);
+    }
+    if line.contains('#') || line.contains(';') || line.contains("//") {
+        return Some(Mistake::Comment);
+    }
+    if line.ends_with(' ') || line.contains("  ") {
+        return Some(Mistake::Space);
+    }
+    None
+}
+
+/// What is wrong with a word that no instruction has.
+fn naming(word: &str) -> Mistake<'_> {
+    if word.ends_with(':') {
+        return Mistake::Label;
+    }
+    if word.bytes().any(|letter| letter.is_ascii_uppercase()) {
+        return Mistake::Capital { word };
+    }
+    Mistake::Word { word }
+}
+
+/// What is wrong with the operands of an instruction.
+fn operating<'a>(
+    word: &'a str,
+    mnemonic: Mnemonic,
+    operands: Option<&'a str>,
+) -> Option<Mistake<'a>> {
+    let (form, wanted) = form_of(mnemonic);
+    let count = match operands {
+        Some(operands) => operands.split(',').count(),
+        None => 0,
+    };
+    if count != wanted.len() {
+        return Some(Mistake::Operands { word, form });
+    }
+    let operands = operands?;
+    if operands.contains(" ,") || operands.split(", ").count() != count {
+        return Some(Mistake::Comma);
+    }
+    for (kind, operand) in wanted.iter().zip(operands.split(", ")) {
+        if reading(*kind, operand.as_bytes()) == Err(Fault::Shape) {
+            return Some(Mistake::Shape {
+                word: operand,
+                wanted: *kind,
+            });
+        }
+    }
+    for (kind, operand) in wanted.iter().zip(operands.split(", ")) {
+        if reading(*kind, operand.as_bytes()) == Err(Fault::Range) {
+            return Some(Mistake::Range {
+                word: operand,
+                wanted: *kind,
+            });
+        }
+    }
+    None
+}
+
+/// How the operands of an instruction are written, and what they are.
+fn form_of(mnemonic: Mnemonic) -> (&'static str, &'static [Wanted]) {
+    match mnemonic {
+        Mnemonic::Alu(..) => (" r1, r2 or r1, 5", &[Wanted::Register, Wanted::Source]),
+        Mnemonic::MovSx(_) => (" r1, r2", &[Wanted::Register, Wanted::Register]),
+        Mnemonic::Neg(_) | Mnemonic::End(..) => (" r1", &[Wanted::Register]),
+        Mnemonic::Jump => (" +2", &[Wanted::Offset]),
+        Mnemonic::JumpLong => (" +2", &[Wanted::Distance]),
+        Mnemonic::JumpIf(..) => (
+            " r1, r2, +2 or r1, 5, +2",
+            &[Wanted::Register, Wanted::Source, Wanted::Offset],
+        ),
+        Mnemonic::Call => (" 1", &[Wanted::Number]),
+        Mnemonic::Exit => (", alone", &[]),
+        Mnemonic::Load(_) | Mnemonic::LoadSx(_) => {
+            (" r1, [r2+0]", &[Wanted::Register, Wanted::Address])
+        }
+        Mnemonic::StoreReg(_) => (" [r1+0], r2", &[Wanted::Address, Wanted::Register]),
+        Mnemonic::StoreImm(_) => (" [r1+0], 5", &[Wanted::Address, Wanted::Number]),
+        Mnemonic::Wide => (" r1, 5", &[Wanted::Register, Wanted::Value]),
+    }
+}
+
+/// Reads an operand.
+fn reading(wanted: Wanted, operand: &[u8]) -> Result<(), Fault> {
+    match wanted {
+        Wanted::Register => {
+            register_of(operand)?;
+        }
+        Wanted::Source => {
+            source_of(operand)?;
+        }
+        Wanted::Number => {
+            number_of(operand)?;
+        }
+        Wanted::Value => {
+            value_of(operand)?;
+        }
+        Wanted::Address => {
+            address_of(operand)?;
+        }
+        Wanted::Offset => {
+            offset_of(operand)?;
+        }
+        Wanted::Distance => {
+            distance_of(operand)?;
+        }
+    }
+    Ok(())
+}
+
+impl Wanted {
+    /// What an operand that isn't written so is not, and how it is written.
+    fn shape(self) -> &'static str {
+        match self {
+            Wanted::Register => "is no register: r0 to r10",
+            Wanted::Source => {
+                "is no register, r0 to r10, and no number: 0, or decimal digits without a leading zero, behind a - where it is negative"
+            }
+            Wanted::Number => {
+                "is no number: 0, or decimal digits without a leading zero, behind a - where it is negative"
+            }
+            Wanted::Value => "is no number: 0, or decimal digits without a leading zero or a sign",
+            Wanted::Address => {
+                "is no place: a register and a distance with its sign, in brackets, as [r1+0] or [r10-8]"
+            }
+            Wanted::Offset | Wanted::Distance => {
+                "is no distance: decimal digits without a leading zero, behind a + or a -, as +2, or +0"
+            }
+        }
+    }
+
+    /// The range of its number.
+    fn range(self) -> &'static str {
+        match self {
+            Wanted::Register => "r0 to r10",
+            Wanted::Source | Wanted::Number | Wanted::Distance => "-2147483648 to 2147483647",
+            Wanted::Value => "0 to 18446744073709551615",
+            Wanted::Address | Wanted::Offset => "-32768 to 32767",
+        }
+    }
+}
+
+/// A word as it is shown: no letter that could move the cursor of a terminal, and not too long.
+#[derive(Clone, Copy, Debug)]
+struct Shown<'a>(&'a str);
+
+impl fmt::Display for Shown<'_> {
+    fn fmt<W: fmt::Write>(&self, f: &mut fmt::Formatter<W>) -> fmt::Result {
+        for letter in self.0.chars().take(SHOWN_LIMIT) {
+            f.write_char(if letter == ' ' || letter.is_ascii_graphic() {
+                letter
+            } else {
+                '?'
+            })?;
+        }
+        if self.0.chars().count() > SHOWN_LIMIT {
+            f.write_str("..")?;
+        }
+        Ok(())
+    }
+}
+
+impl fmt::Display for Mistake<'_> {
+    fn fmt<W: fmt::Write>(&self, f: &mut fmt::Formatter<W>) -> fmt::Result {
+        match self {
+            Mistake::CarriageReturn => f.write_str(
+                "a carriage return: lines end with a line feed alone",
+            ),
+            Mistake::Tab => f.write_str("a tab: one space stands behind a word or a comma"),
+            Mistake::Indent => f.write_str("a space before the first word"),
+            Mistake::Comment => {
+                f.write_str("a comment stands on a line of its own, which begins with #")
+            }
+            Mistake::Space => f.write_str("a space at the end, or two in a row"),
+            Mistake::Comma => f.write_str(
+                "a comma and one space stand between operands, and no space before the comma",
+            ),
+            Mistake::Label => {
+                f.write_str("there are no labels: a jump has its distance in slots, as ja +2")
+            }
+            Mistake::Capital { word } => {
+                let word = Shown(word);
+                write!(f, "{word} has a capital letter: words are in small ones")
+            }
+            Mistake::Word { word } => {
+                let word = Shown(word);
+                write!(
+                    f,
+                    "no instruction has the word {word}: add, sub, mul, div, sdiv, mod, smod, or, and, xor, lsh, rsh, arsh, neg, mov, movsx8 to movsx32, ja, jal, jeq, jne, jgt, jge, jlt, jle, jsgt, jsge, jslt, jsle, jset, le, be and swap with 16, 32 or 64, ldxb, ldxh, ldxw, ldxdw, stxb to stxdw, stb to stdw, lddw, call and exit do; with 32 behind it, half as wide"
+                )
+            }
+            Mistake::Operands { word, form } => {
+                write!(f, "more or fewer operands than in: {word}{form}")
+            }
+            Mistake::Shape { word, wanted } => {
+                let word = Shown(word);
+                let shape = wanted.shape();
+                write!(f, "{word} {shape}")
+            }
+            Mistake::Range { word, wanted } => {
+                let word = Shown(word);
+                let range = wanted.range();
+                write!(f, "{word} is out of its range, {range}")
+            }
+        }
+    }
+}

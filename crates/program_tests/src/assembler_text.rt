@@ -1,0 +1,142 @@
+//! What is said of faulty lines of assembler texts.
+
+use assemble::{AsmError, Rule, assemble, mistake_of};
+use std::alloc::Global;
+use std::test::Fail;
+
+/// Whether a line behind others is refused by this rule, and this is said of it.
+fn is_told(alloc: Global, line: &str, rule: Rule, words: &str) -> Result<bool, Fail> {
+    let text = format!(in alloc; "# two\n\nmov r0, 0\n{line}\nexit 0\n")?;
+    let Err(AsmError::Fault { rule: broken, line }) = assemble(alloc, text.as_str()) else {
+        return Ok(false);
+    };
+    let Some(mistake) = mistake_of(text.as_str(), line) else {
+        return Ok(false);
+    };
+    let told = mistake.to_string(alloc)?;
+    Ok(line == 4 && broken == rule && told.as_str() == words)
+}
+
+/// Whether each line, behind others, is refused by this rule and has these words said of it.
+fn are_told(alloc: Global, rule: Rule, rows: &[(&str, &str)]) -> Result<bool, Fail> {
+    for (line, words) in rows {
+        if !is_told(alloc, line, rule, words)? {
+            return Ok(false);
+        }
+    }
+    Ok(true)
+}
+
+const CARRIAGE_RETURN: &str = "a carriage return: lines end with a line feed alone";
+
+const TAB: &str = "a tab: one space stands behind a word or a comma";
+
+const INDENT: &str = "a space before the first word";
+
+const COMMENT: &str = "a comment stands on a line of its own, which begins with #";
+
+const SPACE: &str = "a space at the end, or two in a row";
+
+const COMMA: &str = "a comma and one space stand between operands, and no space before the comma";
+
+const LABEL: &str = "there are no labels: a jump has its distance in slots, as ja +2";
+
+#[test]
+fn words_of_no_instruction(rt: HostRuntime) -> Result<(), Fail> {
+    let rows = [
+        ("exit\r", CARRIAGE_RETURN),
+        ("\texit", TAB),
+        ("mov\tr0, 0", TAB),
+        ("  exit", INDENT),
+        ("; exit", COMMENT),
+        ("// exit", COMMENT),
+        ("exit;", COMMENT),
+        ("loop:", LABEL),
+        ("EXIT", "EXIT has a capital letter: words are in small ones"),
+        (
+            "move\u{e9} r1, 5",
+            "no instruction has the word move?: add, sub, mul, div, sdiv, mod, smod, or, and, xor, lsh, rsh, arsh, neg, mov, movsx8 to movsx32, ja, jal, jeq, jne, jgt, jge, jlt, jle, jsgt, jsge, jslt, jsle, jset, le, be and swap with 16, 32 or 64, ldxb, ldxh, ldxw, ldxdw, stxb to stxdw, stb to stdw, lddw, call and exit do; with 32 behind it, half as wide",
+        ),
+    ];
+    assert!(rt; are_told(rt.alloc(), Rule::Word, &rows)?);
+    Ok(())
+}
+
+#[test]
+fn operands_of_another_shape(rt: HostRuntime) -> Result<(), Fail> {
+    let rows = [
+        ("mov r0, 0\r", CARRIAGE_RETURN),
+        ("mov r0,\t0", TAB),
+        ("mov r0, 0 # none", COMMENT),
+        ("mov r0, 0 ", SPACE),
+        ("mov r0,  0", SPACE),
+        ("mov r0 , 0", COMMA),
+        ("mov r0,0", COMMA),
+        (
+            "mov r0 0",
+            "more or fewer operands than in: mov r1, r2 or r1, 5",
+        ),
+        ("neg", "more or fewer operands than in: neg r1"),
+        (
+            "jeq r1, 0",
+            "more or fewer operands than in: jeq r1, r2, +2 or r1, 5, +2",
+        ),
+        ("exit 0", "more or fewer operands than in: exit, alone"),
+        ("mov r11, 0", "r11 is no register: r0 to r10"),
+        (
+            "mov r0, 0x10",
+            "0x10 is no register, r0 to r10, and no number: 0, or decimal digits without a leading zero, behind a - where it is negative",
+        ),
+        (
+            "call send",
+            "send is no number: 0, or decimal digits without a leading zero, behind a - where it is negative",
+        ),
+        (
+            "lddw r1, -1",
+            "-1 is no number: 0, or decimal digits without a leading zero or a sign",
+        ),
+        (
+            "ldxdw r3, [r1 + 0]",
+            "[r1 + 0] is no place: a register and a distance with its sign, in brackets, as [r1+0] or [r10-8]",
+        ),
+        (
+            "ja loop",
+            "loop is no distance: decimal digits without a leading zero, behind a + or a -, as +2, or +0",
+        ),
+        (
+            "jal 12345678901234567890123456789012345678901",
+            "1234567890123456789012345678901234567890.. is no distance: decimal digits without a leading zero, behind a + or a -, as +2, or +0",
+        ),
+    ];
+    assert!(rt; are_told(rt.alloc(), Rule::Shape, &rows)?);
+    Ok(())
+}
+
+#[test]
+fn numbers_out_of_range(rt: HostRuntime) -> Result<(), Fail> {
+    let rows = [
+        (
+            "mov r0, 2147483648",
+            "2147483648 is out of its range, -2147483648 to 2147483647",
+        ),
+        (
+            "call -2147483649",
+            "-2147483649 is out of its range, -2147483648 to 2147483647",
+        ),
+        (
+            "lddw r1, 18446744073709551616",
+            "18446744073709551616 is out of its range, 0 to 18446744073709551615",
+        ),
+        (
+            "stb [r10-32769], 99999999999",
+            "[r10-32769] is out of its range, -32768 to 32767",
+        ),
+        ("ja +32768", "+32768 is out of its range, -32768 to 32767"),
+        (
+            "jal +2147483648",
+            "+2147483648 is out of its range, -2147483648 to 2147483647",
+        ),
+    ];
+    assert!(rt; are_told(rt.alloc(), Rule::Range, &rows)?);
+    Ok(())
+}
