@@ -30,6 +30,15 @@ fn requests(rt: HostRuntime) -> Result<(), Fail> {
             Request::Draw {
                 scenario,
                 picture: "a.svg",
+                only_messages: false,
+            },
+        ),
+        (
+            "draw a.txt --messages a.svg",
+            Request::Draw {
+                scenario,
+                picture: "a.svg",
+                only_messages: true,
             },
         ),
         (
@@ -188,14 +197,15 @@ Options:
   -h, --help         Print help
 Carries out a scenario, and writes its picture as an SVG file
 
-Usage: sblog draw <SCENARIO> <OUT>
+Usage: sblog draw [OPTIONS] <SCENARIO> <OUT>
 
 Arguments:
   <SCENARIO>  
   <OUT>       
 
 Options:
-  -h, --help  Print help
+      --messages  Leaves out packets of numbers and acknowledgements, and their columns
+  -h, --help      Print help
 Verifies an image and prints how many instructions it has
 
 Usage: sblog check <IMAGE>

@@ -16,6 +16,8 @@ mod explaining_spans;
 #[cfg(test)]
 mod greatest;
 #[cfg(test)]
+mod messages;
+#[cfg(test)]
 mod running;
 #[cfg(test)]
 mod scenario_text;
