@@ -32,7 +32,7 @@ _sblog() {
         _sblog_words '--workers --budget --help' || _sblog_files 'scenario'
         ;;
     draw)
-        _sblog_words '--help' || _sblog_files 'scenario'
+        _sblog_words '--messages --help' || _sblog_files 'scenario'
         ;;
     check)
         _sblog_words '--help' || _sblog_files 'sbi'

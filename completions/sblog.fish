@@ -14,6 +14,7 @@ complete -c sblog -n __fish_use_subcommand -f -a native -d 'Writes the x86-64 ma
 complete -c sblog -n __fish_use_subcommand -f -a help -d 'Print the help of a command'
 complete -c sblog -n '__fish_seen_subcommand_from live' -x -l workers -d 'A number from 1 to 16'
 complete -c sblog -n '__fish_seen_subcommand_from live' -x -l budget -d 'A number from 1 to 1000000'
+complete -c sblog -n '__fish_seen_subcommand_from draw' -l messages -d 'Leaves out packets of numbers and acknowledgements, and their columns'
 complete -c sblog -n '__fish_seen_subcommand_from explain' -r -F -l source -d 'The lines of C above the slots of an object file'
 complete -c sblog -n '__fish_seen_subcommand_from asm' -x -l state -d 'A number from 0 to 1024'
 complete -c sblog -n '__fish_seen_subcommand_from asm' -x -l form -a '1 2 3' -d 'Form of the image, 1, 2 or 3 (default 1)'

@@ -5,6 +5,7 @@ from collections import Counter
 
 MARK = re.compile("<use href='#([a-z]+)' x='([0-9]+)' y='([0-9]+)'/>")
 LABEL = re.compile("<text class='[tscrbj]' x='([0-9]+)' y='([0-9]+)'>([^<]*)</text>")
+PLACE = re.compile("<text class='place' x='([0-9]+)' y='18'>([0-9]+)</text>")
 SIGN = re.compile("<text x='42' y='4'>([^<]*)</text>")
 ARROWS = {
     "message": "message, with its SSN",
@@ -29,22 +30,35 @@ def first_bytes(order, text):
 
 
 class Picture:
-    """The marks and labels of the trace of a scenario with their places, and what its legend has."""
+    """The marks and labels of the trace of a scenario with their places, and what its legend has.
 
-    def __init__(self, scenario, trace):
+    Where only messages are shown, numbers and acknowledgements are left out, and entries that move one have no column.
+    """
+
+    def __init__(self, scenario, trace, only_messages=False):
         inputs = re.findall("(?m)^(input|bytes) [^ ]+ (.*)$", scenario)
         self.shown = [first_bytes(*found) for found in inputs]  # by feed, from 1
-        self.marks, self.labels, self.signs = [], [], set()
+        self.marks, self.labels, self.signs, self.numbers = [], [], set(), []
+        self.only_messages, self.messages = only_messages, set()  # the keys of those on the wire
         self.packets = {}  # by key: from, to, column, column of the copy or None, kind
         self.jobs = {}  # by process: whose message its open job has, or None where it is replayed
         self.saved, self.left = {}, {}  # by process: messages of its checkpoint; peers that restore its numbers
         self.processes = len(re.findall("(?m)^process ", trace))
         self.down = set()
         lines = re.findall("(?m)^[0-9]{6} w[0-9]+ (.*) -> (.*)$", trace)
-        for self.column, (call, answer) in enumerate(lines):
+        self.column = 0
+        for number, (call, answer) in enumerate(lines, 1):
             (verb, *numbers), (said, *told) = call.split(), answer.split()
+            is_other = verb in ("copy", "lose", "arrive") and numbers[0] not in self.messages
+            if verb in ("lose", "arrive"):
+                self.messages.discard(numbers[0])
+            if verb == "transmit" or verb == "copy" and not is_other:
+                self.messages.add(told[0])
+            if only_messages and is_other:
+                continue
+            self.numbers.append((column_x(self.column), number))
             getattr(self, verb)(said, *map(int, numbers), *map(int, told))
-        self.column = len(lines)
+            self.column += 1
         for process in list(self.jobs):
             self.end_job(process, is_cut=True)
         for packet in self.packets.values():
@@ -79,7 +93,8 @@ class Picture:
             self.signs.add("a copy, from where it was made")
 
     def put(self, key, start, end, kind):
-        self.packets[key] = (start, end, self.column, None, kind)
+        if not self.only_messages or kind in ("message", "output"):
+            self.packets[key] = (start, end, self.column, None, kind)
 
     def begin_job(self, process, sender, job):
         self.end_job(process, is_cut=True)
@@ -182,12 +197,13 @@ class Picture:
             del self.left[process]
 
 
-def is_picture(svg, scenario, trace):
+def is_picture(svg, scenario, trace, only_messages=False):
     """Whether a picture of a run has its marks and labels where they belong, the signs of its legend, and no others."""
     drawn, legend = svg.split("<g transform", 1)
-    wanted = Picture(scenario, trace)
+    wanted = Picture(scenario, trace, only_messages)
     return (
-        Counter((shape, int(x), int(y)) for shape, x, y in MARK.findall(drawn)) == Counter(wanted.marks)
+        [(int(x), int(number)) for x, number in PLACE.findall(drawn)] == wanted.numbers
+        and Counter((shape, int(x), int(y)) for shape, x, y in MARK.findall(drawn)) == Counter(wanted.marks)
         and Counter((int(x), int(y), text) for x, y, text in LABEL.findall(drawn)) == Counter(wanted.labels)
         and sorted(SIGN.findall(legend)) == sorted(wanted.signs)
     )

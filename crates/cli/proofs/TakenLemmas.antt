@@ -18,14 +18,15 @@ use Rattle.clap.specs.Walk.{at_row, has_row, more_values, nothing_held, reading_
 use Rattle.clap.specs.Faults.{entered_fault, level_fault, repeat_fault, set_fault, values_fault}
 use Rattle.clap.specs.declared.builder.ValueParser.TheVariants as parser
 use Rattle.clap.specs.declared.error.ErrorKind.TheVariants.{ArgumentConflict, InvalidValue, MissingRequiredArgument, ValueValidation, WrongNumberOfValues}
-use Rattle.clap.specs.declared.parser.matches.ValueSource.TheVariants.{CommandLine}
+use Rattle.clap.specs.declared.parser.matches.ValueSource.{ValueSource}
+use Rattle.clap.specs.declared.parser.matches.ValueSource.TheVariants.{CommandLine, DefaultValue}
 use Rattle.clap.proofs.ValueTestLemmas.{accepts-Accepts}
-use Rattle.cli.specs.Asks.{AsksBy, AsksFor, HasBudget, HasForm, HasImage, HasNumber, HasPath, HasScenario, HasState, HasWorkers, Order}
+use Rattle.cli.specs.Asks.{AsksBy, AsksFor, HasBudget, HasForm, HasImage, HasNumber, HasPath, HasScenario, HasState, HasWorkers, Order, is_set}
 use Rattle.cli.specs.Asks as order
 use Rattle.images.specs.declared.file_form.FileForm.{FileForm}
 use Rattle.images.specs.declared.file_form.FileForm.TheVariants.{Sbi1, Sbi2, Sbi3}
 use Rattle.cli.specs.Program.{sblog_app}
-use Rattle.cli.proofs.WalkLemmas.{IsFineStop, Keeps, first_none, level_fine, second_none, some_kind}
+use Rattle.cli.proofs.WalkLemmas.{Fills, IsFineStop, Keeps, first_none, level_filled, level_fine, no_default, second_none, some_kind}
 use Rattle.cli.specs.declared.command.TheConstants.{BUDGET}
 
 -- ---- rows
@@ -43,9 +44,13 @@ pub record IsSound (r : Row) : Type 0 where
   pub workers : IsNumbered (codes "workers") 1 WORKERS r text
   pub budget : IsNumbered (codes "budget") 1 BUDGET r text
 
--- the row of a first use
+-- the row of one value
+abbrev row_from : ValueSource → Rule → Text → Row
+row_from source a v = record { id = a.id; values = v ∷ []; count = None; source = Some source; reading = reading_by a }
+
+-- that of a first use
 abbrev new_row : Rule → Text → Row
-new_row a v = record { id = a.id; values = v ∷ []; count = None; source = Some CommandLine; reading = reading_by a }
+new_row a v = row_from CommandLine a v
 
 either : (a b : Bool) → (a || b) ≡ false → (a ≡ false) × (b ≡ false)
 either false b e = (refl, e)
@@ -110,6 +115,23 @@ one_only n none = go (n == 0) (1 == n) refl none
     go false true is e = sym (eqb-true _ _ is)
     go false false is e = absurd (some_kind _ _ e)
 
+no_value : (n : ℕ) → range_kinds 0 0 n ≡ [] → n ≡ 0
+no_value n none = go (0 == n) refl none
+  where
+    go : (b : Bool) → (0 == n) ≡ b → cond b [] (WrongNumberOfValues ∷ []) ≡ [] → n ≡ 0
+    go true is e = sym (eqb-true _ _ is)
+    go false is e = absurd (some_kind _ _ e)
+
+-- the first value of an argument adds its row
+value_kept : (P : Row → Type 0) (a : Rule) (v : Text) (rows : List Row) → P (new_row a v) → repeat_fault false a.id rows ≡ [] → AllByRecursion P rows
+    → AllByRecursion P (with_values a.id (reading_by a) CommandLine (v ∷ []) (without a.id rows))
+value_kept P a v rows sound once all =
+    let fresh : has_row a.id rows ≡ false = again_or_new (has_row a.id rows) once in
+    let kept : without a.id rows ≡ rows = at_no_row a.id (λ _. []) [] rows fresh ∙ append-nil rows in
+    let added : with_values a.id (reading_by a) CommandLine (v ∷ []) rows ≡ rows ++ new_row a v ∷ [] = at_no_row a.id (more_values CommandLine (v ∷ [])) (new_row a v ∷ []) rows fresh in
+    subst (λ (rs : List Row). AllByRecursion P (with_values a.id (reading_by a) CommandLine (v ∷ []) rs)) (sym kept)
+    (subst (AllByRecursion P) (sym added) (all-append P rows (new_row a v) all sound))
+
 -- a use that takes one value adds its row
 set_keeps : (P : Row → Type 0) (a : Rule) → ((v : Text) → value_kinds a.ignore_case (parser_of_value a.parser) v ≡ [] → P (new_row a v))
     → (values : List Text) (rows : List Row)
@@ -117,12 +139,8 @@ set_keeps : (P : Row → Type 0) (a : Rule) → ((v : Text) → value_kinds a.ig
     → AllByRecursion P (with_values a.id (reading_by a) CommandLine (values_or_missing a values) (without a.id rows))
 set_keeps P a sound [] rows none all = absurd (some_kind _ _ none)
 set_keeps P a sound (v ∷ []) rows none all =
-    let fresh : has_row a.id rows ≡ false = again_or_new (has_row a.id rows) (first_none (repeat_fault false a.id rows) (values_fault a (v ∷ [])) none) in
     let fits : value_kinds a.ignore_case (parser_of_value a.parser) v ≡ [] = first_none _ [] (second_none (repeat_fault false a.id rows) (values_fault a (v ∷ [])) none) in
-    let kept : without a.id rows ≡ rows = at_no_row a.id (λ _. []) [] rows fresh ∙ append-nil rows in
-    let added : with_values a.id (reading_by a) CommandLine (v ∷ []) rows ≡ rows ++ new_row a v ∷ [] = at_no_row a.id (more_values CommandLine (v ∷ [])) (new_row a v ∷ []) rows fresh in
-    subst (λ (rs : List Row). AllByRecursion P (with_values a.id (reading_by a) CommandLine (v ∷ []) rs)) (sym kept)
-    (subst (AllByRecursion P) (sym added) (all-append P rows (new_row a v) all (sound v fits)))
+    value_kept P a v rows (sound v fits) (first_none (repeat_fault false a.id rows) (values_fault a (v ∷ [])) none) all
 set_keeps P a sound (v ∷ w ∷ rest) rows none all =
     let one : length (v ∷ w ∷ rest) ≡ 1 = one_only (length (v ∷ w ∷ rest)) (first_none (range_kinds 1 1 (length (v ∷ w ∷ rest))) _ none) in
     absurd (omega arith)
@@ -167,8 +185,8 @@ unlike : {A : Type 0} (id name : Text) → bytes_eq id name ≡ false → bytes_
 unlike id name other same = absurd (true≢false (sym same ∙ other))
 
 path_sound : (a : Rule) → bytes_eq a.id (codes "state") ≡ false → bytes_eq a.id (codes "form") ≡ false
-    → bytes_eq a.id (codes "workers") ≡ false → bytes_eq a.id (codes "budget") ≡ false → (v : Text) → IsSound (new_row a v)
-path_sound a state form workers budget v = record {
+    → bytes_eq a.id (codes "workers") ≡ false → bytes_eq a.id (codes "budget") ≡ false → {source : ValueSource} (v : Text) → IsSound (row_from source a v)
+path_sound a state form workers budget {source} v = record {
   text = v;
   one = refl;
   state = unlike a.id (codes "state") state;
@@ -240,10 +258,36 @@ live_keeps = (
   ),
 )
 
+messages_sound : (source : ValueSource) (v : Text) → IsSound (row_from source (rule_in draw_leaf 2) v)
+messages_sound source v = path_sound (rule_in draw_leaf 2) refl refl refl refl {source = source} v
+
+-- the word `true` stands for a use of an option without a value
+messages_keeps : Keeps IsSound false (rule_in draw_leaf 2)
+messages_keeps [] rows none all =
+    value_kept IsSound (rule_in draw_leaf 2) (codes "true") rows (messages_sound CommandLine (codes "true"))
+    (first_none (repeat_fault false (codes "messages") rows) (values_fault (rule_in draw_leaf 2) (codes "true" ∷ [])) none) all
+messages_keeps (v ∷ rest) rows none all =
+    let no : length (v ∷ rest) ≡ 0 = no_value (length (v ∷ rest)) (first_none (range_kinds 0 0 (length (v ∷ rest))) _ none) in
+    absurd (omega arith)
+
+-- and the word `false` for none
+messages_fills : Fills IsSound (rule_in draw_leaf 2)
+messages_fills rows all = go (has_row (codes "messages") rows) refl
+  where
+    no_row : Row
+    no_row = row_from DefaultValue (rule_in draw_leaf 2) (codes "false")
+
+    go : (b : Bool) → has_row (codes "messages") rows ≡ b
+        → AllByRecursion IsSound (cond b rows (with_values (codes "messages") (reading_by (rule_in draw_leaf 2)) DefaultValue (codes "false" ∷ []) rows))
+    go true is = all
+    go false is =
+        subst (AllByRecursion IsSound) (sym (at_no_row (codes "messages") (more_values DefaultValue (codes "false" ∷ [])) (no_row ∷ []) rows is))
+        (all-append IsSound rows no_row all (messages_sound DefaultValue (codes "false")))
+
 draw_keeps : AllByRecursion (Keeps IsSound false) draw_leaf.rules
 draw_keeps = (
   set_keeps IsSound (rule_in draw_leaf 0) (λ v fits. path_sound (rule_in draw_leaf 0) refl refl refl refl v),
-  (set_keeps IsSound (rule_in draw_leaf 1) (λ v fits. path_sound (rule_in draw_leaf 1) refl refl refl refl v), (help_keeps, tt)),
+  (set_keeps IsSound (rule_in draw_leaf 1) (λ v fits. path_sound (rule_in draw_leaf 1) refl refl refl refl v), (messages_keeps, (help_keeps, tt))),
 )
 
 asm_keeps : AllByRecursion (Keeps IsSound false) asm_leaf.rules
@@ -376,7 +420,9 @@ draw_given : (words : List Text) → level_fault draw_leaf [] nothing_held words
     → ((path : Text) × HasScenario (rows_after draw_leaf.rules [] words) path)
     × ((path : Text) × HasPath (codes "OUT") (rows_after draw_leaf.rules [] words) path)
 draw_given words none =
-    let fine = level_fine IsSound draw_leaf (λ p a is. find_all (Keeps IsSound false) p draw_leaf.rules a draw_keeps is) [] words false [] (refl, (refl, (refl, tt))) none in
+    let none_by = no_default IsSound draw_leaf (λ p a is. find_all (Keeps IsSound false) p draw_leaf.rules a draw_keeps is) in
+    let fine = level_filled IsSound draw_leaf (λ p a is. find_all (Keeps IsSound false) p draw_leaf.rules a draw_keeps is) [] words false []
+    (none_by (rule_in draw_leaf 0) refl, (none_by (rule_in draw_leaf 1) refl, (messages_fills, (none_by (rule_in draw_leaf 3) refl, tt)))) none in
     let rows = rows_after draw_leaf.rules [] words in
     let all = two_required (is_given (codes "SCENARIO") rows) (is_given (codes "OUT") rows) fine.3 in
     (path_given (codes "SCENARIO") rows fine.0 all.0, path_given (codes "OUT") rows fine.0 all.1)
@@ -440,7 +486,7 @@ order_by false true draw check explain asm pack dis native help words no_help no
     (order.Live given.0.0 given.1.0 given.2.0, (refl, given.0.1, given.1.1, given.2.1))
 order_by false false true check explain asm pack dis native help words no_help none has =
     let given = draw_given words none in
-    (order.Draw given.0.0 given.1.0, (refl, given.0.1, given.1.1))
+    (order.Draw given.0.0 given.1.0 (is_set (codes "messages") (rows_after draw_leaf.rules [] words)), (refl, given.0.1, given.1.1, refl))
 order_by false false false true explain asm pack dis native help words no_help none has =
     let given = check_given words none in
     (order.Check given.0, (refl, given.1))

@@ -1,5 +1,5 @@
 -- What a parse that found no fault says of one level: of the rows that it made, and of the command that it met.
-use Rattle.std.proofs.Common.{◌≡◌, ◌&&◌, ℕ, Bool, cond, true, false, not, zero, suc, true≢false, refl, List, [], ◌∷◌, length, drop, Option, Some, None, is_some, codes, ap, sym, subst, ◌∙◌}
+use Rattle.std.proofs.Common.{◌≡◌, ◌&&◌, ℕ, Bool, cond, true, false, not, zero, suc, true≢false, refl, List, [], ◌∷◌, length, drop, Option, Some, None, is_some, codes, ap, sym, subst}
 use Rattle.std.specs.Prelude.{encode_utf8, slice_get}
 use Rattle.std.specs.List.{AllByRecursion, find, fold}
 use Rattle.std.specs.Option.{option_map_or}
@@ -50,6 +50,10 @@ IsFineStop s (Some p) = s.disable_help_subcommand ≡ false → bytes_eq p.0 (co
 -- a use of the argument that finds no fault keeps what holds of each row
 abbrev pub Keeps : (Row → Type 0) → Bool → Rule → Type 0
 Keeps P again a = (values : List Text) (rows : List Row) → use_fault again a values rows ≡ [] → AllByRecursion P rows → AllByRecursion P (used a values rows)
+
+-- so does leaving it out
+abbrev pub Fills : (Row → Type 0) → Rule → Type 0
+Fills P a = (rows : List Row) → AllByRecursion P rows → AllByRecursion P (with_default rows a)
 
 module _ (P : Row → Type 0) (s : Shape) (keeps : (p : Rule → Bool) (a : Rule) → find p s.rules ≡ Some a → Keeps P s.args_override_self a) where
   abbrev All : List Row → Type 0
@@ -227,28 +231,42 @@ module _ (P : Row → Type 0) (s : Shape) (keeps : (p : Rule → Bool) (a : Rule
 
   -- ---- the end of the walk
 
-  default_if : (b : Bool) (a : Rule) (rows : List Row) → a.defaults ≡ [] → cond b rows (default_rows a.id (reading_by a) a.defaults rows) ≡ rows
-  default_if true a rows empty = refl
-  default_if false a rows empty = ap (λ d. default_rows a.id (reading_by a) d rows) empty
+  default_if : (b : Bool) (a : Rule) (rows : List Row) → a.defaults ≡ [] → All rows → All (cond b rows (default_rows a.id (reading_by a) a.defaults rows))
+  default_if true a rows empty all = all
+  default_if false a rows empty all = subst (λ d. All (default_rows a.id (reading_by a) d rows)) (sym empty) all
 
-  no_defaults : (rules : List Rule) (rows : List Row) → AllByRecursion (λ a. a.defaults ≡ []) rules → fold with_default rows rules ≡ rows
-  no_defaults [] rows none = refl
-  no_defaults (a ∷ rest) rows none =
-      ap (λ r. fold with_default r rest) (default_if (has_row a.id rows) a rows none.0) ∙ no_defaults rest rows none.1
+  -- an argument without default values leaves the rows as they are
+  pub no_default : (a : Rule) → a.defaults ≡ [] → Fills P a
+  no_default a empty rows all = default_if (has_row a.id rows) a rows empty all
+
+  filled : (rules : List Rule) (rows : List Row) → AllByRecursion (Fills P) rules → All rows → All (fold with_default rows rules)
+  filled [] rows fill all = all
+  filled (a ∷ rest) rows fill all = filled rest (with_default rows a) fill.1 (fill.0 rows all)
+
+  no_defaults : (rules : List Rule) → AllByRecursion (λ a. a.defaults ≡ []) rules → AllByRecursion (Fills P) rules
+  no_defaults [] none = tt
+  no_defaults (a ∷ rest) none = (no_default a none.0, no_defaults rest none.1)
 
   -- what a level without a fault comes to
-  pub level_fine : (names : Names) (words : List Text) (has : Bool) (below : Kinds) → AllByRecursion (λ a. a.defaults ≡ []) s.rules
+  pub level_filled : (names : Names) (words : List Text) (has : Bool) (below : Kinds) → AllByRecursion (Fills P) s.rules
       → level_fault s names nothing_held words has below ≡ []
       → All (finished s.rules (walk s.rules names nothing_held words).held) × IsFineStop s (walk s.rules names nothing_held words).stopped
       × (below ≡ []) × (check_fault s (finished s.rules (walk s.rules names nothing_held words).held) has ≡ [])
-  level_fine names words has below defaults none =
+  level_filled names words has below fill none =
       let end = (walk s.rules names nothing_held words).held in
       let fine = walk_fine names (walk_from nothing_held) words (first_none _ _ none) (tt, tt) in
       let later = second_none (walk_fault s names (walk_from nothing_held) words) _ none in
       let settles = second_none below _ later in
       let ends = second_none (settle_fault s.rules s.args_override_self end) _ settles in (
-        subst All (sym (no_defaults s.rules (settled s.rules end).rows defaults)) (settle_keeps end (first_none _ _ settles) fine.0),
+        filled s.rules (settled s.rules end).rows fill (settle_keeps end (first_none _ _ settles) fine.0),
         fine.1,
         first_none below _ later,
         second_none (defaults_fault (settled s.rules end).rows s.rules) _ ends,
       )
+
+  -- the same of a level without default values
+  pub level_fine : (names : Names) (words : List Text) (has : Bool) (below : Kinds) → AllByRecursion (λ a. a.defaults ≡ []) s.rules
+      → level_fault s names nothing_held words has below ≡ []
+      → All (finished s.rules (walk s.rules names nothing_held words).held) × IsFineStop s (walk s.rules names nothing_held words).stopped
+      × (below ≡ []) × (check_fault s (finished s.rules (walk s.rules names nothing_held words).held) has ≡ [])
+  level_fine names words has below none = level_filled names words has below (no_defaults s.rules none)

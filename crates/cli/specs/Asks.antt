@@ -1,5 +1,7 @@
 -- What a command line asks for: the words decide it, by the rules of `clap` for `sblog_app`.
-use Rattle.std.specs.Prelude.{◌≡◌, ◌≢◌, ◌≤◌, ◌⊎◌, ℕ, List, [], Option, Some, None, codes}
+use Rattle.std.specs.Prelude.{◌≡◌, ◌≢◌, ◌≤◌, ◌⊎◌, ℕ, Bool, false, List, [], Option, Some, None, codes}
+use Rattle.std.specs.Option.{option_map_or}
+use Rattle.std.specs.Str.{bytes_eq}
 use Rattle.std.specs.Str.Parse.{IsNumeral, digits_value, without_leading_plus}
 use Rattle.std.specs.String.{string_bytes}
 use Rattle.limits.specs.declared.TheConstants.{STATE_BYTES, WORKERS}
@@ -55,11 +57,15 @@ HasImage rows path = HasPath (codes "IMAGE") rows path
 abbrev pub HasScenario : List Row → Text → Type 0
 HasScenario rows path = HasPath (codes "SCENARIO") rows path
 
+-- whether the option of this name, which has no value, was given: what stands for one is then the word `true`
+abbrev pub is_set : Text → List Row → Bool
+is_set id rows = option_map_or (λ word. bytes_eq word (codes "true")) (first_of id rows) false
+
 -- what a command line can ask for, apart from where its texts lie
 pub data Order : Type 0 where
   Run : Text → Order
   Live : Text → ℕ → ℕ → Order
-  Draw : Text → Text → Order
+  Draw : Text → Text → Bool → Order
   Check : Text → Order
   Explain : Text → Order
   Asm : Text → Text → ℕ → FileForm → Order
@@ -71,7 +77,7 @@ pub data Order : Type 0 where
 abbrev pub order_of : Request → Order
 order_of (request.Run scenario) = Run scenario.now
 order_of (request.Live scenario workers budget) = Live scenario.now workers budget
-order_of (request.Draw scenario picture) = Draw scenario.now picture.now
+order_of (request.Draw scenario picture only) = Draw scenario.now picture.now only
 order_of (request.Check image) = Check image.now
 order_of (request.Explain image) = Explain image.now
 order_of (request.Asm source image state form) = Asm source.now image.now state form
@@ -91,7 +97,8 @@ abbrev pub AsksIn : Text → List Row → Order → Type 0
 AsksIn name rows (Run scenario) = (name ≡ codes "run") × HasScenario rows scenario
 AsksIn name rows (Live scenario workers budget) = (name ≡ codes "live")
     × HasScenario rows scenario × HasWorkers rows workers × HasBudget rows budget
-AsksIn name rows (Draw scenario picture) = (name ≡ codes "draw") × HasScenario rows scenario × HasPath (codes "OUT") rows picture
+AsksIn name rows (Draw scenario picture only) = (name ≡ codes "draw")
+    × HasScenario rows scenario × HasPath (codes "OUT") rows picture × (only ≡ is_set (codes "messages") rows)
 AsksIn name rows (Check image) = (name ≡ codes "check") × HasImage rows image
 AsksIn name rows (Explain image) = (name ≡ codes "explain") × HasImage rows image
 AsksIn name rows (Asm source image state form) = (name ≡ codes "asm")

@@ -3,7 +3,7 @@ use Rattle.std.specs.Prelude.{ℕ, Bool, Some, codes, false, true}
 use Rattle.limits.specs.declared.TheConstants.{STATE_BYTES, WORKERS}
 use Rattle.clap.specs.Words.{App, Rule, Text, new_app, new_rule, with_rule, with_subcommand}
 use Rattle.clap.specs.Simple.{on_top}
-use Rattle.clap.specs.declared.builder.ArgAction.TheVariants.{Set}
+use Rattle.clap.specs.declared.builder.ArgAction.TheVariants.{Set, SetTrue}
 use Rattle.clap.specs.declared.builder.ValueParser.TheVariants as parser
 use Rattle.cli.specs.declared.command.TheConstants.{BUDGET}
 
@@ -21,6 +21,10 @@ number_rule id required low high = record (new_rule id) {
   parser = Some (parser.Unsigned low high);
 }
 
+-- an option without a value, which may be given
+abbrev pub flag_rule : Text → Rule
+flag_rule id = record (new_rule id) { long = Some id; action = Some SetTrue }
+
 -- `run SCENARIO`
 abbrev pub run_app : App
 run_app = with_rule (new_app (codes "run")) (required_rule (codes "SCENARIO"))
@@ -30,9 +34,10 @@ abbrev pub live_app : App
 live_app = with_rule (with_rule (with_rule (new_app (codes "live")) (required_rule (codes "SCENARIO")))
     (number_rule (codes "workers") true 1 WORKERS)) (number_rule (codes "budget") true 1 BUDGET)
 
--- `draw SCENARIO OUT`
+-- `draw [--messages] SCENARIO OUT`
 abbrev pub draw_app : App
-draw_app = with_rule (with_rule (new_app (codes "draw")) (required_rule (codes "SCENARIO"))) (required_rule (codes "OUT"))
+draw_app = with_rule (with_rule (with_rule (new_app (codes "draw")) (required_rule (codes "SCENARIO"))) (required_rule (codes "OUT")))
+    (flag_rule (codes "messages"))
 
 -- `check IMAGE`
 abbrev pub check_app : App

@@ -3,7 +3,7 @@
 ghost use Rattle.std.specs.Prelude.{◌≡◌, IfOk, codes, false, true};
 ghost use Rattle.clap.specs.Words.{app_of, rule_of};
 ghost use Rattle.clap.specs.declared.builder.Command.TheViews.{out-Command as fields_of};
-ghost use Rattle.cli.specs.Program.{asm_app, check_app, dis_app, draw_app, explain_app, live_app, native_app, number_rule, pack_app, required_rule, run_app, sblog_app, top_app, writer_app};
+ghost use Rattle.cli.specs.Program.{asm_app, check_app, dis_app, draw_app, explain_app, flag_rule, live_app, native_app, number_rule, pack_app, required_rule, run_app, sblog_app, top_app, writer_app};
 
 use clap::builder::ValueParser;
 use clap::{Arg, ArgAction, Command};
@@ -30,6 +30,17 @@ fn number<'a>(alloc: Global, id: &'a str, name: &'a str, low: u64, high: u64) ->
         .long(id)
         .value_name(name)
         .value_parser(ValueParser::Unsigned(low, high))
+}
+
+/// An option without a value.
+fn flag<'a>(alloc: Global, id: &'a str, help: &'a str) -> Arg<'a>
+    ensures rule { rule_of result ≡ flag_rule id.entry.now }
+    ensures local { result.global ≡ false }
+{
+    Arg::new(alloc, id)
+        .long(id)
+        .action(ArgAction::SetTrue)
+        .help(help)
 }
 
 /// The option `--form` of an image: 1, 2 or 3.
@@ -69,7 +80,9 @@ fn draw<'a>(alloc: Global) -> Result<Command<'a>, AllocError>
     let scenario = Command::new(alloc, "draw")
         .about("Carries out a scenario, and writes its picture as an SVG file")
         .arg(required(alloc, "SCENARIO"))?;
-    scenario.arg(required(alloc, "OUT"))
+    let picture = scenario.arg(required(alloc, "OUT"))?;
+    let help = "Leaves out packets of numbers and acknowledgements, and their columns";
+    picture.arg(flag(alloc, "messages", help))
 }
 
 fn check<'a>(alloc: Global) -> Result<Command<'a>, AllocError>

@@ -2,7 +2,7 @@
 
 ghost use Rattle.std.specs.Prelude.{◌≡◌, ◌≢◌, IfErr, IfOk, [], codes, map, option_map, string_bytes};
 ghost use Rattle.clap.specs.Words.{first_of, found_of, kind_of, rows_of, subcommand_rows_of};
-ghost use Rattle.cli.specs.Asks.{AsksBy, AsksFor, AsksIn, Explains, Gives, GivesOrder, HasForm, HasNumber, IsInRange, IsRefusal, order_of};
+ghost use Rattle.cli.specs.Asks.{AsksBy, AsksFor, AsksIn, Explains, Gives, GivesOrder, HasForm, HasNumber, IsInRange, IsRefusal, is_set, order_of};
 
 use crate::command::{BUDGET, sblog};
 use crate::refusal::{Refusal, Usage};
@@ -26,10 +26,11 @@ pub enum Request<'a> {
         workers: u8,
         budget: u32,
     },
-    /// `draw SCENARIO OUT`.
+    /// `draw [--messages] SCENARIO OUT`.
     Draw {
         scenario: &'a str,
         picture: &'a str,
+        only_messages: bool,
     },
     /// `check IMAGE`.
     Check {
@@ -84,6 +85,16 @@ fn number_in(matches: &ArgMatches<'_>, id: &str, low: u64, high: u64) -> Option<
     }
 }
 
+/// Whether an option without a value was given.
+fn is_set(matches: &ArgMatches<'_>, id: &str) -> bool
+    ensures { result ≡ is_set id.now (rows_of (found_of matches.now)) }
+{
+    match path_in(matches, id) {
+        Some(word) => word == "true",
+        None => false,
+    }
+}
+
 /// The form of the image that is to be written.
 fn form_in(matches: &ArgMatches<'_>) -> Option<FileForm>
     ensures { Gives (HasForm (rows_of (found_of matches.now))) result }
@@ -128,7 +139,12 @@ fn draw_in<'a>(matches: &ArgMatches<'a>) -> Option<Request<'a>>
 {
     let scenario = path_in(matches, "SCENARIO")?;
     let picture = path_in(matches, "OUT")?;
-    Some(Request::Draw { scenario, picture })
+    let only_messages = is_set(matches, "messages");
+    Some(Request::Draw {
+        scenario,
+        picture,
+        only_messages,
+    })
 }
 
 fn check_in<'a>(matches: &ArgMatches<'a>) -> Option<Request<'a>>

@@ -1,2 +1,3 @@
+mod ColumnLemmas
 mod PageLemmas
 mod MarkLemmas

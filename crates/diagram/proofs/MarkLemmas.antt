@@ -2,29 +2,31 @@
 use Rattle.std.proofs.Common.{◌≡◌, ◌∙◌, ℕ, ◌+◌, ◌<◌, List, [], ◌∷◌, ◌++◌, length, take, get_or, sym, ap, arith, append_assoc, append-nil}
 use Rattle.std.proofs.lemmas.List.{take_more, length-take-le}
 use Rattle.world.specs.declared.entry.Entry.{Entry}
-use Rattle.diagram.specs.Marks.{HasPart, entry_mark, marks_from}
+use Rattle.diagram.specs.Marks.{HasPart, marks_from, place_mark}
 
-marks_push : (n column : ℕ) (es : List Entry) (e : Entry) → marks_from n column (es ++ e ∷ []) ≡ marks_from n column es ++ entry_mark n (column + length es) e
-marks_push n column [] e =
-    let at : column ≡ column + 0 = omega arith in
-    append-nil (entry_mark n column e) ∙ ap (λ k. entry_mark n k e) at
-marks_push n column (x ∷ xs) e =
-    let at : column + 1 + length xs ≡ column + length (x ∷ xs) = omega arith in
-    ap (λ t. entry_mark n column x ++ t) (marks_push n (column + 1) xs e ∙ ap (λ k. marks_from n (column + 1) xs ++ entry_mark n k e) at)
-    ∙ sym (append_assoc (entry_mark n column x) (marks_from n (column + 1) xs) (entry_mark n (column + length (x ∷ xs)) e))
+-- the marks of entries at some places
+module _ (n : ℕ) (es : List Entry) where
+  marks_push : (column : ℕ) (ps : List ℕ) (p : ℕ) → marks_from n es column (ps ++ p ∷ []) ≡ marks_from n es column ps ++ place_mark n es (column + length ps) p
+  marks_push column [] p =
+      let at : column ≡ column + 0 = omega arith in
+      append-nil (place_mark n es column p) ∙ ap (λ k. place_mark n es k p) at
+  marks_push column (x ∷ xs) p =
+      let at : column + 1 + length xs ≡ column + length (x ∷ xs) = omega arith in
+      ap (λ t. place_mark n es column x ++ t) (marks_push (column + 1) xs p ∙ ap (λ k. marks_from n es (column + 1) xs ++ place_mark n es k p) at)
+      ∙ sym (append_assoc (place_mark n es column x) (marks_from n es (column + 1) xs) (place_mark n es (column + length (x ∷ xs)) p))
 
--- after the entry at i, there are the marks of those before it and its own
-pub has_one_more : (n : ℕ) (es : List Entry) (i : ℕ) (d e : Entry) (start old new : List ℕ) → i < length es → e ≡ get_or es i d
-    → old ≡ start ++ marks_from n 0 (take i es) → new ≡ old ++ entry_mark n i e → new ≡ start ++ marks_from n 0 (take (i + 1) es)
-has_one_more n es i d e start old new lt is before written =
-    let at : 0 + length (take i es) ≡ i = ap (λ n. 0 + n) (length-take-le i es (omega (arith, lt))) ∙ omega arith in
-    written ∙ ap (λ t. t ++ entry_mark n i e) before
-    ∙ append_assoc start (marks_from n 0 (take i es)) (entry_mark n i e)
-    ∙ ap (λ t. start ++ t)
-    (ap (λ k. marks_from n 0 (take i es) ++ entry_mark n k e) (sym at)
-    ∙ sym (marks_push n 0 (take i es) e)
-    ∙ ap (λ x. marks_from n 0 (take i es ++ x ∷ [])) is
-    ∙ ap (λ l. marks_from n 0 l) (sym (take_more es i d lt)))
+  -- after the place at i, there are the marks of those before it and its own
+  pub has_one_more : (ps : List ℕ) (i d p : ℕ) (start old new : List ℕ) → i < length ps → p ≡ get_or ps i d
+      → old ≡ start ++ marks_from n es 0 (take i ps) → new ≡ old ++ place_mark n es i p → new ≡ start ++ marks_from n es 0 (take (i + 1) ps)
+  has_one_more ps i d p start old new lt is before written =
+      let at : 0 + length (take i ps) ≡ i = ap (λ n. 0 + n) (length-take-le i ps (omega (arith, lt))) ∙ omega arith in
+      written ∙ ap (λ t. t ++ place_mark n es i p) before
+      ∙ append_assoc start (marks_from n es 0 (take i ps)) (place_mark n es i p)
+      ∙ ap (λ t. start ++ t)
+      (ap (λ k. marks_from n es 0 (take i ps) ++ place_mark n es k p) (sym at)
+      ∙ sym (marks_push 0 (take i ps) p)
+      ∙ ap (λ x. marks_from n es 0 (take i ps ++ x ∷ [])) is
+      ∙ ap (λ l. marks_from n es 0 l) (sym (take_more ps i d lt)))
 
 -- a part stays a part behind more text
 pub has_more : (part text more : List ℕ) → HasPart part text → HasPart part (text ++ more)

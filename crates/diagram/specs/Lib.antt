@@ -1,3 +1,4 @@
+pub mod Columns
 pub mod Page
 pub mod Label
 pub mod Marks

@@ -1,5 +1,6 @@
 -- What an entry shows by itself: a mark and labels, in its column and on its process's line (docs/FORMATS.md, "Picture").
-use Rattle.std.specs.Prelude.{◌≡◌, ℕ, ◌+◌, List, [], ◌∷◌, ◌++◌, codes, decimal, length, nat_le, take, if◌then◌else◌}
+use Rattle.std.specs.Prelude.{◌≡◌, ℕ, ◌+◌, List, [], ◌∷◌, ◌++◌, codes, decimal, length, nat_le, slice_get, take, if◌then◌else◌}
+use Rattle.std.specs.Option.{option_map_or}
 use Rattle.world.specs.declared.call.Call.{Call}
 use Rattle.world.specs.declared.call.Call.TheVariants as call
 use Rattle.world.specs.declared.answer.Answer.{Answer}
@@ -59,10 +60,14 @@ call_mark n column c k = []
 abbrev pub entry_mark : ℕ → ℕ → Entry → List ℕ
 entry_mark n column e = call_mark n column e.call (number_in e.answer)
 
--- the marks of entries, of which the first has this column
-abbrev pub marks_from : ℕ → ℕ → List Entry → List ℕ
-marks_from n column [] = []
-marks_from n column (e ∷ rest) = entry_mark n column e ++ marks_from n (column + 1) rest
+-- the mark of the entry at a place, if there is one
+abbrev pub place_mark : ℕ → List Entry → ℕ → ℕ → List ℕ
+place_mark n entries column place = option_map_or (λ e. entry_mark n column e) (slice_get entries place) []
+
+-- the marks of the entries at these places, of which the first has this column
+abbrev pub marks_from : ℕ → List Entry → ℕ → List ℕ → List ℕ
+marks_from n entries column [] = []
+marks_from n entries column (place ∷ rest) = place_mark n entries column place ++ marks_from n entries (column + 1) rest
 
 -- the text has this part
 abbrev pub HasPart : List ℕ → List ℕ → Type 0

@@ -2,16 +2,17 @@
 //!
 //! [`draw`] draws the entries of a journal as a space-time diagram: a line a process, one for the outside, and time to the
 //! right, a column an entry. A packet is an arrow from where it goes on the wire to where it arrives or is lost; a handler
-//! call is a box from its start to its finish. The result is the text of an SVG file, which a browser shows. Its promise: any
+//! call is a box from its start to its finish. The result is the text of an SVG file, which a browser shows. Packets of numbers and acknowledgements can be left out. Its promise: any
 //! list of entries and any processes come to a text, also a list that is no journal; only memory can run out. It has the mark
-//! of each entry in its column and on its line; what packets and handler calls look like is tested.
+//! of each entry that has a column there and on its line; what packets and handler calls look like is tested.
 //!
 //! ```text
 //! let scenario = parse(alloc, text, Allowed::All)?;
-//! draw(alloc, &scenario.processes, session.journal())?; // "<svg xmlns=.."
+//! draw(alloc, &scenario.processes, entries, false)?; // "<svg xmlns=.."
 //! ```
 #![tactic(auto)]
 
+mod columns;
 mod ink;
 mod label;
 mod lane;

@@ -4,7 +4,7 @@
 
 ghost use Rattle.std.specs.Prelude.{◌≡◌, ◌++◌, OnOk, codes, string_bytes};
 ghost use Rattle.diagram.specs.Label.{label_text};
-ghost use Rattle.diagram.specs.Marks.{call_mark, entry_mark, first_bytes, input_mark, marks_from, number_in, shape_text};
+ghost use Rattle.diagram.specs.Marks.{call_mark, entry_mark, first_bytes, input_mark, marks_from, number_in, place_mark, shape_text};
 ghost use Rattle.diagram.specs.declared.label.Side.TheVariants.{Beyond};
 
 use crate::label::{Side, push_number, push_word};
@@ -17,18 +17,35 @@ use world::{Answer, Call, Entry};
 /// How many bytes of a message are shown.
 const SHOWN_BYTES: usize = 4;
 
-/// Writes the marks of entries in their columns, in a picture of so many processes.
+/// Writes the marks of the entries at these places, a column each, in a picture of so many processes.
 pub(crate) fn push_marks(
     out: &mut String,
     processes: u8,
     entries: &[Entry],
+    places: &[usize],
 ) -> Result<(), AllocError>
-    ensures { OnOk result (string_bytes out.new ≡ string_bytes out.old ++ marks_from processes 0 entries.now) }
+    ensures { OnOk result (string_bytes out.new ≡ string_bytes out.old ++ marks_from processes entries.now 0 places.now) }
 {
-    for (column, entry) in entries.iter().enumerate() {
-        push_entry_mark(out, processes, column, entry)?;
+    for (column, place) in places.iter().enumerate() {
+        push_place_mark(out, processes, entries, column, *place)?;
     }
     Ok(())
+}
+
+/// Writes the mark of the entry at a place, if there is one, in a column.
+fn push_place_mark(
+    out: &mut String,
+    processes: u8,
+    entries: &[Entry],
+    column: usize,
+    place: usize,
+) -> Result<(), AllocError>
+    ensures { OnOk result (string_bytes out.new ≡ string_bytes out.old ++ place_mark processes entries.now column place) }
+{
+    match entries.get(place) {
+        Some(entry) => push_entry_mark(out, processes, column, entry),
+        None => Ok(()),
+    }
 }
 
 /// Writes the mark of the entry in a column.

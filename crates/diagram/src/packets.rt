@@ -26,9 +26,11 @@ impl Picture {
         self.place(key, wire)
     }
 
-    /// A packet goes on the wire under its key.
+    /// A packet goes on the wire under its key, if it is shown.
     pub(crate) fn place(&mut self, key: usize, wire: Wire) -> Result<(), AllocError> {
-        self.wires.insert(key, wire)?;
+        if !self.only_messages || wire.kind == Kind::Message {
+            self.wires.insert(key, wire)?;
+        }
         Ok(())
     }
 

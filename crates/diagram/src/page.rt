@@ -2,10 +2,12 @@
 
 ghost use Rattle.std.specs.Prelude.{◌≡◌, ◌++◌, IfOk, OnOk, length, min, string_bytes};
 ghost use Rattle.indexmap.specs.IndexMap.{index_map_len};
+ghost use Rattle.diagram.specs.Columns.{columns};
 ghost use Rattle.diagram.specs.Marks.{HasPart, marks_from};
 ghost use Rattle.diagram.specs.Picture.{IsPicture};
 ghost use Rattle.diagram.specs.Page.{column_place, head_text, line_place, page_height, page_width};
 
+use crate::columns::columns;
 use crate::ink::{Point, push_count, push_line, push_text};
 use crate::legend::{LEGEND_HEIGHT, LEGEND_WIDTH, STYLE};
 use crate::marks::push_marks;
@@ -50,19 +52,23 @@ pub(crate) fn lane_y(number: u8) -> usize
 }
 
 /// The picture of a run as the text of an SVG file: a line for the outside and for each process, and
-/// a column for each entry, from left to right. Of more than 255 processes the first 255 have lines.
-/// Names are written as they are: those of a scenario are letters and digits, which mean nothing else
+/// a column for each entry, from left to right. Where only messages are shown, other packets are left
+/// out, and entries that copy, lose or hand over one have no column. Of more than 255 processes the
+/// first 255 have lines. Names are written as they are: those of a scenario are letters and digits, which mean nothing else
 /// in such a text. What names a process or a packet that isn't there is not drawn. Only memory can run
 /// out.
 pub fn draw(
     alloc: Global,
     processes: &IndexMap<String, Process>,
     entries: &[Entry],
+    only_messages: bool,
 ) -> Result<String, AllocError>
-    ensures { IfOk result (λ text. IsPicture (index_map_len processes.now) entries.now (string_bytes text)) }
+    ensures { IfOk result (λ text. IsPicture (index_map_len processes.now) entries.now only_messages (string_bytes text)) }
 {
-    let inside = drawing(alloc, processes, entries)?;
-    let width = page_width(entries.len());
+    let shown = columns(alloc, entries, only_messages)?;
+    let places = shown.as_slice();
+    let inside = drawing(alloc, processes, entries, places, only_messages)?;
+    let width = page_width(places.len());
     let height = page_height(processes);
     let mut out = String::new(alloc);
     push_head(&mut out, width, height)?;
@@ -71,24 +77,28 @@ pub fn draw(
     Ok(out)
 }
 
-/// What is drawn of the entries.
+/// What is drawn of the entries at these places.
 fn drawing(
     alloc: Global,
     processes: &IndexMap<String, Process>,
     entries: &[Entry],
+    places: &[usize],
+    only_messages: bool,
 ) -> Result<String, AllocError>
-    ensures { IfOk result (λ text. HasPart (marks_from (min (index_map_len processes.now) 255) 0 entries.now) (string_bytes text)) }
+    ensures { IfOk result (λ text. HasPart (marks_from (min (index_map_len processes.now) 255) entries.now 0 places.now) (string_bytes text)) }
 {
     let count = lane_count(processes);
     let foot = lane_y(count) + MARGIN;
-    let mut picture = Picture::new(alloc, count, BEGIN)?;
-    for (column, entry) in entries.iter().enumerate() {
-        push_column(&mut picture.lines, column, foot)?;
-        picture.enter(column, entry)?;
+    let mut picture = Picture::new(alloc, count, BEGIN, only_messages)?;
+    for (column, place) in places.iter().enumerate() {
+        push_column(&mut picture.lines, column, *place, foot)?;
+        if let Some(entry) = entries.get(*place) {
+            picture.enter(column, entry)?;
+        }
     }
-    picture.close(entries.len())?;
-    push_names(&mut picture.marks, processes, count, entries.len())?;
-    joined(alloc, &picture, count, entries, foot)
+    picture.close(places.len())?;
+    push_names(&mut picture.marks, processes, count, places.len())?;
+    joined(alloc, &picture, count, entries, places, foot)
 }
 
 /// The width of a page with so many columns, in pixels.
@@ -112,12 +122,17 @@ fn lane_count(processes: &IndexMap<String, Process>) -> u8
     u8::try_from(processes.len()).unwrap_or(u8::MAX)
 }
 
-/// Writes the number of an entry, from 1, and a thin line through its column.
-fn push_column(out: &mut String, column: usize, foot: usize) -> Result<(), AllocError> {
+/// Writes the number of the entry at a place, from 1, and a thin line through its column.
+fn push_column(
+    out: &mut String,
+    column: usize,
+    place: usize,
+    foot: usize,
+) -> Result<(), AllocError> {
     let x = column_x(column);
     push_line(out, "column", Point { x, y: 24 }, Point { x, y: foot })?;
-    let place = (column as u64).saturating_add(1);
-    push_count(out, "place", Point { x, y: 18 }, "", place)
+    let number = (place as u64).saturating_add(1);
+    push_count(out, "place", Point { x, y: 18 }, "", number)
 }
 
 /// Writes the names of the lines, left of them and again after each block of columns.
@@ -157,15 +172,16 @@ fn push_lane_names(
     Ok(())
 }
 
-/// The layers of a picture of so many processes, with the marks of its entries above them, and its legend.
+/// The layers of a picture of so many processes, with the marks of the entries at these places above them, and its legend.
 fn joined(
     alloc: Global,
     picture: &Picture,
     count: u8,
     entries: &[Entry],
+    places: &[usize],
     foot: usize,
 ) -> Result<String, AllocError>
-    ensures { IfOk result (λ text. HasPart (marks_from count 0 entries.now) (string_bytes text)) }
+    ensures { IfOk result (λ text. HasPart (marks_from count entries.now 0 places.now) (string_bytes text)) }
 {
     let legend = picture.legend.text(alloc)?;
     let mut out = String::from_str(alloc, STYLE)?;
@@ -174,7 +190,7 @@ fn joined(
     out.push_str(picture.boxes.as_str())?;
     out.push_str(picture.arrows.as_str())?;
     out.push_str(picture.marks.as_str())?;
-    push_marks(&mut out, count, entries)?;
+    push_marks(&mut out, count, entries, places)?;
     writeln!(out, "<g transform='translate(0 {foot})'>")?;
     out.push_str(legend.as_str())?;
     out.push_str("</g>\n")?;

@@ -26,11 +26,18 @@ pub struct Picture {
     /// and marks and labels of packets and handler calls.
     pub marks: String,
     pub legend: Legend,
+    /// Whether packets of numbers and acknowledgements are left out.
+    pub only_messages: bool,
 }
 
 impl Picture {
-    /// A picture of the outside and so many processes, whose lines begin here.
-    pub(crate) fn new(alloc: Global, count: u8, since: usize) -> Result<Picture, AllocError> {
+    /// A picture of the outside and so many processes, whose lines begin here, of all packets or of messages.
+    pub(crate) fn new(
+        alloc: Global,
+        count: u8,
+        since: usize,
+        only_messages: bool,
+    ) -> Result<Picture, AllocError> {
         let mut lanes = Vec::new(alloc);
         for _ in 0..=usize::from(count) {
             lanes.push(Lane::new(since))?;
@@ -43,6 +50,7 @@ impl Picture {
             arrows: String::new(alloc),
             marks: String::new(alloc),
             legend: Legend::new(alloc),
+            only_messages,
         })
     }
 

@@ -7,7 +7,7 @@ use std::alloc::Global;
 use std::test::Fail;
 
 /// Lines, and what each asks for.
-const REQUESTS: [(&str, Request<'static>); 12] = [
+const REQUESTS: [(&str, Request<'static>); 13] = [
     ("check adder.sbi", Request::Check { image: "adder.sbi" }),
     ("run a.txt", Request::Run { scenario: "a.txt" }),
     (
@@ -31,6 +31,15 @@ const REQUESTS: [(&str, Request<'static>); 12] = [
         Request::Draw {
             scenario: "a.txt",
             picture: "a.svg",
+            only_messages: false,
+        },
+    ),
+    (
+        "draw a.txt --messages a.svg",
+        Request::Draw {
+            scenario: "a.txt",
+            picture: "a.svg",
+            only_messages: true,
         },
     ),
     (
@@ -206,14 +215,15 @@ Options:
   -h, --help         Print help
 Carries out a scenario, and writes its picture as an SVG file
 
-Usage: sblog draw <SCENARIO> <OUT>
+Usage: sblog draw [OPTIONS] <SCENARIO> <OUT>
 
 Arguments:
   <SCENARIO>  
   <OUT>       
 
 Options:
-  -h, --help  Print help
+      --messages  Leaves out packets of numbers and acknowledgements, and their columns
+  -h, --help      Print help
 Verifies an image and prints how many instructions it has
 
 Usage: sblog check <IMAGE>

@@ -12,7 +12,7 @@ use world::{Answer, Call, Entry};
 /// The picture of two processes and these entries.
 fn picture(alloc: Global, entries: &[Entry]) -> Result<String, Fail> {
     let scenario = parse(alloc, "process near a\nprocess far b\n", Allowed::All)?;
-    Ok(draw(alloc, &scenario.processes, entries)?)
+    Ok(draw(alloc, &scenario.processes, entries, false)?)
 }
 
 /// The entries of these calls and answers, behind an input.

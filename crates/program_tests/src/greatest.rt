@@ -108,7 +108,7 @@ fn a_full_journal_is_drawn(rt: HostRuntime) -> Result<(), Fail> {
     let alloc = rt.alloc();
     let scenario = parse(alloc, "process a x\n", Allowed::All)?;
     let entries = its_entries(alloc)?;
-    let picture = draw(alloc, &scenario.processes, entries.as_slice())?;
+    let picture = draw(alloc, &scenario.processes, entries.as_slice(), false)?;
     let text = picture.as_str();
     assert!(rt;
         text.contains(DRAWN[0])

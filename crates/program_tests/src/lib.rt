@@ -18,6 +18,8 @@ mod explaining_spans;
 #[cfg(test)]
 mod greatest;
 #[cfg(test)]
+mod messages;
+#[cfg(test)]
 mod rows;
 #[cfg(test)]
 mod running;

@@ -49,7 +49,7 @@ abbrev pub Leaves : Order → Content → Content → Type 0
 Leaves (Asm source image state form) content content' = IsWritten source image (λ bytes file. IsAssembled bytes state form file) content content'
 Leaves (Pack code image state form) content content' = IsWritten code image (λ bytes file. IsPacked bytes state form file) content content'
 Leaves (Native image code) content content' = IsWritten image code (λ bytes file. IsMachineCode bytes file) content content'
-Leaves (Draw scenario picture) content content' = IsWritten scenario picture (λ bytes file. IsDrawn content bytes file) content content'
+Leaves (Draw scenario picture only) content content' = IsWritten scenario picture (λ bytes file. IsDrawn content bytes only file) content content'
     × SparesImages content scenario picture
 Leaves order content content' = content' ≡ content
 
@@ -76,7 +76,7 @@ pub record IsDone (words : List (List ℕ)) (content content' : Content) (out ou
 abbrev pub IsRefused : Content → Order → List ℕ → Fault → Type 0
 IsRefused content (Run scenario) bytes f = IsUnstaged content All bytes f
 IsRefused content (Live scenario workers budget) bytes f = IsUnstaged content Inputs bytes f
-IsRefused content (Draw scenario picture) bytes f = IsUnstaged content All bytes f
+IsRefused content (Draw scenario picture only) bytes f = IsUnstaged content All bytes f
 IsRefused content (Check image) bytes f = IsUnaccepted bytes f
 IsRefused content (Asm source image state form) bytes f = IsUnassembled bytes f
 IsRefused content (Explain image) bytes f = IsUnexplained bytes f
@@ -106,7 +106,7 @@ abbrev pub WritesOver : Sameness → Content → Order → Type 0
 WritesOver one content (Asm source image state form) = one source image ≡ true
 WritesOver one content (Pack code image state form) = one code image ≡ true
 WritesOver one content (Native image code) = one image code ≡ true
-WritesOver one content (Draw scenario picture) = (one scenario picture ≡ true) ⊎ ((bytes : List ℕ) → content scenario ≡ Some bytes
+WritesOver one content (Draw scenario picture only) = (one scenario picture ≡ true) ⊎ ((bytes : List ℕ) → content scenario ≡ Some bytes
     → (s : Scenario) × IsScenario All bytes s × (path : List ℕ) × IsImagePath s.processes.entries path × (one path picture ≡ true))
 WritesOver one content order = ⊥
 

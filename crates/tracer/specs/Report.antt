@@ -16,7 +16,7 @@ use Rattle.tracer.specs.Run.{IsRunText}
 abbrev pub path_of : Order → List ℕ
 path_of (Run scenario) = scenario
 path_of (Live scenario workers budget) = scenario
-path_of (Draw scenario picture) = scenario
+path_of (Draw scenario picture only) = scenario
 path_of (Check image) = image
 path_of (Asm source image state form) = source
 path_of (Explain image) = image
@@ -28,7 +28,7 @@ path_of (Native image code) = image
 abbrev pub IsReport : Content → Order → List ℕ → List ℕ → Type 0
 IsReport content (Run scenario) bytes text = IsRunText content bytes text
 IsReport content (Live scenario workers budget) bytes text = IsLiveText content workers budget bytes text
-IsReport content (Draw scenario picture) bytes text = ((file : List ℕ) × IsDrawn content bytes file) × (text ≡ [])
+IsReport content (Draw scenario picture only) bytes text = ((file : List ℕ) × IsDrawn content bytes only file) × (text ≡ [])
 IsReport content (Check image) bytes text = (count : ℕ) × IsAccepted bytes count × (text ≡ accepted_text count)
 IsReport content (Asm source image state form) bytes text = ((file : List ℕ) × IsAssembled bytes state form file) × (text ≡ [])
 IsReport content (Explain image) bytes text = IsExplained bytes text

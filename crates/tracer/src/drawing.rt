@@ -17,42 +17,50 @@ use scenario::Allowed;
 use std::alloc::Global;
 
 /// The picture of the run of a scenario, as the text of an SVG file, for a place that is that of none
-/// of its images.
+/// of its images: of all packets, or of messages alone.
 fn picture_of<F: Files>(
     alloc: Global,
     path: &str,
     place: &str,
+    only_messages: bool,
     files: &mut F,
     site: &mut Site,
 ) -> Result<String, Fault>
     ensures drawn { IfOk result (λ t. (bytes : List ℕ) → F.content files.old path.now ≡ Some bytes
-        → IsDrawn (F.content files.old) bytes (string_bytes t)) }
+        → IsDrawn (F.content files.old) bytes only_messages (string_bytes t)) }
     ensures spared { OnOk result (SparesImages (F.content files.old) path.now place.now) }
     ensures same { F.content files.new ≡ F.content files.old }
-    ensures fault { IfErr result (IsWriteFault F.may_be_one (F.content files.old) (F.failed files.new) (Draw path.now place.now)) }
+    ensures fault { IfErr result (IsWriteFault F.may_be_one (F.content files.old) (F.failed files.new) (Draw path.now place.now only_messages)) }
 {
     let Staged { scenario, images } = stage(alloc, path, Allowed::All, files, site)?;
     spare_images(alloc, &scenario.processes, place, files)?;
     let entries = journal_of(alloc, &scenario, images)?;
-    let text = draw(alloc, &scenario.processes, entries.as_slice())?;
+    let text = draw(
+        alloc,
+        &scenario.processes,
+        entries.as_slice(),
+        only_messages,
+    )?;
     Ok(text)
 }
 
-/// Carries out the orders of a scenario, and writes the picture of the run into a file.
+/// Carries out the orders of a scenario, and writes the picture of the run into a file: of all packets, or of
+/// messages alone.
 pub fn draw_scenario<F: Files>(
     alloc: Global,
     path: &str,
     picture: &str,
+    only_messages: bool,
     files: &mut F,
     site: &mut Site,
 ) -> Result<(), Fault>
-    ensures report { OnOk result (IsAnswer (F.content files.old) (Draw path.now picture.now) []) }
-    ensures left { OnOk result (Leaves (Draw path.now picture.now) (F.content files.old) (F.content files.new)) }
-    ensures fault { IfErr result (IsWriteFault F.may_be_one (F.content files.old) (F.failed files.new) (Draw path.now picture.now)) }
+    ensures report { OnOk result (IsAnswer (F.content files.old) (Draw path.now picture.now only_messages) []) }
+    ensures left { OnOk result (Leaves (Draw path.now picture.now only_messages) (F.content files.old) (F.content files.new)) }
+    ensures fault { IfErr result (IsWriteFault F.may_be_one (F.content files.old) (F.failed files.new) (Draw path.now picture.now only_messages)) }
     ensures kept { OnErr result (F.content files.new ≡ F.content files.old) }
 {
     spare(alloc, path, picture, files)?;
-    let text = picture_of(alloc, path, picture, files, site)?;
+    let text = picture_of(alloc, path, picture, only_messages, files, site)?;
     site.write(picture, text.as_str().as_bytes(), files)?;
     Ok(())
 }

@@ -123,7 +123,11 @@ fn answer_alone<F: Files>(
         Request::Run { scenario } => run_scenario(alloc, scenario, files, site, text),
         // No thread can be started.
         Request::Live { .. } => Err(Fault::Memory),
-        Request::Draw { scenario, picture } => draw_scenario(alloc, scenario, picture, files, site),
+        Request::Draw {
+            scenario,
+            picture,
+            only_messages,
+        } => draw_scenario(alloc, scenario, picture, only_messages, files, site),
         Request::Check { image } => {
             let accepted = check(alloc, image, files, site)?;
             *text = accepted.to_string(alloc)?;

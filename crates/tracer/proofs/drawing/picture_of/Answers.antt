@@ -25,7 +25,7 @@ returns-clause-drawn g c = λ known there.
       staged = staged (g.F.Files.content c.args.files.now) All c.args.path.now known s images c.in_ok-scenario.ensures.staged there;
       entries = c.in_ok-entries.entries.items;
       journal = c.in_ok-entries.ensures;
-      picture = subst (λ (es : List Entry). IsPicture (length s.processes.entries) es (string_bytes c.in_ok-text.text)) c.as_slice.ensures.value c.in_ok-text.ensures;
+      picture = subst (λ (es : List Entry). IsPicture (length s.processes.entries) es c.args.only_messages (string_bytes c.in_ok-text.text)) c.as_slice.ensures.value c.in_ok-text.ensures;
     }
 
 pub returns-in_err-spare_images-clause-fault : goal.returns-in_err-spare_images-clause-fault
@@ -36,7 +36,7 @@ returns-in_err-spare_images-clause-fault g c =
     let one = g.F.Files.may_be_one in
     becomes c.from_residual-in_err-spare_images.result _ _ c.from_residual-in_err-spare_images.ensures.1
     (λ f is. inr (own_input_of ((path : List ℕ) × IsImagePath s.processes.entries path × (one path c.args.place.now ≡ true))
-    (WritesOver one content (Draw c.args.path.now c.args.place.now)) f
+    (WritesOver one content (Draw c.args.path.now c.args.place.now c.args.only_messages)) f
     (λ over. inr (λ known there. (s, (staged content All c.args.path.now known s images c.in_ok-scenario.ensures.staged there).written, over.0, over.1, over.2)))
     (subst (IsOwnInput ((path : List ℕ) × IsImagePath s.processes.entries path × (one path c.args.place.now ≡ true))) (sym is) c.in_err-spare_images.ensures.fault)))
 
