@@ -24,6 +24,7 @@
 //! ```
 #![tactic(auto)]
 
+mod array;
 mod bytes;
 mod call_record;
 mod calling;
@@ -36,6 +37,7 @@ mod opening;
 mod refusal;
 mod report;
 mod running;
+mod series;
 #[cfg(test)]
 mod tests;
 
