@@ -33,8 +33,8 @@ enum sblog_code {
     SBLOG_RECORD = 12  /* no call of form 1 leaves such a record */
 };
 
-/* Of the image of any form; of one of form 3 r3 is 64, and zeros stand behind the message. A report shows of each
-   payload 64 bytes: of a longer one the first, behind a shorter one zeros. */
+/* A message has 64 bytes; to a handler of form 3 r3 is 64, and zeros lie behind it. A report shows 64 bytes of each
+   payload: of a longer one the first, and zeros behind a shorter one. */
 enum { SBLOG_MESSAGE_SIZE = 64, SBLOG_FAULT_SIZE = 16, SBLOG_REPORT_LIMIT = 1064 };
 
 uint32_t sblog_check(const uint8_t *file, size_t file_len, uint8_t *fault, size_t fault_len);

@@ -1,8 +1,7 @@
-/* ordinary ROUNDS IMAGE=CALLS ..: what a call of a handler of form 3 costs by sblog_run, and by DPDK's interpreter of
-   BPF. Each gets the messages of a file of calls (examples/handlers/NAME.calls), filled up to 64 bytes, again and again
-   up to 300, from a state of zeros, in turn, round by round; a figure is the least of the rounds, of the thread's own
-   time. Before that both have to leave the same state and the same r0s. DPDK's interpreter has no jumps of 32 bits: a
-   handler that has them is passed over. */
+/* ordinary ROUNDS MESSAGES IMAGE ..: what a call of a handler of form 3 costs by sblog_run, and by DPDK's interpreter of
+   BPF. Each gets the 300 messages of a file, of 64 bytes each, from a state of zeros, in turn, round by round; a figure is
+   the least of the rounds, of the thread's own time. Before that both have to leave the same state and the same r0s. A
+   handler that either doesn't take is counted and passed over: DPDK's interpreter has no jumps of 32 bits. */
 #define _POSIX_C_SOURCE 199309L
 #include <inttypes.h>
 #include <stdio.h>
@@ -81,25 +80,12 @@ static uint32_t translated(size_t len) {
     return count;
 }
 
-static int digit(char c) { return c <= '9' ? c - '0' : c - 'a' + 10; }
-
-/* The payloads of a file of calls, as messages of 64 bytes. */
-static void read_messages(const char *name) {
-    char line[1024], bytes[1024];
-    FILE *calls = fopen(name, "r");
-    demand(calls != NULL, name, "can't be read");
-    size_t count = 0;
-    memset(messages, 0, sizeof messages);
-    while (count < MESSAGES && fgets(line, sizeof line, calls) != NULL) {
-        unsigned from;
-        if (sscanf(line, "call %u %1023s", &from, bytes) != 2) continue;
-        for (size_t i = 0; i < MESSAGE && bytes[0] != '-' && bytes[2 * i] != 0; i++)
-            messages[count * MESSAGE + i] = (uint8_t)(digit(bytes[2 * i]) << 4 | digit(bytes[2 * i + 1]));
-        count++;
-    }
-    fclose(calls);
-    demand(count > 0, name, "has no call");
-    for (size_t i = count; i < MESSAGES; i++) memcpy(messages + i * MESSAGE, messages + (i - count) * MESSAGE, MESSAGE);
+static size_t read_file(const char *name, uint8_t *bytes, size_t most) {
+    FILE *from = fopen(name, "rb");
+    demand(from != NULL, name, "can't be read");
+    size_t len = fread(bytes, 1, most, from);
+    fclose(from);
+    return len;
 }
 
 static double now(void) {
@@ -134,23 +120,15 @@ static int by_size(const void *a, const void *b) {
 }
 
 /* One handler: how long both take, and the ratios by the instruction and by the call. */
-static int measure(const char *image, const char *calls, int rounds, double *by_instruction, double *by_call) {
+static int measure(const char *image, int rounds, double *by_instruction, double *by_call) {
     static uint8_t state[STATE], context[REGION + STATE];
     static uint64_t r0[MESSAGES];
-    FILE *from = fopen(image, "rb");
-    demand(from != NULL, image, "can't be read");
-    size_t size = fread(file, 1, sizeof file, from), at = 0;
-    fclose(from);
-    read_messages(calls);
+    size_t size = read_file(image, file, sizeof file), at = 0;
     sblog_handle *handle = NULL;
-    demand(sblog_open(file, size, &handle) == SBLOG_DONE, image, "isn't opened");
+    if (sblog_open(file, size, &handle) != SBLOG_DONE) return 0;
     size_t len = sblog_state_len(handle);
     struct loaded program = {{code, translated(size), symbols, 6, {0, 0, 0}}, {0}};
-    if (program.program.count == 0) {
-        printf("%s has jumps of 32 bits\n", image);
-        sblog_close(handle);
-        return 0;
-    }
+    if (program.program.count == 0) return sblog_close(handle), 0;
     run_ours(handle, state, len);
     run_other(&program, context, len, r0);
     demand(memcmp(state, context + REGION, len) == 0, image, "the states differ");
@@ -168,7 +146,7 @@ static int measure(const char *image, const char *calls, int rounds, double *by_
     sblog_close(handle);
     *by_call = ours / other;
     *by_instruction = ours / steps / (other / (steps + FRONT));
-    printf("%s: %.1f instructions; %.1f ns a call, DPDK's %.1f; %.2f and %.2f ns an instruction; ratio %.2f by the instruction, %.2f by the call\n",
+    printf("%s: %.1f instructions a call; %.1f ns a call, DPDK's %.1f; %.2f and %.2f ns an instruction; ratio %.2f by the instruction, %.2f by the call\n",
            image, steps, ours, other, ours / steps, other / (steps + FRONT), *by_instruction, *by_call);
     return 1;
 }
@@ -176,16 +154,12 @@ static int measure(const char *image, const char *calls, int rounds, double *by_
 int main(int argc, char **argv) {
     static double by_instruction[256], by_call[256];
     int rounds = argc > 1 ? atoi(argv[1]) : 0, count = 0;
-    for (int i = 2; i < argc && count < 256; i++) {
-        char *calls = strchr(argv[i], '=');
-        demand(calls != NULL, argv[i], "is no IMAGE=CALLS");
-        *calls = 0;
-        count += measure(argv[i], calls + 1, rounds, by_instruction + count, by_call + count);
-    }
+    demand(argc > 2 && read_file(argv[2], messages, sizeof messages) == sizeof messages, "messages", "are not 300");
+    for (int i = 3; i < argc && count < 256; i++) count += measure(argv[i], rounds, by_instruction + count, by_call + count);
     if (count == 0) return 1;
     qsort(by_instruction, (size_t)count, sizeof(double), by_size);
     qsort(by_call, (size_t)count, sizeof(double), by_size);
-    printf("%d handlers: %.2f to DPDK's by the instruction (%.2f to %.2f), %.2f by the call (%.2f to %.2f), medians\n", count,
+    printf("%d of %d handlers: %.2f to DPDK's by the instruction (%.2f to %.2f), %.2f by the call (%.2f to %.2f), medians\n", count, argc - 3,
            by_instruction[count / 2], by_instruction[0], by_instruction[count - 1], by_call[count / 2], by_call[0], by_call[count - 1]);
     return 0;
 }

@@ -9,3 +9,4 @@ pub mod Laid
 pub mod AsByFile
 pub mod CallRecords
 pub mod FlatRuns
+pub mod SpanRuns

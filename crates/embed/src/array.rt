@@ -8,8 +8,8 @@ ghost use Rattle.embed.specs.Calls.{AreReported};
 
 use crate::bytes::put;
 use crate::calling::MESSAGE;
+use crate::message::message_at;
 use crate::report::{REPORT_LIMIT, put_report};
-use crate::series::message_at;
 use helpers::{Effects, Who};
 use interp::{call_flat, refill, take};
 use verifier::Image;

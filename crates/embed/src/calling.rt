@@ -5,10 +5,10 @@ ghost use Rattle.handlers.specs.Image.{the_image};
 ghost use Rattle.embed.specs.Calls.{IsTypableFile, IsCallableForm, IsSeat};
 ghost use Rattle.embed.specs.Exports.{IsChecked, IsUnchecked, IsUncallable, IsCalled, IsCallRefusal, AreCalled, AreCallsRefused};
 
+use crate::alone::call_alone;
 use crate::handler::Handler;
 use crate::refusal::{Refusal, refused_rule, refused_slot};
 use crate::report::{FAULT_SIZE, REPORT_LIMIT, put_fault};
-use crate::series::call_next;
 use handlers::Handler as AnyHandler;
 use helpers::{Effects, Who};
 use images::{FileForm, load};
@@ -90,7 +90,7 @@ pub fn call(
     }
     let handler = open(alloc, file, state)?;
     let mut effects = Effects::new();
-    call_next(&handler, &mut effects, state, message, who, out, 0);
+    call_alone(&handler, &mut effects, state, message, who, out, 0);
     Ok(())
 }
 

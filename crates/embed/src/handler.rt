@@ -9,7 +9,7 @@ use crate::calling::MESSAGE;
 use crate::machine_code::code_of;
 use crate::refusal::Refusal;
 use crate::report::REPORT_LIMIT;
-use crate::series::call_series;
+use crate::span_array::call_spans;
 use handlers::Handler as AnyHandler;
 use helpers::{Effects, Who};
 use images::FileForm;
@@ -120,14 +120,9 @@ impl Handler {
                 who,
                 out,
             ),
-            AnyHandler::Span(_) => call_series(
-                &self.handler,
-                &mut self.effects,
-                state,
-                messages,
-                who,
-                out,
-            ),
+            AnyHandler::Span(program) => {
+                call_spans(program, &mut self.effects, state, messages, who, out)
+            }
         }
     }
 }

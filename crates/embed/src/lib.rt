@@ -24,6 +24,7 @@
 //! ```
 #![tactic(auto)]
 
+mod alone;
 mod array;
 mod bytes;
 mod call_record;
@@ -33,11 +34,12 @@ mod handler;
 mod handles;
 mod loose;
 mod machine_code;
+mod message;
 mod opening;
 mod refusal;
 mod report;
 mod running;
-mod series;
+mod span_array;
 #[cfg(test)]
 mod tests;
 
