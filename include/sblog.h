@@ -29,9 +29,12 @@ enum sblog_code {
     SBLOG_ROOM = 8,    /* the buffer for the answer is too short */
     SBLOG_FORM = 9,    /* the image is an SBI2, which these functions only check */
     SBLOG_HANDLE = 10, /* the handle is null */
+    SBLOG_NATIVE = 11, /* there is no machine code of an SBI3 */
     SBLOG_RECORD = 12  /* no call of form 1 leaves such a record */
 };
 
+/* A message has 64 bytes; to a handler of form 3 r3 is 64, and zeros lie behind it. A report shows 64 bytes of each
+   payload: of a longer one the first, and zeros behind a shorter one. */
 enum { SBLOG_MESSAGE_SIZE = 64, SBLOG_FAULT_SIZE = 16, SBLOG_REPORT_LIMIT = 1064 };
 
 uint32_t sblog_check(const uint8_t *file, size_t file_len, uint8_t *fault, size_t fault_len);
@@ -59,7 +62,7 @@ uint32_t sblog_run(sblog_handle *handle, uint8_t *state, size_t state_len, const
                    size_t reports_len);
 
 /* Writes the machine code of the image, for x86-64, and how many bytes it has; where the buffer has fewer
-   (8), it is left as it was, and the size is written all the same. */
+   (8), it is left as it was, and the size is written all the same. Of form 3 there is none (11). */
 uint32_t sblog_compile(sblog_handle *handle, uint8_t *out, size_t out_len, size_t *size);
 
 /* The report of a call of machine code, from what it answered and the record that it left, of form 1. */

@@ -61,6 +61,12 @@ static const uint8_t talker[104] =
 /* r0 = 0; exit, in form 2 */
 static const uint8_t form_2[24] = "SBI2\0\0\x02\0\xb7\0\0\0\0\0\0\0\x95\0\0\0\0\0\0";
 
+/* stack[-8] = r2; r6 = message[r3]; r7 = stack[-8]; r7[0..8] += r3 + r6; output(r7, 3); exit, in form 3 */
+static const uint8_t counter[104] =
+    "SBI3\x08\0\x0c\0\x7b\x2a\xf8\xff\0\0\0\0\x0f\x31\0\0\0\0\0\0\x71\x16\0\0\0\0\0\0\x0f\x63\0\0\0\0\0\0"
+    "\x79\xa7\xf8\xff\0\0\0\0\x79\x78\0\0\0\0\0\0\x0f\x38\0\0\0\0\0\0\x7b\x87\0\0\0\0\0\0\xbf\x71\0\0\0\0\0\0"
+    "\xb7\x02\0\0\x03\0\0\0\x85\0\0\0\x06\0\0\0\x95\0\0\0\0\0\0";
+
 static uint32_t run(sblog_handle *handle, block state, block messages, int me, int from, int count, block reports) {
     return sblog_run(handle, state.at, state.len, messages.at, messages.len, (uint8_t)me, (uint8_t)from, (uint8_t)count,
                      reports.at, reports.len);
@@ -110,10 +116,11 @@ static sblog_handle *opened(const uint8_t *file, size_t len, uint32_t wanted) {
     return handle;
 }
 
-/* Codes in their order, each with every later fault at once: process, messages, room, form, state. */
-static void faults(void) {
-    block file = copied(adder, sizeof adder), second = copied(form_2, sizeof form_2);
-    sblog_handle *handle = opened(adder, sizeof adder, SBLOG_DONE), *other = opened(form_2, sizeof form_2, SBLOG_DONE);
+/* Codes in their order, each with every later fault at once: process, messages, room, form, state. The image is
+   called, and its state has 8 bytes. */
+static void faults(const uint8_t *image, size_t image_len) {
+    block file = copied(image, image_len), second = copied(form_2, sizeof form_2);
+    sblog_handle *handle = opened(image, image_len, SBLOG_DONE), *other = opened(form_2, sizeof form_2, SBLOG_DONE);
     SAME(sblog_state_len(handle), 8);
     SAME(sblog_state_len(other), 0);
     const int nobody[][3] = {{0, 1, 2}, {1, 1, 2}, {3, 0, 2}, {1, 3, 2}, {1, 0, 16}, {1, 0, 0}, {255, 255, 255}};
@@ -140,11 +147,13 @@ static void faults(void) {
 static void calls(void) {
     block file = copied(adder, sizeof adder), speech = copied(talker, sizeof talker);
     sblog_handle *one = opened(adder, sizeof adder, SBLOG_DONE), *two = opened(adder, sizeof adder, SBLOG_DONE);
-    sblog_handle *three = opened(talker, sizeof talker, SBLOG_DONE);
+    sblog_handle *three = opened(talker, sizeof talker, SBLOG_DONE), *four = opened(counter, sizeof counter, SBLOG_DONE);
+    block ordinary = copied(counter, sizeof counter);
     for (int i = 0; i < 1000; i++) {
         size_t n = chance(5);
         SAME(compared(i % 2 == 0 ? one : two, file, 8, 64 * n, 1, 0, 1, 1064 * n + chance(3)), SBLOG_DONE);
         SAME(compared(three, speech, 8, 64 * n, 1, 15, 15, 1064 * n), SBLOG_DONE);
+        SAME(compared(four, ordinary, 8, 64 * n, 15, 0, 15, 1064 * n), SBLOG_DONE);
         if (i == 500) sblog_close(one), one = opened(adder, sizeof adder, SBLOG_DONE);
     }
     block state = filled(8, 0), messages = filled(128, 0), reports = filled(2128, 0);
@@ -153,8 +162,18 @@ static void calls(void) {
     SAME(sblog_number(state.at), 12);
     SAME(sblog_number(reports.at + 8), 6);
     SAME(sblog_report_size(reports.at), 32);
+    memset(state.at, 0, 8);
+    SAME(run(four, state, messages, 1, 0, 1, reports), SBLOG_DONE);
+    SAME(sblog_number(state.at), 128);
+    SAME(sblog_report_size(reports.at), 96);
+    SAME(sblog_number(reports.at + 96 + 32), 128);
+    uint8_t code[1] = {0x5a};
+    size_t size = 9;
+    SAME(sblog_compile(four, code, sizeof code, &size), SBLOG_NATIVE);
+    SAME(code[0], 0x5a);
+    SAME(size, 9);
     done(state), done(messages), done(reports);
-    sblog_close(one), sblog_close(two), sblog_close(three), done(file), done(speech);
+    sblog_close(one), sblog_close(two), sblog_close(three), sblog_close(four), done(file), done(speech), done(ordinary);
 }
 
 /* A file by chance: of any bytes, with a header that fits, or one that is accepted with some bytes changed. */
@@ -167,7 +186,7 @@ static block by_chance(int i) {
     if (i % 3 == 1) {
         size_t slots = 1 + chance(20);
         block b = filled(8 + 8 * slots, 0);
-        memcpy(b.at, chance(2) == 0 ? "SBI1" : "SBI2", 4);
+        memcpy(b.at, i % 9 == 1 ? "SBI3" : chance(2) == 0 ? "SBI1" : "SBI2", 4);
         b.at[4] = (uint8_t)chance(256), b.at[5] = (uint8_t)chance(5), b.at[6] = (uint8_t)slots;
         static const uint8_t opcodes[] = {0xb7, 0xbf, 0x07, 0x0f, 0x79, 0x7b, 0x61, 0x63, 0x85, 0x15, 0x05, 0x95};
         for (size_t k = 8; k < b.len; k += 8) {
@@ -178,7 +197,7 @@ static block by_chance(int i) {
         memcpy(b.at + b.len - 8, "\x95\0\0\0\0\0\0", 8);
         return b;
     }
-    block b = chance(2) == 0 ? copied(adder, sizeof adder) : copied(talker, sizeof talker);
+    block b = i % 9 == 2 ? copied(counter, sizeof counter) : chance(2) == 0 ? copied(adder, sizeof adder) : copied(talker, sizeof talker);
     for (size_t k = chance(3); k > 0; k--) b.at[chance(b.len)] ^= (uint8_t)(1u << chance(8));
     return b;
 }
@@ -194,8 +213,8 @@ static void files(int count) {
         codes[code]++;
         if (code == SBLOG_DONE) {
             SAME(state_len, (size_t)(file.at[4] | file.at[5] << 8));
-            SAME(compared(handle, file, state_len + 1, 64, 2, 1, 3, 1064), file.at[3] == '1' ? SBLOG_STATE : SBLOG_FORM);
-            SAME(compared(handle, file, state_len, 64 * n, 2, 1, 3, 1064 * n), file.at[3] == '1' ? SBLOG_DONE : SBLOG_FORM);
+            SAME(compared(handle, file, state_len + 1, 64, 2, 1, 3, 1064), file.at[3] != '2' ? SBLOG_STATE : SBLOG_FORM);
+            SAME(compared(handle, file, state_len, 64 * n, 2, 1, 3, 1064 * n), file.at[3] != '2' ? SBLOG_DONE : SBLOG_FORM);
         } else
             SAME(state_len, 0);
         sblog_close(handle), done(file), done(fault);
@@ -206,7 +225,8 @@ static void files(int count) {
 
 int main(void) {
     null_handles();
-    faults();
+    faults(adder, sizeof adder);
+    faults(counter, sizeof counter);
     calls();
     files(3000);
     puts("all as it should be");

@@ -1,5 +1,5 @@
 -- A slice or a reference that is left as it was passed says its last value. Assumes `Logic`.
-use Rattle.std.proofs.Common.{◌≡◌, ℕ, zero, ◌^◌, ◌<◌, List, [], ◌∷◌, length, sym, subst, lit<, MutBor}
+use Rattle.std.proofs.Common.{List, [], ◌∷◌, length, MutBor}
 use seplogic.Ra.Ura.{Ura}
 use mir.Syntax.{Lifetime}
 use mir.Val.{Val}
@@ -12,8 +12,8 @@ use types.SemTy.{Arr, Body}
 use types.Hole.{Holey}
 use denote.RattleType.{RattleType}
 use denote.Memory.{mem, lone}
-use denote.RawPtr.{Ptr, count_of, Testable, lies_at}
-use contract.Monad.{fact, fact_use, fact_mono}
+use denote.RawPtr.{Ptr, Testable, lies_at}
+use contract.Monad.{fact_use}
 use base.Fraction.{full_share}
 use Rattle.std_alloc.specs.Box.Ownership.{box_owns}
 use Rattle.std_heap.proofs.GlobalToken.{dealloc_token-Testable}

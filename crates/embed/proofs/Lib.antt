@@ -8,3 +8,5 @@ pub mod OpenedValue
 pub mod Laid
 pub mod AsByFile
 pub mod CallRecords
+pub mod FlatRuns
+pub mod SpanRuns

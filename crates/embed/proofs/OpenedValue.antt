@@ -15,7 +15,7 @@ use denote.RawPtr.{Ptr, RawPtr, block_ptr, null_ptr, ptr_val}
 use denote.Steps.{nothing, owned, peeks}
 use denote.Struct.Struct.{within}
 use denote.Struct.Owning.{shape}
-use Rattle.verifier.specs.Typed.{Typed}
+use Rattle.handlers.specs.Image.{TheImage}
 use Rattle.embed.specs.Handles.{owns_image}
 use Rattle.embed.specs.contracts.opening.Opened as opened
 
@@ -25,7 +25,7 @@ word p n = vstruct (vcons (ptr_val p) (vcons (vint w32 n) vnil))
 
 module _ {M : Type 1} {𝓤 : Ura M} {𝓛 : Logic 𝓤} {K : Type 0} {Γ : List (Item 𝓤)} {G : Goal 𝓤 𝓛.H} where
   -- an `Opened` is made of a pointer that owns the image, and a code
-  pub opened_in : K → (p : Ptr) (n : ℕ) (h : Option Typed) → n < 2 ^ 32
+  pub opened_in : K → (p : Ptr) (n : ℕ) (h : Option TheImage) → n < 2 ^ 32
       → Step K 𝓛 (‵ ((opened.the_row).own_val (record { at = p; code = n; held = h }) (word p n ∷ [])) ∷ Γ) G (‵ (owns_image p h) ∷ Γ) G
   opened_in t p n h low = step (λ s.
       nothing t $ owned t u32 _ (uint_Makes 𝓛 w32) n _ (refl, low) $ fjoin t $ feq_i t (List Val) (ptr_val p ∷ []) _ refl $ fjoin t $ feq_i t (List Val) (word p n ∷ []) (word p n ∷ []) refl $ fjoin t $

@@ -1,6 +1,6 @@
 -- Records that calls of machine code leave, and the reports of such calls (docs/EMBEDDING.md).
 use Rattle.std.specs.Prelude.{◌≡◌, ℕ, ◌+◌, ◌^◌, ◌<◌, ◌≤◌, List, Some, length, slice_get, slice_range}
-use Rattle.operations.specs.Bytes.{le_value, le_bytes, overwritten}
+use Rattle.operations.specs.Bytes.{le_bytes, overwritten}
 use Rattle.helpers.specs.declared.effects.Who.{Who}
 use Rattle.helpers.specs.declared.effects.Sent.{Sent}
 use Rattle.helpers.specs.Effects.{Emitted}

@@ -1,24 +1,26 @@
 -- Calls of the handler of a file.
-use Rattle.std.specs.Prelude.{◌≡◌, ◌≢◌, ℕ, ◌+◌, ◌≤◌, List, [], ◌∷◌, Option, length, take, drop}
+use Rattle.std.specs.Prelude.{◌≡◌, ◌≢◌, ℕ, ◌+◌, ◌≤◌, List, [], ◌∷◌, length, take, drop}
 use Rattle.std.specs.List.{flat_map}
 use Rattle.limits.specs.declared.TheConstants.{PROCESSES}
-use Rattle.decode.specs.declared.insn.Insn.{Insn}
-use Rattle.decode.specs.Slots.{slots_of}
 use Rattle.helpers.specs.declared.effects.Who.{Who}
-use Rattle.regtypes.specs.declared.image_form.ImageForm.{ImageForm}
-use Rattle.regtypes.specs.Typing.{Table, IsTyping}
-use Rattle.verifier.specs.ImageFile.{IsFile}
-use Rattle.interp.specs.HandlerCall.{Handled, IsHandled}
+use Rattle.interp.specs.HandlerCall.{Handled}
+use Rattle.images.specs.declared.file_form.FileForm.TheVariants.{Sbi2}
+use Rattle.images.specs.ImageFile.{IsFile, IsTypable}
+use Rattle.handlers.specs.Image.{TheImage}
+use Rattle.handlers.specs.Answer.{HasRun}
 use Rattle.operations.specs.Bytes.{overwritten}
 use Rattle.embed.specs.declared.report.TheConstants.{REPORT_LIMIT}
 use Rattle.embed.specs.declared.calling.TheConstants.{MESSAGE}
 use Rattle.embed.specs.Layout.{report_bytes}
 
--- the file of code that has a typing: the files that are accepted
-pub record IsTypableFile (form : ImageForm) (code : List Insn) (len : ℕ) (file : List ℕ) : Type 0 where
-  pub file_is : IsFile form code len file
-  pub table : Table
-  pub typing : IsTyping form (slots_of code) len table
+-- the file of an image, whose code has a typing in its form: the files that are accepted
+pub record IsTypableFile (image : TheImage) (file : List ℕ) : Type 0 where
+  pub file_is : IsFile image.form image.code image.len file
+  pub typable : IsTypable image.form image.code image.len
+
+-- a handler of form 2 isn't called: what it is sent and sends has a length of its own, which a message of 64 bytes hasn't
+abbrev pub IsCallableForm : TheImage → Type 0
+IsCallableForm image = image.form ≢ Sbi2
 
 -- a process is called by a message of another one, or of the outside, which is number 0
 pub record IsSeat (who : Who) : Type 0 where
@@ -37,22 +39,22 @@ abbrev pub report_of : Handled → List ℕ
 report_of h = report_bytes h.r0 h.steps h.effects
 
 -- one call: the state after it, and the report written from a place on, up to another
-pub record IsReported (form : ImageForm) (slots : List (Option Insn)) (who : Who) (state message after out : List ℕ) (at : ℕ) (written : List ℕ) (end : ℕ) : Type 0 where
+pub record IsReported (image : TheImage) (who : Who) (state message after out : List ℕ) (at : ℕ) (written : List ℕ) (end : ℕ) : Type 0 where
   pub handled : Handled
-  pub handles : IsHandled form slots who state message handled
+  pub handles : HasRun image who state message handled
   pub state_is : after ≡ handled.state
   pub out_is : written ≡ overwritten out at (report_of handled)
   pub end_is : end ≡ at + length (report_of handled)
   pub size : length (report_of handled) ≤ REPORT_LIMIT
 
 -- calls one after another, by one message of 64 bytes each: a call gets the state that the one before left
-abbrev pub AreHandled : ImageForm → List (Option Insn) → Who → List ℕ → List ℕ → List Handled → List ℕ → Type 0
-AreHandled form slots who state messages [] last = (messages ≡ []) × (last ≡ state)
-AreHandled form slots who state messages (h ∷ hs) last =
-    IsHandled form slots who state (take MESSAGE messages) h × AreHandled form slots who h.state (drop MESSAGE messages) hs last
+abbrev pub AreHandled : TheImage → Who → List ℕ → List ℕ → List Handled → List ℕ → Type 0
+AreHandled image who state messages [] last = (messages ≡ []) × (last ≡ state)
+AreHandled image who state messages (h ∷ hs) last =
+    HasRun image who state (take MESSAGE messages) h × AreHandled image who h.state (drop MESSAGE messages) hs last
 
 -- such calls, and their reports written one behind the other from the front
-pub record AreReported (form : ImageForm) (slots : List (Option Insn)) (who : Who) (state messages after out written : List ℕ) : Type 0 where
+pub record AreReported (image : TheImage) (who : Who) (state messages after out written : List ℕ) : Type 0 where
   pub calls : List Handled
-  pub handles : AreHandled form slots who state messages calls after
+  pub handles : AreHandled image who state messages calls after
   pub out_is : written ≡ overwritten out 0 (flat_map report_of calls)

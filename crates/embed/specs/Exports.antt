@@ -1,23 +1,21 @@
 -- What the exports answer (docs/EMBEDDING.md).
 use Rattle.std.specs.Prelude.{◌≡◌, ◌≢◌, ◌⊎◌, ℕ, ◌*◌, ◌/◌, ◌%◌, ◌<◌, ◌≤◌, List, [], ◌∷◌, length}
-use Rattle.decode.specs.declared.insn.Insn.{Insn}
 use Rattle.decode.specs.Refusal as decoding
-use Rattle.decode.specs.Slots.{slots_of}
 use Rattle.helpers.specs.declared.effects.Who.{Who}
-use Rattle.regtypes.specs.declared.image_form.ImageForm.{ImageForm}
-use Rattle.regtypes.specs.declared.image_form.ImageForm.TheVariants.{Sbi1, Sbi2}
 use Rattle.regtypes.specs.Rules as rules
 use Rattle.verifier.specs.declared.fault.ImageError.{ImageError}
 use Rattle.verifier.specs.declared.fault.ImageError.TheVariants as error
 use Rattle.verifier.specs.FaultNumbers.{header_fault_number}
-use Rattle.verifier.specs.ImageFile.{IsRefusal}
+use Rattle.images.specs.declared.file_form.FileForm.TheVariants.{Sbi2}
+use Rattle.images.specs.ImageFile.{IsRefusal}
+use Rattle.handlers.specs.Image.{TheImage}
 use Rattle.operations.specs.Bytes.{overwritten}
 use Rattle.embed.specs.declared.calling.TheConstants.{MESSAGE}
 use Rattle.embed.specs.declared.refusal.Refusal.{Refusal}
-use Rattle.embed.specs.declared.refusal.Refusal.TheVariants.{Image, State, Message, Who as NotSeat, Room, Form, Handle, Record}
+use Rattle.embed.specs.declared.refusal.Refusal.TheVariants.{Image, State, Message, Who as NotSeat, Room, Form, Handle, Native, Record}
 use Rattle.embed.specs.declared.report.TheConstants.{FAULT_SIZE, REPORT_LIMIT}
 use Rattle.embed.specs.Layout.{fault_bytes}
-use Rattle.embed.specs.Calls.{IsTypableFile, IsSeat, IsReported, AreReported}
+use Rattle.embed.specs.Calls.{IsTypableFile, IsCallableForm, IsSeat, IsReported, AreReported}
 
 -- ---- numbers
 
@@ -28,7 +26,7 @@ error_number (error.Header fault) = 2
 error_number (error.Decode rule slot) = 3
 error_number (error.Verify rule slot) = 4
 
--- the code of a refusal, 1 to 10 or 12
+-- the code of a refusal, 1 to 12
 abbrev pub refusal_number : Refusal → ℕ
 refusal_number (Image e) = error_number e
 refusal_number State = 5
@@ -37,6 +35,7 @@ refusal_number NotSeat = 7
 refusal_number Room = 8
 refusal_number Form = 9
 refusal_number Handle = 10
+refusal_number Native = 11
 refusal_number Record = 12
 
 -- the broken rule, 0 where there is none
@@ -61,10 +60,8 @@ Answers code done refused = ((code ≡ 0) × done) ⊎ ((why : Refusal) × (code
 
 -- the file is accepted, and nothing is written
 pub record IsChecked (file out written : List ℕ) : Type 0 where
-  pub form : ImageForm
-  pub code : List Insn
-  pub len : ℕ
-  pub file_is : IsTypableFile form code len file
+  pub image : TheImage
+  pub file_is : IsTypableFile image file
   pub room : FAULT_SIZE ≤ length out
   pub same : written ≡ out
 
@@ -78,40 +75,46 @@ IsUnchecked file out written NotSeat = ⊥
 IsUnchecked file out written Room = (length out < FAULT_SIZE) × (written ≡ out)
 IsUnchecked file out written Form = ⊥
 IsUnchecked file out written Handle = ⊥
+IsUnchecked file out written Native = ⊥
 IsUnchecked file out written Record = ⊥
 
--- calls by whole messages, with room for their reports, are done on a state as long as the file says, by its code, which
--- is of form 1
-pub record IsDone (file state : List ℕ) (who : Who) (whole room : Type 0) (calls : List Insn → Type 0) : Type 0 where
-  pub code : List Insn
-  pub len : ℕ
-  pub file_is : IsTypableFile Sbi1 code len file
-  pub state_fits : length state ≡ len
+-- calls by whole messages, with room for their reports, are done on a state as long as the file says, by its image, which
+-- is not of form 2
+pub record IsDone (file state : List ℕ) (who : Who) (whole room : Type 0) (calls : TheImage → Type 0) : Type 0 where
+  pub image : TheImage
+  pub file_is : IsTypableFile image file
+  pub form_is : IsCallableForm image
+  pub state_fits : length state ≡ image.len
   pub seat : IsSeat who
   pub messages_are : whole
   pub reports_fit : room
-  pub called : calls code
+  pub called : calls image
 
 -- the file is that of code that has a typing
 abbrev pub IsTypable : List ℕ → Type 0
-IsTypable file = (form : ImageForm) × (code : List Insn) × (len : ℕ) × IsTypableFile form code len file
+IsTypable file = (image : TheImage) × IsTypableFile image file
 
 -- this refusal says why the file is none. Want of memory says nothing of it
 abbrev pub IsFileRefusal : List ℕ → Refusal → Type 0
 IsFileRefusal file why = (e : ImageError) × (why ≡ Image e) × IsRefusal file e
 
--- the code is of form 1, in which messages and payloads have 64 bytes
+-- its image is called by messages of 64 bytes
 abbrev pub IsCallable : List ℕ → Type 0
-IsCallable file = (code : List Insn) × (len : ℕ) × IsTypableFile Sbi1 code len file
+IsCallable file = (image : TheImage) × IsTypableFile image file × IsCallableForm image
 
 -- this refusal says that it is of form 2
 abbrev pub IsFormRefusal : List ℕ → Refusal → Type 0
-IsFormRefusal file why = (why ≡ Form) × ((code : List Insn) × (len : ℕ) × IsTypableFile Sbi2 code len file)
+IsFormRefusal file why = (why ≡ Form) × ((image : TheImage) × IsTypableFile image file × (image.form ≡ Sbi2))
 
 -- this refusal says that the state isn't as long as the file says
 abbrev pub IsStateRefusal : List ℕ → List ℕ → Refusal → Type 0
 IsStateRefusal file state why =
-    (why ≡ State) × ((code : List Insn) × (len : ℕ) × IsTypableFile Sbi1 code len file × (length state ≢ len))
+    (why ≡ State) × ((image : TheImage) × IsTypableFile image file × IsCallableForm image × (length state ≢ image.len))
+
+-- why a file isn't called on this state
+abbrev pub IsUncallable : List ℕ → List ℕ → Refusal → Type 0
+IsUncallable file state why =
+    IsFileRefusal file why ⊎ (IsTypable file × (IsFormRefusal file why ⊎ (IsCallable file × IsStateRefusal file state why)))
 
 -- what the arguments of a call are judged by
 pub data Test : Type 0 where
@@ -133,7 +136,8 @@ Passes file state who whole room OfMessages = whole
 Passes file state who whole room OfRoom = room
 Passes file state who whole room OfFile = IsTypable file
 Passes file state who whole room OfForm = IsCallable file
-Passes file state who whole room OfState = (code : List Insn) × IsTypableFile Sbi1 code (length state) file
+Passes file state who whole room OfState =
+    (image : TheImage) × IsTypableFile image file × IsCallableForm image × (length state ≡ image.len)
 
 -- the arguments fail it, and this is the refusal for that
 abbrev pub Fails : List ℕ → List ℕ → Who → Type 0 → Type 0 → Test → Refusal → Type 0
@@ -154,7 +158,7 @@ FailsFirst file state who whole room (t ∷ ts) why =
 abbrev pub IsCalled : List ℕ → Who → List ℕ → List ℕ → List ℕ → List ℕ → List ℕ → Type 0
 IsCalled file who state message after out written =
     IsDone file state who (length message ≡ MESSAGE) (REPORT_LIMIT ≤ length out)
-    (λ code. (end : ℕ) × IsReported Sbi1 (slots_of code) who state message after out 0 written end)
+    (λ image. (end : ℕ) × IsReported image who state message after out 0 written end)
 
 -- why such a call is refused
 abbrev pub IsCallRefusal : List ℕ → Who → List ℕ → List ℕ → List ℕ → Refusal → Type 0
@@ -165,7 +169,7 @@ IsCallRefusal file who state message out why =
 abbrev pub AreCalled : List ℕ → Who → List ℕ → List ℕ → List ℕ → List ℕ → List ℕ → Type 0
 AreCalled file who state messages after out written =
     IsDone file state who (length messages % MESSAGE ≡ 0) (REPORT_LIMIT * (length messages / MESSAGE) ≤ length out)
-    (λ code. AreReported Sbi1 (slots_of code) who state messages after out written)
+    (λ image. AreReported image who state messages after out written)
 
 -- why such calls are refused
 abbrev pub AreCallsRefused : List ℕ → Who → List ℕ → List ℕ → List ℕ → Refusal → Type 0

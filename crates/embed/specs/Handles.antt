@@ -6,16 +6,14 @@ use Rattle.std.specs.Box.Ownership.{box_owns}
 use Rattle.std.specs.contracts.impls.GlobalAllocator.TheImpl.{ghosts}
 use mir.Syntax.{Ty}
 use base.Fml.{Fml, feq}
-use Rattle.decode.specs.Slots.{slots_of}
 use Rattle.helpers.specs.declared.effects.Who.{Who}
-use Rattle.regtypes.specs.declared.image_form.ImageForm.TheVariants.{Sbi1}
-use Rattle.verifier.specs.Typed.{Typed}
+use Rattle.handlers.specs.Image.{TheImage}
 use Rattle.embed.specs.contracts.handler.Handler.{the_row}
 use Rattle.embed.specs.declared.calling.TheConstants.{MESSAGE}
 use Rattle.embed.specs.declared.refusal.Refusal.{Refusal}
 use Rattle.embed.specs.declared.refusal.Refusal.TheVariants.{State, Message, Who as NotSeat, Room, Form, Handle}
 use Rattle.embed.specs.declared.report.TheConstants.{REPORT_LIMIT}
-use Rattle.embed.specs.Calls.{IsTypableFile, IsSeat, AreReported}
+use Rattle.embed.specs.Calls.{IsTypableFile, IsCallableForm, IsSeat, AreReported}
 use Rattle.embed.specs.Exports.{Answers, IsFileRefusal, AreCalled, AreCallsRefused}
 
 -- the heap
@@ -28,50 +26,45 @@ may_free = ghosts.dealloc_token heap
 
 -- what a handle is: null, which stands for no image and owns nothing, or the place of an image in a block of memory, with
 -- the right to give the block back
-abbrev pub owns_image : Ptr → Option Typed → Fml
+abbrev pub owns_image : Ptr → Option TheImage → Fml
 owns_image handle None = feq Ptr handle null_ptr
 owns_image handle (Some image) = box_owns may_free the_row handle image
 
--- the image is that of this file
-pub record IsOpened (file : List ℕ) (image : Typed) : Type 0 where
-  pub file_is : IsTypableFile image.form image.code image.len file
-  pub slots_are : image.slots ≡ slots_of image.code
-
 -- what a code says of opening a file: 0 that the handle stands for its image, any other number why there is none
-abbrev pub Opens : ℕ → List ℕ → Option Typed → Type 0
+abbrev pub Opens : ℕ → List ℕ → Option TheImage → Type 0
 Opens code file held =
-    Answers code ((image : Typed) × (held ≡ Some image) × IsOpened file image) (λ why. IsFileRefusal file why × (held ≡ None))
+    Answers code ((image : TheImage) × (held ≡ Some image) × IsTypableFile image file) (λ why. IsFileRefusal file why × (held ≡ None))
 
 -- the length of the state, and 0 for a null handle
-abbrev pub state_len_of : Option Typed → ℕ
+abbrev pub state_len_of : Option TheImage → ℕ
 state_len_of None = 0
 state_len_of (Some image) = image.len
 
 -- calls one after another by the messages, with room for as long a report of each, are done on a state of the image's length
-pub record AreDone (image : Typed) (who : Who) (state messages after out written : List ℕ) : Type 0 where
+pub record AreDone (image : TheImage) (who : Who) (state messages after out written : List ℕ) : Type 0 where
   pub seat : IsSeat who
   pub messages_are : length messages % MESSAGE ≡ 0
   pub reports_fit : REPORT_LIMIT * (length messages / MESSAGE) ≤ length out
-  pub form_is : image.form ≡ Sbi1
+  pub form_is : IsCallableForm image
   pub state_fits : length state ≡ image.len
-  pub called : AreReported Sbi1 image.slots who state messages after out written
+  pub called : AreReported image who state messages after out written
 
 -- a test, the refusal where it fails, and what refuses where it passes
 abbrev pub Unless : Type 0 → Refusal → (Refusal → Type 0) → Refusal → Type 0
 Unless passes refusal others why = ((why ≡ refusal) × (¬ passes)) ⊎ (passes × others why)
 
 -- why such calls are refused: for the first of these tests that fails
-abbrev pub AreUndone : Typed → Who → List ℕ → List ℕ → List ℕ → Refusal → Type 0
+abbrev pub AreUndone : TheImage → Who → List ℕ → List ℕ → List ℕ → Refusal → Type 0
 AreUndone image who state messages out =
     Unless (IsSeat who) NotSeat
     (Unless (length messages % MESSAGE ≡ 0) Message
     (Unless (REPORT_LIMIT * (length messages / MESSAGE) ≤ length out) Room
-    (Unless (image.form ≡ Sbi1) Form
+    (Unless (IsCallableForm image) Form
     (Unless (length state ≡ image.len) State
     (λ why. ⊥)))))
 
 -- what a code says of calls by a handle. A refusal changes nothing
-abbrev pub Runs : ℕ → Option Typed → Who → List ℕ → List ℕ → List ℕ → List ℕ → List ℕ → Type 0
+abbrev pub Runs : ℕ → Option TheImage → Who → List ℕ → List ℕ → List ℕ → List ℕ → List ℕ → Type 0
 Runs code None who state messages after out written =
     Answers code ⊥ (λ why. (why ≡ Handle) × (after ≡ state) × (written ≡ out))
 Runs code (Some image) who state messages after out written =
@@ -81,11 +74,11 @@ Runs code (Some image) who state messages after out written =
 -- what is done by a handle of a file is done by the file
 abbrev pub AreDoneAsByFile : Type 0
 AreDoneAsByFile =
-    (file : List ℕ) (image : Typed) (who : Who) (state messages after out written : List ℕ) → IsOpened file image
+    (file : List ℕ) (image : TheImage) (who : Who) (state messages after out written : List ℕ) → IsTypableFile image file
     → AreDone image who state messages after out written → AreCalled file who state messages after out written
 
 -- what is refused by a handle of a file is refused so by the file
 abbrev pub AreRefusedAsByFile : Type 0
 AreRefusedAsByFile =
-    (file : List ℕ) (image : Typed) (who : Who) (state messages out : List ℕ) (why : Refusal) → IsOpened file image
+    (file : List ℕ) (image : TheImage) (who : Who) (state messages out : List ℕ) (why : Refusal) → IsTypableFile image file
     → AreUndone image who state messages out why → AreCallsRefused file who state messages out why

@@ -1,93 +1,128 @@
 //! Handlers that are kept from call to call.
 
-use crate::calling::{MESSAGE, call_each};
+ghost use Rattle.std.specs.Prelude.{◌≡◌};
+ghost use Rattle.interp.specs.Flat.{IsSpent};
+ghost use Rattle.embed.specs.Arrays.{IsReady};
+
+use crate::array::call_each;
+use crate::calling::MESSAGE;
+use crate::machine_code::code_of;
+use crate::refusal::Refusal;
 use crate::report::REPORT_LIMIT;
+use crate::span_array::call_spans;
+use handlers::Handler as AnyHandler;
 use helpers::{Effects, Who};
-use native::compile;
-use regtypes::ImageForm;
-use std::alloc::{AllocError, Global};
+use images::FileForm;
+use std::alloc::Global;
 use std::marker::Model;
 use verifier::Image;
 
-/// An image, the array in which its calls run one after another, and a place for what a call
-/// emits. Since both are kept, a call clears only what the one before left.
+/// A handler of any form, the array in which calls of form 1 run one after another, and a place for
+/// what a call emits. Since both are kept, such a call clears only what the one before left.
 #[derive(Drop)]
 pub struct Handler {
-    pub(crate) image: Image,
+    pub(crate) handler: AnyHandler,
     pub(crate) mem: [u8; 1792],
     pub(crate) effects: Effects,
 }
 
 impl Model for Handler {
-    ghost use Rattle.verifier.specs.Typed.{Typed};
-    ghost use Rattle.interp.specs.Flat.{IsSpent};
-    ghost use Rattle.embed.specs.declared.calling.TheConstants.{MESSAGE};
+    ghost use Rattle.handlers.specs.Image.{TheImage, the_image};
+    ghost use Rattle.embed.specs.Arrays.{IsReady};
 
-    ghost Value = { Typed };
+    ghost Value = { TheImage };
 
-    ghost view = { λ h. h.image };
+    ghost view = { λ h. the_image h.handler };
 
-    ghost invariant = { λ h. IsSpent MESSAGE h.image.len h.image.low h.mem };
+    ghost invariant = { λ h. IsReady h.handler h.mem };
+}
+
+/// The array in which no call of an image was made.
+fn clear_array(image: &Image) -> [u8; 1792]
+    ensures { IsSpent MESSAGE image.now.len image.now.low result }
+{
+    // Their clauses say that the state and the stack lie in the array.
+    let _low = image.low();
+    let _len = image.state_len();
+    [0; 1792]
+}
+
+/// The array in which no call of a handler was made.
+fn array_of(handler: &AnyHandler) -> [u8; 1792]
+    ensures { IsReady handler.now result }
+{
+    match handler {
+        AnyHandler::Flat(image) => clear_array(image),
+        AnyHandler::Span(_) => [0; 1792],
+    }
 }
 
 impl Handler {
-    ghost use Rattle.std.specs.Prelude.{◌≡◌, ◌≤◌, ◌*◌, ◌/◌, ◌%◌, IfOk, length};
-    ghost use Rattle.regtypes.specs.declared.image_form.ImageForm.TheVariants.{Sbi1};
-    ghost use Rattle.native.specs.Correct.{IsNative};
-    ghost use Rattle.embed.specs.Calls.{AreReported};
+    ghost use Rattle.std.specs.Prelude.{◌≡◌, ◌≤◌, ◌*◌, ◌/◌, ◌%◌, IfOk, IfErr, length};
+    ghost use Rattle.handlers.specs.Image.{the_image};
+    ghost use Rattle.embed.specs.Calls.{AreReported, IsCallableForm, IsSeat};
+    ghost use Rattle.embed.specs.MachineCode.{IsNativeOf, IsUnmade};
 
     /// A handler that wasn't called yet.
-    pub fn new(image: Image) -> Handler
-        ensures { result ≡ image }
+    pub fn new(handler: AnyHandler) -> Handler
+        ensures { result ≡ the_image handler }
     {
-        // Their clauses say that the state and the stack lie in the array.
-        let _low = image.low();
-        let _len = image.state_len();
+        let mem = array_of(&handler);
         Handler {
-            image,
-            mem: [0; 1792],
+            handler,
+            mem,
             effects: Effects::new(),
         }
     }
 
     /// The form of its image.
-    pub fn form(&self) -> ImageForm
+    pub fn form(&self) -> FileForm
         ensures { result ≡ self.now.form }
     {
-        self.image.form()
+        self.handler.form()
     }
 
-    /// The machine code of its image.
-    pub fn compile(&self, alloc: Global) -> Result<Vec<u8>, AllocError>
-        ensures { IfOk result (λ code. IsNative self.now.form self.now.slots self.now.len code.items) }
+    /// The machine code of its image. Of form 3 there is none.
+    pub fn compile(&self, alloc: Global) -> Result<Vec<u8>, Refusal>
+        ensures made { IfOk result (λ code. IsNativeOf self.now code.items) }
+        ensures refused { IfErr result (IsUnmade self.now) }
     {
-        compile(alloc, &self.image)
+        match &self.handler {
+            AnyHandler::Flat(image) => code_of(alloc, image),
+            AnyHandler::Span(_) => Err(Refusal::Native),
+        }
     }
 
     /// How many bytes its state has.
     pub fn state_len(&self) -> usize
         ensures { result ≡ self.now.len }
     {
-        self.image.state_len() as usize
+        self.handler.state_len() as usize
     }
 
     /// Calls it by one message of 64 bytes after another, and writes the reports from the front on.
     pub fn call_each(&mut self, state: &mut [u8], messages: &[u8], who: Who, out: &mut [u8])
-        requires form { self.old.form ≡ Sbi1 }
+        requires seat { IsSeat who }
+        requires form { IsCallableForm self.old }
         requires state { length state.old ≡ self.old.len }
         requires whole { length messages.now % MESSAGE ≡ 0 }
         requires room { REPORT_LIMIT * (length messages.now / MESSAGE) ≤ length out.old }
-        ensures reported { AreReported Sbi1 self.old.slots who state.old messages.now state.new out.old out.new }
+        ensures reported { AreReported self.old who state.old messages.now state.new out.old out.new }
         ensures same { self.new ≡ self.old }
     {
-        call_each(
-            &self.image,
-            &mut self.mem,
-            &mut self.effects,
-            state,
-            messages,
-            who,
-            out,
-        );
+        match &self.handler {
+            AnyHandler::Flat(image) => call_each(
+                image,
+                &mut self.mem,
+                &mut self.effects,
+                state,
+                messages,
+                who,
+                out,
+            ),
+            AnyHandler::Span(program) => {
+                call_spans(program, &mut self.effects, state, messages, who, out)
+            }
+        }
     }
 }

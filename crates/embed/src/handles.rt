@@ -3,7 +3,7 @@
 
 ghost use Rattle.std.specs.Prelude.{◌≡◌, Option};
 ghost use Rattle.std.specs.Borrow.{sem};
-ghost use Rattle.verifier.specs.Typed.{Typed};
+ghost use Rattle.handlers.specs.Image.{TheImage};
 ghost use Rattle.embed.specs.Calls.{caller};
 ghost use Rattle.embed.specs.Handles.{owns_image, state_len_of, Opens, Runs};
 ghost use Rattle.embed.specs.MachineCode.{Compiles};
@@ -37,7 +37,7 @@ pub extern "C" fn sblog_open(alloc: Global, file: &[u8], handle: &mut *mut Handl
 /// How many bytes the state has: 0 for a null handle.
 #[unsafe(no_mangle)]
 pub unsafe extern "C" fn sblog_state_len(handle: *mut Handle) -> usize
-    ghost held: { Option Typed }
+    ghost held: { Option TheImage }
     requires* { sem 𝓛 (owns_image handle held) }
     ensures* { sem 𝓛 (owns_image handle held) ∗ ⌜ result ≡ state_len_of held ⌝ }
 {
@@ -60,7 +60,7 @@ pub unsafe extern "C" fn sblog_run(
     count: u8,
     out: &mut [u8],
 ) -> u32
-    ghost held: { Option Typed }
+    ghost held: { Option TheImage }
     requires* { sem 𝓛 (owns_image handle held) }
     ensures* { sem 𝓛 (owns_image handle held) ∗ ⌜ Runs result held (caller me from count) state.old messages.now state.new out.old out.new ⌝ }
 {
@@ -80,7 +80,7 @@ pub unsafe extern "C" fn sblog_compile(
     out: &mut [u8],
     size: &mut usize,
 ) -> u32
-    ghost held: { Option Typed }
+    ghost held: { Option TheImage }
     requires* { sem 𝓛 (owns_image handle held) }
     ensures* { sem 𝓛 (owns_image handle held) ∗ ⌜ Compiles result held out.old out.new size.old size.new ⌝ }
 {
@@ -94,7 +94,7 @@ pub unsafe extern "C" fn sblog_compile(
 /// Gives the memory of an image back. Of a null handle there is none.
 #[unsafe(no_mangle)]
 pub unsafe extern "C" fn sblog_close(alloc: Global, handle: *mut Handle)
-    ghost held: { Option Typed }
+    ghost held: { Option TheImage }
     requires* { sem 𝓛 (owns_image handle held) }
 {
     if handle.is_null() {

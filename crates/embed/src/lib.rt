@@ -24,6 +24,8 @@
 //! ```
 #![tactic(auto)]
 
+mod alone;
+mod array;
 mod bytes;
 mod call_record;
 mod calling;
@@ -32,10 +34,12 @@ mod handler;
 mod handles;
 mod loose;
 mod machine_code;
+mod message;
 mod opening;
 mod refusal;
 mod report;
 mod running;
+mod span_array;
 #[cfg(test)]
 mod tests;
 

@@ -1,13 +1,27 @@
 //! Machine code of images that were opened.
 
-ghost use Rattle.std.specs.Prelude.{◌≡◌, Some, OnOk, IfErr, OnErr};
-ghost use Rattle.embed.specs.MachineCode.{IsCompiled, IsUncompiled, Compiles};
+ghost use Rattle.std.specs.Prelude.{◌≡◌, Some, OnOk, IfOk, IfErr, OnErr};
+ghost use Rattle.embed.specs.Arrays.{flat_image};
+ghost use Rattle.embed.specs.MachineCode.{IsCompiled, IsNativeOf, IsUncompiled, IsUnmade, Compiles};
 
 use crate::bytes::put;
 use crate::handler::Handler;
 use crate::refusal::Refusal;
 use std::alloc::Global;
-use verifier::ImageError;
+use verifier::{Image, ImageError};
+
+/// The machine code of an image of form 1 or 2.
+pub fn code_of(alloc: Global, image: &Image) -> Result<Vec<u8>, Refusal>
+    ensures made { IfOk result (λ code. IsNativeOf (flat_image image.now) code.items) }
+    ensures refused { IfErr result (IsUnmade (flat_image image.now)) }
+{
+    // Its clause says that the slots are those of the code.
+    let _code = image.code();
+    match native::compile(alloc, image) {
+        Ok(code) => Ok(code),
+        Err(_) => Err(Refusal::Image(ImageError::Memory)),
+    }
+}
 
 /// Writes the machine code of a handler's image from the front on, and how many bytes that is, which
 /// a buffer that is too short is told too.
@@ -16,9 +30,7 @@ fn write(alloc: Global, handler: &Handler, out: &mut [u8], size: &mut usize) -> 
     ensures refused { IfErr result (IsUncompiled handler.now out.old size.old size.new) }
     ensures unchanged { OnErr result (out.new ≡ out.old) }
 {
-    let Ok(code) = handler.compile(alloc) else {
-        return Err(Refusal::Image(ImageError::Memory));
-    };
+    let code = handler.compile(alloc)?;
     *size = code.len();
     if out.len() < code.len() {
         return Err(Refusal::Room);

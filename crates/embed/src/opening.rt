@@ -1,24 +1,26 @@
 //! Files that are opened once.
 
 ghost use Rattle.std.specs.Prelude.{◌≡◌, Option, Some, None, IfOk, IfErr};
-ghost use Rattle.verifier.specs.Typed.{Typed};
+ghost use Rattle.handlers.specs.Image.{TheImage};
+ghost use Rattle.embed.specs.Calls.{IsTypableFile};
 ghost use Rattle.embed.specs.Exports.{IsFileRefusal};
-ghost use Rattle.embed.specs.Handles.{owns_image, IsOpened, Opens};
+ghost use Rattle.embed.specs.Handles.{owns_image, Opens};
 
 use crate::handler::Handler;
 use crate::loose::Loose;
 use crate::refusal::Refusal;
+use handlers::Handler as AnyHandler;
 use std::alloc::Global;
 use std::marker::Model;
 use std::ptr::null_mut;
-use verifier::{ImageError, load};
+use verifier::ImageError;
 
 /// What came of opening a file: a code, and the pointer to an image, which is null where there is
 /// none.
 pub struct Opened {
     pub(crate) at: *mut Handler,
     pub(crate) code: u32,
-    pub ghost held: { Option Typed },
+    pub ghost held: { Option TheImage },
 }
 
 impl Model for Opened {
@@ -49,12 +51,12 @@ impl Opened {
 
 /// The image of a file, in memory of its own.
 fn boxed(alloc: Global, file: &[u8]) -> Result<Box<Handler>, Refusal>
-    ensures image { IfOk result (λ image. IsOpened file.now image.value) }
+    ensures image { IfOk result (λ image. IsTypableFile image.value file.now) }
     ensures refused { IfErr result (IsFileRefusal file.now) }
 {
-    match load(alloc, file) {
-        Ok(image) => match Box::new(alloc, Handler::new(image)) {
-            Ok(handler) => Ok(handler),
+    match AnyHandler::load(alloc, file) {
+        Ok(handler) => match Box::new(alloc, Handler::new(handler)) {
+            Ok(image) => Ok(image),
             Err(_) => Err(Refusal::Image(ImageError::Memory)),
         },
         Err(error) => Err(Refusal::Image(error)),

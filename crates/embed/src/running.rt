@@ -9,7 +9,7 @@ use crate::handler::Handler;
 use crate::refusal::Refusal;
 use crate::report::REPORT_LIMIT;
 use helpers::Who;
-use regtypes::ImageForm;
+use images::FileForm;
 
 /// Calls the handler by one message of 64 bytes after another. The reports are written into `out`,
 /// one behind the other.
@@ -34,7 +34,7 @@ fn call_all(
     if out.len() / REPORT_LIMIT < messages.len() / MESSAGE {
         return Err(Refusal::Room);
     }
-    if handler.form() != ImageForm::Sbi1 {
+    if handler.form() == FileForm::Sbi2 {
         return Err(Refusal::Form);
     }
     if state.len() != handler.state_len() {

@@ -1,16 +1,17 @@
 //! Images worked out by hand, and what their calls leave.
 
 mod greatest;
+mod third;
 
 use crate::calling::{call, call_many, check};
 use crate::handler::Handler;
 use crate::refusal::Refusal;
 use crate::report::REPORT_LIMIT;
 use crate::running::run;
+use handlers::Handler as AnyHandler;
 use helpers::Who;
 use std::alloc::Global;
 use std::test::Fail;
-use verifier::load;
 
 // r3 = message[0..8]; r4 = state[0..8]; r4 += r3; state[0..8] = r4; r0 = 0; exit
 const ADDER: [u8; 56] = [
@@ -52,8 +53,8 @@ fn refused(rt: HostRuntime) -> Result<(), Fail> {
     file[8] = 0xff;
     assert_eq!(rt; number_of(check(rt.alloc(), &file, &mut out)), 3);
     assert_eq!(rt; out, [2, 0, 0, 0, 0, 0, 0, 0, 0, 0, 0, 0, 0, 0, 0, 0]);
-    // SBI3
-    file[3] = 0x33;
+    // SBI4
+    file[3] = 0x34;
     assert_eq!(rt; number_of(check(rt.alloc(), &file, &mut out)), 2);
     assert_eq!(rt; number_of(check(rt.alloc(), &ADDER, &mut out[..15])), 8);
     Ok(())
@@ -224,8 +225,8 @@ fn run_code(
 #[test]
 fn faults_of_runs(rt: HostRuntime) -> Result<(), Fail> {
     let alloc = rt.alloc();
-    let mut adder = Handler::new(load(alloc, &ADDER)?);
-    let mut second = Handler::new(load(alloc, &FORM_2)?);
+    let mut adder = Handler::new(AnyHandler::load(alloc, &ADDER)?);
+    let mut second = Handler::new(AnyHandler::load(alloc, &FORM_2)?);
     let nobody = Who { from: 1, ..CALLED };
     for (lens, who, code, of_second) in [
         ((9, 63, 1063), nobody, 7, 7),
@@ -244,7 +245,7 @@ fn faults_of_runs(rt: HostRuntime) -> Result<(), Fail> {
 
 #[test]
 fn two_runs(rt: HostRuntime) -> Result<(), Fail> {
-    let mut handler = Handler::new(load(rt.alloc(), &ADDER)?);
+    let mut handler = Handler::new(AnyHandler::load(rt.alloc(), &ADDER)?);
     assert_eq!(rt; handler.state_len(), 8);
     let mut state = [0u8; 8];
     let mut messages = [0u8; 128];

@@ -5,9 +5,9 @@ use crate::calling::{call, call_many, check};
 use crate::handler::Handler;
 use crate::report::REPORT_LIMIT;
 use crate::running::run;
+use handlers::Handler as AnyHandler;
 use std::alloc::{AllocError, Global};
 use std::test::Fail;
-use verifier::load;
 
 /// How many messages are many.
 const MESSAGES: usize = 1_000;
@@ -79,7 +79,7 @@ fn a_handle_of_1_024_slots(rt: HostRuntime) -> Result<(), Fail> {
     let alloc = rt.alloc();
     let file = file_of_1_024_slots(alloc)?;
     let messages = ones(alloc, MESSAGES)?;
-    let mut handler = Handler::new(load(alloc, &file)?);
+    let mut handler = Handler::new(AnyHandler::load(alloc, &file)?);
     let mut state = [0u8; 1024];
     let mut out = Vec::from_elem(alloc, 7u8, MESSAGES * 1_064)?;
     let code = run(&mut handler, &mut state, &messages, 1, 0, 2, &mut out);

@@ -37,7 +37,7 @@ use Rattle.std.specs.contracts.alloc.Global as heap
 use Rattle.std.proofs.alloc.Global.TheLaws as heap_laws
 use Rattle.std.specs.contracts.impls.GlobalAllocator.TheImpl.{ghosts}
 use Rattle.embed.specs.Handles.{may_free, owns_image}
-use Rattle.verifier.specs.Typed.{Typed}
+use Rattle.handlers.specs.Image.{TheImage}
 use Rattle.embed.specs.contracts.handler.Handler.{the_row}
 use Rattle.embed.specs.contracts.loose.Loose as loose
 use Rattle.embed.proofs.Lent.{tested}
@@ -61,22 +61,22 @@ module _ {M : Type 1} {𝓤 : Ura M} (𝓛 : Logic 𝓤) (at_mem : Memory → SP
     (known : Triple 𝓤 (C #close) (Of 𝓛 at_mem run)) (a : (heap.the_row).Denot) where
   open 𝓛 use {H}
 
-  abbrev bound : Ptr → Option Typed → (walk_of 𝓛 f.ended stayed (f.clauses 𝓛 at_mem run)).Ghost
+  abbrev bound : Ptr → Option TheImage → (walk_of 𝓛 f.ended stayed (f.clauses 𝓛 at_mem run)).Ghost
   bound p g = ((tt, tt, tt, (a, (p, tt)), (heap_val ∷ [], (rawptr_vals p, tt))), g)
 
   abbrev Entry : Ptr → SProp 𝓤
   Entry p = on_entry 𝓛 f.signature tt tt (a, (p, tt)) (heap_val ∷ [], (rawptr_vals p, tt))
 
-  abbrev Post : Ptr → Option Typed → Val → SProp 𝓤
+  abbrev Post : Ptr → Option TheImage → Val → SProp 𝓤
   Post p g = (walk_of 𝓛 f.ended stayed (f.clauses 𝓛 at_mem run)).post (bound p g)
 
   abbrev words : Ptr → List Val
   words p = heap_val ∷ rawptr_vals p
 
-  abbrev Runs : Ptr → Option Typed → SProp 𝓤
+  abbrev Runs : Ptr → Option TheImage → SProp 𝓤
   Runs p g = WpFn 𝓤 H C Λ code.function (words p) (Post p g)
 
-  exits : (p : Ptr) (g : Option Typed) → ent 𝓤 (emp 𝓤) (Post p g vunit)
+  exits : (p : Ptr) (g : Option TheImage) → ent 𝓤 (emp 𝓤) (Post p g vunit)
   exits p g =
       qed 𝓛 (raw (emp 𝓤) ∷ []) ∵ drop ! $ nothing ! $ feq_i ! (List Val) (vunit ∷ []) (vunit ∷ []) refl $ nothing ! $ nothing ! $ fjoin ! $ nothing ! $ fjoin ! $ nothing ! $
       by ! (leaves 𝓛 f.ended stayed (f.clauses 𝓛 at_mem run) (bound p g) vunit tt (tt, (tt, tt)) (tt, (tt, tt)))
@@ -91,7 +91,7 @@ module _ {M : Type 1} {𝓤 : Ura M} (𝓛 : Logic 𝓤) (at_mem : Memory → SP
       (λ _. sets ! (of_opd ! (unit_lit !)) refl (tt, tt) $ returns_within ! (Post null_ptr None) refl (look_at ! 0 refl) $ free_all ! refl $ use0 𝓛 (raw (emp 𝓤)) (id⊢ 𝓤 (emp 𝓤)) $ by ! (exits null_ptr None))
       (λ wrong. absurd wrong)))
 
-  at_block : (b o : ℕ) (x : Typed) → ent 𝓤 (sep 𝓤 (Entry (block_ptr b o)) (sem 𝓛 (owns_image (block_ptr b o) (Some x)))) (Runs (block_ptr b o) (Some x))
+  at_block : (b o : ℕ) (x : TheImage) → ent 𝓤 (sep 𝓤 (Entry (block_ptr b o)) (sem 𝓛 (owns_image (block_ptr b o) (Some x)))) (Runs (block_ptr b o) (Some x))
   at_block b o x =
       let p : Ptr = block_ptr b o in let d : (loose.the_row the_row heap.the_row ghosts).Denot = record { at = p; alloc = a; value = x } in
       let z : (Of 𝓛 at_mem run).Ghost = ((tt, tt, tt, (d, tt), (both (vptr b o) heap_val ∷ [], tt)), tt) in
@@ -111,7 +111,7 @@ module _ {M : Type 1} {𝓤 : Ura M} (𝓛 : Logic 𝓤) (at_mem : Memory → SP
       await ! tt $ pick ! (λ r. split ! $ split ! $ drop ! $ feq_l ! (λ is_unit. drop ! $ lands_as ! (ap only is_unit) refl (tt, tt) $
       sets ! (of_opd ! (unit_lit !)) refl (tt, tt) $ returns ! (look_at ! 0 refl) $ free_all ! refl $ use0 𝓛 (raw (emp 𝓤)) (id⊢ 𝓤 (emp 𝓤)) $ keep ! (0 ∷ []) $ by ! (exits p (Some x)))))))))
 
-  pub at_each : (p : Ptr) (g : Option Typed) → ent 𝓤 (sep 𝓤 (Entry p) (sem 𝓛 (owns_image p g))) (Runs p g)
+  pub at_each : (p : Ptr) (g : Option TheImage) → ent 𝓤 (sep 𝓤 (Entry p) (sem 𝓛 (owns_image p g))) (Runs p g)
   at_each p None = qed 𝓛 (raw (Entry p) ∷ ‵ (feq Ptr p null_ptr) ∷ []) ∵ move ! (1 ∷ []) $ feq_l ! (λ e. by ! (subst (λ (q : Ptr). ent 𝓤 (Entry q) (Runs q None)) (sym e) at_null))
   at_each (block_ptr b o) (Some x) = at_block b o x
   at_each null_ptr (Some x) = via 𝓤 (never 𝓤) (via 𝓤 _ (snd∗ 𝓤 (Entry null_ptr) _) (fst∗ 𝓤 (never 𝓤) (sem 𝓛 (may_free (bare (lone the_row.mir)) null_ptr)))) (never_e 𝓤 _)

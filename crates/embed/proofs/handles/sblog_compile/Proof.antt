@@ -42,7 +42,7 @@ use Rattle.std.proofs.raw_atomic.Walks.{leaves}
 use Rattle.std.proofs.Handle.{heap_val, heap_Tells}
 use Rattle.std.specs.contracts.alloc.Global as heap
 use Rattle.std.proofs.alloc.Global.TheLaws as heap_laws
-use Rattle.verifier.specs.Typed.{Typed}
+use Rattle.handlers.specs.Image.{TheImage}
 use Rattle.embed.specs.Handles.{may_free, owns_image}
 use Rattle.embed.specs.MachineCode.{Compiles}
 use Rattle.embed.specs.declared.refusal.Refusal.TheVariants.{Handle}
@@ -78,7 +78,7 @@ module _ {M : Type 1} {𝓤 : Ura M} (𝓛 : Logic 𝓤) (at_mem : Memory → SP
   abbrev words : Ptr → List Val
   words p = heap_val ∷ (rawptr_vals p ++ (mut_slice_vals ou ++ (mut_vals sz ++ [])))
 
-  abbrev bound : Ptr → Option Typed → (walk_of 𝓛 f.ended stayed (f.clauses 𝓛 at_mem run)).Ghost
+  abbrev bound : Ptr → Option TheImage → (walk_of 𝓛 f.ended stayed (f.clauses 𝓛 at_mem run)).Ghost
   bound p g = (((κ₁, (κ₂, tt)), (q₁, (q₂, tt)), tt, args p, passed p), g)
 
   abbrev Alive : SProp 𝓤
@@ -87,14 +87,14 @@ module _ {M : Type 1} {𝓤 : Ura M} (𝓛 : Logic 𝓤) (at_mem : Memory → SP
   abbrev Entry : Ptr → SProp 𝓤
   Entry p = on_entry 𝓛 f.signature (κ₁, (κ₂, tt)) (q₁, (q₂, tt)) (args p) (passed p)
 
-  abbrev Post : Ptr → Option Typed → Val → SProp 𝓤
+  abbrev Post : Ptr → Option TheImage → Val → SProp 𝓤
   Post p g = (walk_of 𝓛 f.ended stayed (f.clauses 𝓛 at_mem run)).post (bound p g)
 
-  abbrev Runs : Ptr → Option Typed → SProp 𝓤
+  abbrev Runs : Ptr → Option TheImage → SProp 𝓤
   Runs p g = WpFn 𝓤 H C Λ code.function (words p) (Post p g)
 
   -- what is left: the buffer, the size, the tokens, the result, and what the handle owns
-  exits : (p : Ptr) (g : Option Typed) (r : ℕ) (v : Val) (os : List ℕ) (s : ℕ) → length os ≡ length ou.now → Compiles r g ou.now os sz.now s
+  exits : (p : Ptr) (g : Option TheImage) (r : ℕ) (v : Val) (os : List ℕ) (s : ℕ) → length os ≡ length ou.now → Compiles r g ou.now os sz.now s
       → ent 𝓤 (sep 𝓤 (sem 𝓛 (given_slice κ₁ u8 ou os)) (sep 𝓤 (sem 𝓛 (given_ref κ₂ usize sz s)) (sep 𝓤 Alive (sep 𝓤 (sem 𝓛 (u32.own_val r (v ∷ []))) (sem 𝓛 (owns_image p g)))))) (Post p g v)
   exits p g r v os s eo done =
       qed 𝓛 (‵ (given_slice κ₁ u8 ou os) ∷ ‵ (given_ref κ₂ usize sz s) ∷ raw Alive ∷ ‵ (u32.own_val r (v ∷ [])) ∷ ‵ (owns_image p g) ∷ []) ∵
@@ -117,7 +117,7 @@ module _ {M : Type 1} {𝓤 : Ura M} (𝓛 : Logic 𝓤) (at_mem : Memory → SP
       keep ! (4 ∷ 2 ∷ 5 ∷ 1 ∷ 0 ∷ []) $ by ! (exits null_ptr None 10 (vint w32 10) ou.now sz.now refl (inr (Handle, refl, (refl, refl, refl)))))
       (λ wrong. absurd wrong))
 
-  at_block : (b o : ℕ) (x : Typed) → ent 𝓤 (sep 𝓤 (Entry (block_ptr b o)) (sem 𝓛 (owns_image (block_ptr b o) (Some x)))) (Runs (block_ptr b o) (Some x))
+  at_block : (b o : ℕ) (x : TheImage) → ent 𝓤 (sep 𝓤 (Entry (block_ptr b o)) (sem 𝓛 (owns_image (block_ptr b o) (Some x)))) (Runs (block_ptr b o) (Some x))
   at_block b o x =
       let p : Ptr = block_ptr b o in
       qed 𝓛 (((‵ (flft κ₁ q₁) ⊛ ‵ (flft κ₂ q₂) ⊛ ‵ ftrue) ⊛ ‵ (owns (types_at (f.signature).params (κ₁, (κ₂, tt))) (args p) (passed p))) ∷ ‵ (owns_image p (Some x)) ∷ []) ∵
@@ -161,7 +161,7 @@ module _ {M : Type 1} {𝓤 : Ura M} (𝓛 : Logic 𝓤) (at_mem : Memory → SP
       peeks ! u32 (Is u32) (shows 𝓛 u32) r (v ∷ []) (λ fits. lands_as ! refl refl ((uint_Lawful 𝓛 w32).typed r _ fits).0 $
       returns ! (look_at ! 0 refl) $ free_all ! refl $ keep ! (3 ∷ 1 ∷ 5 ∷ 0 ∷ 4 ∷ []) $ by ! (exits p (Some x) r v ws.1.1.0 ws.1.1.1.0 eo done)))))))))))
 
-  pub at_each : (p : Ptr) (g : Option Typed) → ent 𝓤 (sep 𝓤 (Entry p) (sem 𝓛 (owns_image p g))) (Runs p g)
+  pub at_each : (p : Ptr) (g : Option TheImage) → ent 𝓤 (sep 𝓤 (Entry p) (sem 𝓛 (owns_image p g))) (Runs p g)
   at_each p None = qed 𝓛 (raw (Entry p) ∷ ‵ (feq Ptr p null_ptr) ∷ []) ∵ move ! (1 ∷ []) $ feq_l ! (λ e. by ! (subst (λ (q : Ptr). ent 𝓤 (Entry q) (Runs q None)) (sym e) at_null))
   at_each (block_ptr b o) (Some x) = at_block b o x
   at_each null_ptr (Some x) = via 𝓤 (never 𝓤) (via 𝓤 _ (snd∗ 𝓤 (Entry null_ptr) _) (fst∗ 𝓤 (never 𝓤) (sem 𝓛 (may_free (bare (lone the_row.mir)) null_ptr)))) (never_e 𝓤 _)

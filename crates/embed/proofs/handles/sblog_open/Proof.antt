@@ -31,7 +31,7 @@ use Rattle.std.proofs.raw_atomic.Walks.{proved, leaves}
 use Rattle.std.proofs.Handle.{heap_val, heap_Tells}
 use Rattle.std.specs.contracts.alloc.Global as heap
 use Rattle.std.proofs.alloc.Global.TheLaws as heap_laws
-use Rattle.verifier.specs.Typed.{Typed}
+use Rattle.handlers.specs.Image.{TheImage}
 use Rattle.embed.specs.Handles.{owns_image, Opens}
 use Rattle.embed.specs.contracts.opening.Opened as opened
 use Rattle.embed.proofs.OpenedValue.{opened_out, ptr_good, word_good}
@@ -77,6 +77,6 @@ sblog_open_spec 𝓤 𝓛 𝓜 𝓡 wired =
     returns ! (look_at ! 0 refl) $ free_all ! refl $
     feq_i ! (List Val) (mut_vals to) (mut_vals to) refl $ fjoin3 ! $ nothing ! $ move ! (1 ∷ 0 ∷ []) $ fjoin ! $ nothing ! $ fjoin ! $ nothing ! $ fjoin ! $
     move ! (1 ∷ 4 ∷ []) $ join ! $ move ! (3 ∷ 0 ∷ []) $ join ! $ move ! (2 ∷ []) $ use0 𝓛 (raw (fact 𝓤 (Opens r.code file.now r.held))) (fact_i 𝓤 (Opens r.code file.now r.held) (emp 𝓤) is) $ move ! (1 ∷ 0 ∷ []) $ join ! $
-    let out : Option Typed → SProp 𝓤 = λ held. sep 𝓤 (sem 𝓛 (owns_image r.at held)) (fact 𝓤 (Opens r.code file.now held)) in use1 𝓛 (raw (ex 𝓤 out)) (ex_i 𝓤 out r.held) $
+    let out : Option TheImage → SProp 𝓤 = λ held. sep 𝓤 (sem 𝓛 (owns_image r.at held)) (fact 𝓤 (Opens r.code file.now held)) in use1 𝓛 (raw (ex 𝓤 out)) (ex_i 𝓤 out r.held) $
     owned ! u32 _ (uint_Makes 𝓛 w32) r.code _ (refl, low) $ keep ! (2 ∷ 3 ∷ 0 ∷ 1 ∷ []) $
     by ! (leaves 𝓛 f.ended stayed c y (vint w32 r.code) r.code (tt, (tt, (r.at, tt))) (tt, (tt, (tt, tt)))))))))))))

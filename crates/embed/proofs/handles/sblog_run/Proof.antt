@@ -44,7 +44,7 @@ use Rattle.embed.specs.Handles.{may_free, owns_image, Runs as IsRun}
 use Rattle.embed.specs.declared.refusal.Refusal.TheVariants.{Handle}
 use Rattle.helpers.specs.declared.effects.Who.{Who}
 use Rattle.embed.proofs.Lent.{given_slice, slice_left, tested}
-use Rattle.verifier.specs.Typed.{Typed}
+use Rattle.handlers.specs.Image.{TheImage}
 use Rattle.embed.specs.contracts.handler.Handler.{the_row}
 use Rattle.embed.specs.contracts.running.run as of
 use Rattle.embed.proofs.running.run.Symbol.{name as #call}
@@ -78,7 +78,7 @@ module _ {M : Type 1} {𝓤 : Ura M} (𝓛 : Logic 𝓤) (at_mem : Memory → SP
   abbrev words : Ptr → List Val
   words p = rawptr_vals p ++ (mut_slice_vals st ++ (shr_slice_vals ms ++ (uint_vals w8 me ++ (uint_vals w8 fr ++ (uint_vals w8 co ++ (mut_slice_vals ou ++ []))))))
 
-  abbrev bound : Ptr → Option Typed → (walk_of 𝓛 f.ended stayed (f.clauses 𝓛 at_mem run)).Ghost
+  abbrev bound : Ptr → Option TheImage → (walk_of 𝓛 f.ended stayed (f.clauses 𝓛 at_mem run)).Ghost
   bound p g = (((κ₁, (κ₂, (κ₃, tt))), (q₁, (q₂, (q₃, tt))), tt, args p, passed p), g)
 
   abbrev Alive : SProp 𝓤
@@ -87,14 +87,14 @@ module _ {M : Type 1} {𝓤 : Ura M} (𝓛 : Logic 𝓤) (at_mem : Memory → SP
   abbrev Entry : Ptr → SProp 𝓤
   Entry p = on_entry 𝓛 f.signature (κ₁, (κ₂, (κ₃, tt))) (q₁, (q₂, (q₃, tt))) (args p) (passed p)
 
-  abbrev Post : Ptr → Option Typed → Val → SProp 𝓤
+  abbrev Post : Ptr → Option TheImage → Val → SProp 𝓤
   Post p g = (walk_of 𝓛 f.ended stayed (f.clauses 𝓛 at_mem run)).post (bound p g)
 
-  abbrev Runs : Ptr → Option Typed → SProp 𝓤
+  abbrev Runs : Ptr → Option TheImage → SProp 𝓤
   Runs p g = WpFn 𝓤 H C Λ code.function (words p) (Post p g)
 
   -- what is left: the two slices, the tokens, the result, and what the handle owns
-  exits : (p : Ptr) (g : Option Typed) (r : ℕ) (v : Val) (ss os : List ℕ) → length ss ≡ length st.now → length os ≡ length ou.now → IsRun r g who st.now ms.now ss ou.now os
+  exits : (p : Ptr) (g : Option TheImage) (r : ℕ) (v : Val) (ss os : List ℕ) → length ss ≡ length st.now → length os ≡ length ou.now → IsRun r g who st.now ms.now ss ou.now os
       → ent 𝓤 (sep 𝓤 (sem 𝓛 (given_slice κ₁ u8 st ss)) (sep 𝓤 (sem 𝓛 (given_slice κ₃ u8 ou os)) (sep 𝓤 Alive (sep 𝓤 (sem 𝓛 (u32.own_val r (v ∷ []))) (sem 𝓛 (owns_image p g)))))) (Post p g v)
   exits p g r v ss os es eo is =
       qed 𝓛 (‵ (given_slice κ₁ u8 st ss) ∷ ‵ (given_slice κ₃ u8 ou os) ∷ raw Alive ∷ ‵ (u32.own_val r (v ∷ [])) ∷ ‵ (owns_image p g) ∷ []) ∵
@@ -117,7 +117,7 @@ module _ {M : Type 1} {𝓤 : Ura M} (𝓛 : Logic 𝓤) (at_mem : Memory → SP
       keep ! (4 ∷ 2 ∷ 5 ∷ 1 ∷ 0 ∷ []) $ by ! (exits null_ptr None 10 (vint w32 10) st.now ou.now refl refl (inr (Handle, refl, (refl, refl, refl)))))
       (λ wrong. absurd wrong))
 
-  at_block : (b o : ℕ) (x : Typed) → ent 𝓤 (sep 𝓤 (Entry (block_ptr b o)) (sem 𝓛 (owns_image (block_ptr b o) (Some x)))) (Runs (block_ptr b o) (Some x))
+  at_block : (b o : ℕ) (x : TheImage) → ent 𝓤 (sep 𝓤 (Entry (block_ptr b o)) (sem 𝓛 (owns_image (block_ptr b o) (Some x)))) (Runs (block_ptr b o) (Some x))
   at_block b o x =
       let p : Ptr = block_ptr b o in
       qed 𝓛 (((‵ (flft κ₁ q₁) ⊛ ‵ (flft κ₂ q₂) ⊛ ‵ (flft κ₃ q₃) ⊛ ‵ ftrue) ⊛ ‵ (owns (types_at (f.signature).params (κ₁, (κ₂, (κ₃, tt)))) (args p) (passed p))) ∷ ‵ (owns_image p (Some x)) ∷ []) ∵
@@ -156,14 +156,14 @@ module _ {M : Type 1} {𝓤 : Ura M} (𝓛 : Logic 𝓤) (at_mem : Memory → SP
       some (λ (ws : Lasts of.ended z.0.0 z.0.3). ‵ (lasts of.ended z.0.0 z.0.3 ws) ⊛ (raw (fact 𝓤 (ws.0 ≡ x)) ⊛ raw (fact 𝓤 (IsRun r (Some x) who st.now ms.now ws.1.0 ou.now ws.1.1.1.1.1.1.0))))))) (id⊢ 𝓤 ((Of 𝓛 at_mem run).post z v)) $
       await ! tt $ pick ! (λ r. split ! $ split ! $ split ! $ lft_end ! tt $ move ! (3 ∷ []) $ pick ! (λ ws. split3 ! $ move ! (1 ∷ []) $ heard ! (ws.0 ≡ x) (λ same. move ! (1 ∷ []) $ heard ! (IsRun r (Some x) who st.now ms.now ws.1.0 ou.now ws.1.1.1.1.1.1.0) (λ is.
       -- [the last values; α is over; the tokens; the result; what the lender keeps; the right to free]
-      fsplit ! $ fsplit ! $ rewrite ! 0 (λ (y : Typed). ‵ (fres γ (the_row.coded.code y))) same refl $ move ! (3 ∷ 6 ∷ 0 ∷ []) $
+      fsplit ! $ fsplit ! $ rewrite ! 0 (λ (y : TheImage). ‵ (fres γ (the_row.coded.code y))) same refl $ move ! (3 ∷ 6 ∷ 0 ∷ []) $
       use3 𝓛 (later (‵ (part_at the_row full_share x b o))) (ref_back 𝓛 the_row (α ∷ []) γ x b o) $ await ! tt $ move ! (0 ∷ 5 ∷ []) $ fjoin ! $ move ! (1 ∷ []) $ drop ! $ move ! (1 ∷ []) $
       fsplit ! $ fsplit ! $ fsplit ! $ move ! (1 ∷ []) $ feq_l ! (λ es. fjoin ! $ move ! (1 ∷ []) $ fsplit ! $ drop ! $ fsplit ! $ drop ! $ fsplit ! $ drop ! $ fsplit ! $ drop ! $
       fsplit ! $ fsplit ! $ fsplit ! $ move ! (1 ∷ []) $ feq_l ! (λ eo. fjoin ! $ move ! (5 ∷ []) $
       peeks ! u32 (Is u32) (shows 𝓛 u32) r (v ∷ []) (λ fits. lands_as ! refl refl ((uint_Lawful 𝓛 w32).typed r _ fits).0 $
       returns ! (look_at ! 0 refl) $ free_all ! refl $ keep ! (3 ∷ 1 ∷ 5 ∷ 0 ∷ 4 ∷ []) $ by ! (exits p (Some x) r v ws.1.0 ws.1.1.1.1.1.1.0 es eo is))))))))))))))
 
-  pub at_each : (p : Ptr) (g : Option Typed) → ent 𝓤 (sep 𝓤 (Entry p) (sem 𝓛 (owns_image p g))) (Runs p g)
+  pub at_each : (p : Ptr) (g : Option TheImage) → ent 𝓤 (sep 𝓤 (Entry p) (sem 𝓛 (owns_image p g))) (Runs p g)
   at_each p None = qed 𝓛 (raw (Entry p) ∷ ‵ (feq Ptr p null_ptr) ∷ []) ∵ move ! (1 ∷ []) $ feq_l ! (λ e. by ! (subst (λ (q : Ptr). ent 𝓤 (Entry q) (Runs q None)) (sym e) at_null))
   at_each (block_ptr b o) (Some x) = at_block b o x
   at_each null_ptr (Some x) = via 𝓤 (never 𝓤) (via 𝓤 _ (snd∗ 𝓤 (Entry null_ptr) _) (fst∗ 𝓤 (never 𝓤) (sem 𝓛 (may_free (bare (lone the_row.mir)) null_ptr)))) (never_e 𝓤 _)

@@ -39,7 +39,7 @@ use denote.Triple.Walked.{Stays, stay_dropped, walk_of, Goes-dropped, walked, wa
 use Rattle.std.proofs.raw_atomic.Walks.{leaves}
 use Rattle.embed.specs.Handles.{may_free, owns_image}
 use Rattle.embed.specs.Handles.{state_len_of}
-use Rattle.verifier.specs.Typed.{Typed}
+use Rattle.handlers.specs.Image.{TheImage}
 use Rattle.embed.specs.contracts.handler.Handler.{the_row}
 use Rattle.embed.proofs.handler.Handler.TheLaws.{the_row_laws, the_within}
 use Rattle.embed.proofs.Lent.{tested}
@@ -62,19 +62,19 @@ module _ {M : Type 1} {𝓤 : Ura M} (𝓛 : Logic 𝓤) (at_mem : Memory → SP
     (known : Triple 𝓤 (C #len) (Of 𝓛 at_mem run)) where
   open 𝓛 use {H}
 
-  abbrev bound : Ptr → Option Typed → (walk_of 𝓛 f.ended stayed (f.clauses 𝓛 at_mem run)).Ghost
+  abbrev bound : Ptr → Option TheImage → (walk_of 𝓛 f.ended stayed (f.clauses 𝓛 at_mem run)).Ghost
   bound p g = ((tt, tt, tt, (p, tt), (rawptr_vals p, tt)), g)
 
   abbrev Entry : Ptr → SProp 𝓤
   Entry p = on_entry 𝓛 f.signature tt tt (p, tt) (rawptr_vals p, tt)
 
-  abbrev Post : Ptr → Option Typed → Val → SProp 𝓤
+  abbrev Post : Ptr → Option TheImage → Val → SProp 𝓤
   Post p g = (walk_of 𝓛 f.ended stayed (f.clauses 𝓛 at_mem run)).post (bound p g)
 
-  abbrev Runs : Ptr → Option Typed → SProp 𝓤
+  abbrev Runs : Ptr → Option TheImage → SProp 𝓤
   Runs p g = WpFn 𝓤 H C Λ code.function (rawptr_vals p) (Post p g)
 
-  exits : (p : Ptr) (g : Option Typed) (r : ℕ) (v : Val) → r ≡ state_len_of g → ent 𝓤 (sep 𝓤 (sem 𝓛 (usize.own_val r (v ∷ []))) (sem 𝓛 (owns_image p g))) (Post p g v)
+  exits : (p : Ptr) (g : Option TheImage) (r : ℕ) (v : Val) → r ≡ state_len_of g → ent 𝓤 (sep 𝓤 (sem 𝓛 (usize.own_val r (v ∷ []))) (sem 𝓛 (owns_image p g))) (Post p g v)
   exits p g r v is =
       qed 𝓛 (‵ (usize.own_val r (v ∷ [])) ∷ ‵ (owns_image p g) ∷ []) ∵
       use0 𝓛 (raw (fact 𝓤 (r ≡ state_len_of g))) (fact_i 𝓤 (r ≡ state_len_of g) (emp 𝓤) is) $ move ! (2 ∷ 0 ∷ []) $ join ! $ move ! (1 ∷ []) $ nothing ! $ nothing ! $ fjoin ! $ nothing ! $
@@ -91,7 +91,7 @@ module _ {M : Type 1} {𝓤 : Ura M} (𝓛 : Logic 𝓤) (at_mem : Memory → SP
       feq_i ! Ptr null_ptr null_ptr refl $ owned ! usize _ (uint_Makes 𝓛 w64) 0 _ (refl, lit< tt) $ by ! (exits null_ptr None 0 (vint w64 0) refl))
       (λ wrong. absurd wrong))
 
-  at_block : (b o : ℕ) (x : Typed) → ent 𝓤 (sep 𝓤 (Entry (block_ptr b o)) (sem 𝓛 (owns_image (block_ptr b o) (Some x)))) (Runs (block_ptr b o) (Some x))
+  at_block : (b o : ℕ) (x : TheImage) → ent 𝓤 (sep 𝓤 (Entry (block_ptr b o)) (sem 𝓛 (owns_image (block_ptr b o) (Some x)))) (Runs (block_ptr b o) (Some x))
   at_block b o x =
       let p : Ptr = block_ptr b o in
       qed 𝓛 (raw (Entry p) ∷ ‵ (owns_image p (Some x)) ∷ []) ∵ drop ! $
@@ -116,7 +116,7 @@ module _ {M : Type 1} {𝓤 : Ura M} (𝓛 : Logic 𝓤) (at_mem : Memory → SP
       peeks ! usize (Is usize) (shows 𝓛 usize) r (v ∷ []) (λ fits. lands_as ! refl refl ((uint_Lawful 𝓛 w64).typed r _ fits).0 $
       returns ! (look_at ! 0 refl) $ free_all ! refl $ keep ! (0 ∷ 1 ∷ []) $ by ! (exits p (Some x) r v is))))))))))
 
-  pub at_each : (p : Ptr) (g : Option Typed) → ent 𝓤 (sep 𝓤 (Entry p) (sem 𝓛 (owns_image p g))) (Runs p g)
+  pub at_each : (p : Ptr) (g : Option TheImage) → ent 𝓤 (sep 𝓤 (Entry p) (sem 𝓛 (owns_image p g))) (Runs p g)
   at_each p None = qed 𝓛 (raw (Entry p) ∷ ‵ (feq Ptr p null_ptr) ∷ []) ∵ move ! (1 ∷ []) $ feq_l ! (λ e. by ! (subst (λ (q : Ptr). ent 𝓤 (Entry q) (Runs q None)) (sym e) at_null))
   at_each (block_ptr b o) (Some x) = at_block b o x
   at_each null_ptr (Some x) = via 𝓤 (never 𝓤) (via 𝓤 _ (snd∗ 𝓤 (Entry null_ptr) _) (fst∗ 𝓤 (never 𝓤) (sem 𝓛 (may_free (bare (lone the_row.mir)) null_ptr)))) (never_e 𝓤 _)

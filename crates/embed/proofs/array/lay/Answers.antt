@@ -1,6 +1,6 @@
 use Rattle.std.proofs.Common.{◌≤◌, arith}
 use Rattle.embed.proofs.Laid.{laid_state, laid_spent}
-use Rattle.embed.proofs.calling.lay.Goals as goal
+use Rattle.embed.proofs.array.lay.Goals as goal
 
 pub returns-clause-state : goal.returns-clause-state
 returns-clause-state c =

@@ -1,0 +1,15 @@
+//! Messages, one behind the other.
+
+ghost use Rattle.std.specs.Prelude.{◌≡◌, ◌≤◌, ◌+◌, length, slice_range};
+
+use crate::calling::MESSAGE;
+
+/// The 64 bytes of a message from a place on.
+#[inline(always)]
+pub fn message_at(messages: &[u8], at: usize) -> &[u8]
+    requires { at + MESSAGE ≤ length messages.now }
+    ensures value { result.now ≡ slice_range messages.now at (at + MESSAGE) }
+    ensures size { length result.now ≡ MESSAGE }
+{
+    &messages[at..at + MESSAGE]
+}
