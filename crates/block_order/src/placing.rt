@@ -100,7 +100,7 @@ fn jump_to(
 }
 
 /// The code in the order in which a search has left it, the last slot first. `None` where an instruction has no room.
-pub fn place(
+pub(crate) fn place(
     alloc: Global,
     code: &[Option<Insn>],
     finished: &[usize],

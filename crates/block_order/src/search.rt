@@ -88,7 +88,7 @@ impl Search {
 }
 
 /// Searches all that slot 0 leads to, the way that falls through last.
-pub fn search_slots(alloc: Global, slots: &[Option<Insn>]) -> Result<Found, AllocError> {
+pub(crate) fn search_slots(alloc: Global, slots: &[Option<Insn>]) -> Result<Found, AllocError> {
     let mut search = Search {
         marks: Vec::new(alloc),
         open: Vec::new(alloc),

@@ -41,7 +41,7 @@ pub fn target(slot: usize, distance: i32) -> Option<usize>
 }
 
 /// The slots that the instruction at a slot leads to: by its jump, and to the one behind it.
-pub fn ways(insn: &Insn, slot: usize) -> (Option<usize>, Option<usize>) {
+pub(crate) fn ways(insn: &Insn, slot: usize) -> (Option<usize>, Option<usize>) {
     match flow_from(insn) {
         Flow::Ends => (None, None),
         Flow::Leaps(distance) => (target(slot, distance), None),
