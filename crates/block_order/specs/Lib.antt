@@ -1,0 +1,3 @@
+pub mod Placement
+pub mod Order
+pub mod Laws

@@ -1,0 +1,126 @@
+//! Instructions in another order.
+
+use crate::insns::with_distance;
+use crate::slots::{insn_at, place_at, ways};
+use decode::Insn;
+use limits::SLOTS;
+use std::alloc::{AllocError, Global};
+
+/// Code in another order.
+#[derive(Debug, Drop)]
+pub struct Placed {
+    pub insns: Vec<Insn>,
+    /// For each slot of the code the one at which its instruction stands now; `None` where no call comes.
+    pub places: Vec<Option<usize>>,
+}
+
+/// The k-th slot from the end.
+fn from_end(slots: &[usize], k: usize) -> Option<usize> {
+    if k < slots.len() {
+        Some(slots[slots.len() - 1 - k])
+    } else {
+        None
+    }
+}
+
+/// The slot behind the k-th one in the code, where another follows it in the order: a jump has to lead there.
+fn parted(code: &[Option<Insn>], finished: &[usize], k: usize) -> Option<usize> {
+    let slot = from_end(finished, k)?;
+    let insn = insn_at(code, slot)?;
+    let (_, next) = ways(&insn, slot);
+    let next = next?;
+    if k < finished.len() && from_end(finished, k + 1) == Some(next) {
+        None
+    } else {
+        Some(next)
+    }
+}
+
+/// Where the instruction of each slot stands, if all have room.
+fn places_of(
+    alloc: Global,
+    code: &[Option<Insn>],
+    finished: &[usize],
+) -> Result<Vec<Option<usize>>, AllocError> {
+    let mut places = Vec::new(alloc);
+    for _ in code {
+        places.push(None)?;
+    }
+    let mut place = 0;
+    for k in 0..finished.len() {
+        if let Some(slot) = from_end(finished, k) {
+            if slot < places.len() && place <= SLOTS {
+                places[slot] = Some(place);
+                let size = insn_at(code, slot).map_or(1, |insn| insn.slots());
+                let jump = if parted(code, finished, k).is_some() {
+                    1
+                } else {
+                    0
+                };
+                place += size + jump;
+            }
+        }
+    }
+    Ok(places)
+}
+
+/// How far a jump at a place goes to a later one.
+fn distance_to(place: usize, to: usize) -> Option<i32> {
+    if to > place && to - place <= SLOTS {
+        Some((to - place - 1) as i32)
+    } else {
+        None
+    }
+}
+
+/// The instruction of a slot as it stands at its place.
+fn moved(code: &[Option<Insn>], places: &[Option<usize>], slot: usize) -> Option<Insn> {
+    let insn = insn_at(code, slot)?;
+    let (jump, _) = ways(&insn, slot);
+    let Some(to) = jump else {
+        return Some(insn);
+    };
+    let distance = distance_to(place_at(places, slot)?, place_at(places, to)?)?;
+    with_distance(&insn, distance)
+}
+
+/// The jump behind the instruction of a slot that leads to where another stands.
+fn jump_to(
+    code: &[Option<Insn>],
+    places: &[Option<usize>],
+    slot: usize,
+    to: usize,
+) -> Option<Insn> {
+    let size = insn_at(code, slot)?.slots();
+    let place = place_at(places, slot)?.checked_add(size)?;
+    let distance = distance_to(place, place_at(places, to)?)?;
+    Some(Insn::Jump {
+        offset: i16::try_from(distance).ok()?,
+    })
+}
+
+/// The code in the order in which a search has left it, the last slot first. `None` where an instruction has no room.
+pub(crate) fn place(
+    alloc: Global,
+    code: &[Option<Insn>],
+    finished: &[usize],
+) -> Result<Option<Placed>, AllocError> {
+    let places = places_of(alloc, code, finished)?;
+    let mut insns = Vec::new(alloc);
+    for k in 0..finished.len() {
+        let Some(slot) = from_end(finished, k) else {
+            return Ok(None);
+        };
+        let Some(insn) = moved(code, places.as_slice(), slot) else {
+            return Ok(None);
+        };
+        insns.push(insn)?;
+        if let Some(to) = parted(code, finished, k) {
+            let Some(jump) = jump_to(code, places.as_slice(), slot, to) else {
+                return Ok(None);
+            };
+            insns.push(jump)?;
+        }
+    }
+    Ok(Some(Placed { insns, places }))
+}
