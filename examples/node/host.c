@@ -1,6 +1,6 @@
 /* The host of one node: host DIRECTORY ME N IMAGE. Packets go over datagram sockets DIRECTORY/0, /1, .., of which 0 is the
-   gateway's. What is kept of the node lies in DIRECTORY/kept.ME: it may be killed at any moment, and counts on. */
-#include <fcntl.h>
+   gateway's. What is kept of the node lies in DIRECTORY, as kept_file.c or kept_sqlite.c keeps it: it may be killed at
+   any moment, and counts on. */
 #include <poll.h>
 #include <stdio.h>
 #include <stdlib.h>
@@ -9,6 +9,7 @@
 #include <sys/un.h>
 #include <unistd.h>
 
+#include "kept.h"
 #include "sblog.h"
 
 enum { PAGE = 60000, TICK = 8, NUMBERS = 256, RECEIPTS = 65536, WAIT = 50, OFTEN = 4, FILE_LIMIT = 1 << 20 };
@@ -21,24 +22,13 @@ static void check(int holds, const char *why) {
     exit(1);
 }
 
-/* A file is there whole, or as it was: its bytes are written beside it, synced, and take its name. */
-static void store(const char *path, const void *bytes, size_t size) {
-    char beside[300];
-    snprintf(beside, sizeof beside, "%s.new", path);
-    int file = open(beside, O_WRONLY | O_CREAT | O_TRUNC, 0600);
-    check(file >= 0 && write(file, bytes, size) == (ssize_t)size && fsync(file) == 0 && close(file) == 0, beside);
-    check(rename(beside, path) == 0, path);
-    int directory = open(".", O_RDONLY);
-    check(directory >= 0 && fsync(directory) == 0 && close(directory) == 0, "directory");
-}
-
-/* How many bytes a file has; 0 where there is none. */
-static size_t load(const char *path, void *bytes, size_t room) {
-    int file = open(path, O_RDONLY);
-    if (file < 0) return 0;
-    ssize_t size = read(file, bytes, room);
-    check(size >= 0 && close(file) == 0, path);
-    return (size_t)size;
+/* The bytes of the image's file. */
+static size_t image_of(const char *path) {
+    FILE *file = fopen(path, "rb");
+    check(file != NULL, path);
+    size_t size = fread(image, 1, sizeof image, file);
+    check(fclose(file) == 0, path);
+    return size;
 }
 
 static struct sockaddr_un address(unsigned number) {
@@ -58,27 +48,27 @@ static void send_all(sblog_node *node, int socket_) {
 }
 
 /* A checkpoint, where one can be made: the node goes on once its bytes are durable. */
-static void keep(sblog_node *node, const char *path) {
+static void keep(sblog_node *node, const char *name) {
     size_t size;
     if (sblog_node_checkpoint(node, kept, sizeof kept, &size) != SBLOG_NODE_DONE) return;
-    store(path, kept, size);
+    kept_store(name, kept, size);
     check(sblog_node_saved(node) == SBLOG_NODE_DONE, "saved");
 }
 
 /* A new node where nothing is kept; else the node that it was, in the next incarnation, which is durable first. */
-static void begin(sblog_node *node, uint8_t me, uint8_t n, size_t image_len, const char *path) {
-    char name[300];
+static void begin(sblog_node *node, uint8_t me, uint8_t n, size_t image_len, const char *name) {
+    char life_name[16];
     uint64_t life = 0;
     uint32_t fault = 0;
-    snprintf(name, sizeof name, "life.%u", me);
-    size_t size = load(path, kept, sizeof kept);
+    snprintf(life_name, sizeof life_name, "life.%u", me);
+    size_t size = kept_load(name, kept, sizeof kept);
     if (size == 0) {
         check(sblog_node_open(image, image_len, me, n, PAGE, TICK, NUMBERS, RECEIPTS, 0, node) == SBLOG_NODE_DONE, "open");
-        keep(node, path);
+        keep(node, name);
     }
-    load(name, &life, sizeof life);
+    kept_load(life_name, &life, sizeof life);
     life++;
-    store(name, &life, sizeof life);
+    kept_store(life_name, &life, sizeof life);
     if (size == 0) return;
     uint32_t code = sblog_node_revive(image, image_len, kept, size, life, PAGE, TICK, NUMBERS, RECEIPTS, 0, node, &fault);
     check(code == SBLOG_NODE_DONE, "revive");
@@ -87,22 +77,22 @@ static void begin(sblog_node *node, uint8_t me, uint8_t n, size_t image_len, con
 int main(int count, char **words) {
     check(count == 5, "host DIRECTORY ME N IMAGE");
     uint8_t me = (uint8_t)atoi(words[2]), n = (uint8_t)atoi(words[3]);
-    size_t image_len = load(words[4], image, sizeof image);
+    size_t image_len = image_of(words[4]);
     check(chdir(words[1]) == 0, words[1]);
-    char path[300];
-    snprintf(path, sizeof path, "kept.%u", me);
+    char name[16];
+    snprintf(name, sizeof name, "kept.%u", me);
     struct sockaddr_un at = address(me);
     unlink(at.sun_path);
     int socket_ = socket(AF_UNIX, SOCK_DGRAM, 0);
     check(bind(socket_, (struct sockaddr *)&at, sizeof at) == 0, at.sun_path);
 
     sblog_node node = {0};
-    begin(&node, me, n, image_len, path);
+    begin(&node, me, n, image_len, name);
     for (;;) {
         while (sblog_node_work(&node) == SBLOG_NODE_DONE) {}
         sblog_standing standing;
         sblog_node_standing(&node, &standing);
-        if (standing.receipts >= OFTEN) keep(&node, path);
+        if (standing.receipts >= OFTEN) keep(&node, name);
         send_all(&node, socket_);
         struct pollfd waits = {.fd = socket_, .events = POLLIN};
         if (poll(&waits, 1, WAIT) > 0) {

@@ -1,12 +1,16 @@
 -- What the table gives is what the division of eight bits gives
-use Rattle.std.proofs.Common.{◌≡◌, ℕ, zero, suc, ◌+◌, ◌*◌, ◌/◌, ◌%◌, ◌^◌, ◌<◌, Bool, true, cond, eqb, ◌&&◌, List, [], ◌∷◌, length, get_or, replicate, refl, sym, ap, ◌∙◌, zero-add, add-zero, inl, inr, ◌⊎◌, arith}
+use Rattle.std.proofs.Common.{◌≡◌, ℕ, zero, suc, ◌+◌, ◌*◌, ◌/◌, ◌%◌, ◌^◌, ◌<◌, Bool, true, cond, eqb, ◌&&◌, List, [], ◌∷◌, length, get_or, replicate, take, drop, ◌++◌, refl, sym, ap, ◌∙◌, zero-add, add-zero, inl, inr, ◌⊎◌, arith}
 use Rattle.std.specs.Prelude.{bit_xor, bit_and}
-use Rattle.std.specs.List.{fold}
-use Rattle.std.specs.Int.Bits.{xor_assoc, xor_zero_r}
+use Rattle.std.specs.List.{fold, flat_map}
+use Rattle.std.specs.Simd.{first_chunks}
+use Rattle.std.specs.Int.Bits.{xor_assoc, xor_self, xor_zero_r}
 use Rattle.std.proofs.lemmas.Bool.{cases_lt, eqb-true}
+use Rattle.std.proofs.lemmas.List.{take-append-drop, drop-drop}
+use Rattle.std.proofs.lemmas.List.Concat.{flat_map-append}
+use Rattle.std.proofs.lemmas.List.Sums.{fold-append}
 use Rattle.std.proofs.lemmas.Nat.{xor_comm, xor_shr, xor_mod, xor_block, shr-shr, shr_split, and_mask}
 use Rattle.std.proofs.Math.Nat.{div-one, mod-lt, pow-suc, mul_assoc}
-use Rattle.packets.specs.declared.table.TheConstants.{TABLE}
+use Rattle.packets.specs.declared.table.TheConstants.{TABLE, SECOND, THIRD, FOURTH}
 use Rattle.packets.specs.Checksum.{polynomial, next_remainder, bits, byte_bits}
 
 zeros : ℕ → List ℕ
@@ -45,33 +49,62 @@ absorbs (suc n) r b =
     ap (λ (x : ℕ). fold next_remainder x (zeros n)) (absorbs_one r b) ∙ absorbs n (next_remainder r (b % 2)) (b / 2)
     ∙ ap (λ (z : ℕ). bit_xor (fold next_remainder (next_remainder r (b % 2)) (bits n (b / 2))) z) halved
 
--- ---- the table
+-- ---- the tables
 
 left : ℕ → ℕ
 left i = fold next_remainder i (replicate 8 0)
 
-agrees : ℕ → List ℕ → Bool
-unfolding left
-agrees i [] = true
-agrees i (t ∷ ts) = eqb t (left i) && agrees (suc i) ts
+twice : ℕ → ℕ
+twice i = left (left i)
+
+thrice : ℕ → ℕ
+thrice i = left (twice i)
+
+four_times : ℕ → ℕ
+four_times i = left (thrice i)
+
+agrees : (ℕ → ℕ) → ℕ → List ℕ → Bool
+agrees f i [] = true
+agrees f i (t ∷ ts) = eqb t (f i) && agrees f (suc i) ts
 
 both : (a b : Bool) → (a && b) ≡ true → (a ≡ true) × (b ≡ true)
 both true true e = (refl, refl)
 both true b e = (refl, e)
 both a b e = absurd cc
 
-agreed : (i k : ℕ) (ts : List ℕ) → agrees i ts ≡ true → k < length ts → get_or ts k 0 ≡ left (i + k)
+agreed : (f : ℕ → ℕ) (i k : ℕ) (ts : List ℕ) → agrees f i ts ≡ true → k < length ts → get_or ts k 0 ≡ f (i + k)
 unfolding agrees
-agreed i k [] e lt = absurd (omega arith)
-agreed i zero (t ∷ ts) e lt = eqb-true t (left i) (both (eqb t (left i)) (agrees (suc i) ts) e).0 ∙ ap left (sym (add-zero i))
-agreed i (suc k) (t ∷ ts) e lt = agreed (suc i) k ts (both (eqb t (left i)) (agrees (suc i) ts) e).1 (omega arith) ∙ (let moved : suc i + k ≡ i + suc k = omega arith in ap left moved)
+agreed f i k [] e lt = absurd (omega arith)
+agreed f i zero (t ∷ ts) e lt = eqb-true t (f i) (both (eqb t (f i)) (agrees f (suc i) ts) e).0 ∙ ap f (sym (add-zero i))
+agreed f i (suc k) (t ∷ ts) e lt = agreed f (suc i) k ts (both (eqb t (f i)) (agrees f (suc i) ts) e).1 (omega arith) ∙ (let moved : suc i + k ≡ i + suc k = omega arith in ap f moved)
 
-table_agrees : agrees 0 TABLE ≡ true
+first_agrees : agrees left 0 TABLE ≡ true
 unfolding agrees left
-table_agrees = refl
+first_agrees = refl
+
+second_agrees : agrees twice 0 SECOND ≡ true
+unfolding agrees left twice
+second_agrees = refl
+
+third_agrees : agrees thrice 0 THIRD ≡ true
+unfolding agrees left twice thrice
+third_agrees = refl
+
+fourth_agrees : agrees four_times 0 FOURTH ≡ true
+unfolding agrees left twice thrice four_times
+fourth_agrees = refl
 
 at_table : (i : ℕ) → i < 256 → get_or TABLE i 0 ≡ left i
-at_table i lt = agreed 0 i TABLE table_agrees lt ∙ ap left (zero-add i)
+at_table i lt = agreed left 0 i TABLE first_agrees lt ∙ ap left (zero-add i)
+
+at_second : (i : ℕ) → i < 256 → get_or SECOND i 0 ≡ twice i
+at_second i lt = agreed twice 0 i SECOND second_agrees lt ∙ ap twice (zero-add i)
+
+at_third : (i : ℕ) → i < 256 → get_or THIRD i 0 ≡ thrice i
+at_third i lt = agreed thrice 0 i THIRD third_agrees lt ∙ ap thrice (zero-add i)
+
+at_fourth : (i : ℕ) → i < 256 → get_or FOURTH i 0 ≡ four_times i
+at_fourth i lt = agreed four_times 0 i FOURTH fourth_agrees lt ∙ ap four_times (zero-add i)
 
 -- ---- a byte
 
@@ -98,13 +131,116 @@ apart c =
     ∙ ap (λ (bs : List ℕ). bit_xor (fold next_remainder (c % 256) bs) (c / 256 * 256 / 2 ^ 8)) (no_bits 8 (c / 256))
     ∙ ap (λ (y : ℕ). bit_xor (fold next_remainder (c % 256) (replicate 8 0)) y) (omega arith)
 
+-- the division by the bits of a byte, which is added before
+added : (r b : ℕ) → b < 256 → fold next_remainder r (byte_bits b) ≡ left (bit_xor r b)
+unfolding left zeros byte_bits
+added r b lt =
+    let none : b / 2 ^ 8 ≡ 0 = omega arith in
+    sym (absorbs 8 r b ∙ ap (λ (z : ℕ). bit_xor (fold next_remainder r (bits 8 b)) z) none ∙ xor_zero_r _)
+
+-- what is above the low byte of a sum with a byte
+above : (r b : ℕ) → b < 256 → bit_xor r b / 256 ≡ r / 256
+above r b lt =
+    let none : b / 2 ^ 8 ≡ 0 = omega arith in
+    xor_shr r b 8 ∙ ap (λ (z : ℕ). bit_xor (r / 2 ^ 8) z) none ∙ xor_zero_r (r / 2 ^ 8)
+
+-- where a byte is looked up
+place : ℕ → ℕ → ℕ
+place r b = bit_and (bit_xor r b) 255
+
+place_low : (r b : ℕ) → place r b ≡ bit_xor r b % 256
+unfolding place
+place_low r b = and_mask (bit_xor r b) 8
+
+place_lt : (r b : ℕ) → place r b < 256
+place_lt r b = let low : bit_xor r b % 256 < 256 = mod-lt _ (omega arith) in rw (place_low r b) low
+
+-- one byte: what its place leaves, and the others moved
+one_byte : (r b : ℕ) → b < 256 → fold next_remainder r (byte_bits b) ≡ bit_xor (left (place r b)) (r / 256)
+one_byte r b lt = added r b lt ∙ apart (bit_xor r b) ∙ ap (λ (z : ℕ). bit_xor (left (bit_xor r b % 256)) z) (above r b lt) ∙ ap (λ (z : ℕ). bit_xor (left z) (r / 256)) (sym (place_low r b))
+
 -- a step by the table is eight steps of the division, by the bits of a byte
 pub behind_byte : (r b : ℕ) → b < 256 → bit_xor (get_or TABLE (bit_and (bit_xor r b) 255) 0) (r / 2 ^ 8) ≡ fold next_remainder r (byte_bits b)
-unfolding left zeros byte_bits
-behind_byte r b lt =
-    let c = bit_xor r b in
-    let masked : bit_and c 255 ≡ c % 256 = and_mask c 8 in
-    let none : b / 2 ^ 8 ≡ 0 = omega arith in
-    let high : c / 256 ≡ r / 2 ^ 8 = xor_shr r b 8 ∙ ap (λ (z : ℕ). bit_xor (r / 2 ^ 8) z) none ∙ xor_zero_r (r / 2 ^ 8) in
-    let long : left c ≡ fold next_remainder r (bits 8 b) = absorbs 8 r b ∙ ap (λ (z : ℕ). bit_xor (fold next_remainder r (bits 8 b)) z) none ∙ xor_zero_r _ in
-    rw (masked, at_table (c % 256) (mod-lt c (omega arith)), ← high) (sym (apart c) ∙ long)
+unfolding place
+behind_byte r b lt = ap (λ (z : ℕ). bit_xor z (r / 256)) (at_table (place r b) (place_lt r b)) ∙ sym (one_byte r b lt)
+
+-- ---- four bytes
+
+summed : (s t x y : ℕ) → (s ≡ 0) ⊎ (s ≡ 1) → (t ≡ 0) ⊎ (t ≡ 1) → cond (eqb (bit_xor s t) 0) (bit_xor x y) (bit_xor (bit_xor x y) polynomial) ≡ bit_xor (cond (eqb s 0) x (bit_xor x polynomial)) (cond (eqb t 0) y (bit_xor y polynomial))
+summed s t x y (inl a) (inl b) = rw (a, b) refl
+summed s t x y (inl a) (inr b) = rw (a, b) (xor_assoc x y polynomial)
+summed s t x y (inr a) (inl b) = rw (a, b) (turned x y)
+summed s t x y (inr a) (inr b) =
+    let gone : bit_xor (bit_xor y polynomial) polynomial ≡ y = xor_assoc y polynomial polynomial ∙ ap (bit_xor y) (xor_self polynomial) ∙ xor_zero_r y in
+    rw (a, b) (sym (xor_assoc x polynomial (bit_xor y polynomial) ∙ ap (bit_xor x) (xor_comm polynomial (bit_xor y polynomial) ∙ gone)))
+
+sum_one : (x y : ℕ) → next_remainder (bit_xor x y) 0 ≡ bit_xor (next_remainder x 0) (next_remainder y 0)
+sum_one x y =
+    let low : bit_xor x y % 2 ≡ bit_xor (x % 2) (y % 2) = xor_mod x y 1 in
+    let high : bit_xor x y / 2 ≡ bit_xor (x / 2) (y / 2) = xor_shr x y 1 in
+    rw (low, high) (summed (x % 2) (y % 2) (x / 2) (y / 2) (is_bit x) (is_bit y))
+
+sum_many : (n x y : ℕ) → fold next_remainder (bit_xor x y) (replicate n 0) ≡ bit_xor (fold next_remainder x (replicate n 0)) (fold next_remainder y (replicate n 0))
+sum_many zero x y = refl
+sum_many (suc n) x y = ap (λ (z : ℕ). fold next_remainder z (replicate n 0)) (sum_one x y) ∙ sum_many n (next_remainder x 0) (next_remainder y 0)
+
+left_sum : (x y : ℕ) → left (bit_xor x y) ≡ bit_xor (left x) (left y)
+unfolding left
+left_sum x y = sum_many 8 x y
+
+-- one byte, behind which u is added
+one_more : (u r b : ℕ) → b < 256 → fold next_remainder (bit_xor u r) (byte_bits b) ≡ bit_xor (bit_xor (left u) (left (place r b))) (r / 256)
+one_more u r b lt = added (bit_xor u r) b lt ∙ ap left (xor_assoc u r b) ∙ left_sum u (bit_xor r b) ∙ ap (bit_xor (left u)) (sym (added r b lt) ∙ one_byte r b lt) ∙ sym (xor_assoc (left u) (left (place r b)) (r / 256))
+
+-- four places looked up by themselves are four steps
+pub behind_four : (r a b c d : ℕ) → r < 2 ^ 32 → a < 256 → b < 256 → c < 256 → d < 256 →
+    bit_xor (bit_xor (bit_xor (get_or FOURTH (bit_and (bit_xor r a) 255) 0) (get_or THIRD (bit_and (bit_xor (r / 2 ^ 8) b) 255) 0)) (get_or SECOND (bit_and (bit_xor (r / 2 ^ 16) c) 255) 0)) (get_or TABLE (bit_and (bit_xor (r / 2 ^ 24) d) 255) 0)
+    ≡ fold next_remainder (fold next_remainder (fold next_remainder (fold next_remainder r (byte_bits a)) (byte_bits b)) (byte_bits c)) (byte_bits d)
+unfolding place twice thrice four_times
+behind_four r a b c d small la lb lc ld =
+    let p = place r a in
+    let q = place (r / 2 ^ 8) b in
+    let s = place (r / 2 ^ 16) c in
+    let t = place (r / 2 ^ 24) d in
+    let two : r / 2 ^ 8 / 256 ≡ r / 2 ^ 16 = shr-shr r 8 8 in
+    let three : r / 2 ^ 16 / 256 ≡ r / 2 ^ 24 = shr-shr r 16 8 in
+    let none : r / 2 ^ 24 / 256 ≡ 0 = omega arith in
+    let u2 = bit_xor (twice p) (left q) in
+    let u3 = bit_xor (bit_xor (thrice p) (twice q)) (left s) in
+    let e1 : fold next_remainder r (byte_bits a) ≡ bit_xor (left p) (r / 2 ^ 8) = one_byte r a la in
+    let e2 : fold next_remainder (bit_xor (left p) (r / 2 ^ 8)) (byte_bits b) ≡ bit_xor u2 (r / 2 ^ 16) = one_more (left p) (r / 2 ^ 8) b lb ∙ ap (bit_xor u2) two in
+    let e3 : fold next_remainder (bit_xor u2 (r / 2 ^ 16)) (byte_bits c) ≡ bit_xor u3 (r / 2 ^ 24) =
+    one_more u2 (r / 2 ^ 16) c lc ∙ ap (λ (z : ℕ). bit_xor (bit_xor z (left s)) (r / 2 ^ 16 / 256)) (left_sum (twice p) (left q)) ∙ ap (bit_xor u3) three in
+    let sums : left u3 ≡ bit_xor (bit_xor (four_times p) (thrice q)) (twice s) = left_sum (bit_xor (thrice p) (twice q)) (left s) ∙ ap (λ (z : ℕ). bit_xor z (twice s)) (left_sum (thrice p) (twice q)) in
+    let all = bit_xor (bit_xor (bit_xor (four_times p) (thrice q)) (twice s)) (left t) in
+    let e4 : fold next_remainder (bit_xor u3 (r / 2 ^ 24)) (byte_bits d) ≡ all =
+    one_more u3 (r / 2 ^ 24) d ld ∙ ap (λ (z : ℕ). bit_xor (bit_xor z (left t)) (r / 2 ^ 24 / 256)) sums ∙ ap (bit_xor all) none ∙ xor_zero_r all in
+    rw (at_fourth p (place_lt r a), at_third q (place_lt (r / 2 ^ 8) b), at_second s (place_lt (r / 2 ^ 16) c), at_table t (place_lt (r / 2 ^ 24) d), e1, e2, e3) (sym e4)
+
+-- a list of four
+pub behind_list : (r : ℕ) (w : List ℕ) → r < 2 ^ 32 → length w ≡ 4 → ((i : ℕ) → get_or w i 0 < 256) →
+    bit_xor (bit_xor (bit_xor (get_or FOURTH (bit_and (bit_xor r (get_or w 0 0)) 255) 0) (get_or THIRD (bit_and (bit_xor (r / 2 ^ 8) (get_or w 1 0)) 255) 0)) (get_or SECOND (bit_and (bit_xor (r / 2 ^ 16) (get_or w 2 0)) 255) 0)) (get_or TABLE (bit_and (bit_xor (r / 2 ^ 24) (get_or w 3 0)) 255) 0)
+    ≡ fold next_remainder r (flat_map byte_bits w)
+behind_list r [] small e lt = absurd (omega (arith, e))
+behind_list r (a ∷ []) small e lt = absurd (omega (arith, e))
+behind_list r (a ∷ b ∷ []) small e lt = absurd (omega (arith, e))
+behind_list r (a ∷ b ∷ c ∷ []) small e lt = absurd (omega (arith, e))
+behind_list r (a ∷ b ∷ c ∷ d ∷ []) small e lt =
+    let bytes = flat_map byte_bits in
+    let three = fold next_remainder (fold next_remainder (fold next_remainder r (byte_bits a)) (byte_bits b)) (byte_bits c) in
+    behind_four r a b c d small (lt 0) (lt 1) (lt 2) (lt 3)
+    ∙ sym (fold-append next_remainder r (byte_bits a) (bytes (b ∷ c ∷ d ∷ []))
+    ∙ fold-append next_remainder (fold next_remainder r (byte_bits a)) (byte_bits b) (bytes (c ∷ d ∷ []))
+    ∙ fold-append next_remainder (fold next_remainder (fold next_remainder r (byte_bits a)) (byte_bits b)) (byte_bits c) (bytes (d ∷ []))
+    ∙ fold-append next_remainder three (byte_bits d) [])
+behind_list r (a ∷ b ∷ c ∷ d ∷ f ∷ w) small e lt = absurd (omega (arith, e))
+
+-- words, and the bytes behind them
+pub in_words : (r n : ℕ) (xs : List ℕ) → fold next_remainder (fold next_remainder r (flat_map (flat_map byte_bits) (first_chunks 4 n xs))) (flat_map byte_bits (drop (n * 4) xs)) ≡ fold next_remainder r (flat_map byte_bits xs)
+in_words r zero xs = refl
+in_words r (suc n) xs =
+    let word = flat_map byte_bits (take 4 xs) in
+    let rest = flat_map (flat_map byte_bits) (first_chunks 4 n (drop 4 xs)) in
+    let moved : drop (suc n * 4) xs ≡ drop (n * 4) (drop 4 xs) = sym (drop-drop (n * 4) 4 xs ∙ ap (λ (k : ℕ). drop k xs) (omega arith)) in
+    let parts : flat_map byte_bits xs ≡ word ++ flat_map byte_bits (drop 4 xs) = ap (flat_map byte_bits) (sym (take-append-drop 4 xs)) ∙ flat_map-append byte_bits (take 4 xs) (drop 4 xs) in
+    rw (moved, fold-append next_remainder r word rest, parts, fold-append next_remainder r word (flat_map byte_bits (drop 4 xs))) (in_words (fold next_remainder r word) n (drop 4 xs))

@@ -1,21 +1,51 @@
 //! The checksum at the end of a packet.
 
 ghost use Rattle.std.specs.Prelude.{◌≡◌, ◌<◌, slice_index};
-ghost use Rattle.std.specs.List.{fold};
+ghost use Rattle.std.specs.List.{fold, flat_map};
 ghost use Rattle.packets.specs.Checksum.{crc32c, next_remainder, byte_bits};
 
-use crate::table::TABLE;
+use crate::table::{FOURTH, SECOND, TABLE, THIRD};
 
 /// The CRC-32C (Castagnoli) of some bytes.
 #[tactic(auto, unfolding(crate::specs::Checksum::crc32c))]
 pub fn crc32c(bytes: &[u8]) -> u32
     ensures { result ≡ crc32c bytes.now }
 {
-    let mut remainder = u32::MAX;
+    let (words, rest) = bytes.as_chunks();
+    !behind_bytes(behind_words(u32::MAX, words), rest)
+}
+
+/// The remainder behind so many words more.
+fn behind_words(before: u32, words: &[[u8; 4]]) -> u32
+    ensures { result ≡ fold next_remainder before (flat_map (flat_map byte_bits) words.now) }
+{
+    let mut remainder = before;
+    for word in words {
+        remainder = behind_word(remainder, word);
+    }
+    remainder
+}
+
+/// The remainder behind four bytes more. Each is looked up by itself, so that none waits for the one before.
+fn behind_word(remainder: u32, word: &[u8; 4]) -> u32
+    ensures { result ≡ fold next_remainder remainder (flat_map byte_bits word.now) }
+{
+    let first = (remainder ^ word[0] as u32) & 0xff;
+    let second = ((remainder >> 8) ^ word[1] as u32) & 0xff;
+    let third = ((remainder >> 16) ^ word[2] as u32) & 0xff;
+    let fourth = ((remainder >> 24) ^ word[3] as u32) & 0xff;
+    fourth_by(first) ^ third_by(second) ^ second_by(third) ^ left_by(fourth)
+}
+
+/// The remainder behind so many bytes more.
+fn behind_bytes(before: u32, bytes: &[u8]) -> u32
+    ensures { result ≡ fold next_remainder before (flat_map byte_bits bytes.now) }
+{
+    let mut remainder = before;
     for byte in bytes {
         remainder = behind(remainder, *byte);
     }
-    !remainder
+    remainder
 }
 
 /// The remainder behind one byte more.
@@ -32,4 +62,28 @@ fn left_by(byte: u32) -> u32
     ensures { result ≡ slice_index TABLE byte }
 {
     TABLE[byte as usize]
+}
+
+/// Behind sixteen zeros.
+fn second_by(byte: u32) -> u32
+    requires { byte < 256 }
+    ensures { result ≡ slice_index SECOND byte }
+{
+    SECOND[byte as usize]
+}
+
+/// Behind twenty-four zeros.
+fn third_by(byte: u32) -> u32
+    requires { byte < 256 }
+    ensures { result ≡ slice_index THIRD byte }
+{
+    THIRD[byte as usize]
+}
+
+/// Behind thirty-two zeros.
+fn fourth_by(byte: u32) -> u32
+    requires { byte < 256 }
+    ensures { result ≡ slice_index FOURTH byte }
+{
+    FOURTH[byte as usize]
 }

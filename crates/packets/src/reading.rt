@@ -64,14 +64,14 @@ fn body_of(alloc: Global, kind: Kind, bytes: &[u8]) -> Result<Body, PacketError>
     }
 }
 
-/// A value, where no bytes are left.
-fn ended(body: Body, rest: &[u8]) -> Result<Body, PacketError>
-    ensures { Gives (λ x. x) result (if length rest.now == 0 then Ok body else Err faults.Fields) }
+/// No bytes are left.
+fn ended(rest: &[u8]) -> Result<(), PacketError>
+    ensures { Gives (λ x. x) result (if length rest.now == 0 then Ok tt else Err faults.Fields) }
 {
     if !rest.is_empty() {
         return Err(PacketError::Fault(PacketFault::Fields));
     }
-    Ok(body)
+    Ok(())
 }
 
 #[tactic(auto, unfolding(crate::specs::Inside::Reading::body_at))]
@@ -82,12 +82,12 @@ fn delivery_of(bytes: &[u8]) -> Result<Body, PacketError>
     let (ssn, rest) = u64_of(rest)?;
     let (payload, rest) = payload_of(rest)?;
     let payload = Payload::from_slice(payload);
-    let body = Body::Delivery {
+    ended(rest)?;
+    Ok(Body::Delivery {
         incarnation,
         ssn,
         payload,
-    };
-    ended(body, rest)
+    })
 }
 
 #[tactic(auto, unfolding(crate::specs::Inside::Reading::body_at))]
@@ -97,12 +97,12 @@ fn number_of(bytes: &[u8]) -> Result<Body, PacketError>
     let (incarnation, rest) = u64_of(bytes)?;
     let (ssn, rest) = u64_of(rest)?;
     let (number, rest) = u64_of(rest)?;
-    let body = Body::Number {
+    ended(rest)?;
+    Ok(Body::Number {
         incarnation,
         ssn,
         number,
-    };
-    ended(body, rest)
+    })
 }
 
 #[tactic(auto, unfolding(crate::specs::Inside::Reading::body_at))]
@@ -111,11 +111,11 @@ fn acknowledgement_of(bytes: &[u8]) -> Result<Body, PacketError>
 {
     let (incarnation, rest) = u64_of(bytes)?;
     let (number, rest) = u64_of(rest)?;
-    let body = Body::Acknowledgement {
+    ended(rest)?;
+    Ok(Body::Acknowledgement {
         incarnation,
         number,
-    };
-    ended(body, rest)
+    })
 }
 
 #[tactic(auto, unfolding(crate::specs::Inside::Reading::body_at))]
@@ -124,7 +124,8 @@ fn ask_of(bytes: &[u8]) -> Result<Body, PacketError>
 {
     let (incarnation, rest) = u64_of(bytes)?;
     let (above, rest) = u64_of(rest)?;
-    ended(Body::Ask { incarnation, above }, rest)
+    ended(rest)?;
+    Ok(Body::Ask { incarnation, above })
 }
 
 #[tactic(auto, unfolding(crate::specs::Inside::Reading::body_at))]
@@ -136,14 +137,14 @@ fn told_of(alloc: Global, bytes: &[u8]) -> Result<Body, PacketError>
     let (above, rest) = u64_of(rest)?;
     let (bits, rest) = byte_of(rest)?;
     let (entries, rest) = entries_of(alloc, rest)?;
-    let body = Body::Told {
+    ended(rest)?;
+    Ok(Body::Told {
         incarnation,
         teller,
         above,
         flags: Flags { bits },
         entries,
-    };
-    ended(body, rest)
+    })
 }
 
 #[tactic(auto, unfolding(crate::specs::Inside::Reading::body_at))]
@@ -153,12 +154,12 @@ fn resume_of(bytes: &[u8]) -> Result<Body, PacketError>
     let (incarnation, rest) = u64_of(bytes)?;
     let (kept, rest) = u64_of(rest)?;
     let (above, rest) = u64_of(rest)?;
-    let body = Body::Resume {
+    ended(rest)?;
+    Ok(Body::Resume {
         incarnation,
         kept,
         above,
-    };
-    ended(body, rest)
+    })
 }
 
 #[tactic(auto, unfolding(crate::specs::Inside::Reading::body_at))]
@@ -171,15 +172,15 @@ fn restored_of(alloc: Global, bytes: &[u8]) -> Result<Body, PacketError>
     let (above, rest) = u64_of(rest)?;
     let (bits, rest) = byte_of(rest)?;
     let (pairs, rest) = pairs_of(alloc, rest)?;
-    let body = Body::Restored {
+    ended(rest)?;
+    Ok(Body::Restored {
         incarnation,
         teller,
         covered,
         above,
         flags: Flags { bits },
         pairs,
-    };
-    ended(body, rest)
+    })
 }
 
 #[tactic(auto, unfolding(crate::specs::Inside::Reading::body_at))]
@@ -187,5 +188,6 @@ fn saved_of(bytes: &[u8]) -> Result<Body, PacketError>
     ensures { Gives (λ x. x) result (body_at kinds.Saved bytes.now) }
 {
     let (covered, rest) = u64_of(bytes)?;
-    ended(Body::Saved { covered }, rest)
+    ended(rest)?;
+    Ok(Body::Saved { covered })
 }

@@ -12,12 +12,16 @@ use byteorder::{ByteOrder, LittleEndian};
 use limits::PAYLOAD_BYTES;
 use std::alloc::{AllocError, Global};
 
+/// What is asked for at once: as many bytes as the longest packet without a page has, a Delivery.
+const WITHOUT_A_PAGE: usize = 286;
+
 /// The bytes of a packet.
 pub fn encode(alloc: Global, packet: &Packet) -> Result<Vec<u8>, AllocError>
     requires { Fits packet.now }
     ensures { IfOk result (λ v. IsPacket packet.now v.items) }
 {
-    let mut out = Vec::from_slice(alloc, &MAGIC)?;
+    let mut out = Vec::with_capacity(alloc, WITHOUT_A_PAGE)?;
+    out.extend_from_slice(&MAGIC)?;
     let head = [
         packet.body.kind().number(),
         packet.count,
