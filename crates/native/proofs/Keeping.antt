@@ -1,16 +1,17 @@
 -- Which registers are kept.
-use Rattle.std.proofs.Common.{◌≡◌, ℕ, zero, suc, ◌+◌, ◌<◌, ◌≤◌, Bool, true, false, List, length, Some, refl, sym, ap, ◌∙◌, subst, ⊎_elim, arith}
+use Rattle.std.proofs.Common.{◌≡◌, ℕ, zero, suc, ◌+◌, ◌<◌, ◌≤◌, Bool, true, false, List, length, drop, Some, refl, sym, ap, ◌∙◌, subst, ⊎_elim, arith}
 use Rattle.std.specs.Prelude.{◌==◌, ◌||◌, slice_get}
 use Rattle.std.proofs.lemmas.Bool.{cases_lt}
-use Rattle.dense.specs.declared.op.Op.{Op}
 use Rattle.native.specs.declared.task.Task.{Task}
 use Rattle.native.specs.declared.task.Task.TheVariants as task
 use Rattle.native.specs.declared.saved.Saved.{Saved}
-use Rattle.native.specs.Operations.{task_for}
+use Rattle.native.specs.SlotTasks.{task_at}
 use Rattle.native.specs.Tasks.{Includes, WritesWithin}
 use Rattle.native.specs.Laid.{SaveAll}
-use Rattle.std.proofs.lemmas.Option.{slice_get_within}
+use Rattle.std.proofs.lemmas.Option.{slice_get-get_or, slice_get_within}
+use Rattle.std.proofs.lemmas.List.{at_drop_more, drop_all}
 use Rattle.native.specs.Saved.{may_write, and_register}
+use Rattle.native.specs.Needs.{and_task, and_tasks, saved_in}
 
 or_true : (b : Bool) → (b || true) ≡ true
 or_true true = refl
@@ -66,23 +67,36 @@ writes_more s u (task.OutputSized at) i h = tt
 writes_more s u task.Exit i h = tt
 writes_more s u task.Dead i h = tt
 
--- the tasks of the operations before this one write no other register
-abbrev pub KeepsTo : List Op → List ℕ → Saved → ℕ → Type 0
-KeepsTo ops pool saved index =
-    (k : ℕ) (o : Op) (t : Task) → k < index → slice_get ops k ≡ Some o → task_for pool o ≡ Some t → WritesWithin saved t
+-- the tasks before this one write no other register
+abbrev pub KeepsTo : List Task → Saved → ℕ → Type 0
+KeepsTo tasks saved index = (k : ℕ) (t : Task) → k < index → slice_get tasks k ≡ Some t → WritesWithin saved t
+
+-- and so far the registers are those that tasks write
+pub record KeptTo (tasks : List Task) (saved : Saved) (index : ℕ) : Type 0 where
+  pub keeps : KeepsTo tasks saved index
+  pub is : and_tasks saved (drop index tasks) ≡ saved_in tasks
 
 -- and of one more
-pub keeps_next : (ops : List Op) (pool : List ℕ) (s u : Saved) (index : ℕ) (p : Op) → KeepsTo ops pool s index → Includes s u → slice_get ops index ≡ Some p → ((t : Task) → task_for pool p ≡ Some t → WritesWithin u t) → KeepsTo ops pool u (index + 1)
-keeps_next ops pool s u index p h i e w k o t l f g =
-    ⊎_elim
-    (λ (below : k < index). writes_more s u t i (h k o t below f g))
-    (λ (ge : index ≤ k).
-    let same : k ≡ index = omega arith in
-    let f' : slice_get ops index ≡ Some o = subst (λ j. slice_get ops j ≡ Some o) same f in
-    let q : o ≡ p = cc in
-    w t (subst (λ x. task_for pool x ≡ Some t) q g))
-    (cases_lt k index)
+pub keeps_next : (tasks : List Task) (s u : Saved) (index : ℕ) (v : Task) → index < length tasks → v ≡ task_at tasks index → u ≡ and_task s v → Includes s u → WritesWithin u v → KeptTo tasks s index → KeptTo tasks u (index + 1)
+keeps_next tasks s u index v lt is_v is_u i w h = record {
+  keeps = λ k t l f. ⊎_elim
+      (λ (below : k < index). writes_more s u t i (h.keeps k t below f))
+      (λ (ge : index ≤ k).
+      let same : k ≡ index = omega arith in
+      let f' : slice_get tasks index ≡ Some t = subst (λ j. slice_get tasks j ≡ Some t) same f in
+      let here : slice_get tasks index ≡ Some (task_at tasks index) = slice_get-get_or tasks index task.Dead lt in
+      let q : v ≡ t = let x : Some (task_at tasks index) ≡ Some t = sym here ∙ f' in let y : task_at tasks index ≡ t = cc in is_v ∙ y in
+      subst (WritesWithin u) q w)
+      (cases_lt k index);
+  is =
+      ap (λ a. and_tasks a (drop (index + 1) tasks)) (is_u ∙ ap (and_task s) is_v)
+      ∙ sym (at_drop_more (and_tasks s) tasks index task.Dead lt)
+      ∙ h.is;
+}
 
 -- and of all
-pub keeps_all : (ops : List Op) (pool : List ℕ) (s : Saved) (index : ℕ) → KeepsTo ops pool s index → length ops ≤ index → SaveAll ops pool s
-keeps_all ops pool s index h l k o t f g = let w = slice_get_within ops k o f in h k o t (omega arith) f g
+pub keeps_all : (tasks : List Task) (s : Saved) (index : ℕ) → KeptTo tasks s index → length tasks ≤ index → SaveAll tasks s
+keeps_all tasks s index h l k t f = let w = slice_get_within tasks k t f in h.keeps k t (omega arith) f
+
+pub keeps_is : (tasks : List Task) (s : Saved) (index : ℕ) → KeptTo tasks s index → length tasks ≤ index → s ≡ saved_in tasks
+keeps_is tasks s index h l = ap (and_tasks s) (sym (drop_all index tasks l)) ∙ h.is

@@ -1,12 +1,13 @@
 -- Steps that aren't counted yet, slot by slot.
-use Rattle.std.proofs.Common.{◌≡◌, ℕ, zero, suc, ◌+◌, ◌<◌, ◌≤◌, Bool, false, List, [], ◌∷◌, ◌++◌, length, Some, refl, sym, ap, ◌∙◌, subst, ⊎_elim, arith, length-append}
-use Rattle.std.specs.Prelude.{slice_get, slice_set, slice_index}
+use Rattle.std.proofs.Common.{◌≡◌, ℕ, zero, suc, ◌+◌, ◌-◌, ◌<◌, ◌≤◌, Bool, true, false, cond, List, [], ◌∷◌, ◌++◌, length, Some, refl, sym, ap, ◌∙◌, subst, ⊎_elim, arith, length-append}
+use Rattle.std.specs.Prelude.{◌||◌, slice_get, slice_set, slice_index, replicate}
+use Rattle.std.proofs.lemmas.Option.{slice_get-get_or}
 use Rattle.std.proofs.lemmas.Bool.{cases_eq, cases_lt}
-use Rattle.std.proofs.lemmas.List.{get_or-set_same, get_or-set_other, get_or_past}
-use Rattle.dense.specs.declared.op.Op.{Op}
+use Rattle.std.proofs.lemmas.List.{get_or-set_same, get_or-set_other, get_or_past, replicate_more}
 use Rattle.native.specs.declared.task.Task.{Task}
 use Rattle.native.specs.declared.task.Task.TheVariants as task
-use Rattle.native.specs.Operations.{task_for}
+use Rattle.native.specs.SlotTasks.{task_at}
+use Rattle.native.specs.Pends.{far, lowered_behind, is_more_behind, passed, is_passed, settled, pends_in}
 use Rattle.native.specs.Code.{IsBalanced}
 
 -- an element that became less
@@ -71,8 +72,84 @@ few_less xs ys h a = record {
   small = λ k. let l = h k in let m = a.small k in omega arith;
 }
 
+-- the list as it is made
+pub record Filled (pends : List ℕ) (count : ℕ) : Type 0 where
+  pub some : AreSome pends
+  pub is : pends ≡ 0 ∷ replicate count far
+
+pub filled_first : (xs : List ℕ) → xs ≡ 0 ∷ [] → Filled xs 0
+filled_first xs e = record { some = some_first xs e; is = e }
+
+pub filled_more : (xs ys : List ℕ) (count : ℕ) → ys ≡ xs ++ 0x40000000 ∷ [] → Filled xs count → Filled ys (count + 1)
+filled_more xs ys count e f = record {
+  some = some_more xs ys e f.some;
+  is = e ∙ ap (λ zs. zs ++ 0x40000000 ∷ []) f.is ∙ ap (λ zs. 0 ∷ zs) (replicate_more count far);
+}
+
+-- the list as it is settled, after so many passes
+pub record Settling (tasks : List Task) (pends : List ℕ) (count : ℕ) : Type 0 where
+  pub few : AreFew pends
+  pub is : settled tasks (16 - count) pends ≡ pends_in tasks
+
+pub settling_first : (tasks : List Task) (xs : List ℕ) (count : ℕ) → count ≡ length tasks → Filled xs count → Settling tasks xs 0
+settling_first tasks xs count n f = record {
+  few = f.some.few;
+  is = ap (settled tasks 16) (f.is ∙ ap (λ k. 0 ∷ replicate k far) n);
+}
+
+module _ (tasks : List Task) (xs ys : List ℕ) (count : ℕ) (l : count < 16) (e : ys ≡ passed tasks xs (length tasks)) (s : Settling tasks xs count) where
+  -- one pass more
+  step : (b : Bool) → is_passed tasks xs (length tasks) ≡ b → cond b (settled tasks (16 - (count + 1)) ys) ys ≡ pends_in tasks
+  step b t =
+      let n : 16 - count ≡ suc (16 - (count + 1)) = omega arith in
+      let u : settled tasks (suc (16 - (count + 1))) xs ≡ pends_in tasks = ap (λ k. settled tasks k xs) (sym n) ∙ s.is in
+      ap (λ zs. cond b (settled tasks (16 - (count + 1)) zs) zs) e
+      ∙ ap (λ v. cond v (settled tasks (16 - (count + 1)) (passed tasks xs (length tasks))) (passed tasks xs (length tasks))) (sym t)
+      ∙ u
+
+  pub settling_more : is_passed tasks xs (length tasks) ≡ true → ((k : ℕ) → slice_index ys k ≤ slice_index xs k) → Settling tasks ys (count + 1)
+  settling_more t h = record { few = few_less xs ys h s.few; is = step true t }
+
+  pub settling_end : is_passed tasks xs (length tasks) ≡ false → ys ≡ pends_in tasks
+  settling_end t = step false t
+
+-- after all of them nothing is left uncounted
+pub settling_none : (tasks : List Task) (xs : List ℕ) (count : ℕ) → 16 ≤ count → Settling tasks xs count → [] ≡ pends_in tasks
+settling_none tasks xs count l s =
+    let n : 0 ≡ 16 - count = omega arith in
+    ap (λ k. settled tasks k xs) n ∙ s.is
+
 -- as far as a pass has come
-pub record Passed (ops : List Op) (pool old pends : List ℕ) (changed : Bool) (slot : ℕ) : Type 0 where
+pub record Passed (tasks : List Task) (old pends : List ℕ) (changed : Bool) (slot : ℕ) : Type 0 where
+  pub list : pends ≡ passed tasks old slot
+  pub more : changed ≡ is_passed tasks old slot
   pub same : changed ≡ false → pends ≡ old
-  pub balanced : changed ≡ false → (k : ℕ) (o : Op) (t : Task) → k < slot → slice_get ops k ≡ Some o → task_for pool o ≡ Some t → IsBalanced old k t
+  pub balanced : changed ≡ false → (k : ℕ) (t : Task) → k < slot → slice_get tasks k ≡ Some t → IsBalanced old k t
   pub falls : (k : ℕ) → slice_index pends k ≤ slice_index old k
+
+-- one more slot is passed
+pub passed_more : (tasks : List Task) (old pends pends' : List ℕ) (changed less : Bool) (slot : ℕ) (u : Task) → slot < length tasks → u ≡ task_at tasks slot → pends' ≡ lowered_behind pends slot u → less ≡ is_more_behind pends slot u → (less ≡ false → pends' ≡ pends) → (less ≡ false → IsBalanced pends slot u) → ((k : ℕ) → slice_index pends' k ≤ slice_index pends k) → Passed tasks old pends changed slot → Passed tasks old pends' (changed || less) (slot + 1)
+passed_more tasks old pends pends' changed less slot u lt is list more same balanced falls p = record {
+  list = list ∙ ap (λ xs. lowered_behind xs slot u) p.list ∙ ap (lowered_behind (passed tasks old slot) slot) is ∙ ap (passed tasks old) next;
+  more = ap (λ b. b || less) p.more ∙ ap (λ b. is_passed tasks old slot || b) (more ∙ ap (λ xs. is_more_behind xs slot u) p.list ∙ ap (is_more_behind (passed tasks old slot) slot) is) ∙ ap (is_passed tasks old) next;
+  same = λ f. let b = neither changed less f in same b.1 ∙ p.same b.0;
+  balanced = λ f k t l found.
+      let b = neither changed less f in
+      ⊎_elim
+      (λ (below : k < slot). p.balanced b.0 k t below found)
+      (λ (ge : slot ≤ k).
+      let e : k ≡ slot = omega arith in
+      let found' : slice_get tasks slot ≡ Some t = subst (λ j. slice_get tasks j ≡ Some t) e found in
+      let here : slice_get tasks slot ≡ Some (task_at tasks slot) = slice_get-get_or tasks slot task.Dead lt in
+      let q : t ≡ u = let x : Some t ≡ Some (task_at tasks slot) = sym found' ∙ here in let y : t ≡ task_at tasks slot = cc in y ∙ sym is in
+      subst (λ v. IsBalanced old k v) (sym q) (subst (λ j. IsBalanced old j u) (sym e) (subst (λ xs. IsBalanced xs slot u) (p.same b.0) (balanced b.1))))
+      (cases_lt k slot);
+  falls = λ k. let x = falls k in let y = p.falls k in omega arith;
+}
+  where
+    next : suc slot ≡ slot + 1
+    next = omega arith
+
+    neither : (a b : Bool) → (a || b) ≡ false → (a ≡ false) × (b ≡ false)
+    neither false b f = (refl, f)
+    neither true b f = cc

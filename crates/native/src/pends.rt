@@ -1,14 +1,14 @@
 //! How many steps aren't counted yet where a slot begins.
 
-ghost use Rattle.std.specs.Prelude.{◌≡◌, ◌<◌, ◌≤◌, ◌+◌, false, ℕ, Some, slice_index, IfOk};
-ghost use Rattle.native.specs.declared.task.Task.{Task as IsTask};
-ghost use Rattle.native.specs.Operations.{task_for};
+ghost use Rattle.std.specs.Prelude.{◌≡◌, ◌<◌, ◌≤◌, ◌+◌, false, ℕ, length, slice_index, IfOk};
+ghost use Rattle.limits.specs.declared.TheConstants.{SLOTS};
 ghost use Rattle.native.specs.Code.{IsBalanced};
 ghost use Rattle.native.specs.Laid.{AreBalanced, ArePends};
+ghost use Rattle.native.specs.Pends as specs;
 
+use crate::saved::either;
 use crate::slot_code::at;
-use crate::task::{Task, task_of};
-use dense::Op;
+use crate::task::Task;
 use limits::SLOTS;
 use std::alloc::{AllocError, Global};
 
@@ -20,22 +20,24 @@ const PASSES: usize = 16;
 
 // Makes an element less, if there is one that is more.
 fn lower(list: &mut Vec<u64>, index: usize, value: u64) -> bool
+    ensures list { list.new.items ≡ specs.lowered list.old.items index value }
+    ensures more { result ≡ specs.is_more list.old.items index value }
     ensures same { result ≡ false → list.new.items ≡ list.old.items }
     ensures least { result ≡ false → slice_index list.old.items index ≤ value }
     ensures falls { (k : ℕ) → slice_index list.new.items k ≤ slice_index list.old.items k }
 {
-    if index >= list.len() {
-        return false;
+    if index < list.len() && value < list[index] {
+        list[index] = value;
+        true
+    } else {
+        false
     }
-    if list[index] <= value {
-        return false;
-    }
-    list[index] = value;
-    true
 }
 
 // What isn't counted where a jump comes from, it comes to two slots with.
 fn lower_both(pends: &mut Vec<u64>, next: usize, to: usize, value: u64) -> bool
+    ensures list { pends.new.items ≡ specs.lowered_both pends.old.items next to value }
+    ensures more { result ≡ specs.is_more_of_both pends.old.items next to value }
     ensures same { result ≡ false → pends.new.items ≡ pends.old.items }
     ensures least { result ≡ false → slice_index pends.old.items next ≤ value }
     ensures equal { result ≡ false → slice_index pends.old.items next ≡ slice_index pends.old.items to }
@@ -52,11 +54,13 @@ fn lower_both(pends: &mut Vec<u64>, next: usize, to: usize, value: u64) -> bool
 // Makes less what isn't counted where a task leads. Whether anything became less.
 fn lower_behind(pends: &mut Vec<u64>, slot: usize, task: Task) -> bool
     requires { slot < SLOTS }
+    ensures list { pends.new.items ≡ specs.lowered_behind pends.old.items slot task }
+    ensures more { result ≡ specs.is_more_behind pends.old.items slot task }
     ensures same { result ≡ false → pends.new.items ≡ pends.old.items }
     ensures balanced { result ≡ false → IsBalanced pends.old.items slot task }
     ensures falls { (k : ℕ) → slice_index pends.new.items k ≤ slice_index pends.old.items k }
 {
-    let value = at(pends.as_slice(), slot).saturating_add(1);
+    let value = at(pends.as_slice(), slot).min(FAR) + 1;
     match task {
         Task::Branch { to, .. } => lower_both(pends, slot + 1, to as usize, value),
         Task::Leap { to } => lower(pends, to as usize, value),
@@ -67,45 +71,37 @@ fn lower_behind(pends: &mut Vec<u64>, slot: usize, task: Task) -> bool
     }
 }
 
-// The same where an operation leads.
-fn lower_slot(pends: &mut Vec<u64>, slot: usize, op: Op, pool: &[u64]) -> bool
-    requires { slot < SLOTS }
-    ensures same { result ≡ false → pends.new.items ≡ pends.old.items }
-    ensures balanced { result ≡ false → (t : IsTask) → task_for pool.now op ≡ Some t → IsBalanced pends.old.items slot t }
-    ensures falls { (k : ℕ) → slice_index pends.new.items k ≤ slice_index pends.old.items k }
-{
-    match task_of(op, pool) {
-        Some(task) => lower_behind(pends, slot, task),
-        None => false,
-    }
-}
-
 // From each slot on, its step isn't counted where the call goes on, or less. Whether anything became less.
-fn pass(pends: &mut Vec<u64>, ops: &[Op], pool: &[u64]) -> bool
+fn pass(pends: &mut Vec<u64>, tasks: &[Task]) -> bool
+    requires { length tasks.now ≤ SLOTS }
+    ensures list { pends.new.items ≡ specs.passed tasks.now pends.old.items (length tasks.now) }
+    ensures more { result ≡ specs.is_passed tasks.now pends.old.items (length tasks.now) }
     ensures same { result ≡ false → pends.new.items ≡ pends.old.items }
-    ensures balanced { result ≡ false → AreBalanced ops.now pool.now pends.old.items }
+    ensures balanced { result ≡ false → AreBalanced tasks.now pends.old.items }
     ensures falls { (k : ℕ) → slice_index pends.new.items k ≤ slice_index pends.old.items k }
 {
     let mut changed = false;
-    for slot in 0..ops.len().min(SLOTS) {
-        let less = lower_slot(pends, slot, ops[slot], pool);
-        changed = changed || less;
+    for slot in 0..tasks.len() {
+        let less = lower_behind(pends, slot, tasks[slot]);
+        changed = either(changed, less);
     }
     changed
 }
 
 // How many steps are not counted yet where a slot begins: no more than on any way there, and as many on both ways of a
 // jump. Where that isn't found soon, every step is counted at once.
-pub(crate) fn pends_of(alloc: Global, ops: &[Op], pool: &[u64]) -> Result<Vec<u64>, AllocError>
-    ensures { IfOk result (λ pends. ArePends ops.now pool.now pends.items) }
+pub(crate) fn pends_of(alloc: Global, tasks: &[Task]) -> Result<Vec<u64>, AllocError>
+    requires { length tasks.now ≤ SLOTS }
+    ensures value { IfOk result (λ pends. pends.items ≡ specs.pends_in tasks.now) }
+    ensures are { IfOk result (λ pends. ArePends tasks.now pends.items) }
 {
     let mut pends = Vec::new(alloc);
     pends.push(0)?;
-    'fill: for _ in ops {
+    'fill: for _ in 0..tasks.len() {
         pends.push(FAR)?;
     }
     'passes: for _ in 0..PASSES {
-        if !pass(&mut pends, ops, pool) {
+        if !pass(&mut pends, tasks) {
             return Ok(pends);
         }
     }

@@ -1,6 +1,7 @@
-//! A call and a record that are written down, and what a record tells.
+//! A call and a record that are written down, what a record tells, and that code is one.
 
 ghost use Rattle.native.specs.Worked.{CanBeCalled, IsLaidOut, TellsOne};
+ghost use Rattle.native.specs.Written.{IsOneCode};
 
 /// A call by the C calling convention is what `compile`'s code asks for.
 pub fn calls_can_be_made()
@@ -15,4 +16,9 @@ pub fn records_are_laid_out()
 /// From a record one reads back who was called and what was emitted.
 pub fn records_tell_one_thing()
     ensures { TellsOne }
+{}
+
+/// Images of one form with the same instructions and states of one length have the same machine code, byte for byte.
+pub fn code_is_one()
+    ensures { IsOneCode }
 {}

@@ -1,17 +1,15 @@
 //! Which of the caller's registers the code keeps on the stack.
 
-ghost use Rattle.std.specs.Prelude.{◌≡◌, true, false, ℕ, ◌||◌, ◌++◌, Some, OnOk};
-ghost use Rattle.native.specs.declared.task.Task.{Task as IsTask};
-ghost use Rattle.native.specs.Operations.{task_for};
+ghost use Rattle.std.specs.Prelude.{◌≡◌, true, ◌||◌, ◌++◌, OnOk};
 ghost use Rattle.native.specs.Laid.{SaveAll};
 ghost use Rattle.native.specs.Code.{codes};
+ghost use Rattle.native.specs.Needs.{and_task, saved_in};
 ghost use Rattle.native.specs.Saved as specs;
 ghost use Rattle.native.specs.Saved.{may_write};
 ghost use Rattle.native.specs.Tasks.{Includes, WritesWithin};
 
-use crate::task::{Task, task_of};
+use crate::task::Task;
 use decode::Reg;
-use dense::Op;
 use std::alloc::AllocError;
 use x86::Instr;
 
@@ -26,10 +24,11 @@ pub struct Saved {
     r15: bool,
 }
 
-fn either(kept: bool, written: bool) -> bool
-    ensures { result ≡ kept || written }
+/// Whether one of the two holds.
+pub(crate) fn either(one: bool, other: bool) -> bool
+    ensures { result ≡ one || other }
 {
-    kept || written
+    one || other
 }
 
 impl Saved {
@@ -52,6 +51,7 @@ impl Saved {
 
     // The same and the one that a task writes.
     fn and_task(self, task: &Task) -> Saved
+        ensures value { result ≡ and_task self task.now }
         ensures writes { WritesWithin result task.now }
         ensures more { Includes self result }
     {
@@ -66,22 +66,12 @@ impl Saved {
             _ => self,
         }
     }
-
-    // The same of an operation.
-    fn and_op(self, op: Op, pool: &[u64]) -> Saved
-        ensures writes { (t : IsTask) → task_for pool.now op ≡ Some t → WritesWithin result t }
-        ensures more { Includes self result }
-    {
-        match task_of(op, pool) {
-            Some(task) => self.and_task(&task),
-            None => self,
-        }
-    }
 }
 
-/// What operations need.
-pub(crate) fn saved_of(ops: &[Op], pool: &[u64]) -> Saved
-    ensures { SaveAll ops.now pool.now result }
+/// What tasks need.
+pub(crate) fn saved_of(tasks: &[Task]) -> Saved
+    ensures value { result ≡ saved_in tasks.now }
+    ensures all { SaveAll tasks.now result }
 {
     let mut saved = Saved {
         rbx: false,
@@ -91,8 +81,8 @@ pub(crate) fn saved_of(ops: &[Op], pool: &[u64]) -> Saved
         r14: false,
         r15: false,
     };
-    for op in ops {
-        saved = saved.and_op(*op, pool);
+    for task in tasks {
+        saved = saved.and_task(task);
     }
     saved
 }

@@ -125,11 +125,11 @@ fn emit_body(code: &mut Vec<u8>, body: Body) -> Result<(), AllocError>
 fn emit_helper(alloc: Global, code: &mut Vec<u8>, helper: Helper, at: u16) -> Result<(), AllocError>
     ensures { OnOk result (Emits (IsCall (specs.tests_of helper) (specs.good_of helper at) (specs.end_of helper)) code.old.items code.new.items) }
 {
-    let mut good = Vec::new(alloc);
+    let mut good = Vec::with_capacity(alloc, 80)?;
     write_good(&mut good, helper, at as u64)?;
     let size = good.len() as u8;
     write_tests(code, helper, size)?;
-    write_good(code, helper, at as u64)?;
+    code.extend_from_slice(good.as_slice())?;
     write_end(code, helper)?;
     Ok(())
 }

@@ -1,28 +1,39 @@
-use Rattle.std.proofs.Common.{◌≡◌, ◌<◌, ◌+◌, ◌++◌, length, reverse, Some, sym, ap, ◌∙◌, subst, arith, length-append}
+use Rattle.std.proofs.Common.{◌≡◌, ℕ, ◌<◌, ◌+◌, ◌-◌, ◌++◌, length, reverse, Some, sym, ap, ◌∙◌, subst, arith, length-append}
 use Rattle.std.specs.Prelude.{slice_get, slice_set}
-use Rattle.std.proofs.lemmas.List.{reverse-append, reverse-reverse, length-reverse}
+use Rattle.std.proofs.lemmas.List.{reverse-append, reverse-reverse, length-reverse, get_or_read}
 use Rattle.std.proofs.lemmas.Option.{slice_get-get_or}
-use Rattle.native.specs.Laid.{LaidFrom, IsPiece}
-use Rattle.native.proofs.Native.{laid_next}
+use Rattle.native.specs.declared.task.Task.TheVariants as task
+use Rattle.native.specs.Laid.{IsPiece}
+use Rattle.native.specs.Pends.{pends_in}
+use Rattle.native.specs.Needs.{saved_in}
+use Rattle.native.specs.SlotTasks.{task_at}
+use Rattle.native.specs.Written.{IsLaidFrom}
+use Rattle.native.proofs.Native.{laid_next, stacks_next}
 use Rattle.native.proofs.image_code.lay_slot.Goals as goal
 
 pub returns : goal.returns
 returns c =
     let a = c.args in
-    let ops = a.ops.now in
-    let pool = a.pool.now in
-    let pends = a.pends.now in
+    let tasks = a.tasks.now in
+    let slot = a.slot in
     let tails = a.tails.now.items in
     let old = a.back.now.items in
     let piece = c.write_piece.new.piece.items in
-    let o = c.index-ops-slot.result in
-    let w : a.slot < length ops = omega (arith, c.requires.within, c.requires.all) in
-    let found : slice_get ops a.slot ≡ Some o = slice_get-get_or ops a.slot o w ∙ ap Some (sym c.index-ops-slot.is) in
-    let p = subst (λ ts. IsPiece pool pends ts a.saved a.slot o piece) c.as_slice.ensures.value c.in_ok-write_piece.ensures in
+    let u = task_at tasks slot in
+    let is : c.index-tasks-slot.result ≡ u = get_or_read tasks _ _ c.requires.within c.index-tasks-slot.is task.Dead in
+    let found : slice_get tasks slot ≡ Some u = slice_get-get_or tasks slot task.Dead c.requires.within in
+    let p0 : IsPiece a.pends.now tails a.saved slot c.index-tasks-slot.result piece = subst (λ ts. IsPiece a.pends.now ts a.saved slot c.index-tasks-slot.result piece) c.as_slice.ensures.value c.in_ok-write_piece.ensures in
+    let p1 : IsPiece a.pends.now tails a.saved slot u piece = subst (λ v. IsPiece a.pends.now tails a.saved slot v piece) is p0 in
+    let p2 : IsPiece (pends_in tasks) tails a.saved slot u piece = subst (λ v. IsPiece v tails a.saved slot u piece) c.requires.pends p1 in
+    let p : IsPiece (pends_in tasks) tails (saved_in tasks) slot u piece = subst (λ v. IsPiece (pends_in tasks) tails v slot u piece) c.requires.saved p2 in
     let e : c.extend_from_slice.new.self.items ≡ old ++ reverse piece = c.in_ok-extend_from_slice.ensures.items ∙ ap (λ x. old ++ x) (c.as_slice-2.ensures.value ∙ c.reverse.ensures.items) in
     let r : reverse c.extend_from_slice.new.self.items ≡ piece ++ reverse old = ap reverse e ∙ reverse-append old (reverse piece) ∙ ap (λ x. x ++ reverse old) (reverse-reverse piece) in
     let n1 = c.len.ensures ∙ c.extend_from_slice.new.self.ok.0 ∙ ap length e ∙ length-append old (reverse piece) in
     let n : c.len.result ≡ length piece + length (reverse old) = omega (arith, n1, length-reverse old, length-reverse piece) in
-    subst (λ cs. LaidFrom ops pool pends (slice_set tails a.slot c.len.result) a.saved cs a.count a.slot) (sym r)
-    (subst (λ m. LaidFrom ops pool pends (slice_set tails a.slot m) a.saved (piece ++ reverse old) a.count a.slot) (sym n)
-    (laid_next ops pool pends tails a.saved (reverse old) piece a.count a.slot o found c.requires.within c.requires.laid p))
+    let laid = c.requires.laid in
+    let done : IsLaidFrom tasks (slice_set tails slot (length piece + length (reverse old))) (piece ++ reverse old) slot = record {
+      laid = laid_next tasks (pends_in tasks) tails (saved_in tasks) (reverse old) piece slot u found laid.laid p;
+      stacks = stacks_next tasks tails (reverse old) piece slot c.requires.within p laid.stacks;
+    } in
+    subst (λ cs. IsLaidFrom tasks (slice_set tails slot c.len.result) cs slot) (sym r)
+    (subst (λ m. IsLaidFrom tasks (slice_set tails slot m) (piece ++ reverse old) slot) (sym n) done)

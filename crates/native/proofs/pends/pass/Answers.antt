@@ -1,10 +1,24 @@
-use Rattle.std.proofs.Common.{◌<◌, arith}
+use Rattle.std.proofs.Common.{◌≡◌, ◌<◌, ◌+◌, length, sym, subst, arith}
+use Rattle.std.proofs.lemmas.List.{get_or_read}
 use Rattle.std.proofs.lemmas.Option.{slice_get_within}
+use Rattle.native.specs.declared.task.Task.TheVariants as task
+use Rattle.native.specs.SlotTasks.{task_at}
+use Rattle.native.proofs.Uncounted.{Passed, passed_more}
 use Rattle.native.proofs.pends.pass.Goals as goal
+
+pub loop-slot-preserved : goal.loop-slot-preserved
+loop-slot-preserved c =
+    let tasks = c.args.tasks.now in
+    let slot = c.loop-slot.slot in
+    let lt : slot < length tasks = omega (arith, c.loop-slot-test.true) in
+    let is : c.index-tasks-slot.result ≡ task_at tasks slot = get_or_read tasks _ _ lt c.index-tasks-slot.is task.Dead in
+    let e = c.lower_behind-less.ensures in
+    subst (λ b. Passed tasks c.args.pends.now.items c.lower_behind-less.new.pends.items b (slot + 1)) (sym c.either-changed.ensures)
+    (passed_more tasks c.args.pends.now.items c.loop-slot.pends.items c.lower_behind-less.new.pends.items c.loop-slot.changed c.lower_behind-less.result slot c.index-tasks-slot.result lt is e.list e.more e.same e.balanced e.falls c.loop-slot.invariant)
 
 pub returns-clause-balanced : goal.returns-clause-balanced
 returns-clause-balanced c =
-    λ f k o t l found is.
-    let w = slice_get_within c.args.ops.now k o found in
-    let below : k < c.loop-slot.slot = omega (arith, w, l, c.min-slot-end.ensures, c.loop-slot-test.false) in
-    c.loop-slot.invariant.balanced f k o t below found is
+    λ f k t found.
+    let w = slice_get_within c.args.tasks.now k t found in
+    let below : k < c.loop-slot.slot = omega (arith, w, c.loop-slot-test.false) in
+    c.loop-slot.invariant.balanced f k t below found

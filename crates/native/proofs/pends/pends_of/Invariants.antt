@@ -1,8 +1,8 @@
-use Rattle.native.proofs.Uncounted.{AreFew, AreSome}
+use Rattle.native.proofs.Uncounted.{Filled, Settling}
 use Rattle.native.proofs.pends.pends_of.Given as goal
 
 abbrev pub invariant-fill : goal.invariant-fill
-invariant-fill l = AreSome l.pends.items
+invariant-fill l = Filled l.pends.items l.counter
 
 abbrev pub invariant-passes : goal.invariant-passes
-invariant-passes l = AreFew l.pends.items
+invariant-passes l = Settling l.tasks l.pends.items l.counter

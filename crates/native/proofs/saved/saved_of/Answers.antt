@@ -1,17 +1,23 @@
-use Rattle.std.proofs.Common.{◌≡◌, Some, arith, ap, sym, ◌∙◌}
-use Rattle.std.specs.Prelude.{slice_get}
-use Rattle.std.proofs.lemmas.Option.{slice_get-get_or}
-use Rattle.native.proofs.Keeping.{keeps_next, keeps_all}
+use Rattle.std.proofs.Common.{◌≡◌, arith, refl}
+use Rattle.std.proofs.lemmas.List.{get_or_read}
+use Rattle.native.specs.SlotTasks.{task_at}
+use Rattle.native.specs.declared.task.Task.TheVariants as task
+use Rattle.native.proofs.Keeping.{keeps_next, keeps_all, keeps_is}
 use Rattle.native.proofs.saved.saved_of.Goals as goal
 
-pub loop-op-preserved : goal.loop-op-preserved
-loop-op-preserved c =
-    let ops = c.args.ops.now in
-    let i = c.loop-op.op-index in
-    let o = c.op-item.result in
-    let found : slice_get ops i ≡ Some o = slice_get-get_or ops i o (omega (arith, c.loop-op-test.true)) ∙ ap Some (sym c.op-item.is) in
-    keeps_next c.args.ops.now c.args.pool.now c.loop-op.saved c.and_op-saved.result c.loop-op.op-index c.op-item.result c.loop-op.invariant c.and_op-saved.ensures.more found c.and_op-saved.ensures.writes
+pub loop-task-init : goal.loop-task-init
+loop-task-init c = record { keeps = λ k t l f. absurd (omega arith); is = refl }
 
-pub returns : goal.returns
-returns c =
-    keeps_all c.args.ops.now c.args.pool.now c.loop-op.saved c.loop-op.op-index c.loop-op.invariant (omega (arith, c.loop-op-test.false))
+pub loop-task-preserved : goal.loop-task-preserved
+loop-task-preserved c =
+    let tasks = c.args.tasks.now in
+    let i = c.loop-task.task-index in
+    let v = c.task-item.result in
+    let is : v ≡ task_at tasks i = get_or_read tasks _ _ (omega (arith, c.loop-task-test.true)) c.task-item.is task.Dead in
+    keeps_next tasks c.loop-task.saved c.and_task-saved.result i v (omega (arith, c.loop-task-test.true)) is c.and_task-saved.ensures.value c.and_task-saved.ensures.more c.and_task-saved.ensures.writes c.loop-task.invariant
+
+pub returns-clause-all : goal.returns-clause-all
+returns-clause-all c = keeps_all c.args.tasks.now c.loop-task.saved c.loop-task.task-index c.loop-task.invariant (omega (arith, c.loop-task-test.false))
+
+pub returns-clause-value : goal.returns-clause-value
+returns-clause-value c = keeps_is c.args.tasks.now c.loop-task.saved c.loop-task.task-index c.loop-task.invariant (omega (arith, c.loop-task-test.false))

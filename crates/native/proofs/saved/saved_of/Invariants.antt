@@ -1,5 +1,5 @@
-use Rattle.native.proofs.Keeping.{KeepsTo}
+use Rattle.native.proofs.Keeping.{KeptTo}
 use Rattle.native.proofs.saved.saved_of.Given as goal
 
-abbrev pub invariant-loop-op : goal.invariant-loop-op
-invariant-loop-op l = KeepsTo l.ops l.pool l.saved l.op-index
+abbrev pub invariant-loop-task : goal.invariant-loop-task
+invariant-loop-task l = KeptTo l.tasks l.saved l.task-index

@@ -8,14 +8,15 @@ pub returns : goal.returns
 returns c =
     let h = c.args.helper in
     let good = specs.good_of h c.args.at in
-    let written = c.in_ok-write_good.ensures ∙ ap (λ l. l ++ specs.codes good) c.new-good.ensures.items in
+    let written = c.in_ok-write_good.ensures ∙ ap (λ l. l ++ specs.codes good) c.in_ok-good.ensures.items in
     let size = c.len-size.ensures ∙ c.write_good.new.code.ok.0 ∙ ap length written in
-    call_is (specs.tests_of h) good (specs.end_of h) c.len-size.result c.args.code.now.items c.write_tests.new.code.items c.write_good-2.new.code.items c.write_end.new.code.items size c.in_ok-write_tests.ensures c.in_ok-write_good-2.ensures c.in_ok-write_end.ensures
+    let copied = c.in_ok-extend_from_slice.ensures.items ∙ ap (λ l. c.write_tests.new.code.items ++ l) (c.as_slice.ensures.value ∙ written) in
+    call_is (specs.tests_of h) good (specs.end_of h) c.len-size.result c.args.code.now.items c.write_tests.new.code.items c.extend_from_slice.new.self.items c.write_end.new.code.items size c.in_ok-write_tests.ensures copied c.in_ok-write_end.ensures
 
 pub write_tests-requires : goal.write_tests-requires
 write_tests-requires c =
     let h = c.args.helper in
     let good = specs.good_of h c.args.at in
-    let written = c.in_ok-write_good.ensures ∙ ap (λ l. l ++ specs.codes good) c.new-good.ensures.items in
+    let written = c.in_ok-write_good.ensures ∙ ap (λ l. l ++ specs.codes good) c.in_ok-good.ensures.items in
     let size = c.len-size.ensures ∙ c.write_good.new.code.ok.0 ∙ ap length written in
     subst (λ n. n ≤ 80) (sym size) (good_few h c.args.at)

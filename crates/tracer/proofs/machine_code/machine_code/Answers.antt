@@ -21,5 +21,5 @@ returns-clause-compiled g c = λ known there.
       file = loaded.0;
       table = image.table;
       typing = loaded.1.typing.types;
-      native = subst (λ slots. IsNative image.form slots image.len c.in_ok-code.code.items) loaded.1.slots_is c.in_ok-code.ensures;
+      native = subst (λ slots. IsNative image.form slots image.len c.in_ok-code.code.items) loaded.1.slots_is c.in_ok-code.ensures.native;
     }

@@ -1,0 +1,133 @@
+-- Slots have one machine code.
+use Rattle.std.proofs.Common.{◌≡◌, ◌≢◌, ℕ, zero, suc, ◌+◌, ◌-◌, ◌<◌, ◌≤◌, Bool, true, false, List, [], ◌∷◌, ◌++◌, length, Option, Some, None, refl, sym, ap, ◌∙◌, subst, arith}
+use Rattle.std.specs.Prelude.{slice_index, slice_set}
+use Rattle.decode.specs.declared.insn.AluOp.TheVariants as op
+use Rattle.decode.specs.declared.insn.Insn.{Insn}
+use Rattle.decode.specs.Slots.{insn_at}
+use Rattle.regtypes.specs.declared.image_form.ImageForm.{ImageForm}
+use Rattle.regtypes.specs.declared.frame.Frame.{Frame}
+use Rattle.regtypes.specs.Frame.{Leq}
+use Rattle.regtypes.specs.Typing.{Table, frame_at}
+use Rattle.regtypes.proofs.Monotone.{Leq-antisym}
+use Rattle.verifier.specs.Least.{IsLeastTyping}
+use Rattle.x86.specs.declared.instruction.Instr.{Instr}
+use Rattle.native.specs.declared.body.Body.{Body}
+use Rattle.native.specs.declared.body.Body.TheVariants.{Empty, One, Two, Three}
+use Rattle.native.specs.declared.saved.Saved.{Saved}
+use Rattle.native.specs.declared.task.Task.{Task}
+use Rattle.native.specs.declared.task.Task.TheVariants as task
+use Rattle.native.specs.Tasks.{is_apt}
+use Rattle.native.specs.Code.{codes, body_of, flushed, skipped, leaving, condition_of, compare_code, jump_code, jump_if_code, IsBody, IsDone, Counts, Reaches, Plain, Serves, entering, taken}
+use Rattle.native.specs.Laid.{IsPiece}
+use Rattle.native.specs.Pends.{pends_in}
+use Rattle.native.specs.Needs.{saved_in}
+use Rattle.native.specs.SlotTasks.{task_at, task_there, tasks_in}
+use Rattle.native.specs.Written.{Stacks, IsWritten, IsCodeOf, IsOneCode}
+
+-- ---- a slot's code
+
+body_one : (b : Body) (is js : List Instr) → IsBody b is → IsBody b js → is ≡ js
+body_one Empty is js h k = h ∙ sym k
+body_one (One i) is js h k = h ∙ sym k
+body_one (Two i j) is js h k = h ∙ sym k
+body_one (Three i j k) is js h l = h ∙ sym l
+
+done_one : (t : Task) (is js : List Instr) → IsDone t is → IsDone t js → is ≡ js
+done_one (task.Send at) is js h k = h ∙ sym k
+done_one (task.Output at) is js h k = h ∙ sym k
+done_one (task.SendSized at) is js h k = h ∙ sym k
+done_one (task.OutputSized at) is js h k = h ∙ sym k
+done_one (task.Compute op.Div w dst o) is js h k = h ∙ sym k
+done_one (task.Compute op.Mod w dst o) is js h k = h ∙ sym k
+done_one (task.Compute op.Sdiv w dst o) is js h k = h ∙ sym k
+done_one (task.Compute op.Smod w dst o) is js h k = h ∙ sym k
+done_one t is js h k = body_one (body_of t) is js h k
+
+counts_one : (pends : List ℕ) (slot to k l : ℕ) → Counts pends slot to k → Counts pends slot to l → k ≡ l
+counts_one pends slot to k l a b = let x = a.sums in let y = b.sums in omega arith
+
+reaches_one : (tails : List ℕ) (slot to d e : ℕ) → Reaches tails slot to d → Reaches tails slot to e → d ≡ e
+reaches_one tails slot to d e a b = let x = a.sums in let y = b.sums in omega arith
+
+plain_one : (pends tails : List ℕ) (slot : ℕ) (t : Task) (is js : List Instr) → Plain pends tails slot t is → Plain pends tails slot t js → is ≡ js
+plain_one pends tails slot t is js a b =
+    a.is_are
+    ∙ ap (λ x. x ++ (flushed a.k ++ skipped a.d)) (done_one t a.bs b.bs a.done b.done)
+    ∙ ap (λ k. b.bs ++ (flushed k ++ skipped a.d)) (counts_one pends slot (slot + taken t) a.k b.k a.counts b.counts)
+    ∙ ap (λ d. b.bs ++ (flushed b.k ++ skipped d)) (reaches_one tails slot (slot + taken t) a.d b.d a.reaches b.reaches)
+    ∙ sym b.is_are
+
+serves_one : (pends tails : List ℕ) (saved : Saved) (slot : ℕ) (t : Task) (is js : List Instr) → Serves pends tails saved slot t is → Serves pends tails saved slot t js → is ≡ js
+serves_one pends tails saved slot (task.Branch x w dst o to) is js a b =
+    a.is_are
+    ∙ ap (λ k. flushed k ++ compare_code x w dst.number o ∷ jump_if_code (condition_of x) a.d ∷ []) (counts_one pends slot to a.k b.k a.takes b.takes)
+    ∙ ap (λ d. flushed b.k ++ compare_code x w dst.number o ∷ jump_if_code (condition_of x) d ∷ []) (reaches_one tails slot to a.d b.d a.reaches b.reaches)
+    ∙ sym b.is_are
+serves_one pends tails saved slot (task.Leap to) is js a b =
+    a.is_are
+    ∙ ap (λ k. flushed k ++ jump_code a.d ∷ []) (counts_one pends slot to a.k b.k a.takes b.takes)
+    ∙ ap (λ d. flushed b.k ++ jump_code d ∷ []) (reaches_one tails slot to a.d b.d a.reaches b.reaches)
+    ∙ sym b.is_are
+serves_one pends tails saved slot task.Exit is js a b =
+    a.is_are ∙ ap (λ k. flushed k ++ leaving saved) (a.sums ∙ sym b.sums) ∙ sym b.is_are
+serves_one pends tails saved slot task.Dead is js a b = a ∙ sym b
+serves_one pends tails saved slot t is js a b = plain_one pends tails slot t is js a b
+
+piece_one : (pends tails : List ℕ) (saved : Saved) (slot : ℕ) (t : Task) (p q : List ℕ) → IsPiece pends tails saved slot t p → IsPiece pends tails saved slot t q → p ≡ q
+piece_one pends tails saved slot t p q a b = by_test (is_apt slot t) refl
+  where
+    by_test : (v : Bool) → is_apt slot t ≡ v → p ≡ q
+    by_test true apt =
+        let x = a.serves apt in
+        let y = b.serves apt in
+        x.2 ∙ ap codes (serves_one pends tails saved slot t x.0 y.0 x.1 y.1) ∙ sym y.2
+    by_test false apt = a.none apt ∙ sym (b.none apt)
+
+-- ---- the code of tasks
+
+stacks_one : (tasks : List Task) (n : ℕ) (tails tails' code code' : List ℕ) → Stacks tasks n tails code → Stacks tasks n tails' code' → (tails ≡ tails') × (code ≡ code')
+stacks_one tasks zero tails tails' code code' a b = (a.0 ∙ sym b.0, a.1 ∙ sym b.1)
+stacks_one tasks (suc n) tails tails' code code' (ts, cs, p, s, is, t, c) (ts', cs', p', s', is', t', c') =
+    let slot = length tasks - suc n in
+    let x = stacks_one tasks n ts ts' cs cs' s s' in
+    let y : p ≡ p' = piece_one (pends_in tasks) ts' (saved_in tasks) slot (task_at tasks slot) p p' (subst (λ l. IsPiece (pends_in tasks) l (saved_in tasks) slot (task_at tasks slot) p) x.0 is) is' in (
+      t ∙ ap (λ l. slice_set l slot (length p + length cs)) x.0 ∙ ap (λ l. slice_set ts' slot (length l + length cs)) y ∙ ap (λ l. slice_set ts' slot (length p' + length l)) x.1 ∙ sym t',
+      c ∙ ap (λ l. l ++ cs) y ∙ ap (λ l. p' ++ l) x.1 ∙ sym c',
+    )
+
+written_one : (tasks : List Task) (code code' : List ℕ) → IsWritten tasks code → IsWritten tasks code' → code ≡ code'
+written_one tasks code code' a b =
+    a.is ∙ ap (λ l. codes (entering (saved_in tasks)) ++ l) (stacks_one tasks (length tasks) a.tails b.tails a.rest b.rest a.stacks b.stacks).1 ∙ sym b.is
+
+-- ---- the code of slots
+
+-- two least typings have the same frame of each slot
+module _ {form : ImageForm} {slots : List (Option Insn)} {len : ℕ} {t u : Table} (a : IsLeastTyping form slots len t) (b : IsLeastTyping form slots len u) where
+  same_frame : (s : ℕ) → frame_at t s ≡ frame_at u s
+  same_frame s = by_frame (frame_at t s) refl
+    where
+      by_frame : (x : Option Frame) → frame_at t s ≡ x → frame_at t s ≡ frame_at u s
+      by_frame (Some g) e =
+          let (h, there, le) = a.least u b.types s g e in
+          let (k, again, ge) = b.least t a.types s h there in
+          let same : g ≡ k = let x : Some g ≡ Some k = sym e ∙ again in cc in
+          let q : g ≡ h = Leq-antisym g h (a.types.whole s g e ∙ sym (b.types.whole s h there)) le (subst (Leq h) (sym same) ge) in
+          e ∙ ap Some q ∙ sym there
+      by_frame None e = e ∙ none (frame_at u s) refl
+        where
+          none : (y : Option Frame) → frame_at u s ≡ y → None ≡ frame_at u s
+          none None f = sym f
+          none (Some h) f =
+              let (k, again, ge) = b.least t a.types s h f in
+              cc
+
+  same_tasks : (n : ℕ) → tasks_in slots t len n ≡ tasks_in slots u len n
+  same_tasks zero = refl
+  same_tasks (suc n) =
+      ap (λ xs. xs ++ task_there len n (frame_at t n) (insn_at slots n) ∷ []) (same_tasks n)
+      ∙ ap (λ f. tasks_in slots u len n ++ task_there len n f (insn_at slots n) ∷ []) (same_frame n)
+
+pub one_code : IsOneCode
+one_code form slots len code code' a b =
+    let e = same_tasks a.least b.least (length slots) in
+    written_one (tasks_in slots b.table len (length slots)) code code' (subst (λ ts. IsWritten ts code) e a.written) b.written

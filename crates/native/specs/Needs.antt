@@ -1,0 +1,29 @@
+-- Which of the caller's registers tasks need.
+use Rattle.std.specs.Prelude.{false, List, [], ◌∷◌}
+use Rattle.native.specs.declared.saved.Saved.{Saved}
+use Rattle.native.specs.declared.task.Task.{Task}
+use Rattle.native.specs.declared.task.Task.TheVariants as task
+use Rattle.native.specs.Saved.{and_register}
+
+-- those that are kept, and the one that a task writes
+abbrev pub and_task : Saved → Task → Saved
+and_task s (task.Compute a w dst o) = and_register s dst.number
+and_task s (task.Extend x dst src) = and_register s dst.number
+and_task s (task.Negate w dst) = and_register s dst.number
+and_task s (task.Reorder o b dst) = and_register s dst.number
+and_task s (task.Load size dst at) = and_register s dst.number
+and_task s (task.LoadSx size dst at) = and_register s dst.number
+and_task s (task.Wide dst value) = and_register s dst.number
+and_task s t = s
+
+-- and those that tasks write
+abbrev pub and_tasks : Saved → List Task → Saved
+and_tasks s [] = s
+and_tasks s (t ∷ ts) = and_tasks (and_task s t) ts
+
+abbrev pub nothing : Saved
+nothing = record { rbx = false; rbp = false; r12 = false; r13 = false; r14 = false; r15 = false }
+
+-- those that tasks need
+abbrev pub saved_in : List Task → Saved
+saved_in ts = and_tasks nothing ts
