@@ -100,3 +100,34 @@ fn a_payload_has_at_most_256_bytes(rt: HostRuntime) -> Result<(), Fail> {
     assert!(rt; refusal_of_payload(rt.alloc(), [1, 1], &[7; 257])? == 7);
     Ok(())
 }
+
+/// The refusal of a page of two entries, each of which is a number, an SSN and no payload.
+fn refusal_of_entries(alloc: Global, entries: &[[u8; 2]; 2]) -> Result<u8, Fail> {
+    let head = [
+        5, 2, 1, 2, 1, 0, 0, 0, 0, 0, 0, 0, 1, 0, 0, 0, 0, 0, 0, 0, 0, 0, 0, 0, 0, 0, 0, 0, 1, 2, 0,
+    ];
+    let mut text = Vec::from_slice(alloc, &head)?;
+    for [number, ssn] in entries.iter() {
+        let entry = [
+            *number, 0, 0, 0, 0, 0, 0, 0, *ssn, 0, 0, 0, 0, 0, 0, 0, 0, 0,
+        ];
+        text.extend_from_slice(&entry)?;
+    }
+    refusal_of(alloc, &text)
+}
+
+/// Entries, and the refusal of their page: they ascend by number and then by SSN.
+const ENTRIES: [([[u8; 2]; 2], u8); 4] = [
+    ([[1, 1], [1, 2]], 0),
+    ([[1, 1], [1, 1]], 8),
+    ([[1, 2], [1, 1]], 8),
+    ([[2, 1], [1, 1]], 8),
+];
+
+#[test]
+fn entries_ascend(rt: HostRuntime) -> Result<(), Fail> {
+    for (place, (entries, number)) in ENTRIES.iter().enumerate() {
+        assert!(rt; refusal_of_entries(rt.alloc(), entries)? == *number, "row {place}");
+    }
+    Ok(())
+}
