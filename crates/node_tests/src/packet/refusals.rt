@@ -127,7 +127,10 @@ const ENTRIES: [([[u8; 2]; 2], u8); 4] = [
 #[test]
 fn entries_ascend(rt: HostRuntime) -> Result<(), Fail> {
     for (place, (entries, number)) in ENTRIES.iter().enumerate() {
-        assert!(rt; refusal_of_entries(rt.alloc(), entries)? == *number, "row {place}");
+        assert!(rt;
+            refusal_of_entries(rt.alloc(), entries)? == *number,
+            "row {place}"
+        );
     }
     Ok(())
 }
