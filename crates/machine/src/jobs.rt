@@ -103,6 +103,7 @@ impl Machine {
             incarnation: task.incarnation(),
         };
         let process = &mut self.processes[me as usize - 1];
+        // (the process lays the packet on the wire too)
         let Ok(key) = process.commit(&done, &mut self.wire, number) else {
             return Err((Refusal::Memory, done));
         };

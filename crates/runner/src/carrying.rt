@@ -20,6 +20,7 @@ impl Player {
         ensures memory { OnMemory (FindsNoMemory (position_of self.old) order.now) result }
     {
         match *order {
+            // (the word is a payload's first 8 bytes, the least first; zeros follow)
             Order::Input { to, word } => self.hand_in(to, payload_of(word)),
             Order::Bytes { to, payload } => self.hand_in(to, payload),
             Order::Transmit { from, to, ssn } => self.make(&Call::Transmit { from, to, ssn }),
@@ -57,6 +58,7 @@ impl Player {
         ensures done { ComesTo (MakesCall (position_of self.old) call.now (position_of self.new)) result }
         ensures memory { OnMemory (NoNumber (MakesCall (position_of self.old) call.now)) result }
     {
+        // (the session is a `Service`: sessions/src/service.rt)
         let reply = self.session.call(call)?;
         if let Some(job) = reply.job {
             self.hold(job);

@@ -60,6 +60,7 @@ fn push_refused(out: &mut String, line: usize, number: u8)
     push_reserved(out, "\n");
 }
 
+// A player is a session of one caller (`Service`), the jobs that it holds, and how many inputs it handed in.
 impl Player {
     // Carries out the order of a step, and writes its line where it is refused. It ends the run
     // where the order finds no memory, and then writes nothing.
