@@ -1,6 +1,6 @@
 /* Image files of BPF handlers, checked once and called with no test for a fault while they run; and sessions
-   of them, which survive the loss of a process inside the program that holds them; and the gateway of a
-   cluster whose processes are programs of their own. docs/EMBEDDING.md describes each function, its codes,
+   of them, which survive the loss of a process inside the program that holds them; and the gateway and the nodes
+   of a cluster whose processes are programs of their own. docs/EMBEDDING.md describes each function, its codes,
    and the bytes of a report and of an entry. */
 #ifndef SBLOG_H
 #define SBLOG_H
@@ -27,7 +27,7 @@ enum sblog_code {
     SBLOG_MESSAGE = 6, /* no whole messages of 64 bytes */
     SBLOG_WHO = 7,     /* numbers of processes out of range */
     SBLOG_ROOM = 8,    /* the buffer for the answer is too short */
-    SBLOG_FORM = 9,    /* the image is an SBI2, which these functions only check */
+    SBLOG_FORM = 9,    /* the image is an SBI2, which is checked and compiled, and not called */
     SBLOG_HANDLE = 10, /* the handle is null */
     SBLOG_NATIVE = 11, /* there is no machine code of an SBI3 */
     SBLOG_RECORD = 12  /* no call of form 1 leaves such a record */
