@@ -72,10 +72,13 @@ fn counter(alloc: Global, form: u8) -> Result<Arc<Handler>, Fail> {
 }
 
 fn opened(alloc: Global, form: u8, count: u8) -> Result<Counters, Fail> {
+    if count < 1 || count > 15 {
+        return Err("no such cluster")?;
+    }
     let mut processes = Vec::new(alloc);
     let mut kept = Vec::new(alloc);
     for p in 1..=count {
-        if p < 1 || p > count || count > 15 {
+        if p < 1 || p > count {
             return Err("no such process")?;
         }
         let image = counter(alloc, form)?;

@@ -3,7 +3,7 @@
 use super::adders;
 use crate::rows::holds;
 use runner::{journal_of, run};
-use scenario::{Allowed, Scenario, parse, trace_text};
+use scenario::{Allowed, parse, trace_text};
 use std::alloc::Global;
 use std::test::Fail;
 
@@ -156,27 +156,16 @@ not exact
 ",
 ];
 
-/// What the run of a scenario of adders writes.
-fn written(alloc: Global, scenario: &Scenario) -> Result<String, Fail> {
-    let count = scenario.processes.len();
-    let mut out = String::new(alloc);
-    run(alloc, scenario, adders(alloc, count)?, &mut out)?;
-    Ok(out)
-}
-
-/// The trace of its journal.
-fn traced(alloc: Global, scenario: &Scenario) -> Result<String, Fail> {
-    let count = scenario.processes.len();
-    let entries = journal_of(alloc, scenario, adders(alloc, count)?)?;
-    Ok(trace_text(alloc, entries.as_slice())?)
-}
-
 /// Whether the run of a scenario of adders writes this, and its journal has this trace.
 fn writes(alloc: Global, case: &[&str; 2]) -> Result<bool, Fail> {
     let scenario = parse(alloc, case[0], Allowed::All)?;
-    let trace = traced(alloc, &scenario)?;
+    let count = scenario.processes.len();
+    let mut out = String::new(alloc);
+    run(alloc, &scenario, adders(alloc, count)?, &mut out)?;
+    let entries = journal_of(alloc, &scenario, adders(alloc, count)?)?;
+    let trace = trace_text(alloc, entries.as_slice())?;
     let report = case[1].split(trace.as_str()).nth(1).unwrap_or("");
-    Ok(report.starts_with("process a ") && written(alloc, &scenario)?.as_str() == case[1])
+    Ok(out.as_str() == case[1] && report.starts_with("process a "))
 }
 
 const CASES: [[&str; 2]; 5] = [CRASH, REFUSED, REPLACED, HELD, LOST];
