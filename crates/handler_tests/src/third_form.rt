@@ -4,4 +4,5 @@ mod array;
 mod corpus;
 mod forms;
 mod loading;
+mod operations;
 mod ordering;
