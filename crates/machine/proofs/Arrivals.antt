@@ -29,7 +29,7 @@ use Rattle.machine.specs.Process.{TheProcess, idle_process, received, Acknowledg
 use Rattle.machine.specs.Wire.{Puts}
 use Rattle.machine.specs.Arriving.{numbered, Records}
 use Rattle.machine.specs.Simulation.{TheMachine, process_at, log_at, gate_at, is_up_at, StandsAt, Keeps, Holds, Shows, Stands, Steps, sent_by}
-use Rattle.machine.specs.Stage.{IsNextAfter, is_live, held_by}
+use Rattle.machine.specs.Mode.{IsNextAfter, is_live, held_by}
 use Rattle.machine.proofs.Updates.{put-is, set-is}
 use Rattle.machine.proofs.Standing.{wire-is, at_process, up_is, up_at, up-down, is_live-at, live-lost, live-busy, live-works, held-live, entry_at}
 use Rattle.machine.proofs.Steps.{put-wire, shows-wire, step}
@@ -148,7 +148,7 @@ module _ (m : TheMachine) (w : World) (s : Stands m w) (room key to calls : ℕ)
         let new : TheMachine = record m { processes = set m.processes (to - 1) y; slots = slots; started = m.started + 1; calls = calls } in
         let back : suc (to - 1) ≡ to = omega arith in
         let P : ℕ → Bool → TheProcess → Type 0 = λ p b z. Stood m w (suc p) (w.history (suc p)) (if b then Busy x else w.phase (suc p)) (w.acknowledged (suc p)) z in
-        let stage : is_live y.stage ≡ true = is_live-at m to positive live in
+        let mode : is_live y.mode ≡ true = is_live-at m to positive live in
         let now : Stood m w to (w.history to) (Busy x) (w.acknowledged to) y =
         record {
           state_is = at_to.state_is;
@@ -157,8 +157,8 @@ module _ (m : TheMachine) (w : World) (s : Stands m w) (room key to calls : ℕ)
           flags = at_to.flags;
           acknowledged_is = at_to.acknowledged_is;
           in_order = at_to.in_order;
-          phase_is = live-busy (length m.processes) y.stage x stage;
-          works = live-works y.stage (Some x) (w.saved to) (w.history to) stage next;
+          phase_is = live-busy (length m.processes) y.mode x mode;
+          works = live-works y.mode (Some x) (w.saved to) (w.history to) mode next;
           incarnation_is = at_to.incarnation_is;
           saves = at_to.saves;
         } in
@@ -375,7 +375,7 @@ module _ (m : TheMachine) (w : World) (s : Stands m w) (room key r t i k incarna
         let now : Stood m w t (w.history t) (w.phase t) (w.acknowledged t) y =
         record {
           state_is = before.state_is;
-          gone = λ lost. absurd (true≢false (sym lost ∙ live-lost y.stage (is_live-at m t some live)));
+          gone = λ lost. absurd (true≢false (sym lost ∙ live-lost y.mode (is_live-at m t some live)));
           senders = before.senders;
           flags = before.flags;
           acknowledged_is = before.acknowledged_is;
@@ -435,11 +435,11 @@ module _ (m : TheMachine) (w : World) (s : Stands m w) (room key t r k incarnati
   running : is_up (w.phase r) ≡ true
   running = up_at m w s r within live
 
-  stage : is_live (process_at m r).stage ≡ true
-  stage = is_live-at m r inside live
+  mode : is_live (process_at m r).mode ≡ true
+  mode = is_live-at m r inside live
 
   as_long : received (process_at m r) ≡ length (w.history r)
-  as_long = ap length receiver.senders ∙ length-map (held_by (process_at m r).stage (w.saved r) (w.history r)) (λ (x : Message). x.sender) ∙ ap length (held-live (process_at m r).stage (w.saved r) (w.history r) stage)
+  as_long = ap length receiver.senders ∙ length-map (held_by (process_at m r).mode (w.saved r) (w.history r)) (λ (x : Message). x.sender) ∙ ap length (held-live (process_at m r).mode (w.saved r) (w.history r) mode)
 
   in_state : length_of w r ≡ received (process_at m r)
   in_state = up-length (w.phase r) running (w.history r) (w.saved r) ∙ sym as_long
@@ -479,7 +479,7 @@ module _ (m : TheMachine) (w : World) (s : Stands m w) (room key t r k incarnati
         let at : Stood m w r (w.history r) (w.phase r) (put (w.acknowledged r) k true) z =
         record {
           state_is = receiver.state_is;
-          gone = λ lost. absurd (true≢false (sym lost ∙ live-lost z.stage stage));
+          gone = λ lost. absurd (true≢false (sym lost ∙ live-lost z.mode mode));
           senders = receiver.senders;
           flags = as_many ∙ sym as_long;
           acknowledged_is = λ j h. flags_are j (omega (arith, h, as_long));

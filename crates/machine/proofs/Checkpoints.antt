@@ -18,10 +18,10 @@ use Rattle.world.specs.Refusals.{refusal_of}
 use Rattle.theorems.proofs.RunLemmas.{run_to-whole, run_to-is}
 use Rattle.machine.specs.Process.{TheProcess, IsSaved}
 use Rattle.machine.specs.Fields.{IsSoundAt}
-use Rattle.machine.specs.Stage.{is_live, held_by, MayWork}
+use Rattle.machine.specs.Mode.{is_live, held_by, MayWork}
 use Rattle.machine.specs.Simulation.{TheMachine, Stands, StandsAt, Steps, Keeps, Holds, process_at, log_at, gate_at, is_up_at, sent_by}
-use Rattle.machine.specs.declared.stage.Stage.{Stage}
-use Rattle.machine.specs.declared.stage.Stage.TheVariants as stages
+use Rattle.machine.specs.declared.mode.Mode.{Mode}
+use Rattle.machine.specs.declared.mode.Mode.TheVariants as modes
 use Rattle.machine.proofs.Standing.{at_process, keeps_at, holds_at, up_at, down_at, is_live-at, held-live, live-lost}
 use Rattle.machine.proofs.Steps.{step}
 use Rattle.machine.proofs.Releasing.{holds-released}
@@ -37,11 +37,11 @@ length-up h saved (Replaying j working alone) e = absurd (true≢false (sym e))
 length-up h saved (Resync todo) e = absurd (true≢false (sym e))
 
 -- nor does what it works on
-work-live : (t : Stage) (o : Option Message) (saved now : ℕ) (h : List Message) → is_live t ≡ true → MayWork t o saved h → MayWork t o now h
-work-live stages.Live o saved now h e may = may
-work-live stages.Down o saved now h e may = absurd (true≢false (sym e))
-work-live (stages.Replaying plan alone) o saved now h e may = absurd (true≢false (sym e))
-work-live (stages.Resync peers) o saved now h e may = absurd (true≢false (sym e))
+work-live : (t : Mode) (o : Option Message) (saved now : ℕ) (h : List Message) → is_live t ≡ true → MayWork t o saved h → MayWork t o now h
+work-live modes.Live o saved now h e may = may
+work-live modes.Down o saved now h e may = absurd (true≢false (sym e))
+work-live (modes.Replaying plan alone) o saved now h e may = absurd (true≢false (sym e))
+work-live (modes.Resync peers) o saved now h e may = absurd (true≢false (sym e))
 
 module _ (m : TheMachine) (w : World) (s : Stands m w) (room p calls : ℕ) (y : TheProcess) (positive : 0 < p) (within : p ≤ length m.processes) (few : length m.processes ≤ PROCESSES) (up : is_up_at m p ≡ true) (width : length (process_at m p).outbox.log.queues ≡ suc (length m.processes))
     (saves : IsSaved (saved_of p (length m.processes) (process_at m p).state (process_at m p).receipts (process_at m p).outbox.log) (process_at m p) y) where
@@ -51,7 +51,7 @@ module _ (m : TheMachine) (w : World) (s : Stands m w) (room p calls : ℕ) (y :
   at : StandsAt (length m.processes) p (process_at m p) (w.handlers.state p) (w.handlers.sends p) (w.history p) (w.phase p) (w.incarnation p) (w.acknowledged p) (w.saved p) (w.saved_trims p)
   at = at_process m w s p positive within
 
-  live : is_live (process_at m p).stage ≡ true
+  live : is_live (process_at m p).mode ≡ true
   live = is_live-at m p positive up
 
   running : is_up (w.phase p) ≡ true
@@ -63,11 +63,11 @@ module _ (m : TheMachine) (w : World) (s : Stands m w) (room p calls : ℕ) (y :
   inside : (p == 0) ≡ false
   inside = grind (arith, nat_tests)
 
-  all : (saved : ℕ) → held_by (process_at m p).stage saved (w.history p) ≡ w.history p
-  all saved = held-live (process_at m p).stage saved (w.history p) live
+  all : (saved : ℕ) → held_by (process_at m p).mode saved (w.history p) ≡ w.history p
+  all saved = held-live (process_at m p).mode saved (w.history p) live
 
   state_is : (process_at m p).state ≡ w.handlers.state p (w.history p)
-  state_is = at.state_is (live-lost (process_at m p).stage live) ∙ ap (w.handlers.state p) (all (w.saved p))
+  state_is = at.state_is (live-lost (process_at m p).mode live) ∙ ap (w.handlers.state p) (all (w.saved p))
 
   senders_are : (process_at m p).receipts.senders ≡ map (λ (x : Message). x.sender) (w.history p)
   senders_are = at.senders ∙ ap (map (λ (x : Message). x.sender)) (all (w.saved p))
@@ -136,13 +136,13 @@ module _ (m : TheMachine) (w : World) (s : Stands m w) (room p calls : ℕ) (y :
   here : StandsAt (length m.processes) p y (w.handlers.state p) (w.handlers.sends p) (w.history p) (w.phase p) (w.incarnation p) (acknowledged_now p) (saved_now p) (trims_now p)
   here = rw (self-same p, saves.others) (record {
     state_is = λ e. state_is ∙ sym (ap (w.handlers.state p) (all (length (w.history p))));
-    gone = λ e. absurd (true≢false (sym e ∙ live-lost (process_at m p).stage live));
+    gone = λ e. absurd (true≢false (sym e ∙ live-lost (process_at m p).mode live));
     senders = senders_are ∙ sym (ap (map (λ (x : Message). x.sender)) (all (length (w.history p))));
     flags = length-replicate {A = Bool} (length (process_at m p).receipts.senders) true;
     acknowledged_is = flag;
     in_order = at.in_order;
     phase_is = at.phase_is;
-    works = work-live (process_at m p).stage (process_at m p).working (w.saved p) (length (w.history p)) (w.history p) live at.works;
+    works = work-live (process_at m p).mode (process_at m p).working (w.saved p) (length (w.history p)) (w.history p) live at.works;
     incarnation_is = at.incarnation_is;
     saves = rw every (record {
       state_is = state_is;
@@ -164,7 +164,7 @@ module _ (m : TheMachine) (w : World) (s : Stands m w) (room p calls : ℕ) (y :
       refl
 
 -- a process that was saved is sound
-pub saved-sound : (n me len calls : ℕ) (was y : TheProcess) → IsSaved (saved_of me n was.state was.receipts was.outbox.log) was y → is_live was.stage ≡ true → IsSoundAt n me len calls was → IsSoundAt n me len (calls + 1) y
+pub saved-sound : (n me len calls : ℕ) (was y : TheProcess) → IsSaved (saved_of me n was.state was.receipts was.outbox.log) was y → is_live was.mode ≡ true → IsSoundAt n me len calls was → IsSoundAt n me len (calls + 1) y
 saved-sound n me len calls was y a up s =
     rw a.others (record {
       short = s.short;
@@ -177,6 +177,6 @@ saved-sound n me len calls was y a up s =
       incarnation = omega (arith, s.incarnation);
       own = refl;
       count = refl;
-      saved_state = s.state (live-lost was.stage up);
+      saved_state = s.state (live-lost was.mode up);
       saved_by = let b = s.begun_by in omega (arith, b);
     })

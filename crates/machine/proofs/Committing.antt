@@ -28,9 +28,9 @@ use Rattle.theorems.proofs.ListLemmas.{take-all, take-push}
 use Rattle.theorems.proofs.RunLemmas.{run_to-is, run_to-ends}
 use Rattle.machine.specs.Process.{TheProcess, received, HasSent, Commits}
 use Rattle.machine.specs.Stable.{Saves}
-use Rattle.machine.specs.Stage.{is_live, held_by, phase_of, IsNextAfter}
-use Rattle.machine.specs.declared.stage.Stage.{Stage}
-use Rattle.machine.specs.declared.stage.Stage.TheVariants as stages
+use Rattle.machine.specs.Mode.{is_live, held_by, phase_of, IsNextAfter}
+use Rattle.machine.specs.declared.mode.Mode.{Mode}
+use Rattle.machine.specs.declared.mode.Mode.TheVariants as modes
 use Rattle.machine.specs.Wire.{Puts}
 use Rattle.machine.specs.Fields.{IsLogOf}
 use Rattle.machine.specs.Simulation.{TheMachine, StandsAt, Keeps, Holds, Shows, Stands, Steps, process_at, log_at, is_up_at, sent_by}
@@ -97,11 +97,11 @@ holds-given old new held d run n released before after waiting_is released_is ea
 -- A result
 
 -- one that is up and has no job open
-live-idle : (n : ℕ) (t : Stage) → is_live t ≡ true → Up ≡ phase_of n t None
-live-idle n stages.Live e = refl
-live-idle n stages.Down e = absurd (false≢true e)
-live-idle n (stages.Replaying plan alone) e = absurd (false≢true e)
-live-idle n (stages.Resync peers) e = absurd (false≢true e)
+live-idle : (n : ℕ) (t : Mode) → is_live t ≡ true → Up ≡ phase_of n t None
+live-idle n modes.Live e = refl
+live-idle n modes.Down e = absurd (false≢true e)
+live-idle n (modes.Replaying plan alone) e = absurd (false≢true e)
+live-idle n (modes.Resync peers) e = absurd (false≢true e)
 
 module _ (m : TheMachine) (w : World) (s : Stands m w) (t : TheTask) (k : Matches m t) (a : IsAnswer t (answer_of t)) (sizes : length m.images ≡ length m.processes) (y : TheProcess) (c : Commits t (process_at m t.who.me) y) (up : is_up_at m t.who.me ≡ true) where
   abbrev me : ℕ
@@ -126,23 +126,23 @@ module _ (m : TheMachine) (w : World) (s : Stands m w) (t : TheTask) (k : Matche
   at_me : StandsAt (length m.processes) me was (w.handlers.state me) (w.handlers.sends me) h (w.phase me) (w.incarnation me) (w.acknowledged me) (w.saved me) (w.saved_trims me)
   at_me = at_process m w s me k.inside k.within
 
-  live : is_live was.stage ≡ true
+  live : is_live was.mode ≡ true
   live = is_live-at m me k.inside up
 
-  live_now : is_live y.stage ≡ true
-  live_now = ap is_live c.stage ∙ live
+  live_now : is_live y.mode ≡ true
+  live_now = ap is_live c.mode ∙ live
 
-  held : held_by was.stage (w.saved me) h ≡ h
-  held = held-live was.stage (w.saved me) h live
+  held : held_by was.mode (w.saved me) h ≡ h
+  held = held-live was.mode (w.saved me) h live
 
-  held_now : held_by y.stage (w.saved me) hx ≡ hx
-  held_now = held-live y.stage (w.saved me) hx live_now
+  held_now : held_by y.mode (w.saved me) hx ≡ hx
+  held_now = held-live y.mode (w.saved me) hx live_now
 
   busy : w.phase me ≡ Busy x
-  busy = at_me.phase_is ∙ ap (phase_of (length m.processes) was.stage) k.message ∙ sym (live-busy (length m.processes) was.stage x live)
+  busy = at_me.phase_is ∙ ap (phase_of (length m.processes) was.mode) k.message ∙ sym (live-busy (length m.processes) was.mode x live)
 
   state_was : was.state ≡ w.handlers.state me h
-  state_was = at_me.state_is (live-lost was.stage live) ∙ ap (w.handlers.state me) held
+  state_was = at_me.state_is (live-lost was.mode live) ∙ ap (w.handlers.state me) held
 
   senders_was : was.receipts.senders ≡ map (λ (z : Message). z.sender) h
   senders_was = at_me.senders ∙ ap (map (λ (z : Message). z.sender)) held
@@ -195,13 +195,13 @@ module _ (m : TheMachine) (w : World) (s : Stands m w) (t : TheTask) (k : Matche
   stands_after =
       record {
         state_is = λ e. c.state ∙ sym (state_after m w s t k a sizes h state_was) ∙ sym (ap (w.handlers.state me) held_now);
-        gone = λ e. absurd (false≢true (sym (live-lost y.stage live_now) ∙ e));
+        gone = λ e. absurd (false≢true (sym (live-lost y.mode live_now) ∙ e));
         senders = ap (λ (r : Received). r.senders) c.receipts ∙ ap (λ xs. xs ++ x.sender ∷ []) senders_was ∙ sym (map_push (λ (z : Message). z.sender) h x) ∙ sym (ap (map (λ (z : Message). z.sender)) held_now);
         flags = ap (λ (r : Received). length r.acknowledged) c.receipts ∙ length-append was.receipts.acknowledged (false ∷ []) ∙ ap (λ j. j + 1) flags_was ∙ sym longer ∙ sym received_now;
         acknowledged_is = λ i l. ap (λ (r : Received). slice_index_or r.acknowledged i false) c.receipts ∙ flags_at i (omega (arith, l, received_now)) (nat_lt i (length h)) refl;
         in_order = InOrderFrom-push (λ _. 0) h x at_me.in_order (omega (arith, next_ssn));
-        phase_is = live-idle (length m.processes) y.stage live_now ∙ ap (phase_of (length m.processes) y.stage) (sym c.working);
-        works = live-works y.stage y.working (w.saved me) hx live_now (subst (IsNextAfter hx) (sym c.working) tt);
+        phase_is = live-idle (length m.processes) y.mode live_now ∙ ap (phase_of (length m.processes) y.mode) (sym c.working);
+        works = live-works y.mode y.working (w.saved me) hx live_now (subst (IsNextAfter hx) (sym c.working) tt);
         incarnation_is = at_me.incarnation_is ∙ sym c.incarnation;
         saves = saves_now;
       }

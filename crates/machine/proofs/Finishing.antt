@@ -16,9 +16,9 @@ use Rattle.replay.specs.Task.{TheTask, MayCall, IsAnswer, answer_of}
 use Rattle.world.specs.declared.message.Message.{Message}
 use Rattle.world.specs.Refusals.{one_if}
 use Rattle.machine.specs.Process.{TheProcess, idle_process, received, advanced, Commits, Recalls, IsNextAt}
-use Rattle.machine.specs.Stage.{is_live, is_lost, IsInPlan, IsNextIn}
-use Rattle.machine.specs.declared.stage.Stage.{Stage}
-use Rattle.machine.specs.declared.stage.Stage.TheVariants as stages
+use Rattle.machine.specs.Mode.{is_live, is_lost, IsInPlan, IsNextIn}
+use Rattle.machine.specs.declared.mode.Mode.{Mode}
+use Rattle.machine.specs.declared.mode.Mode.TheVariants as modes
 use Rattle.machine.specs.Fields.{view_of, IsSound, IsSoundAt}
 use Rattle.machine.specs.Jobs.{Matches}
 use Rattle.machine.specs.Recovering.{MaySettle}
@@ -53,25 +53,25 @@ more-senders me n s xs all within other =
     let apart : (s == me) ≡ false = grind (arith, nat_tests) in
     list_all-append (is_sender me n) xs (s ∷ []) ∙ rw (all, low, apart) refl
 
-live-planned : (t : Stage) (o : Option Message) (n : ℕ) → is_live t ≡ true → IsInPlan t o n
-live-planned stages.Live o n e = tt
-live-planned stages.Down o n e = absurd (false≢true e)
-live-planned (stages.Replaying plan alone) o n e = absurd (false≢true e)
-live-planned (stages.Resync peers) o n e = absurd (false≢true e)
+live-planned : (t : Mode) (o : Option Message) (n : ℕ) → is_live t ≡ true → IsInPlan t o n
+live-planned modes.Live o n e = tt
+live-planned modes.Down o n e = absurd (false≢true e)
+live-planned (modes.Replaying plan alone) o n e = absurd (false≢true e)
+live-planned (modes.Resync peers) o n e = absurd (false≢true e)
 
 -- a process that took in a result is sound
-pub sound-committed : (n me len calls : ℕ) (t : TheTask) (was y : TheProcess) → IsSoundAt n me len calls was → Commits t was y → is_live was.stage ≡ true → length y.state ≡ length was.state → t.message.sender ≤ n → t.message.sender ≢ me → received was + 1 ≤ calls → IsSoundAt n me len (calls + 1) y
+pub sound-committed : (n me len calls : ℕ) (t : TheTask) (was y : TheProcess) → IsSoundAt n me len calls was → Commits t was y → is_live was.mode ≡ true → length y.state ≡ length was.state → t.message.sender ≤ n → t.message.sender ≢ me → received was + 1 ≤ calls → IsSoundAt n me len (calls + 1) y
 sound-committed n me len calls t was y s c live same from other room =
-    let up : is_live y.stage ≡ true = ap is_live c.stage ∙ live in
+    let up : is_live y.mode ≡ true = ap is_live c.mode ∙ live in
     let more : received y ≡ received was + 1 = ap (λ (r : Received). length r.senders) c.receipts ∙ length-append was.receipts.senders (t.message.sender ∷ []) in
     let idle : one_if (is_some y.working) ≡ 0 = ap (λ o. one_if (is_some o)) c.working in
     record {
       short = s.short;
-      state = λ e. same ∙ s.state (live-lost was.stage live);
+      state = λ e. same ∙ s.state (live-lost was.mode live);
       log = record { owner = c.outbox.owner ∙ s.log.owner; width = c.outbox.width ∙ s.log.width };
       senders = ap (λ (r : Received). list_all (is_sender me n) r.senders) c.receipts ∙ more-senders me n t.message.sender was.receipts.senders s.senders from other;
       whole = λ e. absurd (false≢true (sym e ∙ up));
-      planned = live-planned y.stage y.working (received y) up;
+      planned = live-planned y.mode y.working (received y) up;
       begun_by = omega (arith, room, more, idle);
       incarnation = let l = s.incarnation in let now = c.incarnation in omega (arith, l, now);
       own = ap (λ (z : TheSaved). z.me) c.saved ∙ s.own;
@@ -81,9 +81,9 @@ sound-committed n me len calls t was y s c live same from other room =
     }
 
 -- one more message of the plan is replayed
-advanced-planned : (t : Stage) (plan : ThePlan) (alone : Bool) (o : Option Message) (n : ℕ) → t ≡ stages.Replaying plan alone → IsInPlan t o n → IsInPlan (advanced t) None (n + 1)
+advanced-planned : (t : Mode) (plan : ThePlan) (alone : Bool) (o : Option Message) (n : ℕ) → t ≡ modes.Replaying plan alone → IsInPlan t o n → IsInPlan (advanced t) None (n + 1)
 advanced-planned t plan alone o n e planned =
-    let was : IsInPlan (stages.Replaying plan alone) o n = subst (λ z. IsInPlan z o n) e planned in
+    let was : IsInPlan (modes.Replaying plan alone) o n = subst (λ z. IsInPlan z o n) e planned in
     subst (λ z. IsInPlan (advanced z) None (n + 1)) (sym e) (omega (arith, was.0), tt)
 
 -- all that was received is acknowledged, and so is one more
@@ -98,18 +98,18 @@ run-on n r s flags all =
     rw place (omega (arith, long, reached, bound, same))
 
 -- what a process has that took in a replayed result
-module _ (n me len calls : ℕ) (t : TheTask) (was y : TheProcess) (s : IsSoundAt n me len calls was) (c : Recalls t was y) (plan : ThePlan) (alone : Bool) (stage_is : was.stage ≡ stages.Replaying plan alone) (flags : length was.receipts.acknowledged ≡ received was) where
+module _ (n me len calls : ℕ) (t : TheTask) (was y : TheProcess) (s : IsSoundAt n me len calls was) (c : Recalls t was y) (plan : ThePlan) (alone : Bool) (mode_is : was.mode ≡ modes.Replaying plan alone) (flags : length was.receipts.acknowledged ≡ received was) where
   -- it has received one message more
   pub one-more : received y ≡ received was + 1
   one-more = ap (λ (r : Received). length r.senders) c.receipts ∙ length-append was.receipts.senders (t.message.sender ∷ [])
 
   -- which are all acknowledged
   pub whole-now : run_of y.receipts.acknowledged ≡ received y
-  whole-now = ap (λ (r : Received). run_of r.acknowledged) c.receipts ∙ run-on (received was) was.receipts t.message.sender flags (s.whole (ap is_live stage_is)) ∙ sym one-more
+  whole-now = ap (λ (r : Received). run_of r.acknowledged) c.receipts ∙ run-on (received was) was.receipts t.message.sender flags (s.whole (ap is_live mode_is)) ∙ sym one-more
 
   -- it isn't lost
-  pub back-now : is_lost y.stage ≡ false
-  back-now = ap is_lost (c.stage ∙ ap advanced stage_is)
+  pub back-now : is_lost y.mode ≡ false
+  back-now = ap is_lost (c.mode ∙ ap advanced mode_is)
 
   -- and it is sound
   pub sound-recalled : length y.state ≡ length was.state → t.message.sender ≤ n → t.message.sender ≢ me → received was + 1 ≤ calls → IsSoundAt n me len calls y
@@ -117,11 +117,11 @@ module _ (n me len calls : ℕ) (t : TheTask) (was y : TheProcess) (s : IsSoundA
       let idle : one_if (is_some y.working) ≡ 0 = ap (λ o. one_if (is_some o)) c.working in
       record {
         short = s.short;
-        state = λ e. same ∙ s.state (ap is_lost stage_is);
+        state = λ e. same ∙ s.state (ap is_lost mode_is);
         log = record { owner = c.outbox.owner ∙ s.log.owner; width = c.outbox.width ∙ s.log.width };
         senders = ap (λ (r : Received). list_all (is_sender me n) r.senders) c.receipts ∙ more-senders me n t.message.sender was.receipts.senders s.senders from other;
         whole = λ e. whole-now;
-        planned = subst (λ z. IsInPlan z y.working (received y)) (sym c.stage) (subst (λ o. IsInPlan (advanced was.stage) o (received y)) (sym c.working) (subst (IsInPlan (advanced was.stage) None) (sym one-more) (advanced-planned was.stage plan alone was.working (received was) stage_is s.planned)));
+        planned = subst (λ z. IsInPlan z y.working (received y)) (sym c.mode) (subst (λ o. IsInPlan (advanced was.mode) o (received y)) (sym c.working) (subst (IsInPlan (advanced was.mode) None) (sym one-more) (advanced-planned was.mode plan alone was.working (received was) mode_is s.planned)));
         begun_by = let more = one-more in omega (arith, room, more, idle);
         incarnation = let l = s.incarnation in let now = c.incarnation in omega (arith, l, now);
         own = ap (λ (z : TheSaved). z.me) c.saved ∙ s.own;
@@ -131,20 +131,20 @@ module _ (n me len calls : ℕ) (t : TheTask) (was y : TheProcess) (s : IsSoundA
       }
 
 -- one that isn't up and has a job open replays
-pub replaying-stage : (t : Stage) (o : Option Message) (n : ℕ) (x : Message) → is_live t ≡ false → IsInPlan t o n → o ≡ Some x → (plan : ThePlan) × (alone : Bool) × (t ≡ stages.Replaying plan alone)
-replaying-stage stages.Live o n x live planned e = absurd (false≢true (sym live))
-replaying-stage stages.Down o n x live planned e = absurd (cc)
-replaying-stage (stages.Replaying plan alone) o n x live planned e = (plan, alone, refl)
-replaying-stage (stages.Resync peers) o n x live planned e = absurd (cc)
+pub replaying-mode : (t : Mode) (o : Option Message) (n : ℕ) (x : Message) → is_live t ≡ false → IsInPlan t o n → o ≡ Some x → (plan : ThePlan) × (alone : Bool) × (t ≡ modes.Replaying plan alone)
+replaying-mode modes.Live o n x live planned e = absurd (false≢true (sym live))
+replaying-mode modes.Down o n x live planned e = absurd (cc)
+replaying-mode (modes.Replaying plan alone) o n x live planned e = (plan, alone, refl)
+replaying-mode (modes.Resync peers) o n x live planned e = absurd (cc)
 
 -- the message of a replayed job is the next of the plan
-pub next-at : (z : Stage) (o : Option Message) (n : ℕ) (t : TheTask) → IsInPlan z o n → o ≡ Some t.message → n + 1 ≡ t.rsn → IsNextAt z t
-next-at stages.Live o n t planned e rsn = tt
-next-at stages.Down o n t planned e rsn = tt
-next-at (stages.Replaying plan alone) o n t planned e rsn =
+pub next-at : (z : Mode) (o : Option Message) (n : ℕ) (t : TheTask) → IsInPlan z o n → o ≡ Some t.message → n + 1 ≡ t.rsn → IsNextAt z t
+next-at modes.Live o n t planned e rsn = tt
+next-at modes.Down o n t planned e rsn = tt
+next-at (modes.Replaying plan alone) o n t planned e rsn =
     let next : IsNextIn plan (Some t.message) = subst (IsNextIn plan) e planned.1 in
     ap (numbered (plan.before + plan.replayed + 1)) next ∙ ap (λ r. Some (r, t.message)) (ap (λ j. j + 1) planned.0 ∙ rsn)
-next-at (stages.Resync peers) o n t planned e rsn = tt
+next-at (modes.Resync peers) o n t planned e rsn = tt
 
 -- the process of such a job, as the fields have it
 module _ (i : Inside) (s : IsSound i) (m : TheMachine) (view_is : view_of i ≡ m) (t : TheTask) (k : Matches m t) (down : is_up_at m t.who.me ≡ false) (p : ℕ) (p_is : p ≡ t.who.me) (was : TheProcess) (here : was ≡ slice_index_or i.processes.items (p - 1) was) where
@@ -158,16 +158,16 @@ module _ (i : Inside) (s : IsSound i) (m : TheMachine) (view_is : view_of i ≡ 
   pub was-at : was ≡ process_at m t.who.me
   was-at = here ∙ get_or_default i.processes.items (p - 1) was (idle_process 0 0 0) (omega (arith, positive-at, within-at)) ∙ ap (λ (v : TheMachine). process_at v p) view_is ∙ ap (process_at m) p_is
 
-  off : is_live (process_at m t.who.me).stage ≡ false
+  off : is_live (process_at m t.who.me).mode ≡ false
   off = let apart : (t.who.me == 0) ≡ false = grind (arith, nat_tests, k.inside) in rw apart at down
 
   -- it replays
-  pub replays-at : (plan : ThePlan) × (alone : Bool) × ((process_at m t.who.me).stage ≡ stages.Replaying plan alone)
-  replays-at = replaying-stage (process_at m t.who.me).stage (process_at m t.who.me).working (received (process_at m t.who.me)) t.message off (sound i s m view_is t k t.image).planned k.message
+  pub replays-at : (plan : ThePlan) × (alone : Bool) × ((process_at m t.who.me).mode ≡ modes.Replaying plan alone)
+  replays-at = replaying-mode (process_at m t.who.me).mode (process_at m t.who.me).working (received (process_at m t.who.me)) t.message off (sound i s m view_is t k t.image).planned k.message
 
   -- the message of the job is the next of its plan
-  pub next-of : IsNextAt was.stage t
-  next-of = subst (λ (x : TheProcess). IsNextAt x.stage t) (sym was-at) (next-at (process_at m t.who.me).stage (process_at m t.who.me).working (received (process_at m t.who.me)) t (sound i s m view_is t k t.image).planned k.message k.rsn)
+  pub next-of : IsNextAt was.mode t
+  next-of = subst (λ (x : TheProcess). IsNextAt x.mode t) (sym was-at) (next-at (process_at m t.who.me).mode (process_at m t.who.me).working (received (process_at m t.who.me)) t (sound i s m view_is t k t.image).planned k.message k.rsn)
 
   -- what it received, and one more, are calls that were made
   pub fits-at : received was + 1 ≤ i.calls
@@ -189,8 +189,8 @@ module _ (i : Inside) (s : IsSound i) (m : TheMachine) (view_is : view_of i ≡ 
         (λ j. record (view_of i) { processes = kept j }) ∙ view_is
 
   module _ (y : TheProcess) (c : Recalls t was y) (flags : length was.receipts.acknowledged ≡ received was) (a : IsAnswer t (answer_of t)) (may : MayCall t.image t.state t.who) where
-    stage-at : was.stage ≡ stages.Replaying replays-at.0 replays-at.1
-    stage-at = ap (λ (x : TheProcess). x.stage) was-at ∙ replays-at.2
+    mode-at : was.mode ≡ modes.Replaying replays-at.0 replays-at.1
+    mode-at = ap (λ (x : TheProcess). x.mode) was-at ∙ replays-at.2
 
     count-at : length m.processes ≡ length i.processes.items
     count-at = ap (λ (v : TheMachine). length v.processes) (sym view_is)
@@ -201,7 +201,7 @@ module _ (i : Inside) (s : IsSound i) (m : TheMachine) (view_is : view_of i ≡ 
     -- with the result taken in, the machine is sound
     pub recalled-sound : IsSound (record i { processes = with_item i.processes (p - 1) y })
     recalled-sound =
-        put-sound i s p y positive-at within-at (λ e. sound-recalled (length i.processes.items) p _ i.calls t was y (sound-was e) c replays-at.0 replays-at.1 stage-at flags same-length
+        put-sound i s p y positive-at within-at (λ e. sound-recalled (length i.processes.items) p _ i.calls t was y (sound-was e) c replays-at.0 replays-at.1 mode-at flags same-length
         (omega (arith, k.from, k.count, count-at, may.sender)) (λ f. may.other (k.from ∙ f ∙ p_is)) fits-at)
 
     -- the process may settle
@@ -212,9 +212,9 @@ module _ (i : Inside) (s : IsSound i) (m : TheMachine) (view_is : view_of i ≡ 
         record {
           inside = positive-at;
           within = omega (arith, length-set i.processes.items (p - 1) y, within-at);
-          back = ap (λ (x : TheProcess). is_lost x.stage) at ∙ back-now (length i.processes.items) p _ i.calls t was y sure c replays-at.0 replays-at.1 stage-at flags;
+          back = ap (λ (x : TheProcess). is_lost x.mode) at ∙ back-now (length i.processes.items) p _ i.calls t was y sure c replays-at.0 replays-at.1 mode-at flags;
           idle = ap (λ (x : TheProcess). x.working) at ∙ c.working;
-          whole = ap (λ (x : TheProcess). run_of x.receipts.acknowledged) at ∙ whole-now (length i.processes.items) p _ i.calls t was y sure c replays-at.0 replays-at.1 stage-at flags ∙ sym (ap received at);
+          whole = ap (λ (x : TheProcess). run_of x.receipts.acknowledged) at ∙ whole-now (length i.processes.items) p _ i.calls t was y sure c replays-at.0 replays-at.1 mode-at flags ∙ sym (ap received at);
         }
 
     pub recalls-at : Recalls t (process_at m t.who.me) y
@@ -225,5 +225,5 @@ module _ (i : Inside) (s : IsSound i) (m : TheMachine) (view_is : view_of i ≡ 
     recalled-view = λ j. record (view_is j) { processes = set (view_is j).processes (p_is j - 1) y }
 
     -- of whose plan one message more is replayed
-    pub stage-then : y.stage ≡ stages.Replaying (record replays-at.0 { replayed = replays-at.0.replayed + 1 }) replays-at.1
-    stage-then = c.stage ∙ ap advanced stage-at
+    pub mode-then : y.mode ≡ modes.Replaying (record replays-at.0 { replayed = replays-at.0.replayed + 1 }) replays-at.1
+    mode-then = c.mode ∙ ap advanced mode-at

@@ -16,9 +16,9 @@ use Rattle.world.specs.World.{World}
 use Rattle.world.specs.Logs.{length_of, state_of, open_in, open_message}
 use Rattle.machine.specs.Process.{TheProcess, idle_process, received}
 use Rattle.machine.specs.Simulation.{TheMachine, StandsAt, Stands, process_at}
-use Rattle.machine.specs.Stage.{is_lost, phase_of, MayWork}
-use Rattle.machine.specs.declared.stage.Stage.{Stage}
-use Rattle.machine.specs.declared.stage.Stage.TheVariants as stages
+use Rattle.machine.specs.Mode.{is_lost, phase_of, MayWork}
+use Rattle.machine.specs.declared.mode.Mode.{Mode}
+use Rattle.machine.specs.declared.mode.Mode.TheVariants as modes
 use Rattle.machine.specs.Jobs.{Begins, Matches}
 use Rattle.machine.specs.Arrival.{HasCode, HasForm, IsOpen}
 use Rattle.machine.proofs.Standing.{at_process, down_is}
@@ -29,23 +29,23 @@ pub slice_get-behind : {X : Type 0} (xs ys : List X) (j : ℕ) → slice_get (xs
 slice_get-behind [] ys j = let e : 0 + j ≡ j = omega arith in ap (slice_get ys) e
 slice_get-behind (x ∷ xs) ys j = let e : suc (length xs) + j ≡ suc (length xs + j) = omega arith in ap (slice_get (x ∷ xs ++ ys)) e ∙ slice_get-behind xs ys j
 
--- the message that a process in this stage works on is its open one: a replayed one is the next of its history
-open_in-phase_of : (n : ℕ) (t : Stage) (o : Option Message) (saved : ℕ) (h : List Message) → saved ≤ length h → MayWork t o saved h → open_in h saved (phase_of n t o) ≡ o
-open_in-phase_of n stages.Live None saved h l may = refl
-open_in-phase_of n stages.Live (Some m) saved h l may = refl
-open_in-phase_of n stages.Down o saved h l may = sym may
-open_in-phase_of n (stages.Resync peers) o saved h l may = sym may
-open_in-phase_of n (stages.Replaying plan alone) None saved h l may = refl
-open_in-phase_of n (stages.Replaying plan alone) (Some m) saved h l may =
+-- the message that a process in this mode works on is its open one: a replayed one is the next of its history
+open_in-phase_of : (n : ℕ) (t : Mode) (o : Option Message) (saved : ℕ) (h : List Message) → saved ≤ length h → MayWork t o saved h → open_in h saved (phase_of n t o) ≡ o
+open_in-phase_of n modes.Live None saved h l may = refl
+open_in-phase_of n modes.Live (Some m) saved h l may = refl
+open_in-phase_of n modes.Down o saved h l may = sym may
+open_in-phase_of n (modes.Resync peers) o saved h l may = sym may
+open_in-phase_of n (modes.Replaying plan alone) None saved h l may = refl
+open_in-phase_of n (modes.Replaying plan alone) (Some m) saved h l may =
     let at : saved + plan.replayed + 1 ≡ suc (length (take saved h) + plan.replayed) = omega (arith, take-length h saved l) in
     ap (nth h) at ∙ ap (λ xs. slice_get xs (length (take saved h) + plan.replayed)) (sym may.messages) ∙ slice_get-behind (take saved h) plan.messages plan.replayed ∙ may.next
 
 -- a process that works isn't down
-working-back : (t : Stage) (o : Option Message) (saved : ℕ) (h : List Message) (x : Message) → MayWork t o saved h → o ≡ Some x → is_lost t ≡ false
-working-back stages.Live o saved h x may e = refl
-working-back stages.Down o saved h x may e = absurd (cc)
-working-back (stages.Replaying plan alone) o saved h x may e = refl
-working-back (stages.Resync peers) o saved h x may e = refl
+working-back : (t : Mode) (o : Option Message) (saved : ℕ) (h : List Message) (x : Message) → MayWork t o saved h → o ≡ Some x → is_lost t ≡ false
+working-back modes.Live o saved h x may e = refl
+working-back modes.Down o saved h x may e = absurd (cc)
+working-back (modes.Replaying plan alone) o saved h x may e = refl
+working-back (modes.Resync peers) o saved h x may e = refl
 
 -- an element by its number, from 1, is the one at the place before
 pub nth-inside : {X : Type 0} (xs : List X) (p : ℕ) (d : X) → 0 < p → p ≤ length xs → nth xs p ≡ Some (slice_index_or xs (p - 1) d)
@@ -65,14 +65,14 @@ module _ (m : TheMachine) (t : TheTask) (w : World) (s : Stands m w) where
     at = at_process m w s t.who.me inside within
 
     open_is : open_message w t.who.me ≡ (process_at m t.who.me).working
-    open_is = ap (open_in (w.history t.who.me) (w.saved t.who.me)) at.phase_is ∙ open_in-phase_of (length m.processes) (process_at m t.who.me).stage (process_at m t.who.me).working (w.saved t.who.me) (w.history t.who.me) (s.sound.saved t.who.me) at.works
+    open_is = ap (open_in (w.history t.who.me) (w.saved t.who.me)) at.phase_is ∙ open_in-phase_of (length m.processes) (process_at m t.who.me).mode (process_at m t.who.me).working (w.saved t.who.me) (w.history t.who.me) (s.sound.saved t.who.me) at.works
 
     incarnation_is : w.incarnation t.who.me ≡ (process_at m t.who.me).incarnation
     incarnation_is = at.incarnation_is
 
     module _ (working : (process_at m t.who.me).working ≡ Some t.message) where
-      lost : is_lost (process_at m t.who.me).stage ≡ false
-      lost = working-back (process_at m t.who.me).stage (process_at m t.who.me).working (w.saved t.who.me) (w.history t.who.me) t.message at.works working
+      lost : is_lost (process_at m t.who.me).mode ≡ false
+      lost = working-back (process_at m t.who.me).mode (process_at m t.who.me).working (w.saved t.who.me) (w.history t.who.me) t.message at.works working
 
       rsn_is : received (process_at m t.who.me) + 1 ≡ length_of w t.who.me + 1
       rsn_is = ap (λ j. j + 1) (length-back m w s t.who.me inside within lost)

@@ -235,4 +235,4 @@ up-but n p m w b q positive within other =
     let apart : (q == 0) ≡ false = grind (arith, nat_tests) in
     let back : suc (q - 1) ≡ q = omega arith in
     let at = subst (λ i. StandsFor w n i (process_at m q) (life w i)) back (b.process (q - 1) (idle_process 0 0 0) (omega arith) (λ e. other (sym back ∙ e))) in
-    rw apart (sym (is_up-phase_of n (process_at m q).stage (process_at m q).working) ∙ ap is_up (sym at.phase_is))
+    rw apart (sym (is_up-phase_of n (process_at m q).mode (process_at m q).working) ∙ ap is_up (sym at.phase_is))

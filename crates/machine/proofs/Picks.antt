@@ -24,9 +24,9 @@ use Rattle.world.specs.declared.refusal.Refusal.TheVariants.{NoSuchProcess, NotU
 use Rattle.world.specs.Refusals.{least, refusal_of, cause_of}
 use Rattle.world.specs.Useful.{belongs, is_at, wants, works_on, is_unacknowledged, is_useful}
 use Rattle.machine.specs.Wire.{AreListed}
-use Rattle.machine.specs.declared.stage.Stage.{Stage}
-use Rattle.machine.specs.declared.stage.Stage.TheVariants as stages
-use Rattle.machine.specs.Stage.{is_live, phase_of}
+use Rattle.machine.specs.declared.mode.Mode.{Mode}
+use Rattle.machine.specs.declared.mode.Mode.TheVariants as modes
+use Rattle.machine.specs.Mode.{is_live, phase_of}
 use Rattle.machine.specs.Simulation.{TheMachine, StandsAt, Stands, process_at, log_at, is_up_at, IsTold}
 use Rattle.machine.specs.Sending.{busy, live, placing, released_at}
 use Rattle.machine.specs.Picking.{IsPick, ArePeers, next_ssn}
@@ -143,19 +143,19 @@ neither_or : (a b c : Bool) → b ≡ false → ((not a && b) || c) ≡ c
 neither_or true b c e = refl
 neither_or false b c e = rw e refl
 
-works_on-phase_of : (n : ℕ) (t : Stage) (o : Option Message) (from i : ℕ) → is_live t ≡ true → works_on (phase_of n t o) from i ≡ works_on (phase_of 0 stages.Live o) from i
-works_on-phase_of n stages.Live None from i e = refl
-works_on-phase_of n stages.Live (Some x) from i e = refl
-works_on-phase_of n stages.Down o from i e = absurd (true≢false (sym e))
-works_on-phase_of n (stages.Replaying plan alone) o from i e = absurd (true≢false (sym e))
-works_on-phase_of n (stages.Resync peers) o from i e = absurd (true≢false (sym e))
+works_on-phase_of : (n : ℕ) (t : Mode) (o : Option Message) (from i : ℕ) → is_live t ≡ true → works_on (phase_of n t o) from i ≡ works_on (phase_of 0 modes.Live o) from i
+works_on-phase_of n modes.Live None from i e = refl
+works_on-phase_of n modes.Live (Some x) from i e = refl
+works_on-phase_of n modes.Down o from i e = absurd (true≢false (sym e))
+works_on-phase_of n (modes.Replaying plan alone) o from i e = absurd (true≢false (sym e))
+works_on-phase_of n (modes.Resync peers) o from i e = absurd (true≢false (sym e))
 
 module _ (m : TheMachine) (w : World) (s : Stands m w) (from to i : ℕ) (inside : 0 < to) (within : to ≤ length m.processes) (up_to : is_up_at m to ≡ true) (first : 0 < i) where
   up : is_up (w.phase to) ≡ true
   up = up_at m w s to within up_to
 
   -- the next of its sender isn't wanted only by a process that works on it
-  pub wants-next : i ≡ next_ssn w from to → wants w from to i ≡ not (works_on (phase_of 0 stages.Live (process_at m to).working) from i)
+  pub wants-next : i ≡ next_ssn w from to → wants w from to i ≡ not (works_on (phase_of 0 modes.Live (process_at m to).working) from i)
   wants-next e =
       let at : i ≡ suc (count_of from (w.history to)) = e ∙ next-is w from to inside in
       let same : (i == suc (count_of from (w.history to))) ≡ true = grind (arith, nat_tests) in
@@ -163,7 +163,7 @@ module _ (m : TheMachine) (w : World) (s : Stands m w) (from to i : ℕ) (inside
       wants-inside w from to i inside
       ∙ rw (up, none) (or_false (works_on (w.phase to) from i) (i == suc (count_of from (w.history to))) same)
       ∙ ap (λ q. not (works_on q from i)) (at_process m w s to inside within).phase_is
-      ∙ ap not (works_on-phase_of (length m.processes) (process_at m to).stage (process_at m to).working from i (is_live-at m to inside up_to))
+      ∙ ap not (works_on-phase_of (length m.processes) (process_at m to).mode (process_at m to).working from i (is_live-at m to inside up_to))
 
   -- another is wanted where its number isn't acknowledged
   pub wants-other : i ≢ next_ssn w from to → wants w from to i ≡ is_unacknowledged (w.acknowledged to) (rsn_of (w.history to) from i)

@@ -15,9 +15,9 @@ use Rattle.world.specs.World.{World}
 use Rattle.world.specs.Logs.{length_in, length_of, state_of}
 use Rattle.machine.specs.Process.{received}
 use Rattle.machine.specs.Outbox.{TheOutbox}
-use Rattle.machine.specs.Stage.{is_lost, held_by, phase_of}
-use Rattle.machine.specs.declared.stage.Stage.{Stage}
-use Rattle.machine.specs.declared.stage.Stage.TheVariants as stages
+use Rattle.machine.specs.Mode.{is_lost, held_by, phase_of}
+use Rattle.machine.specs.declared.mode.Mode.{Mode}
+use Rattle.machine.specs.declared.mode.Mode.TheVariants as modes
 use Rattle.machine.specs.Simulation.{TheMachine, StandsAt, Stands, process_at, log_at, gate_at}
 use Rattle.machine.specs.Reading.{ReceiptsStand, LogStands, GateStands}
 use Rattle.machine.proofs.Standing.{at_process, down_is, held_at, keeps_at, holds_at}
@@ -38,18 +38,18 @@ length_in-down Down h saved e = refl
 length_in-down (Replaying j working alone) h saved e = absurd (false≢true e)
 length_in-down (Resync todo) h saved e = absurd (false≢true e)
 
-held-lost : (t : Stage) (saved : ℕ) (h : List Message) → is_lost t ≡ true → held_by t saved h ≡ []
-held-lost stages.Live saved h e = absurd (false≢true e)
-held-lost stages.Down saved h e = refl
-held-lost (stages.Replaying plan alone) saved h e = absurd (false≢true e)
-held-lost (stages.Resync peers) saved h e = absurd (false≢true e)
+held-lost : (t : Mode) (saved : ℕ) (h : List Message) → is_lost t ≡ true → held_by t saved h ≡ []
+held-lost modes.Live saved h e = absurd (false≢true e)
+held-lost modes.Down saved h e = refl
+held-lost (modes.Replaying plan alone) saved h e = absurd (false≢true e)
+held-lost (modes.Resync peers) saved h e = absurd (false≢true e)
 
--- the phase's name, by the stage and the open job
-pub name-up : (n : ℕ) (o : Option Message) → is_some o ≡ false → name_of (phase_of n stages.Live o) ≡ names.Up
+-- the phase's name, by the mode and the open job
+pub name-up : (n : ℕ) (o : Option Message) → is_some o ≡ false → name_of (phase_of n modes.Live o) ≡ names.Up
 name-up n None e = refl
 name-up n (Some m) e = absurd (true≢false e)
 
-pub name-busy : (n : ℕ) (o : Option Message) → is_some o ≡ true → name_of (phase_of n stages.Live o) ≡ names.Busy
+pub name-busy : (n : ℕ) (o : Option Message) → is_some o ≡ true → name_of (phase_of n modes.Live o) ≡ names.Busy
 name-busy n None e = absurd (false≢true e)
 name-busy n (Some m) e = refl
 
@@ -57,35 +57,35 @@ module _ (m : TheMachine) (w : World) (s : Stands m w) (p : ℕ) (inside : 0 < p
   at : StandsAt (length m.processes) p (process_at m p) (w.handlers.state p) (w.handlers.sends p) (w.history p) (w.phase p) (w.incarnation p) (w.acknowledged p) (w.saved p) (w.saved_trims p)
   at = at_process m w s p inside within
 
-  stage_is : (b : Bool) → is_down (w.phase p) ≡ b → is_lost (process_at m p).stage ≡ b
-  stage_is b e = sym (down_is m w s p inside within) ∙ e
+  mode_is : (b : Bool) → is_down (w.phase p) ≡ b → is_lost (process_at m p).mode ≡ b
+  mode_is b e = sym (down_is m w s p inside within) ∙ e
 
   -- one that isn't down has the state of its history
   pub state-back : is_down (w.phase p) ≡ false → (process_at m p).state ≡ state_of w p
   state-back e =
-      let back : is_lost (process_at m p).stage ≡ false = stage_is false e in
+      let back : is_lost (process_at m p).mode ≡ false = mode_is false e in
       at.state_is back ∙ ap (w.handlers.state p) (sym (held_at m w s p inside within back))
 
   -- one that is down has none
   pub state-gone : is_down (w.phase p) ≡ true → (process_at m p).state ≡ []
-  state-gone e = (at.gone (stage_is true e)).0
+  state-gone e = (at.gone (mode_is true e)).0
 
   -- one that has its state has as many messages in it as it received
-  pub length-back : is_lost (process_at m p).stage ≡ false → received (process_at m p) ≡ length_of w p
+  pub length-back : is_lost (process_at m p).mode ≡ false → received (process_at m p) ≡ length_of w p
   length-back back =
-      ap length at.senders ∙ length-map (held_by (process_at m p).stage (w.saved p) (w.history p)) (λ (x : Message). x.sender)
+      ap length at.senders ∙ length-map (held_by (process_at m p).mode (w.saved p) (w.history p)) (λ (x : Message). x.sender)
       ∙ ap length (sym (held_at m w s p inside within back))
       ∙ take-length (w.history p) (length_of w p) (length_in-within (w.phase p) (w.history p) (w.saved p) (s.sound.saved p) (s.sound.replays p))
 
   -- one that is down, as many as its checkpoint
-  pub length-gone : is_lost (process_at m p).stage ≡ true → length (process_at m p).saved.senders ≡ length_of w p
+  pub length-gone : is_lost (process_at m p).mode ≡ true → length (process_at m p).saved.senders ≡ length_of w p
   length-gone lost =
       ap length at.saves.senders_are ∙ length-map (take (w.saved p) (w.history p)) (λ (x : Message). x.sender)
       ∙ take-length (w.history p) (w.saved p) (s.sound.saved p)
       ∙ sym (length_in-down (w.phase p) (w.history p) (w.saved p) (down_is m w s p inside within ∙ lost))
 
   -- its phase, incarnation, receipts and gate are those of the world
-  pub phase-is : w.phase p ≡ phase_of (length m.processes) (process_at m p).stage (process_at m p).working
+  pub phase-is : w.phase p ≡ phase_of (length m.processes) (process_at m p).mode (process_at m p).working
   phase-is = at.phase_is
 
   pub incarnation-is : (process_at m p).incarnation ≡ w.incarnation p
@@ -94,8 +94,8 @@ module _ (m : TheMachine) (w : World) (s : Stands m w) (p : ℕ) (inside : 0 < p
   pub receipts-stand : ReceiptsStand w p (process_at m p).receipts
   receipts-stand =
       record {
-        senders = λ e. at.senders ∙ ap (map (λ (x : Message). x.sender)) (sym (held_at m w s p inside within (stage_is false e)));
-        none = λ e. at.senders ∙ ap (map (λ (x : Message). x.sender)) (held-lost (process_at m p).stage (w.saved p) (w.history p) (stage_is true e));
+        senders = λ e. at.senders ∙ ap (map (λ (x : Message). x.sender)) (sym (held_at m w s p inside within (mode_is false e)));
+        none = λ e. at.senders ∙ ap (map (λ (x : Message). x.sender)) (held-lost (process_at m p).mode (w.saved p) (w.history p) (mode_is true e));
         flags = at.flags;
         acknowledged = at.acknowledged_is;
       }

@@ -21,8 +21,8 @@ use Rattle.theorems.proofs.ListLemmas.{take-all, take-length, take-next}
 use Rattle.theorems.proofs.RunLemmas.{run_to-whole}
 use Rattle.machine.specs.Process.{TheProcess, received, advanced, Recalls}
 use Rattle.machine.specs.Stable.{Saves}
-use Rattle.machine.specs.Stage.{is_lost, held_by, phase_of, MayWork, Replays}
-use Rattle.machine.specs.declared.stage.Stage.TheVariants as stages
+use Rattle.machine.specs.Mode.{is_lost, held_by, phase_of, MayWork, Replays}
+use Rattle.machine.specs.declared.mode.Mode.TheVariants as modes
 use Rattle.machine.specs.Fields.{IsLogOf}
 use Rattle.machine.specs.Recovering.{SettlesAt}
 use Rattle.machine.specs.Simulation.{TheMachine, StandsAt, Keeps, Shows, Stands, Steps, process_at, log_at, is_up_at}
@@ -39,7 +39,7 @@ use Rattle.machine.proofs.Others.{life, others, together, replaced, now_at, but-
 use Rattle.machine.proofs.Settling.{IsCaughtUp, peers-are, peers-within, settled}
 
 module _ (m : TheMachine) (w : World) (s : Stands m w) (t : TheTask) (k : Matches m t) (a : IsAnswer t (answer_of t)) (sizes : length m.images ≡ length m.processes) (y : TheProcess) (c : Recalls t (process_at m t.who.me) y)
-    (plan : ThePlan) (alone : Bool) (stage_is : (process_at m t.who.me).stage ≡ stages.Replaying plan alone) (log_of : IsLogOf (length m.processes) t.who.me (process_at m t.who.me).outbox.log) where
+    (plan : ThePlan) (alone : Bool) (mode_is : (process_at m t.who.me).mode ≡ modes.Replaying plan alone) (log_of : IsLogOf (length m.processes) t.who.me (process_at m t.who.me).outbox.log) where
   abbrev n : ℕ
   n = length m.processes
 
@@ -67,10 +67,10 @@ module _ (m : TheMachine) (w : World) (s : Stands m w) (t : TheTask) (k : Matche
 
   -- its message is the next of the plan
   pub works : Replays plan (Some x) (w.saved me) h
-  works = subst (λ z. MayWork z (Some x) (w.saved me) h) stage_is (subst (λ o. MayWork was.stage o (w.saved me) h) k.message at_me.works)
+  works = subst (λ z. MayWork z (Some x) (w.saved me) h) mode_is (subst (λ o. MayWork was.mode o (w.saved me) h) k.message at_me.works)
 
   phase_was : w.phase me ≡ Replaying plan.replayed true alone
-  phase_was = at_me.phase_is ∙ (λ i. phase_of n (stage_is i) (k.message i))
+  phase_was = at_me.phase_is ∙ (λ i. phase_of n (mode_is i) (k.message i))
 
   -- not the outside
   apart : (me == 0) ≡ false
@@ -109,10 +109,10 @@ module _ (m : TheMachine) (w : World) (s : Stands m w) (t : TheTask) (k : Matche
   gx_is = let at : w.saved me + (plan.replayed + 1) ≡ suc count = omega arith in ap (λ j. take j h) at ∙ take-next h count x next_is
 
   state_was : was.state ≡ w.handlers.state me g
-  state_was = at_me.state_is (ap is_lost stage_is) ∙ ap (λ z. w.handlers.state me (held_by z (w.saved me) h)) stage_is
+  state_was = at_me.state_is (ap is_lost mode_is) ∙ ap (λ z. w.handlers.state me (held_by z (w.saved me) h)) mode_is
 
   senders_was : was.receipts.senders ≡ senders g
-  senders_was = at_me.senders ∙ ap (λ z. senders (held_by z (w.saved me) h)) stage_is
+  senders_was = at_me.senders ∙ ap (λ z. senders (held_by z (w.saved me) h)) mode_is
 
   received_was : received was ≡ count
   received_was = ap length senders_was ∙ length-map g (λ (z : Message). z.sender) ∙ take-length h count (omega (arith, more))
@@ -127,8 +127,8 @@ module _ (m : TheMachine) (w : World) (s : Stands m w) (t : TheTask) (k : Matche
   recovering = s.sound.recovering me (ap is_recovering phase_was)
 
   -- and what it has then
-  stage_now : y.stage ≡ stages.Replaying then alone
-  stage_now = c.stage ∙ ap advanced stage_is
+  mode_now : y.mode ≡ modes.Replaying then alone
+  mode_now = c.mode ∙ ap advanced mode_is
 
   state_now : y.state ≡ w.handlers.state me gx
   state_now = c.state ∙ sym (state_after m w s t k a sizes g state_was)
@@ -202,26 +202,26 @@ module _ (m : TheMachine) (w : World) (s : Stands m w) (t : TheTask) (k : Matche
     goes_on : nat_lt (w.saved me + suc plan.replayed) (length h) ≡ true
     goes_on = grind (arith, nat_tests, whole, left)
 
-    held_now : held_by y.stage (w.saved me) h ≡ gx
-    held_now = ap (λ z. held_by z (w.saved me) h) stage_now ∙ gx_is
+    held_now : held_by y.mode (w.saved me) h ≡ gx
+    held_now = ap (λ z. held_by z (w.saved me) h) mode_now ∙ gx_is
 
     works_now : Replays then None (w.saved me) h
     works_now = record { before = works.before; messages = works.messages; left = left; next = tt }
 
-    phase_now : Replaying (suc plan.replayed) false alone ≡ phase_of n y.stage y.working
-    phase_now = let one : suc plan.replayed ≡ plan.replayed + 1 = omega arith in ap (λ j. Replaying j false alone) one ∙ sym (λ i. phase_of n (stage_now i) (c.working i))
+    phase_now : Replaying (suc plan.replayed) false alone ≡ phase_of n y.mode y.working
+    phase_now = let one : suc plan.replayed ≡ plan.replayed + 1 = omega arith in ap (λ j. Replaying j false alone) one ∙ sym (λ i. phase_of n (mode_now i) (c.working i))
 
     here : StandsAt n me y (w.handlers.state me) (w.handlers.sends me) h (Replaying (suc plan.replayed) false alone) (w.incarnation me) (w.acknowledged me) (w.saved me) (w.saved_trims me)
     here =
         record {
           state_is = λ e. state_now ∙ sym (ap (w.handlers.state me) held_now);
-          gone = λ e. absurd (false≢true (sym (ap is_lost stage_now) ∙ e));
+          gone = λ e. absurd (false≢true (sym (ap is_lost mode_now) ∙ e));
           senders = senders_now ∙ sym (ap senders held_now);
           flags = flags_now;
           acknowledged_is = acknowledged_now;
           in_order = at_me.in_order;
           phase_is = phase_now;
-          works = subst (λ z. MayWork z y.working (w.saved me) h) (sym stage_now) (subst (λ o. Replays then o (w.saved me) h) (sym c.working) works_now);
+          works = subst (λ z. MayWork z y.working (w.saved me) h) (sym mode_now) (subst (λ o. Replays then o (w.saved me) h) (sym c.working) works_now);
           incarnation_is = at_me.incarnation_is ∙ sym c.incarnation;
           saves = saves_now;
         }

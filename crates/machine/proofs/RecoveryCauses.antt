@@ -12,7 +12,7 @@ use Rattle.machine.specs.Simulation.{TheMachine, Stands, process_at, is_up_at}
 use Rattle.machine.specs.Process.{TheProcess, idle_process}
 use Rattle.machine.specs.Sending.{busy}
 use Rattle.machine.specs.Recovering.{returning}
-use Rattle.machine.specs.Stage.{is_live, is_lost}
+use Rattle.machine.specs.Mode.{is_live, is_lost}
 use Rattle.machine.proofs.Standing.{jobs, at_process, up_is, down_is, is_working-phase_of, is_busy-phase_of}
 
 -- a journal has no place for a call where its room is no more than the open jobs
@@ -79,7 +79,7 @@ module _ (m : TheMachine) (w : World) (s : Stands m w) (room p : ℕ) where
     working_is : is_working (w.phase p) ≡ is_some (process_at m p).working
     working_is = let at = at_process m w s p positive within in ap is_working at.phase_is ∙ is_working-phase_of _ _ _ _ _ at.works
 
-    busy_is : is_busy (w.phase p) ≡ (is_live (process_at m p).stage && is_some (process_at m p).working)
+    busy_is : is_busy (w.phase p) ≡ (is_live (process_at m p).mode && is_some (process_at m p).working)
     busy_is = ap is_busy (at_process m w s p positive within).phase_is ∙ is_busy-phase_of _ _ _
 
     -- a checkpoint
@@ -87,10 +87,10 @@ module _ (m : TheMachine) (w : World) (s : Stands m w) (room p : ℕ) where
     checkpoint-down down = rw (inside, up_is m w s p within, down) refl
 
     module _ (up : is_up_at m p ≡ true) where
-      pub checkpoint-busy : (is_live (process_at m p).stage && is_some (process_at m p).working) ≡ true → refusal_of w room (Checkpoint p) ≡ Some 3
+      pub checkpoint-busy : (is_live (process_at m p).mode && is_some (process_at m p).working) ≡ true → refusal_of w room (Checkpoint p) ≡ Some 3
       checkpoint-busy works = rw (inside, up_is m w s p within, up, busy_is, works) refl
 
-      module _ (idle : (is_live (process_at m p).stage && is_some (process_at m p).working) ≡ false) where
+      module _ (idle : (is_live (process_at m p).mode && is_some (process_at m p).working) ≡ false) where
         pub checkpoint-full : room ≤ busy m → refusal_of w room (Checkpoint p) ≡ Some 12
         checkpoint-full full = rw (inside, up_is m w s p within, up, busy_is, idle, jobs m w s, late room (busy m) full) refl
 
@@ -98,7 +98,7 @@ module _ (m : TheMachine) (w : World) (s : Stands m w) (room p : ℕ) where
         checkpoint-free free = rw (inside, up_is m w s p within, up, busy_is, idle, jobs m w s, early room (busy m) free) refl
 
     -- a crash
-    pub crash-down : is_lost (process_at m p).stage ≡ true → refusal_of w room (Crash p) ≡ Some 2
+    pub crash-down : is_lost (process_at m p).mode ≡ true → refusal_of w room (Crash p) ≡ Some 2
     crash-down lost = rw (inside, down_is m w s p positive within, lost) refl
 
     -- one process works, or more
@@ -111,7 +111,7 @@ module _ (m : TheMachine) (w : World) (s : Stands m w) (room p : ℕ) where
         by_first false = omega arith
     one-works (x ∷ xs) (suc k) d h = let onward = one-works xs k d (omega (arith, h)) in omega (arith, onward, sum_by-cons (λ (z : TheProcess). cond (is_some z.working) 1 0) x xs)
 
-    module _ (back : is_lost (process_at m p).stage ≡ false) where
+    module _ (back : is_lost (process_at m p).mode ≡ false) where
       own : ℕ
       own = one_if (is_some (process_at m p).working)
 
@@ -136,19 +136,19 @@ module _ (m : TheMachine) (w : World) (s : Stands m w) (room p : ℕ) where
     recover-peer other = rw (inside, other) refl
 
     -- one that may come back
-    return-is : (lost full : Bool) → is_lost (process_at m p).stage ≡ lost → nat_le room (busy m) ≡ full
-        → least ((not (is_lost (process_at m p).stage), 10) ∷ (nat_lt room (busy m + 1), 12) ∷ []) ≡ option_and_then cause_of (returning m room p)
+    return-is : (lost full : Bool) → is_lost (process_at m p).mode ≡ lost → nat_le room (busy m) ≡ full
+        → least ((not (is_lost (process_at m p).mode), 10) ∷ (nat_lt room (busy m + 1), 12) ∷ []) ≡ option_and_then cause_of (returning m room p)
     return-is false full e f = rw e refl
     return-is true true e f = rw (e, f, late room (busy m) (grind (arith, nat_tests))) refl
     return-is true false e f = rw (e, f, early room (busy m) (grind (arith, nat_tests))) refl
 
     -- past these causes, `returning` tells why p doesn't come back
     pub recover-rest : others_up w p ≡ true → refusal_of w room (Recover p) ≡ option_and_then cause_of (returning m room p)
-    recover-rest up = rw (inside, up, down_is m w s p positive within, jobs m w s) (return-is (is_lost (process_at m p).stage) (nat_le room (busy m)) refl refl)
+    recover-rest up = rw (inside, up, down_is m w s p positive within, jobs m w s) (return-is (is_lost (process_at m p).mode) (nat_le room (busy m)) refl refl)
 
     -- and so it does of p alone
     pub alone-rest : refusal_of w room (RecoverAlone p) ≡ option_and_then cause_of (returning m room p)
-    alone-rest = rw (inside, down_is m w s p positive within, jobs m w s) (return-is (is_lost (process_at m p).stage) (nat_le room (busy m)) refl refl)
+    alone-rest = rw (inside, down_is m w s p positive within, jobs m w s) (return-is (is_lost (process_at m p).mode) (nat_le room (busy m)) refl refl)
 
   -- a trim
   pub trim-outside : length m.processes < p → refusal_of w room (Trim p) ≡ Some 1

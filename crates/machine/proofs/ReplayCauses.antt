@@ -8,21 +8,21 @@ use Rattle.world.specs.declared.call.Call.TheVariants.{ReplayBegin, Resync as Re
 use Rattle.world.specs.Phases.{is_working, is_replaying, todo_of, has, those}
 use Rattle.world.specs.World.{World}
 use Rattle.world.specs.Refusals.{refusal_of}
-use Rattle.machine.specs.declared.stage.Stage.{Stage}
-use Rattle.machine.specs.declared.stage.Stage.TheVariants as stages
-use Rattle.machine.specs.Stage.{phase_of, next_job, is_to_do, MayWork}
+use Rattle.machine.specs.declared.mode.Mode.{Mode}
+use Rattle.machine.specs.declared.mode.Mode.TheVariants as modes
+use Rattle.machine.specs.Mode.{phase_of, next_job, is_to_do, MayWork}
 use Rattle.machine.specs.Simulation.{TheMachine, Stands, process_at, is_up_at}
 use Rattle.machine.specs.Sending.{busy}
 use Rattle.machine.proofs.Standing.{jobs, at_process, up_is, is_working-phase_of}
 use Rattle.machine.proofs.RecoveryCauses.{late, early}
 
 -- a process that replays has a message to replay
-is_replaying-phase_of : (n : ℕ) (t : Stage) (o : Option Message) (saved : ℕ) (h : List Message) → MayWork t o saved h → is_replaying (phase_of n t o) ≡ is_some (next_job t)
-is_replaying-phase_of n stages.Live None saved h may = refl
-is_replaying-phase_of n stages.Live (Some m) saved h may = refl
-is_replaying-phase_of n stages.Down o saved h may = refl
-is_replaying-phase_of n (stages.Replaying plan alone) o saved h may = sym (ap is_some (slice_get-get_or plan.messages plan.replayed (record { sender = 0; ssn = 0; payload = [] }) may.left))
-is_replaying-phase_of n (stages.Resync peers) o saved h may = refl
+is_replaying-phase_of : (n : ℕ) (t : Mode) (o : Option Message) (saved : ℕ) (h : List Message) → MayWork t o saved h → is_replaying (phase_of n t o) ≡ is_some (next_job t)
+is_replaying-phase_of n modes.Live None saved h may = refl
+is_replaying-phase_of n modes.Live (Some m) saved h may = refl
+is_replaying-phase_of n modes.Down o saved h may = refl
+is_replaying-phase_of n (modes.Replaying plan alone) o saved h may = sym (ap is_some (slice_get-get_or plan.messages plan.replayed (record { sender = 0; ssn = 0; payload = [] }) may.left))
+is_replaying-phase_of n (modes.Resync peers) o saved h may = refl
 
 -- the list of those that pass a test has these, up to n
 has-those : (f : ℕ → Bool) (n r : ℕ) → has (those f n) r ≡ (nat_lt 0 r && nat_le r n && f r)
@@ -58,21 +58,21 @@ none true = refl
 none false = refl
 
 -- the peers that are still to do
-todo-phase_of : (n : ℕ) (t : Stage) (o : Option Message) (r : ℕ) → has (todo_of (phase_of n t o)) r ≡ (nat_lt 0 r && nat_le r n && is_to_do t r)
-todo-phase_of n stages.Live None r = sym (none (nat_lt 0 r && nat_le r n))
-todo-phase_of n stages.Live (Some m) r = sym (none (nat_lt 0 r && nat_le r n))
-todo-phase_of n stages.Down o r = sym (none (nat_lt 0 r && nat_le r n))
-todo-phase_of n (stages.Replaying plan alone) o r = sym (none (nat_lt 0 r && nat_le r n))
-todo-phase_of n (stages.Resync peers) o r = has-those (λ q. slice_index_or peers.todo q false) n r
+todo-phase_of : (n : ℕ) (t : Mode) (o : Option Message) (r : ℕ) → has (todo_of (phase_of n t o)) r ≡ (nat_lt 0 r && nat_le r n && is_to_do t r)
+todo-phase_of n modes.Live None r = sym (none (nat_lt 0 r && nat_le r n))
+todo-phase_of n modes.Live (Some m) r = sym (none (nat_lt 0 r && nat_le r n))
+todo-phase_of n modes.Down o r = sym (none (nat_lt 0 r && nat_le r n))
+todo-phase_of n (modes.Replaying plan alone) o r = sym (none (nat_lt 0 r && nat_le r n))
+todo-phase_of n (modes.Resync peers) o r = has-those (λ q. slice_index_or peers.todo q false) n r
 
 module _ (m : TheMachine) (w : World) (s : Stands m w) (p : ℕ) (positive : 0 < p) (within : p ≤ length m.processes) where
   pub working-is : is_working (w.phase p) ≡ is_some (process_at m p).working
   working-is = let at = at_process m w s p positive within in ap is_working at.phase_is ∙ is_working-phase_of _ _ _ _ _ at.works
 
-  pub replaying-is : is_replaying (w.phase p) ≡ is_some (next_job (process_at m p).stage)
+  pub replaying-is : is_replaying (w.phase p) ≡ is_some (next_job (process_at m p).mode)
   replaying-is = let at = at_process m w s p positive within in ap is_replaying at.phase_is ∙ is_replaying-phase_of _ _ _ _ _ at.works
 
-  pub todo-is : (r : ℕ) → has (todo_of (w.phase p)) r ≡ (nat_lt 0 r && nat_le r (length m.processes) && is_to_do (process_at m p).stage r)
+  pub todo-is : (r : ℕ) → has (todo_of (w.phase p)) r ≡ (nat_lt 0 r && nat_le r (length m.processes) && is_to_do (process_at m p).mode r)
   todo-is r = ap (λ x. has (todo_of x) r) (at_process m w s p positive within).phase_is ∙ todo-phase_of _ _ _ r
 
 module _ (m : TheMachine) (w : World) (s : Stands m w) (room p : ℕ) where
@@ -87,10 +87,10 @@ module _ (m : TheMachine) (w : World) (s : Stands m w) (room p : ℕ) where
     replay-busy works = rw (inside, working-is m w s p positive within, works) refl
 
     module _ (idle : is_some (process_at m p).working ≡ false) where
-      pub replay-nothing : is_some (next_job (process_at m p).stage) ≡ false → refusal_of w room (ReplayBegin p) ≡ Some 11
+      pub replay-nothing : is_some (next_job (process_at m p).mode) ≡ false → refusal_of w room (ReplayBegin p) ≡ Some 11
       replay-nothing none = rw (inside, working-is m w s p positive within, idle, replaying-is m w s p positive within, none) refl
 
-      module _ (left : is_some (next_job (process_at m p).stage) ≡ true) where
+      module _ (left : is_some (next_job (process_at m p).mode) ≡ true) where
         pub replay-full : room ≤ busy m + 1 → refusal_of w room (ReplayBegin p) ≡ Some 12
         replay-full full = rw (inside, working-is m w s p positive within, idle, replaying-is m w s p positive within, left, jobs m w s, late room (busy m + 1) full) refl
 

@@ -20,9 +20,9 @@ use Rattle.world.specs.declared.refusal.Refusal.TheVariants.{Memory}
 use Rattle.world.specs.Refusals.{refusal_of, cause_of}
 use Rattle.theorems.proofs.ListLemmas.{take-length}
 use Rattle.machine.specs.Process.{TheProcess}
-use Rattle.machine.specs.Stage.{phase_of, next_job, MayWork, Replays}
-use Rattle.machine.specs.declared.stage.Stage.{Stage}
-use Rattle.machine.specs.declared.stage.Stage.TheVariants as stages
+use Rattle.machine.specs.Mode.{phase_of, next_job, MayWork, Replays}
+use Rattle.machine.specs.declared.mode.Mode.{Mode}
+use Rattle.machine.specs.declared.mode.Mode.TheVariants as modes
 use Rattle.machine.specs.Simulation.{TheMachine, StandsAt, Keeps, Shows, Stands, Steps, Simulates, answering, process_at, log_at}
 use Rattle.machine.specs.Jobs.{Begins}
 use Rattle.machine.specs.Arrival.{IsOpen}
@@ -33,11 +33,11 @@ use Rattle.machine.proofs.OneProcess.{Same, shows-one}
 use Rattle.machine.proofs.Crashes.{self-same}
 
 -- one with a next job replays
-pub stage-of-next : (t : Stage) (x : Message) → next_job t ≡ Some x → (plan : ThePlan) × (alone : Bool) × (t ≡ stages.Replaying plan alone) × (slice_get plan.messages plan.replayed ≡ Some x)
-stage-of-next stages.Live x e = absurd (cc)
-stage-of-next stages.Down x e = absurd (cc)
-stage-of-next (stages.Replaying plan alone) x e = (plan, alone, refl, e)
-stage-of-next (stages.Resync peers) x e = absurd (cc)
+pub mode-of-next : (t : Mode) (x : Message) → next_job t ≡ Some x → (plan : ThePlan) × (alone : Bool) × (t ≡ modes.Replaying plan alone) × (slice_get plan.messages plan.replayed ≡ Some x)
+mode-of-next modes.Live x e = absurd (cc)
+mode-of-next modes.Down x e = absurd (cc)
+mode-of-next (modes.Replaying plan alone) x e = (plan, alone, refl, e)
+mode-of-next (modes.Resync peers) x e = absurd (cc)
 
 -- the next of the plan is the next of the history
 pub plan-next : (plan : ThePlan) (o : Option Message) (saved : ℕ) (h : List Message) (x : Message) → Replays plan o saved h → saved ≤ length h → slice_get plan.messages plan.replayed ≡ Some x → slice_get h (saved + plan.replayed) ≡ Some x
@@ -48,9 +48,9 @@ plan-next plan o saved h x may l next =
     ∙ slice_get-behind (take saved h) plan.messages plan.replayed
     ∙ next
 
-module _ (m : TheMachine) (w : World) (s : Stands m w) (room p calls : ℕ) (x : Message) (positive : 0 < p) (within : p ≤ length m.processes) (idle : (process_at m p).working ≡ None) (job : next_job (process_at m p).stage ≡ Some x) where
-  replays : (plan : ThePlan) × (alone : Bool) × ((process_at m p).stage ≡ stages.Replaying plan alone) × (slice_get plan.messages plan.replayed ≡ Some x)
-  replays = stage-of-next (process_at m p).stage x job
+module _ (m : TheMachine) (w : World) (s : Stands m w) (room p calls : ℕ) (x : Message) (positive : 0 < p) (within : p ≤ length m.processes) (idle : (process_at m p).working ≡ None) (job : next_job (process_at m p).mode ≡ Some x) where
+  replays : (plan : ThePlan) × (alone : Bool) × ((process_at m p).mode ≡ modes.Replaying plan alone) × (slice_get plan.messages plan.replayed ≡ Some x)
+  replays = mode-of-next (process_at m p).mode x job
 
   abbrev begun : TheProcess
   begun = record (process_at m p) { working = Some x }
@@ -59,7 +59,7 @@ module _ (m : TheMachine) (w : World) (s : Stands m w) (room p calls : ℕ) (x :
   at = at_process m w s p positive within
 
   works : Replays replays.0 None (w.saved p) (w.history p)
-  works = subst (λ z. MayWork z None (w.saved p) (w.history p)) replays.2 (subst (λ o. MayWork (process_at m p).stage o (w.saved p) (w.history p)) idle at.works)
+  works = subst (λ z. MayWork z None (w.saved p) (w.history p)) replays.2 (subst (λ o. MayWork (process_at m p).mode o (w.saved p) (w.history p)) idle at.works)
 
   works_now : Replays replays.0 (Some x) (w.saved p) (w.history p)
   works_now = record { before = works.before; messages = works.messages; left = works.left; next = replays.3 }
@@ -142,7 +142,7 @@ handed-out m new p x t b positive within w s =
 
 -- what begins is a step
 pub begun-step : (m new : TheMachine) (room p : ℕ) (x : Message) (r : Result TheTask Refusal) → IfOk r (λ job. Begins m new p x job) → IfErr r (λ e. (e ≡ Memory) × (new ≡ m))
-    → 0 < p → p ≤ length m.processes → (process_at m p).working ≡ None → next_job (process_at m p).stage ≡ Some x → ((w : World) → Stands m w → refusal_of w room (ReplayBegin p) ≡ None)
+    → 0 < p → p ≤ length m.processes → (process_at m p).working ≡ None → next_job (process_at m p).mode ≡ Some x → ((w : World) → Stands m w → refusal_of w room (ReplayBegin p) ≡ None)
     → Simulates m new room (ReplayBegin p) (answering (λ (job : TheTask). Started job.serial) r)
 begun-step m new room p x (Ok job) ok err positive within idle next accepted =
     λ w s. subst (λ v. Steps m v room (ReplayBegin p) (Started job.serial) w) (sym ok.becomes) (begins-again m w s room p (m.calls + 1) x positive within idle next (accepted w s) job.serial ok.serial)

@@ -13,7 +13,7 @@ use Rattle.replay.specs.Plan.{ThePlan}
 use Rattle.machine.specs.Process.{TheProcess, idle_process, received, restored, unnumbered_at}
 use Rattle.machine.specs.Recovering.{MaySettle, forgotten}
 use Rattle.machine.specs.Simulation.{TheMachine, process_at}
-use Rattle.machine.specs.Stage.{is_lost}
+use Rattle.machine.specs.Mode.{is_lost}
 use Rattle.machine.specs.Outside.{TheOutside}
 use Rattle.machine.specs.Fields.{view_of, AreCarried, IsLogOf, IsSoundAt, IsSound}
 use Rattle.machine.specs.declared.machine.Machine.TheInside.{Inside}
@@ -142,7 +142,7 @@ module _ (i : Inside) (m : TheMachine) (p k : ℕ) (plan : ThePlan) (alone : Boo
       record {
         inside = positive;
         within = omega (arith, length-set i.processes.items (p - 1) y, inside);
-        back = ap (λ (x : TheProcess). is_lost x.stage) at;
+        back = ap (λ (x : TheProcess). is_lost x.mode) at;
         idle = ap (λ (x : TheProcess). x.working) at;
         whole = ap (λ (x : TheProcess). run_of x.receipts.acknowledged) at ∙ run-replicate (length was.saved.senders) ∙ sym (ap received at);
       }

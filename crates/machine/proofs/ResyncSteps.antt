@@ -23,10 +23,10 @@ use Rattle.theorems.proofs.ListLemmas.{take-all}
 use Rattle.theorems.proofs.RunLemmas.{run_to-whole}
 use Rattle.machine.specs.Process.{TheProcess, Settles}
 use Rattle.machine.specs.Outbox.{with_messages}
-use Rattle.machine.specs.Stage.{is_lost, held_by, phase_of, is_to_do, MayWork}
-use Rattle.machine.specs.declared.stage.Stage.{Stage}
-use Rattle.machine.specs.declared.stage.Stage.TheVariants as stages
-use Rattle.machine.specs.declared.stage.Peers.{Peers}
+use Rattle.machine.specs.Mode.{is_lost, held_by, phase_of, is_to_do, MayWork}
+use Rattle.machine.specs.declared.mode.Mode.{Mode}
+use Rattle.machine.specs.declared.mode.Mode.TheVariants as modes
+use Rattle.machine.specs.declared.mode.Peers.{Peers}
 use Rattle.machine.specs.Fields.{IsLogOf}
 use Rattle.machine.specs.Replaying.{ArePeersLeft}
 use Rattle.machine.specs.Simulation.{TheMachine, StandsAt, Keeps, Shows, Stands, Steps, process_at, log_at, is_up_at}
@@ -64,11 +64,11 @@ without-those f g (suc n) r same none = by_last (without-those f g n r (λ q a b
         rw gone rest
 
 -- one with a peer to do restores numbers
-pub stage-of-todo : (t : Stage) (r : ℕ) → is_to_do t r ≡ true → (peers : Peers) × (t ≡ stages.Resync peers)
-stage-of-todo stages.Live r e = absurd (false≢true e)
-stage-of-todo stages.Down r e = absurd (false≢true e)
-stage-of-todo (stages.Replaying plan alone) r e = absurd (false≢true e)
-stage-of-todo (stages.Resync peers) r e = (peers, refl)
+pub mode-of-todo : (t : Mode) (r : ℕ) → is_to_do t r ≡ true → (peers : Peers) × (t ≡ modes.Resync peers)
+mode-of-todo modes.Live r e = absurd (false≢true e)
+mode-of-todo modes.Down r e = absurd (false≢true e)
+mode-of-todo (modes.Replaying plan alone) r e = absurd (false≢true e)
+mode-of-todo (modes.Resync peers) r e = (peers, refl)
 
 -- Numbers
 
@@ -105,7 +105,7 @@ logged-here q dropped j first low =
     rw (a, b) refl
 
 module _ (m : TheMachine) (w : World) (s : Stands m w) (room p r calls : ℕ) (positive : 0 < p) (within : p ≤ length m.processes) (first : 0 < r) (to : r ≤ length m.processes) (other : p ≢ r) (up : is_up_at m r ≡ true)
-    (peers : Peers) (stage_is : (process_at m p).stage ≡ stages.Resync peers) (log_of : IsLogOf (length m.processes) p (process_at m p).outbox.log) (left : Peers) (are : ArePeersLeft m p r left) (y : TheProcess) where
+    (peers : Peers) (mode_is : (process_at m p).mode ≡ modes.Resync peers) (log_of : IsLogOf (length m.processes) p (process_at m p).outbox.log) (left : Peers) (are : ArePeersLeft m p r left) (y : TheProcess) where
   abbrev n : ℕ
   n = length m.processes
 
@@ -134,7 +134,7 @@ module _ (m : TheMachine) (w : World) (s : Stands m w) (room p r calls : ℕ) (p
   at_peer = at_process m w s r first to
 
   numbers_are : ns ≡ numbers_from p 0 (senders (w.history r))
-  numbers_are = ap (numbers_from p 0) (at_peer.senders ∙ ap senders (held-live (process_at m r).stage (w.saved r) (w.history r) (is_live-at m r first up)))
+  numbers_are = ap (numbers_from p 0) (at_peer.senders ∙ ap senders (held-live (process_at m r).mode (w.saved r) (w.history r) (is_live-at m r first up)))
 
   many : length ns ≡ count_of p (w.history r)
   many = ap length numbers_are ∙ length-numbers p 0 (w.history r)
@@ -159,7 +159,7 @@ module _ (m : TheMachine) (w : World) (s : Stands m w) (room p r calls : ℕ) (p
   apart = grind (arith, nat_tests)
 
   phase_was : w.phase p ≡ Resync (those (λ j. slice_index_or peers.todo j false) n)
-  phase_was = at.phase_is ∙ ap (λ z. phase_of n z x.working) stage_is
+  phase_was = at.phase_is ∙ ap (λ z. phase_of n z x.working) mode_is
 
   back : is_down (w.phase p) ≡ false
   back = ap is_down phase_was
@@ -260,12 +260,12 @@ module _ (m : TheMachine) (w : World) (s : Stands m w) (room p r calls : ℕ) (p
   caught-up : IsCaughtUp v n p given now
   caught-up =
       record {
-        state = at.state_is (ap is_lost stage_is) ∙ ap (λ z. w.handlers.state p (held_by z (w.saved p) h)) stage_is;
-        senders_are = at.senders ∙ ap (λ z. senders (held_by z (w.saved p) h)) stage_is;
+        state = at.state_is (ap is_lost mode_is) ∙ ap (λ z. w.handlers.state p (held_by z (w.saved p) h)) mode_is;
+        senders_are = at.senders ∙ ap (λ z. senders (held_by z (w.saved p) h)) mode_is;
         flags = at.flags;
         acknowledged_is = at.acknowledged_is;
         in_order = at.in_order;
-        idle = subst (λ z. MayWork z x.working (w.saved p) h) stage_is at.works;
+        idle = subst (λ z. MayWork z x.working (w.saved p) h) mode_is at.works;
         incarnation_is = at.incarnation_is;
         saves = at.saves;
         log_of = record { owner = log_of.owner; width = length-set x.outbox.log.queues r (renumbered ns q) ∙ log_of.width };
@@ -284,7 +284,7 @@ module _ (m : TheMachine) (w : World) (s : Stands m w) (room p r calls : ℕ) (p
   at-now = now_at m p given positive within
 
   left-is : (j : ℕ) → slice_index_or left.todo j false ≡ (nat_lt 0 j && nat_le j n && not (j == r) && slice_index_or peers.todo j false)
-  left-is j = are.1 j ∙ ap (λ t. nat_lt 0 j && nat_le j n && not (j == r) && is_to_do t j) stage_is
+  left-is j = are.1 j ∙ ap (λ t. nat_lt 0 j && nat_le j n && not (j == r) && is_to_do t j) mode_is
 
   todo-is : without (todo_of (w.phase p)) r ≡ those (λ j. slice_index_or left.todo j false) n
   todo-is =

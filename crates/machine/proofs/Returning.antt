@@ -27,9 +27,9 @@ use Rattle.theorems.proofs.RunLemmas.{run_to-whole}
 use Rattle.theorems.proofs.ListLemmas.{take-all}
 use Rattle.machine.specs.Receipts.{InOrder}
 use Rattle.machine.specs.Stable.{Saves}
-use Rattle.machine.specs.Stage.{is_lost, phase_of}
-use Rattle.machine.specs.declared.stage.Stage.{Stage}
-use Rattle.machine.specs.declared.stage.Stage.TheVariants as stages
+use Rattle.machine.specs.Mode.{is_lost, phase_of}
+use Rattle.machine.specs.declared.mode.Mode.{Mode}
+use Rattle.machine.specs.declared.mode.Mode.TheVariants as modes
 use Rattle.machine.specs.Process.{TheProcess, idle_process, restored}
 use Rattle.machine.specs.Recovering.{SettlesAt, forgotten, logs_of, recovery_of}
 use Rattle.machine.specs.Outbox.{TheOutbox}
@@ -44,11 +44,11 @@ use Rattle.machine.proofs.Forgetting.{no-queue, without_later, forgotten-width, 
 use Rattle.machine.proofs.Settling.{IsCaughtUp, peers-are, peers-within, settled}
 
 -- one that is down is behind, and not up
-down-phase : (n : ℕ) (t : Stage) (o : Option Message) → is_lost t ≡ true → (is_behind (phase_of n t o) ≡ true) × (is_up (phase_of n t o) ≡ false)
-down-phase n stages.Live o e = absurd (false≢true e)
-down-phase n stages.Down o e = (refl, refl)
-down-phase n (stages.Replaying plan alone) o e = absurd (false≢true e)
-down-phase n (stages.Resync peers) o e = absurd (false≢true e)
+down-phase : (n : ℕ) (t : Mode) (o : Option Message) → is_lost t ≡ true → (is_behind (phase_of n t o) ≡ true) × (is_up (phase_of n t o) ≡ false)
+down-phase n modes.Live o e = absurd (false≢true e)
+down-phase n modes.Down o e = (refl, refl)
+down-phase n (modes.Replaying plan alone) o e = absurd (false≢true e)
+down-phase n (modes.Resync peers) o e = absurd (false≢true e)
 
 -- an empty log has no message
 none-logged : (i : ℕ) → is_logged i no_queue ≡ false
@@ -56,7 +56,7 @@ none-logged i = grind (arith, nat_tests)
 
 -- what the logs have
 
-module _ (m : TheMachine) (w : World) (s : Stands m w) (p : ℕ) (inside : 0 < p) (within : p ≤ length m.processes) (down : is_lost (process_at m p).stage ≡ true) where
+module _ (m : TheMachine) (w : World) (s : Stands m w) (p : ℕ) (inside : 0 < p) (within : p ≤ length m.processes) (down : is_lost (process_at m p).mode ≡ true) where
   abbrev n : ℕ
   n = length m.processes
 
@@ -158,7 +158,7 @@ module _ (m : TheMachine) (w : World) (s : Stands m w) (p : ℕ) (inside : 0 < p
         subst InOrder kept-history (InOrderFrom-each (λ _. 0) ((recover w p k alone).history p) (λ j y e. let t = (sound.received p j y e).next in omega (arith, t)))
 
     down_now : (is_behind (w.phase p) ≡ true) × (is_up (w.phase p) ≡ false)
-    down_now = let d = down-phase n x.stage x.working down in (ap is_behind at.phase_is ∙ d.0, ap is_up at.phase_is ∙ d.1)
+    down_now = let d = down-phase n x.mode x.working down in (ap is_behind at.phase_is ∙ d.0, ap is_up at.phase_is ∙ d.1)
 
     -- the log of the checkpoint
     keeps-again : (d : ℕ) → d ≤ length m.processes → p ≢ d → Keeps (queue_of d (log_again x.saved)) (w.trims p d) (w.handlers.sends p h d) (w.numbers p d)

@@ -15,11 +15,11 @@ use Rattle.world.specs.Calls.{peers as peers_of, phase_with, ready, released_wit
 use Rattle.theorems.proofs.ListLemmas.{take-all}
 use Rattle.machine.specs.Receipts.{InOrder}
 use Rattle.machine.specs.Stable.{Saves}
-use Rattle.machine.specs.Stage.{is_lost, has_no_peer, held_by, phase_of, IsNextAfter, MayWork}
-use Rattle.machine.specs.declared.stage.Stage.{Stage}
-use Rattle.machine.specs.declared.stage.Stage.TheVariants as stages
-use Rattle.machine.specs.declared.stage.Peers.{Peers}
-use Rattle.machine.specs.Outbox.{TheOutbox, Opens}
+use Rattle.machine.specs.Mode.{is_lost, has_no_peer, held_by, phase_of, IsNextAfter, MayWork}
+use Rattle.machine.specs.declared.mode.Mode.{Mode}
+use Rattle.machine.specs.declared.mode.Mode.TheVariants as modes
+use Rattle.machine.specs.declared.mode.Peers.{Peers}
+use Rattle.machine.specs.Outbox.{TheOutbox, ReleasesAll}
 use Rattle.machine.specs.Process.{TheProcess, Settles, received}
 use Rattle.machine.specs.Fields.{IsLogOf, IsSoundAt}
 use Rattle.machine.specs.Recovering.{ArePeersOf}
@@ -126,9 +126,9 @@ module _ (n p : ℕ) (m : TheMachine) (w : World) (x y : TheProcess) (peers : Pe
   whole : take (length h) h ≡ h
   whole = take-all h
 
-  at_stage : (t : Stage) (o : TheOutbox) (f : Phase) (r : ℕ → ℕ) → is_lost t ≡ false → held_by t (w.saved p) h ≡ h → f ≡ phase_of n t x.working → MayWork t x.working (w.saved p) h
-      → StandsFor w n p (record x { outbox = o; stage = t }) (life_with f r)
-  at_stage t o f r back all phase works =
+  at_mode : (t : Mode) (o : TheOutbox) (f : Phase) (r : ℕ → ℕ) → is_lost t ≡ false → held_by t (w.saved p) h ≡ h → f ≡ phase_of n t x.working → MayWork t x.working (w.saved p) h
+      → StandsFor w n p (record x { outbox = o; mode = t }) (life_with f r)
+  at_mode t o f r back all phase works =
       record {
         state_is = λ e. done.state ∙ ap (w.handlers.state p) (sym all);
         gone = λ e. absurd (false≢true (sym back ∙ e));
@@ -159,9 +159,9 @@ module _ (n p : ℕ) (m : TheMachine) (w : World) (x y : TheProcess) (peers : Pe
       let at = bound there.0 there.1 in
       let some : todo ≢ [] = λ empty. those-some (λ q. slice_index_or peers.todo q false) n there.0 at.0 at.1 there.1 (sym todo_is ∙ empty) in
       let with = with-some w p todo some in
-      let y_is : y ≡ record x { outbox = x.outbox; stage = stages.Resync peers } = s.some e in
+      let y_is : y ≡ record x { outbox = x.outbox; mode = modes.Resync peers } = s.some e in
       let here : StandsFor w n p y (life_with (Resync todo) (w.released p)) =
-      subst (λ z. StandsFor w n p z (life_with (Resync todo) (w.released p))) (sym y_is) (at_stage (stages.Resync peers) x.outbox (Resync todo) (w.released p) refl refl (ap Resync todo_is) done.idle) in
+      subst (λ z. StandsFor w n p z (life_with (Resync todo) (w.released p))) (sym y_is) (at_mode (modes.Resync peers) x.outbox (Resync todo) (w.released p) refl refl (ap Resync todo_is) done.idle) in
       let shows : ShowsAt n p now v (life_with (Resync todo) (w.released p)) = record {
         process = subst (λ z. StandsFor w n p z (life_with (Resync todo) (w.released p))) (sym (now_at m p y inside within)) here;
         logs = λ d to other f. logs_now (ap (λ (z : TheProcess). z.outbox.log) y_is) d to other;
@@ -171,7 +171,7 @@ module _ (n p : ℕ) (m : TheMachine) (w : World) (x y : TheProcess) (peers : Pe
       subst (λ f. ShowsAt n p now v (life_with f (released_with w p todo))) (sym with.0) (subst (λ r. ShowsAt n p now v (life_with (Resync todo) r)) (sym with.1) shows)
 
   -- none is: all that was sent is released
-  opened : (o : Opens x.outbox y.outbox) (d : ℕ) → d ≤ n → p ≢ d → Holds d y.outbox.gate (run_of w p) (length h) (length (w.handlers.sends p h d)) (λ k. length (w.handlers.sends p (take k h) d))
+  opened : (o : ReleasesAll x.outbox y.outbox) (d : ℕ) → d ≤ n → p ≢ d → Holds d y.outbox.gate (run_of w p) (length h) (length (w.handlers.sends p h d)) (λ k. length (w.handlers.sends p (take k h) d))
   opened o d to other =
       let kept = done.logs d to other in
       let dest : IsDestination d x.outbox.log = (omega (arith, done.log_of.width, to), λ same. other (sym (same ∙ done.log_of.owner))) in
@@ -187,12 +187,12 @@ module _ (n p : ℕ) (m : TheMachine) (w : World) (x y : TheProcess) (peers : Pe
 
   comes_up : has_no_peer peers ≡ true → ShowsAt n p now v (life_with (phase_with todo) (released_with w p todo))
   comes_up e =
-      let o : Opens x.outbox y.outbox = (s.none e).0 in
-      let y_is : y ≡ record x { outbox = y.outbox; stage = stages.Live } = (s.none e).1 in
+      let o : ReleasesAll x.outbox y.outbox = (s.none e).0 in
+      let y_is : y ≡ record x { outbox = y.outbox; mode = modes.Live } = (s.none e).1 in
       let empty : todo ≡ [] = todo_is ∙ those-none (λ q. slice_index_or peers.todo q false) n (none-todo peers.todo e) in
       let all : ℕ → ℕ = released_with w p [] in
       let here : StandsFor w n p y (life_with Up all) =
-      subst (λ z. StandsFor w n p z (life_with Up all)) (sym y_is) (at_stage stages.Live y.outbox Up all refl refl (sym (ap (phase_of n stages.Live) done.idle)) (subst (IsNextAfter h) (sym done.idle) tt)) in
+      subst (λ z. StandsFor w n p z (life_with Up all)) (sym y_is) (at_mode modes.Live y.outbox Up all refl refl (sym (ap (phase_of n modes.Live) done.idle)) (subst (IsNextAfter h) (sym done.idle) tt)) in
       let held : (d : ℕ) → d ≤ n → p ≢ d → Holds d y.outbox.gate (run_of w p) (length h) (all d) (λ k. length (w.handlers.sends p (take k h) d)) = (λ d to other. rw apart (opened o d to other)) in
       let shows : ShowsAt n p now v (life_with Up all) = record {
         process = subst (λ z. StandsFor w n p z (life_with Up all)) (sym (now_at m p y inside within)) here;
@@ -213,7 +213,7 @@ module _ (n p : ℕ) (m : TheMachine) (w : World) (x y : TheProcess) (peers : Pe
       by_peers false e = resyncs e
 
 -- and it is sound
-pub sound-settled : (n me len calls : ℕ) (x y : TheProcess) (peers : Peers) → IsSoundAt n me len calls x → is_lost x.stage ≡ false → x.working ≡ None → run x.receipts.acknowledged ≡ received x → Settles peers x y → IsSoundAt n me len calls y
+pub sound-settled : (n me len calls : ℕ) (x y : TheProcess) (peers : Peers) → IsSoundAt n me len calls x → is_lost x.mode ≡ false → x.working ≡ None → run x.receipts.acknowledged ≡ received x → Settles peers x y → IsSoundAt n me len calls y
 sound-settled n me len calls x y peers i back idle whole s = by_peers (has_no_peer peers) refl
   where
     by_peers : (b : Bool) → has_no_peer peers ≡ b → IsSoundAt n me len calls y

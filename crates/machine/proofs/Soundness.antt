@@ -5,9 +5,9 @@ use Rattle.std.proofs.lemmas.List.{length-set}
 use Rattle.handlers.specs.Image.{TheImage, image_in}
 use Rattle.world.specs.declared.message.Message.{Message}
 use Rattle.machine.specs.Process.{TheProcess, received}
-use Rattle.machine.specs.Stage.{IsNextFor, IsInPlan}
-use Rattle.machine.specs.declared.stage.Stage.{Stage}
-use Rattle.machine.specs.declared.stage.Stage.TheVariants as stages
+use Rattle.machine.specs.Mode.{IsNextFor, IsInPlan}
+use Rattle.machine.specs.declared.mode.Mode.{Mode}
+use Rattle.machine.specs.declared.mode.Mode.TheVariants as modes
 use Rattle.machine.specs.Outbox.{TheOutbox}
 use Rattle.machine.specs.Fields.{IsSoundAt, IsLogOf, IsSound}
 use Rattle.machine.specs.declared.machine.Machine.TheInside.{Inside}
@@ -39,14 +39,14 @@ sound-outbox n me len calls x b s log =
     }
 
 -- where a message is the next for a process, it may be worked on
-next-planned : (t : Stage) (o : Option Message) (x : Message) (n : ℕ) → IsNextFor t x → IsInPlan t o n → IsInPlan t (Some x) n
-next-planned stages.Live o x n next planned = tt
-next-planned stages.Down o x n next planned = absurd next
-next-planned (stages.Replaying plan alone) o x n next planned = (planned.0, next)
-next-planned (stages.Resync peers) o x n next planned = absurd next
+next-planned : (t : Mode) (o : Option Message) (x : Message) (n : ℕ) → IsNextFor t x → IsInPlan t o n → IsInPlan t (Some x) n
+next-planned modes.Live o x n next planned = tt
+next-planned modes.Down o x n next planned = absurd next
+next-planned (modes.Replaying plan alone) o x n next planned = (planned.0, next)
+next-planned (modes.Resync peers) o x n next planned = absurd next
 
 -- one more call, in which it begins to work on a message
-pub sound-begun : (n me len calls : ℕ) (x : TheProcess) (message : Message) → IsSoundAt n me len calls x → IsNextFor x.stage message → IsSoundAt n me len (calls + 1) (record x { working = Some message })
+pub sound-begun : (n me len calls : ℕ) (x : TheProcess) (message : Message) → IsSoundAt n me len calls x → IsNextFor x.mode message → IsSoundAt n me len (calls + 1) (record x { working = Some message })
 sound-begun n me len calls x message s next =
     record {
       short = s.short;
@@ -54,7 +54,7 @@ sound-begun n me len calls x message s next =
       log = s.log;
       senders = s.senders;
       whole = s.whole;
-      planned = next-planned x.stage x.working message (received x) next s.planned;
+      planned = next-planned x.mode x.working message (received x) next s.planned;
       begun_by = omega (arith, s.begun_by);
       incarnation = omega (arith, s.incarnation);
       own = s.own;

@@ -25,9 +25,9 @@ use Rattle.world.proofs.Counts.{count_below-same, count_below-shift, count_below
 use Rattle.machine.specs.Process.{TheProcess, idle_process}
 use Rattle.machine.specs.Simulation.{TheMachine, StandsAt, Keeps, Holds, Stands, process_at, log_at, gate_at, is_up_at, sent_by}
 use Rattle.machine.specs.Queue.{IsRest}
-use Rattle.machine.specs.Stage.{is_live, is_lost, held_by, phase_of, MayWork, IsNextAfter}
-use Rattle.machine.specs.declared.stage.Stage.{Stage}
-use Rattle.machine.specs.declared.stage.Stage.TheVariants as stages
+use Rattle.machine.specs.Mode.{is_live, is_lost, held_by, phase_of, MayWork, IsNextAfter}
+use Rattle.machine.specs.declared.mode.Mode.{Mode}
+use Rattle.machine.specs.declared.mode.Mode.TheVariants as modes
 use Rattle.machine.specs.Sending.{live, released_at}
 use Rattle.machine.specs.Arriving.{IsJudged}
 use Rattle.machine.proofs.ReceiptLemmas.{senders, length-numbers, rsn_from-numbers}
@@ -37,41 +37,41 @@ pub wire-is : WIRE ≡ PACKETS
 unfolding WIRE
 wire-is = refl
 
--- what the phase of a process tells is told by its stage and its open job
-pub is_working-phase_of : (n : ℕ) (t : Stage) (o : Option Message) (saved : ℕ) (h : List Message) → MayWork t o saved h → is_working (phase_of n t o) ≡ is_some o
-is_working-phase_of n stages.Live None saved h may = refl
-is_working-phase_of n stages.Live (Some m) saved h may = refl
-is_working-phase_of n stages.Down o saved h may = sym (ap is_some may)
-is_working-phase_of n (stages.Replaying plan alone) o saved h may = refl
-is_working-phase_of n (stages.Resync peers) o saved h may = sym (ap is_some may)
+-- what the phase of a process tells is told by its mode and its open job
+pub is_working-phase_of : (n : ℕ) (t : Mode) (o : Option Message) (saved : ℕ) (h : List Message) → MayWork t o saved h → is_working (phase_of n t o) ≡ is_some o
+is_working-phase_of n modes.Live None saved h may = refl
+is_working-phase_of n modes.Live (Some m) saved h may = refl
+is_working-phase_of n modes.Down o saved h may = sym (ap is_some may)
+is_working-phase_of n (modes.Replaying plan alone) o saved h may = refl
+is_working-phase_of n (modes.Resync peers) o saved h may = sym (ap is_some may)
 
-pub is_busy-phase_of : (n : ℕ) (t : Stage) (o : Option Message) → is_busy (phase_of n t o) ≡ (is_live t && is_some o)
-is_busy-phase_of n stages.Live None = refl
-is_busy-phase_of n stages.Live (Some m) = refl
-is_busy-phase_of n stages.Down o = refl
-is_busy-phase_of n (stages.Replaying plan alone) o = refl
-is_busy-phase_of n (stages.Resync peers) o = refl
+pub is_busy-phase_of : (n : ℕ) (t : Mode) (o : Option Message) → is_busy (phase_of n t o) ≡ (is_live t && is_some o)
+is_busy-phase_of n modes.Live None = refl
+is_busy-phase_of n modes.Live (Some m) = refl
+is_busy-phase_of n modes.Down o = refl
+is_busy-phase_of n (modes.Replaying plan alone) o = refl
+is_busy-phase_of n (modes.Resync peers) o = refl
 
-pub is_up-phase_of : (n : ℕ) (t : Stage) (o : Option Message) → is_up (phase_of n t o) ≡ is_live t
-is_up-phase_of n stages.Live None = refl
-is_up-phase_of n stages.Live (Some m) = refl
-is_up-phase_of n stages.Down o = refl
-is_up-phase_of n (stages.Replaying plan alone) o = refl
-is_up-phase_of n (stages.Resync peers) o = refl
+pub is_up-phase_of : (n : ℕ) (t : Mode) (o : Option Message) → is_up (phase_of n t o) ≡ is_live t
+is_up-phase_of n modes.Live None = refl
+is_up-phase_of n modes.Live (Some m) = refl
+is_up-phase_of n modes.Down o = refl
+is_up-phase_of n (modes.Replaying plan alone) o = refl
+is_up-phase_of n (modes.Resync peers) o = refl
 
-pub is_down-phase_of : (n : ℕ) (t : Stage) (o : Option Message) → is_down (phase_of n t o) ≡ is_lost t
-is_down-phase_of n stages.Live None = refl
-is_down-phase_of n stages.Live (Some m) = refl
-is_down-phase_of n stages.Down o = refl
-is_down-phase_of n (stages.Replaying plan alone) o = refl
-is_down-phase_of n (stages.Resync peers) o = refl
+pub is_down-phase_of : (n : ℕ) (t : Mode) (o : Option Message) → is_down (phase_of n t o) ≡ is_lost t
+is_down-phase_of n modes.Live None = refl
+is_down-phase_of n modes.Live (Some m) = refl
+is_down-phase_of n modes.Down o = refl
+is_down-phase_of n (modes.Replaying plan alone) o = refl
+is_down-phase_of n (modes.Resync peers) o = refl
 
 -- one that is up isn't down
-pub live-lost : (t : Stage) → is_live t ≡ true → is_lost t ≡ false
-live-lost stages.Live e = refl
-live-lost stages.Down e = absurd (false≢true e)
-live-lost (stages.Replaying plan alone) e = refl
-live-lost (stages.Resync peers) e = refl
+pub live-lost : (t : Mode) → is_live t ≡ true → is_lost t ≡ false
+live-lost modes.Live e = refl
+live-lost modes.Down e = absurd (false≢true e)
+live-lost (modes.Replaying plan alone) e = refl
+live-lost (modes.Resync peers) e = refl
 
 -- and the same of a phase
 pub up-down : (p : Phase) → is_up p ≡ true → is_down p ≡ false
@@ -82,33 +82,33 @@ up-down (Replaying j working alone) e = refl
 up-down (Resync todo) e = refl
 
 -- a process that is up and has an open job works on the next message of its sender
-pub live-busy : (n : ℕ) (t : Stage) (x : Message) → is_live t ≡ true → Busy x ≡ phase_of n t (Some x)
-live-busy n stages.Live x e = refl
-live-busy n stages.Down x e = absurd (false≢true e)
-live-busy n (stages.Replaying plan alone) x e = absurd (false≢true e)
-live-busy n (stages.Resync peers) x e = absurd (false≢true e)
+pub live-busy : (n : ℕ) (t : Mode) (x : Message) → is_live t ≡ true → Busy x ≡ phase_of n t (Some x)
+live-busy n modes.Live x e = refl
+live-busy n modes.Down x e = absurd (false≢true e)
+live-busy n (modes.Replaying plan alone) x e = absurd (false≢true e)
+live-busy n (modes.Resync peers) x e = absurd (false≢true e)
 
 -- a live process may have a job open on the next message of a sender
-pub live-works : (t : Stage) (o : Option Message) (saved : ℕ) (h : List Message) → is_live t ≡ true → IsNextAfter h o → MayWork t o saved h
-live-works stages.Live o saved h e next = next
-live-works stages.Down o saved h e next = absurd (false≢true e)
-live-works (stages.Replaying plan alone) o saved h e next = absurd (false≢true e)
-live-works (stages.Resync peers) o saved h e next = absurd (false≢true e)
+pub live-works : (t : Mode) (o : Option Message) (saved : ℕ) (h : List Message) → is_live t ≡ true → IsNextAfter h o → MayWork t o saved h
+live-works modes.Live o saved h e next = next
+live-works modes.Down o saved h e next = absurd (false≢true e)
+live-works (modes.Replaying plan alone) o saved h e next = absurd (false≢true e)
+live-works (modes.Resync peers) o saved h e next = absurd (false≢true e)
 
 -- a process that is up has all of its history in its state
-pub held-live : (t : Stage) (saved : ℕ) (h : List Message) → is_live t ≡ true → held_by t saved h ≡ h
-held-live stages.Live saved h e = refl
-held-live stages.Down saved h e = absurd (false≢true e)
-held-live (stages.Replaying plan alone) saved h e = absurd (false≢true e)
-held-live (stages.Resync peers) saved h e = absurd (false≢true e)
+pub held-live : (t : Mode) (saved : ℕ) (h : List Message) → is_live t ≡ true → held_by t saved h ≡ h
+held-live modes.Live saved h e = refl
+held-live modes.Down saved h e = absurd (false≢true e)
+held-live (modes.Replaying plan alone) saved h e = absurd (false≢true e)
+held-live (modes.Resync peers) saved h e = absurd (false≢true e)
 
 -- and so one that isn't down has the messages of its length
-pub held-length_in : (n : ℕ) (t : Stage) (o : Option Message) (saved : ℕ) (h : List Message) → is_lost t ≡ false → take (length_in h saved (phase_of n t o)) h ≡ held_by t saved h
-held-length_in n stages.Live None saved h e = take-all h
-held-length_in n stages.Live (Some m) saved h e = take-all h
-held-length_in n stages.Down o saved h e = absurd (false≢true (sym e))
-held-length_in n (stages.Replaying plan alone) o saved h e = refl
-held-length_in n (stages.Resync peers) o saved h e = take-all h
+pub held-length_in : (n : ℕ) (t : Mode) (o : Option Message) (saved : ℕ) (h : List Message) → is_lost t ≡ false → take (length_in h saved (phase_of n t o)) h ≡ held_by t saved h
+held-length_in n modes.Live None saved h e = take-all h
+held-length_in n modes.Live (Some m) saved h e = take-all h
+held-length_in n modes.Down o saved h e = absurd (false≢true (sym e))
+held-length_in n (modes.Replaying plan alone) o saved h e = refl
+held-length_in n (modes.Resync peers) o saved h e = take-all h
 
 -- what an SSN is, where so many of its sender came
 pub verdict-known : (n i : ℕ) → i ≤ n → verdict_of n i ≡ Known
@@ -151,7 +151,7 @@ jobs m w s =
 -- and as many live ones
 pub live-is : (m : TheMachine) (w : World) → Stands m w → live_jobs w ≡ live m
 live-is m w s =
-    jobs_by m w s is_busy (λ (x : TheProcess). is_live x.stage && is_some x.working)
+    jobs_by m w s is_busy (λ (x : TheProcess). is_live x.mode && is_some x.working)
     (λ p d h. let at = s.shows.process p d h in ap is_busy at.phase_is ∙ is_busy-phase_of _ _ _) refl
 
 -- how many packets there are: no key from n on has one
@@ -191,7 +191,7 @@ pub up_at : (m : TheMachine) (w : World) → Stands m w → (p : ℕ) → p ≤ 
 up_at m w s p within up = up_is m w s p within ∙ up
 
 -- and which are down
-pub down_is : (m : TheMachine) (w : World) → Stands m w → (p : ℕ) → 0 < p → p ≤ length m.processes → is_down (w.phase p) ≡ is_lost (process_at m p).stage
+pub down_is : (m : TheMachine) (w : World) → Stands m w → (p : ℕ) → 0 < p → p ≤ length m.processes → is_down (w.phase p) ≡ is_lost (process_at m p).mode
 down_is m w s p inside within = ap is_down (at_process m w s p inside within).phase_is ∙ is_down-phase_of _ _ _
 
 -- nor is one down in the world that is up by its fields
@@ -199,11 +199,11 @@ pub down_at : (m : TheMachine) (w : World) → Stands m w → (p : ℕ) → p �
 down_at m w s p within up = up-down (w.phase p) (up_at m w s p within up)
 
 -- a process that is up is live
-pub is_live-at : (m : TheMachine) (p : ℕ) → 0 < p → is_up_at m p ≡ true → is_live (process_at m p).stage ≡ true
+pub is_live-at : (m : TheMachine) (p : ℕ) → 0 < p → is_up_at m p ≡ true → is_live (process_at m p).mode ≡ true
 is_live-at m p inside up = let apart : (p == 0) ≡ false = grind (arith, nat_tests) in rw apart at up
 
 -- what one that isn't down has of its history
-pub held_at : (m : TheMachine) (w : World) → Stands m w → (p : ℕ) → 0 < p → p ≤ length m.processes → is_lost (process_at m p).stage ≡ false → take (length_of w p) (w.history p) ≡ held_by (process_at m p).stage (w.saved p) (w.history p)
+pub held_at : (m : TheMachine) (w : World) → Stands m w → (p : ℕ) → 0 < p → p ≤ length m.processes → is_lost (process_at m p).mode ≡ false → take (length_of w p) (w.history p) ≡ held_by (process_at m p).mode (w.saved p) (w.history p)
 held_at m w s p inside within back = rw (at_process m w s p inside within).phase_is (held-length_in _ _ _ _ _ back)
 
 -- what the log of this number keeps for another
@@ -307,7 +307,7 @@ module _ (m : TheMachine) (w : World) (s : Stands m w) (p : ℕ) (x : Message) (
   at : StandsAt (length m.processes) p (process_at m p) (w.handlers.state p) (w.handlers.sends p) (w.history p) (w.phase p) (w.incarnation p) (w.acknowledged p) (w.saved p) (w.saved_trims p)
   at = at_process m w s p inside within
 
-  all : held_by (process_at m p).stage (w.saved p) (w.history p) ≡ w.history p
+  all : held_by (process_at m p).mode (w.saved p) (w.history p) ≡ w.history p
   all = held-live _ _ _ (is_live-at m p inside up)
 
   numbers : List ℕ

@@ -21,7 +21,7 @@ use Rattle.machine.specs.Fields.{IsSoundAt}
 use Rattle.machine.specs.Saving.{covered_at, drops, dropped_by, dropped_to, trimmed_log, trimmed_to, without_covered}
 use Rattle.machine.specs.Simulation.{TheMachine, Shows, Stands, StandsAt, Steps, Keeps, process_at, log_at, is_up_at}
 use Rattle.machine.proofs.Standing.{rest-length, up-down, is_up-phase_of, is_live-at, live-lost}
-use Rattle.machine.specs.Stage.{is_live}
+use Rattle.machine.specs.Mode.{is_live}
 use Rattle.machine.proofs.OneProcess.{shows-one, unchanged-at}
 use Rattle.machine.proofs.Steps.{step}
 
@@ -301,13 +301,13 @@ module _ (m : TheMachine) (w : World) (d k : ℕ) (shows : Shows m (world_to w d
   standing : StandsAt (length m.processes) k (process_at m k) (w.handlers.state k) (w.handlers.sends k) (w.history k) (w.phase k) (w.incarnation k) (w.acknowledged k) (w.saved k) (w.saved_trims k)
   standing = let place : suc (k - 1) ≡ k = omega arith in rw place at (shows.process (k - 1) (idle_process 0 0 0) (omega (arith, positive, from)))
 
-  live : is_live (process_at m k).stage ≡ true
+  live : is_live (process_at m k).mode ≡ true
   live = is_live-at m k positive (up m w d k shows sound unsent wide to from b)
 
   here : StandsAt (length m.processes) k (trimmed_at d (covered_at m k d) (process_at m k)) (w.handlers.state k) (w.handlers.sends k) (w.history k) (w.phase k) (w.incarnation k) (w.acknowledged k) (w.saved k) (w.saved_trims k)
   here = record {
     state_is = standing.state_is;
-    gone = λ e. absurd (true≢false (sym e ∙ live-lost (process_at m k).stage live));
+    gone = λ e. absurd (true≢false (sym e ∙ live-lost (process_at m k).mode live));
     senders = standing.senders;
     flags = standing.flags;
     acknowledged_is = standing.acknowledged_is;

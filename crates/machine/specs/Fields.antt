@@ -10,7 +10,7 @@ use Rattle.world.specs.Refusals.{one_if}
 use Rattle.rsn.specs.Receipts.{run_of}
 use Rattle.checkpoint.specs.Saved.{is_sender}
 use Rattle.machine.specs.Process.{TheProcess, received}
-use Rattle.machine.specs.Stage.{is_live, is_lost, IsInPlan}
+use Rattle.machine.specs.Mode.{is_live, is_lost, IsInPlan}
 use Rattle.machine.specs.Simulation.{TheMachine}
 use Rattle.machine.specs.declared.machine.Machine.TheInside.{Inside}
 
@@ -41,11 +41,11 @@ begun x = received x + one_if (is_some x.working)
 -- one of n processes, with this number, an image of this state length, after so many calls
 pub record IsSoundAt (n me len calls : ℕ) (x : TheProcess) : Type 0 where
   pub short : len ≤ STATE_BYTES
-  pub state : is_lost x.stage ≡ false → length x.state ≡ len
+  pub state : is_lost x.mode ≡ false → length x.state ≡ len
   pub log : IsLogOf n me x.outbox.log
   pub senders : list_all (is_sender me n) x.receipts.senders ≡ true
-  pub whole : is_live x.stage ≡ false → run_of x.receipts.acknowledged ≡ received x
-  pub planned : IsInPlan x.stage x.working (received x)
+  pub whole : is_live x.mode ≡ false → run_of x.receipts.acknowledged ≡ received x
+  pub planned : IsInPlan x.mode x.working (received x)
   pub begun_by : begun x ≤ calls
   pub incarnation : x.incarnation ≤ calls + 1
   pub own : x.saved.me ≡ me

@@ -5,7 +5,7 @@ use Rattle.handlers.specs.Image.{TheImage}
 use Rattle.replay.specs.Task.{TheTask}
 use Rattle.world.specs.declared.message.Message.{Message}
 use Rattle.machine.specs.Process.{received}
-use Rattle.machine.specs.Stage.{is_lost, IsNextFor}
+use Rattle.machine.specs.Mode.{is_lost, IsNextFor}
 use Rattle.machine.specs.Simulation.{TheMachine, process_at}
 
 -- a message of another for a process that isn't down, and where one is replayed, the next of the plan
@@ -14,8 +14,8 @@ pub record MayBegin (m : TheMachine) (me : ℕ) (message : Message) : Type 0 whe
   pub within : me ≤ length m.processes
   pub from : message.sender ≤ length m.processes
   pub other : message.sender ≢ me
-  pub back : is_lost (process_at m me).stage ≡ false
-  pub next : IsNextFor (process_at m me).stage message
+  pub back : is_lost (process_at m me).mode ≡ false
+  pub next : IsNextFor (process_at m me).mode message
   pub calls : m.calls < ENTRIES
 
 -- the process works on the message, and the job has all that its handler takes

@@ -3,7 +3,7 @@ pub mod Outbox
 pub mod Process
 pub mod Queue
 pub mod Stable
-pub mod Stage
+pub mod Mode
 pub mod Saving
 pub mod Recovering
 pub mod Replaying
@@ -20,3 +20,4 @@ pub mod Arriving
 pub mod Picking
 pub mod Reading
 pub mod Stepping
+pub use Rattle.replay.specs.Task

@@ -10,12 +10,12 @@ use Rattle.checkpoint.specs.Saved.{TheSaved, receipts_again}
 use Rattle.world.specs.declared.message.Message.{Message}
 use Rattle.replay.specs.Plan.{ThePlan, next_of}
 use Rattle.replay.specs.Task.{TheTask, answer_of}
-use Rattle.machine.specs.Outbox.{TheOutbox, empty_outbox, outbox_again, with_messages, Gives, Opens}
+use Rattle.machine.specs.Outbox.{TheOutbox, empty_outbox, outbox_again, with_messages, Gives, ReleasesAll}
 use Rattle.machine.specs.Stable.{idle_saved}
-use Rattle.machine.specs.Stage.{has_no_peer}
-use Rattle.machine.specs.declared.stage.Stage.{Stage}
-use Rattle.machine.specs.declared.stage.Peers.{Peers}
-use Rattle.machine.specs.declared.stage.Stage.TheVariants.{Live, Down, Replaying, Resync}
+use Rattle.machine.specs.Mode.{has_no_peer}
+use Rattle.machine.specs.declared.mode.Mode.{Mode}
+use Rattle.machine.specs.declared.mode.Peers.{Peers}
+use Rattle.machine.specs.declared.mode.Mode.TheVariants.{Live, Down, Replaying, Resync}
 
 -- its state, its incarnation, what it received, what it sent, the message that it works on, its checkpoint, and what else it does
 pub record TheProcess : Type 0 where
@@ -25,7 +25,7 @@ pub record TheProcess : Type 0 where
   pub outbox : TheOutbox
   pub working : Option Message
   pub saved : TheSaved
-  pub stage : Stage
+  pub mode : Mode
 
 -- no receipts
 abbrev pub nothing_received : Received
@@ -34,7 +34,7 @@ nothing_received = record { senders = []; acknowledged = [] }
 -- a process that received nothing: its number, that of the last process, and the length of its state
 abbrev pub idle_process : ℕ → ℕ → ℕ → TheProcess
 idle_process me n len =
-    record { state = replicate len 0; incarnation = 1; receipts = nothing_received; outbox = empty_outbox me n; working = None; saved = idle_saved me n len; stage = Live }
+    record { state = replicate len 0; incarnation = 1; receipts = nothing_received; outbox = empty_outbox me n; working = None; saved = idle_saved me n len; mode = Live }
 
 -- how many messages it received
 abbrev pub received : TheProcess → ℕ
@@ -59,7 +59,7 @@ pub record Commits (t : TheTask) (old new : TheProcess) : Type 0 where
   pub working : new.working ≡ None
   pub incarnation : new.incarnation ≡ old.incarnation
   pub saved : new.saved ≡ old.saved
-  pub stage : new.stage ≡ old.stage
+  pub mode : new.mode ≡ old.mode
 
 -- all that it received is acknowledged
 abbrev pub all_acknowledged : Received → Received
@@ -72,14 +72,14 @@ pub record IsSaved (s : TheSaved) (old new : TheProcess) : Type 0 where
 
 -- a crash takes all but the checkpoint and the incarnation
 abbrev pub crashed : TheOutbox → TheProcess → TheProcess
-crashed outbox x = record { state = []; incarnation = x.incarnation + 1; receipts = nothing_received; outbox = outbox; working = None; saved = x.saved; stage = Down }
+crashed outbox x = record { state = []; incarnation = x.incarnation + 1; receipts = nothing_received; outbox = outbox; working = None; saved = x.saved; mode = Down }
 
 -- it is back as its checkpoint says, and has the plan before it
 abbrev pub restored : ThePlan → Bool → TheProcess → TheProcess
-restored plan alone x = record { state = x.saved.state; incarnation = x.incarnation; receipts = receipts_again x.saved; outbox = outbox_again x.saved; working = None; saved = x.saved; stage = Replaying plan alone }
+restored plan alone x = record { state = x.saved.state; incarnation = x.incarnation; receipts = receipts_again x.saved; outbox = outbox_again x.saved; working = None; saved = x.saved; mode = Replaying plan alone }
 
 -- so many more messages of the plan are replayed
-abbrev pub advanced : Stage → Stage
+abbrev pub advanced : Mode → Mode
 advanced Live = Live
 advanced Down = Down
 advanced (Replaying plan alone) = Replaying (record plan { replayed = plan.replayed + 1 }) alone
@@ -93,15 +93,15 @@ pub record Recalls (t : TheTask) (old new : TheProcess) : Type 0 where
   pub working : new.working ≡ None
   pub incarnation : new.incarnation ≡ old.incarnation
   pub saved : new.saved ≡ old.saved
-  pub stage : new.stage ≡ advanced old.stage
+  pub mode : new.mode ≡ advanced old.mode
 
 -- it has these peers to do, or where there is none, is up, and all that it sent is released
 pub record Settles (peers : Peers) (old new : TheProcess) : Type 0 where
-  pub some : has_no_peer peers ≡ false → new ≡ record old { stage = Resync peers }
-  pub none : has_no_peer peers ≡ true → Opens old.outbox new.outbox × (new ≡ record old { outbox = new.outbox; stage = Live })
+  pub some : has_no_peer peers ≡ false → new ≡ record old { mode = Resync peers }
+  pub none : has_no_peer peers ≡ true → ReleasesAll old.outbox new.outbox × (new ≡ record old { outbox = new.outbox; mode = Live })
 
 -- the message that the task is for is the next of the plan, where one is replayed
-abbrev pub IsNextAt : Stage → TheTask → Type 0
+abbrev pub IsNextAt : Mode → TheTask → Type 0
 IsNextAt Live t = Unit {0}
 IsNextAt Down t = Unit {0}
 IsNextAt (Replaying plan alone) t = next_of plan ≡ Some (t.rsn, t.message)

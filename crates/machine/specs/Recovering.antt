@@ -12,13 +12,13 @@ use Rattle.world.specs.Refusals.{refusal_of}
 use Rattle.rsn.specs.Receipts.{run_of}
 use Rattle.machine.specs.Process.{TheProcess, Settles, received, unnumbered_at}
 use Rattle.machine.specs.Simulation.{TheMachine, Stands, process_at, is_up_at}
-use Rattle.machine.specs.declared.stage.Peers.{Peers}
-use Rattle.machine.specs.Stage.{is_lost}
+use Rattle.machine.specs.declared.mode.Peers.{Peers}
+use Rattle.machine.specs.Mode.{is_lost}
 use Rattle.machine.specs.Sending.{busy}
 
 -- why one that may come back doesn't
 abbrev pub returning : TheMachine → ℕ → ℕ → Option Refusal
-returning m room p = if is_lost (process_at m p).stage then (if nat_le room (busy m) then Some JournalFull else None) else Some NotDown
+returning m room p = if is_lost (process_at m p).mode then (if nat_le room (busy m) then Some JournalFull else None) else Some NotDown
 
 -- the logs of 0, 1, ..
 abbrev pub logs_of : TheMachine → List TheLog
@@ -33,7 +33,7 @@ recovery_of p false = Recover p
 pub record MayRecover (m : TheMachine) (room p : ℕ) (alone : Bool) : Type 0 where
   pub inside : 0 < p
   pub within : p ≤ length m.processes
-  pub down : is_lost (process_at m p).stage ≡ true
+  pub down : is_lost (process_at m p).mode ≡ true
   pub accepted : (w : World) → Stands m w → refusal_of w room (recovery_of p alone) ≡ None
   pub calls : m.calls < ENTRIES
 
@@ -56,7 +56,7 @@ ArePeersOf m p alone peers = (length peers.todo ≡ PARTIES) × ((q : ℕ) → s
 pub record MaySettle (m : TheMachine) (p : ℕ) : Type 0 where
   pub inside : 0 < p
   pub within : p ≤ length m.processes
-  pub back : is_lost (process_at m p).stage ≡ false
+  pub back : is_lost (process_at m p).mode ≡ false
   pub idle : (process_at m p).working ≡ None
   pub whole : run_of (process_at m p).receipts.acknowledged ≡ received (process_at m p)
 

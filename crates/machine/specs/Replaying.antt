@@ -6,8 +6,8 @@ use Rattle.sender_log.specs.Queue.{renumbered}
 use Rattle.sender_log.specs.Log.{queue_of}
 use Rattle.machine.specs.Outbox.{with_messages}
 use Rattle.machine.specs.Process.{TheProcess}
-use Rattle.machine.specs.Stage.{next_job, is_to_do}
-use Rattle.machine.specs.declared.stage.Peers.{Peers}
+use Rattle.machine.specs.Mode.{next_job, is_to_do}
+use Rattle.machine.specs.declared.mode.Peers.{Peers}
 use Rattle.machine.specs.Simulation.{TheMachine, process_at, is_up_at}
 
 -- p replays, has no job open, and something is left to replay
@@ -15,7 +15,7 @@ pub record MayReplay (m : TheMachine) (p : ℕ) : Type 0 where
   pub inside : 0 < p
   pub within : p ≤ length m.processes
   pub idle : (process_at m p).working ≡ None
-  pub left : IsSome (next_job (process_at m p).stage)
+  pub left : IsSome (next_job (process_at m p).mode)
 
 -- p has still to restore its numbers for r, which is up
 pub record MayResync (m : TheMachine) (p r : ℕ) : Type 0 where
@@ -25,7 +25,7 @@ pub record MayResync (m : TheMachine) (p r : ℕ) : Type 0 where
   pub peer_within : r ≤ length m.processes
   pub other : p ≢ r
   pub up : is_up_at m r ≡ true
-  pub todo : is_to_do (process_at m p).stage r ≡ true
+  pub todo : is_to_do (process_at m p).mode r ≡ true
 
 -- each message of p to r has the number that r's receipts have for it, or none
 abbrev pub renumbered_at : ℕ → ℕ → TheMachine → TheMachine
@@ -35,7 +35,7 @@ renumbered_at p r m =
 
 -- whether p has this peer still to do, where r is done
 abbrev pub is_left : TheMachine → ℕ → ℕ → ℕ → Bool
-is_left m p r q = nat_lt 0 q && nat_le q (length m.processes) && not (q == r) && is_to_do (process_at m p).stage q
+is_left m p r q = nat_lt 0 q && nat_le q (length m.processes) && not (q == r) && is_to_do (process_at m p).mode q
 
 abbrev pub ArePeersLeft : TheMachine → ℕ → ℕ → Peers → Type 0
 ArePeersLeft m p r peers = (length peers.todo ≡ PARTIES) × ((q : ℕ) → slice_index_or peers.todo q false ≡ is_left m p r q)

@@ -7,7 +7,7 @@ use Rattle.world.specs.declared.refusal.Refusal.{Refusal}
 use Rattle.world.specs.declared.refusal.Refusal.TheVariants.{JournalFull, WireFull}
 use Rattle.machine.specs.Process.{TheProcess}
 use Rattle.machine.specs.Simulation.{TheMachine, gate_at, is_up_at, log_at}
-use Rattle.machine.specs.Stage.{is_live}
+use Rattle.machine.specs.Mode.{is_live}
 
 -- how many jobs are open
 abbrev pub busy : TheMachine → ℕ
@@ -15,7 +15,7 @@ busy m = count_by (λ (x : TheProcess). is_some x.working) m.processes
 
 -- how many of these are live
 abbrev pub live : TheMachine → ℕ
-live m = count_by (λ (x : TheProcess). is_live x.stage && is_some x.working) m.processes
+live m = count_by (λ (x : TheProcess). is_live x.mode && is_some x.working) m.processes
 
 -- why one packet more has no place, in the journal or on the wire
 abbrev pub placing : TheMachine → ℕ → Option Refusal

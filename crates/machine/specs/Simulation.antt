@@ -27,7 +27,7 @@ use Rattle.machine.specs.Outside.{TheOutside, is_taken}
 use Rattle.machine.specs.Receipts.{InOrder}
 use Rattle.machine.specs.Outbox.{empty_outbox}
 use Rattle.machine.specs.Stable.{Saves}
-use Rattle.machine.specs.Stage.{is_live, is_lost, held_by, phase_of, MayWork}
+use Rattle.machine.specs.Mode.{is_live, is_lost, held_by, phase_of, MayWork}
 use Rattle.machine.specs.Queue.{IsRest}
 
 -- what clauses see of a machine: no capacities. The processes and their images are those of numbers 1, 2, ..
@@ -53,19 +53,19 @@ gate_at m p = (process_at m p).outbox.gate
 
 -- whether this one is up. The outside always is
 abbrev pub is_up_at : TheMachine → ℕ → Bool
-is_up_at m p = (p == 0) || is_live (process_at m p).stage
+is_up_at m p = (p == 0) || is_live (process_at m p).mode
 
 -- what is kept of the process me of n stands for what it received, what it does, and what its checkpoint covers. While it is down its
 -- state and its logs are gone
 pub record StandsAt (n me : ℕ) (kept : TheProcess) (state : List Message → List ℕ) (sends : List Message → ℕ → List Payload) (history : List Message) (phase : Phase) (incarnation : ℕ) (acknowledged : ℕ → Bool) (saved : ℕ) (saved_trims : ℕ → ℕ) : Type 0 where
-  pub state_is : is_lost kept.stage ≡ false → kept.state ≡ state (held_by kept.stage saved history)
-  pub gone : is_lost kept.stage ≡ true → (kept.state ≡ []) × (kept.outbox ≡ empty_outbox me n)
-  pub senders : kept.receipts.senders ≡ map (λ (m : Message). m.sender) (held_by kept.stage saved history)
+  pub state_is : is_lost kept.mode ≡ false → kept.state ≡ state (held_by kept.mode saved history)
+  pub gone : is_lost kept.mode ≡ true → (kept.state ≡ []) × (kept.outbox ≡ empty_outbox me n)
+  pub senders : kept.receipts.senders ≡ map (λ (m : Message). m.sender) (held_by kept.mode saved history)
   pub flags : length kept.receipts.acknowledged ≡ length kept.receipts.senders
   pub acknowledged_is : (k : ℕ) → k < length kept.receipts.senders → slice_index_or kept.receipts.acknowledged k false ≡ acknowledged (suc k)
   pub in_order : InOrder history
-  pub phase_is : phase ≡ phase_of n kept.stage kept.working
-  pub works : MayWork kept.stage kept.working saved history
+  pub phase_is : phase ≡ phase_of n kept.mode kept.working
+  pub works : MayWork kept.mode kept.working saved history
   pub incarnation_is : incarnation ≡ kept.incarnation
   pub saves : Saves n me kept.saved (state (take saved history)) (take saved history) saved_trims (sends (take saved history))
 

@@ -127,7 +127,7 @@ impl Machine {
         if process.recall(&done).is_err() {
             return Err((Refusal::Memory, done));
         }
-        if let Some(alone) = process.stage().is_replayed() {
+        if let Some(alone) = process.mode().is_replayed() {
             self.settle(me, alone);
         }
         self.calls += 1;

@@ -10,9 +10,9 @@ ghost use Rattle.machine.specs.Sending.{live};
 ghost use Rattle.machine.specs.Opening.{Opens, AreIdle};
 ghost use Rattle.machine.specs.Reading.{ReceiptsStand, LogStands, GateStands};
 
+use crate::mode::Mode;
 use crate::outside::Outside;
 use crate::process::Process;
-use crate::stage::Stage;
 use crate::wire::Wire;
 use handlers::Handler;
 use helpers::Who;
@@ -133,7 +133,7 @@ impl Machine {
         ensures { (w : World) → Stands self.now w → result ≡ length_of w p }
     {
         let process = self.process(p);
-        if process.stage().is_lost() {
+        if process.mode().is_lost() {
             return process.stable().length();
         }
         process.length()
@@ -145,12 +145,12 @@ impl Machine {
         ensures { (w : World) → Stands self.now w → result ≡ name_of (w.phase p) }
     {
         let process = self.process(p);
-        match process.stage() {
-            Stage::Live if process.working().is_some() => PhaseName::Busy,
-            Stage::Live => PhaseName::Up,
-            Stage::Down => PhaseName::Down,
-            Stage::Replaying { .. } => PhaseName::Replaying,
-            Stage::Resync(_) => PhaseName::Resync,
+        match process.mode() {
+            Mode::Live if process.working().is_some() => PhaseName::Busy,
+            Mode::Live => PhaseName::Up,
+            Mode::Down => PhaseName::Down,
+            Mode::Replaying { .. } => PhaseName::Replaying,
+            Mode::Resync(_) => PhaseName::Resync,
         }
     }
 
@@ -229,7 +229,7 @@ impl Machine {
         requires { p ≤ length self.now.processes }
         ensures { result ≡ is_up_at self.now p }
     {
-        p == 0 || self.process(p).stage().is_live()
+        p == 0 || self.process(p).mode().is_live()
     }
 
     // How the process is called for a message of this sender.

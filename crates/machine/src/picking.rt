@@ -8,8 +8,8 @@ ghost use Rattle.world.specs.Refusals.{refusal_of};
 ghost use Rattle.world.specs.Useful.{belongs, is_unacknowledged, is_useful, wants, works_on};
 ghost use Rattle.machine.specs.Fields.{IsCarried};
 ghost use Rattle.machine.specs.Simulation.{Stands, process_at, is_up_at};
-ghost use Rattle.machine.specs.Stage.{phase_of};
-ghost use Rattle.machine.specs.declared.stage.Stage.TheVariants.{Live};
+ghost use Rattle.machine.specs.Mode.{phase_of};
+ghost use Rattle.machine.specs.declared.mode.Mode.TheVariants.{Live};
 ghost use Rattle.machine.specs.Picking.{IsPick, IsMove, ArePeers, IsWanted, NoneWanted, next_ssn};
 
 use crate::machine::Machine;

@@ -6,11 +6,11 @@ ghost use Rattle.world.specs.Refusals.{refusal_of, cause_of, others_up};
 ghost use Rattle.replay.specs.Plan.{IsPlan, found};
 ghost use Rattle.machine.specs.Simulation.{Stands, Simulates, answering, process_at, is_up_at, IsTold};
 ghost use Rattle.machine.specs.Recovering.{MayRecover, MaySettle, SettlesAt, returning, ArePeersOf, forgotten, logs_of, recovery_of};
-ghost use Rattle.machine.specs.Stage.{is_lost};
+ghost use Rattle.machine.specs.Mode.{is_lost};
 
 use crate::machine::Machine;
+use crate::mode::Peers;
 use crate::outbox::Outbox;
-use crate::stage::Peers;
 use limits::ENTRIES;
 use replay::{Plan, collect_from};
 use rsn::Receipts;
@@ -21,7 +21,7 @@ impl Machine {
     /// Why a process would not crash.
     pub fn crash_cause(&self, room: u32, p: u8) -> Option<Refusal>
         requires { room ≤ ENTRIES }
-        ensures none { IfNone result ((0 < p) × (p ≤ length self.now.processes) × (0 < room) × (is_lost (process_at self.now p).stage ≡ false)) }
+        ensures none { IfNone result ((0 < p) × (p ≤ length self.now.processes) × (0 < room) × (is_lost (process_at self.now p).mode ≡ false)) }
         ensures cause { (w : World) → Stands self.now w → refusal_of w room (Call.Crash p) ≡ option_and_then cause_of result }
         ensures told { IsTold result }
     {
@@ -29,7 +29,7 @@ impl Machine {
             return Some(Refusal::NoSuchProcess);
         }
         let process = self.process(p);
-        if process.stage().is_lost() {
+        if process.mode().is_lost() {
             return Some(Refusal::NotUp);
         }
         let own = process.working().is_some() as u32;
@@ -70,7 +70,7 @@ impl Machine {
 
     /// Why a process would not come back.
     pub fn recover_cause(&self, room: u32, p: u8) -> Option<Refusal>
-        ensures none { IfNone result ((0 < p) × (p ≤ length self.now.processes) × (0 < room) × (is_lost (process_at self.now p).stage ≡ true)) }
+        ensures none { IfNone result ((0 < p) × (p ≤ length self.now.processes) × (0 < room) × (is_lost (process_at self.now p).mode ≡ true)) }
         ensures cause { (w : World) → Stands self.now w → refusal_of w room (Call.Recover p) ≡ option_and_then cause_of result }
         ensures told { IsTold result }
     {
@@ -85,7 +85,7 @@ impl Machine {
 
     /// Why a process would not come back alone.
     pub fn recover_alone_cause(&self, room: u32, p: u8) -> Option<Refusal>
-        ensures none { IfNone result ((0 < p) × (p ≤ length self.now.processes) × (0 < room) × (is_lost (process_at self.now p).stage ≡ true)) }
+        ensures none { IfNone result ((0 < p) × (p ≤ length self.now.processes) × (0 < room) × (is_lost (process_at self.now p).mode ≡ true)) }
         ensures cause { (w : World) → Stands self.now w → refusal_of w room (Call.RecoverAlone p) ≡ option_and_then cause_of result }
         ensures told { IsTold result }
     {
@@ -100,7 +100,7 @@ impl Machine {
         requires { (0 < p) × (p ≤ length self.now.processes) }
         ensures { result ≡ returning self.now room p }
     {
-        if !self.process(p).stage().is_lost() {
+        if !self.process(p).mode().is_lost() {
             return Some(Refusal::NotDown);
         }
         if room <= self.open_jobs() {

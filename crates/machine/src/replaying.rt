@@ -8,11 +8,11 @@ ghost use Rattle.sender_log.specs.Queue.{known};
 ghost use Rattle.sender_log.specs.Log.{queue_of};
 ghost use Rattle.machine.specs.Arrival.{IsHandedOut};
 ghost use Rattle.machine.specs.Simulation.{Stands, Simulates, answering, process_at, log_at, IsTold};
-ghost use Rattle.machine.specs.Stage.{is_to_do};
+ghost use Rattle.machine.specs.Mode.{is_to_do};
 ghost use Rattle.machine.specs.Replaying.{MayReplay, MayResync, ArePeersLeft, renumbered_at};
 
 use crate::machine::Machine;
-use crate::stage::{Peers, Stage};
+use crate::mode::{Mode, Peers};
 use limits::ENTRIES;
 use replay::Job;
 use std::alloc::AllocError;
@@ -32,7 +32,7 @@ impl Machine {
         if process.working().is_some() {
             return Some(Refusal::Busy);
         }
-        if process.stage().next_job().is_none() {
+        if process.mode().next_job().is_none() {
             return Some(Refusal::WrongPhase);
         }
         if room <= self.open_jobs() + 1 {
@@ -52,7 +52,7 @@ impl Machine {
         if let Some(refusal) = self.replay_begin_cause(room, p) {
             return Err(refusal);
         }
-        let Some(message) = self.process(p).stage().next_job() else {
+        let Some(message) = self.process(p).mode().next_job() else {
             return Err(Refusal::WrongPhase);
         };
         // No plan has another sender, so this refuses nothing.
@@ -66,10 +66,10 @@ impl Machine {
     pub fn is_to_do(&self, p: u8, r: u8) -> bool
         requires { (1 ≤ p) × (p ≤ length self.now.processes) }
         ensures todo { (w : World) → Stands self.now w → result ≡ has (todo_of (w.phase p)) r }
-        ensures value { result ≡ (nat_lt 0 r && nat_le r (length self.now.processes) && is_to_do (process_at self.now p).stage r) }
+        ensures value { result ≡ (nat_lt 0 r && nat_le r (length self.now.processes) && is_to_do (process_at self.now p).mode r) }
     {
-        match self.process(p).stage() {
-            Stage::Resync(todo) => r > 0 && r <= self.count() && todo.has(r),
+        match self.process(p).mode() {
+            Mode::Resync(todo) => r > 0 && r <= self.count() && todo.has(r),
             _ => false,
         }
     }

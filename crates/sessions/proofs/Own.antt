@@ -2,7 +2,7 @@
 use Rattle.std.proofs.Common.{◌≡◌, ℕ, ◌+◌, ◌-◌, ◌≤◌, List, [], ◌∷◌, ◌++◌, length, length-append, true, sym, ap, ◌∙◌, subst}
 use Rattle.std.specs.Prelude.{Option, Some, None, Result, Err}
 use Rattle.limits.specs.declared.TheConstants.{ENTRIES}
-use Rattle.replay.specs.Task.{TheTask}
+use Rattle.machine.specs.Task.{TheTask}
 use Rattle.world.specs.declared.call.Call.{Call}
 use Rattle.world.specs.declared.answer.Answer.{Answer}
 use Rattle.world.specs.declared.entry.Entry.{Entry}
@@ -36,6 +36,7 @@ answered worker m m' es entries e is =
 abbrev pub Grows : ℕ → TheMachine → TheMachine → List Entry → List Entry → Call → Answer → Type 0
 Grows worker m m' es entries call answer = Accepts m m' es entries [] (seat_of worker (service m es)) (seat_of worker (service m' entries)) call answer
 
+-- it does so where it is a step of each world that the machine stands for, and leaves a place for each open job
 pub grows : (worker : ℕ) (m m' : TheMachine) (es entries : List Entry) (call : Call) (answer : Answer) → IsSession m es → may_call (here m es) worker call ≡ true
     → ((w : World) → Stands m w → Steps m m' (ENTRIES - length es) call answer w)
     → entries ≡ es ++ entry worker call answer ∷ [] → m'.calls ≡ m.calls + 1 → length es + 1 + open_jobs (after (here m es) call answer) ≤ ENTRIES → Grows worker m m' es entries call answer

@@ -1,7 +1,7 @@
 -- Calls of a service as those of a session, whose callers share it
 use Rattle.std.proofs.Common.{◌≡◌, ℕ, ◌+◌, ◌-◌, ◌≤◌, ◌∷◌, [], List, length, length-append, refl, ap, ◌∙◌, arith}
 use Rattle.std.specs.Prelude.{Option, Result, Ok, Err}
-use Rattle.replay.specs.Task.{TheTask}
+use Rattle.machine.specs.Task.{TheTask}
 use Rattle.world.specs.declared.call.Call.{Call}
 use Rattle.world.specs.declared.answer.Answer.{Answer}
 use Rattle.world.specs.declared.refusal.Refusal.{Refusal}
@@ -30,6 +30,7 @@ pub takes : (seats : List (Option TheSeat)) (old new : TheSession) (by by' : The
     → by' ≡ answered_more 1 by → Takes (with_seats seats old) (with_seats seats new) by by' task (Ok f)
 takes seats old new by by' task f owes seat = (owes.0, (owes.1.0, ap (with_seats seats) owes.1.1, seat))
 
+-- a result that is refused leaves all as it was
 pub leaves : (seats : List (Option TheSeat)) (old new : TheSession) (by : TheSeat) (worker : ℕ) (task : TheTask) (r : Refusal × TheTask) → Takes old new (seat_of worker old) (seat_of worker new) task (Err r)
     → Takes (with_seats seats old) (with_seats seats new) by by task (Err r)
 leaves seats old new by worker task r owes = (owes.0, ap (with_seats seats) owes.1, refl, owes.3)
@@ -48,6 +49,7 @@ advances seats budget old new by by' n left a seat =
       run = a.run;
     }
 
+-- calls that are driven count for the seat, as many as the journal grew
 pub drives : (seats : List (Option TheSeat)) (budget : ℕ) (old new : TheSession) (by by' : TheSeat) (r : Result ℕ Refusal) → Driven budget old new (seat_of by.worker old) (seat_of by.worker new) r
     → by' ≡ answered_more (length new.entries - length old.entries) by → Driven budget (with_seats seats old) (with_seats seats new) by by' r
 drives seats budget old new by by' (Ok n) made seat = (advances seats budget old new by by' n _ made.0 seat, made.1)

@@ -9,7 +9,7 @@ use Rattle.world.specs.declared.refusal.Refusal.{Refusal}
 use Rattle.world.specs.declared.refusal.Refusal.TheVariants.{Memory}
 use Rattle.world.specs.World.{World}
 use Rattle.world.specs.Calls.{after}
-use Rattle.replay.specs.Task.{TheTask}
+use Rattle.machine.specs.Task.{TheTask}
 use Rattle.machine.specs.Arrival.{IsOpen}
 use Rattle.machine.specs.Picking.{IsPick}
 use Rattle.machine.specs.Stepping.{job_of}

@@ -39,7 +39,7 @@ mod session;
 mod share;
 mod slip;
 
-pub use machine::{Finished, Reply};
+pub use machine::{Done, Finished, Job, Reply};
 pub use seat::Seat;
 pub use service::Service;
 pub use session::Session;

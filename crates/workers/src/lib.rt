@@ -28,7 +28,7 @@ mod working;
 pub use closing::{Closed, close};
 pub use feeding::Item;
 pub use running::{RunError, run};
-pub use sessions::{End, Share};
+pub use sessions::{Done, End, Job, Share};
 pub use shared::Shared;
 pub use turn::Turn;
 pub use turnstile::{Open, Turnstile};

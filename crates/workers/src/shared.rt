@@ -6,8 +6,7 @@ ghost use Rattle.workers.specs.Continues.{Begins, Continues, are_allowed};
 ghost use Rattle.workers.specs.Shares.{GoesOn};
 
 use crate::turn::{Turn, finish_job, take_turn};
-use replay::Done;
-use sessions::{Seat, Session};
+use sessions::{Done, Seat, Session};
 use std::marker::{Brand, PhantomData};
 use std::sync::ledger::Ledger;
 use world::{Feed, Refusal};

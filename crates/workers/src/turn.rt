@@ -4,8 +4,7 @@ ghost use Rattle.std.specs.Prelude.{◌≡◌, ◌+◌, ◌≤◌};
 ghost use Rattle.workers.specs.Continues.{Continues};
 ghost use Rattle.workers.specs.Shares.{GoesOn};
 
-use replay::{Done, Job};
-use sessions::{Seat, Session};
+use sessions::{Done, Job, Seat, Session};
 use std::sync::ledger::Ledger;
 use world::{Feed, Refusal};
 

@@ -2,7 +2,7 @@
 
 ghost use Rattle.std.specs.Prelude.{◌≡◌};
 
-use replay::{Done, Job};
+use sessions::{Done, Job};
 
 /// Called by a worker for each job that it takes, both times with the lock free. A job is told by
 /// its serial number, from 1, in the order of their starts.

@@ -1,6 +1,7 @@
 //! What one worker does.
 
-ghost use Rattle.std.specs.Prelude.{◌≡◌, ◌+◌, ◌<◌, ◌≤◌};
+ghost use Rattle.std.specs.Prelude.{◌≡◌, ◌≢◌, ◌+◌, ◌<◌, ◌≤◌, IfNone, Some};
+ghost use Rattle.sessions.specs.declared.share.End.TheVariants.{Budget};
 ghost use Rattle.workers.specs.Shares.{GoesOn, IsServed};
 
 use crate::feeding::{Item, next_feed};
@@ -8,8 +9,7 @@ use crate::shared::Shared;
 use crate::turn::Turn;
 use crate::turnstile::Turnstile;
 use crossbeam_channel::Receiver;
-use replay::Job;
-use sessions::{End, Seat, Share};
+use sessions::{End, Job, Seat, Share};
 use std::sync::ledger::Ledger;
 use std::sync::{Mutex, Wait};
 use std::{hint, thread};
@@ -73,32 +73,33 @@ pub(crate) fn serve<L: Ledger, S: Shared<L>, R: Wait, G: Turnstile>(
         }
         let feed = if is_fed { next_feed(rt, items) } else { None };
         is_fed = feed.is_some();
-        match turn(rt, &mut seat, session, turnstile, feed, &mut doubled) {
-            Err(refusal) => return Share {
-                seat,
-                doubled,
-                end: End::Refused(refusal),
-            },
-            Ok(Turn::Quiet) if !is_fed => return Share {
-                seat,
-                doubled,
-                end: End::Quiet,
-            },
-            Ok(Turn::Waiting) if !is_fed => idle += 1,
-            Ok(_) => idle = 0,
-        }
-        if idle == PATIENCE {
-            return Share {
-                seat,
-                doubled,
-                end: End::Stalled,
-            };
+        let turned = turn(rt, &mut seat, session, turnstile, feed, &mut doubled);
+        if let Some(end) = end_of(turned, is_fed, &mut idle) {
+            return Share { seat, doubled, end };
         }
         if idle > 0 {
             rest(idle);
         }
     }
     unreachable!()
+}
+
+// How a worker ends behind this turn, if it does. It counts the turns on end in which it only waits.
+fn end_of(turned: Result<Turn, Refusal>, is_fed: bool, idle: &mut u32) -> Option<End>
+    requires { idle.old < PATIENCE }
+    ensures unspent { result ≢ Some Budget }
+    ensures patient { IfNone result (idle.new < PATIENCE) }
+{
+    match turned {
+        Err(refusal) => return Some(End::Refused(refusal)),
+        Ok(Turn::Quiet) if !is_fed => return Some(End::Quiet),
+        Ok(Turn::Waiting) if !is_fed => *idle += 1,
+        Ok(_) => *idle = 0,
+    }
+    if *idle == PATIENCE {
+        return Some(End::Stalled);
+    }
+    None
 }
 
 // Leaves the lock to others, and the processor too, after so many turns without a call.

@@ -8,7 +8,7 @@ use Rattle.handlers.specs.Image.{TheImage, image_in, the_image}
 use Rattle.machine.specs.Process.{TheProcess, idle_process}
 use Rattle.machine.specs.Simulation.{TheMachine, process_at}
 use Rattle.machine.specs.Fields.{view_of, AreCarried, IsLogOf, IsSoundAt}
-use Rattle.machine.specs.Stage.{is_lost, IsNextFor}
+use Rattle.machine.specs.Mode.{is_lost, IsNextFor}
 use Rattle.machine.proofs.Soundness.{sound_at, sound-begun, sound-set}
 use Rattle.machine.proofs.machine.Machine.begin.Goals as goal
 
@@ -27,7 +27,7 @@ new-requires c =
     let at : begun ≡ process_at m me = c.index-begun.ensures ∙ get_or_default xs (me - 1) begun (idle_process 0 0 0) (omega (arith, within, positive)) in
     let state_is : c.state.result.now ≡ (process_at m me).state = c.state.ensures ∙ ap (λ (x : TheProcess). x.state) at in
     let few = c.self.invariant.few in
-    let back : is_lost (process_at m me).stage ≡ false = subst (λ (v : TheMachine). is_lost (process_at v me).stage ≡ false) (sym c.self.view_is) c.requires.back in
+    let back : is_lost (process_at m me).mode ≡ false = subst (λ (v : TheMachine). is_lost (process_at v me).mode ≡ false) (sym c.self.view_is) c.requires.back in
     let called : TheMachine → Who = λ v. record { me = me; from = c.args.message.sender; count = length v.processes } in
     let who : c.who-who.result ≡ record { me = me; from = c.args.message.sender; count = length m.processes } = c.who-who.ensures ∙ ap called (sym c.self.view_is) in
     let len : length c.state.result.now ≡ image.len = ap length state_is ∙ (sound_at c.self.inside c.self.invariant me (idle_process 0 0 0) image positive within).state back ∙ ap (λ (e : TheImage). e.len) image_is in
@@ -57,7 +57,7 @@ invariant_of-self-2 c =
     let sound : (e : TheImage) → IsSoundAt (length xs) me (slice_index_or images (me - 1) e).len c.self.inside.calls was = λ e. subst (IsSoundAt (length xs) me (slice_index_or images (me - 1) e).len c.self.inside.calls) (sym here) (sound_at c.self.inside i me was e positive within) in
     let now : (e : TheImage) → IsSoundAt (length xs) me (slice_index_or images (me - 1) e).len (c.self.inside.calls + 1) y =
     λ e. subst (IsSoundAt (length xs) me (slice_index_or images (me - 1) e).len (c.self.inside.calls + 1)) (sym begins)
-    (sound-begun (length xs) me _ c.self.inside.calls was c.args.message (sound e) (subst (λ (x : TheProcess). IsNextFor x.stage c.args.message) (sym at) c.requires.next)) in
+    (sound-begun (length xs) me _ c.self.inside.calls was c.args.message (sound e) (subst (λ (x : TheProcess). IsNextFor x.mode c.args.message) (sym at) c.requires.next)) in
     let len = length-set xs (me - 1) y in
     record {
       some = omega (arith, len, i.some);

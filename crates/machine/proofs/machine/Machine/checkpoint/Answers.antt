@@ -7,7 +7,7 @@ use Rattle.checkpoint.specs.Saved.{TheSaved, saved_of}
 use Rattle.world.specs.declared.call.Call.TheVariants.{Checkpoint}
 use Rattle.world.specs.declared.answer.Answer.TheVariants.{Saved}
 use Rattle.machine.specs.Process.{TheProcess, idle_process, received, IsSaved}
-use Rattle.machine.specs.Stage.{is_live, is_lost}
+use Rattle.machine.specs.Mode.{is_live, is_lost}
 use Rattle.machine.specs.Fields.{view_of, AreCarried, IsLogOf, IsSoundAt}
 use Rattle.machine.specs.Simulation.{TheMachine, Steps, process_at, is_up_at}
 use Rattle.machine.proofs.Standing.{is_live-at, live-lost}
@@ -27,7 +27,7 @@ snapshot-requires-clause-state c =
     let at : c.process.result.now ≡ process_at (view_of c.self.inside) p = c.process.ensures.value ∙ ap (λ (v : TheMachine). process_at v p) (sym c.self.view_is) in
     let count : c.count.result ≡ n = c.count.ensures.value ∙ ap (λ (v : TheMachine). length v.processes) (sym c.self.view_is) in
     let up : is_up_at (view_of c.self.inside) p ≡ true = subst (λ (v : TheMachine). is_up_at v p ≡ true) (sym c.self.view_is) c.in_default.ensures.none.3 in
-    let back : is_lost (process_at (view_of c.self.inside) p).stage ≡ false = live-lost _ (is_live-at (view_of c.self.inside) p positive up) in
+    let back : is_lost (process_at (view_of c.self.inside) p).mode ≡ false = live-lost _ (is_live-at (view_of c.self.inside) p positive up) in
     let len : length c.process.result.now.state ≡ length (process_at (view_of c.self.inside) p).state = ap (λ (x : TheProcess). length x.state) at in
     omega (arith, len, sound.state back, sound.short)
 
@@ -91,7 +91,7 @@ invariant_of-self c =
     let is : IsSaved (saved_of p (length xs) was.state was.receipts was.outbox.log) was y = subst (λ (z : TheSaved). IsSaved z was y) stable c.save.ensures in
     let len = length-set xs (p - 1) y in
     let now : (e : TheImage) → IsSoundAt (length xs) p (slice_index_or images (p - 1) e).len (c.self.inside.calls + 1) y =
-    λ e. saved-sound (length xs) p _ c.self.inside.calls was y is (let up = subst (λ (v : TheMachine). is_up_at v p ≡ true) (sym c.self.view_is) c.in_default.ensures.none.3 in ap (λ (x : TheProcess). is_live x.stage) at ∙ is_live-at m p positive up) (subst (IsSoundAt (length xs) p (slice_index_or images (p - 1) e).len c.self.inside.calls) (sym here) (sound_at c.self.inside i p was e positive within)) in
+    λ e. saved-sound (length xs) p _ c.self.inside.calls was y is (let up = subst (λ (v : TheMachine). is_up_at v p ≡ true) (sym c.self.view_is) c.in_default.ensures.none.3 in ap (λ (x : TheProcess). is_live x.mode) at ∙ is_live-at m p positive up) (subst (IsSoundAt (length xs) p (slice_index_or images (p - 1) e).len c.self.inside.calls) (sym here) (sound_at c.self.inside i p was e positive within)) in
     record {
       some = omega (arith, len, i.some);
       few = omega (arith, len, i.few);

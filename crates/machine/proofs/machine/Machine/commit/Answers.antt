@@ -11,7 +11,7 @@ use Rattle.world.specs.declared.answer.Answer.TheVariants.{Committed}
 use Rattle.world.specs.World.{World}
 use Rattle.replay.specs.Task.{TheTask, MayCall}
 use Rattle.machine.specs.Process.{TheProcess, idle_process, received, HasSent, Commits}
-use Rattle.machine.specs.Stage.{is_live}
+use Rattle.machine.specs.Mode.{is_live}
 use Rattle.machine.specs.Wire.{Puts}
 use Rattle.machine.specs.Simulation.{TheMachine, Stands, Steps, process_at}
 use Rattle.machine.specs.Fields.{AreCarried, IsLogOf, IsSoundAt}
@@ -89,7 +89,7 @@ invariant_of-self-2 c =
     let within : p ≤ length xs = subst (λ (v : TheMachine). p ≤ length v.processes) (sym c.self.view_is) (omega (arith, p_is, k.within)) in
     let here : was ≡ slice_index_or xs (p - 1) was = first_of (search rules, grind (arith, common_steps)) in
     let at : was ≡ process_at c.args.self.now t.who.me = here ∙ get_or_default xs (p - 1) was (idle_process 0 0 0) (omega (arith, positive, within)) ∙ ap (λ (v : TheMachine). process_at v p) c.self.view_is ∙ ap (process_at c.args.self.now) p_is in
-    let live : is_live was.stage ≡ true = ap (λ (x : TheProcess). is_live x.stage) at ∙ is_live-at c.args.self.now t.who.me k.inside c.requires.up in
+    let live : is_live was.mode ≡ true = ap (λ (x : TheProcess). is_live x.mode) at ∙ is_live-at c.args.self.now t.who.me k.inside c.requires.up in
     let same : length y.state ≡ length was.state = first_of (search rules, grind (arith, common_steps)) in
     let calls : c.args.self.now.calls ≡ c.self.inside.calls = ap (λ (v : TheMachine). v.calls) (sym c.self.view_is) in
     let fits : received was + 1 ≤ c.self.inside.calls = omega (arith, room c.self.inside c.self.invariant c.args.self.now c.self.view_is t k, ap received at, calls) in

@@ -4,14 +4,14 @@ use mir.Val.{bool_byte}
 use Rattle.world.specs.Refusals.{one_if}
 use Rattle.machine.specs.Simulation.{process_at}
 use Rattle.machine.specs.Process.{TheProcess}
-use Rattle.machine.specs.Stage.{is_lost}
+use Rattle.machine.specs.Mode.{is_lost}
 use Rattle.machine.proofs.RecoveryCauses.{inside-of, crash-full, crash-free}
 use Rattle.machine.proofs.machine.Machine.crash_cause.Goals as goal
 
 pub returns-then-room-own-clause-cause : goal.returns-then-room-own-clause-cause
 returns-then-room-own-clause-cause c =
     let i = inside-of (length c.args.self.now.processes) c.args.p (sym c.is_inside.ensures ∙ c.if-not-is_inside.false) in
-    let back = ap (λ (x : TheProcess). is_lost x.stage) (sym c.process-process.ensures.value) ∙ ap is_lost (sym c.stage.ensures) ∙ sym c.is_lost.ensures ∙ c.if-is_lost.false in
+    let back = ap (λ (x : TheProcess). is_lost x.mode) (sym c.process-process.ensures.value) ∙ ap is_lost (sym c.mode.ensures) ∙ sym c.is_lost.ensures ∙ c.if-is_lost.false in
     let own : c.is_some-own.result ≡ is_some (process_at c.args.self.now c.args.p).working = c.is_some-own.ensures ∙ ap is_some (c.working.ensures ∙ ap (λ (x : TheProcess). x.working) c.process-process.ensures.value) in
     λ w s. crash-full c.args.self.now w s c.args.room c.args.p i.0 i.1 back (rw (← own, ← c.open_jobs.ensures.value) (by_own c.is_some-own.result c.if-room-own.true))
   where
@@ -22,7 +22,7 @@ returns-then-room-own-clause-cause c =
 pub returns-clause-cause : goal.returns-clause-cause
 returns-clause-cause c =
     let i = inside-of (length c.args.self.now.processes) c.args.p (sym c.is_inside.ensures ∙ c.if-not-is_inside.false) in
-    let back = ap (λ (x : TheProcess). is_lost x.stage) (sym c.process-process.ensures.value) ∙ ap is_lost (sym c.stage.ensures) ∙ sym c.is_lost.ensures ∙ c.if-is_lost.false in
+    let back = ap (λ (x : TheProcess). is_lost x.mode) (sym c.process-process.ensures.value) ∙ ap is_lost (sym c.mode.ensures) ∙ sym c.is_lost.ensures ∙ c.if-is_lost.false in
     let own : c.is_some-own.result ≡ is_some (process_at c.args.self.now c.args.p).working = c.is_some-own.ensures ∙ ap is_some (c.working.ensures ∙ ap (λ (x : TheProcess). x.working) c.process-process.ensures.value) in
     λ w s. crash-free c.args.self.now w s c.args.room c.args.p i.0 i.1 back (rw (← own, ← c.open_jobs.ensures.value) (by_own c.is_some-own.result c.if-room-own.false))
   where

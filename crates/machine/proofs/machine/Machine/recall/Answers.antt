@@ -7,13 +7,13 @@ use Rattle.world.specs.declared.answer.Answer.TheVariants.{Replayed}
 use Rattle.replay.specs.Task.{TheTask, MayCall, IsAnswer, answer_of}
 use Rattle.replay.specs.Plan.{ThePlan}
 use Rattle.machine.specs.Process.{received, Recalls}
-use Rattle.machine.specs.Stage.{is_replayed}
+use Rattle.machine.specs.Mode.{is_replayed}
 use Rattle.machine.specs.Recovering.{SettlesAt}
 use Rattle.machine.specs.Fields.{view_of}
 use Rattle.machine.specs.Simulation.{TheMachine, Steps}
 use Rattle.machine.proofs.JobLemmas.{opens}
 use Rattle.machine.proofs.Restoring.{count-sound}
-use Rattle.machine.proofs.Finishing.{sizes, sound, fits-at, next-of, undone-sound, undone-view, replays-at, recalled-sound, recalled-settles, recalled-view, recalls-at, stage-then}
+use Rattle.machine.proofs.Finishing.{sizes, sound, fits-at, next-of, undone-sound, undone-view, replays-at, recalled-sound, recalled-settles, recalled-view, recalls-at, mode-then}
 use Rattle.machine.proofs.Recalling.{works, goes-on, settles}
 use Rattle.machine.proofs.machine.Machine.recall.Goals as goal
 use Rattle.machine.proofs.machine.Machine.recall.Goals.{in-Some, in_default}
@@ -174,11 +174,11 @@ returns-clause-step c w s =
     let log_of = (sound i c.self.invariant m c.self.view_is t k t.image).log in
     let replays = replays-at i c.self.invariant m c.self.view_is t k c.requires.down p p_is was c.index_mut-process.ensures.value in
     let plan : ThePlan = replays.0 in
-    let then_is = stage-then i c.self.invariant m c.self.view_is t k c.requires.down p p_is was c.index_mut-process.ensures.value y recalls flags a may in
+    let then_is = mode-then i c.self.invariant m c.self.view_is t k c.requires.down p p_is was c.index_mut-process.ensures.value y recalls flags a may in
     let at = recalls-at i c.self.invariant m c.self.view_is t k c.requires.down p p_is was c.index_mut-process.ensures.value y recalls flags a may in
     let view = recalled-view i c.self.invariant m c.self.view_is t k c.requires.down p p_is was c.index_mut-process.ensures.value y recalls flags a may in
     let left = (works m w s t k a many y at plan replays.1 replays.2 log_of).left in
-    let told : (if nat_lt (plan.replayed + 1) (length plan.messages) then None else Some replays.1) ≡ c.is_replayed.result = ap is_replayed (sym then_is) ∙ ap is_replayed (sym c.stage.ensures) ∙ sym c.is_replayed.ensures in
+    let told : (if nat_lt (plan.replayed + 1) (length plan.messages) then None else Some replays.1) ≡ c.is_replayed.result = ap is_replayed (sym then_is) ∙ ap is_replayed (sym c.mode.ensures) ∙ sym c.is_replayed.ensures in
     let P : TheMachine → Type 0 = λ v. Steps m (record v { calls = calls }) 0 (Finish t.who.me) (Replayed t.rsn) w in (
       opens m t w s many k,
       subst (λ r. Steps m (record (view_of c.self-2.inside) { calls = calls }) 0 (Finish t.who.me) (Replayed r) w) (sym rsn_is)

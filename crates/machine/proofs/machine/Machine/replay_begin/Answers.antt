@@ -1,7 +1,7 @@
 use Rattle.std.proofs.Common.{◌≡◌, ◌≢◌, ◌≤◌, length, refl, sym, ap, ◌∙◌, arith}
 use Rattle.std.specs.Prelude.{Result, Ok, Err, IfOk, Some}
 use Rattle.machine.specs.Process.{TheProcess}
-use Rattle.machine.specs.Stage.{next_job}
+use Rattle.machine.specs.Mode.{next_job}
 use Rattle.machine.specs.Arrival.{IsHandedOut}
 use Rattle.machine.specs.Jobs.{Begins}
 use Rattle.machine.specs.Simulation.{process_at}
@@ -18,7 +18,7 @@ returns-then-message-count-clause-step c =
     let m = c.args.self.now in
     let x = c.in-Some-next_job.message in
     let may = c.in_default.ensures.none.0 in
-    let job : next_job (process_at m c.args.p).stage ≡ Some x = sym (c.next_job.ensures ∙ ap next_job (c.stage.ensures ∙ ap (λ (z : TheProcess). z.stage) c.process.ensures.value)) ∙ c.in-Some-next_job.is in (
+    let job : next_job (process_at m c.args.p).mode ≡ Some x = sym (c.next_job.ensures ∙ ap next_job (c.mode.ensures ∙ ap (λ (z : TheProcess). z.mode) c.process.ensures.value)) ∙ c.in-Some-next_job.is in (
       refl,
       λ w s.
           let got : (x.sender ≤ length m.processes) × (x.sender ≢ c.args.p) = from-another m w s 0 c.args.p 0 x may.inside may.within may.idle job in
@@ -34,7 +34,7 @@ returns-clause-step c =
     let m = c.args.self.now in
     let x = c.in-Some-next_job.message in
     let may = c.in_default.ensures.none.0 in
-    let job : next_job (process_at m c.args.p).stage ≡ Some x = sym (c.next_job.ensures ∙ ap next_job (c.stage.ensures ∙ ap (λ (z : TheProcess). z.stage) c.process.ensures.value)) ∙ c.in-Some-next_job.is in
+    let job : next_job (process_at m c.args.p).mode ≡ Some x = sym (c.next_job.ensures ∙ ap next_job (c.mode.ensures ∙ ap (λ (z : TheProcess). z.mode) c.process.ensures.value)) ∙ c.in-Some-next_job.is in
     begun-step m c.begin.new.self c.args.room c.args.p x c.begin.result c.begin.ensures.ok c.begin.ensures.err may.inside may.within may.idle job c.in_default.ensures.cause
 
 pub returns-clause-job : goal.returns-clause-job

@@ -2,8 +2,8 @@ use Rattle.std.proofs.Common.{◌<◌, arith, sym, ap, ◌∙◌}
 use Rattle.std.specs.Prelude.{not}
 use Rattle.world.specs.Useful.{works_on, is_unacknowledged}
 use Rattle.machine.specs.Process.{TheProcess}
-use Rattle.machine.specs.declared.stage.Stage.TheVariants.{Live}
-use Rattle.machine.specs.Stage.{phase_of}
+use Rattle.machine.specs.declared.mode.Mode.TheVariants.{Live}
+use Rattle.machine.specs.Mode.{phase_of}
 use Rattle.machine.proofs.Picks.{wants-next, wants-other, flag-is}
 use Rattle.machine.proofs.machine.Machine.wants.Goals as goal
 

@@ -1,6 +1,6 @@
 use Rattle.std.proofs.Common.{ℕ, sym, subst}
 use Rattle.std.specs.Prelude.{Option}
-use Rattle.replay.specs.Task.{TheTask}
+use Rattle.machine.specs.Task.{TheTask}
 use Rattle.machine.specs.Arrival.{IsOpen}
 use Rattle.machine.specs.Stepping.{job_of}
 use Rattle.sessions.specs.Journal.{room_at, world_at}

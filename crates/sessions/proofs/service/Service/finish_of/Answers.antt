@@ -1,6 +1,6 @@
 use Rattle.std.proofs.Common.{◌≡◌, ◌-◌, ◌++◌, ◌∷◌, [], length, arith, refl, sym, ap, ◌∙◌, subst, true≢false}
 use Rattle.limits.specs.declared.TheConstants.{ENTRIES}
-use Rattle.replay.specs.Task.{TheTask}
+use Rattle.machine.specs.Task.{TheTask}
 use Rattle.world.specs.declared.call.Call.TheVariants.{Finish}
 use Rattle.world.specs.World.{World}
 use Rattle.machine.specs.Simulation.{Stands, Steps}

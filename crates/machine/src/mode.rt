@@ -1,7 +1,7 @@
 //! How far a process is between a crash and its return.
 
 ghost use Rattle.std.specs.Prelude.{◌≡◌, ◌<◌, false, slice_index_or, slice_set, replicate};
-ghost use Rattle.machine.specs.Stage.{is_live, is_lost, is_replayed, next_job, has_no_peer};
+ghost use Rattle.machine.specs.Mode.{is_live, is_lost, is_replayed, next_job, has_no_peer};
 
 use limits::PARTIES;
 use replay::Plan;
@@ -9,7 +9,7 @@ use world::Message;
 
 /// What a process does but for its open job.
 #[derive(Drop)]
-pub enum Stage {
+pub enum Mode {
     /// It was never down, or is back.
     Live,
     /// It crashed.
@@ -21,16 +21,16 @@ pub enum Stage {
     Resync(Peers),
 }
 
-impl Stage {
+impl Mode {
     /// Whether the process is up.
     pub fn is_live(&self) -> bool
         ensures { result ≡ is_live self.now }
     {
         match self {
-            Stage::Live => true,
-            Stage::Down => false,
-            Stage::Replaying { .. } => false,
-            Stage::Resync(_) => false,
+            Mode::Live => true,
+            Mode::Down => false,
+            Mode::Replaying { .. } => false,
+            Mode::Resync(_) => false,
         }
     }
 
@@ -39,7 +39,7 @@ impl Stage {
         ensures { result ≡ next_job self.now }
     {
         match self {
-            Stage::Replaying { plan, .. } => plan.next_job().map(|next| next.1),
+            Mode::Replaying { plan, .. } => plan.next_job().map(|next| next.1),
             _ => None,
         }
     }
@@ -49,7 +49,7 @@ impl Stage {
         ensures { result ≡ is_replayed self.now }
     {
         match self {
-            Stage::Replaying { plan, alone } if plan.next_job().is_none() => Some(*alone),
+            Mode::Replaying { plan, alone } if plan.next_job().is_none() => Some(*alone),
             _ => None,
         }
     }
@@ -59,10 +59,10 @@ impl Stage {
         ensures { result ≡ is_lost self.now }
     {
         match self {
-            Stage::Live => false,
-            Stage::Down => true,
-            Stage::Replaying { .. } => false,
-            Stage::Resync(_) => false,
+            Mode::Live => false,
+            Mode::Down => true,
+            Mode::Replaying { .. } => false,
+            Mode::Resync(_) => false,
         }
     }
 }
