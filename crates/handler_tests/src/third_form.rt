@@ -2,7 +2,7 @@
 
 mod array;
 mod corpus;
+mod dense_operations;
 mod forms;
 mod loading;
-mod operations;
 mod ordering;
