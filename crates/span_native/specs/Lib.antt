@@ -1,0 +1,3 @@
+pub mod SpanTasks
+pub mod Correct
+pub mod Written
