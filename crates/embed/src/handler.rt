@@ -6,7 +6,7 @@ ghost use Rattle.embed.specs.Arrays.{IsReady};
 
 use crate::array::call_each;
 use crate::calling::MESSAGE;
-use crate::machine_code::code_of;
+use crate::machine_code::{code_of, span_code_of};
 use crate::refusal::Refusal;
 use crate::report::REPORT_LIMIT;
 use crate::span_array::call_spans;
@@ -82,14 +82,14 @@ impl Handler {
         self.handler.form()
     }
 
-    /// The machine code of its image. Of form 3 there is none.
+    /// The machine code of its image.
     pub fn compile(&self, alloc: Global) -> Result<Vec<u8>, Refusal>
         ensures made { IfOk result (λ code. IsNativeOf self.now code.items) }
-        ensures refused { IfErr result (IsUnmade self.now) }
+        ensures refused { IfErr result IsUnmade }
     {
         match &self.handler {
             AnyHandler::Flat(image) => code_of(alloc, image),
-            AnyHandler::Span(_) => Err(Refusal::Native),
+            AnyHandler::Span(program) => span_code_of(alloc, program.image()),
         }
     }
 

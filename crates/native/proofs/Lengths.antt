@@ -1,14 +1,12 @@
 -- How long code is.
 use Rattle.std.proofs.Common.{◌≡◌, ℕ, ◌+◌, ◌*◌, ◌%◌, ◌<◌, ◌≤◌, Bool, true, false, cond, lit≤, List, [], ◌∷◌, ◌++◌, Option, Some, None, length, refl, sym, ap, ◌∙◌, arith, length-append}
-use Rattle.std.specs.Prelude.{◌==◌, ◌&&◌, ◌-◌, ◌/◌, nat_lt}
+use Rattle.std.specs.Prelude.{◌==◌, ◌&&◌, ◌/◌, nat_lt}
 use Rattle.std.proofs.lemmas.Bool.Decides.{nat_tests}
-use Rattle.decode.specs.declared.insn.AluOp.{AluOp}
 use Rattle.decode.specs.declared.insn.AluOp.TheVariants as op
 use Rattle.decode.specs.declared.insn.Width.{Width}
 use Rattle.decode.specs.declared.insn.Width.TheVariants.{W32, W64}
 use Rattle.decode.specs.declared.insn.Extension.{Extension}
 use Rattle.decode.specs.declared.insn.Extension.TheVariants as extension
-use Rattle.decode.specs.declared.insn.Size.{Size}
 use Rattle.decode.specs.declared.insn.Size.TheVariants as size
 use Rattle.decode.specs.declared.insn.SignedSize.TheVariants as signed
 use Rattle.operations.specs.Bytes.{le_bytes}

@@ -1,6 +1,6 @@
 -- Slots have one machine code.
-use Rattle.std.proofs.Common.{◌≡◌, ◌≢◌, ℕ, zero, suc, ◌+◌, ◌-◌, ◌<◌, ◌≤◌, Bool, true, false, List, [], ◌∷◌, ◌++◌, length, Option, Some, None, refl, sym, ap, ◌∙◌, subst, arith}
-use Rattle.std.specs.Prelude.{slice_index, slice_set}
+use Rattle.std.proofs.Common.{◌≡◌, ℕ, zero, suc, ◌+◌, ◌-◌, Bool, true, false, List, [], ◌∷◌, ◌++◌, length, Option, Some, None, refl, sym, ap, ◌∙◌, subst, arith}
+use Rattle.std.specs.Prelude.{slice_set}
 use Rattle.decode.specs.declared.insn.AluOp.TheVariants as op
 use Rattle.decode.specs.declared.insn.Insn.{Insn}
 use Rattle.decode.specs.Slots.{insn_at}
@@ -24,7 +24,7 @@ use Rattle.native.specs.Laid.{IsPiece}
 use Rattle.native.specs.Pends.{pends_in}
 use Rattle.native.specs.Openings.{entering_by, saved_for}
 use Rattle.native.specs.SlotTasks.{task_at, task_there, tasks_in}
-use Rattle.native.specs.Written.{Stacks, IsWritten, IsCodeOf, IsOneCode}
+use Rattle.native.specs.Written.{Stacks, IsWritten, IsOneCode}
 
 -- ---- a slot's code
 

@@ -1,4 +1,4 @@
-use Rattle.std.proofs.Common.{◌≡◌, ℕ, ◌<◌, ◌+◌, ◌-◌, ◌++◌, [], length, reverse, refl, sym, ap, ◌∙◌, subst, arith}
+use Rattle.std.proofs.Common.{◌≡◌, ◌+◌, ◌-◌, ◌++◌, [], length, reverse, refl, ap, ◌∙◌, subst, arith}
 use Rattle.native.specs.Code.{codes}
 use Rattle.native.specs.Laid.{ArePends, SaveAll}
 use Rattle.native.specs.Pends.{pends_in}

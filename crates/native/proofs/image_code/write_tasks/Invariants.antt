@@ -1,5 +1,4 @@
 use Rattle.std.specs.Prelude.{reverse}
-use Rattle.std.proofs.Common.{ℕ}
 use Rattle.native.specs.Written.{IsLaidFrom}
 use Rattle.native.proofs.image_code.write_tasks.Given as goal
 

@@ -1,6 +1,3 @@
-use Rattle.std.proofs.Common.{sym, ap, ◌∙◌}
-use Rattle.native.specs.Openings.{saved_for}
-use Rattle.native.specs.Saved.{and_register}
 use Rattle.native.proofs.Keeping.{saves_more}
 use Rattle.native.proofs.saved.saved_for.Goals as goal
 
