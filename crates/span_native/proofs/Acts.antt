@@ -1,10 +1,9 @@
 -- A task does what its instruction does.
-use Rattle.std.proofs.Common.{◌≡◌, ◌≢◌, ℕ, zero, suc, ◌+◌, ◌%◌, ◌^◌, ◌<◌, ◌≤◌, ℤ, pos, negsuc, Bool, true, false, cond, List, [], Some, refl, sym, ap, ◌∙◌, subst, arith}
-use Rattle.std.specs.Prelude.{◌==◌, ◌&&◌, min, nat_lt, slice_index, slice_range, if◌then◌else◌}
+use Rattle.std.proofs.Common.{◌≡◌, ◌≢◌, ℕ, zero, suc, ◌+◌, ◌%◌, ◌^◌, ◌<◌, ◌≤◌, ℤ, pos, negsuc, Bool, true, false, cond, List, [], Some, refl, sym, ap, ◌∙◌, arith}
+use Rattle.std.specs.Prelude.{◌==◌, ◌&&◌, nat_lt, slice_index, slice_range, if◌then◌else◌}
 use Rattle.std.proofs.Math.Nat.{mod-eq_of_lt}
 use Rattle.std.proofs.lemmas.Bool.{and_parts}
 use Rattle.std.proofs.lemmas.Bool.Decides.{nat_tests}
-use Rattle.decode.specs.declared.insn.AluOp.{AluOp}
 use Rattle.decode.specs.declared.insn.Operand.{Operand}
 use Rattle.decode.specs.declared.insn.Operand.TheVariants as operand
 use Rattle.decode.specs.declared.insn.Reg.{Reg}
@@ -22,10 +21,9 @@ use Rattle.span_calls.specs.Concrete.{array_size, operand_word, address}
 use Rattle.span_calls.specs.Typing.{target}
 use Rattle.span_steps.specs.Acts.{insn_act, IsReached}
 use Rattle.span_steps.specs.Machine.{machine}
-use Rattle.native.specs.declared.task.Task.{Task}
 use Rattle.native.specs.declared.task.Task.TheVariants as task
 use Rattle.native.specs.Tasks.{operand_of, position_by, sized_at, task_act, holds_word, is_word, is_read, is_apt}
-use Rattle.span_native.specs.SpanTasks.{operand_in, stack_at, slot_of, load_task, load_sx_task, store_imm_task, store_task, store_reg_task, helper_task, task_in}
+use Rattle.span_native.specs.SpanTasks.{operand_in, stack_at, slot_of, store_imm_task, store_task, helper_task, task_in}
 use Rattle.span_native.proofs.Blind.{blind, blind_is}
 
 pub below_ten : (r : ℕ) → holds_word r ≡ true → r < 10

@@ -1,5 +1,5 @@
 -- Where a call may come to, there is code.
-use Rattle.std.proofs.Common.{◌≡◌, ◌≢◌, ℕ, zero, suc, ◌+◌, ◌%◌, ◌^◌, ◌<◌, ◌≤◌, ℤ, pos, negsuc, ◌+ℤ◌, Bool, true, false, cond, List, Option, Some, None, length, refl, sym, ap, ◌∙◌, subst, arith}
+use Rattle.std.proofs.Common.{◌≡◌, ℕ, zero, suc, ◌+◌, ◌%◌, ◌^◌, ◌<◌, ◌≤◌, ℤ, pos, negsuc, ◌+ℤ◌, Bool, true, false, cond, List, Option, Some, None, length, refl, sym, ap, ◌∙◌, arith}
 use Rattle.std.specs.Prelude.{◌==◌, ◌&&◌, not, is_some, nat_lt, unsigned_abs}
 use Rattle.std.specs.Option.{option_map_or}
 use Rattle.std.proofs.Math.Nat.{mod-eq_of_lt}
@@ -7,7 +7,6 @@ use Rattle.std.proofs.lemmas.Bool.{and_parts, false≢true}
 use Rattle.std.proofs.lemmas.Bool.Decides.{nat_tests}
 use Rattle.decode.specs.declared.insn.AluOp.{AluOp}
 use Rattle.decode.specs.declared.insn.AluOp.TheVariants as alu
-use Rattle.decode.specs.declared.insn.Width.TheVariants.{W32, W64}
 use Rattle.decode.specs.declared.insn.Operand.{Operand}
 use Rattle.decode.specs.declared.insn.Operand.TheVariants as operand
 use Rattle.decode.specs.declared.insn.Reg.{Reg}
@@ -29,12 +28,9 @@ use Rattle.spans.specs.declared.span.Span.{Span}
 use Rattle.spans.specs.Frame.{Frame, is_num}
 use Rattle.spans.specs.Leaving.{Leaves, Ways, from_span}
 use Rattle.span_rules.specs.Rules.{frame_pointer_rule}
-use Rattle.span_calls.specs.Typing.{target, distance}
-use Rattle.span_verifier.specs.Typing.{IsPlaced}
-use Rattle.native.specs.declared.task.Task.{Task}
 use Rattle.native.specs.declared.task.Task.TheVariants as task
 use Rattle.native.specs.Tasks.{holds_word, is_word, is_read, is_apt}
-use Rattle.span_native.specs.SpanTasks.{operand_in, stack_at, slot_of, load_task, load_sx_task, store_imm_task, store_task, store_reg_task, helper_task, task_in}
+use Rattle.span_native.specs.SpanTasks.{operand_in, stack_at, store_imm_task, store_task, task_in}
 use Rattle.span_native.proofs.Acts.{Lands, not_ten}
 
 both_true : (a b : Bool) → a ≡ true → b ≡ true → (a && b) ≡ true

@@ -1,8 +1,7 @@
 -- Words as the code has them: no register holds r10.
-use Rattle.std.proofs.Common.{◌≡◌, ◌≢◌, ℕ, ◌+◌, ◌<◌, ◌≤◌, true, List, length, refl, sym, ap, ◌∙◌, subst, arith}
-use Rattle.std.specs.Prelude.{nat_lt, slice_index, slice_set}
-use Rattle.std.proofs.lemmas.Bool.Decides.{nat_tests}
-use Rattle.std.proofs.lemmas.List.{get_or-set_same, get_or-set_other, set_comm, length-set}
+use Rattle.std.proofs.Common.{◌≡◌, ℕ, ◌<◌, List, length, refl, ◌∙◌, arith}
+use Rattle.std.specs.Prelude.{slice_index, slice_set}
+use Rattle.std.proofs.lemmas.List.{get_or-set_other, set_comm, length-set}
 use Rattle.helpers.specs.Effects.{Emitted}
 use Rattle.dense.specs.declared.performing.Next.{Next}
 use Rattle.dense.specs.Acts.{Act, Puts, Writes, Leaps, Answers, Ends, Nothing, Does}

@@ -1,6 +1,6 @@
 -- Words and an array beside the configuration that they show.
-use Rattle.std.proofs.Common.{◌≡◌, ◌≢◌, ℕ, zero, suc, ◌+◌, ◌/◌, ◌%◌, ◌^◌, ◌<◌, ◌≤◌, ℤ, pos, negsuc, ◌+ℤ◌, Bool, true, false, cond, List, [], Option, Some, None, length, refl, sym, ap, ◌∙◌, subst, arith}
-use Rattle.std.specs.Prelude.{◌==◌, nat_lt, nat_le, slice_index, if◌then◌else◌}
+use Rattle.std.proofs.Common.{◌≡◌, ℕ, ◌+◌, ◌/◌, ◌%◌, ◌^◌, ◌≤◌, ℤ, pos, ◌+ℤ◌, Bool, true, false, cond, List, Option, Some, None, refl, sym, ap, ◌∙◌, subst, arith}
+use Rattle.std.specs.Prelude.{◌==◌, slice_index, if◌then◌else◌}
 use Rattle.std.specs.Option.{option_and_then, option_map_or}
 use Rattle.std.proofs.Math.Nat.{mod-eq_of_lt}
 use Rattle.std.proofs.lemmas.Bool.Decides.{nat_tests}
@@ -8,9 +8,7 @@ use Rattle.decode.specs.declared.insn.Insn.{Insn}
 use Rattle.decode.specs.declared.insn.Insn.TheVariants.{Alu, MovSx, Neg, End, Jump, JumpLong, JumpIf, Call, Exit, Load, LoadSx, StoreReg, StoreImm, Wide}
 use Rattle.decode.specs.declared.insn.Operand.TheVariants as operand
 use Rattle.decode.specs.declared.insn.Width.TheVariants.{W64}
-use Rattle.decode.specs.declared.insn.Reg.{Reg}
 use Rattle.decode.specs.Encoding.{bytes_in, loaded}
-use Rattle.decode.specs.Slots.{insn_at, size_of}
 use Rattle.operations.specs.Operations.{extension_of, negation_of, reorder_of, holds, sign_extension_of}
 use Rattle.regtypes.specs.declared.frame.Region.{Region}
 use Rattle.regtypes.specs.declared.frame.Region.TheVariants.{Message, State, Stack}
@@ -22,7 +20,7 @@ use Rattle.spans.specs.Frame.{Frame, Leq, LeqKind, at_place, is_num}
 use Rattle.spans.specs.Configuration.{Value, Number, At, Configuration, IsConfiguration, put, own_frame, own_kind}
 use Rattle.spans.specs.Memory.{are_numbers, index_in, is_word, load, patched_cells, store, write_at}
 use Rattle.spans.specs.Access.{region_size}
-use Rattle.spans.specs.Step.{Outcome, Goes, Leaps, Ends, Fault, answers, answered, branches, ends_with, from_number, gives_value, goes_on, operand_value, result_value, step, taken_by}
+use Rattle.spans.specs.Step.{Outcome, Goes, Leaps, Ends, Fault, answers, branches, ends_with, from_number, gives_value, goes_on, operand_value, result_value, step, taken_by}
 use Rattle.spans.specs.Leaving.{alu_form}
 use Rattle.span_rules.specs.Rules.{frame_pointer_rule}
 use Rattle.span_calls.specs.Concrete.{array_size}

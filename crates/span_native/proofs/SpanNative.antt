@@ -1,21 +1,16 @@
 -- The code as a whole.
-use Rattle.std.proofs.Common.{◌≡◌, ◌≢◌, ℕ, zero, suc, ◌+◌, ◌-◌, ◌^◌, ◌<◌, ◌≤◌, true, false, List, [], ◌∷◌, length, refl, sym, ap, ◌∙◌, subst, arith}
-use Rattle.std.specs.Prelude.{slice_index, slice_range, slice_set}
-use Rattle.std.specs.List.{AllByRecursion}
+use Rattle.std.proofs.Common.{◌≡◌, ℕ, zero, suc, ◌+◌, ◌^◌, ◌<◌, ◌≤◌, true, false, List, [], ◌∷◌, length, refl, sym, ◌∙◌, subst, arith}
+use Rattle.std.specs.Prelude.{slice_index, slice_set}
 use Rattle.std.proofs.lemmas.Bool.{true≢false}
-use Rattle.std.proofs.lemmas.List.{get_or-set_same, get_or-set_other, length-set, set_comm}
 use Rattle.decode.specs.declared.insn.Insn.{Insn}
 use Rattle.decode.specs.Slots.{slots_of}
 use Rattle.helpers.specs.declared.effects.Who.{Who}
 use Rattle.helpers.specs.Effects.{Emitted}
 use Rattle.interp.specs.Words.{AreBytes}
-use Rattle.x86.specs.Machine.{State, Runs, Word, value}
+use Rattle.x86.specs.Machine.{State, Runs}
 use Rattle.span_calls.specs.Concrete.{array_size}
-use Rattle.span_calls.specs.Typing.{Table}
 use Rattle.span_images.specs.Typed.{IsTypable}
-use Rattle.span_interp.specs.CallArray.{HoldsEntry, state_in}
 use Rattle.native.specs.declared.opening.Opening.TheVariants as opening
-use Rattle.native.specs.Code.{gpr}
 use Rattle.native.specs.Correct.{IsCalled}
 use Rattle.native.specs.Needs.{saved_in}
 use Rattle.native.specs.Openings.{saved_for}
@@ -30,7 +25,6 @@ use Rattle.span_native.specs.Correct.{IsSpanNative}
 use Rattle.span_native.specs.SpanTasks.{tasks_in}
 use Rattle.span_native.proofs.Blind.{blind}
 use Rattle.span_native.proofs.Standing.{Begun, Stand, Leaves, calls, stands}
-use Rattle.span_native.proofs.Tasks.{tasks_long}
 
 bytes_below : (xs : List ℕ) → AreBytes xs → (a : ℕ) → slice_index xs a < 256
 bytes_below [] h a = omega arith

@@ -1,10 +1,8 @@
 -- What a task reaches and leaves.
-use Rattle.std.proofs.Common.{◌≡◌, ℕ, zero, suc, ◌+◌, ◌%◌, ◌^◌, ◌<◌, ◌≤◌, ℤ, pos, negsuc, Bool, true, false, cond, List, Some, length, refl, sym, ap, ◌∙◌, subst, arith}
-use Rattle.std.specs.Prelude.{◌==◌, ◌&&◌, min, nat_lt, slice_index}
+use Rattle.std.proofs.Common.{◌≡◌, ℕ, zero, suc, ◌+◌, ◌%◌, ◌^◌, ◌<◌, ◌≤◌, ℤ, pos, negsuc, Bool, true, false, cond, List, refl, sym, ap, ◌∙◌, subst, arith}
+use Rattle.std.specs.Prelude.{◌==◌, min, slice_index}
 use Rattle.std.proofs.Math.Nat.{mod-eq_of_lt}
 use Rattle.std.proofs.lemmas.Bool.{and_parts}
-use Rattle.std.proofs.lemmas.List.{length_push}
-use Rattle.decode.specs.declared.insn.Operand.{Operand}
 use Rattle.decode.specs.declared.insn.Reg.{Reg}
 use Rattle.decode.specs.declared.insn.Insn.{Insn}
 use Rattle.decode.specs.declared.insn.Insn.TheVariants.{Alu, MovSx, Neg, End, Jump, JumpLong, JumpIf, Call, Exit, Load, LoadSx, StoreReg, StoreImm, Wide}
@@ -16,7 +14,7 @@ use Rattle.span_calls.specs.Concrete.{array_size, address}
 use Rattle.span_steps.specs.Acts.{IsReached}
 use Rattle.native.specs.declared.task.Task.{Task}
 use Rattle.native.specs.declared.task.Task.TheVariants as task
-use Rattle.native.specs.Tasks.{position_by, task_act, holds_word, is_word, is_read, is_apt, TaskFits, TaskReaches}
+use Rattle.native.specs.Tasks.{position_by, task_act, holds_word, is_read, is_apt, TaskFits, TaskReaches}
 use Rattle.span_native.specs.SpanTasks.{stack_at, store_imm_task, store_task, helper_task, task_in}
 use Rattle.span_native.proofs.Blind.{blind, blind_is, SparesTen}
 use Rattle.span_native.proofs.Acts.{below_ten, is_ten, not_ten}

@@ -1,21 +1,19 @@
 -- Calls of form 3, slot by slot.
-use Rattle.std.proofs.Common.{◌≡◌, ℕ, zero, suc, ◌+◌, ◌-◌, ◌^◌, ◌<◌, ◌≤◌, ℤ, pos, negsuc, ◌+ℤ◌, ◌<ℤ◌, true, List, [], ◌∷◌, ◌++◌, Option, Some, None, inl, inr, length, get_or, refl, sym, ap, ◌∙◌, subst, arith, rules}
-use Rattle.std.specs.Prelude.{slice_get, slice_index, slice_range, unsigned_abs}
-use Rattle.std.specs.List.{AllByRecursion}
+use Rattle.std.proofs.Common.{◌≡◌, ℕ, ◌+◌, ◌-◌, ◌<◌, ◌≤◌, ℤ, pos, negsuc, ◌+ℤ◌, ◌<ℤ◌, true, List, [], Option, Some, None, inl, inr, length, refl, sym, ap, ◌∙◌, subst, arith, rules}
+use Rattle.std.specs.Prelude.{slice_index, slice_range, unsigned_abs}
 use Rattle.std.proofs.lemmas.Int.{ints}
 use Rattle.std.proofs.lemmas.Bool.{cases_lt}
 use Rattle.std.proofs.lemmas.List.{get_or_past, places}
 use Rattle.decode.specs.declared.insn.Insn.{Insn}
 use Rattle.decode.specs.declared.insn.Insn.TheVariants.{Wide}
-use Rattle.decode.specs.Encoding.{Fits}
-use Rattle.decode.specs.Slots.{insn_at, size_of, slots_of}
+use Rattle.decode.specs.Slots.{insn_at, size_of}
 use Rattle.helpers.specs.declared.effects.Who.{Who}
 use Rattle.helpers.specs.Effects.{Emitted}
 use Rattle.dense.specs.declared.performing.Next.{Next}
 use Rattle.dense.specs.declared.performing.Next.TheVariants as next
 use Rattle.dense.specs.Acts.{Act, Does}
 use Rattle.interp.specs.HandlerCall.{Handled}
-use Rattle.spans.specs.Frame.{Frame, Leq, entry_frame}
+use Rattle.spans.specs.Frame.{Frame, entry_frame}
 use Rattle.spans.specs.Leaving.{LeqWay}
 use Rattle.spans.specs.Configuration.{Configuration, IsConfiguration, entry, own_frame}
 use Rattle.spans.specs.Step.{Ends, Fault, Goes, Leaps, Outcome, step}
@@ -41,14 +39,13 @@ use Rattle.span_rules.specs.Rules.{frame_pointer_rule}
 use Rattle.span_steps.specs.Acts.{insn_act, IsReached}
 use Rattle.span_steps.specs.Machine.{machine}
 use Rattle.span_steps.specs.Mirrors.{Mirrors}
-use Rattle.span_steps.specs.Replies.{emitted, replies}
+use Rattle.span_steps.specs.Replies.{replies}
 use Rattle.span_steps.proofs.Steps.{performed}
 use Rattle.span_interp.specs.CallArray.{HoldsEntry, IsLeft, state_in}
-use Rattle.span_interp.specs.SpanCall.{AnswersIn, called}
+use Rattle.span_interp.specs.SpanCall.{called}
 use Rattle.span_interp.proofs.Answering.{replies-few}
 use Rattle.span_interp.proofs.Entries.{called-is, ended_leaves, entry_behind, entry_between, same_slices}
 use Rattle.span_interp.proofs.Going.{EndsBy, Going, Over, ends_by, going_entry, going_next, over, run, some_left, within}
-use Rattle.native.specs.declared.task.Task.{Task}
 use Rattle.native.specs.Tasks.{task_act, is_apt}
 use Rattle.native.proofs.Following.{Call}
 use Rattle.span_native.specs.SpanTasks.{task_in, tasks_in}

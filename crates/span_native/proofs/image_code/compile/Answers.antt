@@ -1,4 +1,4 @@
-use Rattle.std.proofs.Common.{◌≡◌, ℕ, ◌≤◌, length, sym, ap, ◌∙◌, subst, arith}
+use Rattle.std.proofs.Common.{◌≡◌, ◌≤◌, length, ap, ◌∙◌, subst, arith}
 use Rattle.decode.specs.Slots.{slots_of}
 use Rattle.native.specs.declared.opening.Opening.TheVariants as opening
 use Rattle.native.specs.Written.{IsServed, IsWritten}

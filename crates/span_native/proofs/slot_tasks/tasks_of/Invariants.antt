@@ -1,4 +1,4 @@
-use Rattle.std.proofs.Common.{◌≡◌, ℕ}
+use Rattle.std.proofs.Common.{◌≡◌}
 use Rattle.span_native.specs.SpanTasks.{tasks_in}
 use Rattle.span_native.proofs.slot_tasks.tasks_of.Given as goal
 
