@@ -7,3 +7,4 @@ pub mod Spared
 pub mod Locked
 pub mod Standing
 pub mod SpanNative
+pub mod AnyForm

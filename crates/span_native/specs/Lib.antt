@@ -1,3 +1,4 @@
 pub mod SpanTasks
 pub mod Correct
 pub mod Written
+pub mod AnyForm
