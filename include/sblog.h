@@ -29,7 +29,6 @@ enum sblog_code {
     SBLOG_ROOM = 8,    /* the buffer for the answer is too short */
     SBLOG_FORM = 9,    /* the image is an SBI2, which is checked and compiled, and not called */
     SBLOG_HANDLE = 10, /* the handle is null */
-    SBLOG_NATIVE = 11, /* there is no machine code of an SBI3 */
     SBLOG_RECORD = 12  /* no call of form 1 leaves such a record */
 };
 
@@ -62,7 +61,7 @@ uint32_t sblog_run(sblog_handle *handle, uint8_t *state, size_t state_len, const
                    size_t reports_len);
 
 /* Writes the machine code of the image, for x86-64, and how many bytes it has; where the buffer has fewer
-   (8), it is left as it was, and the size is written all the same. Of form 3 there is none (11). */
+   (8), it is left as it was, and the size is written all the same. */
 uint32_t sblog_compile(sblog_handle *handle, uint8_t *out, size_t out_len, size_t *size);
 
 /* The report of a call of machine code, from what it answered and the record that it left, of form 1. */
@@ -94,6 +93,8 @@ static inline size_t sblog_report_size(const uint8_t *report) {
 enum {
     SBLOG_ARRAY_SIZE = 1792, /* the message from 0 on, the state, the stack behind the state; zeros elsewhere */
     SBLOG_STATE_AT = 256,
+    SBLOG_SPAN_ARRAY_SIZE = 2048, /* the same of form 3, whose message region is longer */
+    SBLOG_SPAN_STATE_AT = 512,
     SBLOG_STACK_SIZE = 512,
     SBLOG_RECORD_SIZE = 4416
 };
@@ -117,18 +118,36 @@ static inline void sblog_unmap(sblog_native_code code, size_t size) {
     if (code != NULL) munmap((void *)(uintptr_t)code, size);
 }
 
+/* Lays an array and a record out, whose state begins there, and calls machine code. */
+static inline uint64_t sblog_native_call_at(sblog_native_code code, uint8_t *array, size_t state_at,
+                                            size_t state_len, const uint8_t *message,
+                                            size_t message_len, uint8_t me, uint8_t from,
+                                            uint8_t count, uint8_t *record) {
+    const uint64_t front[6] = {0, 0, 0, me, from, count}; /* sends, outputs, steps; who is called */
+    memcpy(record, front, sizeof front);
+    memcpy(array, message, message_len);
+    memset(array + message_len, 0, state_at - message_len);
+    memset(array + state_at + state_len, 0, SBLOG_STACK_SIZE);
+    return code(array, record, message_len);
+}
+
 /* Calls machine code by one message, of 64 bytes in form 1 and of at most 256 in form 2, and answers r0. The
    array was zeros before its first call, and has the state from SBLOG_STATE_AT on, which a call changes in
    place. The record has the steps, sends and outputs then. */
 static inline uint64_t sblog_native_call(sblog_native_code code, uint8_t *array, size_t state_len,
                                          const uint8_t *message, size_t message_len, uint8_t me,
                                          uint8_t from, uint8_t count, uint8_t *record) {
-    const uint64_t front[6] = {0, 0, 0, me, from, count}; /* sends, outputs, steps; who is called */
-    memcpy(record, front, sizeof front);
-    memcpy(array, message, message_len);
-    memset(array + message_len, 0, SBLOG_STATE_AT - message_len);
-    memset(array + SBLOG_STATE_AT + state_len, 0, SBLOG_STACK_SIZE);
-    return code(array, record, message_len);
+    return sblog_native_call_at(code, array, SBLOG_STATE_AT, state_len, message, message_len, me, from,
+                                count, record);
+}
+
+/* The same of an image of form 3, by a message of at most 256 bytes. The array has SBLOG_SPAN_ARRAY_SIZE
+   bytes, and the state from SBLOG_SPAN_STATE_AT on. */
+static inline uint64_t sblog_native_call_span(sblog_native_code code, uint8_t *array, size_t state_len,
+                                              const uint8_t *message, size_t message_len, uint8_t me,
+                                              uint8_t from, uint8_t count, uint8_t *record) {
+    return sblog_native_call_at(code, array, SBLOG_SPAN_STATE_AT, state_len, message, message_len, me,
+                                from, count, record);
 }
 #endif
 

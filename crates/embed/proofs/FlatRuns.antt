@@ -8,7 +8,6 @@ use Rattle.regtypes.specs.declared.image_form.ImageForm.{ImageForm}
 use Rattle.regtypes.specs.declared.image_form.ImageForm.TheVariants as two
 use Rattle.verifier.specs.Typed.{Typed}
 use Rattle.interp.specs.HandlerCall.{Handled, IsHandled}
-use Rattle.native.specs.Correct.{IsNative}
 use Rattle.images.specs.FileForm.{file_form_of}
 use Rattle.images.specs.declared.any_image.AnyImage.{AnyImage}
 use Rattle.images.specs.declared.any_image.AnyImage.TheVariants.{Flat, Span}
@@ -16,7 +15,6 @@ use Rattle.images.specs.declared.file_form.FileForm.TheVariants.{Sbi1, Sbi2, Sbi
 use Rattle.handlers.specs.Answer.{shown, IsRun, HasRun, MayRunAs}
 use Rattle.embed.specs.Arrays.{flat_image}
 use Rattle.embed.specs.Calls.{IsCallableForm, IsSeat}
-use Rattle.embed.specs.MachineCode.{IsNativeIn, IsNativeOf}
 
 run_in : (form : ImageForm) (code : List Insn) (who : Who) (state message : List ℕ) (h : Handled) → length message ≡ 64 → IsHandled form (slots_of code) who state message h → IsRun (file_form_of form) code who state (shown (file_form_of form) message) h
 run_in two.Sbi1 code who state message h size r =
@@ -40,15 +38,6 @@ callable_is_first image n = first_of image.form n
 pub seat_runs : (image : AnyImage) (who : Who) → IsSeat who → MayRunAs image who
 seat_runs (Flat image) who s = tt
 seat_runs (Span image) who s = (omega (arith, s.last, s.few), omega (arith, s.sender, s.few))
-
-native_in : (form : ImageForm) (code : List Insn) (len : ℕ) (bytes : List ℕ) → IsNative form (slots_of code) len bytes → IsNativeIn (file_form_of form) code len bytes
-native_in two.Sbi1 code len bytes n = n
-native_in two.Sbi2 code len bytes n = n
-
--- machine code
-pub native_of : (image : Typed) (bytes : List ℕ) → image.slots ≡ slots_of image.code → IsNative image.form image.slots image.len bytes → IsNativeOf (flat_image image) bytes
-native_of image bytes slots n =
-    native_in image.form image.code image.len bytes (subst (λ s. IsNative image.form s image.len bytes) slots n)
 
 -- none is of form 3
 pub not_third : (form : ImageForm) → file_form_of form ≢ Sbi3

@@ -12,7 +12,7 @@ use Rattle.handlers.specs.Image.{TheImage}
 use Rattle.operations.specs.Bytes.{overwritten}
 use Rattle.embed.specs.declared.calling.TheConstants.{MESSAGE}
 use Rattle.embed.specs.declared.refusal.Refusal.{Refusal}
-use Rattle.embed.specs.declared.refusal.Refusal.TheVariants.{Image, State, Message, Who as NotSeat, Room, Form, Handle, Native, Record}
+use Rattle.embed.specs.declared.refusal.Refusal.TheVariants.{Image, State, Message, Who as NotSeat, Room, Form, Handle, Record}
 use Rattle.embed.specs.declared.report.TheConstants.{FAULT_SIZE, REPORT_LIMIT}
 use Rattle.embed.specs.Layout.{fault_bytes}
 use Rattle.embed.specs.Calls.{IsTypableFile, IsCallableForm, IsSeat, IsReported, AreReported}
@@ -35,7 +35,6 @@ refusal_number NotSeat = 7
 refusal_number Room = 8
 refusal_number Form = 9
 refusal_number Handle = 10
-refusal_number Native = 11
 refusal_number Record = 12
 
 -- the broken rule, 0 where there is none
@@ -75,7 +74,6 @@ IsUnchecked file out written NotSeat = ⊥
 IsUnchecked file out written Room = (length out < FAULT_SIZE) × (written ≡ out)
 IsUnchecked file out written Form = ⊥
 IsUnchecked file out written Handle = ⊥
-IsUnchecked file out written Native = ⊥
 IsUnchecked file out written Record = ⊥
 
 -- calls by whole messages, with room for their reports, are done on a state as long as the file says, by its image, which

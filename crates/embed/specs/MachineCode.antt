@@ -1,33 +1,17 @@
 -- Machine code of an image that was opened (docs/EMBEDDING.md).
-use Rattle.std.specs.Prelude.{◌≡◌, ◌≢◌, ℕ, ◌<◌, ◌≤◌, List, Option, Some, None, length}
-use Rattle.decode.specs.declared.insn.Insn.{Insn}
-use Rattle.decode.specs.Slots.{slots_of}
+use Rattle.std.specs.Prelude.{◌≡◌, ℕ, ◌<◌, ◌≤◌, List, Option, Some, None, length}
 use Rattle.operations.specs.Bytes.{overwritten}
-use Rattle.regtypes.specs.declared.image_form.ImageForm.TheVariants as two
 use Rattle.verifier.specs.declared.fault.ImageError.TheVariants.{Memory}
-use Rattle.native.specs.Correct.{IsNative}
-use Rattle.images.specs.declared.file_form.FileForm.{FileForm}
-use Rattle.images.specs.declared.file_form.FileForm.TheVariants.{Sbi1, Sbi2, Sbi3}
+use Rattle.span_native.specs.AnyForm.{IsNativeOf}
 use Rattle.handlers.specs.Image.{TheImage}
 use Rattle.embed.specs.declared.refusal.Refusal.{Refusal}
-use Rattle.embed.specs.declared.refusal.Refusal.TheVariants.{Image, Room, Handle, Native}
+use Rattle.embed.specs.declared.refusal.Refusal.TheVariants.{Image, Room, Handle}
 use Rattle.embed.specs.Exports.{Answers}
 
--- these bytes are machine code of an image of this form. Of form 3 there is none
-abbrev pub IsNativeIn : FileForm → List Insn → ℕ → List ℕ → Type 0
-IsNativeIn Sbi1 code len bytes = IsNative two.Sbi1 (slots_of code) len bytes
-IsNativeIn Sbi2 code len bytes = IsNative two.Sbi2 (slots_of code) len bytes
-IsNativeIn Sbi3 code len bytes = ⊥
-
--- these bytes are machine code of the image
-abbrev pub IsNativeOf : TheImage → List ℕ → Type 0
-IsNativeOf image bytes = IsNativeIn image.form image.code image.len bytes
-
--- why there is none of an image: it is of form 3; memory ran out for one of another form
-abbrev pub IsUnmade : TheImage → Refusal → Type 0
-IsUnmade image Native = image.form ≡ Sbi3
-IsUnmade image (Image Memory) = image.form ≢ Sbi3
-IsUnmade image why = ⊥
+-- why there is none of an image: memory ran out
+abbrev pub IsUnmade : Refusal → Type 0
+IsUnmade (Image Memory) = Unit {0}
+IsUnmade why = ⊥
 
 -- these bytes are machine code of the image, and the size is how many they are
 pub record IsCodeOf (image : TheImage) (size : ℕ) (code : List ℕ) : Type 0 where
@@ -41,10 +25,10 @@ pub record IsCompiled (image : TheImage) (out written : List ℕ) (size : ℕ) :
   pub fits : length code ≤ length out
   pub written_is : written ≡ overwritten out 0 code
 
--- why it wasn't: it is longer than the buffer, or there is none
+-- why it wasn't: it is longer than the buffer, or memory ran out
 abbrev pub IsUncompiled : TheImage → List ℕ → ℕ → ℕ → Refusal → Type 0
 IsUncompiled image out was size Room = (code : List ℕ) × IsCodeOf image size code × (length out < length code)
-IsUncompiled image out was size why = (size ≡ was) × IsUnmade image why
+IsUncompiled image out was size why = (size ≡ was) × IsUnmade why
 
 -- what a code says of compiling a handle's image. A refusal leaves the buffer as it was
 abbrev pub Compiles : ℕ → Option TheImage → List ℕ → List ℕ → ℕ → ℕ → Type 0

@@ -6,16 +6,16 @@ ghost use Rattle.embed.specs.Arrays.{IsReady};
 
 use crate::array::call_each;
 use crate::calling::MESSAGE;
-use crate::machine_code::code_of;
 use crate::refusal::Refusal;
 use crate::report::REPORT_LIMIT;
 use crate::span_array::call_spans;
 use handlers::Handler as AnyHandler;
 use helpers::{Effects, Who};
 use images::FileForm;
+use span_native::compile_handler;
 use std::alloc::Global;
 use std::marker::Model;
-use verifier::Image;
+use verifier::{Image, ImageError};
 
 /// A handler of any form, the array in which calls of form 1 run one after another, and a place for
 /// what a call emits. Since both are kept, such a call clears only what the one before left.
@@ -61,7 +61,8 @@ impl Handler {
     ghost use Rattle.std.specs.Prelude.{◌≡◌, ◌≤◌, ◌*◌, ◌/◌, ◌%◌, IfOk, IfErr, length};
     ghost use Rattle.handlers.specs.Image.{the_image};
     ghost use Rattle.embed.specs.Calls.{AreReported, IsCallableForm, IsSeat};
-    ghost use Rattle.embed.specs.MachineCode.{IsNativeOf, IsUnmade};
+    ghost use Rattle.span_native.specs.AnyForm.{IsNativeOf};
+    ghost use Rattle.embed.specs.MachineCode.{IsUnmade};
 
     /// A handler that wasn't called yet.
     pub fn new(handler: AnyHandler) -> Handler
@@ -82,14 +83,14 @@ impl Handler {
         self.handler.form()
     }
 
-    /// The machine code of its image. Of form 3 there is none.
+    /// The machine code of its image.
     pub fn compile(&self, alloc: Global) -> Result<Vec<u8>, Refusal>
         ensures made { IfOk result (λ code. IsNativeOf self.now code.items) }
-        ensures refused { IfErr result (IsUnmade self.now) }
+        ensures refused { IfErr result IsUnmade }
     {
-        match &self.handler {
-            AnyHandler::Flat(image) => code_of(alloc, image),
-            AnyHandler::Span(_) => Err(Refusal::Native),
+        match compile_handler(alloc, &self.handler) {
+            Ok(code) => Ok(code),
+            Err(_) => Err(Refusal::Image(ImageError::Memory)),
         }
     }
 

@@ -1,27 +1,12 @@
 //! Machine code of images that were opened.
 
-ghost use Rattle.std.specs.Prelude.{◌≡◌, Some, OnOk, IfOk, IfErr, OnErr};
-ghost use Rattle.embed.specs.Arrays.{flat_image};
-ghost use Rattle.embed.specs.MachineCode.{IsCompiled, IsNativeOf, IsUncompiled, IsUnmade, Compiles};
+ghost use Rattle.std.specs.Prelude.{◌≡◌, Some, OnOk, IfErr, OnErr};
+ghost use Rattle.embed.specs.MachineCode.{IsCompiled, IsUncompiled, Compiles};
 
 use crate::bytes::put;
 use crate::handler::Handler;
 use crate::refusal::Refusal;
 use std::alloc::Global;
-use verifier::{Image, ImageError};
-
-/// The machine code of an image of form 1 or 2.
-pub fn code_of(alloc: Global, image: &Image) -> Result<Vec<u8>, Refusal>
-    ensures made { IfOk result (λ code. IsNativeOf (flat_image image.now) code.items) }
-    ensures refused { IfErr result (IsUnmade (flat_image image.now)) }
-{
-    // Its clause says that the slots are those of the code.
-    let _code = image.code();
-    match native::compile(alloc, image) {
-        Ok(code) => Ok(code),
-        Err(_) => Err(Refusal::Image(ImageError::Memory)),
-    }
-}
 
 /// Writes the machine code of a handler's image from the front on, and how many bytes that is, which
 /// a buffer that is too short is told too.

@@ -30,16 +30,13 @@ pub enum Refusal {
     /// 10: the handle is null.
     #[error("the handle is null")]
     Handle,
-    /// 11: the image is of form 3, of which there is no machine code.
-    #[error("there is no machine code for an SBI3")]
-    Native,
     /// 12: these bytes aren't a record that a call of form 1 leaves.
     #[error("no record of a call of form 1")]
     Record,
 }
 
 impl Refusal {
-    /// Its number, 1 to 12.
+    /// Its number, 1 to 10 or 12.
     pub fn number(&self) -> u32
         ensures { result ≡ refusal_number self.now }
     {
@@ -54,7 +51,6 @@ impl Refusal {
             Refusal::Room => 8,
             Refusal::Form => 9,
             Refusal::Handle => 10,
-            Refusal::Native => 11,
             Refusal::Record => 12,
         }
     }

@@ -46,16 +46,20 @@ added_more s d (suc (suc (suc (suc (suc (suc (suc (suc (suc zero))))))))) h = ap
 added_more s d (suc (suc (suc (suc (suc (suc (suc (suc (suc (suc r)))))))))) h = refl
 
 -- a task that writes within some writes within more
-writes_more : (s u : Saved) (t : Task) → Includes s u → WritesWithin s t → WritesWithin u t
+pub writes_more : (s u : Saved) (t : Task) → Includes s u → WritesWithin s t → WritesWithin u t
 writes_more s u (task.Compute o w dst b) i h = i dst.number h
 writes_more s u (task.Extend x dst src) i h = i dst.number h
 writes_more s u (task.Negate w dst) i h = i dst.number h
 writes_more s u (task.Reorder o b dst) i h = i dst.number h
 writes_more s u (task.Load z dst at) i h = i dst.number h
 writes_more s u (task.LoadSx z dst at) i h = i dst.number h
+writes_more s u (task.LoadBy z dst base d) i h = i dst.number h
+writes_more s u (task.LoadSxBy z dst base d) i h = i dst.number h
 writes_more s u (task.Wide dst v) i h = i dst.number h
 writes_more s u (task.Store z src at) i h = tt
 writes_more s u (task.StoreImm z at imm) i h = tt
+writes_more s u (task.StoreBy z src base d) i h = tt
+writes_more s u (task.StoreImmBy z base d imm) i h = tt
 writes_more s u (task.Branch x w dst o to) i h = tt
 writes_more s u (task.Leap to) i h = tt
 writes_more s u task.Me i h = tt
@@ -64,6 +68,10 @@ writes_more s u (task.Send at) i h = tt
 writes_more s u (task.Output at) i h = tt
 writes_more s u (task.SendSized at) i h = tt
 writes_more s u (task.OutputSized at) i h = tt
+writes_more s u task.SendBy i h = tt
+writes_more s u task.OutputBy i h = tt
+writes_more s u task.SendSizedBy i h = tt
+writes_more s u task.OutputSizedBy i h = tt
 writes_more s u task.Exit i h = tt
 writes_more s u task.Dead i h = tt
 
@@ -100,3 +108,7 @@ keeps_all tasks s index h l k t f = let w = slice_get_within tasks k t f in h.ke
 
 pub keeps_is : (tasks : List Task) (s : Saved) (index : ℕ) → KeptTo tasks s index → length tasks ≤ index → s ≡ saved_in tasks
 keeps_is tasks s index h l = ap (and_tasks s) (sym (drop_all index tasks l)) ∙ h.is
+
+-- what is kept beside changes nothing of that
+pub saves_more : (tasks : List Task) (s u : Saved) → Includes s u → SaveAll tasks s → SaveAll tasks u
+saves_more tasks s u i h k t f = writes_more s u t i (h k t f)

@@ -1,14 +1,12 @@
 -- How long code is.
-use Rattle.std.proofs.Common.{◌≡◌, ℕ, ◌+◌, ◌*◌, ◌%◌, ◌<◌, ◌≤◌, Bool, true, false, cond, List, [], ◌∷◌, ◌++◌, length, refl, sym, ap, ◌∙◌, arith, length-append}
-use Rattle.std.specs.Prelude.{◌==◌, ◌&&◌, ◌-◌, ◌/◌, nat_lt}
+use Rattle.std.proofs.Common.{◌≡◌, ℕ, ◌+◌, ◌*◌, ◌%◌, ◌<◌, ◌≤◌, Bool, true, false, cond, lit≤, List, [], ◌∷◌, ◌++◌, Option, Some, None, length, refl, sym, ap, ◌∙◌, arith, length-append}
+use Rattle.std.specs.Prelude.{◌==◌, ◌&&◌, ◌/◌, nat_lt}
 use Rattle.std.proofs.lemmas.Bool.Decides.{nat_tests}
-use Rattle.decode.specs.declared.insn.AluOp.{AluOp}
 use Rattle.decode.specs.declared.insn.AluOp.TheVariants as op
 use Rattle.decode.specs.declared.insn.Width.{Width}
 use Rattle.decode.specs.declared.insn.Width.TheVariants.{W32, W64}
 use Rattle.decode.specs.declared.insn.Extension.{Extension}
 use Rattle.decode.specs.declared.insn.Extension.TheVariants as extension
-use Rattle.decode.specs.declared.insn.Size.{Size}
 use Rattle.decode.specs.declared.insn.Size.TheVariants as size
 use Rattle.decode.specs.declared.insn.SignedSize.TheVariants as signed
 use Rattle.operations.specs.Bytes.{le_bytes}
@@ -258,11 +256,15 @@ output_sized_few at =
     let c = sized_short at 12 e 8 (omega arith) (omega arith) (omega arith) in
     omega arith
 
-pub good_few : (h : Helper) (at : ℕ) → length (codes (good_of h at)) ≤ 80
-good_few helper.Send at = send_few at
-good_few helper.Output at = output_few at
-good_few helper.SendSized at = send_sized_few at
-good_few helper.OutputSized at = output_sized_few at
+pub good_few : (h : Helper) (at : Option ℕ) → length (codes (good_of h at)) ≤ 80
+good_few helper.Send (Some at) = send_few at
+good_few helper.Output (Some at) = output_few at
+good_few helper.SendSized (Some at) = send_sized_few at
+good_few helper.OutputSized (Some at) = output_sized_few at
+good_few helper.Send None = lit≤ tt
+good_few helper.Output None = lit≤ tt
+good_few helper.SendSized None = lit≤ tt
+good_few helper.OutputSized None = lit≤ tt
 
 -- ---- what a slot has
 
@@ -284,6 +286,10 @@ done_few (task.Send at) is h = omega (arith, ap length h)
 done_few (task.Output at) is h = omega (arith, ap length h)
 done_few (task.SendSized at) is h = omega (arith, ap length h)
 done_few (task.OutputSized at) is h = omega (arith, ap length h)
+done_few task.SendBy is h = omega (arith, ap length h)
+done_few task.OutputBy is h = omega (arith, ap length h)
+done_few task.SendSizedBy is h = omega (arith, ap length h)
+done_few task.OutputSizedBy is h = omega (arith, ap length h)
 done_few (task.Compute op.Div w dst o) is h = omega (arith, ap length h)
 done_few (task.Compute op.Mod w dst o) is h = omega (arith, ap length h)
 done_few (task.Compute op.Sdiv w dst o) is h = omega (arith, ap length h)

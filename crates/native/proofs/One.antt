@@ -1,6 +1,6 @@
 -- Slots have one machine code.
-use Rattle.std.proofs.Common.{◌≡◌, ◌≢◌, ℕ, zero, suc, ◌+◌, ◌-◌, ◌<◌, ◌≤◌, Bool, true, false, List, [], ◌∷◌, ◌++◌, length, Option, Some, None, refl, sym, ap, ◌∙◌, subst, arith}
-use Rattle.std.specs.Prelude.{slice_index, slice_set}
+use Rattle.std.proofs.Common.{◌≡◌, ℕ, zero, suc, ◌+◌, ◌-◌, Bool, true, false, List, [], ◌∷◌, ◌++◌, length, Option, Some, None, refl, sym, ap, ◌∙◌, subst, arith}
+use Rattle.std.specs.Prelude.{slice_set}
 use Rattle.decode.specs.declared.insn.AluOp.TheVariants as op
 use Rattle.decode.specs.declared.insn.Insn.{Insn}
 use Rattle.decode.specs.Slots.{insn_at}
@@ -14,15 +14,17 @@ use Rattle.x86.specs.declared.instruction.Instr.{Instr}
 use Rattle.native.specs.declared.body.Body.{Body}
 use Rattle.native.specs.declared.body.Body.TheVariants.{Empty, One, Two, Three}
 use Rattle.native.specs.declared.saved.Saved.{Saved}
+use Rattle.native.specs.declared.opening.Opening.{Opening}
+use Rattle.native.specs.declared.opening.Opening.TheVariants as opening
 use Rattle.native.specs.declared.task.Task.{Task}
 use Rattle.native.specs.declared.task.Task.TheVariants as task
 use Rattle.native.specs.Tasks.{is_apt}
-use Rattle.native.specs.Code.{codes, body_of, flushed, skipped, leaving, condition_of, compare_code, jump_code, jump_if_code, IsBody, IsDone, Counts, Reaches, Plain, Serves, entering, taken}
+use Rattle.native.specs.Code.{codes, body_of, flushed, skipped, leaving, condition_of, compare_code, jump_code, jump_if_code, IsBody, IsDone, Counts, Reaches, Plain, Serves, taken}
 use Rattle.native.specs.Laid.{IsPiece}
 use Rattle.native.specs.Pends.{pends_in}
-use Rattle.native.specs.Needs.{saved_in}
+use Rattle.native.specs.Openings.{entering_by, saved_for}
 use Rattle.native.specs.SlotTasks.{task_at, task_there, tasks_in}
-use Rattle.native.specs.Written.{Stacks, IsWritten, IsCodeOf, IsOneCode}
+use Rattle.native.specs.Written.{Stacks, IsWritten, IsOneCode}
 
 -- ---- a slot's code
 
@@ -37,6 +39,10 @@ done_one (task.Send at) is js h k = h ∙ sym k
 done_one (task.Output at) is js h k = h ∙ sym k
 done_one (task.SendSized at) is js h k = h ∙ sym k
 done_one (task.OutputSized at) is js h k = h ∙ sym k
+done_one task.SendBy is js h k = h ∙ sym k
+done_one task.OutputBy is js h k = h ∙ sym k
+done_one task.SendSizedBy is js h k = h ∙ sym k
+done_one task.OutputSizedBy is js h k = h ∙ sym k
 done_one (task.Compute op.Div w dst o) is js h k = h ∙ sym k
 done_one (task.Compute op.Mod w dst o) is js h k = h ∙ sym k
 done_one (task.Compute op.Sdiv w dst o) is js h k = h ∙ sym k
@@ -85,19 +91,20 @@ piece_one pends tails saved slot t p q a b = by_test (is_apt slot t) refl
 
 -- ---- the code of tasks
 
-stacks_one : (tasks : List Task) (n : ℕ) (tails tails' code code' : List ℕ) → Stacks tasks n tails code → Stacks tasks n tails' code' → (tails ≡ tails') × (code ≡ code')
-stacks_one tasks zero tails tails' code code' a b = (a.0 ∙ sym b.0, a.1 ∙ sym b.1)
-stacks_one tasks (suc n) tails tails' code code' (ts, cs, p, s, is, t, c) (ts', cs', p', s', is', t', c') =
+stacks_one : (o : Opening) (tasks : List Task) (n : ℕ) (tails tails' code code' : List ℕ) → Stacks o tasks n tails code → Stacks o tasks n tails' code' → (tails ≡ tails') × (code ≡ code')
+stacks_one o tasks zero tails tails' code code' a b = (a.0 ∙ sym b.0, a.1 ∙ sym b.1)
+stacks_one o tasks (suc n) tails tails' code code' (ts, cs, p, s, is, t, c) (ts', cs', p', s', is', t', c') =
     let slot = length tasks - suc n in
-    let x = stacks_one tasks n ts ts' cs cs' s s' in
-    let y : p ≡ p' = piece_one (pends_in tasks) ts' (saved_in tasks) slot (task_at tasks slot) p p' (subst (λ l. IsPiece (pends_in tasks) l (saved_in tasks) slot (task_at tasks slot) p) x.0 is) is' in (
+    let x = stacks_one o tasks n ts ts' cs cs' s s' in
+    let y : p ≡ p' = piece_one (pends_in tasks) ts' (saved_for o tasks) slot (task_at tasks slot) p p' (subst (λ l. IsPiece (pends_in tasks) l (saved_for o tasks) slot (task_at tasks slot) p) x.0 is) is' in (
       t ∙ ap (λ l. slice_set l slot (length p + length cs)) x.0 ∙ ap (λ l. slice_set ts' slot (length l + length cs)) y ∙ ap (λ l. slice_set ts' slot (length p' + length l)) x.1 ∙ sym t',
       c ∙ ap (λ l. l ++ cs) y ∙ ap (λ l. p' ++ l) x.1 ∙ sym c',
     )
 
-written_one : (tasks : List Task) (code code' : List ℕ) → IsWritten tasks code → IsWritten tasks code' → code ≡ code'
-written_one tasks code code' a b =
-    a.is ∙ ap (λ l. codes (entering (saved_in tasks)) ++ l) (stacks_one tasks (length tasks) a.tails b.tails a.rest b.rest a.stacks b.stacks).1 ∙ sym b.is
+-- tasks have one machine code
+pub written_one : (o : Opening) (tasks : List Task) (code code' : List ℕ) → IsWritten o tasks code → IsWritten o tasks code' → code ≡ code'
+written_one o tasks code code' a b =
+    a.is ∙ ap (λ l. codes (entering_by o (saved_for o tasks)) ++ l) (stacks_one o tasks (length tasks) a.tails b.tails a.rest b.rest a.stacks b.stacks).1 ∙ sym b.is
 
 -- ---- the code of slots
 
@@ -130,4 +137,4 @@ module _ {form : ImageForm} {slots : List (Option Insn)} {len : ℕ} {t u : Tabl
 pub one_code : IsOneCode
 one_code form slots len code code' a b =
     let e = same_tasks a.least b.least (length slots) in
-    written_one (tasks_in slots b.table len (length slots)) code code' (subst (λ ts. IsWritten ts code) e a.written) b.written
+    written_one opening.Bare (tasks_in slots b.table len (length slots)) code code' (subst (λ ts. IsWritten opening.Bare ts code) e a.written) b.written

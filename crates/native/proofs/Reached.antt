@@ -1,12 +1,11 @@
 -- Each operation that a call comes to has a task that there is code for.
-use Rattle.std.proofs.Common.{◌≡◌, ◌≢◌, ℕ, zero, suc, ◌+◌, ◌-◌, ◌<◌, ◌≤◌, Bool, true, false, not, cond, List, [], ◌∷◌, length, map, drop, get_or, Option, Some, None, ℤ, pos, negsuc, ◌+ℤ◌, refl, sym, ap, ◌∙◌, subst, ⊎_elim, arith}
+use Rattle.std.proofs.Common.{◌≡◌, ◌≢◌, ℕ, zero, suc, ◌+◌, ◌≤◌, Bool, true, false, not, cond, List, [], ◌∷◌, length, map, Option, Some, None, ℤ, pos, negsuc, ◌+ℤ◌, refl, sym, ap, ◌∙◌, subst, ⊎_elim, arith}
 use Rattle.std.specs.Prelude.{◌==◌, ◌&&◌, nat_lt, slice_get, slice_set, slice_index}
 use Rattle.std.specs.List.{AllByRecursion}
-use Rattle.std.specs.Option.{option_map_or, unwrap_or}
+use Rattle.std.specs.Option.{option_map_or}
 use Rattle.std.proofs.lemmas.Bool.{false≢true, cases_lt}
 use Rattle.std.proofs.lemmas.Bool.Decides.{nat_tests}
 use Rattle.std.proofs.lemmas.List.{get_or-drop, get_or-set_other}
-use Rattle.std.proofs.lemmas.Option.{slice_get_within}
 use Rattle.decode.specs.declared.insn.AluOp.{AluOp}
 use Rattle.decode.specs.declared.insn.AluOp.TheVariants as alu
 use Rattle.decode.specs.declared.insn.Width.{Width}
@@ -16,37 +15,34 @@ use Rattle.decode.specs.declared.insn.Operand.TheVariants as operand
 use Rattle.decode.specs.declared.insn.Reg.{Reg}
 use Rattle.decode.specs.declared.insn.Insn.{Insn}
 use Rattle.decode.specs.declared.insn.Insn.TheVariants.{Alu, MovSx, Neg, End, Jump, JumpLong, JumpIf, Call, Exit, Load, LoadSx, StoreReg, StoreImm, Wide}
-use Rattle.decode.specs.Slots.{insn_at}
 use Rattle.regtypes.specs.declared.image_form.ImageForm.{ImageForm}
 use Rattle.regtypes.specs.declared.image_form.ImageForm.TheVariants.{Sbi1, Sbi2}
 use Rattle.regtypes.specs.declared.frame.Kind.{Kind}
 use Rattle.regtypes.specs.declared.frame.Kind.TheVariants.{Unset, Num, Len, Place}
 use Rattle.regtypes.specs.declared.frame.Frame.{Frame}
-use Rattle.regtypes.specs.declared.attributes.Attributes.{Attributes}
 use Rattle.regtypes.specs.declared.flow.Flow.{Flow}
 use Rattle.regtypes.specs.declared.flow.Flow.TheVariants as flow
-use Rattle.regtypes.specs.Frame.{kind_at, is_num, entry_frame, Leq, LeqKind}
-use Rattle.regtypes.specs.Flow.{flow_of, exits, exits_by}
-use Rattle.regtypes.specs.Leaving.{after, after_by, given, next, taken}
-use Rattle.regtypes.specs.Rules.{is_unset, is_place, is_frame_pointer, has, first_broken}
-use Rattle.regtypes.specs.Typing.{Table, frame_at, Enters, broken, TypesBelow, IsTyping, is_target}
+use Rattle.regtypes.specs.Frame.{kind_at, is_num, entry_frame, LeqKind}
+use Rattle.regtypes.specs.Flow.{flow_of, exits_by}
+use Rattle.regtypes.specs.Leaving.{after, given, next, taken}
+use Rattle.regtypes.specs.Rules.{is_unset, is_place, is_frame_pointer, has}
+use Rattle.regtypes.specs.Typing.{Table, frame_at, Enters, IsTyping, is_target}
 use Rattle.regtypes.specs.declared.form.Form.{Form}
 use Rattle.regtypes.specs.declared.form.Form.TheVariants.{Copies, Moves, Sets, Computes}
 use Rattle.regtypes.specs.Form.{form_of}
 use Rattle.regtypes.specs.Attributes.{attributes_of, alu_attributes}
-use Rattle.regtypes.proofs.Parts.{jump_tests, writes_frame_pointer, after_helper}
+use Rattle.regtypes.proofs.Parts.{jump_tests, writes_frame_pointer}
 use Rattle.regtypes.proofs.Monotone.{after_cases, none_holds}
-use Rattle.regtypes.proofs.Typings.{typing_keeps, typing_leads}
 use Rattle.verifier.specs.Least.{IsLeastTyping}
-use Rattle.verifier.specs.Places.{index_of, target_of}
-use Rattle.verifier.specs.Dense.{position, payload_position, dense_of, helper_op, StandsFor, IsDense}
+use Rattle.verifier.specs.Places.{target_of}
+use Rattle.verifier.specs.Dense.{position, payload_position, dense_of, helper_op, IsDense}
 use Rattle.verifier.proofs.RuleLemmas.{Keeps, kept, Rules, rules_of, target_forward}
 use Rattle.dense.specs.declared.op.Op.{Op}
 use Rattle.dense.specs.declared.op.Op.TheVariants as op
 use Rattle.dense.specs.Acts.{IsWithin}
 use Rattle.native.specs.declared.task.Task.{Task}
 use Rattle.native.specs.declared.task.Task.TheVariants as task
-use Rattle.native.specs.Tasks.{holds_word, is_word, is_read, is_apt}
+use Rattle.native.specs.Tasks.{holds_word, is_read, is_apt}
 use Rattle.native.specs.Operations.{task_for}
 use Rattle.native.proofs.FormTasks.{alu_imm_task, alu_reg_task, movsx_task, neg_task, swap_task, jump_imm_task, jump_reg_task, load_task, load_sx_task, store_reg_task, store_imm_task}
 

@@ -1,5 +1,5 @@
 -- The task of each slot is its operation's.
-use Rattle.std.proofs.Common.{◌≡◌, ℕ, zero, suc, ◌+◌, ◌<◌, ◌≤◌, Bool, true, false, cond, List, [], ◌∷◌, ◌++◌, length, Option, Some, None, ℤ, pos, negsuc, refl, sym, ap, ◌∙◌, subst, ⊎_elim, arith, length-append}
+use Rattle.std.proofs.Common.{◌≡◌, ℕ, zero, suc, ◌+◌, ◌<◌, ◌≤◌, Bool, true, cond, List, [], ◌∷◌, ◌++◌, length, Option, Some, None, ℤ, pos, negsuc, refl, sym, ap, ◌∙◌, subst, ⊎_elim, arith, length-append}
 use Rattle.std.specs.Prelude.{nat_lt, is_some, slice_get, slice_index}
 use Rattle.std.proofs.lemmas.Bool.{cases_lt}
 use Rattle.std.proofs.lemmas.Bool.Decides.{nat_tests}
@@ -10,7 +10,6 @@ use Rattle.decode.specs.declared.insn.Insn.{Insn}
 use Rattle.decode.specs.declared.insn.Insn.TheVariants.{Alu, MovSx, Neg, End, Jump, JumpLong, JumpIf, Call, Exit, Load, LoadSx, StoreReg, StoreImm, Wide}
 use Rattle.decode.specs.Slots.{insn_at}
 use Rattle.dense.specs.declared.op.Op.{Op}
-use Rattle.dense.specs.declared.op.Op.TheVariants as op
 use Rattle.dense.specs.Acts.{IsWithin}
 use Rattle.regtypes.specs.declared.image_form.ImageForm.{ImageForm}
 use Rattle.regtypes.specs.declared.frame.Frame.{Frame}
@@ -26,7 +25,6 @@ use Rattle.native.specs.Operations.{task_for}
 use Rattle.native.specs.Laid.{IsTaskOf}
 use Rattle.native.specs.SlotTasks.{helper_task, task_in, task_there, tasks_in, task_at, IsTold, AreTold}
 use Rattle.native.proofs.FormTasks.{alu_imm_task, alu_reg_task, movsx_task, neg_task, swap_task, jump_imm_task, jump_reg_task, load_task, load_sx_task, store_reg_task, store_imm_task}
-use Rattle.native.proofs.Reached.{has_code}
 
 -- ---- the task of an instruction's operation is the instruction's
 

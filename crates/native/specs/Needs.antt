@@ -13,6 +13,8 @@ and_task s (task.Negate w dst) = and_register s dst.number
 and_task s (task.Reorder o b dst) = and_register s dst.number
 and_task s (task.Load size dst at) = and_register s dst.number
 and_task s (task.LoadSx size dst at) = and_register s dst.number
+and_task s (task.LoadBy size dst base d) = and_register s dst.number
+and_task s (task.LoadSxBy size dst base d) = and_register s dst.number
 and_task s (task.Wide dst value) = and_register s dst.number
 and_task s t = s
 

@@ -4,46 +4,48 @@ use Rattle.decode.specs.declared.insn.Insn.{Insn}
 use Rattle.regtypes.specs.declared.image_form.ImageForm.{ImageForm}
 use Rattle.regtypes.specs.Typing.{Table}
 use Rattle.verifier.specs.Least.{IsLeastTyping}
+use Rattle.native.specs.declared.opening.Opening.{Opening}
+use Rattle.native.specs.declared.opening.Opening.TheVariants as opening
 use Rattle.native.specs.declared.task.Task.{Task}
 use Rattle.native.specs.SlotTasks.{task_at, tasks_in}
 use Rattle.native.specs.Pends.{pends_in}
-use Rattle.native.specs.Needs.{saved_in}
-use Rattle.native.specs.Code.{codes, entering}
+use Rattle.native.specs.Openings.{entering_by, saved_for}
+use Rattle.native.specs.Code.{codes}
 use Rattle.native.specs.Laid.{ArePends, SaveAll, IsPiece, LaidFrom}
 
 -- the code of the last n slots, and how long the code from each on is, or 0: that of the first of them goes by how long
 -- those behind it are
-abbrev pub Stacks : List Task → ℕ → List ℕ → List ℕ → Type 0
-Stacks tasks zero tails code = (tails ≡ replicate (length tasks + 1) 0) × (code ≡ [])
-Stacks tasks (suc n) tails code =
-    (tails' code' piece : List ℕ) × Stacks tasks n tails' code'
-    × IsPiece (pends_in tasks) tails' (saved_in tasks) (length tasks - suc n) (task_at tasks (length tasks - suc n)) piece
+abbrev pub Stacks : Opening → List Task → ℕ → List ℕ → List ℕ → Type 0
+Stacks o tasks zero tails code = (tails ≡ replicate (length tasks + 1) 0) × (code ≡ [])
+Stacks o tasks (suc n) tails code =
+    (tails' code' piece : List ℕ) × Stacks o tasks n tails' code'
+    × IsPiece (pends_in tasks) tails' (saved_for o tasks) (length tasks - suc n) (task_at tasks (length tasks - suc n)) piece
     × (tails ≡ slice_set tails' (length tasks - suc n) (length piece + length code')) × (code ≡ piece ++ code')
 
 -- behind the entry stands the code of all tasks
-pub record IsWritten (tasks : List Task) (code : List ℕ) : Type 0 where
+pub record IsWritten (o : Opening) (tasks : List Task) (code : List ℕ) : Type 0 where
   pub tails : List ℕ
   pub rest : List ℕ
-  pub stacks : Stacks tasks (length tasks) tails rest
-  pub is : code ≡ codes (entering (saved_in tasks)) ++ rest
+  pub stacks : Stacks o tasks (length tasks) tails rest
+  pub is : code ≡ codes (entering_by o (saved_for o tasks)) ++ rest
 
 -- the slots from this one on are laid, as they are stacked
-pub record IsLaidFrom (tasks : List Task) (tails code : List ℕ) (slot : ℕ) : Type 0 where
-  pub laid : LaidFrom tasks (pends_in tasks) tails (saved_in tasks) code slot
-  pub stacks : Stacks tasks (length tasks - slot) tails code
+pub record IsLaidFrom (o : Opening) (tasks : List Task) (tails code : List ℕ) (slot : ℕ) : Type 0 where
+  pub laid : LaidFrom tasks (pends_in tasks) tails (saved_for o tasks) code slot
+  pub stacks : Stacks o tasks (length tasks - slot) tails code
 
 -- the code of all tasks is written, each slot's stands where it belongs, and no step and no register is forgotten
-pub record IsServed (tasks : List Task) (code : List ℕ) : Type 0 where
-  pub written : IsWritten tasks code
-  pub laid : LaidFrom tasks (pends_in tasks) written.tails (saved_in tasks) written.rest 0
+pub record IsServed (o : Opening) (tasks : List Task) (code : List ℕ) : Type 0 where
+  pub written : IsWritten o tasks code
+  pub laid : LaidFrom tasks (pends_in tasks) written.tails (saved_for o tasks) written.rest 0
   pub pended : ArePends tasks (pends_in tasks)
-  pub saves : SaveAll tasks (saved_in tasks)
+  pub saves : SaveAll tasks (saved_for o tasks)
 
 -- the bytes are the machine code of these slots, by the least typing
 pub record IsCodeOf (form : ImageForm) (slots : List (Option Insn)) (len : ℕ) (code : List ℕ) : Type 0 where
   pub table : Table
   pub least : IsLeastTyping form slots len table
-  pub written : IsWritten (tasks_in slots table len (length slots)) code
+  pub written : IsWritten opening.Bare (tasks_in slots table len (length slots)) code
 
 -- slots have one machine code in a form, with a state of one length
 abbrev pub IsOneCode : Type 0

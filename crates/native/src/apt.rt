@@ -47,6 +47,10 @@ pub(crate) fn is_apt(slot: usize, task: &Task) -> bool
         Task::Load { dst, .. } => holds_word(dst),
         Task::LoadSx { dst, .. } => holds_word(dst),
         Task::Store { src, .. } => holds_word(src),
+        Task::LoadBy { dst, base, .. } => holds_word(dst) && holds_word(base),
+        Task::LoadSxBy { dst, base, .. } => holds_word(dst) && holds_word(base),
+        Task::StoreBy { src, base, .. } => holds_word(src) && holds_word(base),
+        Task::StoreImmBy { base, .. } => holds_word(base),
         Task::Wide { dst, .. } => holds_word(dst),
         Task::Branch {
             dst,

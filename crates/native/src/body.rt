@@ -4,7 +4,7 @@ ghost use Rattle.std.specs.Prelude.{◌≡◌};
 ghost use Rattle.operations.specs.Operations.{word_of};
 ghost use Rattle.x86.specs.Machine.{extended};
 ghost use Rattle.native.specs.Code as codes;
-ghost use Rattle.native.specs.Code.{IsShort, TaskIsShort};
+ghost use Rattle.native.specs.Code.{IsNear, IsShort, TaskIsShort};
 
 use crate::task::Task;
 use decode::{AluOp, ByteOrder, Extension, Operand, Reg, SignedSize, Size, SwapBits, Width};
@@ -342,6 +342,71 @@ fn store_imm_code(size: Size, at: u16, imm: i32) -> Body
     })
 }
 
+// rdx: the address that a register's position and an offset make.
+fn reach_code(base: Reg, offset: i16) -> Instr
+    ensures value { result ≡ codes.reach_code base.number offset }
+    ensures near { IsNear offset }
+{
+    Instr::LeaBy {
+        to: 2,
+        base: 7,
+        index: gpr(base),
+        disp: seen(number(i32::from(offset))),
+    }
+}
+
+fn load_by_code(size: Size, dst: Reg, base: Reg, offset: i16) -> Body
+    ensures value { result ≡ codes.body_of (Task.LoadBy size dst base offset) }
+    ensures near { IsNear offset }
+{
+    let load = Instr::Load {
+        size,
+        to: gpr(dst),
+        base: 2,
+        disp: 0,
+    };
+    Body::Two(reach_code(base, offset), load)
+}
+
+fn load_sx_by_code(size: SignedSize, dst: Reg, base: Reg, offset: i16) -> Body
+    ensures value { result ≡ codes.body_of (Task.LoadSxBy size dst base offset) }
+    ensures near { IsNear offset }
+{
+    let load = Instr::LoadSx {
+        size,
+        to: gpr(dst),
+        base: 2,
+        disp: 0,
+    };
+    Body::Two(reach_code(base, offset), load)
+}
+
+fn store_by_code(size: Size, src: Reg, base: Reg, offset: i16) -> Body
+    ensures value { result ≡ codes.body_of (Task.StoreBy size src base offset) }
+    ensures near { IsNear offset }
+{
+    let store = Instr::Store {
+        size,
+        base: 2,
+        disp: 0,
+        from: gpr(src),
+    };
+    Body::Two(reach_code(base, offset), store)
+}
+
+fn store_imm_by_code(size: Size, base: Reg, offset: i16, imm: i32) -> Body
+    ensures value { result ≡ codes.body_of (Task.StoreImmBy size base offset imm) }
+    ensures short { TaskIsShort (Task.StoreImmBy size base offset imm) }
+{
+    let store = Instr::StoreImm {
+        size,
+        base: 2,
+        disp: 0,
+        imm: number(imm),
+    };
+    Body::Two(reach_code(base, offset), store)
+}
+
 // A word of the record to r0.
 fn told_code(at: u64) -> Body
     ensures { result ≡ codes.told_code at }
@@ -377,6 +442,30 @@ pub(crate) fn body_of(task: Task) -> Body
         Task::LoadSx { size, dst, at } => load_sx_code(size, dst, at),
         Task::Store { size, src, at } => store_code(size, src, at),
         Task::StoreImm { size, at, imm } => store_imm_code(size, at, imm),
+        Task::LoadBy {
+            size,
+            dst,
+            base,
+            offset,
+        } => load_by_code(size, dst, base, offset),
+        Task::LoadSxBy {
+            size,
+            dst,
+            base,
+            offset,
+        } => load_sx_by_code(size, dst, base, offset),
+        Task::StoreBy {
+            size,
+            src,
+            base,
+            offset,
+        } => store_by_code(size, src, base, offset),
+        Task::StoreImmBy {
+            size,
+            base,
+            offset,
+            imm,
+        } => store_imm_by_code(size, base, offset, imm),
         Task::Wide { dst, value } => wide_code(dst, value),
         Task::Me => told_code(24),
         Task::From => told_code(32),
@@ -390,6 +479,10 @@ pub(crate) fn body_of(task: Task) -> Body
         Task::Output { .. } => Body::Empty,
         Task::SendSized { .. } => Body::Empty,
         Task::OutputSized { .. } => Body::Empty,
+        Task::SendBy => Body::Empty,
+        Task::OutputBy => Body::Empty,
+        Task::SendSizedBy => Body::Empty,
+        Task::OutputSizedBy => Body::Empty,
         Task::Exit => Body::Empty,
         Task::Dead => Body::Empty,
     }

@@ -1,6 +1,6 @@
 //! Helpers that emit: their tests, what they do, and their answers.
 
-ghost use Rattle.std.specs.Prelude.{◌≡◌, ◌<◌, ◌≤◌, ◌^◌, ◌++◌, OnOk};
+ghost use Rattle.std.specs.Prelude.{◌≡◌, ◌<◌, ◌≤◌, ◌^◌, ◌++◌, Some, None, OnOk};
 ghost use Rattle.native.specs.Code.{codes};
 ghost use Rattle.native.specs.Code as specs;
 
@@ -263,32 +263,24 @@ fn write_copy(code: &mut Vec<u8>, at: u64) -> Result<(), AllocError>
     )
 }
 
-// The length, which a register has, and so many bytes.
-fn write_sized(code: &mut Vec<u8>, at: u64, len: u8) -> Result<(), AllocError>
-    ensures { OnOk result (code.new.items ≡ code.old.items ++ codes (specs.sized_code at len)) }
+// So many bytes, by how their number is written and counted and their address found.
+fn write_moved(
+    code: &mut Vec<u8>,
+    writes: Instr,
+    counts: Instr,
+    finds: Instr,
+) -> Result<(), AllocError>
+    ensures { OnOk result (code.new.items ≡ code.old.items ++ codes (specs.moved_code writes counts finds)) }
 {
     write_all(
         code,
         &[
-            Instr::Store {
-                size: Size::Double,
-                base: 2,
-                disp: 8,
-                from: len,
-            },
+            writes,
             Instr::Push { reg: 1 },
             Instr::Push { reg: 6 },
             Instr::Push { reg: 7 },
-            Instr::Mov {
-                width: Width::W64,
-                to: 1,
-                from: len,
-            },
-            Instr::Lea {
-                to: 6,
-                base: 7,
-                disp: seen(at),
-            },
+            counts,
+            finds,
             Instr::Lea {
                 to: 7,
                 base: 2,
@@ -300,6 +292,74 @@ fn write_sized(code: &mut Vec<u8>, at: u64, len: u8) -> Result<(), AllocError>
             Instr::Pop { reg: 1 },
         ],
     )
+}
+
+// The length, which a register has, to the place.
+fn length_store(len: u8) -> Instr
+    ensures { result ≡ Instr.Store Size.Double 2 8 len }
+{
+    Instr::Store {
+        size: Size::Double,
+        base: 2,
+        disp: 8,
+        from: len,
+    }
+}
+
+// The length to rcx.
+fn length_move(len: u8) -> Instr
+    ensures { result ≡ Instr.Mov Width.W64 1 len }
+{
+    Instr::Mov {
+        width: Width::W64,
+        to: 1,
+        from: len,
+    }
+}
+
+// The address of a position that a register has to rsi.
+fn position_code(at: u8) -> Instr
+    ensures { result ≡ Instr.LeaBy 6 7 at (specs.seen 0) }
+{
+    Instr::LeaBy {
+        to: 6,
+        base: 7,
+        index: at,
+        disp: seen(0),
+    }
+}
+
+// The length, which a register has, and so many bytes.
+fn write_sized(code: &mut Vec<u8>, at: u64, len: u8) -> Result<(), AllocError>
+    ensures { OnOk result (code.new.items ≡ code.old.items ++ codes (specs.sized_code at len)) }
+{
+    let finds = Instr::Lea {
+        to: 6,
+        base: 7,
+        disp: seen(at),
+    };
+    write_moved(code, length_store(len), length_move(len), finds)
+}
+
+// The same from a position that a register has.
+fn write_sized_by(code: &mut Vec<u8>, at: u8, len: u8) -> Result<(), AllocError>
+    ensures { OnOk result (code.new.items ≡ code.old.items ++ codes (specs.sized_by_code at len)) }
+{
+    write_moved(code, length_store(len), length_move(len), position_code(at))
+}
+
+// The length, and 64 bytes from there.
+fn write_copy_by(code: &mut Vec<u8>, at: u8) -> Result<(), AllocError>
+    ensures { OnOk result (code.new.items ≡ code.old.items ++ codes (specs.copy_by_code at)) }
+{
+    let writes = Instr::StoreImm {
+        size: Size::Double,
+        base: 2,
+        disp: 8,
+        imm: 64,
+    };
+    let counts = Instr::MovImm { to: 1, imm: 64 };
+    write_moved(code, writes, counts, position_code(at))
 }
 
 // The new count and the answer, and past the other answers.
@@ -361,16 +421,80 @@ fn write_output_sized(code: &mut Vec<u8>, at: u64) -> Result<(), AllocError>
     Ok(())
 }
 
-/// What it does where its tests pass.
-pub(crate) fn write_good(code: &mut Vec<u8>, helper: Helper, at: u64) -> Result<(), AllocError>
+fn write_send_by(code: &mut Vec<u8>) -> Result<(), AllocError>
+    ensures { OnOk result (code.new.items ≡ code.old.items ++ codes specs.send_by_good) }
+{
+    write_place(code, 64)?;
+    write_aim(code)?;
+    write_copy_by(code, 12)?;
+    write_good_end(code, 0, 12)?;
+    Ok(())
+}
+
+fn write_output_by(code: &mut Vec<u8>) -> Result<(), AllocError>
+    ensures { OnOk result (code.new.items ≡ code.old.items ++ codes specs.output_by_good) }
+{
+    write_place(code, 2240)?;
+    write_copy_by(code, 8)?;
+    write_good_end(code, 8, 5)?;
+    Ok(())
+}
+
+fn write_send_sized_by(code: &mut Vec<u8>) -> Result<(), AllocError>
+    ensures { OnOk result (code.new.items ≡ code.old.items ++ codes specs.send_sized_by_good) }
+{
+    write_place(code, 64)?;
+    write_aim(code)?;
+    write_sized_by(code, 12, 9)?;
+    write_good_end(code, 0, 19)?;
+    Ok(())
+}
+
+fn write_output_sized_by(code: &mut Vec<u8>) -> Result<(), AllocError>
+    ensures { OnOk result (code.new.items ≡ code.old.items ++ codes specs.output_sized_by_good) }
+{
+    write_place(code, 2240)?;
+    write_sized_by(code, 8, 12)?;
+    write_good_end(code, 8, 12)?;
+    Ok(())
+}
+
+// What it does from a position where its tests pass.
+fn write_good_at(code: &mut Vec<u8>, helper: Helper, at: u64) -> Result<(), AllocError>
     requires { at < 2 ^ 16 }
-    ensures { OnOk result (code.new.items ≡ code.old.items ++ codes (specs.good_of helper at)) }
+    ensures { OnOk result (code.new.items ≡ code.old.items ++ codes (specs.good_of helper (Some at))) }
 {
     match helper {
         Helper::Send => write_send(code, at),
         Helper::Output => write_output(code, at),
         Helper::SendSized => write_send_sized(code, at),
         Helper::OutputSized => write_output_sized(code, at),
+    }
+}
+
+// What it does from one that a register has.
+fn write_good_by(code: &mut Vec<u8>, helper: Helper) -> Result<(), AllocError>
+    ensures { OnOk result (code.new.items ≡ code.old.items ++ codes (specs.good_of helper None)) }
+{
+    match helper {
+        Helper::Send => write_send_by(code),
+        Helper::Output => write_output_by(code),
+        Helper::SendSized => write_send_sized_by(code),
+        Helper::OutputSized => write_output_sized_by(code),
+    }
+}
+
+/// What it does where its tests pass, from a position or from one that a register has.
+pub(crate) fn write_good(
+    code: &mut Vec<u8>,
+    helper: Helper,
+    at: Option<u16>,
+) -> Result<(), AllocError>
+    ensures { OnOk result (code.new.items ≡ code.old.items ++ codes (specs.good_of helper at)) }
+{
+    match at {
+        Some(at) => write_good_at(code, helper, u64::from(at)),
+        None => write_good_by(code, helper),
     }
 }
 

@@ -1,23 +1,27 @@
 //! Whole images.
 
-ghost use Rattle.std.specs.Prelude.{◌≡◌, ◌<◌, ◌≤◌, ◌+◌, ◌-◌, ◌^◌, [], length, replicate, reverse, slice_index, IfOk, OnOk};
+ghost use Rattle.std.specs.Prelude.{◌≡◌, ◌<◌, ◌≤◌, ◌+◌, ◌-◌, ◌^◌, [], ◌++◌, length, replicate, reverse, slice_index, IfOk, OnOk};
 ghost use Rattle.limits.specs.declared.TheConstants.{SLOTS};
-ghost use Rattle.native.specs.Code.{IsBalanced, IsBehind};
+ghost use Rattle.native.specs.Code.{codes, IsBalanced, IsBehind};
 ghost use Rattle.native.specs.Correct.{IsNative};
 ghost use Rattle.native.specs.Laid.{ArePends, IsPiece};
 ghost use Rattle.native.specs.Pends.{pends_in};
-ghost use Rattle.native.specs.Needs.{saved_in};
+ghost use Rattle.native.specs.Openings.{entering_by, saved_for};
 ghost use Rattle.native.specs.Written.{IsCodeOf, IsLaidFrom, IsServed};
 
 use crate::apt::is_apt;
+use crate::body::clear;
+use crate::opening::Opening;
 use crate::pends::pends_of;
-use crate::saved::{Saved, saved_of};
+use crate::saved::{Saved, saved_for};
+use crate::sequence::write_all;
 use crate::slot_code::{emit, emit_entry};
 use crate::slot_tasks::tasks_of;
 use crate::task::Task;
 use limits::SLOTS;
 use std::alloc::{AllocError, Global};
 use verifier::Image;
+use x86::Instr;
 
 // So many zeros.
 fn zeros(alloc: Global, count: usize) -> Result<Vec<u64>, AllocError>
@@ -61,6 +65,7 @@ fn lay_slot(
     piece: &mut Vec<u8>,
     back: &mut Vec<u8>,
     tails: &mut Vec<u64>,
+    opening: Opening,
     tasks: &[Task],
     pends: &[u64],
     saved: Saved,
@@ -70,9 +75,9 @@ fn lay_slot(
     requires few { length tasks.now ≤ SLOTS }
     requires pended { ArePends tasks.now pends.now }
     requires pends { pends.now ≡ pends_in tasks.now }
-    requires saved { saved ≡ saved_in tasks.now }
-    requires laid { IsLaidFrom tasks.now tails.old.items (reverse back.old.items) (slot + 1) }
-    ensures { OnOk result (IsLaidFrom tasks.now tails.new.items (reverse back.new.items) slot) }
+    requires saved { saved ≡ saved_for opening tasks.now }
+    requires laid { IsLaidFrom opening tasks.now tails.old.items (reverse back.old.items) (slot + 1) }
+    ensures { OnOk result (IsLaidFrom opening tasks.now tails.new.items (reverse back.new.items) slot) }
 {
     piece.clear();
     write_piece(
@@ -90,13 +95,27 @@ fn lay_slot(
     Ok(())
 }
 
-// The code of tasks.
-fn write_tasks(alloc: Global, tasks: &[Task]) -> Result<Vec<u8>, AllocError>
+// The code's beginning.
+fn write_entry(code: &mut Vec<u8>, opening: Opening, saved: Saved) -> Result<(), AllocError>
+    ensures { OnOk result (code.new.items ≡ code.old.items ++ codes (entering_by opening saved)) }
+{
+    emit_entry(code, saved)?;
+    match opening {
+        Opening::Bare => Ok(()),
+        Opening::Placed => {
+            write_all(code, &[clear(8), Instr::MovImm { to: 12, imm: 512 }])?;
+            Ok(())
+        }
+    }
+}
+
+/// The machine code of tasks, one a slot, of a call that begins so. Only memory can want.
+pub fn write_tasks(alloc: Global, opening: Opening, tasks: &[Task]) -> Result<Vec<u8>, AllocError>
     requires { length tasks.now ≤ SLOTS }
-    ensures { IfOk result (λ code. IsServed tasks.now code.items) }
+    ensures { IfOk result (λ code. IsServed opening tasks.now code.items) }
 {
     let pends = pends_of(alloc, tasks)?;
-    let saved = saved_of(tasks);
+    let saved = saved_for(opening, tasks);
     let mut tails = zeros(alloc, tasks.len() + 1)?;
     let mut piece = Vec::with_capacity(alloc, 256)?;
     let mut back = Vec::with_capacity(alloc, 8 * tasks.len())?;
@@ -108,6 +127,7 @@ fn write_tasks(alloc: Global, tasks: &[Task]) -> Result<Vec<u8>, AllocError>
             &mut piece,
             &mut back,
             &mut tails,
+            opening,
             tasks,
             pends.as_slice(),
             saved,
@@ -116,7 +136,7 @@ fn write_tasks(alloc: Global, tasks: &[Task]) -> Result<Vec<u8>, AllocError>
     }
     back.reverse();
     let mut code = Vec::with_capacity(alloc, back.len().saturating_add(64))?;
-    emit_entry(&mut code, saved)?;
+    write_entry(&mut code, opening, saved)?;
     code.extend_from_slice(back.as_slice())?;
     Ok(code)
 }
@@ -131,7 +151,7 @@ pub fn compile(alloc: Global, image: &Image) -> Result<Vec<u8>, AllocError>
     let _frame = image.kinds_at(begin);
     let (ops, pool) = image.operations();
     let tasks = tasks_of(alloc, image, ops, pool)?;
-    let code = write_tasks(alloc, tasks.as_slice())?;
+    let code = write_tasks(alloc, Opening::Bare, tasks.as_slice())?;
     // A vector's length is below 2 to the 64th.
     let _fits = code.len();
     Ok(code)

@@ -4,10 +4,12 @@ ghost use Rattle.std.specs.Prelude.{◌≡◌, true, ◌||◌, ◌++◌, OnOk};
 ghost use Rattle.native.specs.Laid.{SaveAll};
 ghost use Rattle.native.specs.Code.{codes};
 ghost use Rattle.native.specs.Needs.{and_task, saved_in};
+ghost use Rattle.native.specs.Openings as openings;
 ghost use Rattle.native.specs.Saved as specs;
 ghost use Rattle.native.specs.Saved.{may_write};
 ghost use Rattle.native.specs.Tasks.{Includes, WritesWithin};
 
+use crate::opening::Opening;
 use crate::task::Task;
 use decode::Reg;
 use std::alloc::AllocError;
@@ -62,6 +64,8 @@ impl Saved {
             Task::Reorder { dst, .. } => self.and_register(dst),
             Task::Load { dst, .. } => self.and_register(dst),
             Task::LoadSx { dst, .. } => self.and_register(dst),
+            Task::LoadBy { dst, .. } => self.and_register(dst),
+            Task::LoadSxBy { dst, .. } => self.and_register(dst),
             Task::Wide { dst, .. } => self.and_register(dst),
             _ => self,
         }
@@ -69,7 +73,7 @@ impl Saved {
 }
 
 /// What tasks need.
-pub(crate) fn saved_of(tasks: &[Task]) -> Saved
+fn saved_of(tasks: &[Task]) -> Saved
     ensures value { result ≡ saved_in tasks.now }
     ensures all { SaveAll tasks.now result }
 {
@@ -85,6 +89,18 @@ pub(crate) fn saved_of(tasks: &[Task]) -> Saved
         saved = saved.and_task(task);
     }
     saved
+}
+
+/// What tasks need, and what the code's beginning writes.
+pub(crate) fn saved_for(opening: Opening, tasks: &[Task]) -> Saved
+    ensures value { result ≡ openings.saved_for opening tasks.now }
+    ensures all { SaveAll tasks.now result }
+{
+    let saved = saved_of(tasks);
+    match opening {
+        Opening::Bare => saved,
+        Opening::Placed => saved.and_register(Reg { number: 2 }),
+    }
 }
 
 fn push_if(code: &mut Vec<u8>, kept: bool, reg: u8) -> Result<(), AllocError>

@@ -122,11 +122,16 @@ fn emit_body(code: &mut Vec<u8>, body: Body) -> Result<(), AllocError>
 }
 
 // A helper that emits.
-fn emit_helper(alloc: Global, code: &mut Vec<u8>, helper: Helper, at: u16) -> Result<(), AllocError>
+fn emit_helper(
+    alloc: Global,
+    code: &mut Vec<u8>,
+    helper: Helper,
+    at: Option<u16>,
+) -> Result<(), AllocError>
     ensures { OnOk result (Emits (IsCall (specs.tests_of helper) (specs.good_of helper at) (specs.end_of helper)) code.old.items code.new.items) }
 {
     let mut good = Vec::with_capacity(alloc, 80)?;
-    write_good(&mut good, helper, at as u64)?;
+    write_good(&mut good, helper, at)?;
     let size = good.len() as u8;
     write_tests(code, helper, size)?;
     code.extend_from_slice(good.as_slice())?;
@@ -243,10 +248,14 @@ fn emit_done(alloc: Global, code: &mut Vec<u8>, task: Task) -> Result<(), AllocE
     ensures { OnOk result (Emits (IsDone task) code.old.items code.new.items) }
 {
     match task {
-        Task::Send { at } => emit_helper(alloc, code, Helper::Send, at),
-        Task::Output { at } => emit_helper(alloc, code, Helper::Output, at),
-        Task::SendSized { at } => emit_helper(alloc, code, Helper::SendSized, at),
-        Task::OutputSized { at } => emit_helper(alloc, code, Helper::OutputSized, at),
+        Task::Send { at } => emit_helper(alloc, code, Helper::Send, Some(at)),
+        Task::Output { at } => emit_helper(alloc, code, Helper::Output, Some(at)),
+        Task::SendSized { at } => emit_helper(alloc, code, Helper::SendSized, Some(at)),
+        Task::OutputSized { at } => emit_helper(alloc, code, Helper::OutputSized, Some(at)),
+        Task::SendBy => emit_helper(alloc, code, Helper::Send, None),
+        Task::OutputBy => emit_helper(alloc, code, Helper::Output, None),
+        Task::SendSizedBy => emit_helper(alloc, code, Helper::SendSized, None),
+        Task::OutputSizedBy => emit_helper(alloc, code, Helper::OutputSized, None),
         Task::Compute {
             op,
             width,

@@ -68,14 +68,21 @@ fn refusals_of_form_3(rt: HostRuntime) -> Result<(), Fail> {
     Ok(())
 }
 
-// There is no machine code of form 3: the buffer and the size stay.
+// A buffer that is too short is told how long the code is, and stays; with as many bytes it gets all of it,
+// which end by a return.
 #[test]
-fn no_machine_code_of_form_3(rt: HostRuntime) -> Result<(), Fail> {
+fn machine_code_of_form_3(rt: HostRuntime) -> Result<(), Fail> {
     let alloc = rt.alloc();
     let handler = Handler::new(AnyHandler::load(alloc, &COUNTER)?);
-    let mut out = [7u8; 16];
+    let mut short = [7u8; 16];
     let mut size = 9;
-    let code = compile(alloc, &handler, &mut out, &mut size);
-    assert_eq!(rt; (code, size, out), (11, 9, [7; 16]));
+    let refused = compile(alloc, &handler, &mut short, &mut size);
+    let mut out = [7u8; 1024];
+    let mut whole = 9;
+    let written = compile(alloc, &handler, &mut out, &mut whole);
+    assert_eq!(rt; (refused, short, written), (8, [7; 16], 0));
+    assert_eq!(rt; size, whole);
+    assert!(rt; whole > 16 && whole < 1024);
+    assert_eq!(rt; (out[whole - 1], out[whole]), (0xc3, 7));
     Ok(())
 }

@@ -1,5 +1,5 @@
-use Rattle.std.proofs.Common.{◌≡◌, length, sym, ap, ◌∙◌, subst, arith}
-use Rattle.native.specs.SlotTasks.{tasks_in}
+use Rattle.std.proofs.Common.{◌≡◌, length, ◌∙◌, subst, arith}
+use Rattle.native.specs.declared.opening.Opening.TheVariants as opening
 use Rattle.native.specs.Written.{IsServed, IsWritten}
 use Rattle.native.proofs.Native.{native}
 use Rattle.native.proofs.image_code.compile.Goals as goal
@@ -11,7 +11,7 @@ returns-clause-native c =
     let tasks = c.in_ok-tasks.tasks.items in
     let code = c.in_ok-code.code.items in
     let n : c.len-fits.result ≡ length code = c.len-fits.ensures ∙ c.in_ok-code.code.ok.0 in
-    let served : IsServed tasks code = subst (λ ts. IsServed ts code) c.as_slice.ensures.value c.in_ok-code.ensures in
+    let served : IsServed opening.Bare tasks code = subst (λ ts. IsServed opening.Bare ts code) c.as_slice.ensures.value c.in_ok-code.ensures in
     native p.form p.slots p.table p.len p.low c.operations.result.0.now c.operations.result.1.now tasks code c.kinds_at-frame.ensures.typing b.short b.state c.operations.ensures.dense c.operations.ensures.sparing b.from b.to c.in_ok-tasks.ensures.long c.in_ok-tasks.ensures.told (omega (arith, n, c.len-fits.type_inv)) served
 
 pub returns-clause-one : goal.returns-clause-one
@@ -21,5 +21,5 @@ returns-clause-one c =
     record {
       table = p.table;
       least = c.kinds_at-frame.ensures.typing;
-      written = subst (λ ts. IsWritten ts code) (c.as_slice.ensures.value ∙ c.in_ok-tasks.ensures.value) c.in_ok-code.ensures.written;
+      written = subst (λ ts. IsWritten opening.Bare ts code) (c.as_slice.ensures.value ∙ c.in_ok-tasks.ensures.value) c.in_ok-code.ensures.written;
     }

@@ -1,4 +1,4 @@
-use Rattle.std.proofs.Common.{◌≡◌, ◌≢◌, ◌≤◌, ◌++◌, true, false, length, sym, ap, ◌∙◌, subst}
+use Rattle.std.proofs.Common.{◌≡◌, ◌≤◌, ◌++◌, length, sym, ap, ◌∙◌, subst}
 use Rattle.native.specs.Code.{codes}
 use Rattle.native.proofs.Lengths.{serves_short}
 use Rattle.native.proofs.image_code.write_piece.Goals as goal

@@ -1,4 +1,4 @@
-use Rattle.std.proofs.Common.{◌+◌, ◌++◌, refl, ap, ◌∙◌, arith}
+use Rattle.std.proofs.Common.{◌+◌, ◌++◌, refl, ap, arith}
 use Rattle.native.specs.Code.{flushed, leaving}
 use Rattle.native.proofs.Emitted.{some_then}
 use Rattle.native.proofs.slot_code.emit_exit.Goals as goal

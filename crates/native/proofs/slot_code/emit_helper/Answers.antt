@@ -1,4 +1,4 @@
-use Rattle.std.proofs.Common.{◌++◌, ap, ◌∙◌, sym, length, arith, subst, ◌≤◌}
+use Rattle.std.proofs.Common.{◌++◌, ap, ◌∙◌, sym, length, subst, ◌≤◌}
 use Rattle.native.specs.Code as specs
 use Rattle.native.proofs.Emitted.{call_is}
 use Rattle.native.proofs.Lengths.{good_few}

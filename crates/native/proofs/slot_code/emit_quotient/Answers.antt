@@ -1,5 +1,4 @@
 use Rattle.std.proofs.Common.{refl, ap, ◌∙◌, ◌++◌}
-use Rattle.x86.specs.declared.instruction.Instr.{Instr}
 use Rattle.native.specs.Code as specs
 use Rattle.native.specs.Code.{codes}
 use Rattle.native.proofs.slot_code.emit_quotient.Goals as goal

@@ -1,0 +1,24 @@
+-- How code begins, and what it keeps then.
+use Rattle.std.specs.Prelude.{List, [], ◌∷◌, ◌++◌}
+use Rattle.x86.specs.declared.instruction.Instr.{Instr}
+use Rattle.x86.specs.declared.instruction.Instr.TheVariants as instr
+use Rattle.native.specs.declared.opening.Opening.{Opening}
+use Rattle.native.specs.declared.opening.Opening.TheVariants as opening
+use Rattle.native.specs.declared.saved.Saved.{Saved}
+use Rattle.native.specs.declared.task.Task.{Task}
+use Rattle.native.specs.Code.{clear, entering}
+use Rattle.native.specs.Needs.{saved_in}
+use Rattle.native.specs.Saved.{and_register}
+
+-- the positions of message and state, to r1 and r2
+abbrev pub placing : List Instr
+placing = clear 8 ∷ instr.MovImm 12 512 ∷ []
+
+abbrev pub entering_by : Opening → Saved → List Instr
+entering_by opening.Bare saved = entering saved
+entering_by opening.Placed saved = entering saved ++ placing
+
+-- the registers that tasks need, and r2's where the beginning writes it
+abbrev pub saved_for : Opening → List Task → Saved
+saved_for opening.Bare ts = saved_in ts
+saved_for opening.Placed ts = and_register (saved_in ts) 2

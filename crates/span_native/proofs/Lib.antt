@@ -1,0 +1,10 @@
+pub mod Blind
+pub mod Tasks
+pub mod Opened
+pub mod Acts
+pub mod Allowed
+pub mod Spared
+pub mod Locked
+pub mod Standing
+pub mod SpanNative
+pub mod AnyForm

@@ -1,0 +1,4 @@
+pub mod SpanTasks
+pub mod Correct
+pub mod Written
+pub mod AnyForm

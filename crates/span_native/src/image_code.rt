@@ -1,0 +1,26 @@
+//! Whole images.
+
+ghost use Rattle.std.specs.Prelude.{IfOk};
+ghost use Rattle.span_native.specs.Correct.{IsSpanNative};
+ghost use Rattle.span_native.specs.Written.{IsCodeOf};
+
+use crate::slot_tasks::tasks_of;
+use native::{Opening, write_tasks};
+use span_images::SpanImage;
+use std::alloc::{AllocError, Global};
+use typings::lay_out;
+
+/// The machine code of an image. Only memory can want.
+pub fn compile(alloc: Global, image: &SpanImage) -> Result<Vec<u8>, AllocError>
+    ensures native { IfOk result (λ code. IsSpanNative image.now.code image.now.len code.items) }
+    ensures one { IfOk result (λ code. IsCodeOf image.now.code image.now.len code.items) }
+{
+    let state_len = image.state_len();
+    let insns = image.code();
+    let slots = lay_out(alloc, insns)?;
+    let tasks = tasks_of(alloc, slots.as_slice(), state_len)?;
+    let code = write_tasks(alloc, Opening::Placed, tasks.as_slice())?;
+    // A vector's length is below 2 to the 64th.
+    let _fits = code.len();
+    Ok(code)
+}

@@ -1,0 +1,16 @@
+//! From verified images of form 3 to x86-64 machine code.
+//!
+//! [`compile`] writes the code of an image; its contract says that the code, run by the definition of
+//! the processor, is the call of the handler in its array, with the same answer, state, steps, sends and
+//! outputs. A place is a position in the array, which a register holds as a number. [`compile_handler`]
+//! does so for a handler of any form.
+#![tactic(auto)]
+
+mod any_form;
+mod image_code;
+mod laws;
+mod slot_tasks;
+
+pub use any_form::compile_handler;
+pub use image_code::compile;
+pub use laws::code_is_one;
