@@ -4,8 +4,8 @@ import re
 from collections import Counter
 
 MARK = re.compile("<use href='#([a-z]+)' x='([0-9]+)' y='([0-9]+)'/>")
-LABEL = re.compile("<text class='[tscrbj]' x='([0-9]+)' y='([0-9]+)'>([^<]*)</text>")
-PLACE = re.compile("<text class='place' x='([0-9]+)' y='18'>([0-9]+)</text>")
+LABEL = re.compile("<text class='[tscrbj]' x='([0-9]+)' y='(?!43')([0-9]+)'>([^<]*)</text>")
+NUMBER = re.compile("<text class='(?:place|c)' x='([0-9]+)' y='(18|30|43)'>([0-9]+)</text>")
 SIGN = re.compile("<text x='42' y='4'>([^<]*)</text>")
 ARROWS = {
     "message": "message, with its SSN",
@@ -32,10 +32,11 @@ def first_bytes(order, text):
 class Picture:
     """The marks and labels of the trace of a scenario with their places, and what its legend has.
 
+    Of each entry and each refused order a line of `moments` has the line of the scenario, and the number that refused it.
     Where only messages are shown, numbers and acknowledgements are left out, and entries that move one have no column.
     """
 
-    def __init__(self, scenario, trace, only_messages=False):
+    def __init__(self, scenario, trace, moments, only_messages=False):
         inputs = re.findall("(?m)^(input|bytes) [^ ]+ (.*)$", scenario)
         self.shown = [first_bytes(*found) for found in inputs]  # by feed, from 1
         self.marks, self.labels, self.signs, self.numbers = [], [], set(), []
@@ -45,25 +46,40 @@ class Picture:
         self.saved, self.left = {}, {}  # by process: messages of its checkpoint; peers that restore its numbers
         self.processes = len(re.findall("(?m)^process ", trace))
         self.down = set()
-        lines = re.findall("(?m)^[0-9]{6} w[0-9]+ (.*) -> (.*)$", trace)
+        entries = enumerate(re.findall("(?m)^[0-9]{6} w[0-9]+ (.*) -> (.*)$", trace), 1)
         self.column = 0
-        for number, (call, answer) in enumerate(lines, 1):
-            (verb, *numbers), (said, *told) = call.split(), answer.split()
-            is_other = verb in ("copy", "lose", "arrive") and numbers[0] not in self.messages
-            if verb in ("lose", "arrive"):
-                self.messages.discard(numbers[0])
-            if verb == "transmit" or verb == "copy" and not is_other:
-                self.messages.add(told[0])
-            if only_messages and is_other:
-                continue
-            self.numbers.append((column_x(self.column), number))
-            getattr(self, verb)(said, *map(int, numbers), *map(int, told))
-            self.column += 1
+        for line, *refusal in map(str.split, moments.splitlines()):
+            is_drawn = self.refuse(*refusal) if refusal else self.enter(*next(entries))
+            if is_drawn:
+                self.numbers.append((column_x(self.column), 30, int(line)))
+                self.column += 1
+        assert next(entries, None) is None
         for process in list(self.jobs):
             self.end_job(process, is_cut=True)
         for packet in self.packets.values():
             self.signs |= {ARROWS[packet[4]], "still on its way"}
             self.ring(packet, self.half(packet))
+
+    def refuse(self, number):
+        """A refused order has its column."""
+        self.marks.append(("refused", column_x(self.column), 14))
+        self.signs.add("refused order, its line and number")
+        self.numbers.append((column_x(self.column), 43, int(number)))
+        return True
+
+    def enter(self, number, entry):
+        """The next entry, by its number. Whether it has a column."""
+        (verb, *numbers), (said, *told) = (half.split() for half in entry)
+        is_other = verb in ("copy", "lose", "arrive") and numbers[0] not in self.messages
+        if verb in ("lose", "arrive"):
+            self.messages.discard(numbers[0])
+        if verb == "transmit" or verb == "copy" and not is_other:
+            self.messages.add(told[0])
+        if self.only_messages and is_other:
+            return False
+        self.numbers.append((column_x(self.column), 18, number))
+        getattr(self, verb)(said, *map(int, numbers), *map(int, told))
+        return True
 
     def mark(self, shape, number, sign=None):
         self.marks.append((shape, column_x(self.column), line_y(number)))
@@ -197,12 +213,12 @@ class Picture:
             del self.left[process]
 
 
-def is_picture(svg, scenario, trace, only_messages=False):
+def is_picture(svg, scenario, trace, moments, only_messages=False):
     """Whether a picture of a run has its marks and labels where they belong, the signs of its legend, and no others."""
     drawn, legend = svg.split("<g transform", 1)
-    wanted = Picture(scenario, trace, only_messages)
+    wanted = Picture(scenario, trace, moments, only_messages)
     return (
-        [(int(x), int(number)) for x, number in PLACE.findall(drawn)] == wanted.numbers
+        Counter(tuple(map(int, found)) for found in NUMBER.findall(drawn)) == Counter(wanted.numbers)
         and Counter((shape, int(x), int(y)) for shape, x, y in MARK.findall(drawn)) == Counter(wanted.marks)
         and Counter((int(x), int(y), text) for x, y, text in LABEL.findall(drawn)) == Counter(wanted.labels)
         and sorted(SIGN.findall(legend)) == sorted(wanted.signs)

@@ -167,27 +167,29 @@ function page() {
     area.style.minWidth = `${Math.max(...area.value.split("\n").map((it) => it.length)) + 2}ch`;
   };
 
-  // Which entries each line of the scenario made: the run of its first lines has the first entries.
-  let made = [];
-  const light = (entry) => {
+  // The columns of the picture from left to right, each with its line of the scenario, and its entry, if it isn't of a refused order.
+  let columns = [];
+  const read_columns = () => {
+    const svg = $("picture").querySelector("svg");
+    const lines = new Map([...(svg?.querySelectorAll("text.place[y='30']") ?? [])].map((it) => [it.getAttribute("x"), Number(it.textContent)]));
+    let entries = 0;
+    columns = [...(svg?.querySelectorAll("line.column, line.no") ?? [])].map((it) => ({
+      element: it,
+      x: Number(it.getAttribute("x1")),
+      line: lines.get(it.getAttribute("x1")),
+      entry: it.classList.contains("column") ? ++entries : 0,
+    }));
+  };
+  const light = (column) => {
     for (const it of document.querySelectorAll(".lit")) it.classList.remove("lit");
     $("picture").querySelector("#lit")?.remove();
-    if (!entry) return;
-    $("trace").querySelector(`[data-entry="${entry}"]`)?.classList.add("lit");
-    const line = made.findIndex((it) => it >= entry);
-    $("gutter").children[line]?.classList.add("lit");
-    const column = $("picture").querySelectorAll("line.column")[entry - 1];
-    if (column) {
-      const svg = $("picture").querySelector("svg");
-      const band = document.createElementNS("http://www.w3.org/2000/svg", "rect");
-      const x = Number(column.getAttribute("x1"));
-      for (const [key, value] of Object.entries({ id: "lit", x: x - 22, y: 0, width: 44, height: svg.getAttribute("height"), style: "fill:#ffe9a8;fill-opacity:.6" })) band.setAttribute(key, value);
-      column.before(band);
-    }
-  };
-  const light_line = (line) => {
-    const entry = (made[line - 1] ?? 0) + 1;
-    if (made[line] >= entry) light(entry);
+    if (!column) return;
+    if (column.entry) $("trace").querySelector(`[data-entry="${column.entry}"]`)?.classList.add("lit");
+    $("gutter").children[column.line - 1]?.classList.add("lit");
+    const band = document.createElementNS("http://www.w3.org/2000/svg", "rect");
+    const height = $("picture").querySelector("svg").getAttribute("height");
+    for (const [key, value] of Object.entries({ id: "lit", x: column.x - 12, y: 0, width: 24, height, style: "fill:#ffe9a8;fill-opacity:.6" })) band.setAttribute(key, value);
+    columns[0].element.before(band);
   };
 
   const show = (answer, lines) => {
@@ -198,7 +200,7 @@ function page() {
       $("answer").append(Object.assign(document.createElement("span"), { className: "bad", textContent: answer.error }));
       return;
     }
-    const [run, draw, ...starts] = answer.answers;
+    const [run, draw] = answer.answers;
     const entries = run.printed.split("\n").filter((it) => /^\d{6} /.test(it));
     const others = run.printed.split("\n").filter((it) => it && !/^\d{6} /.test(it));
     $("answer").replaceChildren(Object.assign(document.createElement("span"), {
@@ -206,6 +208,7 @@ function page() {
       textContent: run.status ? `${run.told}status ${run.status}` : `status 0, ${entries.length} entries`,
     }));
     $("picture").innerHTML = draw.status ? "" : text(draw.written);
+    read_columns();
     $("trace").replaceChildren(...entries.map((it, i) => {
       const line = document.createElement("div");
       line.textContent = it;
@@ -215,7 +218,6 @@ function page() {
     $("report").textContent = others.join("\n");
     const fault = /scenario refused at line (\d+)/.exec(run.told);
     number($("gutter"), lines, fault ? Number(fault[1]) : 0);
-    made = starts.map((it) => it.printed.split("\n").filter((it) => /^\d{6} /.test(it)).length);
     $("state").textContent = `${answer.milliseconds.toFixed(1)} ms for ${answer.answers.length} command lines`;
   };
 
@@ -226,13 +228,6 @@ function page() {
     // A file that is written is there before, empty: the proof says of it what is in it then.
     const files = { ...images, "the.scenario": utf8.encode(value), "the.svg": new Uint8Array(0) };
     const calls = [["run", "the.scenario"], ["draw", "the.scenario", "the.svg"]];
-    if (lines.length <= 60) {
-      lines.forEach((_, i) => {
-        const name = `${i + 1}.scenario`;
-        files[name] = utf8.encode(lines.slice(0, i + 1).join("\n") + "\n");
-        calls.push(["run", name]);
-      });
-    }
     ask("scenario", calls, files, (answer) => show(answer, lines.length));
   };
 
@@ -275,13 +270,12 @@ function page() {
   choose($("handlers"), EXAMPLES.handlers, $("source"), () => (link(), assemble(play)));
   $("scenario").oninput = () => (link(), play());
   for (const it of ["source", "place", "length"]) $(it).oninput = () => (link(), assemble(play));
-  $("trace").onmouseover = (e) => light(Number(e.target.dataset.entry || 0));
+  $("trace").onmouseover = (e) => light(columns.find((it) => it.entry === Number(e.target.dataset.entry)));
   $("picture").onmousemove = (e) => {
     const at = e.clientX - $("picture").getBoundingClientRect().left + $("picture").scrollLeft;
-    const columns = [...$("picture").querySelectorAll("line.column")];
-    light(columns.findIndex((it) => Math.abs(Number(it.getAttribute("x1")) - at) <= 22) + 1);
+    light(columns.find((it) => Math.abs(it.x - at) <= 12));
   };
-  $("gutter").onmouseover = (e) => light_line(Number(e.target.textContent) - 1);
+  $("gutter").onmouseover = (e) => light(columns.find((it) => it.line === Number(e.target.textContent)));
 
   const begin = async () => {
     const response = await fetch("playground.wasm");

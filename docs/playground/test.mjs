@@ -149,6 +149,13 @@ try {
   holds("a typed scenario with a crash", (await get(`[...document.querySelectorAll("#trace div")].map((it) => it.textContent).join("\\n")`)) === entries);
   spawnSync(native, ["draw", `${folder}/typed.scenario`, `${folder}/typed.svg`], { cwd: top });
   holds("and its picture", await get(`(() => { const want = document.createElement("div"); want.innerHTML = ${JSON.stringify(fs.readFileSync(`${folder}/typed.svg`, "utf8"))}; return want.innerHTML === document.getElementById("picture").innerHTML; })()`));
+  const lit = async (place, kind) => get(`(() => {
+    ${place}.dispatchEvent(new MouseEvent(${JSON.stringify(kind)}, { bubbles: true }));
+    return [...document.querySelectorAll(".lit")].map((it) => it.dataset.entry ? "entry " + it.dataset.entry : "line " + it.textContent).sort().join(", ") + ", column at " + document.querySelector("#lit")?.getAttribute("x");
+  })()`);
+  await type("process a examples/adder.sbi\nfinish a\ninput a 5\ndrive 100\n");
+  holds("an entry, its line and its column light up together", (await lit(`document.querySelector('#trace [data-entry="3"]')`, "mouseover")) === "entry 3, line 4, column at 250");
+  holds("and so do the line and the column of a refused order", (await lit(`document.querySelector("#gutter").children[1]`, "mouseover")) === "line 2, column at 178");
   await type("process a examples/adder.sbi\ninput b 5\n");
   holds("a mistake is marked on its line", (await get(`document.querySelector("#gutter .faulty")?.textContent`)) === "2");
   holds("nothing was thrown", events.every((it) => it.method !== "Runtime.exceptionThrown"), JSON.stringify(events.filter((it) => it.method === "Runtime.exceptionThrown")).slice(0, 800));

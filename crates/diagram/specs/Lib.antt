@@ -1,4 +1,5 @@
 pub mod Columns
+pub mod Standing
 pub mod Page
 pub mod Label
 pub mod Marks

@@ -1,5 +1,5 @@
 -- What an entry shows by itself: a mark and labels, in its column and on its process's line (docs/FORMATS.md, "Picture").
-use Rattle.std.specs.Prelude.{◌≡◌, ℕ, ◌+◌, List, [], ◌∷◌, ◌++◌, codes, decimal, length, nat_le, slice_get, take, if◌then◌else◌}
+use Rattle.std.specs.Prelude.{◌≡◌, ℕ, ◌+◌, List, [], ◌∷◌, ◌++◌, codes, decimal, length, nat_le, slice_get, take, Option, Some, None, if◌then◌else◌}
 use Rattle.std.specs.Option.{option_map_or}
 use Rattle.world.specs.declared.call.Call.{Call}
 use Rattle.world.specs.declared.call.Call.TheVariants as call
@@ -8,13 +8,18 @@ use Rattle.world.specs.declared.answer.Answer.TheVariants as answer
 use Rattle.world.specs.declared.entry.Entry.{Entry}
 use Rattle.scenario.specs.Hex.{hex_text}
 use Rattle.diagram.specs.declared.label.Side.TheVariants.{Above, Below, Beyond}
+use Rattle.diagram.specs.declared.columns.Column.{Column}
 use Rattle.diagram.specs.Label.{label_text}
 use Rattle.diagram.specs.Page.{column_place, line_place}
 
--- one of the shapes, in a column on the line of a process, or of the outside (0)
+-- one of the shapes, in a column at a height
+abbrev pub shape_at : List ℕ → ℕ → ℕ → List ℕ
+shape_at shape column height =
+    codes "<use href='#" ++ (shape ++ (codes "' x='" ++ (decimal (column_place column) ++ (codes "' y='" ++ (decimal height ++ codes "'/>\n")))))
+
+-- on the line of a process, or of the outside (0)
 abbrev pub shape_text : List ℕ → ℕ → ℕ → List ℕ
-shape_text shape column line =
-    codes "<use href='#" ++ (shape ++ (codes "' x='" ++ (decimal (column_place column) ++ (codes "' y='" ++ (decimal (line_place line) ++ codes "'/>\n")))))
+shape_text shape column line = shape_at shape column (line_place line)
 
 -- the first four bytes, and two dots where there are more
 abbrev pub first_bytes : List ℕ → List ℕ
@@ -60,14 +65,36 @@ call_mark n column c k = []
 abbrev pub entry_mark : ℕ → ℕ → Entry → List ℕ
 entry_mark n column e = call_mark n column e.call (number_in e.answer)
 
--- the mark of the entry at a place, if there is one
-abbrev pub place_mark : ℕ → List Entry → ℕ → ℕ → List ℕ
-place_mark n entries column place = option_map_or (λ e. entry_mark n column e) (slice_get entries place) []
+-- a number above a column, in a style and at a height
+abbrev pub number_text : List ℕ → ℕ → ℕ → ℕ → List ℕ
+number_text style column height number =
+    codes "<text class='" ++ (style ++ (codes "' x='" ++ (decimal (column_place column) ++ (codes "' y='" ++ (decimal height ++ (codes "'>" ++ (decimal number ++ codes "</text>\n")))))))
 
--- the marks of the entries at these places, of which the first has this column
-abbrev pub marks_from : ℕ → List Entry → ℕ → List ℕ → List ℕ
+-- the number of an entry, from 1, and its mark
+abbrev pub numbered_mark : ℕ → ℕ → ℕ → Entry → List ℕ
+numbered_mark n column place e = number_text (codes "place") column 18 (place + 1) ++ entry_mark n column e
+
+-- those of the entry at a place, if there is one
+abbrev pub place_mark : ℕ → List Entry → ℕ → ℕ → List ℕ
+place_mark n entries column place = option_map_or (λ e. numbered_mark n column place e) (slice_get entries place) []
+
+-- a refused order: a shape where entries have their number, and the number that refused it
+abbrev pub refused_mark : ℕ → ℕ → List ℕ
+refused_mark column number = shape_at (codes "refused") column 14 ++ number_text (codes "c") column 43 number
+
+-- an entry, or a refused order
+abbrev pub shown_mark : ℕ → List Entry → ℕ → ℕ → Option ℕ → List ℕ
+shown_mark n entries column place None = place_mark n entries column place
+shown_mark n entries column place (Some number) = refused_mark column number
+
+-- the marks of a column: the line of the scenario that it is of, and what it shows
+abbrev pub column_mark : ℕ → List Entry → ℕ → Column → List ℕ
+column_mark n entries column c = number_text (codes "place") column 30 c.line ++ shown_mark n entries column c.place c.refused
+
+-- the marks of these columns, of which the first has this number
+abbrev pub marks_from : ℕ → List Entry → ℕ → List Column → List ℕ
 marks_from n entries column [] = []
-marks_from n entries column (place ∷ rest) = place_mark n entries column place ++ marks_from n entries (column + 1) rest
+marks_from n entries column (c ∷ cs) = column_mark n entries column c ++ marks_from n entries (column + 1) cs
 
 -- the text has this part
 abbrev pub HasPart : List ℕ → List ℕ → Type 0

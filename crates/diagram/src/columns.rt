@@ -1,11 +1,84 @@
-//! Which entries have columns: all, or where only messages are shown all but those that move other packets.
+//! Which columns there are: one of each refused order and of each entry, or where only messages are shown of all entries
+//! but those that move other packets.
 
-ghost use Rattle.std.specs.Prelude.{◌≡◌, ◌++◌, IfOk, OnOk};
-ghost use Rattle.diagram.specs.Columns.{column_of, columns, keys_after, moves_other};
+ghost use Rattle.std.specs.Prelude.{◌≡◌, ◌<◌, ◌+◌, ◌^◌, ◌++◌, ◌∷◌, [], IfOk, None, OnOk, Some};
+ghost use Rattle.diagram.specs.Columns.{behind, behind_entry, column, columns, keys_after, moves_other};
+ghost use Rattle.diagram.specs.Standing.{standing_of};
 
 use indexmap::IndexSet;
 use std::alloc::{AllocError, Global};
 use world::{Answer, Call, Entry};
+
+/// A call that was accepted, or an order that was refused: the line of the scenario that it is of, from 1, and the
+/// number that refused it.
+pub type Moment = (usize, Option<u8>);
+
+/// The column of the entry at a place, or of an order that was refused behind so many entries.
+#[derive(Clone, Copy, PartialEq, Eq, Debug)]
+pub struct Column {
+    pub line: usize,
+    pub place: usize,
+    pub refused: Option<u8>,
+}
+
+/// Where the columns stand.
+#[derive(Drop)]
+pub struct Standing {
+    /// How many entries came so far.
+    pub place: usize,
+    /// The keys of the messages on the wire.
+    pub messages: IndexSet<usize>,
+    pub columns: Vec<Column>,
+}
+
+impl Standing {
+    /// Behind a refused order, which has a column.
+    fn refuse(&mut self, line: usize, number: u8) -> Result<(), AllocError>
+        ensures { OnOk result (standing_of self.new ≡ record (standing_of self.old) { columns = self.old.columns.items ++ column (line, Some number) self.old.place ∷ [] }) }
+    {
+        self.columns.push(Column {
+            line,
+            place: self.place,
+            refused: Some(number),
+        })?;
+        Ok(())
+    }
+
+    /// Behind an entry of a line, which has a column, but where only messages are shown and it moves another packet.
+    fn enter(&mut self, line: usize, entry: &Entry, only_messages: bool) -> Result<(), AllocError>
+        requires { self.old.place + 1 < 2 ^ 64 }
+        ensures { OnOk result (standing_of self.new ≡ behind_entry only_messages (line, None) (standing_of self.old) entry.now) }
+    {
+        if !only_messages || !moves_other(&self.messages, &entry.call) {
+            self.columns.push(Column {
+                line,
+                place: self.place,
+                refused: None,
+            })?;
+        }
+        self.place += 1;
+        note(&mut self.messages, entry)
+    }
+
+    /// Behind a moment of a run of these entries.
+    fn pass(
+        &mut self,
+        entries: &[Entry],
+        moment: Moment,
+        only_messages: bool,
+    ) -> Result<(), AllocError>
+        ensures { OnOk result (standing_of self.new ≡ behind only_messages entries.now (standing_of self.old) moment) }
+    {
+        let (line, refused) = moment;
+        if let Some(number) = refused {
+            return self.refuse(line, number);
+        }
+        match entries.get(self.place) {
+            Some(entry) => self.enter(line, entry, only_messages),
+            None => Ok(()),
+        }
+    }
+}
 
 /// Notes the keys of messages that go on the wire, or leave it.
 fn note(messages: &mut IndexSet<usize>, entry: &Entry) -> Result<(), AllocError>
@@ -38,35 +111,22 @@ fn moves_other(messages: &IndexSet<usize>, call: &Call) -> bool
     }
 }
 
-/// Puts the place of an entry behind these, if it has a column.
-fn push_place(
-    places: &mut Vec<usize>,
-    messages: &IndexSet<usize>,
-    entry: &Entry,
-    place: usize,
-    only_messages: bool,
-) -> Result<(), AllocError>
-    ensures { OnOk result (places.new.items ≡ places.old.items ++ column_of only_messages messages.now.keys entry.now place) }
-{
-    if !only_messages || !moves_other(messages, &entry.call) {
-        places.push(place)?;
-    }
-    Ok(())
-}
-
-/// The places of the entries that have columns, from 0.
+/// The columns of these moments, in which these entries came.
 pub(crate) fn columns(
     alloc: Global,
     entries: &[Entry],
+    moments: &[Moment],
     only_messages: bool,
-) -> Result<Vec<usize>, AllocError>
-    ensures { IfOk result (λ places. places.items ≡ columns only_messages entries.now) }
+) -> Result<Vec<Column>, AllocError>
+    ensures { IfOk result (λ v. v.items ≡ columns only_messages entries.now moments.now) }
 {
-    let mut messages = IndexSet::new(alloc);
-    let mut places = Vec::new(alloc);
-    for (place, entry) in entries.iter().enumerate() {
-        push_place(&mut places, &messages, entry, place, only_messages)?;
-        note(&mut messages, entry)?;
+    let mut standing = Standing {
+        place: 0,
+        messages: IndexSet::new(alloc),
+        columns: Vec::new(alloc),
+    };
+    for moment in moments {
+        standing.pass(entries, *moment, only_messages)?;
     }
-    Ok(places)
+    Ok(standing.columns)
 }

@@ -24,7 +24,7 @@ line,path{fill:none;stroke:#444}
 .s{fill:#00654a;font-weight:bold}.c{fill:#a33d00;font-weight:bold}.r{fill:#7a5200}.b{fill:#0b4f7d;font-size:9px}
 .place{fill:#777;font-size:9px}.name{font-size:12px;font-weight:bold}.more{font-weight:bold;fill:#666;stroke-width:6px}
 .j{font-size:9px}
-.column{stroke:#eee}
+.column{stroke:#eee}.no{stroke:#d55e00;stroke-dasharray:2 5}.row{font-size:9px;fill:#777}
 .up{stroke-width:1.5}.down{stroke:#888;stroke-dasharray:1 5}.back{stroke:#e69f00;stroke-width:4}
 .call{fill:#dcebf7;stroke:#0072b2}.again{fill:url(#stripes);stroke:#a86f00}
 .message{stroke:#0072b2;stroke-width:1.8;marker-end:url(#m)}
@@ -48,6 +48,7 @@ line,path{fill:none;stroke:#444}
 <circle id='input' r='4' style='fill:#fff;stroke:#0072b2;stroke-width:2'/>
 <circle id='shown' r='4.5' style='fill:#009e73;stroke:#fff'/>
 <circle id='copy' r='4' style='fill:#fff;stroke:#222'/>
+<path id='refused' d='M-5 0A5 5 0 1 1 5 0A5 5 0 1 1 -5 0ZM-3.5 3.5L3.5 -3.5' style='fill:#fff;stroke:#a33d00;stroke-width:2'/>
 </defs>
 ";
 
@@ -71,6 +72,11 @@ impl Legend {
             self.signs.push(sign)?;
         }
         Ok(())
+    }
+
+    /// Whether the picture has this sign.
+    pub(crate) fn has(&self, sign: Sign) -> bool {
+        self.signs.contains(&sign)
     }
 
     /// Each sign, with what it is.

@@ -1,12 +1,14 @@
-//! What entries show by themselves: a mark and labels, in the entry's column and on its process's line.
+//! What columns show by themselves: their numbers, and the mark and labels of an entry, on its process's line, or that an
+//! order was refused.
 //!
 //! A class names a style of `legend::STYLE`, a shape one of its shapes.
 
-ghost use Rattle.std.specs.Prelude.{◌≡◌, ◌++◌, OnOk, codes, string_bytes};
+ghost use Rattle.std.specs.Prelude.{◌≡◌, ◌<◌, ◌+◌, ◌^◌, ◌++◌, OnOk, codes, string_bytes};
 ghost use Rattle.diagram.specs.Label.{label_text};
-ghost use Rattle.diagram.specs.Marks.{call_mark, entry_mark, first_bytes, input_mark, marks_from, number_in, place_mark, shape_text};
+ghost use Rattle.diagram.specs.Marks.{call_mark, column_mark, entry_mark, first_bytes, input_mark, marks_from, number_in, number_text, numbered_mark, place_mark, refused_mark, shape_at, shape_text, shown_mark};
 ghost use Rattle.diagram.specs.declared.label.Side.TheVariants.{Beyond};
 
+use crate::columns::Column;
 use crate::label::{Side, push_number, push_word};
 use crate::page::{column_x, lane_y};
 use helpers::Payload;
@@ -17,22 +19,62 @@ use world::{Answer, Call, Entry};
 /// How many bytes of a message are shown.
 const SHOWN_BYTES: usize = 4;
 
-/// Writes the marks of the entries at these places, a column each, in a picture of so many processes.
+/// How high the numbers of entries stand, the shapes of refused orders among them, the lines of the scenario, and the
+/// numbers that refused orders.
+const ENTRY_ROW: usize = 18;
+
+const STOP_ROW: usize = 14;
+
+const LINE_ROW: usize = 30;
+
+const REFUSED_ROW: usize = 43;
+
+/// Writes the marks of these columns, in a picture of so many processes.
 pub(crate) fn push_marks(
     out: &mut String,
     processes: u8,
     entries: &[Entry],
-    places: &[usize],
+    columns: &[Column],
 ) -> Result<(), AllocError>
-    ensures { OnOk result (string_bytes out.new ≡ string_bytes out.old ++ marks_from processes entries.now 0 places.now) }
+    ensures { OnOk result (string_bytes out.new ≡ string_bytes out.old ++ marks_from processes entries.now 0 columns.now) }
 {
-    for (column, place) in places.iter().enumerate() {
-        push_place_mark(out, processes, entries, column, *place)?;
+    for (column, shown) in columns.iter().enumerate() {
+        push_column_mark(out, processes, entries, column, shown)?;
     }
     Ok(())
 }
 
-/// Writes the mark of the entry at a place, if there is one, in a column.
+/// Writes the marks of a column: the line of the scenario that it is of, and what it shows.
+fn push_column_mark(
+    out: &mut String,
+    processes: u8,
+    entries: &[Entry],
+    column: usize,
+    shown: &Column,
+) -> Result<(), AllocError>
+    ensures { OnOk result (string_bytes out.new ≡ string_bytes out.old ++ column_mark processes entries.now column shown.now) }
+{
+    push_head(out, "place", column, LINE_ROW, shown.line)?;
+    push_shown(out, processes, entries, column, shown)
+}
+
+/// Writes what a column shows: an entry, or a refused order.
+fn push_shown(
+    out: &mut String,
+    processes: u8,
+    entries: &[Entry],
+    column: usize,
+    shown: &Column,
+) -> Result<(), AllocError>
+    ensures { OnOk result (string_bytes out.new ≡ string_bytes out.old ++ shown_mark processes entries.now column shown.now.place shown.now.refused) }
+{
+    match shown.refused {
+        Some(number) => push_refused(out, column, number),
+        None => push_place_mark(out, processes, entries, column, shown.place),
+    }
+}
+
+/// Writes the number and the mark of the entry at a place, if there is one, in a column.
 fn push_place_mark(
     out: &mut String,
     processes: u8,
@@ -43,9 +85,49 @@ fn push_place_mark(
     ensures { OnOk result (string_bytes out.new ≡ string_bytes out.old ++ place_mark processes entries.now column place) }
 {
     match entries.get(place) {
-        Some(entry) => push_entry_mark(out, processes, column, entry),
+        Some(entry) => push_numbered(out, processes, column, place, entry),
         None => Ok(()),
     }
+}
+
+/// Writes the number of an entry, from 1, and its mark.
+fn push_numbered(
+    out: &mut String,
+    processes: u8,
+    column: usize,
+    place: usize,
+    entry: &Entry,
+) -> Result<(), AllocError>
+    requires { place + 1 < 2 ^ 64 }
+    ensures { OnOk result (string_bytes out.new ≡ string_bytes out.old ++ numbered_mark processes column place entry.now) }
+{
+    push_head(out, "place", column, ENTRY_ROW, place + 1)?;
+    push_entry_mark(out, processes, column, entry)
+}
+
+/// Writes that an order was refused, and the number that refused it.
+fn push_refused(out: &mut String, column: usize, number: u8) -> Result<(), AllocError>
+    ensures { OnOk result (string_bytes out.new ≡ string_bytes out.old ++ refused_mark column number) }
+{
+    push_shape_at(out, "refused", column, STOP_ROW)?;
+    push_head(out, "c", column, REFUSED_ROW, usize::from(number))
+}
+
+/// Writes a number above a column.
+fn push_head(
+    out: &mut String,
+    class: &str,
+    column: usize,
+    height: usize,
+    number: usize,
+) -> Result<(), AllocError>
+    ensures { OnOk result (string_bytes out.new ≡ string_bytes out.old ++ number_text class.now column height number) }
+{
+    let x = column_x(column);
+    writeln!(
+        out,
+        "<text class='{class}' x='{x}' y='{height}'>{number}</text>"
+    )
 }
 
 /// Writes the mark of the entry in a column.
@@ -134,8 +216,20 @@ fn push_input(out: &mut String, column: usize, to: u8, feed: u32) -> Result<(), 
 fn push_shape(out: &mut String, shape: &str, column: usize, line: u8) -> Result<(), AllocError>
     ensures { OnOk result (string_bytes out.new ≡ string_bytes out.old ++ shape_text shape.now column line) }
 {
-    let (x, y) = (column_x(column), lane_y(line));
-    writeln!(out, "<use href='#{shape}' x='{x}' y='{y}'/>")
+    push_shape_at(out, shape, column, lane_y(line))
+}
+
+/// Writes a shape at a height.
+fn push_shape_at(
+    out: &mut String,
+    shape: &str,
+    column: usize,
+    height: usize,
+) -> Result<(), AllocError>
+    ensures { OnOk result (string_bytes out.new ≡ string_bytes out.old ++ shape_at shape.now column height) }
+{
+    let x = column_x(column);
+    writeln!(out, "<use href='#{shape}' x='{x}' y='{height}'/>")
 }
 
 /// Writes the first four bytes of an input beyond the line of the outside, and two dots where it has more.

@@ -7,11 +7,12 @@ ghost use Rattle.diagram.specs.Marks.{HasPart, marks_from};
 ghost use Rattle.diagram.specs.Picture.{IsPicture};
 ghost use Rattle.diagram.specs.Page.{column_place, head_text, line_place, page_height, page_width};
 
-use crate::columns::columns;
-use crate::ink::{Point, push_count, push_line, push_text};
+use crate::columns::{Column, Moment, columns};
+use crate::ink::{Point, push_line, push_text};
 use crate::legend::{LEGEND_HEIGHT, LEGEND_WIDTH, STYLE};
 use crate::marks::push_marks;
 use crate::picture::Picture;
+use crate::sign::Sign;
 use indexmap::IndexMap;
 use scenario::{Process, name_at};
 use std::alloc::{AllocError, Global};
@@ -52,7 +53,8 @@ pub(crate) fn lane_y(number: u8) -> usize
 }
 
 /// The picture of a run as the text of an SVG file: a line for the outside and for each process, and
-/// a column for each entry, from left to right. Where only messages are shown, other packets are left
+/// a column for each moment, from left to right: each order that was refused, and each call that was accepted, which are
+/// the entries in their order. Where only messages are shown, other packets are left
 /// out, and entries that copy, lose or hand over one have no column. Of more than 255 processes the
 /// first 255 have lines. Names are written as they are: those of a scenario are letters and digits, which mean nothing else
 /// in such a text. What names a process or a packet that isn't there is not drawn. Only memory can run
@@ -61,14 +63,15 @@ pub fn draw(
     alloc: Global,
     processes: &IndexMap<String, Process>,
     entries: &[Entry],
+    moments: &[Moment],
     only_messages: bool,
 ) -> Result<String, AllocError>
-    ensures { IfOk result (λ text. IsPicture (index_map_len processes.now) entries.now only_messages (string_bytes text)) }
+    ensures { IfOk result (λ text. IsPicture (index_map_len processes.now) entries.now moments.now only_messages (string_bytes text)) }
 {
-    let shown = columns(alloc, entries, only_messages)?;
-    let places = shown.as_slice();
-    let inside = drawing(alloc, processes, entries, places, only_messages)?;
-    let width = page_width(places.len());
+    let shown = columns(alloc, entries, moments, only_messages)?;
+    let columns = shown.as_slice();
+    let inside = drawing(alloc, processes, entries, columns, only_messages)?;
+    let width = page_width(columns.len());
     let height = page_height(processes);
     let mut out = String::new(alloc);
     push_head(&mut out, width, height)?;
@@ -77,28 +80,29 @@ pub fn draw(
     Ok(out)
 }
 
-/// What is drawn of the entries at these places.
+/// What is drawn of these columns.
 fn drawing(
     alloc: Global,
     processes: &IndexMap<String, Process>,
     entries: &[Entry],
-    places: &[usize],
+    columns: &[Column],
     only_messages: bool,
 ) -> Result<String, AllocError>
-    ensures { IfOk result (λ text. HasPart (marks_from (min (index_map_len processes.now) 255) entries.now 0 places.now) (string_bytes text)) }
+    ensures { IfOk result (λ text. HasPart (marks_from (min (index_map_len processes.now) 255) entries.now 0 columns.now) (string_bytes text)) }
 {
     let count = lane_count(processes);
     let foot = lane_y(count) + MARGIN;
     let mut picture = Picture::new(alloc, count, BEGIN, only_messages)?;
-    for (column, place) in places.iter().enumerate() {
-        push_column(&mut picture.lines, column, *place, foot)?;
-        if let Some(entry) = entries.get(*place) {
-            picture.enter(column, entry)?;
+    for (column, shown) in columns.iter().enumerate() {
+        push_column(&mut picture, column, shown, foot)?;
+        match (shown.refused, entries.get(shown.place)) {
+            (None, Some(entry)) => picture.enter(column, entry)?,
+            _ => (),
         }
     }
-    picture.close(places.len())?;
-    push_names(&mut picture.marks, processes, count, places.len())?;
-    joined(alloc, &picture, count, entries, places, foot)
+    picture.close(columns.len())?;
+    push_names(&mut picture, processes, count, columns.len())?;
+    joined(alloc, &picture, count, entries, columns, foot)
 }
 
 /// The width of a page with so many columns, in pixels.
@@ -122,27 +126,35 @@ fn lane_count(processes: &IndexMap<String, Process>) -> u8
     u8::try_from(processes.len()).unwrap_or(u8::MAX)
 }
 
-/// Writes the number of the entry at a place, from 1, and a thin line through its column.
+/// Writes a thin line through a column.
 fn push_column(
-    out: &mut String,
+    picture: &mut Picture,
     column: usize,
-    place: usize,
+    shown: &Column,
     foot: usize,
 ) -> Result<(), AllocError> {
     let x = column_x(column);
-    push_line(out, "column", Point { x, y: 24 }, Point { x, y: foot })?;
-    let number = (place as u64).saturating_add(1);
-    push_count(out, "place", Point { x, y: 18 }, "", number)
+    let end = Point { x, y: foot };
+    if shown.refused.is_some() {
+        picture.legend.note(Sign::Refused)?;
+        return push_line(&mut picture.lines, "no", Point { x, y: 47 }, end);
+    }
+    push_line(&mut picture.lines, "column", Point { x, y: 34 }, end)
 }
 
-/// Writes the names of the lines, left of them and again after each block of columns.
+/// Writes the names of the rows of numbers, and of the lines, left of them and again after each block of columns.
 fn push_names(
-    out: &mut String,
+    picture: &mut Picture,
     processes: &IndexMap<String, Process>,
     count: u8,
     columns: usize,
 ) -> Result<(), AllocError> {
+    let out = &mut picture.marks;
     push_text(out, "name", Point { x: 12, y: 18 }, "entry")?;
+    push_text(out, "row", Point { x: 12, y: 30 }, "line of the scenario")?;
+    if picture.legend.has(Sign::Refused) {
+        push_text(out, "row", Point { x: 12, y: 43 }, "refused, by number")?;
+    }
     push_lane_names(out, processes, count, "name", 12)?;
     for block in 1..=columns / BLOCK {
         let after = column_x(block.saturating_mul(BLOCK));
@@ -172,16 +184,16 @@ fn push_lane_names(
     Ok(())
 }
 
-/// The layers of a picture of so many processes, with the marks of the entries at these places above them, and its legend.
+/// The layers of a picture of so many processes, with the marks of these columns above them, and its legend.
 fn joined(
     alloc: Global,
     picture: &Picture,
     count: u8,
     entries: &[Entry],
-    places: &[usize],
+    columns: &[Column],
     foot: usize,
 ) -> Result<String, AllocError>
-    ensures { IfOk result (λ text. HasPart (marks_from count entries.now 0 places.now) (string_bytes text)) }
+    ensures { IfOk result (λ text. HasPart (marks_from count entries.now 0 columns.now) (string_bytes text)) }
 {
     let legend = picture.legend.text(alloc)?;
     let mut out = String::from_str(alloc, STYLE)?;
@@ -190,7 +202,7 @@ fn joined(
     out.push_str(picture.boxes.as_str())?;
     out.push_str(picture.arrows.as_str())?;
     out.push_str(picture.marks.as_str())?;
-    push_marks(&mut out, count, entries, places)?;
+    push_marks(&mut out, count, entries, columns)?;
     writeln!(out, "<g transform='translate(0 {foot})'>")?;
     out.push_str(legend.as_str())?;
     out.push_str("</g>\n")?;

@@ -22,11 +22,13 @@ pub enum Sign {
     Lost,
     Copy,
     OnItsWay,
+    /// An order that was refused.
+    Refused,
 }
 
 impl Sign {
     /// All signs, in the order of the legend.
-    pub const ALL: [Sign; 17] = [
+    pub const ALL: [Sign; 18] = [
         Sign::Input,
         Sign::Message,
         Sign::Number,
@@ -44,6 +46,7 @@ impl Sign {
         Sign::Lost,
         Sign::Copy,
         Sign::OnItsWay,
+        Sign::Refused,
     ];
 
     /// The sign, 34 pixels wide, left of the words that say what it is.
@@ -72,6 +75,7 @@ impl Sign {
                 "<line class='message cut' x1='0' y1='0' x2='34' y2='0'/><use href='#copy' x='17' y='0'/>"
             }
             Sign::OnItsWay => "<line class='message cut' x1='0' y1='0' x2='34' y2='0'/>",
+            Sign::Refused => "<use href='#refused' x='17' y='0'/>",
         }
     }
 
@@ -95,6 +99,7 @@ impl Sign {
             Sign::Lost => "lost packet",
             Sign::Copy => "a copy, from where it was made",
             Sign::OnItsWay => "still on its way",
+            Sign::Refused => "refused order, its line and number",
         }
     }
 }

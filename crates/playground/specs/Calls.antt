@@ -10,15 +10,15 @@ use Rattle.playground.specs.declared.shelf.Written.{Written}
 use Rattle.playground.specs.Parts.{parts_of, AreParts, IsMisfit}
 use Rattle.playground.specs.Shelf.{content_with}
 
--- with status 0 the words ask for what was printed, nothing is told, and the file that was written, if one was, stands in front of
--- what is left of the files; with every other status the words come to the fault that is told, and no file has changed
+-- with status 0 the words ask for what was printed, nothing is told, and the files are those that were given, with the one that was
+-- written, if one was, in front of them; with every other status the words come to the fault that is told, and no file has changed
 abbrev pub IsAnswer : List (List ℕ) → List (List ℕ) → List (List ℕ) → Answer → Type 0
-IsAnswer words names files a = (names' : List (List ℕ)) × (files' : List (List ℕ))
-    × (a.status ≡ 0 → IsDone words (content_with None names files) (content_with a.written names' files')
+IsAnswer words names files a =
+    (a.status ≡ 0 → IsDone words (content_with None names files) (content_with a.written names files)
     (Some []) (Some (string_bytes a.printed)) × (string_bytes a.told ≡ []))
-    × (a.status ≢ 0 → (failed deaf : Bool)
-    × IsTold words (content_with None names files) bytes_eq failed deaf (Some []) (Some (string_bytes a.told)) a.status
-    × (content_with a.written names' files' ≡ content_with None names files))
+    × (a.status ≢ 0 → ((failed deaf : Bool)
+    × IsTold words (content_with None names files) bytes_eq failed deaf (Some []) (Some (string_bytes a.told)) a.status)
+    × (content_with a.written names files ≡ content_with None names files))
 
 -- the bytes of the file that was written, none if none was
 abbrev pub written_bytes : Option Written → List ℕ

@@ -1,5 +1,5 @@
 -- Files in memory by their names.
-use Rattle.std.specs.Prelude.{ℕ, List, [], ◌∷◌, Option, None, Some, cond, string_bytes}
+use Rattle.std.specs.Prelude.{ℕ, List, ◌∷◌, Option, None, Some, cond, string_bytes}
 use Rattle.std.specs.Str.{bytes_eq}
 use Rattle.playground.specs.declared.shelf.Written.{Written}
 

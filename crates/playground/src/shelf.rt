@@ -7,7 +7,25 @@ ghost use Rattle.tracer.specs.declared.files.Failure.TheVariants.{Memory};
 ghost use Rattle.playground.specs.Shelf.{content_of, content_with};
 
 use std::alloc::Global;
+use std::marker::{Brand, PhantomData};
 use tracer::{Failure, Files, Reason};
+
+/// The files that a call gave.
+pub trait Stock {
+    ghost use Rattle.std.specs.Prelude.{List, ℕ};
+
+    ghost names: { List (List ℕ) };
+
+    ghost files: { List (List ℕ) };
+}
+
+impl Stock for Brand {
+    ghost use Rattle.std.specs.Prelude.{[]};
+
+    ghost names = { [] };
+
+    ghost files = { [] };
+}
 
 /// A file that was written.
 #[derive(Drop)]
@@ -17,15 +35,18 @@ pub struct Written {
 }
 
 /// Files in memory by their names, of which the first with a name counts, and in front of them the one that was
-/// written.
+/// written. They stay those that the call gave.
 #[derive(Drop)]
-pub struct Shelf {
+pub struct Shelf<S: Stock> {
     pub alloc: Global,
     pub names: Vec<String>,
     pub files: Vec<Vec<u8>>,
     pub written: Option<Written>,
     /// Whether a file was not there, or a second one was written.
     pub failed: bool,
+    pub stock: PhantomData<S>,
+    ghost same_names: { map string_bytes names.items ≡ S.names },
+    ghost same_files: { map (λ v. v.items) files.items ≡ S.files },
 }
 
 /// The first file of this name.
@@ -57,7 +78,7 @@ fn some_of(alloc: Global, bytes: &[u8], limit: Option<usize>) -> Result<Vec<u8>,
     }
 }
 
-impl Files for Shelf {
+impl<S: Stock> Files for Shelf<S> {
     ghost content = { λ s. content_with s.written (map string_bytes s.names.items) (map (λ v. v.items) s.files.items) };
 
     ghost failed = { λ s. s.failed };

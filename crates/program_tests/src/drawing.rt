@@ -2,17 +2,26 @@
 //!
 //! The first column is at 190, and each other one 24 further; the lines are at 100, 178 and 256.
 
-use diagram::draw;
+use diagram::{Moment, draw};
 use helpers::Payload;
 use scenario::{Allowed, parse};
 use std::alloc::Global;
 use std::test::Fail;
 use world::{Answer, Call, Entry};
 
-/// The picture of two processes and these entries.
-fn picture(alloc: Global, entries: &[Entry]) -> Result<String, Fail> {
+/// The picture of two processes, these entries and moments.
+fn picture(alloc: Global, entries: &[Entry], moments: &[Moment]) -> Result<String, Fail> {
     let scenario = parse(alloc, "process near a\nprocess far b\n", Allowed::All)?;
-    Ok(draw(alloc, &scenario.processes, entries, false)?)
+    Ok(draw(alloc, &scenario.processes, entries, moments, false)?)
+}
+
+/// Moments of so many entries, each of the line behind that of the one before, from the third on.
+pub(crate) fn accepted(alloc: Global, count: usize) -> Result<Vec<Moment>, Fail> {
+    let mut moments = Vec::new(alloc);
+    for (line, _) in (3..usize::MAX).zip(0..count) {
+        moments.push((line, None))?;
+    }
+    Ok(moments)
 }
 
 /// The entries of these calls and answers, behind an input.
@@ -60,8 +69,11 @@ const MESSAGE: [(Call, Answer); 5] = [
     (Call::Arrive { key: 8 }, Answer::Acknowledged),
 ];
 
-const MESSAGE_PARTS: [&str; 11] = [
+const MESSAGE_PARTS: [&str; 14] = [
     "width='900' height='432'",
+    "<text class='place' x='190' y='30'>3</text>\n<text class='place' x='190' y='18'>1</text>",
+    "<text class='place' x='310' y='30'>8</text>\n<text class='place' x='310' y='18'>6</text>",
+    "<line class='column' x1='310' y1='34' x2='310' y2='300'/>",
     "<line class='up' x1='160' y1='100' x2='334' y2='100'/>",
     "<text class='name' x='12' y='260'>2 far</text>",
     "<use href='#input' x='190' y='100'/>\n<text class='t' x='190' y='86'>in 7</text>",
@@ -154,8 +166,65 @@ fn is_drawn(
     others: &[&str],
 ) -> Result<bool, Fail> {
     let entries = behind_input(alloc, calls)?;
-    let text = picture(alloc, entries.as_slice())?;
+    let moments = accepted(alloc, entries.len())?;
+    let text = picture(alloc, entries.as_slice(), moments.as_slice())?;
     Ok(has_all(text.as_str(), parts) && has_none(text.as_str(), others))
+}
+
+/// An input of line 4, behind an order that packet 7 isn't there for, and before two of which one names the outside; behind
+/// all of them is a call of which the entry is missing.
+const REFUSALS: [Moment; 5] = [
+    (3, Some(4)),
+    (4, None),
+    (12, Some(1)),
+    (100, Some(12)),
+    (101, None),
+];
+
+const REFUSALS_PARTS: [(&str, bool); 12] = [
+    ("width='900' height='432'", true),
+    (
+        "<text class='place' x='190' y='30'>3</text>\n<use href='#refused' x='190' y='14'/>\n<text class='c' x='190' y='43'>4</text>\n",
+        true,
+    ),
+    (
+        "<text class='place' x='214' y='30'>4</text>\n<text class='place' x='214' y='18'>1</text>\n<use href='#input' x='214' y='100'/>",
+        true,
+    ),
+    (
+        "<text class='place' x='238' y='30'>12</text>\n<use href='#refused' x='238' y='14'/>\n<text class='c' x='238' y='43'>1</text>\n",
+        true,
+    ),
+    ("<text class='c' x='262' y='43'>12</text>", true),
+    (
+        "<line class='no' x1='238' y1='47' x2='238' y2='300'/>",
+        true,
+    ),
+    (
+        "<line class='column' x1='214' y1='34' x2='214' y2='300'/>",
+        true,
+    ),
+    (
+        "<line class='up' x1='160' y1='256' x2='286' y2='256'/>",
+        true,
+    ),
+    ("refused order, its line and number", true),
+    ("x='286' y='30'", false),
+    ("y='18'>2<", false),
+    ("<line class='column' x1='190'", false),
+];
+
+#[test]
+fn refused_orders(rt: HostRuntime) -> Result<(), Fail> {
+    let entries = behind_input(rt.alloc(), &[])?;
+    let text = picture(rt.alloc(), entries.as_slice(), &REFUSALS)?;
+    for &(part, is_there) in REFUSALS_PARTS.as_slice() {
+        assert!(rt;
+            text.as_str().contains(part) == is_there,
+            "{part} in {text}"
+        );
+    }
+    Ok(())
 }
 
 #[test]
@@ -218,7 +287,7 @@ fn nonsense_and_width(rt: HostRuntime) -> Result<(), Fail> {
     for _ in 0..5 {
         calls.extend_from_slice(&NOTHING)?;
     }
-    let others = ["y2='139'", "crash, its new"];
+    let others = ["y2='139'", "crash, its new", "refused order"];
     assert!(rt; is_drawn(rt.alloc(), calls.as_slice(), &WIDE_PARTS, &others)?);
     Ok(())
 }

@@ -1,13 +1,14 @@
 //! Runs, listings and command lines of the greatest size (docs/FORMATS.md, "Limits"), and of a large one
 //! where there is none.
 
+use crate::drawing::accepted;
 use crate::running::adders;
 use cli::{Refusal, Request, Usage, parse_words};
 use diagram::draw;
 use explain::explain;
 use helpers::Payload;
 use images::FileForm;
-use runner::{journal_of, live};
+use runner::{chronicle_of, live};
 use scenario::{Allowed, parse, trace_text};
 use std::alloc::{AllocError, Global};
 use std::sync::Wait;
@@ -28,7 +29,8 @@ fn repeated(alloc: Global, head: &str, part: &str, times: u32) -> Result<String,
 fn journal(alloc: Global, text: &str) -> Result<Vec<Entry>, Fail> {
     let scenario = parse(alloc, text, Allowed::All)?;
     let count = scenario.processes.len();
-    Ok(journal_of(alloc, &scenario, adders(alloc, count)?)?)
+    let chronicle = chronicle_of(alloc, &scenario, adders(alloc, count)?)?;
+    Ok(chronicle.entries)
 }
 
 /// A packet that is copied and lost so often that the journal is full.
@@ -99,7 +101,7 @@ fn a_full_journal_is_traced(rt: HostRuntime) -> Result<(), Fail> {
 /// each 50 of the columns before it. A column further, and 44 pixels, the page ends.
 const DRAWN: [&str; 3] = [
     "<svg xmlns='http://www.w3.org/2000/svg' width='1756498' height='354' ",
-    "<text class='place' x='1756430' y='18'>65536</text>",
+    "<text class='place' x='1756430' y='30'>65538</text>\n<text class='place' x='1756430' y='18'>65536</text>",
     "<use href='#lost' x='1756430' y='139'/>",
 ];
 
@@ -108,7 +110,14 @@ fn a_full_journal_is_drawn(rt: HostRuntime) -> Result<(), Fail> {
     let alloc = rt.alloc();
     let scenario = parse(alloc, "process a x\n", Allowed::All)?;
     let entries = its_entries(alloc)?;
-    let picture = draw(alloc, &scenario.processes, entries.as_slice(), false)?;
+    let moments = accepted(alloc, entries.len())?;
+    let picture = draw(
+        alloc,
+        &scenario.processes,
+        entries.as_slice(),
+        moments.as_slice(),
+        false,
+    )?;
     let text = picture.as_str();
     assert!(rt;
         text.contains(DRAWN[0])

@@ -2,6 +2,7 @@
 //!
 //! The first column is at 190, and each other one 24 further; the lines are at 100, 178 and 256.
 
+use crate::drawing::accepted;
 use diagram::draw;
 use scenario::{Allowed, parse};
 use std::test::Fail;
@@ -47,7 +48,10 @@ const PARTS: [(&str, bool); 13] = [
     ),
     ("<text class='t' x='238' y='200'>rsn 4</text>", true),
     ("<text class='place' x='238' y='18'>3</text>", true),
-    ("<text class='place' x='262' y='18'>8</text>", true),
+    (
+        "<text class='place' x='262' y='30'>10</text>\n<text class='place' x='262' y='18'>8</text>",
+        true,
+    ),
     (
         "<line class='out' x1='262' y1='178' x2='310' y2='100'/>",
         true,
@@ -80,7 +84,14 @@ fn messages_alone(rt: HostRuntime) -> Result<(), Fail> {
             answer,
         })?;
     }
-    let text = draw(alloc, &scenario.processes, entries.as_slice(), true)?;
+    let moments = accepted(alloc, entries.len())?;
+    let text = draw(
+        alloc,
+        &scenario.processes,
+        entries.as_slice(),
+        moments.as_slice(),
+        true,
+    )?;
     for &(part, is_there) in PARTS.as_slice() {
         assert!(rt;
             text.as_str().contains(part) == is_there,

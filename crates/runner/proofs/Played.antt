@@ -1,7 +1,7 @@
 -- Orders that were carried out one after the other.
 use Rattle.std.proofs.Common.{◌≡◌, ◌∙◌, ℕ, List, [], ◌∷◌, ◌++◌, append_assoc, length, take, Option, Some, None, Result, Ok, Err, refl, sym, ap, subst, inl, inr, arith}
 use Rattle.std.specs.Result.{OnErr}
-use Rattle.std.proofs.lemmas.List.{append-nil, take_all}
+use Rattle.std.proofs.lemmas.List.{append-nil, flat_map_more, take_all}
 use Rattle.handlers.specs.Image.{TheImage}
 use Rattle.world.specs.declared.call.Call.{Call}
 use Rattle.world.specs.Fold.{handlers_of}
@@ -16,8 +16,8 @@ use Rattle.scenario.specs.declared.order.Order.TheVariants as order
 use Rattle.scenario.specs.declared.scenario.Step.{Step}
 use Rattle.runner.specs.Orders.{CarriesOut, BringsBack, HoldsJob, MakesCall, Position, beginning, held_for, with_entry, without_job, world_at}
 use Rattle.runner.specs.Results.{results_text}
-use Rattle.runner.specs.Inside.{ArePlayed, ArePlayedTo, IsPlayed}
-use Rattle.runner.specs.Run.{AreCarriedOut, CutsOff, IsCut, IsRun, RunsThrough, refused_text}
+use Rattle.runner.specs.Inside.{AreNoted, ArePlayed, ArePlayedTo, IsNoted, IsPlayed}
+use Rattle.runner.specs.Run.{AreCarriedOut, CutsOff, IsCut, IsRun, Passage, RunsThrough, moments_of, passage, refused_lines, refused_text}
 
 -- an order keeps the images
 
@@ -52,25 +52,25 @@ carried-images at (order.Resync p peer) new r does = called-images _ _ new r doe
 carried-images at (order.Drive budget) new r does = ap (λ (x : Position). x.images) does.0.new_is
 
 -- no order of a run changes the images
-pub runs-images : (at : Position) (steps : List Step) (lines : List ℕ) (new : Position) → RunsThrough at steps lines new → new.images ≡ at.images
-runs-images at [] lines new leads = ap (λ (x : Position). x.images) leads.1
-runs-images at (step ∷ steps) lines new leads =
+pub runs-images : (at : Position) (steps : List Step) (passages : List Passage) (new : Position) → RunsThrough at steps passages new → new.images ≡ at.images
+runs-images at [] passages new leads = ap (λ (x : Position). x.images) leads.1
+runs-images at (step ∷ steps) passages new leads =
     runs-images leads.0 steps leads.2 new leads.4 ∙ carried-images at step.order leads.0 leads.1 leads.3
 
 -- one order more
 
-runs-more : (at mid next : Position) (steps : List Step) (step : Step) (lines : List ℕ) (r : Option ℕ) → RunsThrough at steps lines mid → CarriesOut mid step.order next r
-    → RunsThrough at (steps ++ step ∷ []) (lines ++ refused_text step.line r) next
-runs-more at mid next [] step lines r leads does =
+runs-more : (at mid next : Position) (steps : List Step) (step : Step) (passages : List Passage) (r : Option ℕ) → RunsThrough at steps passages mid → CarriesOut mid step.order next r
+    → RunsThrough at (steps ++ step ∷ []) (passages ++ passage mid step next r ∷ []) next
+runs-more at mid next [] step passages r leads does =
     let here : CarriesOut at step.order next r = subst (λ p. CarriesOut p step.order next r) leads.1 does in
-    (next, r, [], here, (refl, refl), ap (λ ls. ls ++ refused_text step.line r) leads.0 ∙ sym (append-nil (refused_text step.line r)))
-runs-more at mid next (first ∷ steps) step lines r leads does = (
+    (next, r, [], here, (refl, refl), ap (λ ps. ps ++ passage mid step next r ∷ []) leads.0 ∙ ap (λ p. passage p step next r ∷ []) leads.1)
+runs-more at mid next (first ∷ steps) step passages r leads does = (
   leads.0,
   leads.1,
-  leads.2 ++ refused_text step.line r,
+  leads.2 ++ passage mid step next r ∷ [],
   leads.3,
   runs-more leads.0 mid next steps step leads.2 r leads.4 does,
-  ap (λ ls. ls ++ refused_text step.line r) leads.5 ∙ append_assoc (refused_text first.line leads.1) leads.2 (refused_text step.line r),
+  ap (λ ps. ps ++ passage mid step next r ∷ []) leads.5,
 )
 
 -- a fact that holds, where something has failed
@@ -86,20 +86,33 @@ played-none at old = ([], (refl, refl), sym (append-nil old))
 pub played-more : (at mid next : Position) (steps : List Step) (step : Step) (old so new : List ℕ) → ArePlayed steps at mid old so → IsPlayed step mid next so new
     → ArePlayed (steps ++ step ∷ []) at next old new
 played-more at mid next steps step old so new are is = (
-  are.0 ++ refused_text step.line is.0,
+  are.0 ++ passage mid step next is.0 ∷ [],
   runs-more at mid next steps step are.0 is.0 are.1 is.1,
-  is.2 ∙ ap (λ ls. ls ++ refused_text step.line is.0) are.2 ∙ append_assoc old are.0 (refused_text step.line is.0),
+  is.2 ∙ ap (λ ls. ls ++ refused_text step.line is.0) are.2 ∙ flat_map_more (λ (p : Passage). refused_text p.line p.refused) old are.0 (passage mid step next is.0),
+)
+
+-- where no order is made, there is no moment
+pub noted-none : (at : Position) → AreNoted [] at at []
+noted-none at = ([], (refl, refl), refl)
+
+-- and one more that is made has its moments behind the rest
+pub noted-more : (at mid next : Position) (steps : List Step) (step : Step) (so new : List (ℕ × Option ℕ)) → AreNoted steps at mid so → IsNoted step mid next so new
+    → AreNoted (steps ++ step ∷ []) at next new
+noted-more at mid next steps step so new are is = (
+  are.0 ++ passage mid step next is.0 ∷ [],
+  runs-more at mid next steps step are.0 is.0 are.1 is.1,
+  is.2 ∙ ap (λ ms. ms ++ moments_of (passage mid step next is.0)) are.2 ∙ flat_map_more moments_of [] are.0 (passage mid step next is.0),
 )
 
 -- all of them, from the beginning on
-pub played-out : (images : List TheImage) (end : Position) (steps : List Step) (old mid : List ℕ)
-    → (played : ArePlayed steps (beginning images) end old mid) → Legal (length end.images) (handlers_of end.images) end.entries
-    → AreCarriedOut images steps played.0 end.entries
-played-out images end steps old mid played legal =
-    let same : end.images ≡ images = runs-images (beginning images) steps played.0 end played.1 in
+pub played-out : (images : List TheImage) (end : Position) (steps : List Step) (passages : List Passage)
+    → RunsThrough (beginning images) steps passages end → Legal (length end.images) (handlers_of end.images) end.entries
+    → AreCarriedOut images steps passages end.entries
+played-out images end steps passages leads legal =
+    let same : end.images ≡ images = runs-images (beginning images) steps passages end leads in
     record {
       end = end;
-      leads = played.1;
+      leads = leads;
       accepted = refl;
       legal = subst (λ (is : List TheImage). Legal (length is) (handlers_of is) end.entries) same legal;
     }
@@ -111,19 +124,19 @@ pub played-run : (names : List (List ℕ)) (images : List TheImage) (end : Posit
 played-run names images end steps old mid new played legal text =
     let same : end.images ≡ images = runs-images (beginning images) steps played.0 end played.1 in
     record {
-      lines = played.0;
+      passages = played.0;
       entries = end.entries;
-      carried = played-out images end steps old mid played legal;
+      carried = played-out images end steps played.0 played.1 legal;
       text = text ∙ ap (λ (m : List ℕ). m ++ results_text names end.images end.entries) played.2
-          ∙ append_assoc old played.0 (results_text names end.images end.entries)
-          ∙ ap (λ (is : List TheImage). old ++ (played.0 ++ results_text names is end.entries)) same;
+          ∙ append_assoc old (refused_lines played.0) (results_text names end.images end.entries)
+          ∙ ap (λ (is : List TheImage). old ++ (refused_lines played.0 ++ results_text names is end.entries)) same;
     }
 
 -- and the first of them alone
 played-cut : (images : List TheImage) (end : Position) (steps : List Step) (count : ℕ) (old new : List ℕ)
     → ArePlayed (take count steps) (beginning images) end old new → CutsOff steps count end → IsCut images steps old new
 played-cut images end steps count old new played stops =
-    record { count = count; lines = played.0; end = end; leads = played.1; stops = stops; text = played.2 }
+    record { count = count; passages = played.0; end = end; leads = played.1; stops = stops; text = played.2 }
 
 -- none of them
 pub cut-none : (images : List TheImage) (steps : List Step) (old new : List ℕ) → new ≡ old → IsCut images steps old new

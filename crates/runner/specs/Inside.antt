@@ -1,5 +1,5 @@
 -- What the functions of this crate say to one another of a run.
-use Rattle.std.specs.Prelude.{◌≡◌, ◌≢◌, ◌+◌, ◌++◌, ℕ, List, [], ◌∷◌, length, slice_get, take, Option, Some, None, Result, Ok, Err}
+use Rattle.std.specs.Prelude.{◌≡◌, ◌≢◌, ◌+◌, ◌++◌, ℕ, List, [], ◌∷◌, flat_map, length, slice_get, take, Option, Some, None, Result, Ok, Err}
 use Rattle.world.specs.declared.message.Feed.{Feed}
 use Rattle.world.specs.declared.refusal.Refusal.{Refusal}
 use Rattle.world.specs.declared.refusal.Refusal.TheVariants.{Memory}
@@ -13,7 +13,7 @@ use Rattle.scenario.specs.declared.scenario.Step.{Step}
 use Rattle.runner.specs.declared.ended.Ended.{Ended}
 use Rattle.runner.specs.declared.player.Player.{Player}
 use Rattle.runner.specs.Orders.{CarriesOut, FindsNoMemory, Position}
-use Rattle.runner.specs.Run.{RunsThrough, refused_text}
+use Rattle.runner.specs.Run.{Passage, RunsThrough, moments_of, passage, refused_lines, refused_text}
 use Rattle.runner.specs.Word.{message_word}
 
 -- where a player stands
@@ -40,7 +40,15 @@ IsPlayed step here next old new = (refused : Option ℕ) × CarriesOut here step
 
 -- the same of all these steps, one after the other
 abbrev pub ArePlayed : List Step → Position → Position → List ℕ → List ℕ → Type 0
-ArePlayed steps here end old new = (lines : List ℕ) × RunsThrough here steps lines end × (new ≡ old ++ lines)
+ArePlayed steps here end old new = (passages : List Passage) × RunsThrough here steps passages end × (new ≡ old ++ refused_lines passages)
+
+-- the order of a step is carried out, and its moments noted
+abbrev pub IsNoted : Step → Position → Position → List (ℕ × Option ℕ) → List (ℕ × Option ℕ) → Type 0
+IsNoted step here next old new = (refused : Option ℕ) × CarriesOut here step.order next refused × (new ≡ old ++ moments_of (passage here step next refused))
+
+-- the same of all these steps, one after the other
+abbrev pub AreNoted : List Step → Position → Position → List (ℕ × Option ℕ) → Type 0
+AreNoted steps here end moments = (passages : List Passage) × RunsThrough here steps passages end × (moments ≡ flat_map moments_of passages)
 
 -- the first of these steps are made, and the next one finds no memory
 pub record ArePlayedTo (steps : List Step) (here : Position) (old new : List ℕ) : Type 0 where

@@ -1,5 +1,5 @@
--- What a run of a scenario writes (docs/FORMATS.md, "Carrying out").
-use Rattle.std.specs.Prelude.{◌≡◌, ◌⊎◌, ℕ, List, [], ◌∷◌, ◌++◌, codes, decimal, length, slice_get, take, Option, Some, None}
+-- What a run of a scenario writes (docs/FORMATS.md, "Carrying out"), and what its pictures show.
+use Rattle.std.specs.Prelude.{◌≡◌, ◌⊎◌, ◌-◌, ℕ, List, [], ◌∷◌, ◌++◌, codes, decimal, flat_map, length, replicate, slice_get, take, Option, Some, None}
 use Rattle.handlers.specs.Image.{TheImage}
 use Rattle.world.specs.declared.entry.Entry.{Entry}
 use Rattle.world.specs.Fold.{handlers_of}
@@ -13,30 +13,55 @@ abbrev pub refused_text : ℕ → Option ℕ → List ℕ
 refused_text line None = []
 refused_text line (Some n) = codes "line " ++ decimal line ++ codes " refused " ++ decimal n ++ codes "\n"
 
--- the orders are carried out one after the other, and the refused ones have these lines
-abbrev pub RunsThrough : Position → List Step → List ℕ → Position → Type 0
-RunsThrough old [] lines new = (lines ≡ []) × (new ≡ old)
-RunsThrough old (step ∷ steps) lines new =
-    (next : Position) × (refused : Option ℕ) × (rest : List ℕ)
-    × CarriesOut old step.order next refused × RunsThrough next steps rest new × (lines ≡ refused_text step.line refused ++ rest)
+-- what the order of a line came to: it made so many calls that were accepted, and was refused with this number, if it was
+pub record Passage : Type 0 where
+  pub line : ℕ
+  pub added : ℕ
+  pub refused : Option ℕ
 
--- all orders are carried out from the beginning on: the refused ones have these lines, and these calls were accepted
-pub record AreCarriedOut (images : List TheImage) (steps : List Step) (lines : List ℕ) (entries : List Entry) : Type 0 where
+-- an order that leads from one position to another
+abbrev pub passage : Position → Step → Position → Option ℕ → Passage
+passage old step new refused = record { line = step.line; added = length new.entries - length old.entries; refused = refused }
+
+-- the orders are carried out one after the other, and come to these
+abbrev pub RunsThrough : Position → List Step → List Passage → Position → Type 0
+RunsThrough old [] passages new = (passages ≡ []) × (new ≡ old)
+RunsThrough old (step ∷ steps) passages new =
+    (next : Position) × (refused : Option ℕ) × (rest : List Passage)
+    × CarriesOut old step.order next refused × RunsThrough next steps rest new × (passages ≡ passage old step next refused ∷ rest)
+
+-- all orders are carried out from the beginning on, and come to these: these calls were accepted
+pub record AreCarriedOut (images : List TheImage) (steps : List Step) (passages : List Passage) (entries : List Entry) : Type 0 where
   pub end : Position
-  pub leads : RunsThrough (beginning images) steps lines end
+  pub leads : RunsThrough (beginning images) steps passages end
   pub accepted : entries ≡ end.entries
   pub legal : Legal (length images) (handlers_of images) entries
 
--- the orders lead to this journal
-abbrev pub IsJournal : List TheImage → List Step → List Entry → Type 0
-IsJournal images steps entries = (lines : List ℕ) × AreCarriedOut images steps lines entries
+-- the lines of those that were refused
+abbrev pub refused_lines : List Passage → List ℕ
+refused_lines passages = flat_map (λ p. refused_text p.line p.refused) passages
 
 -- all orders are carried out, and behind the old text stand the refused lines, the trace and the report
 pub record IsRun (names : List (List ℕ)) (images : List TheImage) (steps : List Step) (old new : List ℕ) : Type 0 where
-  pub lines : List ℕ
+  pub passages : List Passage
   pub entries : List Entry
-  pub carried : AreCarriedOut images steps lines entries
-  pub text : new ≡ old ++ (lines ++ results_text names images entries)
+  pub carried : AreCarriedOut images steps passages entries
+  pub text : new ≡ old ++ (refused_lines passages ++ results_text names images entries)
+
+-- ---- moments: an accepted call or a refused order is one, with the line that it is of, and the number that refused it
+
+-- that of a refused order
+abbrev pub refused_moment : ℕ → Option ℕ → List (ℕ × Option ℕ)
+refused_moment line None = []
+refused_moment line (Some n) = (line, Some n) ∷ []
+
+-- those of one order: one of each call that it made, and its own, where it was refused
+abbrev pub moments_of : Passage → List (ℕ × Option ℕ)
+moments_of p = replicate p.added (p.line, None) ++ refused_moment p.line p.refused
+
+-- the orders lead to this journal, and to these moments, one after the other
+abbrev pub IsChronicle : List TheImage → List Step → List Entry → List (ℕ × Option ℕ) → Type 0
+IsChronicle images steps entries moments = (passages : List Passage) × AreCarriedOut images steps passages entries × (moments ≡ flat_map moments_of passages)
 
 -- where a run stops for want of memory: before the first order, at one that finds none, or behind all of them. An order that a number
 -- refuses is none of these
@@ -47,8 +72,8 @@ CutsOff steps count here =
 -- so many of the first orders are carried out, and behind the old text stand the refused lines alone
 pub record IsCut (images : List TheImage) (steps : List Step) (old new : List ℕ) : Type 0 where
   pub count : ℕ
-  pub lines : List ℕ
+  pub passages : List Passage
   pub end : Position
-  pub leads : RunsThrough (beginning images) (take count steps) lines end
+  pub leads : RunsThrough (beginning images) (take count steps) passages end
   pub stops : CutsOff steps count end
-  pub text : new ≡ old ++ lines
+  pub text : new ≡ old ++ refused_lines passages

@@ -3,7 +3,7 @@
 //! [`run`] carries out the orders of a scenario, in order, in a session that it opens, and writes the line of each that was
 //! refused, the trace and the report. Its promise: what is written is that of `specs/Run.antt`, where each accepted call is a
 //! step of the world and each refused one tells the least number whose cause holds; only memory can run out, and then refused
-//! lines alone were written. [`journal_of`] gives the accepted calls of the same run. [`push_results`] writes what a session came to, its trace and its report: the text of
+//! lines alone were written. [`chronicle_of`] gives the accepted calls of such a run, and which line made each and which were refused. [`push_results`] writes what a session came to, its trace and its report: the text of
 //! `specs/Results.antt`, which follows from the names, the images and the journal alone.
 //!
 //! [`live`] has workers do it, who are fed with the messages of a scenario. Its promise: what is written is the trace and the
@@ -13,6 +13,7 @@
 #![tactic(auto)]
 
 mod carrying;
+mod chronicle;
 mod ended;
 mod feeds;
 mod held;
@@ -23,8 +24,9 @@ mod results;
 mod running;
 mod word;
 
+pub use chronicle::{Chronicle, Moment, chronicle_of};
 pub use ended::Ended;
 pub use living::live;
 pub use results::push_results;
-pub use running::{journal_of, run};
+pub use running::run;
 pub use word::payload_of;

@@ -6,17 +6,16 @@ ghost use Rattle.machine.specs.Opening.{AreFew};
 ghost use Rattle.scenario.specs.Process.{names_of};
 ghost use Rattle.runner.specs.Orders.{FindsNoMemory, beginning};
 ghost use Rattle.runner.specs.Inside.{ArePlayed, ArePlayedTo, IsPlayed, position_of};
-ghost use Rattle.runner.specs.Run.{IsCut, IsJournal, IsRun, refused_text};
+ghost use Rattle.runner.specs.Run.{IsCut, IsRun, refused_text};
 
 use crate::player::Player;
 use crate::results::push_results;
 use handlers::Handler;
 use itoa::Buffer;
 use scenario::{Scenario, Step};
-use sessions::copied;
 use std::alloc::{AllocError, Global};
 use std::sync::Arc;
-use world::{Entry, Refusal};
+use world::Refusal;
 
 /// How many bytes the line of a refused order has at most: 20 digits of its line, and 3 of a number.
 const LINE_BYTES: usize = 38;
@@ -134,20 +133,4 @@ pub fn run(
     // The journal is told to be legal.
     let _journal = player.session.journal();
     push_results(alloc, out, &scenario.processes, &player.session)
-}
-
-/// The calls that are accepted, with their answers, where the orders of a scenario are carried out as
-/// [`run`] does it, in a session of these images, 1 to 15. Only memory can run out.
-pub fn journal_of(
-    alloc: Global,
-    scenario: &Scenario,
-    images: Vec<Arc<Handler>>,
-) -> Result<Vec<Entry>, AllocError>
-    requires { AreFew (map image_in images.items) }
-    ensures { IfOk result (λ v. IsJournal (map image_in images.items) scenario.now.steps.items v.items) }
-{
-    let mut lines = String::new(alloc);
-    let player = played(alloc, scenario.steps.as_slice(), images, &mut lines)?;
-    let entries = copied(alloc, player.session.journal())?;
-    Ok(entries)
 }

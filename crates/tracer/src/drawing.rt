@@ -12,7 +12,7 @@ use crate::own_input::{spare, spare_images};
 use crate::site::Site;
 use crate::staging::{Staged, stage};
 use diagram::draw;
-use runner::journal_of;
+use runner::{Chronicle, chronicle_of};
 use scenario::Allowed;
 use std::alloc::Global;
 
@@ -34,11 +34,12 @@ fn picture_of<F: Files>(
 {
     let Staged { scenario, images } = stage(alloc, path, Allowed::All, files, site)?;
     spare_images(alloc, &scenario.processes, place, files)?;
-    let entries = journal_of(alloc, &scenario, images)?;
+    let Chronicle { entries, moments } = chronicle_of(alloc, &scenario, images)?;
     let text = draw(
         alloc,
         &scenario.processes,
         entries.as_slice(),
+        moments.as_slice(),
         only_messages,
     )?;
     Ok(text)

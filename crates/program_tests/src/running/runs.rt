@@ -2,7 +2,7 @@
 
 use super::adders;
 use crate::rows::holds;
-use runner::{journal_of, run};
+use runner::{Moment, chronicle_of, run};
 use scenario::{Allowed, parse, trace_text};
 use std::alloc::Global;
 use std::test::Fail;
@@ -162,8 +162,8 @@ fn writes(alloc: Global, case: &[&str; 2]) -> Result<bool, Fail> {
     let count = scenario.processes.len();
     let mut out = String::new(alloc);
     run(alloc, &scenario, adders(alloc, count)?, &mut out)?;
-    let entries = journal_of(alloc, &scenario, adders(alloc, count)?)?;
-    let trace = trace_text(alloc, entries.as_slice())?;
+    let chronicle = chronicle_of(alloc, &scenario, adders(alloc, count)?)?;
+    let trace = trace_text(alloc, chronicle.entries.as_slice())?;
     let report = case[1].split(trace.as_str()).nth(1).unwrap_or("");
     Ok(out.as_str() == case[1] && report.starts_with("process a "))
 }
@@ -175,5 +175,63 @@ fn runs(rt: HostRuntime) -> Result<(), Fail> {
     for (place, case) in CASES.iter().enumerate() {
         holds(&rt, place, writes(rt.alloc(), case)?);
     }
+    Ok(())
+}
+
+/// The moments of REFUSED, HELD and LOST.
+const REFUSED_MOMENTS: [Moment; 11] = [
+    (3, Some(9)),
+    (4, None),
+    (5, Some(4)),
+    (6, Some(5)),
+    (8, None),
+    (9, None),
+    (10, Some(10)),
+    (11, Some(11)),
+    (12, Some(5)),
+    (13, None),
+    (14, None),
+];
+
+const HELD_MOMENTS: [Moment; 11] = [
+    (3, None),
+    (4, None),
+    (5, None),
+    (6, None),
+    (7, None),
+    (7, None),
+    (7, None),
+    (7, None),
+    (7, None),
+    (8, None),
+    (9, None),
+];
+
+const LOST_MOMENTS: [Moment; 9] = [
+    (3, None),
+    (4, None),
+    (5, None),
+    (6, None),
+    (7, Some(9)),
+    (8, None),
+    (9, Some(8)),
+    (10, None),
+    (11, Some(9)),
+];
+
+/// Whether the run of a scenario of adders has these moments.
+fn comes_to(alloc: Global, case: &[&str; 2], moments: &[Moment]) -> Result<bool, Fail> {
+    let scenario = parse(alloc, case[0], Allowed::All)?;
+    let count = scenario.processes.len();
+    let chronicle = chronicle_of(alloc, &scenario, adders(alloc, count)?)?;
+    Ok(chronicle.moments.as_slice() == moments)
+}
+
+#[test]
+fn moments(rt: HostRuntime) -> Result<(), Fail> {
+    let alloc = rt.alloc();
+    assert!(rt; comes_to(alloc, &REFUSED, &REFUSED_MOMENTS)?, "refused");
+    assert!(rt; comes_to(alloc, &HELD, &HELD_MOMENTS)?, "held");
+    assert!(rt; comes_to(alloc, &LOST, &LOST_MOMENTS)?, "lost");
     Ok(())
 }

@@ -1,12 +1,9 @@
-use Rattle.std.proofs.Common.{◌<◌, length, rules}
-use Rattle.diagram.proofs.ColumnLemmas.{one_more_column, one_more_key}
+use Rattle.std.proofs.Common.{None, refl}
+use Rattle.diagram.specs.Columns.{behind, unmoved}
+use Rattle.diagram.proofs.ColumnLemmas.{one_more_moment}
 use Rattle.diagram.proofs.columns.columns.Goals as goal
 
-pub loop-place-preserved : goal.loop-place-preserved
-loop-place-preserved c =
-    let within : c.loop-place.place < length c.args.entries.now = search rules in
-    let columns = c.loop-place.invariant.0 in
-    let keys = c.loop-place.invariant.1 in (
-      one_more_column c.args.only_messages c.args.entries.now c.loop-place.place _ _ _ _ _ within c.index-entries-place.is keys columns c.in_ok-push_place.ensures,
-      one_more_key c.args.entries.now c.loop-place.place _ _ _ _ within c.index-entries-place.is keys c.in_ok-note.ensures,
-    )
+pub loop-moment-preserved : goal.loop-moment-preserved
+loop-moment-preserved c =
+    one_more_moment (behind c.args.only_messages c.args.entries.now) unmoved c.args.moments.now c.loop-moment.moment-index (0, None) _ _ _ c.loop-moment-test.true
+    refl c.loop-moment.invariant c.in_ok-pass.ensures

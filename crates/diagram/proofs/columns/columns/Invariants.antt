@@ -1,7 +1,7 @@
-use Rattle.std.proofs.Common.{◌≡◌, [], fold, take}
-use Rattle.diagram.specs.Columns.{columns, keys_after}
+use Rattle.std.proofs.Common.{◌≡◌, fold, take}
+use Rattle.diagram.specs.Columns.{behind, unmoved}
+use Rattle.diagram.specs.Standing.{standing_of}
 use Rattle.diagram.proofs.columns.columns.Given as goal
 
-abbrev pub invariant-loop-place : goal.invariant-loop-place
-invariant-loop-place l =
-    (l.places.items ≡ columns l.only_messages (take l.place l.entries)) × (l.messages.keys ≡ fold keys_after [] (take l.place l.entries))
+abbrev pub invariant-loop-moment : goal.invariant-loop-moment
+invariant-loop-moment l = standing_of l.standing ≡ fold (behind l.only_messages l.entries) unmoved (take l.moment-index l.moments)

@@ -1,6 +1,7 @@
 use Rattle.std.proofs.Common.{◌≡◌, ℕ, List, inr, length, map, string_bytes, subst, sym, true}
 use Rattle.handlers.specs.Image.{image_in}
 use Rattle.cli.specs.Asks.{Draw}
+use Rattle.diagram.specs.Columns.{Moment}
 use Rattle.diagram.specs.Picture.{IsPicture}
 use Rattle.scenario.specs.declared.order.Allowed.TheVariants.{All}
 use Rattle.world.specs.declared.entry.Entry.{Entry}
@@ -10,8 +11,8 @@ use Rattle.tracer.proofs.CauseLemmas.{becomes, own_input_of}
 use Rattle.tracer.proofs.StageLemmas.{are_few, staged}
 use Rattle.tracer.proofs.drawing.picture_of.Goals as goal
 
-pub journal_of-requires : goal.journal_of-requires
-journal_of-requires g c =
+pub chronicle_of-requires : goal.chronicle_of-requires
+chronicle_of-requires g c =
     are_few (g.F.Files.content c.args.files.now) All c.args.path.now c.in_ok-scenario.field-0.scenario (map image_in c.in_ok-scenario.field-0.images.items)
     c.in_ok-scenario.ensures.staged
 
@@ -19,13 +20,18 @@ pub returns-clause-drawn : goal.returns-clause-drawn
 returns-clause-drawn g c = λ known there.
     let s = c.in_ok-scenario.field-0.scenario in
     let images = map image_in c.in_ok-scenario.field-0.images.items in
+    let count = length s.processes.entries in
+    let entries = c.in_ok-entries.field-0.entries.items in
+    let moments = c.in_ok-entries.field-0.moments.items in
     record {
       scenario = s;
       images = images;
       staged = staged (g.F.Files.content c.args.files.now) All c.args.path.now known s images c.in_ok-scenario.ensures.staged there;
-      entries = c.in_ok-entries.entries.items;
-      journal = c.in_ok-entries.ensures;
-      picture = subst (λ (es : List Entry). IsPicture (length s.processes.entries) es c.args.only_messages (string_bytes c.in_ok-text.text)) c.as_slice.ensures.value c.in_ok-text.ensures;
+      entries = entries;
+      moments = moments;
+      chronicle = c.in_ok-entries.ensures;
+      picture = subst (λ (ms : List Moment). IsPicture count entries ms c.args.only_messages (string_bytes c.in_ok-text.text)) c.as_slice-2.ensures.value
+          (subst (λ (es : List Entry). IsPicture count es c.as_slice-2.result.now c.args.only_messages (string_bytes c.in_ok-text.text)) c.as_slice.ensures.value c.in_ok-text.ensures);
     }
 
 pub returns-in_err-spare_images-clause-fault : goal.returns-in_err-spare_images-clause-fault
