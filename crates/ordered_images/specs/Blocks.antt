@@ -9,4 +9,4 @@ blocks_text Kept = []
 blocks_text Moved = codes "the blocks stand in another order, in which each jump goes forward; slots are counted in it\n"
 blocks_text (Loops from to) = codes "slot " ++ (decimal from ++ (codes " jumps back to slot " ++ (decimal to
     ++ codes " in a loop, which is refused by V1: give it a known length, and put unrolled above it\n")))
-blocks_text Unknown = codes "a jump goes back, which is refused by V1, and no order of the blocks was found in which none does\n"
+blocks_text Unknown = codes "V1 refuses the code, and no order of its blocks was found in which each jump goes forward\n"

@@ -34,7 +34,7 @@ impl fmt::Display for Blocks {
             ),
             Blocks::Unknown => writeln!(
                 f,
-                "a jump goes back, which is refused by V1, and no order of the blocks was found in which none does"
+                "V1 refuses the code, and no order of its blocks was found in which each jump goes forward"
             ),
         }
     }
