@@ -1,5 +1,6 @@
 //! The commands of the program, over files and streams in memory.
 
+mod block_orders;
 mod folder;
 mod kinds;
 mod machine_code;

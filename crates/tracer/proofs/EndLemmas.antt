@@ -2,6 +2,7 @@
 use Rattle.std.proofs.Common.{◌≡◌, ◌⊎◌, ◌||◌, Bool, IfErr, List, Option, Result, Ok, Err, ℕ, subst, inl, inr, true}
 use Rattle.std.specs.Prelude.{◌≢◌, [], IsOk, OnErr, OnOk}
 use Rattle.std.specs.Io.KnownBytes.{Appends}
+use Rattle.ordered_images.specs.declared.blocks.Blocks.{Blocks}
 use Rattle.tracer.specs.Fault.{status_of}
 use Rattle.tracer.specs.Files.{Content}
 use Rattle.tracer.specs.Inside.{EndsShort, HasFault, IsEnd, IsHalf, IsStreamFault}
@@ -15,30 +16,30 @@ abbrev pub HasShort : List (List ℕ) → Content → List ℕ → Fault → Typ
 HasShort words content text f = (text ≡ []) ⊎ ((f ≡ Memory) × EndsShort words content text)
 
 -- one that was carried out, and printed
-pub done_of : {T : Type 0} (ended : Result T Fault) (words : List (List ℕ)) (content content' : Content) (text : List ℕ) (out out' : Option (List ℕ))
-    → IsOk ended → OnOk ended (IsAnswered words content content' text) → Appends out out' text → IsDone words content content' out out'
-done_of (Ok x) words content content' text out out' is answered printed = record { text = text; answered = answered; printed = printed }
-done_of (Err e) words content content' text out out' is answered printed = absurd (cc)
+pub done_of : {T : Type 0} (ended : Result T Fault) (words : List (List ℕ)) (content content' : Content) (text : List ℕ) (blocks : Blocks) (out out' : Option (List ℕ))
+    → IsOk ended → OnOk ended (IsAnswered words content content' text blocks) → Appends out out' text → IsDone words content content' out out' blocks
+done_of (Ok x) words content content' text blocks out out' is answered printed = record { text = text; answered = answered; printed = printed }
+done_of (Err e) words content content' text blocks out out' is answered printed = absurd (cc)
 
 -- its fault is that of the words
-cause_of : {T : Type 0} (ended : Result T Fault) (words : List (List ℕ)) (content content' : Content) (one : Sameness) (failed stream : Bool) (text : List ℕ)
-    (f : Fault) → OnOk ended (IsAnswered words content content' text) → IfErr ended (IsCause words content one failed)
+cause_of : {T : Type 0} (ended : Result T Fault) (words : List (List ℕ)) (content content' : Content) (one : Sameness) (failed stream : Bool) (text : List ℕ) (blocks : Blocks)
+    (f : Fault) → OnOk ended (IsAnswered words content content' text blocks) → IfErr ended (IsCause words content one failed)
     → IfErr ended (HasShort words content text) → HasFault ended text stream f → IsCause words content one (failed || stream) f
-cause_of (Ok x) words content content' one failed stream text f answered cause short has =
+cause_of (Ok x) words content content' one failed stream text blocks f answered cause short has =
     stream_cause words content one failed stream answered.order f answered.asked has.1 has.2
-cause_of (Err e) words content content' one failed stream text f answered cause short (inl is) =
+cause_of (Err e) words content content' one failed stream text blocks f answered cause short (inl is) =
     cause_beside words content one failed stream f (subst (IsCause words content one failed) (cc) cause)
-cause_of (Err e) words content content' one failed stream text f answered cause short (inr has) =
+cause_of (Err e) words content content' one failed stream text blocks f answered cause short (inr has) =
     failure_cause words content one failed stream e f text short has.0 has.1 has.2
 
 -- one that was told
-pub told_of : {T : Type 0} (ended : Result T Fault) (words : List (List ℕ)) (content content' : Content) (one : Sameness) (failed stream deaf : Bool) (text : List ℕ)
-    (err err' : Option (List ℕ)) (status : ℕ) → OnOk ended (IsAnswered words content content' text) → IfErr ended (IsCause words content one failed)
+pub told_of : {T : Type 0} (ended : Result T Fault) (words : List (List ℕ)) (content content' : Content) (one : Sameness) (failed stream deaf : Bool) (text : List ℕ) (blocks : Blocks)
+    (err err' : Option (List ℕ)) (status : ℕ) → OnOk ended (IsAnswered words content content' text blocks) → IfErr ended (IsCause words content one failed)
     → IfErr ended (HasShort words content text) → IsEnd ended text stream deaf err err' status
     → IsTold words content one (failed || stream) deaf err err' status
-told_of ended words content content' one failed stream deaf text err err' status answered cause short end = record {
+told_of ended words content content' one failed stream deaf text blocks err err' status answered cause short end = record {
   fault = end.fault;
-  cause = cause_of ended words content content' one failed stream text end.fault answered cause short end.has;
+  cause = cause_of ended words content content' one failed stream text blocks end.fault answered cause short end.has;
   text = end.words;
   said = end.said;
   told = end.told;

@@ -5,16 +5,18 @@ use Rattle.decode.specs.Encoding.{encoding}
 use Rattle.decode.specs.Refusal as decoding
 use Rattle.decode.specs.declared.insn.Insn.{Insn}
 use Rattle.images.specs.declared.file_form.FileForm.{FileForm}
-use Rattle.images.specs.ImageFile.{IsFile}
+use Rattle.ordered_images.specs.Ordered.{IsFileOf}
+use Rattle.ordered_images.specs.declared.blocks.Blocks.{Blocks}
 use Rattle.verifier.specs.declared.fault.HeaderFault.TheVariants.{SlotCount}
 use Rattle.tracer.specs.declared.fault.Fault.{Fault}
 use Rattle.tracer.specs.declared.fault.Fault.TheVariants.{Usage, Header, Decode, Verify, Assemble, Scenario, Memory, InputOutput}
 
--- the code is that of instructions of which these bytes are the file of this form, with a state of this length
-pub record IsPacked (code : List ℕ) (state : ℕ) (form : FileForm) (bytes : List ℕ) : Type 0 where
+-- the code is that of instructions of which these bytes are the file of this form, with a state of this length, and the blocks
+-- stand so in it
+pub record IsPacked (code : List ℕ) (state : ℕ) (form : FileForm) (bytes : List ℕ) (blocks : Blocks) : Type 0 where
   pub insns : List Insn
   pub encoded : code ≡ encoding insns
-  pub file : IsFile form insns state bytes
+  pub file : IsFileOf form insns state bytes blocks
 
 -- why code comes to no file: it has no slot or more than 1,024, or is no encoding; want of memory says nothing of it
 abbrev pub IsUnpacked : List ℕ → Fault → Type 0

@@ -5,6 +5,9 @@ use Rattle.std.specs.Io.KnownBytes.{Appends}
 use Rattle.std.specs.String.{string_bytes}
 use Rattle.cli.specs.Asks.{AsksFor, IsRefusal, own_input_text, Order, Run, Live, Draw, Check, Explain, Asm, Pack, Dis, Native}
 use Rattle.cli.specs.declared.refusal.Refusal.TheVariants as refusal
+use Rattle.ordered_images.specs.Blocks.{blocks_text}
+use Rattle.ordered_images.specs.declared.blocks.Blocks.{Blocks}
+use Rattle.ordered_images.specs.declared.blocks.Blocks.TheVariants.{Kept}
 use Rattle.scenario.specs.Scenario.{IsScenario}
 use Rattle.scenario.specs.declared.order.Allowed.TheVariants.{All, Inputs}
 use Rattle.scenario.specs.declared.process.Process.{Process}
@@ -47,7 +50,7 @@ SparesImages content scenario place = (bytes : List ℕ) → content scenario �
 -- the picture of its scenario, the others leave all as it was
 abbrev pub Leaves : Order → Content → Content → Type 0
 Leaves (Asm source image state form) content content' = IsWritten source image (λ bytes file. IsAssembled bytes state form file) content content'
-Leaves (Pack code image state form) content content' = IsWritten code image (λ bytes file. IsPacked bytes state form file) content content'
+Leaves (Pack code image state form) content content' = IsWritten code image (λ bytes file. (blocks : Blocks) × IsPacked bytes state form file blocks) content content'
 Leaves (Native image code) content content' = IsWritten image code (λ bytes file. IsMachineCode bytes file) content content'
 Leaves (Draw scenario picture only) content content' = IsWritten scenario picture (λ bytes file. IsDrawn content bytes only file) content content'
     × SparesImages content scenario picture
@@ -57,18 +60,31 @@ Leaves order content content' = content' ≡ content
 abbrev pub IsAnswer : Content → Order → List ℕ → Type 0
 IsAnswer content order text = (bytes : List ℕ) → content (path_of order) ≡ Some bytes → IsReport content order bytes text
 
--- the words ask for an order that prints this text and leaves these files
-pub record IsAnswered (words : List (List ℕ)) (content content' : Content) (text : List ℕ) : Type 0 where
+-- the blocks of the file that `pack` writes of its code stand so; of no other order's is anything said
+abbrev pub IsNoted : Order → Blocks → Content → Content → Type 0
+IsNoted (Pack code image state form) blocks content content' =
+    IsWritten code image (λ bytes file. IsPacked bytes state form file blocks) content content'
+    × ((bytes : List ℕ) → content code ≡ Some bytes → (file : List ℕ) × IsPacked bytes state form file blocks)
+IsNoted order blocks content content' = blocks ≡ Kept
+
+-- the words ask for an order that prints this text and leaves these files, with these blocks
+pub record IsAnswered (words : List (List ℕ)) (content content' : Content) (text : List ℕ) (blocks : Blocks) : Type 0 where
   pub order : Order
   pub asked : AsksFor words order
   pub answer : IsAnswer content order text
   pub left : Leaves order content content'
+  pub noted : IsNoted order blocks content content'
 
 -- the same, and the text was printed
-pub record IsDone (words : List (List ℕ)) (content content' : Content) (out out' : Option (List ℕ)) : Type 0 where
+pub record IsDone (words : List (List ℕ)) (content content' : Content) (out out' : Option (List ℕ)) (blocks : Blocks) : Type 0 where
   pub text : List ℕ
-  pub answered : IsAnswered words content content' text
+  pub answered : IsAnswered words content content' text blocks
   pub printed : Appends out out' text
+
+-- what is said of blocks stands behind what a stream held, unless it has failed; where nothing is said it is as it was
+abbrev pub IsSaid : {S : Type 0} → (S → Option (List ℕ)) → (S → Bool) → Blocks → S → S → Type 0
+IsSaid contents failed Kept s s' = s' ≡ s
+IsSaid contents failed blocks s s' = Appends (contents s) (contents s') (blocks_text blocks) ⊎ (failed s' ≡ true)
 
 -- ---- one that comes to a fault
 

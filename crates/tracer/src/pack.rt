@@ -1,13 +1,19 @@
 //! The command `pack`.
 
-ghost use Rattle.std.specs.Prelude.{◌≡◌, ◌≤◌, ℕ, IfErr, IfOk, List, take};
+ghost use Rattle.std.specs.Prelude.{◌≡◌, ◌≤◌, ℕ, [], IfErr, IfOk, List, OnErr, OnOk, take};
+ghost use Rattle.cli.specs.Asks.{Pack};
 ghost use Rattle.tracer.specs.Pack.{IsPacked, IsUnpacked};
-ghost use Rattle.tracer.specs.Inside.{IsNoUsage};
+ghost use Rattle.tracer.specs.Inside.{IsNoUsage, IsWriteFault};
+ghost use Rattle.tracer.specs.Program.{IsAnswer, IsNoted, Leaves};
 
 use crate::fault::Fault;
+use crate::files::Files;
+use crate::own_input::spare;
+use crate::site::Site;
 use decode::decode;
-use images::{FileForm, file};
+use images::FileForm;
 use limits::{SLOTS, STATE_BYTES};
+use ordered_images::{Blocks, Ordered, ordered_file};
 use std::alloc::Global;
 use verifier::HeaderFault;
 
@@ -15,11 +21,12 @@ use verifier::HeaderFault;
 pub const CODE_LIMIT: usize = 8 * SLOTS + 1;
 
 /// The image file of this form of code, of which these are the bytes that decide, with a state of this
-/// length, at most 1,024 bytes. The code is not verified. More bytes than 1,024 slots have are refused
-/// whatever they are.
-pub fn pack(alloc: Global, code: &[u8], state: u16, form: FileForm) -> Result<Vec<u8>, Fault>
+/// length, at most 1,024 bytes, and how its blocks stand. Code that is refused has a file too, but more bytes
+/// than 1,024 slots have are refused whatever they are.
+fn pack(alloc: Global, code: &[u8], state: u16, form: FileForm) -> Result<Ordered, Fault>
     requires { state ≤ STATE_BYTES }
-    ensures written { IfOk result (λ v. (whole : List ℕ) → code.now ≡ take CODE_LIMIT whole → IsPacked whole state form v.items) }
+    ensures written { IfOk result (λ o. (whole : List ℕ) → code.now ≡ take CODE_LIMIT whole
+        → IsPacked whole state form o.bytes.items o.blocks) }
     ensures refused { IfErr result (λ f. (whole : List ℕ) → code.now ≡ take CODE_LIMIT whole → IsUnpacked whole f) }
     ensures kind { IfErr result IsNoUsage }
 {
@@ -27,6 +34,35 @@ pub fn pack(alloc: Global, code: &[u8], state: u16, form: FileForm) -> Result<Ve
         return Err(Fault::Header(HeaderFault::SlotCount));
     }
     let insns = decode(alloc, code)?;
-    let bytes = file(alloc, form, insns.as_slice(), state)?;
-    Ok(bytes)
+    let packed = ordered_file(alloc, form, insns.as_slice(), state)?;
+    Ok(packed)
+}
+
+/// Writes the image file of this form of the code in a file, with a state of this length, and tells how its blocks
+/// stand.
+pub fn write_packed<F: Files>(
+    alloc: Global,
+    code: &str,
+    image: &str,
+    state: u16,
+    form: FileForm,
+    files: &mut F,
+    site: &mut Site,
+    blocks: &mut Blocks,
+) -> Result<(), Fault>
+    requires { state ≤ STATE_BYTES }
+    ensures report { OnOk result (IsAnswer (F.content files.old) (Pack code.now image.now state form) []) }
+    ensures left { OnOk result (Leaves (Pack code.now image.now state form)
+        (F.content files.old) (F.content files.new)) }
+    ensures noted { OnOk result (IsNoted (Pack code.now image.now state form) blocks.new
+        (F.content files.old) (F.content files.new)) }
+    ensures fault { IfErr result (IsWriteFault F.may_be_one (F.content files.old) (F.failed files.new) (Pack code.now image.now state form)) }
+    ensures kept { OnErr result (F.content files.new ≡ F.content files.old) }
+{
+    spare(alloc, code, image, files)?;
+    let words = site.read(alloc, code, Some(CODE_LIMIT), files)?;
+    let packed = pack(alloc, words.as_slice(), state, form)?;
+    site.write(image, packed.bytes.as_slice(), files)?;
+    *blocks = packed.blocks;
+    Ok(())
 }

@@ -1,9 +1,11 @@
 //! The program as a function of its words, its files and two streams.
 
 ghost use Rattle.std.specs.Prelude.{◌≡◌, ◌≢◌, ◌≤◌, ◌⊎◌, ◌||◌, true, [], IfErr, OnErr, OnOk, map, string_bytes};
-ghost use Rattle.cli.specs.Asks.{Asm, IsInRange, Pack, Run, order_of};
+ghost use Rattle.cli.specs.Asks.{Asm, IsInRange, Run, order_of};
+ghost use Rattle.ordered_images.specs.declared.blocks.Blocks.{Blocks};
+ghost use Rattle.ordered_images.specs.declared.blocks.Blocks.TheVariants.{Kept};
 ghost use Rattle.tracer.specs.Inside.{EndsShort, IsWriteFault};
-ghost use Rattle.tracer.specs.Program.{IsAnswer, IsAnswered, IsCause, IsCutShort, IsDone, IsFault, IsShort, IsTold, Leaves};
+ghost use Rattle.tracer.specs.Program.{IsAnswer, IsAnswered, IsCause, IsCutShort, IsDone, IsFault, IsNoted, IsSaid, IsShort, IsTold, Leaves};
 ghost use Rattle.tracer.specs.declared.fault.Fault.TheVariants.{Memory};
 
 use crate::asm::{SOURCE_LIMIT, asm_at};
@@ -17,13 +19,14 @@ use crate::files::Files;
 use crate::living::live_scenario;
 use crate::machine_code::write_machine_code;
 use crate::own_input::spare;
-use crate::pack::{CODE_LIMIT, pack};
+use crate::pack::write_packed;
 use crate::site::Site;
 use crate::staging::{Staged, stage};
 use crate::stream::Stream;
 use cli::{Request, parse_words};
 use images::FileForm;
 use limits::STATE_BYTES;
+use ordered_images::Blocks;
 use runner::run;
 use scenario::Allowed;
 use std::alloc::Global;
@@ -76,30 +79,6 @@ fn write_image<F: Files>(
     Ok(())
 }
 
-/// Writes the image file of this form of the code in a file, with a state of this length.
-fn write_packed<F: Files>(
-    alloc: Global,
-    code: &str,
-    image: &str,
-    state: u16,
-    form: FileForm,
-    files: &mut F,
-    site: &mut Site,
-) -> Result<(), Fault>
-    requires { state ≤ STATE_BYTES }
-    ensures report { OnOk result (IsAnswer (F.content files.old) (Pack code.now image.now state form) []) }
-    ensures left { OnOk result (Leaves (Pack code.now image.now state form)
-        (F.content files.old) (F.content files.new)) }
-    ensures fault { IfErr result (IsWriteFault F.may_be_one (F.content files.old) (F.failed files.new) (Pack code.now image.now state form)) }
-    ensures kept { OnErr result (F.content files.new ≡ F.content files.old) }
-{
-    spare(alloc, code, image, files)?;
-    let words = site.read(alloc, code, Some(CODE_LIMIT), files)?;
-    let bytes = pack(alloc, words.as_slice(), state, form)?;
-    site.write(image, bytes.as_slice(), files)?;
-    Ok(())
-}
-
 /// Carries out what is asked for without a thread, and puts what is to be printed into an empty text.
 fn answer_alone<F: Files>(
     alloc: Global,
@@ -107,11 +86,15 @@ fn answer_alone<F: Files>(
     files: &mut F,
     site: &mut Site,
     text: &mut String,
+    blocks: &mut Blocks,
 ) -> Result<(), Fault>
     requires range { IsInRange (order_of request) }
     requires empty { string_bytes text.old ≡ [] }
+    requires unsaid { blocks.old ≡ Kept }
     ensures report { OnOk result (IsAnswer (F.content files.old) (order_of request.entry) (string_bytes text.new)) }
     ensures left { OnOk result (Leaves (order_of request.entry)
+        (F.content files.old) (F.content files.new)) }
+    ensures noted { OnOk result (IsNoted (order_of request.entry) blocks.new
         (F.content files.old) (F.content files.new)) }
     ensures fault { IfErr result (IsWriteFault F.may_be_one (F.content files.old) (F.failed files.new) (order_of request.entry)) }
     ensures kept { OnErr result (F.content files.new ≡ F.content files.old) }
@@ -148,7 +131,7 @@ fn answer_alone<F: Files>(
             image,
             state,
             form,
-        } => write_packed(alloc, code, image, state, form, files, site),
+        } => write_packed(alloc, code, image, state, form, files, site, blocks),
         Request::Dis { image } => {
             *text = dis(alloc, image, files, site)?;
             Ok(())
@@ -165,11 +148,15 @@ fn answer<R: Threads + Wait + Sync, F: Files>(
     files: &mut F,
     site: &mut Site,
     text: &mut String,
+    blocks: &mut Blocks,
 ) -> Result<(), Fault>
     requires range { IsInRange (order_of request) }
     requires empty { string_bytes text.old ≡ [] }
+    requires unsaid { blocks.old ≡ Kept }
     ensures report { OnOk result (IsAnswer (F.content files.old) (order_of request.entry) (string_bytes text.new)) }
     ensures left { OnOk result (Leaves (order_of request.entry)
+        (F.content files.old) (F.content files.new)) }
+    ensures noted { OnOk result (IsNoted (order_of request.entry) blocks.new
         (F.content files.old) (F.content files.new)) }
     ensures fault { IfErr result (IsWriteFault F.may_be_one (F.content files.old) (F.failed files.new) (order_of request.entry)) }
     ensures kept { OnErr result (F.content files.new ≡ F.content files.old) }
@@ -183,7 +170,7 @@ fn answer<R: Threads + Wait + Sync, F: Files>(
             workers,
             budget,
         } => live_scenario(rt, alloc, scenario, workers, budget, files, site, text),
-        request => answer_alone(alloc, request, files, site, text),
+        request => answer_alone(alloc, request, files, site, text, blocks),
     }
 }
 
@@ -195,10 +182,12 @@ fn carry_out_alone<S: AsStr, F: Files>(
     files: &mut F,
     site: &mut Site,
     text: &mut String,
+    blocks: &mut Blocks,
 ) -> Result<(), Fault>
-    requires { string_bytes text.old ≡ [] }
+    requires empty { string_bytes text.old ≡ [] }
+    requires unsaid { blocks.old ≡ Kept }
     ensures report { OnOk result (IsAnswered (map S.text words.now)
-        (F.content files.old) (F.content files.new) (string_bytes text.new)) }
+        (F.content files.old) (F.content files.new) (string_bytes text.new) blocks.new) }
     ensures fault { IfErr result (IsCause (map S.text words.now) (F.content files.old) F.may_be_one (F.failed files.new)) }
     ensures kept { OnErr result (F.content files.new ≡ F.content files.old) }
     ensures short { IfErr result (λ f. (string_bytes text.new ≡ [])
@@ -206,7 +195,7 @@ fn carry_out_alone<S: AsStr, F: Files>(
     ensures either { (F.content files.new ≡ F.content files.old) ⊎ (string_bytes text.new ≡ []) }
 {
     let request = parse_words(alloc, words)?;
-    answer_alone(alloc, request, files, site, text)
+    answer_alone(alloc, request, files, site, text, blocks)
 }
 
 /// Carries out what the words ask for, and puts what is to be printed into an empty text.
@@ -217,10 +206,12 @@ fn carry_out<R: Threads + Wait + Sync, S: AsStr, F: Files>(
     files: &mut F,
     site: &mut Site,
     text: &mut String,
+    blocks: &mut Blocks,
 ) -> Result<(), Fault>
-    requires { string_bytes text.old ≡ [] }
+    requires empty { string_bytes text.old ≡ [] }
+    requires unsaid { blocks.old ≡ Kept }
     ensures report { OnOk result (IsAnswered (map S.text words.now)
-        (F.content files.old) (F.content files.new) (string_bytes text.new)) }
+        (F.content files.old) (F.content files.new) (string_bytes text.new) blocks.new) }
     ensures fault { IfErr result (IsCause (map S.text words.now) (F.content files.old) F.may_be_one (F.failed files.new)) }
     ensures kept { OnErr result (F.content files.new ≡ F.content files.old) }
     ensures short { IfErr result (λ f. (string_bytes text.new ≡ [])
@@ -228,7 +219,7 @@ fn carry_out<R: Threads + Wait + Sync, S: AsStr, F: Files>(
     ensures either { (F.content files.new ≡ F.content files.old) ⊎ (string_bytes text.new ≡ []) }
 {
     let request = parse_words(alloc, words)?;
-    answer(rt, alloc, request, files, site, text)
+    answer(rt, alloc, request, files, site, text, blocks)
 }
 
 /// Carries out one command line, given without the program's own name, and answers the exit status:
@@ -244,9 +235,10 @@ pub fn sblog<R: Threads + Wait + Sync, S: AsStr, F: Files, O: Stream, E: Stream>
     out: &mut O,
     err: &mut E,
 ) -> u8
-    // With status 0 the words ask for an order that was carried out, and its text was printed.
-    ensures done { result ≡ 0 → IsDone (map S.text words.now) (F.content files.old) (F.content files.new)
-        (O.contents out.old) (O.contents out.new) × (err.new ≡ err.old) }
+    // With status 0 the words ask for an order that was carried out, and its text was printed; and it was told how the blocks of
+    // the file that `pack` wrote stand, where not as they were given.
+    ensures done { result ≡ 0 → (blocks : Blocks) × IsDone (map S.text words.now) (F.content files.old) (F.content files.new)
+        (O.contents out.old) (O.contents out.new) blocks × IsSaid E.contents E.failed blocks err.old err.new }
     // With every other status they come to a fault of this status, which was told; unless `err` has failed.
     ensures told { result ≢ 0 → IsTold (map S.text words.now) (F.content files.old) F.may_be_one
         (F.failed files.new || O.failed out.new) (E.failed err.new) (E.contents err.old) (E.contents err.new) result }
@@ -258,9 +250,9 @@ pub fn sblog<R: Threads + Wait + Sync, S: AsStr, F: Files, O: Stream, E: Stream>
     ensures status { (result ≡ 0) ⊎ ((2 ≤ result) × (result ≤ 6)) }
 {
     let mut text = String::new(alloc);
-    let mut site = Site::new(alloc);
-    let ended = carry_out(rt, alloc, words, files, &mut site, &mut text);
-    print_or_tell(ended, text.as_str(), &site, out, err)
+    let (mut site, mut blocks) = (Site::new(alloc), Blocks::Kept);
+    let ended = carry_out(rt, alloc, words, files, &mut site, &mut text, &mut blocks);
+    print_or_tell(ended, text.as_str(), &site, blocks, out, err)
 }
 
 /// As [`sblog`], where no thread can be started: `live` ends for want of memory.
@@ -271,9 +263,10 @@ pub fn sblog_alone<S: AsStr, F: Files, O: Stream, E: Stream>(
     out: &mut O,
     err: &mut E,
 ) -> u8
-    // With status 0 the words ask for an order that was carried out, and its text was printed.
-    ensures done { result ≡ 0 → IsDone (map S.text words.now) (F.content files.old) (F.content files.new)
-        (O.contents out.old) (O.contents out.new) × (err.new ≡ err.old) }
+    // With status 0 the words ask for an order that was carried out, and its text was printed; and it was told how the blocks of
+    // the file that `pack` wrote stand, where not as they were given.
+    ensures done { result ≡ 0 → (blocks : Blocks) × IsDone (map S.text words.now) (F.content files.old) (F.content files.new)
+        (O.contents out.old) (O.contents out.new) blocks × IsSaid E.contents E.failed blocks err.old err.new }
     // With every other status they come to a fault of this status, which was told; unless `err` has failed.
     ensures told { result ≢ 0 → IsTold (map S.text words.now) (F.content files.old) F.may_be_one
         (F.failed files.new || O.failed out.new) (E.failed err.new) (E.contents err.old) (E.contents err.new) result }
@@ -285,7 +278,7 @@ pub fn sblog_alone<S: AsStr, F: Files, O: Stream, E: Stream>(
     ensures status { (result ≡ 0) ⊎ ((2 ≤ result) × (result ≤ 6)) }
 {
     let mut text = String::new(alloc);
-    let mut site = Site::new(alloc);
-    let ended = carry_out_alone(alloc, words, files, &mut site, &mut text);
-    print_or_tell(ended, text.as_str(), &site, out, err)
+    let (mut site, mut blocks) = (Site::new(alloc), Blocks::Kept);
+    let ended = carry_out_alone(alloc, words, files, &mut site, &mut text, &mut blocks);
+    print_or_tell(ended, text.as_str(), &site, blocks, out, err)
 }

@@ -38,13 +38,15 @@ pub(crate) enum Seen {
     Between(&'static str, &'static str),
     /// A text of so many lines that ends so.
     Lines(usize, &'static str),
+    /// A text on the stream of faults, though the status is 0.
+    Noted(&'static str),
 }
 
 /// A file's name and bytes.
 pub(crate) type Named = (&'static str, Bytes);
 
 /// A command line, its status, what it shows, and what it leaves in files. It shows that on the stream
-/// of reports where the status is 0, else on the one of faults, and nothing on the other one.
+/// of reports where the status is 0 and nothing is noted, else on the one of faults, and nothing on the other one.
 pub(crate) type Line = (&'static str, u8, Seen, &'static [(&'static str, Seen)]);
 
 /// Files, and lines that are carried out over them one after the other.
@@ -95,7 +97,7 @@ fn has(text: &str, parts: &[&str]) -> bool {
 
 fn is_text(seen: Seen, text: &str) -> bool {
     match seen {
-        Seen::Text(want) => text == want,
+        Seen::Text(want) | Seen::Noted(want) => text == want,
         Seen::Has(parts) => has(text, parts),
         Seen::Tells(part) => text.contains(part),
         Seen::Between(first, last) => text.starts_with(first) && text.ends_with(last),
@@ -117,7 +119,8 @@ fn is_seen(alloc: Global, seen: Seen, bytes: &[u8]) -> Result<bool, AllocError> 
 }
 
 fn is_shown(alloc: Global, ended: &Ended, shown: Seen) -> Result<bool, AllocError> {
-    let (told, silent) = if ended.status == 0 {
+    let is_noted = matches!(&shown, Seen::Noted(_));
+    let (told, silent) = if ended.status == 0 && !is_noted {
         (&ended.out, &ended.err)
     } else {
         (&ended.err, &ended.out)

@@ -34,8 +34,11 @@ impl Write for Short {
     }
 }
 
+/// `ja -1`: the jump leads to itself.
+const LOOP: [u8; 8] = *b"\x05\x00\xff\xff\x00\x00\x00\x00";
+
 /// A line, how much each stream takes, the status, and what each has then.
-const CASES: [(&str, [usize; 2], u8, [&str; 2]); 8] = [
+const CASES: [(&str, [usize; 2], u8, [&str; 2]); 9] = [
     ("check a", [100, 100], 0, ["accepted 6 instructions\n", ""]),
     ("check a", [5, 100], 6, ["accep", "input or output\n"]),
     ("check a", [0, 100], 6, ["", "input or output\n"]),
@@ -54,6 +57,13 @@ const CASES: [(&str, [usize; 2], u8, [&str; 2]); 8] = [
         6,
         ["", "input or output\nb: n"],
     ),
+    // The file is written, whatever becomes of what is said of it.
+    (
+        "pack l a --state 0 --form 3",
+        [0, 12],
+        0,
+        ["", "slot 0 jumps"],
+    ),
 ];
 
 fn with_room(alloc: Global, room: usize) -> Short {
@@ -71,7 +81,8 @@ fn status<R: Threads + Wait + Sync + AllocGlobal>(
     shown: [&str; 2],
 ) -> Result<Option<u8>, Fail> {
     let words: Vec<&str> = line.split_whitespace().collect(rt.alloc())?;
-    let mut files = Folder::new(rt.alloc(), [("a", ADDER.as_slice())].as_slice())?;
+    let named = [("a", ADDER.as_slice()), ("l", LOOP.as_slice())];
+    let mut files = Folder::new(rt.alloc(), named.as_slice())?;
     let (mut out, mut err) = (
         with_room(rt.alloc(), room[0]),
         with_room(rt.alloc(), room[1]),

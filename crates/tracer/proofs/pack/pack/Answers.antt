@@ -1,5 +1,5 @@
 use Rattle.std.proofs.Common.{◌≡◌, ◌≤◌, arith, inr, length, refl, rules, subst}
-use Rattle.images.specs.ImageFile.{IsFile}
+use Rattle.ordered_images.specs.Ordered.{IsFileOf}
 use Rattle.verifier.specs.ImageFile.{IsUnwritten}
 use Rattle.decode.specs.Encoding.{encoding}
 use Rattle.tracer.specs.Pack.{IsPacked, IsUnpacked}
@@ -19,23 +19,23 @@ returns-in_err-insns-clause-refused c =
     (λ f is whole read. subst (λ code. IsUnpacked code f) (read_whole 8192 c.args.code.now whole read short)
     (bytes_refused c.args.code.now c.in_err-insns.field-0.0 f short c.in_err-insns.ensures.refused is))
 
-pub returns-in_err-bytes-clause-refused : goal.returns-in_err-bytes-clause-refused
-returns-in_err-bytes-clause-refused c =
+pub returns-in_err-packed-clause-refused : goal.returns-in_err-packed-clause-refused
+returns-in_err-packed-clause-refused c =
     let short : length c.args.code.now ≤ 8192 = omega arith in
     let code : c.as_slice.result.now ≡ c.in_ok-insns.insns.items = search rules in
-    becomes c.from_residual-in_err-bytes.result _ _ c.from_residual-in_err-bytes.ensures.1
+    becomes c.from_residual-in_err-packed.result _ _ c.from_residual-in_err-packed.ensures.1
     (λ f is whole read. subst (λ code. IsUnpacked code f) (read_whole 8192 c.args.code.now whole read short)
-    (code_unwritten c.args.code.now c.in_ok-insns.insns.items c.in_err-bytes.field-0.0 f c.in_ok-insns.ensures.slots
-    (subst (λ is. IsUnwritten is c.in_err-bytes.field-0.0) code c.in_err-bytes.ensures.refused) is))
+    (code_unwritten c.args.code.now c.in_ok-insns.insns.items c.in_err-packed.field-0.0 f c.in_ok-insns.ensures.slots
+    (subst (λ is. IsUnwritten is c.in_err-packed.field-0.0) code c.in_err-packed.ensures.refused) is))
 
 pub returns-clause-written : goal.returns-clause-written
 returns-clause-written c = λ whole read.
     let short : length c.args.code.now ≤ 8192 = omega arith in
     let code : c.as_slice.result.now ≡ c.in_ok-insns.insns.items = search rules in
     let encoded : c.args.code.now ≡ encoding c.in_ok-insns.insns.items = search rules in
-    subst (λ code. IsPacked code c.args.state c.args.form c.in_ok-bytes.bytes.items) (read_whole 8192 c.args.code.now whole read short)
+    subst (λ code. IsPacked code c.args.state c.args.form c.in_ok-packed.packed.bytes.items c.in_ok-packed.packed.blocks) (read_whole 8192 c.args.code.now whole read short)
     record {
       insns = c.in_ok-insns.insns.items;
       encoded = encoded;
-      file = subst (λ is. IsFile c.args.form is c.args.state c.in_ok-bytes.bytes.items) code c.in_ok-bytes.ensures.written;
+      file = subst (λ is. IsFileOf c.args.form is c.args.state c.in_ok-packed.packed.bytes.items c.in_ok-packed.packed.blocks) code c.in_ok-packed.ensures.written;
     }

@@ -1,0 +1,41 @@
+//! How the blocks of an image's code stand.
+
+use std::fmt;
+
+/// How the blocks of an image's code stand. It prints as a line, or as nothing where they are kept.
+#[derive(Clone, Copy, Debug, PartialEq, Eq)]
+pub enum Blocks {
+    /// As they were given.
+    Kept,
+    /// In another order, in which each jump goes forward.
+    Moved,
+    /// As they were given: slot `from` jumps back to slot `to`, from where ways lead to `from` again.
+    Loops { from: usize, to: usize },
+    /// As they were given: a jump goes back, and no order was found in which none does.
+    Unknown,
+}
+
+impl fmt::Display for Blocks {
+    ghost use Rattle.std.specs.Prelude.{Some};
+    ghost use Rattle.ordered_images.specs.Blocks.{blocks_text};
+
+    ghost output = { λ b. Some (blocks_text b) };
+
+    fn fmt<W: fmt::Write>(&self, f: &mut fmt::Formatter<W>) -> fmt::Result {
+        match self {
+            Blocks::Kept => Ok(()),
+            Blocks::Moved => writeln!(
+                f,
+                "the blocks stand in another order, in which each jump goes forward; slots are counted in it"
+            ),
+            Blocks::Loops { from, to } => writeln!(
+                f,
+                "slot {from} jumps back to slot {to} in a loop, which is refused by V1: give it a known length, and put unrolled above it"
+            ),
+            Blocks::Unknown => writeln!(
+                f,
+                "V1 refuses the code, and no order of its blocks was found in which each jump goes forward"
+            ),
+        }
+    }
+}

@@ -1,0 +1,111 @@
+//! Code to image files, its blocks in another order where that helps.
+
+ghost use Rattle.std.specs.Prelude.{◌≤◌, ◌↔◌, IfErr, IfOk, IsTrue, length};
+ghost use Rattle.std.specs.List.{AllByRecursion};
+ghost use Rattle.decode.specs.Encoding.{Fits};
+ghost use Rattle.decode.specs.Slots.{slots_of};
+ghost use Rattle.images.specs.ImageFile.{IsFile};
+ghost use Rattle.images.specs.declared.file_form.FileForm.TheVariants.{Sbi3};
+ghost use Rattle.verifier.specs.ImageFile.{IsUnwritten};
+ghost use Rattle.ordered_images.specs.Ordered.{BreaksV1, IsOrdered};
+
+use crate::blocks::Blocks;
+use block_order::{Order, order_blocks};
+use decode::Insn;
+use images::{FileForm, file};
+use limits::{SLOTS, STATE_BYTES};
+use regtypes::Rule;
+use span_verifier::{VerifyError, verify};
+use std::alloc::{AllocError, Global};
+use verifier::ImageError;
+
+/// An image file, and how the blocks of its code stand.
+#[derive(Debug, Drop)]
+pub struct Ordered {
+    pub bytes: Vec<u8>,
+    pub blocks: Blocks,
+}
+
+/// Whether the verifier of form 3 refuses code by V1: a jump doesn't lead to a later slot of it.
+fn breaks_v1(alloc: Global, code: &[Insn], state_len: u16) -> Result<bool, AllocError>
+    requires slots { length (slots_of code.now) ≤ SLOTS }
+    requires fits { AllByRecursion Fits code.now }
+    ensures { IfOk result (λ yes. IsTrue yes ↔ BreaksV1 code.now state_len) }
+{
+    match verify(alloc, code, state_len) {
+        Ok(_) => Ok(false),
+        Err(VerifyError::Fault { rule, .. }) => Ok(rule == Rule::V1),
+        Err(VerifyError::Memory) => Err(AllocError),
+    }
+}
+
+/// The file of form 3, where that of the code as it was given has these bytes.
+fn span_file(
+    alloc: Global,
+    code: &[Insn],
+    state_len: u16,
+    bytes: Vec<u8>,
+) -> Result<Ordered, ImageError>
+    requires state { state_len ≤ STATE_BYTES }
+    requires file { IsFile Sbi3 code.now state_len bytes.items }
+    ensures written { IfOk result (IsOrdered Sbi3 code.now state_len) }
+    ensures refused { IfErr result (IsUnwritten code.now) }
+{
+    let is_refused = match breaks_v1(alloc, code, state_len) {
+        Ok(is_refused) => is_refused,
+        Err(_) => return Err(ImageError::Memory),
+    };
+    if !is_refused {
+        return Ok(Ordered {
+            bytes,
+            blocks: Blocks::Kept,
+        });
+    }
+    let order = match order_blocks(alloc, code) {
+        Ok(order) => order,
+        Err(_) => return Err(ImageError::Memory),
+    };
+    match order {
+        Order::Forward => Ok(Ordered {
+            bytes,
+            blocks: Blocks::Kept,
+        }),
+        Order::Moved(placed) => {
+            let bytes = file(alloc, FileForm::Sbi3, placed.insns.as_slice(), state_len)?;
+            Ok(Ordered {
+                bytes,
+                blocks: Blocks::Moved,
+            })
+        }
+        Order::Loops { from, to } => Ok(Ordered {
+            bytes,
+            blocks: Blocks::Loops { from, to },
+        }),
+        Order::Unknown => Ok(Ordered {
+            bytes,
+            blocks: Blocks::Unknown,
+        }),
+    }
+}
+
+/// The image file of this form, of code with a state of this length, at most 1,024 bytes. In form 3 the blocks of code that V1
+/// refuses stand in another order, if one is found in which each jump goes forward; all other code stands as it was given.
+pub fn ordered_file(
+    alloc: Global,
+    form: FileForm,
+    code: &[Insn],
+    state_len: u16,
+) -> Result<Ordered, ImageError>
+    requires { state_len ≤ STATE_BYTES }
+    ensures written { IfOk result (IsOrdered form code.now state_len) }
+    ensures refused { IfErr result (IsUnwritten code.now) }
+{
+    let bytes = file(alloc, form, code, state_len)?;
+    match form {
+        FileForm::Sbi3 => span_file(alloc, code, state_len, bytes),
+        _ => Ok(Ordered {
+            bytes,
+            blocks: Blocks::Kept,
+        }),
+    }
+}

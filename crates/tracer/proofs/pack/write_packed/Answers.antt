@@ -1,0 +1,54 @@
+use Rattle.std.proofs.Common.{◌≡◌, ◌∙◌, List, ℕ, inl, refl, rules, subst, sym}
+use Rattle.tracer.specs.Pack.{IsPacked, IsUnpacked}
+use Rattle.tracer.specs.Program.{FaultOf}
+use Rattle.tracer.proofs.CauseLemmas.{becomes, reading_fault}
+use Rattle.tracer.proofs.pack.write_packed.Goals as goal
+
+pub returns-in_err-packed-clause-fault : goal.returns-in_err-packed-clause-fault
+returns-in_err-packed-clause-fault g c =
+    becomes c.from_residual-in_err-packed.result _ _ c.from_residual-in_err-packed.ensures.1
+    (λ f is. inl (subst (FaultOf (g.F.Files.content c.args.files.now) (g.F.Files.failed c.read.new.files) c.args.code.now IsUnpacked) (sym is)
+    (reading_fault (g.F.Files.content c.args.files.now) (g.F.Files.failed c.read.new.files) c.args.code.now IsUnpacked c.in_err-packed.field-0.0
+    c.in_err-packed.ensures.kind (λ known there. c.in_err-packed.ensures.refused known (c.as_slice.ensures.value ∙ c.in_ok-words.ensures.bytes known there)))))
+
+pub returns-clause-report : goal.returns-clause-report
+returns-clause-report g c = λ known there.
+    let packed = c.in_ok-packed.packed in (
+      (
+        packed.bytes.items,
+        packed.blocks,
+        c.in_ok-packed.ensures.written known (c.as_slice.ensures.value ∙ c.in_ok-words.ensures.bytes known there),
+      ),
+      refl,
+    )
+
+pub returns-clause-left : goal.returns-clause-left
+returns-clause-left g c =
+    let packed = c.in_ok-packed.packed in
+    record {
+      apart = c.in_ok-spare.ensures.apart;
+      file = λ known before there here. (
+        packed.bytes.items,
+        (packed.blocks, c.in_ok-packed.ensures.written known (c.as_slice.ensures.value ∙ c.in_ok-words.ensures.bytes known there)),
+        search rules,
+      );
+      others = λ other differs. search rules;
+    }
+
+pub returns-clause-noted : goal.returns-clause-noted
+returns-clause-noted g c =
+    let packed = c.in_ok-packed.packed in (
+      record {
+        apart = c.in_ok-spare.ensures.apart;
+        file = λ known before there here. (
+          packed.bytes.items,
+          c.in_ok-packed.ensures.written known (c.as_slice.ensures.value ∙ c.in_ok-words.ensures.bytes known there),
+          search rules,
+        );
+        others = λ other differs. search rules;
+      },
+      λ known there. (
+        packed.bytes.items,
+        c.in_ok-packed.ensures.written known (c.as_slice.ensures.value ∙ c.in_ok-words.ensures.bytes known there),
+      ),
+    )
