@@ -47,7 +47,7 @@ pub fn is_seat(who: Who) -> bool
 }
 
 /// The handler of a file that isn't of form 2, for a state of this length.
-fn open(alloc: Global, file: &[u8], state: &[u8]) -> Result<AnyHandler, Refusal>
+fn load_callable(alloc: Global, file: &[u8], state: &[u8]) -> Result<AnyHandler, Refusal>
     ensures file { IfOk result (λ handler. IsTypableFile (the_image handler) file.now) }
     ensures form { IfOk result (λ handler. IsCallableForm (the_image handler)) }
     ensures state { IfOk result (λ handler. length state.now ≡ (the_image handler).len) }
@@ -88,7 +88,7 @@ pub fn call(
     if out.len() < REPORT_LIMIT {
         return Err(Refusal::Room);
     }
-    let handler = open(alloc, file, state)?;
+    let handler = load_callable(alloc, file, state)?;
     let mut effects = Effects::new();
     call_alone(&handler, &mut effects, state, message, who, out, 0);
     Ok(())
@@ -117,7 +117,7 @@ pub fn call_many(
     if out.len() / REPORT_LIMIT < messages.len() / MESSAGE {
         return Err(Refusal::Room);
     }
-    let mut handler = Handler::new(open(alloc, file, state)?);
+    let mut handler = Handler::new(load_callable(alloc, file, state)?);
     handler.call_each(state, messages, who, out);
     Ok(())
 }

@@ -18,9 +18,8 @@ use handlers::Handler;
 use helpers::Payload;
 use lengths::SIZED_ECHO;
 use limits::SEATS;
-use replay::Done;
 use script::Step;
-use sessions::{Seat, Session};
+use sessions::{Done, Seat, Session};
 use std::alloc::Global;
 use std::marker::Brand;
 use std::process::Abort;
@@ -31,7 +30,7 @@ use world::{Answer, Call, Entry, PhaseName, Refusal};
 
 /// A session whose calls are made by nobody, as a test writes them. A refused call answers its number.
 #[derive(Drop)]
-struct Stage<L: Ledger> {
+struct Harness<L: Ledger> {
     session: Session<L>,
     seat: Seat<L>,
     /// The result of the job that was started last, until it is accepted.
@@ -71,7 +70,7 @@ impl Cast {
     }
 }
 
-/// What is played on a stage.
+/// What is played in a harness.
 #[derive(Clone, Copy)]
 enum Scene<'a> {
     Script(&'a [Step]),
@@ -90,7 +89,7 @@ struct Played {
     last: Option<Done>,
 }
 
-impl<L: Ledger> Stage<L> {
+impl<L: Ledger> Harness<L> {
     fn plays(&mut self, scene: Scene<'_>) -> bool {
         match scene {
             Scene::Script(script) => self.first_wrong(script).is_none(),
@@ -130,7 +129,7 @@ fn perform<L: Ledger>(session: Session<L>, late: Option<Done>, scene: Scene<'_>)
             last: late,
         };
     };
-    let mut stage = Stage {
+    let mut harness = Harness {
         session,
         seat,
         last: None,
@@ -138,8 +137,8 @@ fn perform<L: Ledger>(session: Session<L>, late: Option<Done>, scene: Scene<'_>)
     };
     Played {
         refused: 0,
-        is_right: stage.plays(scene),
-        last: stage.last.take(),
+        is_right: harness.plays(scene),
+        last: harness.last.take(),
     }
 }
 
@@ -178,7 +177,7 @@ fn survive(rt: &impl Abort, alloc: Global, course: &Course) -> Result<(), Fail> 
     Ok(())
 }
 
-impl<L: Ledger> Stage<L> {
+impl<L: Ledger> Harness<L> {
     fn entries(&self) -> usize {
         self.session.service().journal().len()
     }

@@ -3,5 +3,5 @@ mod CauseLemmas
 mod EndLemmas
 mod HeadLemmas
 mod JudgedLemmas
+mod LoadLemmas
 mod PackLemmas
-mod StageLemmas

@@ -18,7 +18,7 @@ use Rattle.tracer.specs.Fault.{fault_of_image, status_of}
 use Rattle.tracer.specs.Files.{Content}
 use Rattle.tracer.specs.Program.{IsFault, IsShort, Sameness, Tells, WritesOver}
 use Rattle.tracer.specs.Said.{IsToldAs}
-use Rattle.tracer.specs.Stage.{AreLoaded, AreRefused}
+use Rattle.tracer.specs.Loading.{AreLoaded, AreRefused}
 use Rattle.tracer.specs.declared.fault.Fault.{Fault}
 use Rattle.tracer.specs.declared.fault.Fault.TheVariants.{Usage, Memory, InputOutput}
 
@@ -67,8 +67,8 @@ IsReadAs content allowed path s =
     (bytes : List ℕ) × ((known : List ℕ) → content path ≡ Some known → bytes ≡ known) × IsScenario allowed bytes s
 
 -- the same, with the images of its processes
-abbrev pub IsStagedAs : Content → Allowed → List ℕ → Scenario → List TheImage → Type 0
-IsStagedAs content allowed path s images = IsReadAs content allowed path s × AreLoaded content s.processes.entries images
+abbrev pub IsLoadedAs : Content → Allowed → List ℕ → Scenario → List TheImage → Type 0
+IsLoadedAs content allowed path s images = IsReadAs content allowed path s × AreLoaded content s.processes.entries images
 
 -- the words ask for a run that memory ended, which has this text
 abbrev pub EndsShort : List (List ℕ) → Content → List ℕ → Type 0

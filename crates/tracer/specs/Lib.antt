@@ -8,10 +8,10 @@ pub mod Files
 pub mod Inside
 pub mod Judged
 pub mod Live
+pub mod Loading
 pub mod Native
 pub mod Pack
 pub mod Program
 pub mod Report
 pub mod Run
 pub mod Said
-pub mod Stage

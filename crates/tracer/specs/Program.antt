@@ -24,7 +24,7 @@ use Rattle.tracer.specs.Pack.{IsPacked, IsUnpacked}
 use Rattle.tracer.specs.Report.{IsReport, path_of}
 use Rattle.tracer.specs.Run.{IsCutText}
 use Rattle.tracer.specs.Said.{IsToldAs}
-use Rattle.tracer.specs.Stage.{IsUnstaged}
+use Rattle.tracer.specs.Loading.{IsUnloadable}
 use Rattle.tracer.specs.declared.fault.Fault.{Fault}
 use Rattle.tracer.specs.declared.fault.Fault.TheVariants.{Usage, Memory, InputOutput}
 
@@ -90,9 +90,9 @@ IsSaid contents failed blocks s s' = Appends (contents s) (contents s') (blocks_
 
 -- the fault is the reason why the order's file, with these bytes, is refused; or an image that a scenario names
 abbrev pub IsRefused : Content → Order → List ℕ → Fault → Type 0
-IsRefused content (Run scenario) bytes f = IsUnstaged content All bytes f
-IsRefused content (Live scenario workers budget) bytes f = IsUnstaged content Inputs bytes f
-IsRefused content (Draw scenario picture only) bytes f = IsUnstaged content All bytes f
+IsRefused content (Run scenario) bytes f = IsUnloadable content All bytes f
+IsRefused content (Live scenario workers budget) bytes f = IsUnloadable content Inputs bytes f
+IsRefused content (Draw scenario picture only) bytes f = IsUnloadable content All bytes f
 IsRefused content (Check image) bytes f = IsUnaccepted bytes f
 IsRefused content (Asm source image state form) bytes f = IsUnassembled bytes f
 IsRefused content (Explain image) bytes f = IsUnexplained bytes f
@@ -145,6 +145,12 @@ pub record IsCutShort (words : List (List ℕ)) (content : Content) (out out' : 
   pub text : List ℕ
   pub short : IsShort content order text
   pub printed : Appends out out' text
+
+-- the stream for reports has failed; or memory ended a run, of which the lines until then were printed. `failed` says whether that
+-- stream has failed, `deaf` whether the one for faults has, after which the status says nothing of memory
+abbrev pub IsHalfPrinted : List (List ℕ) → Content → Bool → Bool → Option (List ℕ) → Option (List ℕ) → ℕ → Type 0
+IsHalfPrinted words content failed deaf out out' status =
+    (failed ≡ true) ⊎ (((status ≡ 5) ⊎ (deaf ≡ true)) × IsCutShort words content out out')
 
 -- the fault was told in this text, with its status; or the stream for faults has failed, and left a status of its own
 abbrev pub Tells : Fault → List ℕ → Bool → Option (List ℕ) → Option (List ℕ) → ℕ → Type 0

@@ -6,18 +6,18 @@ use Rattle.scenario.specs.Process.{names_of}
 use Rattle.scenario.specs.declared.order.Allowed.TheVariants.{All}
 use Rattle.scenario.specs.declared.scenario.Scenario.{Scenario}
 use Rattle.tracer.specs.Files.{Content}
-use Rattle.tracer.specs.Stage.{IsStaged}
+use Rattle.tracer.specs.Loading.{IsScenarioWithImages}
 
 -- the bytes are a scenario, whose run with the images of its processes has this text
 pub record IsRunText (content : Content) (bytes text : List ℕ) : Type 0 where
   pub scenario : Scenario
   pub images : List TheImage
-  pub staged : IsStaged content All bytes scenario images
+  pub loaded : IsScenarioWithImages content All bytes scenario images
   pub run : IsRun (names_of scenario.processes) images scenario.steps.items [] text
 
 -- the same of its first orders, and of the lines of those that were refused
 pub record IsCutText (content : Content) (bytes text : List ℕ) : Type 0 where
   pub scenario : Scenario
   pub images : List TheImage
-  pub staged : IsStaged content All bytes scenario images
+  pub loaded : IsScenarioWithImages content All bytes scenario images
   pub cut : IsCut images scenario.steps.items [] text

@@ -8,9 +8,9 @@ ghost use Rattle.tracer.specs.Program.{IsAnswer, Leaves, SparesImages};
 
 use crate::fault::Fault;
 use crate::files::Files;
+use crate::loading::{Loaded, load_scenario};
 use crate::own_input::{spare, spare_images};
 use crate::site::Site;
-use crate::staging::{Staged, stage};
 use diagram::draw;
 use runner::{Chronicle, chronicle_of};
 use scenario::Allowed;
@@ -32,7 +32,7 @@ fn picture_of<F: Files>(
     ensures same { F.content files.new ≡ F.content files.old }
     ensures fault { IfErr result (IsWriteFault F.may_be_one (F.content files.old) (F.failed files.new) (Draw path.now place.now only_messages)) }
 {
-    let Staged { scenario, images } = stage(alloc, path, Allowed::All, files, site)?;
+    let Loaded { scenario, images } = load_scenario(alloc, path, Allowed::All, files, site)?;
     spare_images(alloc, &scenario.processes, place, files)?;
     let Chronicle { entries, moments } = chronicle_of(alloc, &scenario, images)?;
     let text = draw(

@@ -28,13 +28,13 @@ mod files;
 mod judged;
 mod kind;
 mod living;
+mod loading;
 mod machine_code;
 mod own_input;
 mod pack;
 mod program;
 mod said;
 mod site;
-mod staging;
 mod stream;
 
 pub use check::Accepted;

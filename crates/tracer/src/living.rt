@@ -6,8 +6,8 @@ ghost use Rattle.tracer.specs.Program.{IsAnswer, IsFault};
 
 use crate::fault::Fault;
 use crate::files::Files;
+use crate::loading::{Loaded, load_scenario};
 use crate::site::Site;
-use crate::staging::{Staged, stage};
 use limits::WORKERS;
 use runner::live;
 use scenario::Allowed;
@@ -34,7 +34,7 @@ pub fn live_scenario<R: Threads + Wait + Sync, F: Files>(
     ensures fault { IfErr result (IsFault (F.content files.old) (F.failed files.new) (Live path.now workers budget)) }
     ensures none { OnErr result (string_bytes text.new ≡ []) }
 {
-    let Staged { scenario, images } = stage(alloc, path, Allowed::Inputs, files, site)?;
+    let Loaded { scenario, images } = load_scenario(alloc, path, Allowed::Inputs, files, site)?;
     live(rt, alloc, &scenario, images, workers, budget, text)?;
     Ok(())
 }

@@ -5,7 +5,7 @@ ghost use Rattle.cli.specs.Asks.{Asm, IsInRange, Run, order_of};
 ghost use Rattle.ordered_images.specs.declared.blocks.Blocks.{Blocks};
 ghost use Rattle.ordered_images.specs.declared.blocks.Blocks.TheVariants.{Kept};
 ghost use Rattle.tracer.specs.Inside.{EndsShort, IsWriteFault};
-ghost use Rattle.tracer.specs.Program.{IsAnswer, IsAnswered, IsCause, IsCutShort, IsDone, IsFault, IsNoted, IsSaid, IsShort, IsTold, Leaves};
+ghost use Rattle.tracer.specs.Program.{IsAnswer, IsAnswered, IsCause, IsDone, IsFault, IsHalfPrinted, IsNoted, IsSaid, IsShort, IsTold, Leaves};
 ghost use Rattle.tracer.specs.declared.fault.Fault.TheVariants.{Memory};
 
 use crate::asm::{SOURCE_LIMIT, asm_at};
@@ -17,11 +17,11 @@ use crate::explaining::explain_image;
 use crate::fault::Fault;
 use crate::files::Files;
 use crate::living::live_scenario;
+use crate::loading::{Loaded, load_scenario};
 use crate::machine_code::write_machine_code;
 use crate::own_input::spare;
 use crate::pack::write_packed;
 use crate::site::Site;
-use crate::staging::{Staged, stage};
 use crate::stream::Stream;
 use cli::{Request, parse_words};
 use images::FileForm;
@@ -50,7 +50,7 @@ fn run_scenario<F: Files>(
     ensures short { IfErr result (λ f. (string_bytes text.new ≡ [])
         ⊎ ((f ≡ Memory) × IsShort (F.content files.old) (Run path.now) (string_bytes text.new))) }
 {
-    let Staged { scenario, images } = stage(alloc, path, Allowed::All, files, site)?;
+    let Loaded { scenario, images } = load_scenario(alloc, path, Allowed::All, files, site)?;
     run(alloc, &scenario, images, text)?;
     Ok(())
 }
@@ -244,9 +244,8 @@ pub fn sblog<R: Threads + Wait + Sync, S: AsStr, F: Files, O: Stream, E: Stream>
         (F.failed files.new || O.failed out.new) (E.failed err.new) (E.contents err.old) (E.contents err.new) result }
     // Then no file has changed, and nothing was printed but of a run that memory ended; unless `out` has failed.
     ensures kept { result ≢ 0 → F.content files.new ≡ F.content files.old }
-    ensures silent { result ≢ 0 → (out.new ≡ out.old) ⊎ ((O.failed out.new ≡ true)
-        ⊎ (((result ≡ 5) ⊎ (E.failed err.new ≡ true))
-        × IsCutShort (map S.text words.now) (F.content files.old) (O.contents out.old) (O.contents out.new))) }
+    ensures silent { result ≢ 0 → (out.new ≡ out.old) ⊎ IsHalfPrinted (map S.text words.now) (F.content files.old)
+        (O.failed out.new) (E.failed err.new) (O.contents out.old) (O.contents out.new) result }
     ensures status { (result ≡ 0) ⊎ ((2 ≤ result) × (result ≤ 6)) }
 {
     let mut text = String::new(alloc);
@@ -272,9 +271,8 @@ pub fn sblog_alone<S: AsStr, F: Files, O: Stream, E: Stream>(
         (F.failed files.new || O.failed out.new) (E.failed err.new) (E.contents err.old) (E.contents err.new) result }
     // Then no file has changed, and nothing was printed but of a run that memory ended; unless `out` has failed.
     ensures kept { result ≢ 0 → F.content files.new ≡ F.content files.old }
-    ensures silent { result ≢ 0 → (out.new ≡ out.old) ⊎ ((O.failed out.new ≡ true)
-        ⊎ (((result ≡ 5) ⊎ (E.failed err.new ≡ true))
-        × IsCutShort (map S.text words.now) (F.content files.old) (O.contents out.old) (O.contents out.new))) }
+    ensures silent { result ≢ 0 → (out.new ≡ out.old) ⊎ IsHalfPrinted (map S.text words.now) (F.content files.old)
+        (O.failed out.new) (E.failed err.new) (O.contents out.old) (O.contents out.new) result }
     ensures status { (result ≡ 0) ⊎ ((2 ≤ result) × (result ≤ 6)) }
 {
     let mut text = String::new(alloc);

@@ -1,7 +1,7 @@
 //! Courses: lists of calls that a crash cuts off after each one, and how they end nevertheless.
 
 use super::script::{Act, Step};
-use super::{Cast, Stage};
+use super::{Cast, Harness};
 use std::sync::ledger::Ledger;
 use world::PhaseName;
 
@@ -14,7 +14,7 @@ pub(crate) struct Course {
     pub(crate) end: &'static [Step],
 }
 
-impl<L: Ledger> Stage<L> {
+impl<L: Ledger> Harness<L> {
     /// Whether the course ends as it should where this failure comes after so many of its calls.
     pub(crate) fn survives(&mut self, course: &Course, after: usize, failure: &[Step]) -> bool {
         let mut is_missing = false;

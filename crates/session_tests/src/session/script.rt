@@ -1,15 +1,15 @@
-//! Scripts: what is done on a stage, and what is to be seen there.
+//! Scripts: what is done in a harness, and what is to be seen there.
 
 ghost use Rattle.machine.specs.Stepping.{TakesNoResult};
 
-use super::{Stage, is_five, word};
+use super::{Harness, is_five, word};
 use helpers::Payload;
 use limits::PAYLOAD_BYTES;
-use replay::{Done, Job};
+use sessions::{Done, Job};
 use std::sync::ledger::Ledger;
 use world::{Answer, Call, Feed, PhaseName, Refusal};
 
-/// What is done on a stage.
+/// What is done in a harness.
 #[derive(Clone, Copy)]
 pub(crate) enum Act {
     /// A word for a process, with a new feed number.
@@ -97,7 +97,7 @@ pub(crate) enum Step {
     IsExact(bool),
 }
 
-impl<L: Ledger> Stage<L> {
+impl<L: Ledger> Harness<L> {
     /// The place of the first step that goes wrong, from 0.
     pub(crate) fn first_wrong(&mut self, script: &[Step]) -> Option<usize> {
         for (place, step) in script.iter().enumerate() {
@@ -153,7 +153,7 @@ impl<L: Ledger> Stage<L> {
     }
 }
 
-impl<L: Ledger> Stage<L> {
+impl<L: Ledger> Harness<L> {
     fn repeats(&mut self, first: Act, second: Act, times: u32) -> bool {
         for _ in 0..times {
             if self.act(first).is_err() || self.act(second).is_err() {

@@ -1,7 +1,6 @@
 //! Turnstiles that look at what goes on beside a job.
 
-use replay::{Done, Job};
-use sessions::{Session, Slip};
+use sessions::{Done, Job, Session, Slip};
 use std::sync::atomic::{AtomicBool, AtomicU32, Ordering};
 use std::sync::ledger::Ledger;
 use std::sync::{Mutex, Wait};

@@ -11,6 +11,6 @@ returns-then-messages-ne0-clause-refused c = no_messages _ _ _ _ _ (search rules
 pub returns-then-out-messages-clause-refused : goal.returns-then-out-messages-clause-refused
 returns-then-out-messages-clause-refused c = no_room _ _ _ _ _ (search rules) (search rules) (search rules)
 
-pub returns-in_err-open-clause-refused : goal.returns-in_err-open-clause-refused
-returns-in_err-open-clause-refused c =
+pub returns-in_err-load_callable-clause-refused : goal.returns-in_err-load_callable-clause-refused
+returns-in_err-load_callable-clause-refused c =
     no_result _ _ _ _ _ _ (search rules) (search rules) (search rules) (search rules)

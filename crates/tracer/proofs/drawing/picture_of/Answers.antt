@@ -8,13 +8,13 @@ use Rattle.world.specs.declared.entry.Entry.{Entry}
 use Rattle.tracer.specs.Inside.{IsOwnInput}
 use Rattle.tracer.specs.Program.{IsImagePath, WritesOver}
 use Rattle.tracer.proofs.CauseLemmas.{becomes, own_input_of}
-use Rattle.tracer.proofs.StageLemmas.{are_few, staged}
+use Rattle.tracer.proofs.LoadLemmas.{are_few, loaded_scenario}
 use Rattle.tracer.proofs.drawing.picture_of.Goals as goal
 
 pub chronicle_of-requires : goal.chronicle_of-requires
 chronicle_of-requires g c =
     are_few (g.F.Files.content c.args.files.now) All c.args.path.now c.in_ok-scenario.field-0.scenario (map image_in c.in_ok-scenario.field-0.images.items)
-    c.in_ok-scenario.ensures.staged
+    c.in_ok-scenario.ensures.loaded
 
 pub returns-clause-drawn : goal.returns-clause-drawn
 returns-clause-drawn g c = λ known there.
@@ -26,7 +26,7 @@ returns-clause-drawn g c = λ known there.
     record {
       scenario = s;
       images = images;
-      staged = staged (g.F.Files.content c.args.files.now) All c.args.path.now known s images c.in_ok-scenario.ensures.staged there;
+      loaded = loaded_scenario (g.F.Files.content c.args.files.now) All c.args.path.now known s images c.in_ok-scenario.ensures.loaded there;
       entries = entries;
       moments = moments;
       chronicle = c.in_ok-entries.ensures;
@@ -43,7 +43,7 @@ returns-in_err-spare_images-clause-fault g c =
     becomes c.from_residual-in_err-spare_images.result _ _ c.from_residual-in_err-spare_images.ensures.1
     (λ f is. inr (own_input_of ((path : List ℕ) × IsImagePath s.processes.entries path × (one path c.args.place.now ≡ true))
     (WritesOver one content (Draw c.args.path.now c.args.place.now c.args.only_messages)) f
-    (λ over. inr (λ known there. (s, (staged content All c.args.path.now known s images c.in_ok-scenario.ensures.staged there).written, over.0, over.1, over.2)))
+    (λ over. inr (λ known there. (s, (loaded_scenario content All c.args.path.now known s images c.in_ok-scenario.ensures.loaded there).written, over.0, over.1, over.2)))
     (subst (IsOwnInput ((path : List ℕ) × IsImagePath s.processes.entries path × (one path c.args.place.now ≡ true))) (sym is) c.in_err-spare_images.ensures.fault)))
 
 pub returns-clause-spared : goal.returns-clause-spared
@@ -51,6 +51,6 @@ returns-clause-spared g c = λ known there.
     let s = c.in_ok-scenario.field-0.scenario in
     let images = map image_in c.in_ok-scenario.field-0.images.items in (
       s,
-      (staged (g.F.Files.content c.args.files.now) All c.args.path.now known s images c.in_ok-scenario.ensures.staged there).written,
+      (loaded_scenario (g.F.Files.content c.args.files.now) All c.args.path.now known s images c.in_ok-scenario.ensures.loaded there).written,
       c.in_ok-spare_images.ensures.apart,
     )

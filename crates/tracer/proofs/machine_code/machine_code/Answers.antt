@@ -2,7 +2,7 @@ use Rattle.std.proofs.Common.{subst, sym}
 use Rattle.native.specs.Correct.{IsNative}
 use Rattle.tracer.specs.Inside.{LoadFault}
 use Rattle.tracer.proofs.CauseLemmas.{becomes}
-use Rattle.tracer.proofs.StageLemmas.{load_fault}
+use Rattle.tracer.proofs.LoadLemmas.{load_fault}
 use Rattle.tracer.proofs.machine_code.machine_code.Goals as goal
 
 pub returns-in_err-image-clause-fault : goal.returns-in_err-image-clause-fault

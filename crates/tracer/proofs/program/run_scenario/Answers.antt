@@ -5,18 +5,18 @@ use Rattle.runner.specs.Run.{IsCut, IsRun}
 use Rattle.scenario.specs.Process.{names_of}
 use Rattle.scenario.specs.declared.order.Allowed.TheVariants.{All}
 use Rattle.tracer.proofs.CauseLemmas.{becomes}
-use Rattle.tracer.proofs.StageLemmas.{are_few, as_many, staged}
+use Rattle.tracer.proofs.LoadLemmas.{are_few, as_many, loaded_scenario}
 use Rattle.tracer.proofs.program.run_scenario.Goals as goal
 
 pub run-requires-clause-few : goal.run-requires-clause-few
 run-requires-clause-few g c =
     are_few (g.F.Files.content c.args.files.now) All c.args.path.now c.in_ok-scenario.field-0.scenario (map image_in c.in_ok-scenario.field-0.images.items)
-    c.in_ok-scenario.ensures.staged
+    c.in_ok-scenario.ensures.loaded
 
 pub run-requires-clause-named : goal.run-requires-clause-named
 run-requires-clause-named g c =
     as_many (g.F.Files.content c.args.files.now) c.in_ok-scenario.field-0.scenario.processes.entries (map image_in c.in_ok-scenario.field-0.images.items)
-    c.in_ok-scenario.ensures.staged.1 ∙ length-map c.in_ok-scenario.field-0.images.items image_in
+    c.in_ok-scenario.ensures.loaded.1 ∙ length-map c.in_ok-scenario.field-0.images.items image_in
 
 pub returns-in_err-run-clause-short : goal.returns-in_err-run-clause-short
 returns-in_err-run-clause-short g c =
@@ -28,7 +28,7 @@ returns-in_err-run-clause-short g c =
       λ known there. record {
         scenario = s;
         images = images;
-        staged = staged (g.F.Files.content c.args.files.now) All c.args.path.now known s images c.in_ok-scenario.ensures.staged there;
+        loaded = loaded_scenario (g.F.Files.content c.args.files.now) All c.args.path.now known s images c.in_ok-scenario.ensures.loaded there;
         cut = subst (λ (old : List ℕ). IsCut images s.steps.items old (string_bytes c.run.new.out)) c.requires c.in_err-run.ensures.short;
       },
     ))
@@ -40,6 +40,6 @@ returns-clause-report g c = λ known there.
     record {
       scenario = s;
       images = images;
-      staged = staged (g.F.Files.content c.args.files.now) All c.args.path.now known s images c.in_ok-scenario.ensures.staged there;
+      loaded = loaded_scenario (g.F.Files.content c.args.files.now) All c.args.path.now known s images c.in_ok-scenario.ensures.loaded there;
       run = subst (λ (old : List ℕ). IsRun (names_of s.processes) images s.steps.items old (string_bytes c.run.new.out)) c.requires c.in_ok-run.ensures.done;
     }

@@ -2,7 +2,7 @@ use Rattle.std.proofs.Common.{◌≡◌, ◌∙◌, List, ℕ, inl, refl, rules,
 use Rattle.tracer.specs.Asm.{IsUnassembled}
 use Rattle.tracer.specs.Program.{FaultOf}
 use Rattle.tracer.proofs.CauseLemmas.{becomes, plain_of, reading_fault}
-use Rattle.tracer.proofs.StageLemmas.{plain_fault}
+use Rattle.tracer.proofs.LoadLemmas.{plain_fault}
 use Rattle.tracer.proofs.program.write_image.Goals as goal
 
 pub returns-in_err-text-clause-fault : goal.returns-in_err-text-clause-fault

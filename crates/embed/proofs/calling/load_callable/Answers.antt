@@ -4,7 +4,7 @@ use Rattle.handlers.specs.Image.{TheImage, the_image}
 use Rattle.embed.specs.declared.refusal.Refusal.TheVariants.{Form, State}
 use Rattle.embed.specs.Calls.{IsTypableFile, IsCallableForm}
 use Rattle.embed.specs.Exports.{IsTypable, IsCallable, IsFormRefusal, IsStateRefusal}
-use Rattle.embed.proofs.calling.open.Goals as goal
+use Rattle.embed.proofs.calling.load_callable.Goals as goal
 
 pub returns-then-eq-clause-refused : goal.returns-then-eq-clause-refused
 returns-then-eq-clause-refused c =

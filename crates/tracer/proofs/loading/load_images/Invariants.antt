@@ -1,7 +1,7 @@
 use Rattle.std.proofs.Common.{◌≡◌, map, take}
 use Rattle.handlers.specs.Image.{image_in}
-use Rattle.tracer.specs.Stage.{AreLoaded}
-use Rattle.tracer.proofs.staging.load_images.Given as goal
+use Rattle.tracer.specs.Loading.{AreLoaded}
+use Rattle.tracer.proofs.loading.load_images.Given as goal
 
 abbrev pub invariant-loop-index : goal.invariant-loop-index
 invariant-loop-index g l =

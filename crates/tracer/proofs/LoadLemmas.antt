@@ -18,9 +18,9 @@ use Rattle.scenario.specs.declared.scenario.ScenarioError.TheVariants as error
 use Rattle.tracer.specs.Check.{HasImage, IsImageFault}
 use Rattle.tracer.specs.Fault.{fault_of_image, IsFaultOfScenario}
 use Rattle.tracer.specs.Files.{Content}
-use Rattle.tracer.specs.Inside.{HandlerFault, ImagesFault, IsPlainFault, IsReadAs, IsStagedAs, LoadFault}
+use Rattle.tracer.specs.Inside.{HandlerFault, ImagesFault, IsPlainFault, IsReadAs, IsLoadedAs, LoadFault}
 use Rattle.tracer.specs.Program.{FaultOf}
-use Rattle.tracer.specs.Stage.{AreLoaded, AreRefused, IsStaged, IsUnstaged}
+use Rattle.tracer.specs.Loading.{AreLoaded, AreRefused, IsScenarioWithImages, IsUnloadable}
 use Rattle.tracer.specs.declared.fault.Fault.{Fault}
 use Rattle.tracer.specs.declared.fault.Fault.TheVariants as fault
 
@@ -83,10 +83,10 @@ one_or_more [] some = absurd (some refl)
 one_or_more (x ∷ xs) some = omega arith
 
 -- a session can have them
-pub are_few : (content : Content) (allowed : Allowed) (path : List ℕ) (s : Scenario) (is : List TheImage) → IsStagedAs content allowed path s is → AreFew is
-are_few content allowed path s is staged =
-    let same = as_many content s.processes.entries is staged.1 in
-    let written = staged.0.2 in
+pub are_few : (content : Content) (allowed : Allowed) (path : List ℕ) (s : Scenario) (is : List TheImage) → IsLoadedAs content allowed path s is → AreFew is
+are_few content allowed path s is loaded =
+    let same = as_many content s.processes.entries is loaded.1 in
+    let written = loaded.0.2 in
     let some = one_or_more s.processes.entries written.some in
     let few = written.lines.few in
     (omega (arith, same, some), omega (arith, same, few))
@@ -129,15 +129,15 @@ images_fault content failed es i is e f at all (inr why) = inr (
 )
 
 -- the images of a scenario that was read
-pub staged_fault : (content : Content) (failed : Bool) (allowed : Allowed) (path : List ℕ) (s : Scenario) (f : Fault) → IsReadAs content allowed path s
-    → ImagesFault content failed s.processes.entries f → FaultOf content failed path (IsUnstaged content allowed) f
-staged_fault content failed allowed path s f read (inl plain) = plain_fault content failed path (IsUnstaged content allowed) f plain
-staged_fault content failed allowed path s f read (inr why) = subst (FaultOf content failed path (IsUnstaged content allowed)) (sym why.1) (by why.0 why.1)
+pub loading_fault : (content : Content) (failed : Bool) (allowed : Allowed) (path : List ℕ) (s : Scenario) (f : Fault) → IsReadAs content allowed path s
+    → ImagesFault content failed s.processes.entries f → FaultOf content failed path (IsUnloadable content allowed) f
+loading_fault content failed allowed path s f read (inl plain) = plain_fault content failed path (IsUnloadable content allowed) f plain
+loading_fault content failed allowed path s f read (inr why) = subst (FaultOf content failed path (IsUnloadable content allowed)) (sym why.1) (by why.0 why.1)
   where
     there : (known : List ℕ) → content path ≡ Some known → IsScenario allowed known s
     there known is = subst (λ (b : List ℕ). IsScenario allowed b s) (read.1 known is) read.2
 
-    by : (e : ImageError) → f ≡ fault_of_image e → FaultOf content failed path (IsUnstaged content allowed) (fault_of_image e)
+    by : (e : ImageError) → f ≡ fault_of_image e → FaultOf content failed path (IsUnloadable content allowed) (fault_of_image e)
     by image.Memory is = tt
     by (image.Header h) is = λ known at. (s, there known at, subst (AreRefused content s.processes.entries) is why.2)
     by (image.Decode rule slot) is = λ known at. (s, there known at, subst (AreRefused content s.processes.entries) is why.2)
@@ -146,7 +146,7 @@ staged_fault content failed allowed path s f read (inr why) = subst (FaultOf con
 -- a text that is no scenario
 pub scenario_fault : (content : Content) (failed : Bool) (allowed : Allowed) (path bytes : List ℕ) (e : ScenarioError) (f : Fault)
     → ((known : List ℕ) → content path ≡ Some known → bytes ≡ known) → scenario.IsRefusal allowed bytes e → IsFaultOfScenario e f
-    → FaultOf content failed path (IsUnstaged content allowed) f
+    → FaultOf content failed path (IsUnloadable content allowed) f
 scenario_fault content failed allowed path bytes e fault.Memory read why is = tt
 scenario_fault content failed allowed path bytes (error.Line line) (fault.Scenario n words) read why is = λ known there.
     subst (λ (l : ℕ). scenario.IsRefusal allowed known (error.Line l)) (sym is)
@@ -159,8 +159,8 @@ scenario_fault content failed allowed path bytes e (fault.Assemble _ _) read why
 scenario_fault content failed allowed path bytes error.Memory (fault.Scenario n words) read why is = elim is [ ]
 scenario_fault content failed allowed path bytes e fault.InputOutput read why is = elim is [ ]
 
--- what is staged, where the bytes of the scenario's file are known
-pub staged : (content : Content) (allowed : Allowed) (path known : List ℕ) (s : Scenario) (is : List TheImage) → IsStagedAs content allowed path s is
-    → content path ≡ Some known → IsStaged content allowed known s is
-staged content allowed path known s is all there =
+-- what is loaded, where the bytes of the scenario's file are known
+pub loaded_scenario : (content : Content) (allowed : Allowed) (path known : List ℕ) (s : Scenario) (is : List TheImage) → IsLoadedAs content allowed path s is
+    → content path ≡ Some known → IsScenarioWithImages content allowed known s is
+loaded_scenario content allowed path known s is all there =
     record { written = subst (λ (b : List ℕ). IsScenario allowed b s) (all.0.1 known there) all.0.2; loaded = all.1 }

@@ -3,9 +3,9 @@
 ghost use Rattle.std.specs.Prelude.{◌≡◌, IfErr, IfOk, map};
 ghost use Rattle.handlers.specs.Image.{image_in};
 ghost use Rattle.tracer.specs.Fault.{IsFaultOfScenario};
-ghost use Rattle.tracer.specs.Inside.{ImagesFault, IsReadAs, IsStagedAs};
+ghost use Rattle.tracer.specs.Inside.{ImagesFault, IsReadAs, IsLoadedAs};
 ghost use Rattle.tracer.specs.Program.{FaultOf};
-ghost use Rattle.tracer.specs.Stage.{AreLoaded, IsUnstaged};
+ghost use Rattle.tracer.specs.Loading.{AreLoaded, IsUnloadable};
 
 use crate::check::load_handler;
 use crate::fault::Fault;
@@ -19,7 +19,7 @@ use std::sync::Arc;
 
 /// A scenario, and the handlers of its processes, in their order.
 #[derive(Drop)]
-pub struct Staged {
+pub struct Loaded {
     pub scenario: Scenario,
     pub images: Vec<Arc<Handler>>,
 }
@@ -35,7 +35,7 @@ fn read<F: Files>(
     ensures read { IfOk result (IsReadAs (F.content files.old) allowed path.now) }
     ensures same { F.content files.new ≡ F.content files.old }
     ensures fault { IfErr result (FaultOf (F.content files.old) (F.failed files.new) path.now
-        (IsUnstaged (F.content files.old) allowed)) }
+        (IsUnloadable (F.content files.old) allowed)) }
 {
     let bytes = site.read(alloc, path, None, files)?;
     let Ok(text) = str::from_utf8(bytes.as_slice()) else {
@@ -92,19 +92,19 @@ fn load_images<F: Files>(
 }
 
 /// Reads a scenario, and then loads the images of its processes.
-pub fn stage<F: Files>(
+pub fn load_scenario<F: Files>(
     alloc: Global,
     path: &str,
     allowed: Allowed,
     files: &mut F,
     site: &mut Site,
-) -> Result<Staged, Fault>
-    ensures staged { IfOk result (λ s. IsStagedAs (F.content files.old) allowed path.now s.scenario (map image_in s.images.items)) }
+) -> Result<Loaded, Fault>
+    ensures loaded { IfOk result (λ s. IsLoadedAs (F.content files.old) allowed path.now s.scenario (map image_in s.images.items)) }
     ensures same { F.content files.new ≡ F.content files.old }
     ensures fault { IfErr result (FaultOf (F.content files.old) (F.failed files.new) path.now
-        (IsUnstaged (F.content files.old) allowed)) }
+        (IsUnloadable (F.content files.old) allowed)) }
 {
     let scenario = read(alloc, path, allowed, files, site)?;
     let images = load_images(alloc, &scenario.processes, files, site)?;
-    Ok(Staged { scenario, images })
+    Ok(Loaded { scenario, images })
 }

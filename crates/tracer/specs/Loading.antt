@@ -21,7 +21,7 @@ AreLoaded content (e ∷ es) (image ∷ images) = HasImage content (string_bytes
 AreLoaded content processes images = ⊥
 
 -- the bytes are this scenario with such orders, and these are the images of its processes
-pub record IsStaged (content : Content) (allowed : Allowed) (bytes : List ℕ) (s : Scenario) (images : List TheImage) : Type 0 where
+pub record IsScenarioWithImages (content : Content) (allowed : Allowed) (bytes : List ℕ) (s : Scenario) (images : List TheImage) : Type 0 where
   pub written : scenario.IsScenario allowed bytes s
   pub loaded : AreLoaded content s.processes.entries images
 
@@ -37,9 +37,9 @@ pub record AreRefused (content : Content) (processes : List (String Global × Pr
 
 -- why the bytes of a scenario's file can't be carried out: they are no text, or one that is refused at a line; or an image is refused.
 -- Want of memory says nothing
-abbrev pub IsUnstaged : Content → Allowed → List ℕ → Fault → Type 0
-IsUnstaged content allowed bytes (fault.Scenario line words) = scenario.IsRefusal allowed bytes (Line line)
-IsUnstaged content allowed bytes fault.InputOutput = ¬ IsUtf8 bytes
-IsUnstaged content allowed bytes fault.Memory = Unit {0}
-IsUnstaged content allowed bytes (fault.Usage usage) = ⊥
-IsUnstaged content allowed bytes f = (s : Scenario) × scenario.IsScenario allowed bytes s × AreRefused content s.processes.entries f
+abbrev pub IsUnloadable : Content → Allowed → List ℕ → Fault → Type 0
+IsUnloadable content allowed bytes (fault.Scenario line words) = scenario.IsRefusal allowed bytes (Line line)
+IsUnloadable content allowed bytes fault.InputOutput = ¬ IsUtf8 bytes
+IsUnloadable content allowed bytes fault.Memory = Unit {0}
+IsUnloadable content allowed bytes (fault.Usage usage) = ⊥
+IsUnloadable content allowed bytes f = (s : Scenario) × scenario.IsScenario allowed bytes s × AreRefused content s.processes.entries f

@@ -6,8 +6,8 @@ use Rattle.handlers.specs.Image.{image_in, the_image}
 use Rattle.tracer.specs.Check.{HasImage}
 use Rattle.tracer.specs.Inside.{HandlerFault}
 use Rattle.tracer.proofs.CauseLemmas.{becomes}
-use Rattle.tracer.proofs.StageLemmas.{images_fault, loaded_more, pushed}
-use Rattle.tracer.proofs.staging.load_images.Goals as goal
+use Rattle.tracer.proofs.LoadLemmas.{images_fault, loaded_more, pushed}
+use Rattle.tracer.proofs.loading.load_images.Goals as goal
 
 pub returns-in_err-image-clause-fault : goal.returns-in_err-image-clause-fault
 returns-in_err-image-clause-fault g c =
