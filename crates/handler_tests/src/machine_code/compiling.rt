@@ -112,6 +112,6 @@ fn lookup_code_is_the_stored_code(rt: HostRuntime) -> Result<(), Fail> {
     let alloc = rt.alloc();
     let image = span_images::load(alloc, &LOOKUP)?;
     let code = span_native::compile(alloc, &image)?;
-    assert!(rt; code.as_slice() == LOOKUP_CODE);
+    assert!(rt; code.as_slice() == LOOKUP_CODE.as_slice());
     Ok(())
 }
