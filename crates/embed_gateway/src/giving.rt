@@ -126,7 +126,7 @@ fn tell(alloc: Global, gateway: &mut Gateway, out: &mut [u8], size: &mut usize) 
 {
     let bytes = gateway.changes_bytes(alloc)?;
     copy(&bytes, out, size)?;
-    let _ = gateway.changes(alloc);
+    gateway.forget_changes();
     Ok(())
 }
 

@@ -88,6 +88,22 @@ impl Gateway {
         std::mem::replace(&mut self.changes, Vec::new(alloc))
     }
 
+    /// The same where nobody wants them any more, as behind [`Gateway::changes_bytes`]: their memory is
+    /// kept for the next ones.
+    pub fn forget_changes(&mut self)
+        ensures value { self.new ≡ record self.old { changes = [] } }
+        ensures since { Since self.new.store self.new }
+        ensures acts { Acts self.old self.new }
+    {
+        self.empty();
+    }
+
+    fn empty(&mut self)
+        ensures { self.new ≡ record self.old { changes = [] } }
+    {
+        self.changes.clear();
+    }
+
     /// A message for a process comes from outside. Answers its SSN. A refusal changes nothing.
     pub fn input(&mut self, process: u8, payload: Payload) -> Result<u64, AllocError>
         requires { IsOf process self.old.store }

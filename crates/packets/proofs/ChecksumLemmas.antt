@@ -10,7 +10,7 @@ use Rattle.std.proofs.lemmas.List.Concat.{flat_map-append}
 use Rattle.std.proofs.lemmas.List.Sums.{fold-append}
 use Rattle.std.proofs.lemmas.Nat.{xor_comm, xor_shr, xor_mod, xor_block, shr-shr, shr_split, and_mask}
 use Rattle.std.proofs.Math.Nat.{div-one, mod-lt, pow-suc, mul_assoc}
-use Rattle.packets.specs.declared.table.TheConstants.{TABLE, SECOND, THIRD, FOURTH}
+use Rattle.packets.specs.declared.table.TheConstants.{TABLE, SECOND, THIRD, FOURTH, FIFTH, SIXTH, SEVENTH, EIGHTH}
 use Rattle.packets.specs.Checksum.{polynomial, next_remainder, bits, byte_bits}
 
 zeros : ℕ → List ℕ
@@ -63,6 +63,18 @@ thrice i = left (twice i)
 four_times : ℕ → ℕ
 four_times i = left (thrice i)
 
+five_times : ℕ → ℕ
+five_times i = left (four_times i)
+
+six_times : ℕ → ℕ
+six_times i = left (five_times i)
+
+seven_times : ℕ → ℕ
+seven_times i = left (six_times i)
+
+eight_times : ℕ → ℕ
+eight_times i = left (seven_times i)
+
 agrees : (ℕ → ℕ) → ℕ → List ℕ → Bool
 agrees f i [] = true
 agrees f i (t ∷ ts) = eqb t (f i) && agrees f (suc i) ts
@@ -94,6 +106,22 @@ fourth_agrees : agrees four_times 0 FOURTH ≡ true
 unfolding agrees left twice thrice four_times
 fourth_agrees = refl
 
+fifth_agrees : agrees five_times 0 FIFTH ≡ true
+unfolding agrees left twice thrice four_times five_times
+fifth_agrees = refl
+
+sixth_agrees : agrees six_times 0 SIXTH ≡ true
+unfolding agrees left twice thrice four_times five_times six_times
+sixth_agrees = refl
+
+seventh_agrees : agrees seven_times 0 SEVENTH ≡ true
+unfolding agrees left twice thrice four_times five_times six_times seven_times
+seventh_agrees = refl
+
+eighth_agrees : agrees eight_times 0 EIGHTH ≡ true
+unfolding agrees left twice thrice four_times five_times six_times seven_times eight_times
+eighth_agrees = refl
+
 at_table : (i : ℕ) → i < 256 → get_or TABLE i 0 ≡ left i
 at_table i lt = agreed left 0 i TABLE first_agrees lt ∙ ap left (zero-add i)
 
@@ -105,6 +133,18 @@ at_third i lt = agreed thrice 0 i THIRD third_agrees lt ∙ ap thrice (zero-add 
 
 at_fourth : (i : ℕ) → i < 256 → get_or FOURTH i 0 ≡ four_times i
 at_fourth i lt = agreed four_times 0 i FOURTH fourth_agrees lt ∙ ap four_times (zero-add i)
+
+at_fifth : (i : ℕ) → i < 256 → get_or FIFTH i 0 ≡ five_times i
+at_fifth i lt = agreed five_times 0 i FIFTH fifth_agrees lt ∙ ap five_times (zero-add i)
+
+at_sixth : (i : ℕ) → i < 256 → get_or SIXTH i 0 ≡ six_times i
+at_sixth i lt = agreed six_times 0 i SIXTH sixth_agrees lt ∙ ap six_times (zero-add i)
+
+at_seventh : (i : ℕ) → i < 256 → get_or SEVENTH i 0 ≡ seven_times i
+at_seventh i lt = agreed seven_times 0 i SEVENTH seventh_agrees lt ∙ ap seven_times (zero-add i)
+
+at_eighth : (i : ℕ) → i < 256 → get_or EIGHTH i 0 ≡ eight_times i
+at_eighth i lt = agreed eight_times 0 i EIGHTH eighth_agrees lt ∙ ap eight_times (zero-add i)
 
 -- ---- a byte
 
@@ -164,7 +204,7 @@ pub behind_byte : (r b : ℕ) → b < 256 → bit_xor (get_or TABLE (bit_and (bi
 unfolding place
 behind_byte r b lt = ap (λ (z : ℕ). bit_xor z (r / 256)) (at_table (place r b) (place_lt r b)) ∙ sym (one_byte r b lt)
 
--- ---- four bytes
+-- ---- eight bytes
 
 summed : (s t x y : ℕ) → (s ≡ 0) ⊎ (s ≡ 1) → (t ≡ 0) ⊎ (t ≡ 1) → cond (eqb (bit_xor s t) 0) (bit_xor x y) (bit_xor (bit_xor x y) polynomial) ≡ bit_xor (cond (eqb s 0) x (bit_xor x polynomial)) (cond (eqb t 0) y (bit_xor y polynomial))
 summed s t x y (inl a) (inl b) = rw (a, b) refl
@@ -193,54 +233,127 @@ one_more : (u r b : ℕ) → b < 256 → fold next_remainder (bit_xor u r) (byte
 one_more u r b lt = added (bit_xor u r) b lt ∙ ap left (xor_assoc u r b) ∙ left_sum u (bit_xor r b) ∙ ap (bit_xor (left u)) (sym (added r b lt) ∙ one_byte r b lt) ∙ sym (xor_assoc (left u) (left (place r b)) (r / 256))
 
 -- four places looked up by themselves are four steps
-pub behind_four : (r a b c d : ℕ) → r < 2 ^ 32 → a < 256 → b < 256 → c < 256 → d < 256 →
-    bit_xor (bit_xor (bit_xor (get_or FOURTH (bit_and (bit_xor r a) 255) 0) (get_or THIRD (bit_and (bit_xor (r / 2 ^ 8) b) 255) 0)) (get_or SECOND (bit_and (bit_xor (r / 2 ^ 16) c) 255) 0)) (get_or TABLE (bit_and (bit_xor (r / 2 ^ 24) d) 255) 0)
-    ≡ fold next_remainder (fold next_remainder (fold next_remainder (fold next_remainder r (byte_bits a)) (byte_bits b)) (byte_bits c)) (byte_bits d)
-unfolding place twice thrice four_times
-behind_four r a b c d small la lb lc ld =
-    let p = place r a in
-    let q = place (r / 2 ^ 8) b in
-    let s = place (r / 2 ^ 16) c in
-    let t = place (r / 2 ^ 24) d in
-    let two : r / 2 ^ 8 / 256 ≡ r / 2 ^ 16 = shr-shr r 8 8 in
-    let three : r / 2 ^ 16 / 256 ≡ r / 2 ^ 24 = shr-shr r 16 8 in
-    let none : r / 2 ^ 24 / 256 ≡ 0 = omega arith in
-    let u2 = bit_xor (twice p) (left q) in
-    let u3 = bit_xor (bit_xor (thrice p) (twice q)) (left s) in
-    let e1 : fold next_remainder r (byte_bits a) ≡ bit_xor (left p) (r / 2 ^ 8) = one_byte r a la in
-    let e2 : fold next_remainder (bit_xor (left p) (r / 2 ^ 8)) (byte_bits b) ≡ bit_xor u2 (r / 2 ^ 16) = one_more (left p) (r / 2 ^ 8) b lb ∙ ap (bit_xor u2) two in
-    let e3 : fold next_remainder (bit_xor u2 (r / 2 ^ 16)) (byte_bits c) ≡ bit_xor u3 (r / 2 ^ 24) =
-    one_more u2 (r / 2 ^ 16) c lc ∙ ap (λ (z : ℕ). bit_xor (bit_xor z (left s)) (r / 2 ^ 16 / 256)) (left_sum (twice p) (left q)) ∙ ap (bit_xor u3) three in
-    let sums : left u3 ≡ bit_xor (bit_xor (four_times p) (thrice q)) (twice s) = left_sum (bit_xor (thrice p) (twice q)) (left s) ∙ ap (λ (z : ℕ). bit_xor z (twice s)) (left_sum (thrice p) (twice q)) in
-    let all = bit_xor (bit_xor (bit_xor (four_times p) (thrice q)) (twice s)) (left t) in
-    let e4 : fold next_remainder (bit_xor u3 (r / 2 ^ 24)) (byte_bits d) ≡ all =
-    one_more u3 (r / 2 ^ 24) d ld ∙ ap (λ (z : ℕ). bit_xor (bit_xor z (left t)) (r / 2 ^ 24 / 256)) sums ∙ ap (bit_xor all) none ∙ xor_zero_r all in
-    rw (at_fourth p (place_lt r a), at_third q (place_lt (r / 2 ^ 8) b), at_second s (place_lt (r / 2 ^ 16) c), at_table t (place_lt (r / 2 ^ 24) d), e1, e2, e3) (sym e4)
+module _ (r a b c d : ℕ) where
+  behind_four : r < 2 ^ 32 → a < 256 → b < 256 → c < 256 → d < 256 →
+      bit_xor (bit_xor (bit_xor (four_times (place r a)) (thrice (place (r / 2 ^ 8) b))) (twice (place (r / 2 ^ 16) c))) (left (place (r / 2 ^ 24) d))
+      ≡ fold next_remainder (fold next_remainder (fold next_remainder (fold next_remainder r (byte_bits a)) (byte_bits b)) (byte_bits c)) (byte_bits d)
+  unfolding twice thrice four_times
+  behind_four small la lb lc ld =
+      let p = place r a in
+      let q = place (r / 2 ^ 8) b in
+      let s = place (r / 2 ^ 16) c in
+      let t = place (r / 2 ^ 24) d in
+      let two : r / 2 ^ 8 / 256 ≡ r / 2 ^ 16 = shr-shr r 8 8 in
+      let three : r / 2 ^ 16 / 256 ≡ r / 2 ^ 24 = shr-shr r 16 8 in
+      let none : r / 2 ^ 24 / 256 ≡ 0 = omega arith in
+      let u2 = bit_xor (twice p) (left q) in
+      let u3 = bit_xor (bit_xor (thrice p) (twice q)) (left s) in
+      let e1 : fold next_remainder r (byte_bits a) ≡ bit_xor (left p) (r / 2 ^ 8) = one_byte r a la in
+      let e2 : fold next_remainder (bit_xor (left p) (r / 2 ^ 8)) (byte_bits b) ≡ bit_xor u2 (r / 2 ^ 16) = one_more (left p) (r / 2 ^ 8) b lb ∙ ap (bit_xor u2) two in
+      let e3 : fold next_remainder (bit_xor u2 (r / 2 ^ 16)) (byte_bits c) ≡ bit_xor u3 (r / 2 ^ 24) =
+      one_more u2 (r / 2 ^ 16) c lc ∙ ap (λ (z : ℕ). bit_xor (bit_xor z (left s)) (r / 2 ^ 16 / 256)) (left_sum (twice p) (left q)) ∙ ap (bit_xor u3) three in
+      let sums : left u3 ≡ bit_xor (bit_xor (four_times p) (thrice q)) (twice s) = left_sum (bit_xor (thrice p) (twice q)) (left s) ∙ ap (λ (z : ℕ). bit_xor z (twice s)) (left_sum (thrice p) (twice q)) in
+      let all = bit_xor (bit_xor (bit_xor (four_times p) (thrice q)) (twice s)) (left t) in
+      let e4 : fold next_remainder (bit_xor u3 (r / 2 ^ 24)) (byte_bits d) ≡ all =
+      one_more u3 (r / 2 ^ 24) d ld ∙ ap (λ (z : ℕ). bit_xor (bit_xor z (left t)) (r / 2 ^ 24 / 256)) sums ∙ ap (bit_xor all) none ∙ xor_zero_r all in
+      rw (e1, e2, e3) (sym e4)
 
--- a list of four
-pub behind_list : (r : ℕ) (w : List ℕ) → r < 2 ^ 32 → length w ≡ 4 → ((i : ℕ) → get_or w i 0 < 256) →
-    bit_xor (bit_xor (bit_xor (get_or FOURTH (bit_and (bit_xor r (get_or w 0 0)) 255) 0) (get_or THIRD (bit_and (bit_xor (r / 2 ^ 8) (get_or w 1 0)) 255) 0)) (get_or SECOND (bit_and (bit_xor (r / 2 ^ 16) (get_or w 2 0)) 255) 0)) (get_or TABLE (bit_and (bit_xor (r / 2 ^ 24) (get_or w 3 0)) 255) 0)
+-- a byte behind all of a remainder
+by_itself : (u b : ℕ) → b < 256 → fold next_remainder u (byte_bits b) ≡ bit_xor (left u) (left b)
+by_itself u b lt = added u b lt ∙ left_sum u b
+
+-- of two sums
+left_two : (w x y z : ℕ) → left (bit_xor (bit_xor (bit_xor w x) y) z) ≡ bit_xor (bit_xor (bit_xor (left w) (left x)) (left y)) (left z)
+left_two w x y z =
+    left_sum (bit_xor (bit_xor w x) y) z ∙ ap (λ (v : ℕ). bit_xor v (left z)) (left_sum (bit_xor w x) y ∙ ap (λ (v : ℕ). bit_xor v (left y)) (left_sum w x))
+
+-- behind four bytes more
+module _ (w x y z : ℕ) where
+  moved_on : four_times (bit_xor (bit_xor (bit_xor (four_times w) (thrice x)) (twice y)) (left z)) ≡ bit_xor (bit_xor (bit_xor (eight_times w) (seven_times x)) (six_times y)) (five_times z)
+  unfolding twice thrice four_times five_times six_times seven_times eight_times
+  moved_on =
+      ap thrice (left_two (four_times w) (thrice x) (twice y) (left z)) ∙ ap twice (left_two (five_times w) (four_times x) (thrice y) (twice z))
+      ∙ ap left (left_two (six_times w) (five_times x) (four_times y) (thrice z)) ∙ left_two (seven_times w) (six_times x) (five_times y) (four_times z)
+
+-- four more bytes
+module _ (u a b c d : ℕ) where
+  four_more : a < 256 → b < 256 → c < 256 → d < 256 →
+      fold next_remainder (fold next_remainder (fold next_remainder (fold next_remainder u (byte_bits a)) (byte_bits b)) (byte_bits c)) (byte_bits d)
+      ≡ bit_xor (bit_xor (bit_xor (bit_xor (four_times u) (four_times a)) (thrice b)) (twice c)) (left d)
+  unfolding twice thrice four_times
+  four_more la lb lc ld =
+      let e1 : fold next_remainder u (byte_bits a) ≡ bit_xor (left u) (left a) = by_itself u a la in
+      let u2 = bit_xor (bit_xor (twice u) (twice a)) (left b) in
+      let e2 : fold next_remainder (bit_xor (left u) (left a)) (byte_bits b) ≡ u2 = by_itself (bit_xor (left u) (left a)) b lb ∙ ap (λ (v : ℕ). bit_xor v (left b)) (left_sum (left u) (left a)) in
+      let s2 : left u2 ≡ bit_xor (bit_xor (thrice u) (thrice a)) (twice b) = left_sum (bit_xor (twice u) (twice a)) (left b) ∙ ap (λ (v : ℕ). bit_xor v (twice b)) (left_sum (twice u) (twice a)) in
+      let u3 = bit_xor (bit_xor (bit_xor (thrice u) (thrice a)) (twice b)) (left c) in
+      let e3 : fold next_remainder u2 (byte_bits c) ≡ u3 = by_itself u2 c lc ∙ ap (λ (v : ℕ). bit_xor v (left c)) s2 in
+      let e4 : fold next_remainder u3 (byte_bits d) ≡ bit_xor (bit_xor (bit_xor (bit_xor (four_times u) (four_times a)) (thrice b)) (twice c)) (left d) =
+      by_itself u3 d ld ∙ ap (λ (v : ℕ). bit_xor v (left d)) (left_two (thrice u) (thrice a) (twice b) (left c)) in
+      rw (e1, e2, e3) e4
+
+-- eight places looked up by themselves are eight steps
+module _ (r a b c d e f g h : ℕ) where
+  looked_up : ℕ
+  looked_up =
+      bit_xor (bit_xor (bit_xor (bit_xor (bit_xor (bit_xor (bit_xor (get_or EIGHTH (bit_and (bit_xor r a) 255) 0) (get_or SEVENTH (bit_and (bit_xor (r / 2 ^ 8) b) 255) 0)) (get_or SIXTH (bit_and (bit_xor (r / 2 ^ 16) c) 255) 0)) (get_or FIFTH (bit_and (bit_xor (r / 2 ^ 24) d) 255) 0)) (get_or FOURTH e 0)) (get_or THIRD f 0)) (get_or SECOND g 0)) (get_or TABLE h 0)
+
+  halfway : ℕ
+  halfway = fold next_remainder (fold next_remainder (fold next_remainder (fold next_remainder r (byte_bits a)) (byte_bits b)) (byte_bits c)) (byte_bits d)
+
+  behind_eight : r < 2 ^ 32 → a < 256 → b < 256 → c < 256 → d < 256 → e < 256 → f < 256 → g < 256 → h < 256 →
+      looked_up ≡ fold next_remainder (fold next_remainder (fold next_remainder (fold next_remainder halfway (byte_bits e)) (byte_bits f)) (byte_bits g)) (byte_bits h)
+  unfolding place looked_up halfway
+  behind_eight small la lb lc ld le lf lg lh =
+      let p = place r a in
+      let q = place (r / 2 ^ 8) b in
+      let s = place (r / 2 ^ 16) c in
+      let t = place (r / 2 ^ 24) d in
+      let sum : ℕ → ℕ = λ v. bit_xor (bit_xor (bit_xor (bit_xor v (four_times e)) (thrice f)) (twice g)) (left h) in
+      let there : four_times halfway ≡ bit_xor (bit_xor (bit_xor (eight_times p) (seven_times q)) (six_times s)) (five_times t) =
+      ap four_times (sym (behind_four r a b c d small la lb lc ld)) ∙ moved_on p q s t in
+      rw (at_eighth p (place_lt r a), at_seventh q (place_lt (r / 2 ^ 8) b), at_sixth s (place_lt (r / 2 ^ 16) c), at_fifth t (place_lt (r / 2 ^ 24) d), at_fourth e le, at_third f lf, at_second g lg, at_table h lh)
+      (sym (four_more halfway e f g h le lf lg lh ∙ ap sum there))
+
+-- a list of eight
+pub behind_list : (r : ℕ) (w : List ℕ) → r < 2 ^ 32 → length w ≡ 8 → ((i : ℕ) → get_or w i 0 < 256) →
+    bit_xor (bit_xor (bit_xor (bit_xor (bit_xor (bit_xor (bit_xor (get_or EIGHTH (bit_and (bit_xor r (get_or w 0 0)) 255) 0) (get_or SEVENTH (bit_and (bit_xor (r / 2 ^ 8) (get_or w 1 0)) 255) 0)) (get_or SIXTH (bit_and (bit_xor (r / 2 ^ 16) (get_or w 2 0)) 255) 0)) (get_or FIFTH (bit_and (bit_xor (r / 2 ^ 24) (get_or w 3 0)) 255) 0)) (get_or FOURTH (get_or w 4 0) 0)) (get_or THIRD (get_or w 5 0) 0)) (get_or SECOND (get_or w 6 0) 0)) (get_or TABLE (get_or w 7 0) 0)
     ≡ fold next_remainder r (flat_map byte_bits w)
-behind_list r [] small e lt = absurd (omega (arith, e))
-behind_list r (a ∷ []) small e lt = absurd (omega (arith, e))
-behind_list r (a ∷ b ∷ []) small e lt = absurd (omega (arith, e))
-behind_list r (a ∷ b ∷ c ∷ []) small e lt = absurd (omega (arith, e))
-behind_list r (a ∷ b ∷ c ∷ d ∷ []) small e lt =
+unfolding looked_up halfway
+behind_list r [] small is lt = absurd (omega (arith, is))
+behind_list r (a ∷ []) small is lt = absurd (omega (arith, is))
+behind_list r (a ∷ b ∷ []) small is lt = absurd (omega (arith, is))
+behind_list r (a ∷ b ∷ c ∷ []) small is lt = absurd (omega (arith, is))
+behind_list r (a ∷ b ∷ c ∷ d ∷ []) small is lt = absurd (omega (arith, is))
+behind_list r (a ∷ b ∷ c ∷ d ∷ e ∷ []) small is lt = absurd (omega (arith, is))
+behind_list r (a ∷ b ∷ c ∷ d ∷ e ∷ f ∷ []) small is lt = absurd (omega (arith, is))
+behind_list r (a ∷ b ∷ c ∷ d ∷ e ∷ f ∷ g ∷ []) small is lt = absurd (omega (arith, is))
+behind_list r (a ∷ b ∷ c ∷ d ∷ e ∷ f ∷ g ∷ h ∷ []) small is lt =
     let bytes = flat_map byte_bits in
-    let three = fold next_remainder (fold next_remainder (fold next_remainder r (byte_bits a)) (byte_bits b)) (byte_bits c) in
-    behind_four r a b c d small (lt 0) (lt 1) (lt 2) (lt 3)
-    ∙ sym (fold-append next_remainder r (byte_bits a) (bytes (b ∷ c ∷ d ∷ []))
-    ∙ fold-append next_remainder (fold next_remainder r (byte_bits a)) (byte_bits b) (bytes (c ∷ d ∷ []))
-    ∙ fold-append next_remainder (fold next_remainder (fold next_remainder r (byte_bits a)) (byte_bits b)) (byte_bits c) (bytes (d ∷ []))
-    ∙ fold-append next_remainder three (byte_bits d) [])
-behind_list r (a ∷ b ∷ c ∷ d ∷ f ∷ w) small e lt = absurd (omega (arith, e))
+    let one = fold next_remainder r (byte_bits a) in
+    let two = fold next_remainder one (byte_bits b) in
+    let three = fold next_remainder two (byte_bits c) in
+    let four = fold next_remainder three (byte_bits d) in
+    let five = fold next_remainder four (byte_bits e) in
+    let six = fold next_remainder five (byte_bits f) in
+    let seven = fold next_remainder six (byte_bits g) in
+    behind_eight r a b c d e f g h small (lt 0) (lt 1) (lt 2) (lt 3) (lt 4) (lt 5) (lt 6) (lt 7)
+    ∙ sym (fold-append next_remainder r (byte_bits a) (bytes (b ∷ c ∷ d ∷ e ∷ f ∷ g ∷ h ∷ []))
+    ∙ fold-append next_remainder one (byte_bits b) (bytes (c ∷ d ∷ e ∷ f ∷ g ∷ h ∷ []))
+    ∙ fold-append next_remainder two (byte_bits c) (bytes (d ∷ e ∷ f ∷ g ∷ h ∷ []))
+    ∙ fold-append next_remainder three (byte_bits d) (bytes (e ∷ f ∷ g ∷ h ∷ []))
+    ∙ fold-append next_remainder four (byte_bits e) (bytes (f ∷ g ∷ h ∷ []))
+    ∙ fold-append next_remainder five (byte_bits f) (bytes (g ∷ h ∷ []))
+    ∙ fold-append next_remainder six (byte_bits g) (bytes (h ∷ []))
+    ∙ fold-append next_remainder seven (byte_bits h) [])
+behind_list r (a ∷ b ∷ c ∷ d ∷ e ∷ f ∷ g ∷ h ∷ k ∷ w) small is lt = absurd (omega (arith, is))
 
 -- words, and the bytes behind them
-pub in_words : (r n : ℕ) (xs : List ℕ) → fold next_remainder (fold next_remainder r (flat_map (flat_map byte_bits) (first_chunks 4 n xs))) (flat_map byte_bits (drop (n * 4) xs)) ≡ fold next_remainder r (flat_map byte_bits xs)
+pub in_words : (r n : ℕ) (xs : List ℕ) → fold next_remainder (fold next_remainder r (flat_map (flat_map byte_bits) (first_chunks 8 n xs))) (flat_map byte_bits (drop (n * 8) xs)) ≡ fold next_remainder r (flat_map byte_bits xs)
 in_words r zero xs = refl
 in_words r (suc n) xs =
-    let word = flat_map byte_bits (take 4 xs) in
-    let rest = flat_map (flat_map byte_bits) (first_chunks 4 n (drop 4 xs)) in
-    let moved : drop (suc n * 4) xs ≡ drop (n * 4) (drop 4 xs) = sym (drop-drop (n * 4) 4 xs ∙ ap (λ (k : ℕ). drop k xs) (omega arith)) in
-    let parts : flat_map byte_bits xs ≡ word ++ flat_map byte_bits (drop 4 xs) = ap (flat_map byte_bits) (sym (take-append-drop 4 xs)) ∙ flat_map-append byte_bits (take 4 xs) (drop 4 xs) in
-    rw (moved, fold-append next_remainder r word rest, parts, fold-append next_remainder r word (flat_map byte_bits (drop 4 xs))) (in_words (fold next_remainder r word) n (drop 4 xs))
+    let word = flat_map byte_bits (take 8 xs) in
+    let rest = flat_map (flat_map byte_bits) (first_chunks 8 n (drop 8 xs)) in
+    let moved : drop (suc n * 8) xs ≡ drop (n * 8) (drop 8 xs) = sym (drop-drop (n * 8) 8 xs ∙ ap (λ (k : ℕ). drop k xs) (omega arith)) in
+    let parts : flat_map byte_bits xs ≡ word ++ flat_map byte_bits (drop 8 xs) = ap (flat_map byte_bits) (sym (take-append-drop 8 xs)) ∙ flat_map-append byte_bits (take 8 xs) (drop 8 xs) in
+    rw (moved, fold-append next_remainder r word rest, parts, fold-append next_remainder r word (flat_map byte_bits (drop 8 xs))) (in_words (fold next_remainder r word) n (drop 8 xs))

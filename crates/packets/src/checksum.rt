@@ -4,7 +4,7 @@ ghost use Rattle.std.specs.Prelude.{◌≡◌, ◌<◌, slice_index};
 ghost use Rattle.std.specs.List.{fold, flat_map};
 ghost use Rattle.packets.specs.Checksum.{crc32c, next_remainder, byte_bits};
 
-use crate::table::{FOURTH, SECOND, TABLE, THIRD};
+use crate::table::{EIGHTH, FIFTH, FOURTH, SECOND, SEVENTH, SIXTH, TABLE, THIRD};
 
 /// The CRC-32C (Castagnoli) of some bytes.
 #[tactic(auto, unfolding(crate::specs::Checksum::crc32c))]
@@ -16,7 +16,7 @@ pub fn crc32c(bytes: &[u8]) -> u32
 }
 
 /// The remainder behind so many words more.
-fn behind_words(before: u32, words: &[[u8; 4]]) -> u32
+fn behind_words(before: u32, words: &[[u8; 8]]) -> u32
     ensures { result ≡ fold next_remainder before (flat_map (flat_map byte_bits) words.now) }
 {
     let mut remainder = before;
@@ -26,15 +26,22 @@ fn behind_words(before: u32, words: &[[u8; 4]]) -> u32
     remainder
 }
 
-/// The remainder behind four bytes more. Each is looked up by itself, so that none waits for the one before.
-fn behind_word(remainder: u32, word: &[u8; 4]) -> u32
+/// The remainder behind eight bytes more. Each is looked up by itself, so that none waits for the one before.
+fn behind_word(remainder: u32, word: &[u8; 8]) -> u32
     ensures { result ≡ fold next_remainder remainder (flat_map byte_bits word.now) }
 {
     let first = (remainder ^ word[0] as u32) & 0xff;
     let second = ((remainder >> 8) ^ word[1] as u32) & 0xff;
     let third = ((remainder >> 16) ^ word[2] as u32) & 0xff;
     let fourth = ((remainder >> 24) ^ word[3] as u32) & 0xff;
-    fourth_by(first) ^ third_by(second) ^ second_by(third) ^ left_by(fourth)
+    eighth_by(first)
+        ^ seventh_by(second)
+        ^ sixth_by(third)
+        ^ fifth_by(fourth)
+        ^ fourth_by(word[4] as u32)
+        ^ third_by(word[5] as u32)
+        ^ second_by(word[6] as u32)
+        ^ left_by(word[7] as u32)
 }
 
 /// The remainder behind so many bytes more.
@@ -86,4 +93,36 @@ fn fourth_by(byte: u32) -> u32
     ensures { result ≡ slice_index FOURTH byte }
 {
     FOURTH[byte as usize]
+}
+
+/// Behind forty zeros.
+fn fifth_by(byte: u32) -> u32
+    requires { byte < 256 }
+    ensures { result ≡ slice_index FIFTH byte }
+{
+    FIFTH[byte as usize]
+}
+
+/// Behind forty-eight zeros.
+fn sixth_by(byte: u32) -> u32
+    requires { byte < 256 }
+    ensures { result ≡ slice_index SIXTH byte }
+{
+    SIXTH[byte as usize]
+}
+
+/// Behind fifty-six zeros.
+fn seventh_by(byte: u32) -> u32
+    requires { byte < 256 }
+    ensures { result ≡ slice_index SEVENTH byte }
+{
+    SEVENTH[byte as usize]
+}
+
+/// Behind sixty-four zeros.
+fn eighth_by(byte: u32) -> u32
+    requires { byte < 256 }
+    ensures { result ≡ slice_index EIGHTH byte }
+{
+    EIGHTH[byte as usize]
 }

@@ -36,31 +36,32 @@ fn packet_of(alloc: Global, bytes: &[u8]) -> Result<Packet, PacketError>
 {
     let fields = fields_of(bytes)?;
     let head = head_of(bytes)?;
-    let body = body_of(alloc, head.kind, fields)?;
-    if !body.is_in_range() {
-        return Err(PacketError::Fault(PacketFault::Range));
-    }
-    Ok(Packet {
+    let mut packet = Packet {
         count: head.count,
         from: head.from,
         to: head.to,
-        body,
-    })
+        body: Body::Saved { covered: 0 },
+    };
+    read_body(alloc, head.kind, fields, &mut packet.body)?;
+    if !packet.body.is_in_range() {
+        return Err(PacketError::Fault(PacketFault::Range));
+    }
+    Ok(packet)
 }
 
-/// The fields of a kind.
-fn body_of(alloc: Global, kind: Kind, bytes: &[u8]) -> Result<Body, PacketError>
-    ensures { Gives (λ x. x) result (body_at kind bytes.now) }
+/// Reads the fields of a kind into a body: it is written where it stays, since the longest is 280 bytes.
+fn read_body(alloc: Global, kind: Kind, bytes: &[u8], body: &mut Body) -> Result<(), PacketError>
+    ensures { Gives (λ _. body.new) result (body_at kind bytes.now) }
 {
     match kind {
-        Kind::Delivery => delivery_of(bytes),
-        Kind::Number => number_of(bytes),
-        Kind::Acknowledgement => acknowledgement_of(bytes),
-        Kind::Ask => ask_of(bytes),
-        Kind::Told => told_of(alloc, bytes),
-        Kind::Resume => resume_of(bytes),
-        Kind::Restored => restored_of(alloc, bytes),
-        Kind::Saved => saved_of(bytes),
+        Kind::Delivery => read_delivery(bytes, body),
+        Kind::Number => read_number(bytes, body),
+        Kind::Acknowledgement => read_acknowledgement(bytes, body),
+        Kind::Ask => read_ask(bytes, body),
+        Kind::Told => read_told(alloc, bytes, body),
+        Kind::Resume => read_resume(bytes, body),
+        Kind::Restored => read_restored(alloc, bytes, body),
+        Kind::Saved => read_saved(bytes, body),
     }
 }
 
@@ -75,62 +76,66 @@ fn ended(rest: &[u8]) -> Result<(), PacketError>
 }
 
 #[tactic(auto, unfolding(crate::specs::Inside::Reading::body_at))]
-fn delivery_of(bytes: &[u8]) -> Result<Body, PacketError>
-    ensures { Gives (λ x. x) result (body_at kinds.Delivery bytes.now) }
+fn read_delivery(bytes: &[u8], body: &mut Body) -> Result<(), PacketError>
+    ensures { Gives (λ _. body.new) result (body_at kinds.Delivery bytes.now) }
 {
     let (incarnation, rest) = u64_of(bytes)?;
     let (ssn, rest) = u64_of(rest)?;
     let (payload, rest) = payload_of(rest)?;
     let payload = Payload::from_slice(payload);
     ended(rest)?;
-    Ok(Body::Delivery {
+    *body = Body::Delivery {
         incarnation,
         ssn,
         payload,
-    })
+    };
+    Ok(())
 }
 
 #[tactic(auto, unfolding(crate::specs::Inside::Reading::body_at))]
-fn number_of(bytes: &[u8]) -> Result<Body, PacketError>
-    ensures { Gives (λ x. x) result (body_at kinds.Number bytes.now) }
+fn read_number(bytes: &[u8], body: &mut Body) -> Result<(), PacketError>
+    ensures { Gives (λ _. body.new) result (body_at kinds.Number bytes.now) }
 {
     let (incarnation, rest) = u64_of(bytes)?;
     let (ssn, rest) = u64_of(rest)?;
     let (number, rest) = u64_of(rest)?;
     ended(rest)?;
-    Ok(Body::Number {
+    *body = Body::Number {
         incarnation,
         ssn,
         number,
-    })
+    };
+    Ok(())
 }
 
 #[tactic(auto, unfolding(crate::specs::Inside::Reading::body_at))]
-fn acknowledgement_of(bytes: &[u8]) -> Result<Body, PacketError>
-    ensures { Gives (λ x. x) result (body_at kinds.Acknowledgement bytes.now) }
+fn read_acknowledgement(bytes: &[u8], body: &mut Body) -> Result<(), PacketError>
+    ensures { Gives (λ _. body.new) result (body_at kinds.Acknowledgement bytes.now) }
 {
     let (incarnation, rest) = u64_of(bytes)?;
     let (number, rest) = u64_of(rest)?;
     ended(rest)?;
-    Ok(Body::Acknowledgement {
+    *body = Body::Acknowledgement {
         incarnation,
         number,
-    })
+    };
+    Ok(())
 }
 
 #[tactic(auto, unfolding(crate::specs::Inside::Reading::body_at))]
-fn ask_of(bytes: &[u8]) -> Result<Body, PacketError>
-    ensures { Gives (λ x. x) result (body_at kinds.Ask bytes.now) }
+fn read_ask(bytes: &[u8], body: &mut Body) -> Result<(), PacketError>
+    ensures { Gives (λ _. body.new) result (body_at kinds.Ask bytes.now) }
 {
     let (incarnation, rest) = u64_of(bytes)?;
     let (above, rest) = u64_of(rest)?;
     ended(rest)?;
-    Ok(Body::Ask { incarnation, above })
+    *body = Body::Ask { incarnation, above };
+    Ok(())
 }
 
 #[tactic(auto, unfolding(crate::specs::Inside::Reading::body_at))]
-fn told_of(alloc: Global, bytes: &[u8]) -> Result<Body, PacketError>
-    ensures { Gives (λ x. x) result (body_at kinds.Told bytes.now) }
+fn read_told(alloc: Global, bytes: &[u8], body: &mut Body) -> Result<(), PacketError>
+    ensures { Gives (λ _. body.new) result (body_at kinds.Told bytes.now) }
 {
     let (incarnation, rest) = u64_of(bytes)?;
     let (teller, rest) = u64_of(rest)?;
@@ -138,33 +143,35 @@ fn told_of(alloc: Global, bytes: &[u8]) -> Result<Body, PacketError>
     let (bits, rest) = byte_of(rest)?;
     let (entries, rest) = entries_of(alloc, rest)?;
     ended(rest)?;
-    Ok(Body::Told {
+    *body = Body::Told {
         incarnation,
         teller,
         above,
         flags: Flags { bits },
         entries,
-    })
+    };
+    Ok(())
 }
 
 #[tactic(auto, unfolding(crate::specs::Inside::Reading::body_at))]
-fn resume_of(bytes: &[u8]) -> Result<Body, PacketError>
-    ensures { Gives (λ x. x) result (body_at kinds.Resume bytes.now) }
+fn read_resume(bytes: &[u8], body: &mut Body) -> Result<(), PacketError>
+    ensures { Gives (λ _. body.new) result (body_at kinds.Resume bytes.now) }
 {
     let (incarnation, rest) = u64_of(bytes)?;
     let (kept, rest) = u64_of(rest)?;
     let (above, rest) = u64_of(rest)?;
     ended(rest)?;
-    Ok(Body::Resume {
+    *body = Body::Resume {
         incarnation,
         kept,
         above,
-    })
+    };
+    Ok(())
 }
 
 #[tactic(auto, unfolding(crate::specs::Inside::Reading::body_at))]
-fn restored_of(alloc: Global, bytes: &[u8]) -> Result<Body, PacketError>
-    ensures { Gives (λ x. x) result (body_at kinds.Restored bytes.now) }
+fn read_restored(alloc: Global, bytes: &[u8], body: &mut Body) -> Result<(), PacketError>
+    ensures { Gives (λ _. body.new) result (body_at kinds.Restored bytes.now) }
 {
     let (incarnation, rest) = u64_of(bytes)?;
     let (teller, rest) = u64_of(rest)?;
@@ -173,21 +180,23 @@ fn restored_of(alloc: Global, bytes: &[u8]) -> Result<Body, PacketError>
     let (bits, rest) = byte_of(rest)?;
     let (pairs, rest) = pairs_of(alloc, rest)?;
     ended(rest)?;
-    Ok(Body::Restored {
+    *body = Body::Restored {
         incarnation,
         teller,
         covered,
         above,
         flags: Flags { bits },
         pairs,
-    })
+    };
+    Ok(())
 }
 
 #[tactic(auto, unfolding(crate::specs::Inside::Reading::body_at))]
-fn saved_of(bytes: &[u8]) -> Result<Body, PacketError>
-    ensures { Gives (λ x. x) result (body_at kinds.Saved bytes.now) }
+fn read_saved(bytes: &[u8], body: &mut Body) -> Result<(), PacketError>
+    ensures { Gives (λ _. body.new) result (body_at kinds.Saved bytes.now) }
 {
     let (covered, rest) = u64_of(bytes)?;
     ended(rest)?;
-    Ok(Body::Saved { covered })
+    *body = Body::Saved { covered };
+    Ok(())
 }

@@ -108,6 +108,14 @@ impl Process {
         if self.course.is_up() {
             return;
         }
+        self.pass_on(alloc);
+    }
+
+    /// The same for one that isn't up, which is rare.
+    #[inline(never)]
+    fn pass_on(&mut self, alloc: Global)
+        ensures { Stays Passes self.old self.new }
+    {
         let course = replace(&mut self.course, Course::Passing);
         self.course = course.passed(alloc);
     }

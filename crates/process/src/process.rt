@@ -11,6 +11,7 @@ ghost use Rattle.process.specs.Reviving.{IsOpened, IsRevived, IsUnrevived, IsUnr
 use crate::course::Course;
 use crate::fault::Unrevived;
 use handlers::Handler;
+use helpers::Effects;
 use node::{Limits, Node};
 use packets::{Kept, KeptError, KeptFault, NUMBER_LIMIT, decode_kept};
 use recovery::{Collecting, comes_back};
@@ -23,6 +24,8 @@ use std::sync::Arc;
 pub struct Process {
     pub(crate) image: Arc<Handler>,
     pub(crate) course: Course,
+    /// Room for what its handler gives, which is no part of what the process is.
+    pub(crate) effects: Effects,
 }
 
 impl Model for Process {
@@ -56,6 +59,7 @@ impl Process {
         Ok(Process {
             image,
             course: Course::Up(node),
+            effects: Effects::new(),
         })
     }
 
@@ -83,6 +87,7 @@ impl Process {
             Ok(process) => Ok(Process {
                 image,
                 course: Course::Collecting(process),
+                effects: Effects::new(),
             }),
             Err(_) => Err(Unrevived::Memory),
         }

@@ -1,6 +1,6 @@
 //! What a process does when its handler is to run.
 
-ghost use Rattle.std.specs.Prelude.{◌≡◌, ◌++◌, ◌≤◌, length, map, true, false, IfOk, OnOk, OnErr};
+ghost use Rattle.std.specs.Prelude.{◌≡◌, ◌++◌, ◌≤◌, None, length, map, true, false, IfOk, OnOk, OnErr};
 ghost use Rattle.node.specs.declared.node.TheConstants.{MOST_GIVEN};
 ghost use Rattle.process.specs.Working.{job_at, is_other, given_of, sent_by, shown_of, TakesIn, MayTakeIn, Works, Rests};
 
@@ -36,6 +36,27 @@ impl Process {
         ensures rests { IfOk result (λ b. b ≡ false → Rests self.old × (self.new ≡ self.old)) }
         ensures err { OnErr result (self.new ≡ self.old) }
     {
+        if self.is_idle() {
+            return Ok(false);
+        }
+        self.run(alloc)
+    }
+
+    /// Whether no message is there to run it on.
+    fn is_idle(&self) -> bool
+        ensures { result ≡ true → job_at self.now.course ≡ None }
+    {
+        self.job().is_none()
+    }
+
+    /// The same as [`Process::work`]. A host asks more often than there is something to run on: so what takes room
+    /// stands here.
+    #[inline(never)]
+    fn run(&mut self, alloc: Global) -> Result<bool, AllocError>
+        ensures works { IfOk result (λ b. b ≡ true → Works self.old self.new) }
+        ensures rests { IfOk result (λ b. b ≡ false → Rests self.old × (self.new ≡ self.old)) }
+        ensures err { OnErr result (self.new ≡ self.old) }
+    {
         let Some((job, who)) = self.job() else {
             return Ok(false);
         };
@@ -43,11 +64,11 @@ impl Process {
         if state.len() != self.image.state_len() as usize || !self.image.may_run_as(who) {
             return Ok(false);
         }
-        let mut effects = Effects::new();
+        self.effects.clear();
         let _end = self
             .image
-            .call(state.as_mut_slice(), &job.payload, who, &mut effects);
-        let given = given(alloc, who, &effects)?;
+            .call(state.as_mut_slice(), &job.payload, who, &mut self.effects);
+        let given = given(alloc, who, &self.effects)?;
         self.course.take_in(state, &given)?;
         self.pass(alloc);
         Ok(true)
@@ -75,7 +96,7 @@ fn given(alloc: Global, who: Who, effects: &Effects) -> Result<Vec<Given>, Alloc
     ensures few { IfOk result (λ v. length v.items ≤ MOST_GIVEN) }
 {
     let (sends, outputs) = (effects.sends(), effects.outputs());
-    let mut given = Vec::new(alloc);
+    let mut given = Vec::with_capacity(alloc, sends.len() + outputs.len())?;
     add_sent(&mut given, who, sends)?;
     if who.me != 0 {
         add_shown(&mut given, outputs)?;

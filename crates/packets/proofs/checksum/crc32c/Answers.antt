@@ -7,4 +7,4 @@ pub returns : goal.returns
 unfolding crc32c
 returns c =
     rw (c.behind_bytes.ensures, c.behind_words.ensures, c.as_chunks.ensures.front, c.as_chunks.ensures.back)
-    (ap (λ (z : ℕ). 4294967295 - z) (in_words 4294967295 (length c.args.bytes.now / 4) c.args.bytes.now))
+    (ap (λ (z : ℕ). 4294967295 - z) (in_words 4294967295 (length c.args.bytes.now / 8) c.args.bytes.now))

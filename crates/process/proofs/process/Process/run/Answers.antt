@@ -12,7 +12,7 @@ use Rattle.process.specs.Passing.{Passes}
 use Rattle.process.specs.Working.{job_at, given_of, TakesIn, MayTakeIn, Works}
 use Rattle.process.proofs.Giving.{may-take}
 use Rattle.process.proofs.Workings.{works}
-use Rattle.process.proofs.process.Process.work.Goals as goal
+use Rattle.process.proofs.process.Process.run.Goals as goal
 
 pub take_in-requires : goal.take_in-requires
 take_in-requires c =
