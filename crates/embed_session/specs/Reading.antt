@@ -9,7 +9,7 @@ use Rattle.world.specs.declared.refusal.Refusal.TheVariants.{NoSuchProcess, Memo
 use Rattle.world.specs.Phases.{is_down, name_of}
 use Rattle.world.specs.Logs.{state_of, length_of}
 use Rattle.machine.specs.Saving.{IsSavedOf}
-use Rattle.scenario.specs.Trace.{trace_text}
+use Rattle.trace.specs.Trace.{trace_text}
 use Rattle.sessions.specs.Journal.{TheSession, is_exact, world_at}
 use Rattle.sessions.specs.Service.{KeepsPromises}
 use Rattle.embed_session.specs.declared.fault.Fault.{Fault}

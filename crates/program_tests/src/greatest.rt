@@ -8,11 +8,12 @@ use explain::explain;
 use helpers::Payload;
 use images::FileForm;
 use runner::{journal_of, live};
-use scenario::{Allowed, parse, trace_text};
+use scenario::{Allowed, parse};
 use std::alloc::{AllocError, Global};
 use std::sync::Wait;
 use std::test::Fail;
 use std::thread::Threads;
+use trace::trace_text;
 use world::{Answer, Call, Entry};
 
 /// A text, and behind it another one so often.

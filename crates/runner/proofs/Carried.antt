@@ -2,7 +2,7 @@
 use Rattle.std.proofs.Common.{◌≡◌, ◌∙◌, ℕ, List, [], ◌∷◌, ◌++◌, ◌≤◌, Option, Some, None, Result, Ok, Err, refl, sym, ap, subst, inl, ◌⊎◌}
 use Rattle.std.specs.Prelude.{slice_set}
 use Rattle.std.specs.Result.{result_and}
-use Rattle.replay.specs.Task.{TheTask}
+use Rattle.machine.specs.Task.{TheTask}
 use Rattle.world.specs.declared.call.Call.{Call}
 use Rattle.world.specs.declared.answer.Answer.{Answer}
 use Rattle.world.specs.declared.refusal.Refusal.{Refusal}

@@ -9,7 +9,7 @@ use Rattle.world.specs.Legal.{Legal}
 use Rattle.world.specs.declared.refusal.Refusal.{Refusal}
 use Rattle.world.specs.declared.refusal.Refusal.TheVariants as refusals
 use Rattle.world.specs.Refusals.{cause_of, number_of}
-use Rattle.replay.specs.Task.{TheTask}
+use Rattle.machine.specs.Task.{TheTask}
 use Rattle.machine.specs.Stepping.{job_of}
 use Rattle.scenario.specs.declared.order.Order.{Order}
 use Rattle.scenario.specs.declared.order.Order.TheVariants as order

@@ -2,7 +2,7 @@
 use Rattle.std.specs.Prelude.{◌≡◌, ◌≤◌, ◌+◌, ◌-◌, ◌^◌, ◌⊎◌, ℕ, List, [], ◌∷◌, ◌++◌, length, replicate, Option, Some, None, slice_index_or, slice_set}
 use Rattle.limits.specs.declared.TheConstants.{ENTRIES, PARTIES}
 use Rattle.handlers.specs.Image.{TheImage}
-use Rattle.replay.specs.Task.{TheTask}
+use Rattle.machine.specs.Task.{TheTask}
 use Rattle.world.specs.declared.call.Call.{Call}
 use Rattle.world.specs.declared.call.Call.TheVariants as call
 use Rattle.world.specs.declared.answer.Answer.{Answer}

@@ -5,7 +5,7 @@ ghost use Rattle.runner.specs.Orders.{held_for, without_job};
 ghost use Rattle.runner.specs.Inside.{position_of};
 
 use crate::player::Player;
-use replay::Job;
+use sessions::Job;
 
 impl Player {
     /// Holds a job, in place of one that is held for its process.

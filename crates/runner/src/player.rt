@@ -3,8 +3,7 @@
 ghost use Rattle.std.specs.Prelude.{◌≡◌, length};
 ghost use Rattle.limits.specs.declared.TheConstants.{PARTIES};
 
-use replay::Job;
-use sessions::Service;
+use sessions::{Job, Service};
 
 /// A session, the jobs that were started and not yet finished, and how many messages the outside
 /// handed in.

@@ -6,9 +6,10 @@ ghost use Rattle.sessions.specs.Journal.{world_at};
 ghost use Rattle.runner.specs.Results.{outputs_text, process_text_of, processes_text, results_text};
 
 use indexmap::IndexMap;
-use scenario::{Process, name_at, push_exact, push_output, push_process, trace_text};
+use scenario::{Process, name_at};
 use sessions::{Service, copied};
 use std::alloc::{AllocError, Global};
+use trace::{push_exact, push_output, push_process, trace_text};
 use world::Message;
 
 /// Writes the line of a process.

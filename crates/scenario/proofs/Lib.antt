@@ -1,4 +1,3 @@
-pub mod TraceLemmas
 pub mod Cuts
 pub mod Numbers
 pub mod Pairs

@@ -3,9 +3,10 @@
 use super::adders;
 use crate::rows::holds;
 use runner::{journal_of, run};
-use scenario::{Allowed, parse, trace_text};
+use scenario::{Allowed, parse};
 use std::alloc::Global;
 use std::test::Fail;
+use trace::trace_text;
 
 /// A message is received, its process crashes, and it is replayed.
 const CRASH: [&str; 2] = [

@@ -2,9 +2,9 @@
 
 use crate::rows::holds;
 use helpers::Payload;
-use scenario::trace_text;
 use std::alloc::{AllocError, Global};
 use std::test::Fail;
+use trace::trace_text;
 use world::{Answer, Call, Entry};
 
 /// A call of a trace. A table can borrow it, as it has no payload.

@@ -1,9 +1,9 @@
 //! What a run leaves, as text.
 
 ghost use Rattle.std.specs.Prelude.{◌≡◌, ◌++◌, OnOk, string_bytes};
-ghost use Rattle.scenario.specs.Report.{exact_line, output_line, phase_text, process_line};
+ghost use Rattle.trace.specs.Report.{exact_line, output_line, phase_text, process_line};
 
-use crate::hex::Hex;
+use scenario::Hex;
 use std::alloc::AllocError;
 use world::PhaseName;
 

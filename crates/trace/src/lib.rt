@@ -1,0 +1,16 @@
+//! What a run prints: the trace of its journal, and the lines of its report.
+//!
+//! [`trace_text`] writes each accepted call with its worker and its answer, a line an entry. Its promise: the text is the
+//! printer of `specs/Trace.antt` over the whole list, to the last byte; only memory can run out. [`push_process`],
+//! [`push_output`] and [`push_exact`] write the lines of a report, those of `specs/Report.antt`.
+//!
+//! ```text
+//! trace_text(alloc, session.journal())?; // "000001 w0 input 1 1 -> logged 1\n.."
+//! ```
+#![tactic(auto)]
+
+mod report;
+mod trace;
+
+pub use report::{push_exact, push_output, push_process};
+pub use trace::trace_text;
