@@ -1,4 +1,4 @@
-use Rattle.std.proofs.Common.{◌≡◌, ◌∙◌, ◌++◌, Bool, [], None, Some, ap, false, inl, inr, map, string_bytes, subst, sym}
+use Rattle.std.proofs.Common.{◌≡◌, ◌∙◌, ◌++◌, [], None, Some, ap, inl, inr, map, string_bytes, subst, sym}
 use Rattle.std.specs.Prelude.{◌||◌}
 use Rattle.std.specs.Str.{bytes_eq}
 use Rattle.ordered_images.specs.Blocks.{blocks_text}
@@ -42,8 +42,8 @@ returns-clause-answer g c =
             (Some o) (Some (string_bytes out.text)) done.0) c.new-out.ensures.empty
             (subst (λ ws. IsDone (map string_bytes ws) before (content_with shelf.written (map string_bytes shelf.names.items) (map (λ v. v.items) shelf.files.items))
             (Some (string_bytes c.new-out.result.text)) (Some (string_bytes out.text)) done.0) c.as_slice.ensures.value
-            done.1.0)),
-        told_of done.0 c.new-err.result err c.new-err.ensures.empty done.1.1,
+            done.1)),
+        told_of done.0 c.new-err.result err c.new-err.ensures.empty done.2,
       )),
       (λ other. (
         (
