@@ -40,7 +40,8 @@ static u64 (*const output)(const void *payload, u64 length) = (void *)6;
 /* First in an unrolled loop that clang leaves as one, since it has joined the tests of two ways out. */
 #define turn() asm volatile("")
 
-/* Above an access at an index that is at most `most` in a way that clang sees and the verifier doesn't. */
+/* Above an access at an index that is at most `most` in a way that clang sees and the verifier doesn't. Of a greater one the
+ * function that it stands in returns 0: so it stands in none that is void. */
 #define within(index, most) do { asm volatile("" : "+r"(index)); if ((index) > (most)) return 0; } while (0)
 
 #endif
