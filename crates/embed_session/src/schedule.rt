@@ -27,7 +27,7 @@ fn receive(service: &mut Service, key: usize) -> Result<Entry, Refusal>
         });
     };
     let process = job.task().process();
-    let Ok(finished) = service.finish(job.run()) else {
+    let Ok(finished) = service.finish(Service::run(job)) else {
         return Err(Refusal::Memory);
     };
     Ok(Entry {

@@ -160,7 +160,7 @@ impl Machine {
         }
     }
 
-    // A message arrives at a process that doesn't work.
+    // A message arrives at a process that has no open job.
     fn receive(
         &mut self,
         room: u32,
@@ -177,6 +177,7 @@ impl Machine {
     {
         match self.judge(to, &message) {
             Judgement::Next => {
+                // (jobs.rt)
                 let job = self.begin(to, message)?;
                 self.wire.remove(key);
                 Ok(Arrival::Started(job))

@@ -1,4 +1,4 @@
-//! Jobs: begun, compared and finished.
+//! Jobs: begun, run, compared and finished.
 
 ghost use Rattle.std.specs.Prelude.{◌≡◌, ◌+◌, ◌≤◌, ◌↔◌, true, false, IsTrue, IfOk, IfErr, OnOk};
 ghost use Rattle.world.specs.declared.refusal.Refusal.TheVariants.{Memory};
@@ -40,6 +40,14 @@ impl Machine {
         self.started += 1;
         self.calls += 1;
         Ok(job)
+    }
+
+    /// Calls the handler of a job that the machine made (replay/src/job.rt). It takes no machine, so
+    /// none changes meanwhile.
+    pub fn run(job: Job) -> Done
+        ensures { result ≡ job }
+    {
+        job.run()
     }
 
     /// Whether the task is that of the job that its process has open. All that it takes is
@@ -128,6 +136,7 @@ impl Machine {
             return Err((Refusal::Memory, done));
         }
         if let Some(alone) = process.mode().is_replayed() {
+            // (recovering.rt)
             self.settle(me, alone);
         }
         self.calls += 1;

@@ -190,8 +190,8 @@ impl Machine {
         self.processes[p as usize - 1].settle(alloc, peers);
     }
 
-    // The peers of a process that restore its numbers: all others, or where it came back alone those
-    // that are up.
+    // The peers from whose receipts a process gets the numbers of its messages back: all others, or
+    // where it came back alone those that are up.
     fn peers(&self, p: u8, alone: bool) -> Peers
         ensures { ArePeersOf self.now p alone result }
     {

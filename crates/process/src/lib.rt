@@ -1,4 +1,4 @@
-//! A process as one value, through all its stages.
+//! Of a cluster: a process as one value, through all its stages.
 //!
 //! A [`Process`] holds the image of its handler and is a node that is up, or one that comes back:
 //! it collects what its peers' logs hold, replays that, and restores its numbers. Its host makes the

@@ -1,4 +1,4 @@
-//! A process that comes back: from what is kept of it to a node that is up.
+//! Of a cluster: a process that comes back, from what is kept of it to a node that is up.
 //!
 //! It begins from the decoded bytes of its checkpoint and a new incarnation ([`Collecting::revive`]):
 //! it asks each peer what that one's log holds for it, and takes in what comes, page by page. Its

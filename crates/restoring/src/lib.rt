@@ -1,5 +1,5 @@
-//! The last stage of a process that comes back: it has replayed all that it keeps, and asks its peers
-//! under which numbers they have its messages, until it is a node again.
+//! Of a cluster: the last stage of a process that comes back. It has replayed all that it keeps, and
+//! asks its peers under which numbers they have its messages, until it is a node again.
 //!
 //! It begins with what it has then ([`Restoring::begin`]): Resume goes to each peer and to the
 //! gateway. Their answers come by pages ([`Restoring::receive`]), and what isn't answered is asked

@@ -9,6 +9,7 @@ use crate::player::Player;
 use crate::word::payload_of;
 use helpers::Payload;
 use scenario::Order;
+use sessions::Service;
 use world::{Call, Refusal};
 
 impl Player {
@@ -74,7 +75,7 @@ impl Player {
         let Some(job) = self.take(process) else {
             return Err(Refusal::StaleJob);
         };
-        match self.session.finish(job.run()) {
+        match self.session.finish(Service::run(job)) {
             Ok(_) => Ok(()),
             Err((refusal, _)) => Err(refusal),
         }
@@ -84,6 +85,7 @@ impl Player {
     fn drive(&mut self, budget: u32) -> Result<(), Refusal>
         ensures { ComesTo (λ refused. IsDriven budget (position_of self.old) (position_of self.new) × (refused ≡ None)) result }
     {
+        // (sessions/src/driving.rt)
         self.session.drive(budget).and(Ok(()))
     }
 }

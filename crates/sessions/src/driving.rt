@@ -75,8 +75,8 @@ impl Service {
         let Some(job) = reply.job else {
             return Ok(1);
         };
-        // (the machine made the job: the handler runs here, outside of it)
-        let Err((refusal, _)) = self.finish_of(worker, job.run()) else {
+        // (the machine made the job: the handler runs outside of machine and session)
+        let Err((refusal, _)) = self.finish_of(worker, Service::run(job)) else {
             return Ok(2);
         };
         Err(refusal)

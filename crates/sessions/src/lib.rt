@@ -12,7 +12,7 @@
 //! let reply = service.call(&Call::Input { to: 1, feed: 1, payload })?;
 //! let reply = service.call(&Call::Transmit { from: 0, to: 1, ssn: 1 })?;
 //! if let Some(job) = service.call(&Call::Arrive { key: 0 })?.job {
-//!     let committed = service.finish(job.run())?;
+//!     let committed = service.finish(Service::run(job))?;
 //! }
 //! let accepted = service.drive(65_536)?;
 //! ```

@@ -13,7 +13,7 @@ use crate::journal::Journal;
 use crate::slip::Brief;
 use handlers::Handler;
 use limits::ENTRIES;
-use machine::{Done, Finished, Machine, Reply};
+use machine::{Done, Finished, Job, Machine, Reply};
 use std::alloc::Global;
 use std::marker::Model;
 use std::sync::Arc;
@@ -73,6 +73,14 @@ impl Service {
         self.call_of(0, call)
     }
 
+    /// Calls the handler of a job that a call started. It takes no session, so none changes meanwhile.
+    pub fn run(job: Job) -> Done
+        ensures { result ≡ job }
+    {
+        // (machine/src/jobs.rt)
+        Machine::run(job)
+    }
+
     /// Takes in the result of the open job of its process: the message is received, and the packet
     /// that tells its number is put on the wire; or it is replayed. It refuses a result that isn't
     /// the open job's (`StaleJob`), and want of memory. The result comes back with a refusal.
@@ -116,6 +124,7 @@ impl Service {
             return Err((Refusal::StaleJob, done));
         }
         let process = done.task().process();
+        // (machine/src/jobs.rt)
         let finished = self.machine.finish(done)?;
         let call = Brief::Finish { process };
         self.journal.append(worker, call, finished.answer());

@@ -2,12 +2,12 @@
 
 ghost use Rattle.std.specs.Prelude.{◌≡◌};
 
-use sessions::{Done, Job};
+use sessions::{Done, Job, Service};
 
 /// Called by a worker for each job that it takes, both times with the lock free. A job is told by
 /// its serial number, from 1, in the order of their starts.
 pub trait Turnstile: Sync {
-    /// Runs the job (`Job::run`), and does what is to be done before and after that.
+    /// Runs the job (`Service::run`), and does what is to be done before and after that.
     fn run(&self, job: Job) -> Done
         ensures { result ≡ job };
 
@@ -21,7 +21,7 @@ pub struct Open;
 
 impl Turnstile for Open {
     fn run(&self, job: Job) -> Done {
-        job.run()
+        Service::run(job)
     }
 
     fn committed(&self, _serial: u32) {}
