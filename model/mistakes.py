@@ -32,19 +32,34 @@ def said(text, number, words):
     above = [line for line in lines[: number - 1] if line and not line.startswith("#")]
     names = [line.split(" ")[1] for line in above if line.startswith("process ")]
     has_order = len(names) < len(above)
-    return f"line {number}: {mistake(lines[number - 1], names, has_order, words)}"
+    is_foreign = not any(re.match("[ \\t\\f\\v\\r]*\ufeff?process", line) for line in lines)
+    return f"line {number}: {mistake(lines[number - 1], names, has_order, is_foreign, words)}"
 
 
-def mistake(line, names, has_order, words):
+def mistake(line, names, has_order, is_foreign, words):
+    if line.startswith("\ufeff"):
+        return "a byte order mark (U+FEFF) before the first letter: save the text as UTF-8 without one"
     if "\r" in line:
         return "a carriage return: lines end with a line feed alone"
+    first, *operands = line.split(" ")
+    if is_foreign and first not in FORMS:
+        return (
+            f"no line begins with {shown(first)}, and none declares a process, so this is no scenario (assembler text is for "
+            "sblog asm, C for clang and then sblog pack)"
+        )
     if "\t" in line:
         return "a tab: words stand with one space between them"
     if "" in line.split(" "):
         return "a space at the beginning or the end, or two in a row"
-    first, *operands = line.split(" ")
-    if first != "process" and any(word.startswith("#") for word in operands):
-        return "a comment stands on a line of its own"
+    if first != "process":
+        is_comment = any(word.startswith("#") for word in operands) or "//" in line or line.startswith(";")
+        if line.endswith(";") and not is_comment:
+            return "no line ends with a semicolon"
+        if is_comment or any(word.startswith(";") for word in operands):
+            return "a comment stands on a line of its own, which begins with #"
+    beyond = foreign_letter(line, "outside of paths and comments all are ASCII")
+    if beyond and not (first == "process" and len(operands) > 1 and operands[0].isascii()):
+        return beyond
     if first == "process":
         return declaring(operands, names, has_order)
     if first not in FORMS:
@@ -55,6 +70,13 @@ def mistake(line, names, has_order, words):
     if len(operands) != len(kinds):
         return f"more or fewer words than in: {form}"
     return next(filter(None, (reading(kind, word, names) for kind, word in zip(kinds, operands))))
+
+
+def foreign_letter(line, rule):
+    """What is said of the first letter that isn't ASCII, or None."""
+    known = {0xA0: "a no-break space (U+00A0)", 0xFEFF: "a byte order mark (U+FEFF)"}
+    found = ((place, ord(letter)) for place, letter in enumerate(line, 1) if not letter.isascii())
+    return next((f"letter {place} is {known.get(number, f'U+{number:04x}')}: {rule}" for place, number in found), None)
 
 
 def declaring(operands, names, has_order):
@@ -76,14 +98,29 @@ def reading(kind, word, names):
         if word in names or kind == "party" and word == "outside":
             return None
         declared = f"declared are {', '.join(names)}" if names else "none is declared above"
+        if word == "outside":
+            return f"the outside is no process, and only a process can stand here; {declared}"
+        if word == "0" and kind == "party":
+            return f"no process is named 0, and the outside is written outside; {declared}"
+        if re.fullmatch("0|[1-9][0-9]*", word) and int(word) < 2**32:
+            return f"no process is named {word}: its name stands here, not its number; {declared}"
         return f"no process is named {shown(word)}; {declared}"
     if kind == "hex":
-        if re.fullmatch("-|([0-9a-f]{2}){1,256}", word):
-            return None
-        return "bytes are pairs of 0 to 9 and a to f, at most 256 pairs, or - for none"
+        return None if re.fullmatch("-|([0-9a-f]{2}){1,256}", word) else of_bytes(word)
     if re.fullmatch("0|[1-9][0-9]*", word) and int(word) < 2 ** BITS[kind]:
         return None
     return f"{shown(word)} is no number: 0, or digits without a leading zero, below 2^{BITS[kind]}"
+
+
+def of_bytes(word):
+    """What is said of a word that is no bytes."""
+    pairs = "bytes are pairs of 0 to 9 and a to f, at most 256 pairs, or - for none"
+    if wrong := re.search("[^0-9a-f]", word):
+        is_capital = re.match("[A-Z]", wrong[0])
+        return f"{shown(wrong[0])} is {'a capital letter' if is_capital else 'no digit of bytes'}: {pairs}"
+    if len(word) % 2:
+        return f"an odd number of digits, {len(word)}: {pairs}"
+    return f"{len(word) // 2} pairs are too many: {pairs}"
 
 
 def shown(word):
