@@ -141,7 +141,7 @@ SHAPES = [
     (["ja"], " +2", "O"),
     (["jal"], " +2", "L"),
     (JUMPS + [f"{word}32" for word in JUMPS], " r1, r2, +2 or r1, 5, +2", "RSO"),
-    (["call"], " 1", "N"),
+    (["call"], " 1", "H"),
     (["exit"], ", alone", ""),
     ("ldxb ldxh ldxw ldxdw ldxsb ldxsh ldxsw".split(), " r1, [r2+0]", "RA"),
     ("stxb stxh stxw stxdw".split(), " [r1+0], r2", "AR"),
@@ -153,7 +153,7 @@ REGISTER = "r(?:[0-9]|10)"
 PLAIN, SIGNED = "(?:0|[1-9][0-9]*)", "(?:[+](?:0|[1-9][0-9]*)|-[1-9][0-9]*)"
 NUMBER = f"(?:{PLAIN}|-[1-9][0-9]*)"
 WRITTEN = {
-    "R": f"{REGISTER}()", "S": f"{REGISTER}()|({NUMBER})", "N": f"({NUMBER})", "U": f"({PLAIN})",
+    "R": f"{REGISTER}()", "S": f"{REGISTER}()|({NUMBER})", "N": f"({NUMBER})", "H": f"({NUMBER})", "U": f"({PLAIN})",
     "O": f"({SIGNED})", "L": f"({SIGNED})", "A": rf"\[{REGISTER}({SIGNED})\]",
 }
 DECIMAL = "0, or decimal digits without a leading zero"
@@ -161,12 +161,13 @@ SHAPE = {
     "R": "is no register: r0 to r10",
     "S": f"is no register, r0 to r10, and no number: {DECIMAL}, behind a - where it is negative",
     "N": f"is no number: {DECIMAL}, behind a - where it is negative",
+    "H": "is no number: helper 1 is send, 2 output, 3 the own number, 4 the sender, 5 send of a length, 6 output of a length",
     "U": f"is no number: {DECIMAL} or a sign",
     "A": "is no place: a register and a distance with its sign, in brackets, as [r1+0] or [r10-8]",
     "O": "is no distance: decimal digits without a leading zero, behind a + or a -, as +2, or +0",
 }
 SHAPE["L"] = SHAPE["O"]
-RANGES = {"S": 31, "N": 31, "L": 31, "A": 15, "O": 15}
+RANGES = {"S": 31, "N": 31, "H": 31, "L": 31, "A": 15, "O": 15}
 INSTRUCTIONS = (
     "add, sub, mul, div, sdiv, mod, smod, or, and, xor, lsh, rsh, arsh, neg, mov, movsx8 to movsx32, ja, jal, jeq, jne, jgt, jge,"
     " jlt, jle, jsgt, jsge, jslt, jsle, jset, le, be and swap with 16, 32 or 64, ldxb, ldxh, ldxw, ldxdw, stxb to stxdw, stb to"
@@ -174,18 +175,31 @@ INSTRUCTIONS = (
 )
 
 
-def of_text(line):
-    """What is said of a line of an assembler text that is refused, by its own operands, or None."""
+def of_text(line, lines=()):
+    """What is said of a line of an assembler text of such lines that is refused, by its own operands, or None."""
     if not line or line.startswith("#"):
         return None
+    if line.startswith("\ufeff"):
+        return "a byte order mark (U+FEFF) before the first letter: save the text as UTF-8 without one"
     if "\r" in line:
         return "a carriage return: lines end with a line feed alone"
+    head = line.partition(";")[0]
+    is_call = line.split(" ")[0] not in BY_WORD and "(" in head and not any(mark in head for mark in ("#", "=", "//"))
+    if is_call or line.startswith("/*") or line.endswith("{") or any(it.startswith(("#include ", "#define ")) for it in lines):
+        return "this looks like C: clang compiles it, and sblog pack writes the image (docs/HANDLERS.md)"
     if "\t" in line:
-        return "a tab: one space stands behind a word or a comma"
+        return "a tab: one space stands behind the first word and behind a comma, and none before the first word or at the end"
     if line[0] == " ":
         return "a space before the first word"
-    if any(mark in line for mark in ("#", ";", "//")):
+    if "#" in line or "//" in line or line[0] == ";":
         return "a comment stands on a line of its own, which begins with #"
+    if ";" in line:
+        behind = line.partition(";")[2].lstrip().split(" ")[0]
+        if not behind or behind in BY_WORD:
+            return "a semicolon: each instruction stands on a line of its own, without one"
+        return "a comment stands on a line of its own, which begins with #"
+    if beyond := foreign_letter(line, "outside of comments all are ASCII"):
+        return beyond
     if line[-1] == " " or "  " in line:
         return "a space at the end, or two in a row"
     word, _, rest = line.partition(" ")
@@ -208,6 +222,10 @@ def of_word(word):
     """What is said of a word that no instruction has."""
     if word.endswith(":"):
         return "there are no labels: a jump has its distance in slots, as ja +2"
+    if word == "process":
+        return "this looks like a scenario: sblog run carries it out"
+    if re.fullmatch(REGISTER, word):
+        return f"a line begins with the word of its instruction, as mov {word}, 0, and not with a register"
     if re.search("[A-Z]", word):
         return f"{plain(word)} has a capital letter: words are in small ones"
     return f"no instruction has the word {plain(word)}: {INSTRUCTIONS}"
