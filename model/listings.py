@@ -16,10 +16,19 @@ SIZES = {"message": 512, "stack": 512}
 ANY = ("number", 0, WORD - 1)
 ENTRY = [None, ("message", 0, 0), ("state", 0, 0), ("number", 0, 256)] + [None] * 6 + [("stack", 512, 512)] + [ANY] * 64
 OPPOSITE = {0x1: 0x5, 0x5: 0x1, 0xA: 0x3, 0x3: 0xA, 0xB: 0x2, 0x2: 0xB, 0xC: 0x7, 0x7: 0xC, 0xD: 0x6, 0x6: 0xD}
-INDEX = "compare the index with a number, or mask it, on each way that leads here, before it is added"
+INDEX = (
+    "compare the index with a number, or mask it, on each way that leads here, before it is added; "
+    "where the C does so already, within(index, most); right above the access does so anew"
+)
 REGION = (
     "stay inside the region: the message has 512 bytes with the zeros behind it, the local variables have 512, "
-    "the state has as many as its image says"
+    "the state has as many as --state says"
+)
+STATE = "stay inside the state, which has as many bytes as --state says, or pack it with a greater one"
+STATE_INDEX = f"{INDEX}; or --state is too small"
+LENGTH = (
+    "compare the length with a number that fits before the call, or give a fixed one, and begin where so many bytes are left; "
+    "where the C compares it already, within(length, most); right above the call does so anew; or --state is too small"
 )
 POINTERS = "compare and compute with indices in place of pointers"
 REACH = "compare the index of the local array with a number, or mask it, so that no pointer lies within its reach"
@@ -291,7 +300,8 @@ class Slot:
             region, lo, hi = kind = self.frame[base]
             if not self.is_inside(kind, self.offset, size):
                 text = self.places_text(region, lo + self.offset, hi + self.offset)
-                raise Broken(6, f"not all of the {size} bytes at {text} lie there", REGION if hi <= lo else INDEX)
+                fixed, moving = (STATE, STATE_INDEX) if region == "state" else (REGION, INDEX)
+                raise Broken(6, f"not all of the {size} bytes at {text} lie there", fixed if hi <= lo else moving)
             if is_write and region == "message":
                 raise Broken(7, f"r{base} is a place of the message, which is for reading", "copy it to a local array, and change the copy")
         left = self.moved()
@@ -346,7 +356,7 @@ class Slot:
             raise Broken(
                 9,
                 f"r{register} is to be a place, with {size} bytes from there on in its region",
-                "compare the length with a number that fits before the call, or give a fixed one, and begin where so many bytes are left",
+                LENGTH,
             )
         for word in self.reached(kind, 0, size):
             if not is_number(self.frame[11 + word]):

@@ -32,19 +32,34 @@ def said(text, number, words):
     above = [line for line in lines[: number - 1] if line and not line.startswith("#")]
     names = [line.split(" ")[1] for line in above if line.startswith("process ")]
     has_order = len(names) < len(above)
-    return f"line {number}: {mistake(lines[number - 1], names, has_order, words)}"
+    is_foreign = not any(re.match("[ \\t\\f\\v\\r]*\ufeff?process", line) for line in lines)
+    return f"line {number}: {mistake(lines[number - 1], names, has_order, is_foreign, words)}"
 
 
-def mistake(line, names, has_order, words):
+def mistake(line, names, has_order, is_foreign, words):
+    if line.startswith("\ufeff"):
+        return "a byte order mark (U+FEFF) before the first letter: save the text as UTF-8 without one"
     if "\r" in line:
         return "a carriage return: lines end with a line feed alone"
+    first, *operands = line.split(" ")
+    if is_foreign and first not in FORMS:
+        return (
+            f"no line begins with {shown(first)}, and none declares a process, so this is no scenario (assembler text is for "
+            "sblog asm, C for clang and then sblog pack)"
+        )
     if "\t" in line:
         return "a tab: words stand with one space between them"
     if "" in line.split(" "):
         return "a space at the beginning or the end, or two in a row"
-    first, *operands = line.split(" ")
-    if first != "process" and any(word.startswith("#") for word in operands):
-        return "a comment stands on a line of its own"
+    if first != "process":
+        is_comment = any(word.startswith("#") for word in operands) or "//" in line or line.startswith(";")
+        if line.endswith(";") and not is_comment:
+            return "no line ends with a semicolon"
+        if is_comment or any(word.startswith(";") for word in operands):
+            return "a comment stands on a line of its own, which begins with #"
+    beyond = foreign_letter(line, "outside of paths and comments all are ASCII")
+    if beyond and not (first == "process" and len(operands) > 1 and operands[0].isascii()):
+        return beyond
     if first == "process":
         return declaring(operands, names, has_order)
     if first not in FORMS:
@@ -55,6 +70,13 @@ def mistake(line, names, has_order, words):
     if len(operands) != len(kinds):
         return f"more or fewer words than in: {form}"
     return next(filter(None, (reading(kind, word, names) for kind, word in zip(kinds, operands))))
+
+
+def foreign_letter(line, rule):
+    """What is said of the first letter that isn't ASCII, or None."""
+    known = {0xA0: "a no-break space (U+00A0)", 0xFEFF: "a byte order mark (U+FEFF)"}
+    found = ((place, ord(letter)) for place, letter in enumerate(line, 1) if not letter.isascii())
+    return next((f"letter {place} is {known.get(number, f'U+{number:04x}')}: {rule}" for place, number in found), None)
 
 
 def declaring(operands, names, has_order):
@@ -76,14 +98,29 @@ def reading(kind, word, names):
         if word in names or kind == "party" and word == "outside":
             return None
         declared = f"declared are {', '.join(names)}" if names else "none is declared above"
+        if word == "outside":
+            return f"the outside is no process, and only a process can stand here; {declared}"
+        if word == "0" and kind == "party":
+            return f"no process is named 0, and the outside is written outside; {declared}"
+        if re.fullmatch("0|[1-9][0-9]*", word) and int(word) < 2**32:
+            return f"no process is named {word}: its name stands here, not its number; {declared}"
         return f"no process is named {shown(word)}; {declared}"
     if kind == "hex":
-        if re.fullmatch("-|([0-9a-f]{2}){1,256}", word):
-            return None
-        return "bytes are pairs of 0 to 9 and a to f, at most 256 pairs, or - for none"
+        return None if re.fullmatch("-|([0-9a-f]{2}){1,256}", word) else of_bytes(word)
     if re.fullmatch("0|[1-9][0-9]*", word) and int(word) < 2 ** BITS[kind]:
         return None
     return f"{shown(word)} is no number: 0, or digits without a leading zero, below 2^{BITS[kind]}"
+
+
+def of_bytes(word):
+    """What is said of a word that is no bytes."""
+    pairs = "bytes are pairs of 0 to 9 and a to f, at most 256 pairs, or - for none"
+    if wrong := re.search("[^0-9a-f]", word):
+        is_capital = re.match("[A-Z]", wrong[0])
+        return f"{shown(wrong[0])} is {'a capital letter' if is_capital else 'no digit of bytes'}: {pairs}"
+    if len(word) % 2:
+        return f"an odd number of digits, {len(word)}: {pairs}"
+    return f"{len(word) // 2} pairs are too many: {pairs}"
 
 
 def shown(word):
@@ -104,7 +141,7 @@ SHAPES = [
     (["ja"], " +2", "O"),
     (["jal"], " +2", "L"),
     (JUMPS + [f"{word}32" for word in JUMPS], " r1, r2, +2 or r1, 5, +2", "RSO"),
-    (["call"], " 1", "N"),
+    (["call"], " 1", "H"),
     (["exit"], ", alone", ""),
     ("ldxb ldxh ldxw ldxdw ldxsb ldxsh ldxsw".split(), " r1, [r2+0]", "RA"),
     ("stxb stxh stxw stxdw".split(), " [r1+0], r2", "AR"),
@@ -116,7 +153,7 @@ REGISTER = "r(?:[0-9]|10)"
 PLAIN, SIGNED = "(?:0|[1-9][0-9]*)", "(?:[+](?:0|[1-9][0-9]*)|-[1-9][0-9]*)"
 NUMBER = f"(?:{PLAIN}|-[1-9][0-9]*)"
 WRITTEN = {
-    "R": f"{REGISTER}()", "S": f"{REGISTER}()|({NUMBER})", "N": f"({NUMBER})", "U": f"({PLAIN})",
+    "R": f"{REGISTER}()", "S": f"{REGISTER}()|({NUMBER})", "N": f"({NUMBER})", "H": f"({NUMBER})", "U": f"({PLAIN})",
     "O": f"({SIGNED})", "L": f"({SIGNED})", "A": rf"\[{REGISTER}({SIGNED})\]",
 }
 DECIMAL = "0, or decimal digits without a leading zero"
@@ -124,12 +161,13 @@ SHAPE = {
     "R": "is no register: r0 to r10",
     "S": f"is no register, r0 to r10, and no number: {DECIMAL}, behind a - where it is negative",
     "N": f"is no number: {DECIMAL}, behind a - where it is negative",
+    "H": "is no number: helper 1 is send, 2 output, 3 the own number, 4 the sender, 5 send of a length, 6 output of a length",
     "U": f"is no number: {DECIMAL} or a sign",
     "A": "is no place: a register and a distance with its sign, in brackets, as [r1+0] or [r10-8]",
     "O": "is no distance: decimal digits without a leading zero, behind a + or a -, as +2, or +0",
 }
 SHAPE["L"] = SHAPE["O"]
-RANGES = {"S": 31, "N": 31, "L": 31, "A": 15, "O": 15}
+RANGES = {"S": 31, "N": 31, "H": 31, "L": 31, "A": 15, "O": 15}
 INSTRUCTIONS = (
     "add, sub, mul, div, sdiv, mod, smod, or, and, xor, lsh, rsh, arsh, neg, mov, movsx8 to movsx32, ja, jal, jeq, jne, jgt, jge,"
     " jlt, jle, jsgt, jsge, jslt, jsle, jset, le, be and swap with 16, 32 or 64, ldxb, ldxh, ldxw, ldxdw, stxb to stxdw, stb to"
@@ -137,18 +175,31 @@ INSTRUCTIONS = (
 )
 
 
-def of_text(line):
-    """What is said of a line of an assembler text that is refused, by its own operands, or None."""
+def of_text(line, lines=()):
+    """What is said of a line of an assembler text of such lines that is refused, by its own operands, or None."""
     if not line or line.startswith("#"):
         return None
+    if line.startswith("\ufeff"):
+        return "a byte order mark (U+FEFF) before the first letter: save the text as UTF-8 without one"
     if "\r" in line:
         return "a carriage return: lines end with a line feed alone"
+    head = line.partition(";")[0]
+    is_call = line.split(" ")[0] not in BY_WORD and "(" in head and not any(mark in head for mark in ("#", "=", "//"))
+    if is_call or line.startswith("/*") or line.endswith("{") or any(it.startswith(("#include ", "#define ")) for it in lines):
+        return "this looks like C: clang compiles it, and sblog pack writes the image (docs/HANDLERS.md)"
     if "\t" in line:
-        return "a tab: one space stands behind a word or a comma"
+        return "a tab: one space stands behind the first word and behind a comma, and none before the first word or at the end"
     if line[0] == " ":
         return "a space before the first word"
-    if any(mark in line for mark in ("#", ";", "//")):
+    if "#" in line or "//" in line or line[0] == ";":
         return "a comment stands on a line of its own, which begins with #"
+    if ";" in line:
+        behind = line.partition(";")[2].lstrip().split(" ")[0]
+        if not behind or behind in BY_WORD:
+            return "a semicolon: each instruction stands on a line of its own, without one"
+        return "a comment stands on a line of its own, which begins with #"
+    if beyond := foreign_letter(line, "outside of comments all are ASCII"):
+        return beyond
     if line[-1] == " " or "  " in line:
         return "a space at the end, or two in a row"
     word, _, rest = line.partition(" ")
@@ -171,6 +222,10 @@ def of_word(word):
     """What is said of a word that no instruction has."""
     if word.endswith(":"):
         return "there are no labels: a jump has its distance in slots, as ja +2"
+    if word == "process":
+        return "this looks like a scenario: sblog run carries it out"
+    if re.fullmatch(REGISTER, word):
+        return f"a line begins with the word of its instruction, as mov {word}, 0, and not with a register"
     if re.search("[A-Z]", word):
         return f"{plain(word)} has a capital letter: words are in small ones"
     return f"no instruction has the word {plain(word)}: {INSTRUCTIONS}"

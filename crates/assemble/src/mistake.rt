@@ -21,6 +21,8 @@ pub enum Wanted {
     Value,
     /// A register and a distance of 16 bits, in brackets.
     Address,
+    /// The number of a helper.
+    Helper,
     /// A distance of 16 bits, behind its sign.
     Offset,
     /// The same of 32 bits.
@@ -30,18 +32,30 @@ pub enum Wanted {
 /// What is wrong with a line, and what can stand there. It prints as a sentence, without a line's end.
 #[derive(Clone, Copy, PartialEq, Eq, Debug)]
 pub enum Mistake<'a> {
+    /// A byte order mark at the beginning.
+    Mark,
     CarriageReturn,
+    /// The text is C.
+    Language,
     Tab,
     /// A space before the first word.
     Indent,
+    /// A semicolon at the end, or between two instructions.
+    Semicolon,
     /// Something behind an instruction that looks like a comment.
     Comment,
+    /// A letter that isn't ASCII, at this place, counted from 1.
+    Letter { letter: char, place: usize },
     /// A space at the end, or two in a row.
     Space,
     /// A comma without the space behind it, or with one before it.
     Comma,
     /// The first word is a label.
     Label,
+    /// The first word is that of a scenario's line.
+    Scenario,
+    /// The first word is a register.
+    Register { word: &'a str },
     /// The first word has a capital letter.
     Capital { word: &'a str },
     /// No instruction has this word.
@@ -61,6 +75,10 @@ pub fn mistake_of(text: &str, number: usize) -> Option<Mistake<'_>> {
     if line.is_empty() || line.starts_with('#') {
         return None;
     }
+    let written = writing(text, line);
+    if written.is_some() {
+        return written;
+    }
     let spaced = spacing(line);
     if spaced.is_some() {
         return spaced;
@@ -75,19 +93,56 @@ pub fn mistake_of(text: &str, number: usize) -> Option<Mistake<'_>> {
     }
 }
 
-/// What is wrong with what stands between a line's words.
-fn spacing(line: &str) -> Option<Mistake<'_>> {
+/// What is wrong with a line that another program wrote, or that is meant for one.
+fn writing<'a>(text: &'a str, line: &'a str) -> Option<Mistake<'a>> {
+    if line.starts_with('\u{feff}') {
+        return Some(Mistake::Mark);
+    }
     if line.contains('\r') {
         return Some(Mistake::CarriageReturn);
     }
+    if is_c(text, line) {
+        return Some(Mistake::Language);
+    }
+    None
+}
+
+/// Whether a line that is refused is one of C, or some line of its text is.
+fn is_c(text: &str, line: &str) -> bool {
+    is_call(line)
+        || line.starts_with("/*")
+        || line.ends_with('{')
+        || text.split('\n').any(|line| {
+            line.starts_with("#include ") || line.starts_with("#define ")
+        })
+}
+
+/// Whether a line begins with no instruction's word, and has a parenthesis before any mark.
+fn is_call(line: &str) -> bool {
+    let (word, _) = line.split_once(' ').unwrap_or((line, ""));
+    let (head, _) = line.split_once(';').unwrap_or((line, ""));
+    let is_marked = head.contains('#') || head.contains('=') || head.contains("//");
+    mnemonic_named(word.as_bytes()).is_none() && head.contains('(') && !is_marked
+}
+
+/// What is wrong with what stands between a line's words, and with its letters.
+fn spacing(line: &str) -> Option<Mistake<'_>> {
     if line.contains('\t') {
         return Some(Mistake::Tab);
     }
     if line.starts_with(' ') {
         return Some(Mistake::Indent);
     }
-    if line.contains('#') || line.contains(';') || line.contains("//") {
-        return Some(Mistake::Comment);
+    let marked = marking(line);
+    if marked.is_some() {
+        return marked;
+    }
+    let mut place = 0usize;
+    for letter in line.chars() {
+        place = place.saturating_add(1);
+        if !letter.is_ascii() {
+            return Some(Mistake::Letter { letter, place });
+        }
     }
     if line.ends_with(' ') || line.contains("  ") {
         return Some(Mistake::Space);
@@ -95,10 +150,30 @@ fn spacing(line: &str) -> Option<Mistake<'_>> {
     None
 }
 
+/// What is wrong with a mark behind an instruction, or in its place.
+fn marking(line: &str) -> Option<Mistake<'_>> {
+    if line.contains('#') || line.contains("//") || line.starts_with(';') {
+        return Some(Mistake::Comment);
+    }
+    let (_, behind) = line.split_once(';')?;
+    let behind = behind.trim_start();
+    let (word, _) = behind.split_once(' ').unwrap_or((behind, ""));
+    if word.is_empty() || mnemonic_named(word.as_bytes()).is_some() {
+        return Some(Mistake::Semicolon);
+    }
+    Some(Mistake::Comment)
+}
+
 /// What is wrong with a word that no instruction has.
 fn naming(word: &str) -> Mistake<'_> {
     if word.ends_with(':') {
         return Mistake::Label;
+    }
+    if word == "process" {
+        return Mistake::Scenario;
+    }
+    if register_of(word.as_bytes()).is_ok() {
+        return Mistake::Register { word };
     }
     if word.bytes().any(|letter| letter.is_ascii_uppercase()) {
         return Mistake::Capital { word };
@@ -155,7 +230,7 @@ fn form_of(mnemonic: Mnemonic) -> (&'static str, &'static [Wanted]) {
             " r1, r2, +2 or r1, 5, +2",
             &[Wanted::Register, Wanted::Source, Wanted::Offset],
         ),
-        Mnemonic::Call => (" 1", &[Wanted::Number]),
+        Mnemonic::Call => (" 1", &[Wanted::Helper]),
         Mnemonic::Exit => (", alone", &[]),
         Mnemonic::Load(_) | Mnemonic::LoadSx(_) => {
             (" r1, [r2+0]", &[Wanted::Register, Wanted::Address])
@@ -175,7 +250,7 @@ fn reading(wanted: Wanted, operand: &[u8]) -> Result<(), Fault> {
         Wanted::Source => {
             source_of(operand)?;
         }
-        Wanted::Number => {
+        Wanted::Number | Wanted::Helper => {
             number_of(operand)?;
         }
         Wanted::Value => {
@@ -205,6 +280,9 @@ impl Wanted {
             Wanted::Number => {
                 "is no number: 0, or decimal digits without a leading zero, behind a - where it is negative"
             }
+            Wanted::Helper => {
+                "is no number: helper 1 is send, 2 output, 3 the own number, 4 the sender, 5 send of a length, 6 output of a length"
+            }
             Wanted::Value => "is no number: 0, or decimal digits without a leading zero or a sign",
             Wanted::Address => {
                 "is no place: a register and a distance with its sign, in brackets, as [r1+0] or [r10-8]"
@@ -219,7 +297,9 @@ impl Wanted {
     fn range(self) -> &'static str {
         match self {
             Wanted::Register => "r0 to r10",
-            Wanted::Source | Wanted::Number | Wanted::Distance => "-2147483648 to 2147483647",
+            Wanted::Source | Wanted::Number | Wanted::Helper | Wanted::Distance => {
+                "-2147483648 to 2147483647"
+            }
             Wanted::Value => "0 to 18446744073709551615",
             Wanted::Address | Wanted::Offset => "-32768 to 32767",
         }
@@ -246,23 +326,72 @@ impl fmt::Display for Shown<'_> {
     }
 }
 
-impl fmt::Display for Mistake<'_> {
+/// A letter that isn't ASCII, by its number.
+#[derive(Clone, Copy, Debug)]
+struct Beyond(char);
+
+impl fmt::Display for Beyond {
     fn fmt<W: fmt::Write>(&self, f: &mut fmt::Formatter<W>) -> fmt::Result {
+        let number = self.0 as u32;
+        match number {
+            0xa0 => f.write_str("a no-break space (U+00A0)"),
+            0xfeff => f.write_str("a byte order mark (U+FEFF)"),
+            _ => write!(f, "U+{number:04x}"),
+        }
+    }
+}
+
+impl Mistake<'_> {
+    /// The words of a mistake that are always the same.
+    fn fixed(self) -> Option<&'static str> {
         match self {
-            Mistake::CarriageReturn => f.write_str(
-                "a carriage return: lines end with a line feed alone",
+            Mistake::Mark => Some(
+                "a byte order mark (U+FEFF) before the first letter: save the text as UTF-8 without one",
             ),
-            Mistake::Tab => f.write_str("a tab: one space stands behind a word or a comma"),
-            Mistake::Indent => f.write_str("a space before the first word"),
-            Mistake::Comment => {
-                f.write_str("a comment stands on a line of its own, which begins with #")
-            }
-            Mistake::Space => f.write_str("a space at the end, or two in a row"),
-            Mistake::Comma => f.write_str(
+            Mistake::CarriageReturn => Some("a carriage return: lines end with a line feed alone"),
+            Mistake::Language => Some(
+                "this looks like C: clang compiles it, and sblog pack writes the image (docs/HANDLERS.md)",
+            ),
+            Mistake::Tab => Some(
+                "a tab: one space stands behind the first word and behind a comma, and none before the first word or at the end",
+            ),
+            Mistake::Indent => Some("a space before the first word"),
+            Mistake::Semicolon => Some(
+                "a semicolon: each instruction stands on a line of its own, without one",
+            ),
+            Mistake::Comment => Some("a comment stands on a line of its own, which begins with #"),
+            Mistake::Space => Some("a space at the end, or two in a row"),
+            Mistake::Comma => Some(
                 "a comma and one space stand between operands, and no space before the comma",
             ),
-            Mistake::Label => {
-                f.write_str("there are no labels: a jump has its distance in slots, as ja +2")
+            Mistake::Label => Some(
+                "there are no labels: a jump has its distance in slots, as ja +2",
+            ),
+            Mistake::Scenario => Some("this looks like a scenario: sblog run carries it out"),
+            _ => None,
+        }
+    }
+}
+
+impl fmt::Display for Mistake<'_> {
+    fn fmt<W: fmt::Write>(&self, f: &mut fmt::Formatter<W>) -> fmt::Result {
+        if let Some(words) = self.fixed() {
+            return f.write_str(words);
+        }
+        match *self {
+            Mistake::Letter { letter, place } => {
+                let letter = Beyond(letter);
+                write!(
+                    f,
+                    "letter {place} is {letter}: outside of comments all are ASCII"
+                )
+            }
+            Mistake::Register { word } => {
+                let word = Shown(word);
+                write!(
+                    f,
+                    "a line begins with the word of its instruction, as mov {word}, 0, and not with a register"
+                )
             }
             Mistake::Capital { word } => {
                 let word = Shown(word);
@@ -288,6 +417,7 @@ impl fmt::Display for Mistake<'_> {
                 let range = wanted.range();
                 write!(f, "{word} is out of its range, {range}")
             }
+            _ => Ok(()),
         }
     }
 }

@@ -315,7 +315,7 @@ pub fn advice(rule: Rule) -> &'static str
         Rule::V5 =>
             "compute with numbers alone; load and store through places, and move them by add and sub of a constant",
         Rule::V6 =>
-            "stay inside the region; in form 2 compare the length before the message is read",
+            "stay inside the region (the state has as many bytes as --state says); in form 2 compare the length before the message is read",
         Rule::V7 => "write to the state or the stack",
         Rule::V8 => "call helper 1, 2, 3 or 4, or in form 2 also 5 or 6",
         Rule::V9 =>

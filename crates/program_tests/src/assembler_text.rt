@@ -29,11 +29,17 @@ fn are_told(alloc: Global, rule: Rule, rows: &[(&str, &str)]) -> Result<bool, Fa
 
 const CARRIAGE_RETURN: &str = "a carriage return: lines end with a line feed alone";
 
-const TAB: &str = "a tab: one space stands behind a word or a comma";
+const TAB: &str = "a tab: one space stands behind the first word and behind a comma, and none before the first word or at the end";
 
 const INDENT: &str = "a space before the first word";
 
 const COMMENT: &str = "a comment stands on a line of its own, which begins with #";
+
+const SEMICOLON: &str = "a semicolon: each instruction stands on a line of its own, without one";
+
+const MARK: &str = "a byte order mark (U+FEFF) before the first letter: save the text as UTF-8 without one";
+
+const LANGUAGE: &str = "this looks like C: clang compiles it, and sblog pack writes the image (docs/HANDLERS.md)";
 
 const SPACE: &str = "a space at the end, or two in a row";
 
@@ -50,12 +56,28 @@ fn words_of_no_instruction(rt: HostRuntime) -> Result<(), Fail> {
         ("  exit", INDENT),
         ("; exit", COMMENT),
         ("// exit", COMMENT),
-        ("exit;", COMMENT),
+        ("exit;", SEMICOLON),
+        ("\u{feff}exit", MARK),
+        ("/* exit */", LANGUAGE),
+        ("u64 f(void) {", LANGUAGE),
+        ("int f(void)", LANGUAGE),
+        (
+            "process a x",
+            "this looks like a scenario: sblog run carries it out",
+        ),
+        (
+            "r0 = 1",
+            "a line begins with the word of its instruction, as mov r0, 0, and not with a register",
+        ),
         ("loop:", LABEL),
         ("EXIT", "EXIT has a capital letter: words are in small ones"),
         (
-            "move\u{e9} r1, 5",
-            "no instruction has the word move?: add, sub, mul, div, sdiv, mod, smod, or, and, xor, lsh, rsh, arsh, neg, mov, movsx8 to movsx32, ja, jal, jeq, jne, jgt, jge, jlt, jle, jsgt, jsge, jslt, jsle, jset, le, be and swap with 16, 32 or 64, ldxb, ldxh, ldxw, ldxdw, stxb to stxdw, stb to stdw, lddw, call and exit do; with 32 behind it, half as wide",
+            "exit\u{e9}",
+            "letter 5 is U+00e9: outside of comments all are ASCII",
+        ),
+        (
+            "move r1, 5",
+            "no instruction has the word move: add, sub, mul, div, sdiv, mod, smod, or, and, xor, lsh, rsh, arsh, neg, mov, movsx8 to movsx32, ja, jal, jeq, jne, jgt, jge, jlt, jle, jsgt, jsge, jslt, jsle, jset, le, be and swap with 16, 32 or 64, ldxb, ldxh, ldxw, ldxdw, stxb to stxdw, stb to stdw, lddw, call and exit do; with 32 behind it, half as wide",
         ),
     ];
     assert!(rt; are_told(rt.alloc(), Rule::Word, &rows)?);
@@ -68,6 +90,13 @@ fn operands_of_another_shape(rt: HostRuntime) -> Result<(), Fail> {
         ("mov r0, 0\r", CARRIAGE_RETURN),
         ("mov r0,\t0", TAB),
         ("mov r0, 0 # none", COMMENT),
+        ("mov r0, 0 ; none", COMMENT),
+        ("mov r0, 0;", SEMICOLON),
+        ("mov r0, 0; exit", SEMICOLON),
+        (
+            "mov r0,\u{a0}0",
+            "letter 8 is a no-break space (U+00A0): outside of comments all are ASCII",
+        ),
         ("mov r0, 0 ", SPACE),
         ("mov r0,  0", SPACE),
         ("mov r0 , 0", COMMA),
@@ -89,7 +118,7 @@ fn operands_of_another_shape(rt: HostRuntime) -> Result<(), Fail> {
         ),
         (
             "call send",
-            "send is no number: 0, or decimal digits without a leading zero, behind a - where it is negative",
+            "send is no number: helper 1 is send, 2 output, 3 the own number, 4 the sender, 5 send of a length, 6 output of a length",
         ),
         (
             "lddw r1, -1",

@@ -141,7 +141,7 @@ static CASES: [(ImageForm, u16, &str, &str); 17] = [
          0: ldxdw r0, [r1+57]\n\
          \x20\x20\x20\x20r1 message+0 of 64\n\
          \x20\x20\x20\x20refused by V6: not all of the 8 bytes at message+57 of 64 lie there\n\
-         \x20\x20\x20\x20to do: stay inside the region; in form 2 compare the length before the message is read\n\
+         \x20\x20\x20\x20to do: stay inside the region (the state has as many bytes as --state says); in form 2 compare the length before the message is read\n\
          1: exit\n\
          verify refused V6 at slot 0\n",
     ),
@@ -155,7 +155,7 @@ static CASES: [(ImageForm, u16, &str, &str); 17] = [
          1: sub r3, -40000\n\
          \x20\x20\x20\x20r3 stack+512 of 512\n\
          \x20\x20\x20\x20refused by V6: r3 is moved by 40000, out of the places from -32768 to 32767\n\
-         \x20\x20\x20\x20to do: stay inside the region; in form 2 compare the length before the message is read\n\
+         \x20\x20\x20\x20to do: stay inside the region (the state has as many bytes as --state says); in form 2 compare the length before the message is read\n\
          2: exit\n\
          verify refused V6 at slot 1\n",
     ),

@@ -155,7 +155,7 @@ static CASES: [(u16, &str, &str); 25] = [
          0: ldxw r0, [r2+5]\n\
          \x20\x20\x20\x20r2 state+0 of 8\n\
          \x20\x20\x20\x20refused by V6: not all of the 4 bytes at state+5 of 8 lie there\n\
-         \x20\x20\x20\x20to do: stay inside the region: the message has 512 bytes with the zeros behind it, the local variables have 512, the state has as many as its image says\n\
+         \x20\x20\x20\x20to do: stay inside the state, which has as many bytes as --state says, or pack it with a greater one\n\
          1: exit\n\
          verify refused V6 at slot 0\n",
     ),
@@ -171,7 +171,7 @@ static CASES: [(u16, &str, &str); 25] = [
          2: ldxw r0, [r2+2]\n\
          \x20\x20\x20\x20r2 state+0 to 7 of 8\n\
          \x20\x20\x20\x20refused by V6: not all of the 4 bytes at state+2 to 9 of 8 lie there\n\
-         \x20\x20\x20\x20to do: compare the index with a number, or mask it, on each way that leads here, before it is added\n\
+         \x20\x20\x20\x20to do: compare the index with a number, or mask it, on each way that leads here, before it is added; where the C does so already, within(index, most); right above the access does so anew; or --state is too small\n\
          3: exit\n\
          verify refused V6 at slot 2\n",
     ),
@@ -185,7 +185,7 @@ static CASES: [(u16, &str, &str); 25] = [
          \x20\x20\x20\x20r1 message+0 of 512\n\
          \x20\x20\x20\x20r4 number\n\
          \x20\x20\x20\x20refused by V6: r1 is moved by 0 to 18446744073709551615, out of the places from -32768 to 32767\n\
-         \x20\x20\x20\x20to do: compare the index with a number, or mask it, on each way that leads here, before it is added\n\
+         \x20\x20\x20\x20to do: compare the index with a number, or mask it, on each way that leads here, before it is added; where the C does so already, within(index, most); right above the access does so anew\n\
          2: exit\n\
          verify refused V6 at slot 1\n",
     ),
@@ -196,7 +196,7 @@ static CASES: [(u16, &str, &str); 25] = [
          0: add r1, 2147483647\n\
          \x20\x20\x20\x20r1 message+0 of 512\n\
          \x20\x20\x20\x20refused by V6: r1 is moved by 2147483647, out of the places from -32768 to 32767\n\
-         \x20\x20\x20\x20to do: stay inside the region: the message has 512 bytes with the zeros behind it, the local variables have 512, the state has as many as its image says\n\
+         \x20\x20\x20\x20to do: stay inside the region: the message has 512 bytes with the zeros behind it, the local variables have 512, the state has as many as --state says\n\
          1: exit\n\
          verify refused V6 at slot 0\n",
     ),
@@ -262,7 +262,7 @@ static CASES: [(u16, &str, &str); 25] = [
          \x20\x20\x20\x20r1 state+0 of 8\n\
          \x20\x20\x20\x20r2 number 0 to 256\n\
          \x20\x20\x20\x20refused by V9: r1 is to be a place, with 256 bytes from there on in its region\n\
-         \x20\x20\x20\x20to do: compare the length with a number that fits before the call, or give a fixed one, and begin where so many bytes are left\n\
+         \x20\x20\x20\x20to do: compare the length with a number that fits before the call, or give a fixed one, and begin where so many bytes are left; where the C compares it already, within(length, most); right above the call does so anew; or --state is too small\n\
          3: exit\n\
          verify refused V9 at slot 2\n",
     ),

@@ -10,6 +10,7 @@
 //! ```
 #![tactic(auto)]
 
+mod above;
 mod hex;
 mod laws;
 mod line;
@@ -22,9 +23,10 @@ mod scenario;
 mod split;
 mod verb;
 
+pub use above::Above;
 pub use hex::Hex;
 pub use laws::{one_fault, one_scenario};
-pub use mistake::{Above, Mistake, mistake_of};
+pub use mistake::{Mistake, mistake_of};
 pub use order::{Allowed, Order};
 pub use process::{Process, name_at};
 pub use scenario::{Scenario, ScenarioError, Step, parse};

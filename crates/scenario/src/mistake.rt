@@ -1,5 +1,6 @@
 //! What is wrong with the first faulty line of a text, in words.
 
+use crate::above::{Above, declared};
 use crate::hex::payload_of;
 use crate::number::{number_of, word_of};
 use crate::order::Allowed;
@@ -11,24 +12,28 @@ use std::fmt;
 /// The most letters of a word that are shown.
 const SHOWN_LIMIT: usize = 40;
 
-/// The first lines of a text.
-#[derive(Clone, Copy, PartialEq, Eq, Debug)]
-pub struct Above<'a> {
-    text: &'a str,
-    lines: usize,
-}
+/// What bytes are.
+const PAIRS: &str = "bytes are pairs of 0 to 9 and a to f, at most 256 pairs, or - for none";
 
 /// What is wrong with a line, and what can stand there. It prints as a sentence, without a line's end.
 #[derive(Clone, Copy, PartialEq, Eq, Debug)]
 pub enum Mistake<'a> {
     /// No line declares a process.
     NoProcess,
+    /// A byte order mark at the beginning.
+    Mark,
     CarriageReturn,
+    /// The first word begins no line, and no line of the text looks like the one of a process.
+    Foreign { word: &'a str },
     Tab,
     /// A space at the beginning or at the end, or two in a row.
     Space,
-    /// Something behind an order that looks like a comment.
+    /// A semicolon at the end.
+    Semicolon,
+    /// Something that looks like a comment, behind an order or in its place.
     Comment,
+    /// A letter that isn't ASCII, at this place, counted from 1.
+    Letter { letter: char, place: usize },
     /// The first word begins no line.
     Verb { word: &'a str },
     /// Too many words or too few; a line has this form.
@@ -45,10 +50,20 @@ pub enum Mistake<'a> {
     InputsAlone,
     /// No process above has this name.
     Unknown { name: &'a str, above: Above<'a> },
+    /// The number of a process in place of its name.
+    Numbered { name: &'a str, above: Above<'a> },
+    /// The number of the outside in place of its name.
+    Zero { above: Above<'a> },
+    /// The outside in place of a process.
+    Outside { above: Above<'a> },
     /// A word that is no number of so many bits.
     Number { word: &'a str, bits: u8 },
-    /// A word that is no bytes.
-    Bytes,
+    /// A letter that is no digit of bytes.
+    Digit { letter: char },
+    /// Digits of bytes that are no pairs.
+    Odd { digits: usize },
+    /// More bytes than a message has.
+    Long { bytes: usize },
 }
 
 /// What stands behind the word of an order.
@@ -71,11 +86,18 @@ pub fn mistake_of(text: &str, number: usize, allowed: Allowed) -> Option<Mistake
     let lines = number - 1;
     let line = text.split('\n').nth(lines)?;
     let above = Above { text, lines };
+    let (word, operands) = line.split_once(' ').unwrap_or((line, ""));
+    let written = writing(line);
+    if written.is_some() {
+        return written;
+    }
+    if verb_named(word).is_none() && !is_declaring(text) {
+        return Some(Mistake::Foreign { word });
+    }
     let spaced = spacing(line);
     if spaced.is_some() {
         return spaced;
     }
-    let (word, operands) = line.split_once(' ').unwrap_or((line, ""));
     if word == "process" {
         return declaring(above, operands);
     }
@@ -86,19 +108,66 @@ pub fn mistake_of(text: &str, number: usize, allowed: Allowed) -> Option<Mistake
     }
 }
 
-/// What is wrong with what stands between a line's words.
-fn spacing(line: &str) -> Option<Mistake<'_>> {
+/// What is wrong with a line that another program wrote otherwise.
+fn writing(line: &str) -> Option<Mistake<'_>> {
+    if line.starts_with('\u{feff}') {
+        return Some(Mistake::Mark);
+    }
     if line.contains('\r') {
         return Some(Mistake::CarriageReturn);
     }
+    None
+}
+
+/// Whether some line of a text looks like the one of a process.
+fn is_declaring(text: &str) -> bool {
+    text.split('\n').any(|line| {
+        let line = line.trim_start();
+        line.starts_with("process") || line.starts_with("\u{feff}process")
+    })
+}
+
+/// What is wrong with what stands between a line's words, and with its letters.
+fn spacing(line: &str) -> Option<Mistake<'_>> {
     if line.contains('\t') {
         return Some(Mistake::Tab);
     }
     if line.starts_with(' ') || line.ends_with(' ') || line.contains("  ") {
         return Some(Mistake::Space);
     }
-    if line.contains(" #") && !line.starts_with("process ") {
+    if !line.starts_with("process ") {
+        let marked = marking(line);
+        if marked.is_some() {
+            return marked;
+        }
+    }
+    lettering(line)
+}
+
+/// What is wrong with a mark behind an order, or in its place.
+fn marking(line: &str) -> Option<Mistake<'_>> {
+    let is_comment = line.contains(" #") || line.contains("//") || line.starts_with(';');
+    if line.ends_with(';') && !is_comment {
+        return Some(Mistake::Semicolon);
+    }
+    if is_comment || line.contains(" ;") {
         return Some(Mistake::Comment);
+    }
+    None
+}
+
+/// The first letter of a line that isn't ASCII, but of a path.
+fn lettering(line: &str) -> Option<Mistake<'_>> {
+    match declared(line) {
+        Some(name) if name.is_ascii() => return None,
+        _ => {}
+    }
+    let mut place = 0usize;
+    for letter in line.chars() {
+        place = place.saturating_add(1);
+        if !letter.is_ascii() {
+            return Some(Mistake::Letter { letter, place });
+        }
     }
     None
 }
@@ -176,64 +245,47 @@ fn form_of(verb: Verb) -> (&'static str, &'static [Operand]) {
 
 /// What is wrong with an operand.
 fn reading<'a>(above: Above<'a>, kind: Operand, word: &'a str) -> Option<Mistake<'a>> {
-    let is_outside = kind == Operand::Party && word == "outside";
+    let is_party = kind == Operand::Party;
     match kind {
-        Operand::Process | Operand::Party if is_outside || above.has_process(word) => None,
-        Operand::Process | Operand::Party => Some(Mistake::Unknown { name: word, above }),
+        Operand::Process | Operand::Party if above.has_process(word) => None,
+        Operand::Process | Operand::Party if word == "outside" => {
+            if is_party {
+                None
+            } else {
+                Some(Mistake::Outside { above })
+            }
+        }
+        Operand::Process | Operand::Party => Some(naming(above, is_party, word)),
         Operand::Number if number_of(word).is_none() => Some(Mistake::Number { word, bits: 32 }),
         Operand::Word if word_of(word).is_none() => Some(Mistake::Number { word, bits: 64 }),
-        Operand::Bytes if payload_of(word).is_none() => Some(Mistake::Bytes),
+        Operand::Bytes if payload_of(word).is_none() => Some(spelling(word)),
         Operand::Number | Operand::Word | Operand::Bytes => None,
     }
 }
 
-/// The name that a line declares.
-fn declared(line: &str) -> Option<&str> {
-    let operands = line.strip_prefix("process ")?;
-    let (name, _path) = operands.split_once(' ')?;
-    Some(name)
+/// What is wrong with a word that names no process.
+fn naming<'a>(above: Above<'a>, is_party: bool, name: &'a str) -> Mistake<'a> {
+    if is_party && name == "0" {
+        return Mistake::Zero { above };
+    }
+    if number_of(name).is_some() {
+        return Mistake::Numbered { name, above };
+    }
+    Mistake::Unknown { name, above }
 }
 
-impl Above<'_> {
-    /// Whether one of the lines declares this process.
-    fn has_process(self, name: &str) -> bool {
-        self.text
-            .split('\n')
-            .take(self.lines)
-            .any(|line| declared(line) == Some(name))
-    }
-
-    /// How many processes the lines declare.
-    fn processes(self) -> usize {
-        self.text
-            .split('\n')
-            .take(self.lines)
-            .filter(|line| declared(line).is_some())
-            .count()
-    }
-
-    /// Whether one of the lines is an order.
-    fn has_order(self) -> bool {
-        self.text.split('\n').take(self.lines).any(|line| !line.is_empty()
-            && !line.starts_with('#')
-            && declared(line).is_none())
-    }
-}
-
-/// The names that the lines declare, with commas between them.
-impl fmt::Display for Above<'_> {
-    fn fmt<W: fmt::Write>(&self, f: &mut fmt::Formatter<W>) -> fmt::Result {
-        let mut is_first = true;
-        for line in self.text.split('\n').take(self.lines) {
-            if let Some(name) = declared(line) {
-                if !is_first {
-                    f.write_str(", ")?;
-                }
-                f.write_str(name)?;
-                is_first = false;
-            }
+/// What is wrong with a word that is no bytes.
+fn spelling(word: &str) -> Mistake<'_> {
+    for letter in word.chars() {
+        if !matches!(letter, '0'..='9' | 'a'..='f') {
+            return Mistake::Digit { letter };
         }
-        Ok(())
+    }
+    if word.len() % 2 == 1 {
+        return Mistake::Odd { digits: word.len() };
+    }
+    Mistake::Long {
+        bytes: word.len() / 2,
     }
 }
 
@@ -257,16 +309,107 @@ impl fmt::Display for Shown<'_> {
     }
 }
 
+/// A letter that isn't ASCII, by its number.
+#[derive(Clone, Copy, Debug)]
+struct Beyond(char);
+
+impl fmt::Display for Beyond {
+    fn fmt<W: fmt::Write>(&self, f: &mut fmt::Formatter<W>) -> fmt::Result {
+        let number = self.0 as u32;
+        match number {
+            0xa0 => f.write_str("a no-break space (U+00A0)"),
+            0xfeff => f.write_str("a byte order mark (U+FEFF)"),
+            _ => write!(f, "U+{number:04x}"),
+        }
+    }
+}
+
+impl Mistake<'_> {
+    /// The words of a mistake that are always the same.
+    fn fixed(self) -> Option<&'static str> {
+        match self {
+            Mistake::NoProcess => Some("no line declares a process: process NAME PATH"),
+            Mistake::Mark => Some(
+                "a byte order mark (U+FEFF) before the first letter: save the text as UTF-8 without one",
+            ),
+            Mistake::CarriageReturn => Some("a carriage return: lines end with a line feed alone"),
+            Mistake::Tab => Some("a tab: words stand with one space between them"),
+            Mistake::Space => Some("a space at the beginning or the end, or two in a row"),
+            Mistake::Semicolon => Some("no line ends with a semicolon"),
+            Mistake::Comment => Some("a comment stands on a line of its own, which begins with #"),
+            Mistake::Late => Some("processes are declared before the first order"),
+            Mistake::InputsAlone => Some("only input and bytes lines can stand here"),
+            _ => None,
+        }
+    }
+
+    /// Writes what is wrong with a word that names no process.
+    fn name<W: fmt::Write>(self, f: &mut fmt::Formatter<W>) -> fmt::Result {
+        match self {
+            Mistake::Unknown { name, above } => {
+                let name = Shown(name);
+                write!(f, "no process is named {name}; {above}")
+            }
+            Mistake::Numbered { name, above } => {
+                let name = Shown(name);
+                write!(
+                    f,
+                    "no process is named {name}: its name stands here, not its number; {above}"
+                )
+            }
+            Mistake::Zero { above } => write!(
+                f,
+                "no process is named 0, and the outside is written outside; {above}"
+            ),
+            Mistake::Outside { above } => write!(
+                f,
+                "the outside is no process, and only a process can stand here; {above}"
+            ),
+            _ => Ok(()),
+        }
+    }
+
+    /// Writes what is wrong with bytes.
+    fn bytes<W: fmt::Write>(self, f: &mut fmt::Formatter<W>) -> fmt::Result {
+        match self {
+            Mistake::Digit { letter } if letter.is_ascii_uppercase() => {
+                write!(f, "{letter} is a capital letter: {PAIRS}")
+            }
+            Mistake::Digit { letter } => {
+                let letter = if letter.is_ascii_graphic() {
+                    letter
+                } else {
+                    '?'
+                };
+                write!(f, "{letter} is no digit of bytes: {PAIRS}")
+            }
+            Mistake::Odd { digits } => write!(f, "an odd number of digits, {digits}: {PAIRS}"),
+            Mistake::Long { bytes } => write!(f, "{bytes} pairs are too many: {PAIRS}"),
+            _ => Ok(()),
+        }
+    }
+}
+
 impl fmt::Display for Mistake<'_> {
     fn fmt<W: fmt::Write>(&self, f: &mut fmt::Formatter<W>) -> fmt::Result {
-        match self {
-            Mistake::NoProcess => f.write_str("no line declares a process: process NAME PATH"),
-            Mistake::CarriageReturn => f.write_str(
-                "a carriage return: lines end with a line feed alone",
-            ),
-            Mistake::Tab => f.write_str("a tab: words stand with one space between them"),
-            Mistake::Space => f.write_str("a space at the beginning or the end, or two in a row"),
-            Mistake::Comment => f.write_str("a comment stands on a line of its own"),
+        if let Some(words) = self.fixed() {
+            return f.write_str(words);
+        }
+        match *self {
+            Mistake::Foreign { word } => {
+                let word = Shown(word);
+                write!(
+                    f,
+                    "no line begins with {word}, and none declares a process, so this is no scenario (assembler text is for sblog asm, C for clang and then sblog pack)"
+                )
+            }
+            Mistake::Letter { letter, place } => {
+                let letter = Beyond(letter);
+                write!(
+                    f,
+                    "letter {place} is {letter}: outside of paths and comments all are ASCII"
+                )
+            }
             Mistake::Verb { word } => {
                 let word = Shown(word);
                 write!(
@@ -275,7 +418,6 @@ impl fmt::Display for Mistake<'_> {
                 )
             }
             Mistake::Words { form } => write!(f, "more or fewer words than in: {form}"),
-            Mistake::Late => f.write_str("processes are declared before the first order"),
             Mistake::Full => write!(f, "there are at most {PROCESSES} processes"),
             Mistake::Name { name } => {
                 let name = Shown(name);
@@ -285,14 +427,6 @@ impl fmt::Display for Mistake<'_> {
                 )
             }
             Mistake::Taken { name } => write!(f, "{name} is declared above"),
-            Mistake::InputsAlone => f.write_str("only input and bytes lines can stand here"),
-            Mistake::Unknown { name, above } => {
-                let name = Shown(name);
-                if above.processes() == 0 {
-                    return write!(f, "no process is named {name}; none is declared above");
-                }
-                write!(f, "no process is named {name}; declared are {above}")
-            }
             Mistake::Number { word, bits } => {
                 let word = Shown(word);
                 write!(
@@ -300,9 +434,8 @@ impl fmt::Display for Mistake<'_> {
                     "{word} is no number: 0, or digits without a leading zero, below 2^{bits}"
                 )
             }
-            Mistake::Bytes => f.write_str(
-                "bytes are pairs of 0 to 9 and a to f, at most 256 pairs, or - for none",
-            ),
+            Mistake::Digit { .. } | Mistake::Odd { .. } | Mistake::Long { .. } => self.bytes(f),
+            _ => self.name(f),
         }
     }
 }

@@ -1,8 +1,10 @@
 -- A cause as a sentence, and what to do about it.
-use Rattle.std.specs.Prelude.{ℕ, ◌++◌, int_le, List, [], codes, decimal, if◌then◌else◌}
+use Rattle.std.specs.Prelude.{ℕ, ℤ, ◌++◌, int_le, List, [], codes, decimal, if◌then◌else◌}
 use Rattle.std.specs.Fmt.{signed_decimal}
 use Rattle.explain.specs.Cause.{count_cause, distance_cause, jump_cause}
 use Rattle.explain.specs.Kinds.{reg_text}
+use Rattle.regtypes.specs.declared.frame.Region.{Region}
+use Rattle.regtypes.specs.declared.frame.Region.TheVariants.{Message, State, Stack}
 use Rattle.span_explain.specs.declared.cause.Cause.{Cause}
 use Rattle.span_explain.specs.declared.cause.Cause.TheVariants.{Nothing, Jump, NothingFollows, FramePointer, NoAnswer, OfRegister, OfWord, SumOfPlaces, Outside, MovedBy, ShiftedBy, NoHelper, NoCount, NoPayload}
 use Rattle.span_explain.specs.declared.cause.RegisterFault.{RegisterFault}
@@ -62,10 +64,23 @@ word_advice (word.Written n) = codes "compare the index of the local array with 
 
 -- what to do about an index, and about a place that no index moves
 abbrev pub index_advice : List ℕ
-index_advice = codes "compare the index with a number, or mask it, on each way that leads here, before it is added"
+index_advice = codes "compare the index with a number, or mask it, on each way that leads here, before it is added; where the C does so already, within(index, most); right above the access does so anew"
 
 abbrev pub region_advice : List ℕ
-region_advice = codes "stay inside the region: the message has 512 bytes with the zeros behind it, the local variables have 512, the state has as many as its image says"
+region_advice = codes "stay inside the region: the message has 512 bytes with the zeros behind it, the local variables have 512, the state has as many as --state says"
+
+-- the same in the state
+abbrev pub state_index_advice : List ℕ
+state_index_advice = codes "compare the index with a number, or mask it, on each way that leads here, before it is added; where the C does so already, within(index, most); right above the access does so anew; or --state is too small"
+
+abbrev pub state_advice : List ℕ
+state_advice = codes "stay inside the state, which has as many bytes as --state says, or pack it with a greater one"
+
+-- what to do about an access that reaches out of its region, from one distance to another
+abbrev pub outside_advice : Region → ℤ → ℤ → List ℕ
+outside_advice Message lo hi = if int_le hi lo then region_advice else index_advice
+outside_advice State lo hi = if int_le hi lo then state_advice else state_index_advice
+outside_advice Stack lo hi = if int_le hi lo then region_advice else index_advice
 
 -- what to do about a cause
 abbrev pub cause_advice : Cause → List ℕ
@@ -77,9 +92,9 @@ cause_advice NoAnswer = codes "return a number on each way"
 cause_advice (OfRegister r fault) = register_advice fault
 cause_advice (OfWord c fault) = word_advice fault
 cause_advice (SumOfPlaces r q) = codes "compare and compute with indices in place of pointers"
-cause_advice (Outside n r lo hi) = if int_le hi lo then region_advice else index_advice
+cause_advice (Outside n r lo hi) = outside_advice r lo hi
 cause_advice (MovedBy r t) = index_advice
 cause_advice (ShiftedBy r z) = region_advice
 cause_advice (NoHelper z) = codes "call helper 1 to 6"
 cause_advice (NoCount r) = codes "give the helper a number, set on each way that leads here"
-cause_advice (NoPayload r n) = codes "compare the length with a number that fits before the call, or give a fixed one, and begin where so many bytes are left"
+cause_advice (NoPayload r n) = codes "compare the length with a number that fits before the call, or give a fixed one, and begin where so many bytes are left; where the C compares it already, within(length, most); right above the call does so anew; or --state is too small"

@@ -4,7 +4,7 @@ ghost use Rattle.std.specs.Prelude.{◌≡◌, ◌<◌, ◌≤◌, ◌++◌, OnO
 ghost use Rattle.std.specs.Fmt.{signed_decimal};
 ghost use Rattle.explain.specs.Kinds.{reg_text};
 ghost use Rattle.span_explain.specs.Kinds.{places_text, range_text, word_text};
-ghost use Rattle.span_explain.specs.Sentence.{cause_advice, cause_text, register_advice, register_words, word_advice, word_words};
+ghost use Rattle.span_explain.specs.Sentence.{cause_advice, cause_text, outside_advice, register_advice, register_words, word_advice, word_words};
 
 use crate::cause::{Cause, RegisterFault, WordFault};
 use crate::kinds::{push_places, push_range, push_word};
@@ -180,11 +180,29 @@ fn word_advice(fault: WordFault) -> &'static str
 
 /// What to do about an index.
 const INDEX: &str =
-    "compare the index with a number, or mask it, on each way that leads here, before it is added";
+    "compare the index with a number, or mask it, on each way that leads here, before it is added; where the C does so already, within(index, most); right above the access does so anew";
 
 /// What to do about a place that no index moves.
 const REGION: &str =
-    "stay inside the region: the message has 512 bytes with the zeros behind it, the local variables have 512, the state has as many as its image says";
+    "stay inside the region: the message has 512 bytes with the zeros behind it, the local variables have 512, the state has as many as --state says";
+
+/// What to do about an index in the state.
+const STATE_INDEX: &str =
+    "compare the index with a number, or mask it, on each way that leads here, before it is added; where the C does so already, within(index, most); right above the access does so anew; or --state is too small";
+
+/// What to do about a place in the state that no index moves.
+const STATE: &str =
+    "stay inside the state, which has as many bytes as --state says, or pack it with a greater one";
+
+/// What to do about an access that reaches out of its region, from one distance to another.
+fn outside_advice(region: Region, lo: i64, hi: i64) -> &'static str
+    ensures { result.now ≡ outside_advice region lo hi }
+{
+    match region {
+        Region::State => { if hi <= lo { STATE } else { STATE_INDEX } }
+        Region::Message | Region::Stack => { if hi <= lo { REGION } else { INDEX } }
+    }
+}
 
 /// What to do about a cause.
 pub fn cause_advice(cause: Cause) -> &'static str
@@ -200,13 +218,12 @@ pub fn cause_advice(cause: Cause) -> &'static str
         Cause::OfRegister(_, fault) => register_advice(fault),
         Cause::OfWord(_, fault) => word_advice(fault),
         Cause::SumOfPlaces(_, _) => "compare and compute with indices in place of pointers",
-        Cause::Outside(_, _, lo, hi) if hi <= lo => REGION,
-        Cause::Outside(_, _, _, _) => INDEX,
+        Cause::Outside(_, region, lo, hi) => outside_advice(region, lo, hi),
         Cause::MovedBy(_, _) => INDEX,
         Cause::ShiftedBy(_, _) => REGION,
         Cause::NoHelper(_) => "call helper 1 to 6",
         Cause::NoCount(_) => "give the helper a number, set on each way that leads here",
         Cause::NoPayload(_, _) =>
-            "compare the length with a number that fits before the call, or give a fixed one, and begin where so many bytes are left",
+            "compare the length with a number that fits before the call, or give a fixed one, and begin where so many bytes are left; where the C compares it already, within(length, most); right above the call does so anew; or --state is too small",
     }
 }

@@ -37,9 +37,13 @@ fn tell(alloc: Global, rows: &[(&str, &str)]) -> Result<bool, Fail> {
 
 const SPACE: &str = "a space at the beginning or the end, or two in a row";
 
-const BYTES: &str = "bytes are pairs of 0 to 9 and a to f, at most 256 pairs, or - for none";
+const COMMENT: &str = "a comment stands on a line of its own, which begins with #";
 
-const SPACED: [(&str, &str); 6] = [
+const SPACED: [(&str, &str); 12] = [
+    (
+        "\u{feff}drive 5",
+        "a byte order mark (U+FEFF) before the first letter: save the text as UTF-8 without one",
+    ),
     (
         "drive 5\r",
         "a carriage return: lines end with a line feed alone",
@@ -48,7 +52,18 @@ const SPACED: [(&str, &str); 6] = [
     (" drive 5", SPACE),
     ("drive 5 ", SPACE),
     ("drive  5", SPACE),
-    ("drive 5 # all", "a comment stands on a line of its own"),
+    ("drive 5 # all", COMMENT),
+    ("drive 5 // all", COMMENT),
+    ("drive 5;", "no line ends with a semicolon"),
+    (
+        "drive\u{a0}5",
+        "letter 6 is a no-break space (U+00A0): outside of paths and comments all are ASCII",
+    ),
+    (
+        "process d\u{2013}1 x",
+        "letter 10 is U+2013: outside of paths and comments all are ASCII",
+    ),
+    ("process c \u{e9}", "c is declared above"),
 ];
 
 #[test]
@@ -57,11 +72,19 @@ fn what_stands_between_words(rt: HostRuntime) -> Result<(), Fail> {
     Ok(())
 }
 
-const ORDERS: [(&str, &str); 16] = [
+const ORDERS: [(&str, &str); 18] = [
     ("input b 5", "no process is named b; declared are a, c"),
     (
         "input outside 5",
-        "no process is named outside; declared are a, c",
+        "the outside is no process, and only a process can stand here; declared are a, c",
+    ),
+    (
+        "trim 0",
+        "no process is named 0, and the outside is written outside; declared are a, c",
+    ),
+    (
+        "transmit a 3 1",
+        "no process is named 3: its name stands here, not its number; declared are a, c",
     ),
     (
         "transmit outside d 1",
@@ -88,9 +111,18 @@ const ORDERS: [(&str, &str); 16] = [
         "input a 18446744073709551616",
         "18446744073709551616 is no number: 0, or digits without a leading zero, below 2^64",
     ),
-    ("bytes a 05FF", BYTES),
-    ("bytes a 5", BYTES),
-    ("bytes a 0x05", BYTES),
+    (
+        "bytes a 05FF",
+        "F is a capital letter: bytes are pairs of 0 to 9 and a to f, at most 256 pairs, or - for none",
+    ),
+    (
+        "bytes a 5",
+        "an odd number of digits, 1: bytes are pairs of 0 to 9 and a to f, at most 256 pairs, or - for none",
+    ),
+    (
+        "bytes a 0x05",
+        "x is no digit of bytes: bytes are pairs of 0 to 9 and a to f, at most 256 pairs, or - for none",
+    ),
     (
         "deliver 5",
         "no line begins with deliver: process, input, bytes, transmit, copy, lose, arrive, finish, checkpoint, trim, crash, recover, alone, replay, resync and drive do",
@@ -134,7 +166,7 @@ fn lines_of_processes(rt: HostRuntime) -> Result<(), Fail> {
 }
 
 /// Whole texts, and what is said of their first faulty line.
-const TEXTS: [(&str, Allowed, &str); 3] = [
+const TEXTS: [(&str, Allowed, &str); 5] = [
     (
         "# nothing\ndrive 5\n",
         Allowed::All,
@@ -144,6 +176,16 @@ const TEXTS: [(&str, Allowed, &str); 3] = [
         "crash a\nprocess a x\n",
         Allowed::All,
         "no process is named a; none is declared above",
+    ),
+    (
+        "# an adder\nmov r0, 0\nexit\n",
+        Allowed::All,
+        "no line begins with mov, and none declares a process, so this is no scenario (assembler text is for sblog asm, C for clang and then sblog pack)",
+    ),
+    (
+        " process a x\ncrash a\n",
+        Allowed::All,
+        SPACE,
     ),
     (
         "process a x\ncrash a\n",

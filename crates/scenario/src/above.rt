@@ -1,0 +1,64 @@
+//! The lines above one of a text, and the processes that they declare.
+
+use std::fmt;
+
+/// The first lines of a text.
+#[derive(Clone, Copy, PartialEq, Eq, Debug)]
+pub struct Above<'a> {
+    pub(crate) text: &'a str,
+    pub(crate) lines: usize,
+}
+
+/// The name that a line declares.
+pub(crate) fn declared(line: &str) -> Option<&str> {
+    let operands = line.strip_prefix("process ")?;
+    let (name, _path) = operands.split_once(' ')?;
+    Some(name)
+}
+
+impl Above<'_> {
+    /// Whether one of the lines declares this process.
+    pub(crate) fn has_process(self, name: &str) -> bool {
+        self.text
+            .split('\n')
+            .take(self.lines)
+            .any(|line| declared(line) == Some(name))
+    }
+
+    /// How many processes the lines declare.
+    pub(crate) fn processes(self) -> usize {
+        self.text
+            .split('\n')
+            .take(self.lines)
+            .filter(|line| declared(line).is_some())
+            .count()
+    }
+
+    /// Whether one of the lines is an order.
+    pub(crate) fn has_order(self) -> bool {
+        self.text.split('\n').take(self.lines).any(|line| !line.is_empty()
+            && !line.starts_with('#')
+            && declared(line).is_none())
+    }
+}
+
+/// What the lines declare: the names, with commas between them.
+impl fmt::Display for Above<'_> {
+    fn fmt<W: fmt::Write>(&self, f: &mut fmt::Formatter<W>) -> fmt::Result {
+        if self.processes() == 0 {
+            return f.write_str("none is declared above");
+        }
+        f.write_str("declared are ")?;
+        let mut is_first = true;
+        for line in self.text.split('\n').take(self.lines) {
+            if let Some(name) = declared(line) {
+                if !is_first {
+                    f.write_str(", ")?;
+                }
+                f.write_str(name)?;
+                is_first = false;
+            }
+        }
+        Ok(())
+    }
+}
