@@ -1,0 +1,5 @@
+pub mod Reading
+pub mod Memory
+pub mod Rules
+pub mod Typings
+pub mod Files
