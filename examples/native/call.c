@@ -92,10 +92,17 @@ static void relay(handler *code) {
     relay_refused(code, 1, 1, 8, 1);
 }
 
+static void sums(handler *code) {
+    expect("sums's r0", called(code, 1, 2, 0), 0x0807060504030201 + 200 + 1 + 5);
+    put(expected + STEPS, 11);
+    expect("sums's record differs", memcmp(record, expected, RECORD) != 0, 0);
+}
+
 int main(void) {
     adder(mapped("adder.bin"));
     greatest(mapped("greatest.bin"));
     relay(mapped("relay.bin"));
+    sums(mapped("sums.bin"));
     puts("examples/native: the codes do on this processor what the handlers say");
     return 0;
 }

@@ -21,6 +21,8 @@ use Rattle.native.specs.declared.task.Task.{Task}
 use Rattle.native.specs.declared.task.Task.TheVariants as task
 use Rattle.native.specs.declared.saved.Saved.{Saved}
 use Rattle.native.specs.Saved.{pop_if, restoring}
+use Rattle.native.specs.SlotTasks.{task_at}
+use Rattle.native.specs.Laid.{Fuses, ServesBy}
 use Rattle.native.specs.Code.{seen, codes, two_size, copy_code, sized_code, good_end, send_good, output_good, send_sized_good, output_sized_good, good_of, body_of, IsBody, IsDone, condition_of, compare_code, jump_code, jump_if_code, flushed, skipped, ending, leaving, Plain, Serves}
 
 number_short : (v : ℕ) → length (number v) ≤ 4
@@ -346,3 +348,12 @@ serves_short pends tails saved slot task.Exit is s =
     few_codes is (let e = ap length s.is_are in let a = length-append (flushed s.k) (leaving saved) in let b = length-append (ending ∷ restoring saved) (instr.Return ∷ []) in omega (arith, flushed_few s.k, restoring_few saved))
 serves_short pends tails saved slot task.Dead is s = few_codes is (omega (arith, ap length s))
 serves_short pends tails saved slot t is s = few_codes is (plain_few pends tails slot t is s)
+
+-- that of two slots too
+pub fused_short : (pends tails : List ℕ) (slot : ℕ) (i : Instr) (u : Task) (is : List Instr) → Fuses pends tails slot i u is → length (codes is) ≤ 1000
+fused_short pends tails slot i u is s =
+    few_codes is (let e = ap length s.is_are in let a = length-append (flushed s.k) (skipped s.d) in omega (arith, flushed_few s.k, skipped_few s.d))
+
+pub slot_short : (o : Option Instr) (tasks : List Task) (pends tails : List ℕ) (saved : Saved) (slot : ℕ) (t : Task) (is : List Instr) → ServesBy o tasks pends tails saved slot t is → length (codes is) ≤ 1000
+slot_short None tasks pends tails saved slot t is s = serves_short pends tails saved slot t is s
+slot_short (Some i) tasks pends tails saved slot t is s = fused_short pends tails slot i (task_at tasks (slot + 1)) is s

@@ -20,7 +20,8 @@ use Rattle.native.specs.declared.task.Task.{Task}
 use Rattle.native.specs.declared.task.Task.TheVariants as task
 use Rattle.native.specs.Tasks.{is_apt}
 use Rattle.native.specs.Code.{codes, body_of, flushed, skipped, leaving, condition_of, compare_code, jump_code, jump_if_code, IsBody, IsDone, Counts, Reaches, Plain, Serves, taken}
-use Rattle.native.specs.Laid.{IsPiece}
+use Rattle.native.specs.Fusion.{fused, is_covered}
+use Rattle.native.specs.Laid.{Fuses, ServesBy, IsPiece}
 use Rattle.native.specs.Pends.{pends_in}
 use Rattle.native.specs.Openings.{entering_by, saved_for}
 use Rattle.native.specs.SlotTasks.{task_at, task_there, tasks_in}
@@ -79,15 +80,28 @@ serves_one pends tails saved slot task.Exit is js a b =
 serves_one pends tails saved slot task.Dead is js a b = a ∙ sym b
 serves_one pends tails saved slot t is js a b = plain_one pends tails slot t is js a b
 
-piece_one : (pends tails : List ℕ) (saved : Saved) (slot : ℕ) (t : Task) (p q : List ℕ) → IsPiece pends tails saved slot t p → IsPiece pends tails saved slot t q → p ≡ q
-piece_one pends tails saved slot t p q a b = by_test (is_apt slot t) refl
+fused_one : (pends tails : List ℕ) (slot : ℕ) (i : Instr) (u : Task) (is js : List Instr) → Fuses pends tails slot i u is → Fuses pends tails slot i u js → is ≡ js
+fused_one pends tails slot i u is js a b =
+    let k : a.k ≡ b.k = let x = a.sums in let y = b.sums in omega arith in
+    a.is_are
+    ∙ ap (λ k. i ∷ (flushed k ++ skipped a.d)) k
+    ∙ ap (λ d. i ∷ (flushed b.k ++ skipped d)) (reaches_one tails slot (slot + 2) a.d b.d a.reaches b.reaches)
+    ∙ sym b.is_are
+
+slot_one : (o : Option Instr) (tasks : List Task) (pends tails : List ℕ) (saved : Saved) (slot : ℕ) (t : Task) (is js : List Instr) → ServesBy o tasks pends tails saved slot t is → ServesBy o tasks pends tails saved slot t js → is ≡ js
+slot_one None tasks pends tails saved slot t is js a b = serves_one pends tails saved slot t is js a b
+slot_one (Some i) tasks pends tails saved slot t is js a b = fused_one pends tails slot i (task_at tasks (slot + 1)) is js a b
+
+piece_one : (tasks : List Task) (pends tails : List ℕ) (saved : Saved) (slot : ℕ) (t : Task) (p q : List ℕ) → IsPiece tasks pends tails saved slot t p → IsPiece tasks pends tails saved slot t q → p ≡ q
+piece_one tasks pends tails saved slot t p q a b = by_test (is_covered tasks slot) (is_apt slot t) refl refl
   where
-    by_test : (v : Bool) → is_apt slot t ≡ v → p ≡ q
-    by_test true apt =
-        let x = a.serves apt in
-        let y = b.serves apt in
-        x.2 ∙ ap codes (serves_one pends tails saved slot t x.0 y.0 x.1 y.1) ∙ sym y.2
-    by_test false apt = a.none apt ∙ sym (b.none apt)
+    by_test : (u v : Bool) → is_covered tasks slot ≡ u → is_apt slot t ≡ v → p ≡ q
+    by_test true v covered apt = a.covered covered ∙ sym (b.covered covered)
+    by_test false true covered apt =
+        let x = a.serves covered apt in
+        let y = b.serves covered apt in
+        x.2 ∙ ap codes (slot_one (fused tasks slot) tasks pends tails saved slot t x.0 y.0 x.1 y.1) ∙ sym y.2
+    by_test false false covered apt = a.none apt ∙ sym (b.none apt)
 
 -- ---- the code of tasks
 
@@ -96,7 +110,7 @@ stacks_one o tasks zero tails tails' code code' a b = (a.0 ∙ sym b.0, a.1 ∙ 
 stacks_one o tasks (suc n) tails tails' code code' (ts, cs, p, s, is, t, c) (ts', cs', p', s', is', t', c') =
     let slot = length tasks - suc n in
     let x = stacks_one o tasks n ts ts' cs cs' s s' in
-    let y : p ≡ p' = piece_one (pends_in tasks) ts' (saved_for o tasks) slot (task_at tasks slot) p p' (subst (λ l. IsPiece (pends_in tasks) l (saved_for o tasks) slot (task_at tasks slot) p) x.0 is) is' in (
+    let y : p ≡ p' = piece_one tasks (pends_in tasks) ts' (saved_for o tasks) slot (task_at tasks slot) p p' (subst (λ l. IsPiece tasks (pends_in tasks) l (saved_for o tasks) slot (task_at tasks slot) p) x.0 is) is' in (
       t ∙ ap (λ l. slice_set l slot (length p + length cs)) x.0 ∙ ap (λ l. slice_set ts' slot (length l + length cs)) y ∙ ap (λ l. slice_set ts' slot (length p' + length l)) x.1 ∙ sym t',
       c ∙ ap (λ l. l ++ cs) y ∙ ap (λ l. p' ++ l) x.1 ∙ sym c',
     )

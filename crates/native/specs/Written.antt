@@ -19,7 +19,7 @@ abbrev pub Stacks : Opening → List Task → ℕ → List ℕ → List ℕ → 
 Stacks o tasks zero tails code = (tails ≡ replicate (length tasks + 1) 0) × (code ≡ [])
 Stacks o tasks (suc n) tails code =
     (tails' code' piece : List ℕ) × Stacks o tasks n tails' code'
-    × IsPiece (pends_in tasks) tails' (saved_for o tasks) (length tasks - suc n) (task_at tasks (length tasks - suc n)) piece
+    × IsPiece tasks (pends_in tasks) tails' (saved_for o tasks) (length tasks - suc n) (task_at tasks (length tasks - suc n)) piece
     × (tails ≡ slice_set tails' (length tasks - suc n) (length piece + length code')) × (code ≡ piece ++ code')
 
 -- behind the entry stands the code of all tasks

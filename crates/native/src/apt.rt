@@ -6,7 +6,8 @@ ghost use Rattle.native.specs.Tasks as specs;
 use crate::task::Task;
 use decode::{AluOp, Operand, Reg};
 
-fn holds_word(reg: Reg) -> bool
+/// Whether a register may hold a word.
+pub(crate) fn holds_word(reg: Reg) -> bool
     ensures { result ≡ specs.holds_word reg.number }
 {
     reg.number < 10

@@ -1,16 +1,19 @@
 //! Whole images.
 
-ghost use Rattle.std.specs.Prelude.{◌≡◌, ◌<◌, ◌≤◌, ◌+◌, ◌-◌, ◌^◌, [], ◌++◌, length, replicate, reverse, slice_index, IfOk, OnOk};
+ghost use Rattle.std.specs.Prelude.{◌≡◌, ◌<◌, ◌≤◌, ◌+◌, [], ◌++◌, length, replicate, reverse, IfOk, OnOk};
 ghost use Rattle.limits.specs.declared.TheConstants.{SLOTS};
-ghost use Rattle.native.specs.Code.{codes, IsBalanced, IsBehind};
+ghost use Rattle.native.specs.Code.{codes, IsBehind};
 ghost use Rattle.native.specs.Correct.{IsNative};
+ghost use Rattle.native.specs.Fusion.{targets_in};
 ghost use Rattle.native.specs.Laid.{ArePends, IsPiece};
 ghost use Rattle.native.specs.Pends.{pends_in};
 ghost use Rattle.native.specs.Openings.{entering_by, saved_for};
+ghost use Rattle.native.specs.SlotTasks as slots;
 ghost use Rattle.native.specs.Written.{IsCodeOf, IsLaidFrom, IsServed};
 
 use crate::apt::is_apt;
 use crate::body::clear;
+use crate::fusion::{is_covered, targets_of, task_at};
 use crate::opening::Opening;
 use crate::pends::pends_of;
 use crate::saved::{Saved, saved_for};
@@ -34,27 +37,33 @@ fn zeros(alloc: Global, count: usize) -> Result<Vec<u64>, AllocError>
     Ok(list)
 }
 
-// The code of a slot, and none where no call comes to it.
+// The code of a slot, and none where no call comes to it or the slot in front serves it.
 fn write_piece(
     alloc: Global,
     piece: &mut Vec<u8>,
     pends: &[u64],
     tails: &[u64],
     saved: Saved,
+    tasks: &[Task],
+    targets: &[bool],
     slot: usize,
-    task: Task,
 ) -> Result<(), AllocError>
     requires few { slot < SLOTS }
+    requires within { slot < length tasks.now }
     requires empty { piece.old.items ≡ [] }
-    requires small { slice_index pends.now slot < 2 ^ 31 - 1 }
-    requires balanced { IsBalanced pends.now slot task }
+    requires targets { targets.now ≡ targets_in tasks.now }
+    requires pended { ArePends tasks.now pends.now }
     requires behind { IsBehind tails.now slot }
-    ensures { OnOk result (IsPiece pends.now tails.now saved slot task piece.new.items) }
+    ensures { OnOk result (IsPiece tasks.now pends.now tails.now saved slot (slots.task_at tasks.now slot) piece.new.items) }
 {
+    if is_covered(tasks, targets, slot) {
+        return Ok(());
+    }
+    let task = task_at(tasks, slot);
     if !is_apt(slot, &task) {
         return Ok(());
     }
-    emit(alloc, piece, pends, tails, saved, slot, task)?;
+    emit(alloc, piece, pends, tails, saved, tasks, targets, slot)?;
     Ok(())
 }
 
@@ -67,12 +76,14 @@ fn lay_slot(
     tails: &mut Vec<u64>,
     opening: Opening,
     tasks: &[Task],
+    targets: &[bool],
     pends: &[u64],
     saved: Saved,
     slot: usize,
 ) -> Result<(), AllocError>
     requires within { slot < length tasks.now }
     requires few { length tasks.now ≤ SLOTS }
+    requires targets { targets.now ≡ targets_in tasks.now }
     requires pended { ArePends tasks.now pends.now }
     requires pends { pends.now ≡ pends_in tasks.now }
     requires saved { saved ≡ saved_for opening tasks.now }
@@ -86,8 +97,9 @@ fn lay_slot(
         pends,
         tails.as_slice(),
         saved,
+        tasks,
+        targets,
         slot,
-        tasks[slot],
     )?;
     piece.reverse();
     back.extend_from_slice(piece.as_slice())?;
@@ -114,6 +126,7 @@ pub fn write_tasks(alloc: Global, opening: Opening, tasks: &[Task]) -> Result<Ve
     requires { length tasks.now ≤ SLOTS }
     ensures { IfOk result (λ code. IsServed opening tasks.now code.items) }
 {
+    let targets = targets_of(alloc, tasks)?;
     let pends = pends_of(alloc, tasks)?;
     let saved = saved_for(opening, tasks);
     let mut tails = zeros(alloc, tasks.len() + 1)?;
@@ -129,6 +142,7 @@ pub fn write_tasks(alloc: Global, opening: Opening, tasks: &[Task]) -> Result<Ve
             &mut tails,
             opening,
             tasks,
+            targets.as_slice(),
             pends.as_slice(),
             saved,
             slot,

@@ -4,11 +4,16 @@ ghost use Rattle.std.specs.Prelude.{◌≡◌, ◌<◌, ◌≤◌, ◌+◌, ◌-
 ghost use Rattle.x86.specs.declared.instruction.Instr as machine;
 ghost use Rattle.native.specs.Code.{Emits, codes, flushed, skipped, leaving, entering, taken, IsBody, IsCall, IsQuotient, IsSigned, IsDone, IsBalanced, IsBehind, Counts, Reaches, Plain, Forks, Jumps, Ends, Serves};
 ghost use Rattle.native.specs.Code as specs;
+ghost use Rattle.native.specs.Fusion.{targets_in};
+ghost use Rattle.native.specs.Fusion as fusion;
+ghost use Rattle.native.specs.Laid.{ArePends, Fuses, ServesBy};
+ghost use Rattle.native.specs.SlotTasks as slots;
 ghost use Rattle.native.specs.Tasks.{is_apt};
 
 use crate::body::{Body, body_of, clear, gpr};
 use crate::comparison::{compare_code, condition_of};
 use crate::emission::{Helper, write_end, write_good, write_tests};
+use crate::fusion::{fused, task_at};
 use crate::quotient::{Ways, divisor_code, two_size, write_quotient, write_signed};
 use crate::saved::{Saved, write_restoring, write_saving};
 use crate::sequence::write_all;
@@ -306,6 +311,32 @@ fn emit_plain(
     Ok(())
 }
 
+/// The instruction of a slot and the next.
+fn emit_fused(
+    code: &mut Vec<u8>,
+    pends: &[u64],
+    tails: &[u64],
+    slot: usize,
+    instr: Instr,
+    second: Task,
+) -> Result<(), AllocError>
+    requires few { slot < SLOTS }
+    requires small { slice_index pends.now slot < 2 ^ 31 - 2 }
+    requires balanced { slice_index pends.now (slot + 2) ≤ slice_index pends.now slot + 2 }
+    requires behind { IsBehind tails.now slot }
+    ensures { OnOk result (Emits (Fuses pends.now tails.now slot instr second) code.old.items code.new.items) }
+{
+    let next = slot + 2;
+    let steps = at(pends, slot) + 2 - at(pends, next);
+    let past = distance(tails, slot, next);
+    // Its clause says that the task's number has 32 bits.
+    let _short = body_of(second);
+    write_all(code, &[instr])?;
+    flush(code, steps)?;
+    skip(code, past)?;
+    Ok(())
+}
+
 /// A conditional jump.
 fn emit_branch(
     code: &mut Vec<u8>,
@@ -402,7 +433,7 @@ pub(crate) fn emit_entry(code: &mut Vec<u8>, saved: Saved) -> Result<(), AllocEr
 }
 
 /// The code of a task.
-pub(crate) fn emit(
+fn emit_task(
     alloc: Global,
     code: &mut Vec<u8>,
     pends: &[u64],
@@ -430,5 +461,30 @@ pub(crate) fn emit(
         Task::Exit => emit_exit(code, pends, saved, slot),
         Task::Dead => Ok(()),
         _ => emit_plain(alloc, code, pends, tails, slot, task),
+    }
+}
+
+/// The code of a slot that the slot in front doesn't serve.
+pub(crate) fn emit(
+    alloc: Global,
+    code: &mut Vec<u8>,
+    pends: &[u64],
+    tails: &[u64],
+    saved: Saved,
+    tasks: &[Task],
+    targets: &[bool],
+    slot: usize,
+) -> Result<(), AllocError>
+    requires few { slot < SLOTS }
+    requires within { slot < length tasks.now }
+    requires targets { targets.now ≡ targets_in tasks.now }
+    requires apt { is_apt slot (slots.task_at tasks.now slot) ≡ true }
+    requires pended { ArePends tasks.now pends.now }
+    requires behind { IsBehind tails.now slot }
+    ensures { OnOk result (Emits (ServesBy (fusion.fused tasks.now slot) tasks.now pends.now tails.now saved slot (slots.task_at tasks.now slot)) code.old.items code.new.items) }
+{
+    match fused(tasks, targets, slot) {
+        Some(instr) => emit_fused(code, pends, tails, slot, instr, task_at(tasks, slot + 1)),
+        None => emit_task(alloc, code, pends, tails, saved, slot, task_at(tasks, slot)),
     }
 }

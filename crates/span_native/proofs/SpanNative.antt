@@ -93,7 +93,7 @@ span_native insns len code typable few small whole served = record {
         end_is = refl;
       } in
       let zero_sum : 0 + slice_index pends 0 ≡ 0 = let z = served.pended.begins in omega (arith, z) in
-      let x = follows who tasks 2048 n (omega arith) few (Stand b) (Leaves b) pends tails saved code whole (tails_in opening.Placed tasks code served) (λ j k u. served.laid.falls j k (omega arith) u) c (opening_words who m c called) (opening_is who m c called saved) (calls b) served.saves (laid_in opening.Placed tasks code served) n (blind words) c.array none 0 0 0 (entered_by who m c called opening.Placed saved) (omega arith) (record { small = opened_small len m who c called (omega (arith, short)); bytes = called.bytes }) (opened_same len m who c called saved (added_may (saved_in tasks) 2)) (stands b none refl refl) (agrees_by who m c called opening.Placed saved) zero_sum in
+      let x = follows who tasks 2048 n (omega arith) few (Stand b) (Leaves b) pends tails saved code whole (tails_in opening.Placed tasks code served) (λ j k u. served.laid.falls j k (omega arith) u) c (opening_words who m c called) (opening_is who m c called saved) (calls b) served.saves (laid_in opening.Placed tasks code served) n (blind words) c.array none 0 0 0 (entered_by who m c called opening.Placed saved) (omega arith) refl (record { small = opened_small len m who c called (omega (arith, short)); bytes = called.bytes }) (opened_same len m who c called saved (added_may (saved_in tasks) 2)) (stands b none refl refl) (agrees_by who m c called opening.Placed saved) zero_sum in
       let f = x.2 in
       let y = enters_by who m c called opening.Placed saved code x.0 (entry_in opening.Placed tasks code served) (subst (λ p. (k : ℕ) × Runs code k p (entered_by who m c called opening.Placed saved) x.0) (begins_in opening.Placed tasks code served) x.1) in (
         y.0,

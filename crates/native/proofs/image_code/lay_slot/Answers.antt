@@ -1,6 +1,6 @@
 use Rattle.std.proofs.Common.{◌≡◌, ◌+◌, ◌++◌, length, reverse, Some, sym, ap, ◌∙◌, subst, arith, length-append}
 use Rattle.std.specs.Prelude.{slice_get, slice_set}
-use Rattle.std.proofs.lemmas.List.{reverse-append, reverse-reverse, length-reverse, get_or_read}
+use Rattle.std.proofs.lemmas.List.{reverse-append, reverse-reverse, length-reverse}
 use Rattle.std.proofs.lemmas.Option.{slice_get-get_or}
 use Rattle.native.specs.declared.task.Task.TheVariants as task
 use Rattle.native.specs.Laid.{IsPiece}
@@ -21,12 +21,10 @@ returns c =
     let old = a.back.now.items in
     let piece = c.write_piece.new.piece.items in
     let u = task_at tasks slot in
-    let is : c.index-tasks-slot.result ≡ u = get_or_read tasks _ _ c.requires.within c.index-tasks-slot.is task.Dead in
     let found : slice_get tasks slot ≡ Some u = slice_get-get_or tasks slot task.Dead c.requires.within in
-    let p0 : IsPiece a.pends.now tails a.saved slot c.index-tasks-slot.result piece = subst (λ ts. IsPiece a.pends.now ts a.saved slot c.index-tasks-slot.result piece) c.as_slice.ensures.value c.in_ok-write_piece.ensures in
-    let p1 : IsPiece a.pends.now tails a.saved slot u piece = subst (λ v. IsPiece a.pends.now tails a.saved slot v piece) is p0 in
-    let p2 : IsPiece (pends_in tasks) tails a.saved slot u piece = subst (λ v. IsPiece v tails a.saved slot u piece) c.requires.pends p1 in
-    let p : IsPiece (pends_in tasks) tails (saved_for o tasks) slot u piece = subst (λ v. IsPiece (pends_in tasks) tails v slot u piece) c.requires.saved p2 in
+    let p1 : IsPiece tasks a.pends.now tails a.saved slot u piece = subst (λ ts. IsPiece tasks a.pends.now ts a.saved slot u piece) c.as_slice.ensures.value c.in_ok-write_piece.ensures in
+    let p2 : IsPiece tasks (pends_in tasks) tails a.saved slot u piece = subst (λ v. IsPiece tasks v tails a.saved slot u piece) c.requires.pends p1 in
+    let p : IsPiece tasks (pends_in tasks) tails (saved_for o tasks) slot u piece = subst (λ v. IsPiece tasks (pends_in tasks) tails v slot u piece) c.requires.saved p2 in
     let e : c.extend_from_slice.new.self.items ≡ old ++ reverse piece = c.in_ok-extend_from_slice.ensures.items ∙ ap (λ x. old ++ x) (c.as_slice-2.ensures.value ∙ c.reverse.ensures.items) in
     let r : reverse c.extend_from_slice.new.self.items ≡ piece ++ reverse old = ap reverse e ∙ reverse-append old (reverse piece) ∙ ap (λ x. x ++ reverse old) (reverse-reverse piece) in
     let n1 = c.len.ensures ∙ c.extend_from_slice.new.self.ok.0 ∙ ap length e ∙ length-append old (reverse piece) in

@@ -1,0 +1,24 @@
+use Rattle.std.proofs.Common.{[], ◌∷◌, ◌+◌, ◌-◌, ◌++◌, refl, arith}
+use Rattle.native.specs.Code.{flushed, skipped}
+use Rattle.native.proofs.Emitted.{three_then}
+use Rattle.native.proofs.slot_code.emit_fused.Goals as goal
+
+pub returns : goal.returns
+returns c =
+    let a = c.args in
+    let k = c.at.result + 2 - c.at-2.result in
+    let d = c.distance-past.result in
+    let here = c.at.ensures in
+    let there = c.at-2.ensures in (
+      a.instr ∷ (flushed k ++ skipped d),
+      record {
+        k = k;
+        d = d;
+        is_are = refl;
+        few = omega (arith, here, there, c.requires.small);
+        sums = omega (arith, here, there, c.requires.balanced);
+        reaches = c.distance-past.ensures;
+        short = c.body_of-short.ensures.short;
+      },
+      three_then a.code.now.items c.write_all.new.code.items c.flush.new.code.items c.skip.new.code.items (a.instr ∷ []) (flushed k) (skipped d) c.in_ok-write_all.ensures c.in_ok-flush.ensures c.in_ok-skip.ensures,
+    )

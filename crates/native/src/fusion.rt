@@ -1,0 +1,143 @@
+//! Two slots that one instruction serves: a register is copied, and a number is added to the copy.
+
+ghost use Rattle.std.specs.Prelude.{◌≡◌, ◌<◌, ◌≤◌, true, false, length, replicate, slice_index_or, slice_set, IfOk};
+ghost use Rattle.limits.specs.declared.TheConstants.{SLOTS};
+ghost use Rattle.native.specs.Fusion as specs;
+
+use crate::apt::holds_word;
+use crate::body::{gpr, number};
+use crate::task::Task;
+use decode::{AluOp, Operand, Reg, Width};
+use limits::SLOTS;
+use std::alloc::{AllocError, Global};
+use x86::Instr;
+
+// The task of a slot of the list.
+pub(crate) fn task_at(tasks: &[Task], slot: usize) -> Task
+    ensures { result ≡ slice_index_or tasks.now slot Task.Dead }
+{
+    if slot < tasks.len() {
+        tasks[slot]
+    } else {
+        Task::Dead
+    }
+}
+
+// So many slots, none of them marked.
+fn unmarked(alloc: Global, count: usize) -> Result<Vec<bool>, AllocError>
+    ensures { IfOk result (λ targets. targets.items ≡ replicate count false) }
+{
+    let mut targets = Vec::with_capacity(alloc, count)?;
+    'fill: for _ in 0..count {
+        targets.push(false)?;
+    }
+    Ok(targets)
+}
+
+fn mark(targets: &mut Vec<bool>, slot: usize)
+    ensures { targets.new.items ≡ slice_set targets.old.items slot true }
+{
+    if slot < targets.len() {
+        targets[slot] = true;
+    }
+}
+
+// Marks where a task leads to, if that isn't the next slot.
+fn mark_behind(targets: &mut Vec<bool>, slot: usize, task: Task)
+    requires { slot < SLOTS }
+    ensures { targets.new.items ≡ specs.marked_by targets.old.items slot task }
+{
+    match task {
+        Task::Branch { to, .. } => mark(targets, to as usize),
+        Task::Leap { to } => mark(targets, to as usize),
+        Task::Wide { .. } => mark(targets, slot + 2),
+        _ => {}
+    }
+}
+
+/// Which slots a call may come to but from the slot in front.
+pub(crate) fn targets_of(alloc: Global, tasks: &[Task]) -> Result<Vec<bool>, AllocError>
+    requires { length tasks.now ≤ SLOTS }
+    ensures { IfOk result (λ targets. targets.items ≡ specs.targets_in tasks.now) }
+{
+    let mut targets = unmarked(alloc, tasks.len())?;
+    'slots: for slot in 0..tasks.len() {
+        mark_behind(&mut targets, slot, task_at(tasks, slot));
+    }
+    Ok(targets)
+}
+
+fn is_target(targets: &[bool], slot: usize) -> bool
+    ensures { result ≡ slice_index_or targets.now slot true }
+{
+    if slot < targets.len() {
+        targets[slot]
+    } else {
+        true
+    }
+}
+
+// The sum of a register and a number, if it stands in the register's copy.
+fn sum_by(dst: Reg, src: Reg, again: Reg, imm: i32) -> Option<Instr>
+    ensures { result ≡ specs.sum_by dst.number src.number again.number imm }
+{
+    if dst.number == again.number && (holds_word(dst) && holds_word(src)) {
+        Some(Instr::Lea {
+            to: gpr(dst),
+            base: gpr(src),
+            disp: number(imm),
+        })
+    } else {
+        None
+    }
+}
+
+fn added_to(dst: Reg, src: Reg, task: Task) -> Option<Instr>
+    ensures { result ≡ specs.added_to dst.number src.number task }
+{
+    match task {
+        Task::Compute {
+            op: AluOp::Add,
+            width: Width::W64,
+            dst: again,
+            operand: Operand::Imm(imm),
+        } => sum_by(dst, src, again, imm),
+        _ => None,
+    }
+}
+
+fn sum_of(first: Task, second: Task) -> Option<Instr>
+    ensures { result ≡ specs.sum_of first second }
+{
+    match first {
+        Task::Compute {
+            op: AluOp::Mov,
+            width: Width::W64,
+            dst,
+            operand: Operand::Reg(src),
+        } => added_to(dst, src, second),
+        _ => None,
+    }
+}
+
+/// The one instruction of a slot and the next, where that is only come to from the slot.
+pub(crate) fn fused(tasks: &[Task], targets: &[bool], slot: usize) -> Option<Instr>
+    requires few { slot < SLOTS }
+    requires targets { targets.now ≡ specs.targets_in tasks.now }
+    ensures { result ≡ specs.fused tasks.now slot }
+{
+    if is_target(targets, slot + 1) {
+        None
+    } else {
+        sum_of(task_at(tasks, slot), task_at(tasks, slot + 1))
+    }
+}
+
+/// Whether the instruction of the slot in front does this slot's task too.
+pub(crate) fn is_covered(tasks: &[Task], targets: &[bool], slot: usize) -> bool
+    requires few { slot < SLOTS }
+    requires targets { targets.now ≡ specs.targets_in tasks.now }
+    ensures { result ≡ specs.is_covered tasks.now slot }
+{
+    slot > 0 && fused(tasks, targets, slot - 1).is_some()
+}
