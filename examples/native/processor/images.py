@@ -1,23 +1,18 @@
 #!/usr/bin/env python3
-"""images.py COUNT [SEED]: so many random images, half of each form, each behind its length, on standard output.
+"""images.py COUNT [SEED]: so many random images, a third of each form, each behind its length, on standard output.
 
 Each is built so that the verifier mostly takes it: registers are set before they are read, accesses lie in their regions,
-jumps lead forward.
+jumps lead forward. Those of form 3 are made by `spans.py`.
 """
 import random
 import struct
 import sys
 
-ALU = {"add": 0x00, "sub": 0x10, "mul": 0x20, "div": 0x30, "or": 0x40, "and": 0x50, "lsh": 0x60, "rsh": 0x70,
-       "mod": 0x90, "xor": 0xA0, "mov": 0xB0, "arsh": 0xC0}
-COMPARISONS = [0x10, 0x20, 0x30, 0x40, 0x50, 0x60, 0x70, 0xA0, 0xB0, 0xC0, 0xD0]
-SIZES = {1: 0x10, 2: 0x08, 4: 0x00, 8: 0x18}
+sys.dont_write_bytecode = True
+
+from spans import ALU, COMPARISONS, NUMBERS, SIZES, Spans, word  # noqa: E402
+
 STACK = 512
-NUMBERS = [0, 1, -1, 2, 3, 7, 8, 31, 32, 63, 64, 127, 128, -128, -129, 255, 256, 2**31 - 1, -2**31]
-
-
-def word(op, dst=0, src=0, off=0, imm=0):
-    return struct.pack("<BBhi", op, dst | src << 4, off, imm)
 
 
 class Builder:
@@ -175,8 +170,8 @@ class Builder:
 
 def main(count, seed="images"):
     rng = random.Random(seed)
-    for _ in range(int(count)):
-        data = Builder(rng).image()
+    for at in range(int(count)):
+        data = (Spans if at % 3 == 2 else Builder)(rng).image()
         sys.stdout.buffer.write(struct.pack("<I", len(data)) + data)
 
 
