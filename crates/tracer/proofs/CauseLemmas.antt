@@ -10,18 +10,17 @@ use Rattle.cli.specs.Asks.{AsksFor, IsRefusal, Order}
 use Rattle.cli.specs.declared.refusal.Refusal.{Refusal}
 use Rattle.cli.specs.declared.refusal.Refusal.TheVariants as refusal
 use Rattle.images.specs.ImageFile as any
-use Rattle.verifier.specs.ImageFile as image_file
 use Rattle.verifier.specs.declared.fault.ImageError.{ImageError}
 use Rattle.verifier.specs.declared.fault.ImageError.TheVariants as image
 use Rattle.tracer.specs.Fault.{fault_of_code, fault_of_failure, fault_of_image, fault_of_refusal, fault_of_text}
 use Rattle.tracer.specs.Files.{Content}
-use Rattle.tracer.specs.Inside.{EndsShort, HandlerFault, IsNoUsage, IsOwnInput, IsPlainFault, IsWriteFault, LoadFault}
+use Rattle.tracer.specs.Inside.{EndsShort, HandlerFault, IsNoUsage, IsOwnInput, IsPlainFault, IsWriteFault}
 use Rattle.tracer.specs.Program.{FaultOf, IsCause, Sameness}
 use Rattle.tracer.specs.declared.fault.Fault.{Fault}
 use Rattle.tracer.specs.declared.fault.Fault.TheVariants.{Usage, Header, Decode, Verify, Assemble, Scenario, Memory, InputOutput}
 use Rattle.tracer.specs.declared.files.Failure.{Failure}
 use Rattle.tracer.specs.declared.files.Failure.TheVariants as failure
-use Rattle.tracer.proofs.HeadLemmas.{any_refusal, head_refusal, head_unread}
+use Rattle.tracer.proofs.HeadLemmas.{any_refusal}
 use Rattle.tracer.specs.declared.check.TheConstants.{IMAGE_LIMIT}
 
 -- a command line that is refused
@@ -106,13 +105,6 @@ pub handler_refused : (content : Content) (failed : Bool) (path bytes : List ℕ
     → HandlerFault content failed path f
 handler_refused content failed path bytes e f read why is =
     inr (e, is, λ known there. any_refusal known e (subst (λ (b : List ℕ). any.IsRefusal b e) (read known there) why))
-
--- the same of an image of form 1 or 2
-pub image_refused : (content : Content) (failed : Bool) (path bytes : List ℕ) (e : ImageError) (f : Fault)
-    → ((known : List ℕ) → content path ≡ Some known → bytes ≡ take IMAGE_LIMIT known) → image_file.IsRefusal bytes e → f ≡ fault_of_image e
-    → LoadFault content failed path f
-image_refused content failed path bytes e f read why is =
-    inr (e, is, λ known there. head_refusal known e (subst (λ (b : List ℕ). image_file.IsRefusal b e) (read known there) why))
 
 -- a file is refused so as the bytes that were read of it
 pub read_fault : (Why : List ℕ → ImageError → Type 0) → ((bytes : List ℕ) (e : ImageError) → Why (take IMAGE_LIMIT bytes) e → Why bytes e)

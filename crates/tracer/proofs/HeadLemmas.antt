@@ -10,7 +10,7 @@ use Rattle.span_explain.specs.Listing as listed
 use Rattle.listings.specs.Explained.{IsExplained}
 use Rattle.regtypes.specs.declared.image_form.ImageForm.{ImageForm}
 use Rattle.regtypes.specs.declared.image_form.ImageForm.TheVariants.{Sbi1, Sbi2}
-use Rattle.verifier.specs.ImageFile.{HasFault, IsFile, IsHeaderFault, IsRefusal, IsUnread, field_at, magic}
+use Rattle.verifier.specs.ImageFile.{HasFault, IsFile, field_at, magic}
 use Rattle.verifier.specs.declared.fault.HeaderFault.{HeaderFault}
 use Rattle.verifier.specs.declared.fault.HeaderFault.TheVariants.{TooShort, Magic, StateLength, SlotCount, FileLength}
 use Rattle.verifier.specs.declared.fault.ImageError.{ImageError}
@@ -150,37 +150,9 @@ head_first NoMagic bytes fault long broken =
     subst (λ (b : List ℕ). IsFirst (HasBy NoMagic b) all_faults fault) (take-append-drop IMAGE_LIMIT bytes)
     (still_broken NoMagic fault (take IMAGE_LIMIT bytes) (drop IMAGE_LIMIT bytes) (cut bytes long) broken)
 
-head_header : (bytes : List ℕ) (fault : HeaderFault) → IMAGE_LIMIT < length bytes → IsHeaderFault (take IMAGE_LIMIT bytes) fault → IsHeaderFault bytes fault
-unfolding IsFirst
-head_header bytes fault long broken = head_first (λ m. (form : ImageForm) → m ≢ magic form) bytes fault long broken
-
 any_header : (bytes : List ℕ) (fault : HeaderFault) → IMAGE_LIMIT < length bytes → any.IsHeaderFault (take IMAGE_LIMIT bytes) fault → any.IsHeaderFault bytes fault
 unfolding IsFirst
 any_header bytes fault long broken = head_first (λ m. ((form : ImageForm) → m ≢ magic form) × (m ≢ span.magic_3)) bytes fault long broken
-
-head_unread_of : (bytes : List ℕ) (e : ImageError) → IMAGE_LIMIT < length bytes → IsUnread (take IMAGE_LIMIT bytes) e → IsUnread bytes e
-head_unread_of bytes Memory long why = tt
-head_unread_of bytes (Header fault) long why = head_header bytes fault long why
-head_unread_of bytes (Decode rule slot) long why =
-    absurd (why.0 FileLength (λ e. why.0 SlotCount (inr (omega (arith, e, cut bytes long)))))
-head_unread_of bytes (Verify rule slot) long why = absurd why
-
--- what makes its first bytes no image file makes the file none
-pub head_unread : (bytes : List ℕ) (e : ImageError) → IsUnread (take IMAGE_LIMIT bytes) e → IsUnread bytes e
-head_unread bytes e why = go (heads bytes)
-  where
-    go : (take IMAGE_LIMIT bytes ≡ bytes) ⊎ (IMAGE_LIMIT < length bytes) → IsUnread bytes e
-    go (inl all) = subst (λ b. IsUnread b e) all why
-    go (inr long) = head_unread_of bytes e long why
-
--- what makes its first bytes no file of typable code makes the file none
-pub head_refusal : (bytes : List ℕ) (e : ImageError) → IsRefusal (take IMAGE_LIMIT bytes) e → IsRefusal bytes e
-head_refusal bytes Memory why = tt
-head_refusal bytes (Header fault) why = head_unread bytes (Header fault) why
-head_refusal bytes (Decode rule slot) why = head_unread bytes (Decode rule slot) why
-head_refusal bytes (Verify rule slot) why = (why.0, why.1, why.2, head_file why.0 why.1 why.2 bytes why.3, why.4)
-
--- ---- the same of images of any form
 
 any_unread_of : (bytes : List ℕ) (e : ImageError) → IMAGE_LIMIT < length bytes → any.IsUnread (take IMAGE_LIMIT bytes) e → any.IsUnread bytes e
 any_unread_of bytes Memory long why = tt
@@ -189,6 +161,7 @@ any_unread_of bytes (Decode rule slot) long why =
     absurd (why.0 FileLength (λ e. why.0 SlotCount (inr (omega (arith, e, cut bytes long)))))
 any_unread_of bytes (Verify rule slot) long why = absurd why
 
+-- what makes its first bytes no image file makes the file none
 pub any_unread : (bytes : List ℕ) (e : ImageError) → any.IsUnread (take IMAGE_LIMIT bytes) e → any.IsUnread bytes e
 any_unread bytes e why = go (heads bytes)
   where
@@ -196,6 +169,7 @@ any_unread bytes e why = go (heads bytes)
     go (inl all) = subst (λ b. any.IsUnread b e) all why
     go (inr long) = any_unread_of bytes e long why
 
+-- what makes its first bytes no file of typable code makes the file none
 pub any_refusal : (bytes : List ℕ) (e : ImageError) → any.IsRefusal (take IMAGE_LIMIT bytes) e → any.IsRefusal bytes e
 any_refusal bytes Memory why = tt
 any_refusal bytes (Header fault) why = any_unread bytes (Header fault) why

@@ -5,7 +5,7 @@ use Rattle.std.specs.declared.alloc.Global.{Global}
 use Rattle.std.specs.String.{string_bytes}
 use Rattle.verifier.specs.declared.fault.ImageError.{ImageError}
 use Rattle.verifier.specs.declared.fault.ImageError.TheVariants as image
-use Rattle.verifier.specs.ImageFile as image_file
+use Rattle.images.specs.ImageFile as any
 use Rattle.handlers.specs.Image.{TheImage}
 use Rattle.machine.specs.Opening.{AreFew}
 use Rattle.scenario.specs.Scenario as scenario
@@ -15,10 +15,10 @@ use Rattle.scenario.specs.declared.process.Process.{Process}
 use Rattle.scenario.specs.declared.scenario.Scenario.{Scenario}
 use Rattle.scenario.specs.declared.scenario.ScenarioError.{ScenarioError}
 use Rattle.scenario.specs.declared.scenario.ScenarioError.TheVariants as error
-use Rattle.tracer.specs.Check.{HasImage, IsImageFault}
+use Rattle.tracer.specs.Check.{HasImage, IsUnaccepted}
 use Rattle.tracer.specs.Fault.{fault_of_image, IsFaultOfScenario}
 use Rattle.tracer.specs.Files.{Content}
-use Rattle.tracer.specs.Inside.{HandlerFault, ImagesFault, IsPlainFault, IsReadAs, IsLoadedAs, LoadFault}
+use Rattle.tracer.specs.Inside.{HandlerFault, ImagesFault, IsPlainFault, IsReadAs, IsLoadedAs}
 use Rattle.tracer.specs.Program.{FaultOf}
 use Rattle.tracer.specs.Loading.{AreLoaded, AreRefused, IsScenarioWithImages, IsUnloadable}
 use Rattle.tracer.specs.declared.fault.Fault.{Fault}
@@ -100,11 +100,12 @@ plain_fault content failed path refused f (inl memory) = subst (FaultOf content 
 plain_fault content failed path refused f (inr input) = subst (FaultOf content failed path refused) (sym input.0) (inl input.1)
 
 -- an image that is not loaded
-pub load_fault : (content : Content) (failed : Bool) (path : List ℕ) (f : Fault) → LoadFault content failed path f → FaultOf content failed path IsImageFault f
-load_fault content failed path f (inl plain) = plain_fault content failed path IsImageFault f plain
-load_fault content failed path f (inr why) = subst (FaultOf content failed path IsImageFault) (sym why.1) (by why.0 why.2)
+pub handler_fault : (content : Content) (failed : Bool) (path : List ℕ) (f : Fault)
+    → HandlerFault content failed path f → FaultOf content failed path IsUnaccepted f
+handler_fault content failed path f (inl plain) = plain_fault content failed path IsUnaccepted f plain
+handler_fault content failed path f (inr why) = subst (FaultOf content failed path IsUnaccepted) (sym why.1) (by why.0 why.2)
   where
-    by : (e : ImageError) → ((bytes : List ℕ) → content path ≡ Some bytes → image_file.IsRefusal bytes e) → FaultOf content failed path IsImageFault (fault_of_image e)
+    by : (e : ImageError) → ((bytes : List ℕ) → content path ≡ Some bytes → any.IsRefusal bytes e) → FaultOf content failed path IsUnaccepted (fault_of_image e)
     by image.Memory refused = tt
     by (image.Header h) refused = λ bytes there. (image.Header h, refused bytes there, refl)
     by (image.Decode rule slot) refused = λ bytes there. (image.Decode rule slot, refused bytes there, refl)

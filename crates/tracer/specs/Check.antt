@@ -3,7 +3,6 @@ use Rattle.std.specs.Prelude.{◌≡◌, ℕ, List, ◌++◌, Some, codes, decim
 use Rattle.decode.specs.declared.insn.Insn.{Insn}
 use Rattle.images.specs.declared.file_form.FileForm.{FileForm}
 use Rattle.images.specs.ImageFile as any
-use Rattle.verifier.specs.ImageFile.{IsRefusal}
 use Rattle.verifier.specs.declared.fault.ImageError.{ImageError}
 use Rattle.handlers.specs.Image.{TheImage}
 use Rattle.tracer.specs.Fault.{fault_of_image}
@@ -27,15 +26,9 @@ pub record IsAccepted (bytes : List ℕ) (count : ℕ) : Type 0 where
 abbrev pub IsUnaccepted : List ℕ → Fault → Type 0
 IsUnaccepted bytes f = (e : ImageError) × any.IsRefusal bytes e × (f ≡ fault_of_image e)
 
--- ---- an image whose handler is to be run, of any form
+-- ---- an image whose handler is to be run or compiled, of any form
 
 -- the file at the path, where it is known, is that of this image, whose code is typable
 abbrev pub HasImage : Content → List ℕ → TheImage → Type 0
 HasImage content path image = (bytes : List ℕ) → content path ≡ Some bytes
     → any.IsFile image.form image.code image.len bytes × any.IsTypable image.form image.code image.len
-
--- ---- an image that is to be compiled: one of form 1 or 2
-
--- the fault is the reason why bytes are no file of typable code in form 1 or 2; want of memory says nothing of them
-abbrev pub IsImageFault : List ℕ → Fault → Type 0
-IsImageFault bytes f = (e : ImageError) × IsRefusal bytes e × (f ≡ fault_of_image e)

@@ -5,9 +5,6 @@ use Rattle.std.specs.declared.alloc.Global.{Global}
 use Rattle.std.specs.String.{string_bytes}
 use Rattle.cli.specs.Asks.{AsksFor, Order, own_input_text}
 use Rattle.images.specs.ImageFile as any
-use Rattle.verifier.specs.ImageFile as image_file
-use Rattle.verifier.specs.Typed.{Typed}
-use Rattle.verifier.specs.Verdict.{IsImageOf}
 use Rattle.verifier.specs.declared.fault.ImageError.{ImageError}
 use Rattle.handlers.specs.Image.{TheImage}
 use Rattle.scenario.specs.Scenario.{IsScenario}
@@ -30,16 +27,6 @@ IsPlainFault failed f = (f ≡ Memory) ⊎ ((f ≡ InputOutput) × (failed ≡ t
 abbrev pub HandlerFault : Content → Bool → List ℕ → Fault → Type 0
 HandlerFault content failed path f =
     IsPlainFault failed f ⊎ ((e : ImageError) × (f ≡ fault_of_image e) × ((bytes : List ℕ) → content path ≡ Some bytes → any.IsRefusal bytes e))
-
--- the file at the path, where it is known, is that of this image of form 1 or 2
-abbrev pub IsLoaded : Content → List ℕ → Typed → Type 0
-IsLoaded content path image = (bytes : List ℕ) → content path ≡ Some bytes
-    → image_file.IsFile image.form image.code image.len bytes × IsImageOf image.form image.code image.len image
-
--- memory ran out, a file has failed, or the file at the path is refused as an image of form 1 or 2
-abbrev pub LoadFault : Content → Bool → List ℕ → Fault → Type 0
-LoadFault content failed path f =
-    IsPlainFault failed f ⊎ ((e : ImageError) × (f ≡ fault_of_image e) × ((bytes : List ℕ) → content path ≡ Some bytes → image_file.IsRefusal bytes e))
 
 -- memory ran out, a file has failed, or the image of a process is refused
 abbrev pub ImagesFault : Content → Bool → List (String Global × Process) → Fault → Type 0

@@ -13,7 +13,7 @@ use Rattle.scenario.specs.declared.order.Allowed.TheVariants.{All, Inputs}
 use Rattle.scenario.specs.declared.process.Process.{Process}
 use Rattle.scenario.specs.declared.scenario.Scenario.{Scenario}
 use Rattle.tracer.specs.Asm.{IsAssembled, IsUnassembled}
-use Rattle.tracer.specs.Check.{IsUnaccepted, IsImageFault}
+use Rattle.tracer.specs.Check.{IsUnaccepted}
 use Rattle.tracer.specs.Dis.{IsUnlisted}
 use Rattle.tracer.specs.Explain.{IsUnexplained}
 use Rattle.tracer.specs.Draw.{IsDrawn}
@@ -98,7 +98,7 @@ IsRefused content (Asm source image state form) bytes f = IsUnassembled bytes f
 IsRefused content (Explain image) bytes f = IsUnexplained bytes f
 IsRefused content (Pack code image state form) bytes f = IsUnpacked bytes f
 IsRefused content (Dis image) bytes f = IsUnlisted bytes f
-IsRefused content (Native image code) bytes f = IsImageFault bytes f
+IsRefused content (Native image code) bytes f = IsUnaccepted bytes f
 
 -- what is read from the file at the path comes to the fault: it is refused so, or, for input or output, a file or a stream has
 -- failed; want of memory says nothing

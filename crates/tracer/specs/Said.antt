@@ -35,7 +35,6 @@ looks_like bytes = cond (begins bytes (codes "SBI1")) kind.Sbi1 (cond (begins by
 
 -- of a file that is taken for no image
 abbrev pub magic_words : Kind → List ℕ
-magic_words kind.Sbi3 = codes "an image of form 3: machine code is written of forms 1 and 2 alone"
 magic_words kind.Object = codes "an object file, not an image (./sblog pack writes one of its code)"
 magic_words k = codes "not an image file (assembler text? sblog asm writes images)"
 

@@ -3,7 +3,7 @@
 ghost use Rattle.std.specs.Prelude.{◌≡◌, ℕ, List, IfErr, IfOk, Some};
 ghost use Rattle.handlers.specs.Image.{the_image};
 ghost use Rattle.tracer.specs.Check.{HasImage, IsAccepted, IsUnaccepted, accepted_text};
-ghost use Rattle.tracer.specs.Inside.{HandlerFault, IsLoaded, LoadFault};
+ghost use Rattle.tracer.specs.Inside.{HandlerFault};
 ghost use Rattle.tracer.specs.Program.{FaultOf};
 
 use crate::fault::Fault;
@@ -13,7 +13,6 @@ use handlers::Handler;
 use limits::SLOTS;
 use std::alloc::Global;
 use std::fmt;
-use verifier::{Image, load};
 
 /// The bytes that decide whether a file is an image: as many as the largest one has, and one more.
 pub const IMAGE_LIMIT: usize = 8 + 8 * SLOTS + 1;
@@ -34,7 +33,7 @@ impl fmt::Display for Accepted {
     }
 }
 
-/// The handler of the image of any form of a file, which is to be run.
+/// The handler of the image of any form of a file, which is to be run or compiled.
 pub fn load_handler<F: Files>(
     alloc: Global,
     path: &str,
@@ -48,22 +47,6 @@ pub fn load_handler<F: Files>(
     let bytes = site.read(alloc, path, Some(IMAGE_LIMIT), files)?;
     let handler = Handler::load(alloc, bytes.as_slice())?;
     Ok(handler)
-}
-
-/// The image of form 1 or 2 of a file, which is to be compiled.
-pub fn load_image<F: Files>(
-    alloc: Global,
-    path: &str,
-    files: &mut F,
-    site: &mut Site,
-) -> Result<Image, Fault>
-    ensures loaded { IfOk result (IsLoaded (F.content files.old) path.now) }
-    ensures same { F.content files.new ≡ F.content files.old }
-    ensures fault { IfErr result (LoadFault (F.content files.old) (F.failed files.new) path.now) }
-{
-    let bytes = site.read(alloc, path, Some(IMAGE_LIMIT), files)?;
-    let image = load(alloc, bytes.as_slice())?;
-    Ok(image)
 }
 
 /// Verifies the image of any form of a file.

@@ -2,20 +2,20 @@
 
 ghost use Rattle.std.specs.Prelude.{◌≡◌, ℕ, List, [], IfErr, IfOk, OnErr, OnOk, Some};
 ghost use Rattle.cli.specs.Asks.{Native};
-ghost use Rattle.tracer.specs.Check.{IsImageFault};
+ghost use Rattle.tracer.specs.Check.{IsUnaccepted};
 ghost use Rattle.tracer.specs.Inside.{IsWriteFault};
 ghost use Rattle.tracer.specs.Native.{IsMachineCode};
 ghost use Rattle.tracer.specs.Program.{FaultOf, IsAnswer, Leaves};
 
-use crate::check::load_image;
+use crate::check::load_handler;
 use crate::fault::Fault;
 use crate::files::Files;
 use crate::own_input::spare;
 use crate::site::Site;
-use native::compile;
+use span_native::compile_handler;
 use std::alloc::Global;
 
-/// The machine code of the image of a file.
+/// The machine code of the image of any form of a file.
 fn machine_code<F: Files>(
     alloc: Global,
     path: &str,
@@ -25,14 +25,14 @@ fn machine_code<F: Files>(
     ensures compiled { IfOk result (λ v. (bytes : List ℕ) → F.content files.old path.now ≡ Some bytes
         → IsMachineCode bytes v.items) }
     ensures same { F.content files.new ≡ F.content files.old }
-    ensures fault { IfErr result (FaultOf (F.content files.old) (F.failed files.new) path.now IsImageFault) }
+    ensures fault { IfErr result (FaultOf (F.content files.old) (F.failed files.new) path.now IsUnaccepted) }
 {
-    let image = load_image(alloc, path, files, site)?;
-    let code = compile(alloc, &image)?;
+    let handler = load_handler(alloc, path, files, site)?;
+    let code = compile_handler(alloc, &handler)?;
     Ok(code)
 }
 
-/// Verifies the image of a file, and writes its machine code into another.
+/// Verifies the image of any form of a file, and writes its machine code into another.
 pub fn write_machine_code<F: Files>(
     alloc: Global,
     image: &str,

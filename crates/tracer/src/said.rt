@@ -15,9 +15,8 @@ fn magic_words(kind: Kind) -> &'static str
     ensures { result.now ≡ magic_words kind }
 {
     match kind {
-        Kind::Sbi3 => "an image of form 3: machine code is written of forms 1 and 2 alone",
         Kind::Object => "an object file, not an image (./sblog pack writes one of its code)",
-        Kind::Sbi1 | Kind::Sbi2 | Kind::Other => {
+        Kind::Sbi1 | Kind::Sbi2 | Kind::Sbi3 | Kind::Other => {
             "not an image file (assembler text? sblog asm writes images)"
         }
     }

@@ -4,9 +4,8 @@ use super::folder::Folder;
 use super::{ADDER, carried};
 use std::test::Fail;
 
-/// An image of form 3 that answers 0.
-static THIRD: &[u8] =
-    b"SBI3\x00\x00\x02\x00\xb7\x00\x00\x00\x00\x00\x00\x00\x95\x00\x00\x00\x00\x00\x00\x00";
+/// An image of form 3 that leaves r0 unset.
+static THIRD: &[u8] = b"SBI3\x00\x00\x01\x00\x95\x00\x00\x00\x00\x00\x00\x00";
 
 /// Images of forms 1 and 2 that call what is no helper, and one that leaves r0 unset.
 static NO_HELPER: &[u8] =
@@ -26,7 +25,7 @@ fn files_of_another_kind(rt: HostRuntime) -> Result<(), Fail> {
         (
             "native a b",
             THIRD,
-            "load refused 2\na: an image of form 3: machine code is written of forms 1 and 2 alone\n",
+            "verify refused V10 at slot 0\na: sblog explain shows why\n",
         ),
         (
             "check a",

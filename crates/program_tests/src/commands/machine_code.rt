@@ -11,6 +11,22 @@ const ADDER_CODE: Seen = Seen::Is(Bytes::Are(
     \x89\x57\x80\x31\xc0\x4d\x8d\x5b\x06\x4c\x89\x5e\x10\xc3",
 ));
 
+/// Of form 3: examples/native/lookup.sbi.
+const LOOKUP: Bytes = Bytes::Are(
+    b"SBI3\x00\x00\x05\x00\
+    \x57\x03\x00\x00\xff\x00\x00\x00\x0f\x31\x00\x00\x00\x00\x00\x00\
+    \x71\x10\x00\x00\x00\x00\x00\x00\x7b\x1a\xf8\xff\x00\x00\x00\x00\
+    \x95\x00\x00\x00\x00\x00\x00\x00",
+);
+
+/// What an assembler makes of its machine code: examples/native/lookup.bin.
+const LOOKUP_CODE: Seen = Seen::Is(Bytes::Are(
+    b"\x41\x54\x48\x8d\xbf\x80\x01\x00\x00\x49\x89\xd1\x45\x31\xdb\x45\
+    \x31\xc0\x41\xbc\x00\x02\x00\x00\x49\x81\xe1\xff\x00\x00\x00\x4d\
+    \x01\xc8\x4a\x8d\x94\x07\x80\xfe\xff\xff\x0f\xb6\x42\x00\x4c\x89\
+    \x87\x78\x02\x00\x00\x4d\x8d\x5b\x05\x4c\x89\x5e\x10\x41\x5c\xc3",
+));
+
 const OLD: Bytes = Bytes::Are(b"old");
 
 const LEFT: Seen = Seen::Is(OLD);
@@ -27,7 +43,7 @@ x: no such file or folder
 ",
 );
 
-const COMPILED: [Scene; 6] = [
+const COMPILED: [Scene; 7] = [
     (
         &[("a", IMAGE), ("b", OLD)],
         &[(
@@ -35,6 +51,15 @@ const COMPILED: [Scene; 6] = [
             0,
             Seen::Nothing,
             &[("a", Seen::Is(IMAGE)), ("b", ADDER_CODE)],
+        )],
+    ),
+    (
+        &[("a", LOOKUP), ("b", OLD)],
+        &[(
+            "native a b",
+            0,
+            Seen::Nothing,
+            &[("a", Seen::Is(LOOKUP)), ("b", LOOKUP_CODE)],
         )],
     ),
     (
@@ -85,6 +110,6 @@ const COMPILED: [Scene; 6] = [
 ];
 
 #[test]
-fn adder_is_compiled(rt: HostRuntime) -> Result<(), Fail> {
+fn images_are_compiled(rt: HostRuntime) -> Result<(), Fail> {
     play(&rt, &COMPILED)
 }

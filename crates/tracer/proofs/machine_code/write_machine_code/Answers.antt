@@ -1,5 +1,5 @@
 use Rattle.std.proofs.Common.{inl, subst, sym}
-use Rattle.tracer.specs.Check.{IsImageFault}
+use Rattle.tracer.specs.Check.{IsUnaccepted}
 use Rattle.tracer.specs.Program.{FaultOf}
 use Rattle.tracer.proofs.CauseLemmas.{becomes}
 use Rattle.tracer.proofs.machine_code.write_machine_code.Goals as goal
@@ -7,5 +7,5 @@ use Rattle.tracer.proofs.machine_code.write_machine_code.Goals as goal
 pub returns-in_err-bytes-clause-fault : goal.returns-in_err-bytes-clause-fault
 returns-in_err-bytes-clause-fault g c =
     becomes c.from_residual-in_err-bytes.result _ _ c.from_residual-in_err-bytes.ensures.1
-    (λ f is. inl (subst (FaultOf (g.F.Files.content c.args.files.now) (g.F.Files.failed c.machine_code.new.files) c.args.image.now IsImageFault) (sym is)
+    (λ f is. inl (subst (FaultOf (g.F.Files.content c.args.files.now) (g.F.Files.failed c.machine_code.new.files) c.args.image.now IsUnaccepted) (sym is)
     c.in_err-bytes.ensures.fault))
