@@ -1,4 +1,4 @@
-//! The command `check`, and how the image of a file is loaded: `load_handler`, `load_image`.
+//! The command `check`, and how the image of a file is loaded: `load_handler`.
 
 ghost use Rattle.std.specs.Prelude.{◌≡◌, ℕ, List, IfErr, IfOk, Some};
 ghost use Rattle.handlers.specs.Image.{the_image};
