@@ -50,6 +50,7 @@ a: fewer than the 8 bytes of a header
 const NO_IMAGE: Seen = Seen::Text(
     "load refused 2
 a: not an image file (assembler text? sblog asm writes images)
+images begin with SBI1, SBI2 or SBI3, by their form
 ",
 );
 

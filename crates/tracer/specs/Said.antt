@@ -110,18 +110,20 @@ path_text (Some name) path = codes "process " ++ string_bytes name ++ codes ", "
 abbrev pub place_text : Site → List ℕ
 place_text site = path_text site.process (string_bytes site.path)
 
--- the line of a fault, and below it the file and what is wrong there, and of an assembler text whatever is said of its line; of
--- words, of memory, and of a scenario, whose line is named and told, the fault's own text is all
+-- the line of a fault, and below it the file and what is wrong there, and of a text, and of what is no image, whatever else is
+-- said of it; of words, of memory, and of a scenario, whose line is named and told, the fault's own text is all
 abbrev pub told_text : Site → Fault → List ℕ
 told_text site (Usage usage) = fault_text (Usage usage)
-told_text site (Header fault) = fault_text (Header fault) ++ place_text site ++ codes ": " ++ header_words site.kind fault ++ codes "\n"
+told_text site (Header fault) =
+    fault_text (Header fault) ++ place_text site ++ codes ": " ++ header_words site.kind fault ++ codes "\n" ++ string_bytes site.words
 told_text site (Decode rule slot) = fault_text (Decode rule slot) ++ place_text site ++ codes ": " ++ code_words rule ++ codes "\n"
 told_text site (Verify rule slot) = fault_text (Verify rule slot) ++ place_text site ++ codes ": " ++ rule_words site.kind rule ++ codes "\n"
 told_text site (Assemble rule line) =
     fault_text (Assemble rule line) ++ place_text site ++ codes ": " ++ line_words rule ++ codes "\n" ++ string_bytes site.words
 told_text site (Scenario line words) = fault_text (Scenario line words)
 told_text site Memory = fault_text Memory
-told_text site InputOutput = fault_text InputOutput ++ place_text site ++ codes ": " ++ reason_words site.kind site.reason ++ codes "\n"
+told_text site InputOutput =
+    fault_text InputOutput ++ place_text site ++ codes ": " ++ reason_words site.kind site.reason ++ codes "\n" ++ string_bytes site.words
 
 -- a fault has this text: that of its line alone, where a stream has failed, or with the file where it was found
 abbrev pub IsToldAs : Fault → List ℕ → Type 0

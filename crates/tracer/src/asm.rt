@@ -6,6 +6,8 @@ ghost use Rattle.tracer.specs.Inside.{IsNoUsage};
 
 use crate::fault::Fault;
 use crate::judged::{TEXT_LIMIT, judged};
+use crate::kind::Kind;
+use crate::look::broken_line;
 use crate::site::Site;
 use assemble::{assemble, mistake_of};
 use images::{FileForm, file};
@@ -55,7 +57,7 @@ pub fn asm_at(
     match asm(alloc, source, state, form) {
         Ok(bytes) => Ok(bytes),
         Err(fault) => {
-            let Ok(words) = said(alloc, source, &fault) else {
+            let Ok(words) = said(alloc, source, &fault, site.kind) else {
                 return Err(Fault::Memory);
             };
             site.words = words;
@@ -64,8 +66,11 @@ pub fn asm_at(
     }
 }
 
-/// What is wrong with the line of a source that is refused, as a line of text; of any other fault nothing.
-fn said(alloc: Global, source: &[u8], fault: &Fault) -> Result<String, AllocError> {
+/// What is wrong with the line of a source that is refused, or that is no text, as a line of text; of any other fault nothing.
+fn said(alloc: Global, source: &[u8], fault: &Fault, kind: Kind) -> Result<String, AllocError> {
+    if matches!(fault, Fault::InputOutput) {
+        return broken_line(alloc, judged(source), kind);
+    }
     let Fault::Assemble { line, .. } = fault else {
         return Ok(String::new(alloc));
     };

@@ -29,6 +29,7 @@ mod judged;
 mod kind;
 mod living;
 mod loading;
+mod look;
 mod machine_code;
 mod own_input;
 mod pack;

@@ -10,6 +10,7 @@ ghost use Rattle.tracer.specs.Loading.{AreLoaded, IsUnloadable};
 use crate::check::load_handler;
 use crate::fault::Fault;
 use crate::files::Files;
+use crate::look::broken_line;
 use crate::site::Site;
 use handlers::Handler;
 use indexmap::IndexMap;
@@ -39,6 +40,7 @@ fn read<F: Files>(
 {
     let bytes = site.read(alloc, path, None, files)?;
     let Ok(text) = str::from_utf8(bytes.as_slice()) else {
+        site.words = broken_line(alloc, bytes.as_slice(), site.kind)?;
         return Err(Fault::InputOutput);
     };
     match parse(alloc, text, allowed) {

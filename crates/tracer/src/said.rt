@@ -137,7 +137,8 @@ impl fmt::Display for Told<'_> {
             Fault::Usage(_) | Fault::Scenario { .. } | Fault::Memory => write!(f, "{fault}"),
             Fault::Header(header) => {
                 let words = header_words(site.kind, *header);
-                writeln!(f, "{fault}{site}: {words}")
+                let below = site.words.as_str();
+                write!(f, "{fault}{site}: {words}\n{below}")
             }
             Fault::Decode { rule, .. } => {
                 let words = code_words(*rule);
@@ -154,7 +155,8 @@ impl fmt::Display for Told<'_> {
             }
             Fault::InputOutput => {
                 let words = reason_words(site.kind, site.reason);
-                writeln!(f, "{fault}{site}: {words}")
+                let below = site.words.as_str();
+                write!(f, "{fault}{site}: {words}\n{below}")
             }
         }
     }

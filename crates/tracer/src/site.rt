@@ -7,6 +7,7 @@ ghost use Rattle.tracer.specs.declared.files.Failure.TheVariants.{Memory};
 
 use crate::files::{Failure, Files, Reason};
 use crate::kind::{Kind, kind_of};
+use crate::look::look_of;
 use std::alloc::{AllocError, Global};
 use std::fmt;
 
@@ -20,7 +21,8 @@ pub struct Site {
     pub reason: Option<Reason>,
     /// What it looks like, where it was read.
     pub kind: Kind,
-    /// What is wrong with the line of it that is named, as a line of text, or nothing.
+    /// What is wrong with the line of it that is named, or what it looks like in place of an image, as a line of text; or
+    /// nothing.
     pub words: String,
 }
 
@@ -46,6 +48,7 @@ impl Site {
     fn reach(&mut self, path: &str) -> Result<(), AllocError> {
         self.reason = None;
         self.kind = Kind::Other;
+        self.words.clear();
         self.path.clear();
         self.path.push_str(path)
     }
@@ -75,6 +78,9 @@ impl Site {
         match files.read(alloc, path, limit) {
             Ok(bytes) => {
                 self.kind = kind_of(bytes.as_slice());
+                if self.kind == Kind::Other {
+                    self.words.push_str(look_of(bytes.as_slice()))?;
+                }
                 Ok(bytes)
             }
             Err(failure) => {

@@ -310,13 +310,13 @@ const REFUSED: [Row; 15] = [
         "draw s out",
         b"process a adder.sbi\nprocess b s\nprocess c s\n",
         3,
-        "load refused 2\nprocess b, s: not an image file (assembler text? sblog asm writes images)\n",
+        "load refused 2\nprocess b, s: not an image file (assembler text? sblog asm writes images)\nthis looks like a scenario: sblog run carries it out\n",
     ),
     (
         "run s",
         b"process a adder.sbi\n# \xff\n",
         6,
-        "input or output\ns: not UTF-8, so no text\n",
+        "input or output\ns: not UTF-8, so no text\nline 2 is the first that is not UTF-8: save the text as that\n",
     ),
     ("run folder", b"", 6, NO_FOLDER),
     (
