@@ -8,10 +8,10 @@ LABEL = re.compile("<text class='[tscrbj]' x='([0-9]+)' y='(?!43')([0-9]+)'>([^<
 NUMBER = re.compile("<text class='(?:place|c)' x='([0-9]+)' y='(18|30|43)'>([0-9]+)</text>")
 SIGN = re.compile("<text x='42' y='4'>([^<]*)</text>")
 ARROWS = {
-    "message": "message, with its SSN",
+    "message": "message, its SSN and first bytes",
     "number": "its number (RSN), to its sender",
     "acknowledgement": "acknowledgement of a number",
-    "output": "output, shown outside",
+    "output": "output, its SSN and first bytes",
 }
 
 
@@ -23,22 +23,28 @@ def line_y(number):
     return 100 + 78 * number
 
 
-def first_bytes(order, text):
-    """The first four bytes that an order hands in, in hexadecimal, and two dots where there are more."""
-    pairs = int(text).to_bytes(64, "little").hex() if order == "input" else text
+def first_bytes(pairs):
+    """The first four of these bytes, in hexadecimal, and two dots where there are more."""
     return pairs if len(pairs) <= 8 else pairs[:8] + ".."
+
+
+def handed_in(order, text):
+    """The bytes that an order hands in."""
+    return int(text).to_bytes(64, "little").hex() if order == "input" else text
 
 
 class Picture:
     """The marks and labels of the trace of a scenario with their places, and what its legend has.
 
-    Of each entry and each refused order a line of `moments` has the line of the scenario, and the number that refused it.
+    Of each entry and each refused order a line of `moments` has the line of the scenario, and what the entry's message says
+    or the number that refused the order.
     Where only messages are shown, numbers and acknowledgements are left out, and entries that move one have no column.
     """
 
     def __init__(self, scenario, trace, moments, only_messages=False):
         inputs = re.findall("(?m)^(input|bytes) [^ ]+ (.*)$", scenario)
-        self.shown = [first_bytes(*found) for found in inputs]  # by feed, from 1
+        self.handed = [first_bytes(handed_in(*found)) for found in inputs]  # by feed, from 1
+        self.said = None  # the first bytes of the message that an entry puts on the wire or shows
         self.marks, self.labels, self.signs, self.numbers = [], [], set(), []
         self.only_messages, self.messages = only_messages, set()  # the keys of those on the wire
         self.packets = {}  # by key: from, to, column, column of the copy or None, kind
@@ -48,8 +54,9 @@ class Picture:
         self.down = set()
         entries = enumerate(re.findall("(?m)^[0-9]{6} w[0-9]+ (.*) -> (.*)$", trace), 1)
         self.column = 0
-        for line, *refusal in map(str.split, moments.splitlines()):
-            is_drawn = self.refuse(*refusal) if refusal else self.enter(*next(entries))
+        for line, *more in map(str.split, moments.splitlines()):
+            self.said = first_bytes(more[1]) if more[:1] == ["says"] else None
+            is_drawn = self.refuse(more[1]) if more[:1] == ["refused"] else self.enter(*next(entries))
             if is_drawn:
                 self.numbers.append((column_x(self.column), 30, int(line)))
                 self.column += 1
@@ -89,12 +96,12 @@ class Picture:
         out = 11 * (self.column % 2)
         self.labels.append((column_x(self.column), line_y(number) - 14 - beyond - out, text))
 
-    def below(self, number, text):
-        self.labels.append((column_x(self.column), line_y(number) + 22 + 11 * (self.column % 2), text))
+    def below(self, number, text, beyond=0):
+        self.labels.append((column_x(self.column), line_y(number) + 22 + beyond + 11 * (self.column % 2), text))
 
-    def away(self, number, other, text):
+    def away(self, number, other, text, beyond=0):
         """On the side that looks away from the other line."""
-        (self.below if other < number else self.above)(number, text)
+        (self.below if other < number else self.above)(number, text, beyond)
 
     def half(self, packet):
         return column_x(self.column), (line_y(packet[0]) + line_y(packet[1])) // 2
@@ -129,10 +136,11 @@ class Picture:
         self.mark("input", 0, "input, its feed and first bytes")
         self.above(0, f"in {feed}")
         self.below(0, f"for {to}")
-        self.above(0, self.shown[feed - 1], beyond=22)
+        self.above(0, self.handed[feed - 1], beyond=22)
 
     def transmit(self, _, start, end, ssn, key):
         self.away(start, end, f"ssn {ssn}")
+        self.away(start, end, self.said, beyond=22)
         self.put(key, start, end, "message" if end else "output")
 
     def copy(self, _, key, new):
@@ -156,6 +164,7 @@ class Picture:
         elif said == "shown":
             self.mark("shown", 0)
             self.above(0, f"out {number}")
+            self.above(0, self.said, beyond=22)
         elif said == "down":
             self.mark("lost", here, "lost packet")
             self.away(here, back, "down")

@@ -1,14 +1,16 @@
 -- Which entries have columns (docs/FORMATS.md, "Picture").
-use Rattle.std.specs.Prelude.{ℕ, ◌+◌, ◌==◌, ◌&&◌, Bool, false, not, List, [], ◌∷◌, ◌++◌, Option, Some, None, slice_get, if◌then◌else◌}
+use Rattle.std.specs.Prelude.{ℕ, ◌+◌, ◌==◌, ◌&&◌, Bool, false, not, List, [], ◌∷◌, ◌++◌, Option, Some, None, slice_get, slice_index_or, if◌then◌else◌}
 use Rattle.std.specs.List.{fold, list_any}
-use Rattle.std.specs.Option.{option_map_or}
+use Rattle.std.specs.Option.{option_map, option_map_or}
 use Rattle.std.specs.Set.{remove_key}
 use Rattle.world.specs.declared.call.Call.{Call}
 use Rattle.world.specs.declared.call.Call.TheVariants as call
 use Rattle.world.specs.declared.answer.Answer.{Answer}
 use Rattle.world.specs.declared.answer.Answer.TheVariants as answer
 use Rattle.world.specs.declared.entry.Entry.{Entry}
+use Rattle.world.specs.History.{Payload}
 use Rattle.diagram.specs.declared.columns.Column.{Column}
+use Rattle.diagram.specs.Run.{Moment, TheRun}
 
 -- one of the keys is this one
 abbrev pub has_key : List ℕ → ℕ → Bool
@@ -38,41 +40,49 @@ moves_other keys (call.Lose key) = not (has_key keys key)
 moves_other keys (call.Arrive key) = not (has_key keys key)
 moves_other keys c = false
 
--- a moment: a call that was accepted or an order that was refused; the line of the scenario that it is of, and the number that refused it
-abbrev pub Moment : Type 0
-Moment = ℕ × Option ℕ
+-- how many outputs an entry shows
+abbrev pub outputs_in : Answer → ℕ
+outputs_in (answer.Shown ssn) = 1
+outputs_in a = 0
 
--- the column of an entry, or of a refused order behind so many entries
-abbrev pub column : Moment → ℕ → Column
-column m place = record { line = m.0; place = place; refused = m.1 }
+-- what an entry's message says, behind so many entries and outputs: the output that it shows, or the message that it puts on the wire
+abbrev pub text_of : TheRun → ℕ → ℕ → Answer → Option Payload
+text_of run place outputs (answer.Shown ssn) = option_map (λ m. m.payload) (slice_get run.shown outputs)
+text_of run place outputs a = slice_index_or run.sent place None
 
--- where the columns stand: how many entries came so far, the keys of the messages on the wire, and the columns
+-- the column of an entry with this text, or of a refused order behind so many entries
+abbrev pub column : Moment → ℕ → Option Payload → Column
+column m place text = record { line = m.0; place = place; refused = m.1; text = text }
+
+-- where the columns stand: how many entries came so far, how many outputs these show, the keys of the messages on the wire, and the columns
 pub record TheStanding : Type 0 where
   pub place : ℕ
+  pub outputs : ℕ
   pub keys : List ℕ
   pub columns : List Column
 
 -- before the first moment
 abbrev pub unmoved : TheStanding
-unmoved = record { place = 0; keys = []; columns = [] }
+unmoved = record { place = 0; outputs = 0; keys = []; columns = [] }
 
 -- each entry has a column; where only messages are shown, those that move others have none
 abbrev pub has_column : Bool → List ℕ → Entry → Bool
 has_column only keys e = not (only && moves_other keys e.call)
 
 -- behind an entry
-abbrev pub behind_entry : Bool → Moment → TheStanding → Entry → TheStanding
-behind_entry only m s e = record {
+abbrev pub behind_entry : Bool → TheRun → Moment → TheStanding → Entry → TheStanding
+behind_entry only run m s e = record {
   place = s.place + 1;
+  outputs = s.outputs + outputs_in e.answer;
   keys = keys_after s.keys e;
-  columns = s.columns ++ (if has_column only s.keys e then column m s.place ∷ [] else []);
+  columns = s.columns ++ (if has_column only s.keys e then column m s.place (text_of run s.place s.outputs e.answer) ∷ [] else []);
 }
 
 -- behind a moment: a refused order has a column, and a call that was accepted is the next entry, if there is one
-abbrev pub behind : Bool → List Entry → TheStanding → Moment → TheStanding
-behind only entries s (line, Some n) = record s { columns = s.columns ++ column (line, Some n) s.place ∷ [] }
-behind only entries s (line, None) = option_map_or (λ e. behind_entry only (line, None) s e) (slice_get entries s.place) s
+abbrev pub behind : Bool → TheRun → TheStanding → Moment → TheStanding
+behind only run s (line, Some n) = record s { columns = s.columns ++ column (line, Some n) s.place None ∷ [] }
+behind only run s (line, None) = option_map_or (λ e. behind_entry only run (line, None) s e) (slice_get run.entries s.place) s
 
--- the columns of these moments, of calls that are these entries
-abbrev pub columns : Bool → List Entry → List Moment → List Column
-columns only entries moments = (fold (behind only entries) unmoved moments).columns
+-- the columns of a run
+abbrev pub columns : Bool → TheRun → List Column
+columns only run = (fold (behind only run) unmoved run.moments).columns

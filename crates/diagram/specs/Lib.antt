@@ -1,3 +1,4 @@
+pub mod Run
 pub mod Columns
 pub mod Standing
 pub mod Page

@@ -6,10 +6,11 @@ use Rattle.world.specs.declared.call.Call.TheVariants as call
 use Rattle.world.specs.declared.answer.Answer.{Answer}
 use Rattle.world.specs.declared.answer.Answer.TheVariants as answer
 use Rattle.world.specs.declared.entry.Entry.{Entry}
+use Rattle.world.specs.History.{Payload}
 use Rattle.scenario.specs.Hex.{hex_text}
 use Rattle.diagram.specs.declared.label.Side.TheVariants.{Above, Below, Beyond}
 use Rattle.diagram.specs.declared.columns.Column.{Column}
-use Rattle.diagram.specs.Label.{label_text}
+use Rattle.diagram.specs.Label.{far_side, label_text}
 use Rattle.diagram.specs.Page.{column_place, line_place}
 
 -- one of the shapes, in a column at a height
@@ -65,31 +66,39 @@ call_mark n column c k = []
 abbrev pub entry_mark : ℕ → ℕ → Entry → List ℕ
 entry_mark n column e = call_mark n column e.call (number_in e.answer)
 
+-- what a message says, where it begins, if both lines are there, and an output where it is shown
+abbrev pub text_mark : ℕ → ℕ → Call → Option Payload → List ℕ
+text_mark n column c None = []
+text_mark n column (call.Transmit from to ssn) (Some x) =
+    on_line n from (on_line n to (label_text (codes "b") (far_side from to) column from (first_bytes x)))
+text_mark n column (call.Arrive key) (Some x) = label_text (codes "b") Beyond column 0 (first_bytes x)
+text_mark n column c (Some x) = []
+
 -- a number above a column, in a style and at a height
 abbrev pub number_text : List ℕ → ℕ → ℕ → ℕ → List ℕ
 number_text style column height number =
     codes "<text class='" ++ (style ++ (codes "' x='" ++ (decimal (column_place column) ++ (codes "' y='" ++ (decimal height ++ (codes "'>" ++ (decimal number ++ codes "</text>\n")))))))
 
--- the number of an entry, from 1, and its mark
-abbrev pub numbered_mark : ℕ → ℕ → ℕ → Entry → List ℕ
-numbered_mark n column place e = number_text (codes "place") column 18 (place + 1) ++ entry_mark n column e
+-- the number of an entry, from 1, its mark, and what its message says
+abbrev pub numbered_mark : ℕ → ℕ → ℕ → Option Payload → Entry → List ℕ
+numbered_mark n column place text e = number_text (codes "place") column 18 (place + 1) ++ entry_mark n column e ++ text_mark n column e.call text
 
 -- those of the entry at a place, if there is one
-abbrev pub place_mark : ℕ → List Entry → ℕ → ℕ → List ℕ
-place_mark n entries column place = option_map_or (λ e. numbered_mark n column place e) (slice_get entries place) []
+abbrev pub place_mark : ℕ → List Entry → ℕ → ℕ → Option Payload → List ℕ
+place_mark n entries column place text = option_map_or (λ e. numbered_mark n column place text e) (slice_get entries place) []
 
 -- a refused order: a shape where entries have their number, and the number that refused it
 abbrev pub refused_mark : ℕ → ℕ → List ℕ
 refused_mark column number = shape_at (codes "refused") column 14 ++ number_text (codes "c") column 43 number
 
 -- an entry, or a refused order
-abbrev pub shown_mark : ℕ → List Entry → ℕ → ℕ → Option ℕ → List ℕ
-shown_mark n entries column place None = place_mark n entries column place
-shown_mark n entries column place (Some number) = refused_mark column number
+abbrev pub shown_mark : ℕ → List Entry → ℕ → ℕ → Option Payload → Option ℕ → List ℕ
+shown_mark n entries column place text None = place_mark n entries column place text
+shown_mark n entries column place text (Some number) = refused_mark column number
 
 -- the marks of a column: the line of the scenario that it is of, and what it shows
 abbrev pub column_mark : ℕ → List Entry → ℕ → Column → List ℕ
-column_mark n entries column c = number_text (codes "place") column 30 c.line ++ shown_mark n entries column c.place c.refused
+column_mark n entries column c = number_text (codes "place") column 30 c.line ++ shown_mark n entries column c.place c.text c.refused
 
 -- the marks of these columns, of which the first has this number
 abbrev pub marks_from : ℕ → List Entry → ℕ → List Column → List ℕ

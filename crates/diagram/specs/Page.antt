@@ -15,7 +15,7 @@ line_place number = 100 + number * 78
 
 -- as high as the lines of that many processes, of at most 255, and the legend
 abbrev pub page_height : ℕ → ℕ
-page_height processes = line_place (min processes 255) + 44 + 132
+page_height processes = line_place (min processes 255) + 60 + 132
 
 -- how an element `svg` of this size begins
 abbrev pub head_text : ℕ → ℕ → List ℕ

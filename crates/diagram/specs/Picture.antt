@@ -1,16 +1,16 @@
 -- What a picture is as a text.
 use Rattle.std.specs.Prelude.{◌≡◌, ℕ, Bool, List, ◌++◌, codes, length, min}
-use Rattle.world.specs.declared.entry.Entry.{Entry}
-use Rattle.diagram.specs.Columns.{Moment, columns}
+use Rattle.diagram.specs.Columns.{columns}
+use Rattle.diagram.specs.Run.{TheRun}
 use Rattle.diagram.specs.Marks.{HasPart, marks_from}
 use Rattle.diagram.specs.Page.{head_text, page_height, page_width}
 
 -- one element `svg`, as large as so many processes and the columns of the entries and refused orders ask for; inside it has the marks of
 -- each of these, in its column and on its line
-abbrev pub IsPicture : ℕ → List Entry → List Moment → Bool → List ℕ → Type 0
-IsPicture processes entries moments only text =
+abbrev pub IsPicture : ℕ → TheRun → Bool → List ℕ → Type 0
+IsPicture processes run only text =
     record {
       inside : List ℕ;
-      whole : text ≡ head_text (page_width (length (columns only entries moments))) (page_height processes) ++ inside ++ codes "</svg>\n";
-      marks : HasPart (marks_from (min processes 255) entries 0 (columns only entries moments)) inside;
+      whole : text ≡ head_text (page_width (length (columns only run))) (page_height processes) ++ inside ++ codes "</svg>\n";
+      marks : HasPart (marks_from (min processes 255) run.entries 0 (columns only run)) inside;
     }

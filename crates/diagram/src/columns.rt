@@ -2,16 +2,15 @@
 //! but those that move other packets.
 
 ghost use Rattle.std.specs.Prelude.{◌≡◌, ◌<◌, ◌+◌, ◌^◌, ◌++◌, ◌∷◌, [], IfOk, None, OnOk, Some};
-ghost use Rattle.diagram.specs.Columns.{behind, behind_entry, column, columns, keys_after, moves_other};
-ghost use Rattle.diagram.specs.Standing.{standing_of};
+ghost use Rattle.diagram.specs.Columns.{behind, behind_entry, column, columns, keys_after, moves_other, outputs_in, text_of};
+ghost use Rattle.diagram.specs.Standing.{run_of, standing_of};
 
+use crate::run::{Moment, Run};
+use crate::standing::Standing;
+use helpers::Payload;
 use indexmap::IndexSet;
 use std::alloc::{AllocError, Global};
 use world::{Answer, Call, Entry};
-
-/// A call that was accepted, or an order that was refused: the line of the scenario that it is of, from 1, and the
-/// number that refused it.
-pub type Moment = (usize, Option<u8>);
 
 /// The column of the entry at a place, or of an order that was refused behind so many entries.
 #[derive(Clone, Copy, PartialEq, Eq, Debug)]
@@ -19,64 +18,81 @@ pub struct Column {
     pub line: usize,
     pub place: usize,
     pub refused: Option<u8>,
-}
-
-/// Where the columns stand.
-#[derive(Drop)]
-pub struct Standing {
-    /// How many entries came so far.
-    pub place: usize,
-    /// The keys of the messages on the wire.
-    pub messages: IndexSet<usize>,
-    pub columns: Vec<Column>,
+    /// What the message says that the entry puts on the wire or shows.
+    pub text: Option<Payload>,
 }
 
 impl Standing {
     /// Behind a refused order, which has a column.
     fn refuse(&mut self, line: usize, number: u8) -> Result<(), AllocError>
-        ensures { OnOk result (standing_of self.new ≡ record (standing_of self.old) { columns = self.old.columns.items ++ column (line, Some number) self.old.place ∷ [] }) }
+        ensures { OnOk result (standing_of self.new ≡ record (standing_of self.old) { columns = self.old.columns.items ++ column (line, Some number) self.old.place None ∷ [] }) }
     {
         self.columns.push(Column {
             line,
             place: self.place,
             refused: Some(number),
+            text: None,
         })?;
         Ok(())
     }
 
     /// Behind an entry of a line, which has a column, but where only messages are shown and it moves another packet.
-    fn enter(&mut self, line: usize, entry: &Entry, only_messages: bool) -> Result<(), AllocError>
+    fn enter(
+        &mut self,
+        run: &Run<'_>,
+        line: usize,
+        entry: &Entry,
+        only_messages: bool,
+    ) -> Result<(), AllocError>
         requires { self.old.place + 1 < 2 ^ 64 }
-        ensures { OnOk result (standing_of self.new ≡ behind_entry only_messages (line, None) (standing_of self.old) entry.now) }
+        ensures { OnOk result (standing_of self.new ≡ behind_entry only_messages (run_of run.now) (line, None) (standing_of self.old) entry.now) }
     {
         if !only_messages || !moves_other(&self.messages, &entry.call) {
             self.columns.push(Column {
                 line,
                 place: self.place,
                 refused: None,
+                text: text_of(run, self.place, self.outputs, entry.answer),
             })?;
         }
         self.place += 1;
+        self.outputs += outputs_in(entry.answer);
         note(&mut self.messages, entry)
     }
 
-    /// Behind a moment of a run of these entries.
-    fn pass(
-        &mut self,
-        entries: &[Entry],
-        moment: Moment,
-        only_messages: bool,
-    ) -> Result<(), AllocError>
-        ensures { OnOk result (standing_of self.new ≡ behind only_messages entries.now (standing_of self.old) moment) }
+    /// Behind a moment of a run.
+    fn pass(&mut self, run: &Run<'_>, moment: Moment, only_messages: bool) -> Result<(), AllocError>
+        ensures { OnOk result (standing_of self.new ≡ behind only_messages (run_of run.now) (standing_of self.old) moment) }
     {
         let (line, refused) = moment;
         if let Some(number) = refused {
             return self.refuse(line, number);
         }
-        match entries.get(self.place) {
-            Some(entry) => self.enter(line, entry, only_messages),
+        match run.entries.get(self.place) {
+            Some(entry) => self.enter(run, line, entry, only_messages),
             None => Ok(()),
         }
+    }
+}
+
+/// How many outputs an entry shows.
+fn outputs_in(answer: Answer) -> usize
+    ensures { result ≡ outputs_in answer }
+{
+    match answer {
+        Answer::Shown(_) => 1,
+        _ => 0,
+    }
+}
+
+/// What an entry's message says, behind so many entries and outputs: the output that it shows, or the message that it
+/// puts on the wire.
+fn text_of(run: &Run<'_>, place: usize, outputs: usize, answer: Answer) -> Option<Payload>
+    ensures { result ≡ text_of (run_of run.now) place outputs answer }
+{
+    match answer {
+        Answer::Shown(_) => run.shown.get(outputs).map(|message| message.payload),
+        _ => run.sent.get(place).copied().flatten(),
     }
 }
 
@@ -111,22 +127,22 @@ fn moves_other(messages: &IndexSet<usize>, call: &Call) -> bool
     }
 }
 
-/// The columns of these moments, in which these entries came.
+/// The columns of a run.
 pub(crate) fn columns(
     alloc: Global,
-    entries: &[Entry],
-    moments: &[Moment],
+    run: &Run<'_>,
     only_messages: bool,
 ) -> Result<Vec<Column>, AllocError>
-    ensures { IfOk result (λ v. v.items ≡ columns only_messages entries.now moments.now) }
+    ensures { IfOk result (λ v. v.items ≡ columns only_messages (run_of run.now)) }
 {
     let mut standing = Standing {
         place: 0,
+        outputs: 0,
         messages: IndexSet::new(alloc),
         columns: Vec::new(alloc),
     };
-    for moment in moments {
-        standing.pass(entries, *moment, only_messages)?;
+    for moment in run.moments {
+        standing.pass(run, *moment, only_messages)?;
     }
     Ok(standing.columns)
 }

@@ -3,7 +3,7 @@
 //! A class names a style of `legend::STYLE`.
 
 ghost use Rattle.std.specs.Prelude.{◌≡◌, ◌++◌, OnOk, decimal, string_bytes};
-ghost use Rattle.diagram.specs.Label.{label_place, label_text};
+ghost use Rattle.diagram.specs.Label.{far_side, label_place, label_text};
 
 use crate::page::{GAP, column_x};
 use std::alloc::AllocError;
@@ -15,6 +15,8 @@ pub enum Side {
     Below,
     /// Above what stands above the line.
     Beyond,
+    /// Below what stands below the line.
+    Beneath,
 }
 
 impl Side {
@@ -27,6 +29,17 @@ impl Side {
         }
     }
 
+    /// Beyond what stands on the side of a line that looks away from another.
+    pub(crate) fn far(line: u8, other: u8) -> Side
+        ensures { result ≡ far_side line other }
+    {
+        if other < line {
+            Side::Beneath
+        } else {
+            Side::Beyond
+        }
+    }
+
     /// The foot of a label in this column, in pixels. Those of odd columns are further out.
     pub(crate) fn height(self, column: usize, line: u8) -> usize
         ensures { result ≡ label_place self column line }
@@ -35,6 +48,7 @@ impl Side {
             Side::Above => (86, 75),
             Side::Below => (122, 133),
             Side::Beyond => (64, 53),
+            Side::Beneath => (144, 155),
         };
         let first = if column % 2 == 0 { even } else { odd };
         first + usize::from(line) * GAP

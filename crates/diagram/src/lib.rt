@@ -8,7 +8,7 @@
 //!
 //! ```text
 //! let scenario = parse(alloc, text, Allowed::All)?;
-//! draw(alloc, &scenario.processes, entries, moments, false)?; // "<svg xmlns=.."
+//! draw(alloc, &scenario.processes, &Run { entries, moments, sent, shown }, false)?; // "<svg xmlns=.."
 //! ```
 #![tactic(auto)]
 
@@ -22,8 +22,10 @@ mod packets;
 mod page;
 mod picture;
 mod processes;
+mod run;
 mod sign;
+mod standing;
 mod wire;
 
-pub use columns::Moment;
 pub use page::draw;
+pub use run::{Moment, Run};

@@ -4,9 +4,8 @@
 //! A class names a style of `legend::STYLE`, a shape one of its shapes.
 
 ghost use Rattle.std.specs.Prelude.{◌≡◌, ◌<◌, ◌+◌, ◌^◌, ◌++◌, OnOk, codes, string_bytes};
-ghost use Rattle.diagram.specs.Label.{label_text};
-ghost use Rattle.diagram.specs.Marks.{call_mark, column_mark, entry_mark, first_bytes, input_mark, marks_from, number_in, number_text, numbered_mark, place_mark, refused_mark, shape_at, shape_text, shown_mark};
-ghost use Rattle.diagram.specs.declared.label.Side.TheVariants.{Beyond};
+ghost use Rattle.diagram.specs.Label.{far_side, label_text};
+ghost use Rattle.diagram.specs.Marks.{call_mark, column_mark, entry_mark, first_bytes, input_mark, marks_from, number_in, number_text, numbered_mark, place_mark, refused_mark, shape_at, shape_text, shown_mark, text_mark};
 
 use crate::columns::Column;
 use crate::label::{Side, push_number, push_word};
@@ -66,11 +65,11 @@ fn push_shown(
     column: usize,
     shown: &Column,
 ) -> Result<(), AllocError>
-    ensures { OnOk result (string_bytes out.new ≡ string_bytes out.old ++ shown_mark processes entries.now column shown.now.place shown.now.refused) }
+    ensures { OnOk result (string_bytes out.new ≡ string_bytes out.old ++ shown_mark processes entries.now column shown.now.place shown.now.text shown.now.refused) }
 {
     match shown.refused {
         Some(number) => push_refused(out, column, number),
-        None => push_place_mark(out, processes, entries, column, shown.place),
+        None => push_place_mark(out, processes, entries, column, shown),
     }
 }
 
@@ -80,29 +79,30 @@ fn push_place_mark(
     processes: u8,
     entries: &[Entry],
     column: usize,
-    place: usize,
+    shown: &Column,
 ) -> Result<(), AllocError>
-    ensures { OnOk result (string_bytes out.new ≡ string_bytes out.old ++ place_mark processes entries.now column place) }
+    ensures { OnOk result (string_bytes out.new ≡ string_bytes out.old ++ place_mark processes entries.now column shown.now.place shown.now.text) }
 {
-    match entries.get(place) {
-        Some(entry) => push_numbered(out, processes, column, place, entry),
+    match entries.get(shown.place) {
+        Some(entry) => push_numbered(out, processes, column, shown, entry),
         None => Ok(()),
     }
 }
 
-/// Writes the number of an entry, from 1, and its mark.
+/// Writes the number of an entry, from 1, its mark, and what its message says.
 fn push_numbered(
     out: &mut String,
     processes: u8,
     column: usize,
-    place: usize,
+    shown: &Column,
     entry: &Entry,
 ) -> Result<(), AllocError>
-    requires { place + 1 < 2 ^ 64 }
-    ensures { OnOk result (string_bytes out.new ≡ string_bytes out.old ++ numbered_mark processes column place entry.now) }
+    requires { shown.now.place + 1 < 2 ^ 64 }
+    ensures { OnOk result (string_bytes out.new ≡ string_bytes out.old ++ numbered_mark processes column shown.now.place shown.now.text entry.now) }
 {
-    push_head(out, "place", column, ENTRY_ROW, place + 1)?;
-    push_entry_mark(out, processes, column, entry)
+    push_head(out, "place", column, ENTRY_ROW, shown.place + 1)?;
+    push_entry_mark(out, processes, column, entry)?;
+    push_text(out, processes, column, &entry.call, &shown.text)
 }
 
 /// Writes that an order was refused, and the number that refused it.
@@ -174,7 +174,7 @@ fn push_call_mark(
     match *call {
         Call::Input { to, feed, payload } => {
             push_input(out, column, to, feed)?;
-            push_bytes(out, column, &payload)
+            push_bytes(out, Side::Beyond, column, 0, &payload)
         }
         Call::Checkpoint { process } if process <= processes => {
             push_shape(out, "saved", column, process)?;
@@ -232,12 +232,37 @@ fn push_shape_at(
     writeln!(out, "<use href='#{shape}' x='{x}' y='{height}'/>")
 }
 
-/// Writes the first four bytes of an input beyond the line of the outside, and two dots where it has more.
-fn push_bytes(out: &mut String, column: usize, payload: &Payload) -> Result<(), AllocError>
-    ensures { OnOk result (string_bytes out.new ≡ string_bytes out.old ++ label_text (codes "b") Beyond column 0 (first_bytes payload.now)) }
+/// Writes what a message says, where it begins, if both lines are there, and an output where it is shown.
+fn push_text(
+    out: &mut String,
+    processes: u8,
+    column: usize,
+    call: &Call,
+    text: &Option<Payload>,
+) -> Result<(), AllocError>
+    ensures { OnOk result (string_bytes out.new ≡ string_bytes out.old ++ text_mark processes column call.now text.now) }
+{
+    match (*call, text) {
+        (Call::Transmit { from, to, .. }, Some(said)) if from <= processes && to <= processes => {
+            push_bytes(out, Side::far(from, to), column, from, said)
+        }
+        (Call::Arrive { .. }, Some(said)) => push_bytes(out, Side::Beyond, column, 0, said),
+        _ => Ok(()),
+    }
+}
+
+/// Writes the first four bytes of a message beside a line, and two dots where it has more.
+fn push_bytes(
+    out: &mut String,
+    side: Side,
+    column: usize,
+    line: u8,
+    payload: &Payload,
+) -> Result<(), AllocError>
+    ensures { OnOk result (string_bytes out.new ≡ string_bytes out.old ++ label_text (codes "b") side column line (first_bytes payload.now)) }
 {
     let bytes = payload.as_slice();
-    let (x, y) = (column_x(column), Side::Beyond.height(column, 0));
+    let (x, y) = (column_x(column), side.height(column, line));
     if bytes.len() <= SHOWN_BYTES {
         let hex = Hex(bytes);
         writeln!(out, "<text class='b' x='{x}' y='{y}'>{hex}</text>")

@@ -3,15 +3,17 @@
 ghost use Rattle.std.specs.Prelude.{◌≡◌, ◌++◌, IfOk, OnOk, length, min, string_bytes};
 ghost use Rattle.indexmap.specs.IndexMap.{index_map_len};
 ghost use Rattle.diagram.specs.Columns.{columns};
+ghost use Rattle.diagram.specs.Standing.{run_of};
 ghost use Rattle.diagram.specs.Marks.{HasPart, marks_from};
 ghost use Rattle.diagram.specs.Picture.{IsPicture};
 ghost use Rattle.diagram.specs.Page.{column_place, head_text, line_place, page_height, page_width};
 
-use crate::columns::{Column, Moment, columns};
+use crate::columns::{Column, columns};
 use crate::ink::{Point, push_line, push_text};
 use crate::legend::{LEGEND_HEIGHT, LEGEND_WIDTH, STYLE};
 use crate::marks::push_marks;
 use crate::picture::Picture;
+use crate::run::Run;
 use crate::sign::Sign;
 use indexmap::IndexMap;
 use scenario::{Process, name_at};
@@ -34,8 +36,10 @@ const TOP: usize = 100;
 const COLUMN_LIMIT: usize = 4_294_967_295;
 /// From a line to the next.
 pub(crate) const GAP: usize = 78;
-/// What is free below the last line and behind the last column.
+/// What is free behind the last column.
 const MARGIN: usize = 44;
+/// What is free below the last line, for its labels.
+const FOOT: usize = 60;
 
 /// The middle of a column, in pixels.
 pub(crate) fn column_x(column: usize) -> usize
@@ -54,7 +58,7 @@ pub(crate) fn lane_y(number: u8) -> usize
 
 /// The picture of a run as the text of an SVG file: a line for the outside and for each process, and
 /// a column for each moment, from left to right: each order that was refused, and each call that was accepted, which are
-/// the entries in their order. Where only messages are shown, other packets are left
+/// the entries in their order. A message has its first bytes where it begins, and an output also where it is shown. Where only messages are shown, other packets are left
 /// out, and entries that copy, lose or hand over one have no column. Of more than 255 processes the
 /// first 255 have lines. Names are written as they are: those of a scenario are letters and digits, which mean nothing else
 /// in such a text. What names a process or a packet that isn't there is not drawn. Only memory can run
@@ -62,15 +66,14 @@ pub(crate) fn lane_y(number: u8) -> usize
 pub fn draw(
     alloc: Global,
     processes: &IndexMap<String, Process>,
-    entries: &[Entry],
-    moments: &[Moment],
+    run: &Run<'_>,
     only_messages: bool,
 ) -> Result<String, AllocError>
-    ensures { IfOk result (λ text. IsPicture (index_map_len processes.now) entries.now moments.now only_messages (string_bytes text)) }
+    ensures { IfOk result (λ text. IsPicture (index_map_len processes.now) (run_of run.now) only_messages (string_bytes text)) }
 {
-    let shown = columns(alloc, entries, moments, only_messages)?;
+    let shown = columns(alloc, run, only_messages)?;
     let columns = shown.as_slice();
-    let inside = drawing(alloc, processes, entries, columns, only_messages)?;
+    let inside = drawing(alloc, processes, run.entries, columns, only_messages)?;
     let width = page_width(columns.len());
     let height = page_height(processes);
     let mut out = String::new(alloc);
@@ -91,7 +94,7 @@ fn drawing(
     ensures { IfOk result (λ text. HasPart (marks_from (min (index_map_len processes.now) 255) entries.now 0 columns.now) (string_bytes text)) }
 {
     let count = lane_count(processes);
-    let foot = lane_y(count) + MARGIN;
+    let foot = lane_y(count) + FOOT;
     let mut picture = Picture::new(alloc, count, BEGIN, only_messages)?;
     for (column, shown) in columns.iter().enumerate() {
         push_column(&mut picture, column, shown, foot)?;
@@ -116,7 +119,7 @@ fn page_width(columns: usize) -> usize
 fn page_height(processes: &IndexMap<String, Process>) -> usize
     ensures { result ≡ page_height (index_map_len processes.now) }
 {
-    lane_y(lane_count(processes)) + MARGIN + LEGEND_HEIGHT
+    lane_y(lane_count(processes)) + FOOT + LEGEND_HEIGHT
 }
 
 /// How many processes have lines.

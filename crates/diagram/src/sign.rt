@@ -83,10 +83,10 @@ impl Sign {
     pub(crate) fn words(self) -> &'static str {
         match self {
             Sign::Input => "input, its feed and first bytes",
-            Sign::Message => "message, with its SSN",
+            Sign::Message => "message, its SSN and first bytes",
             Sign::Number => "its number (RSN), to its sender",
             Sign::Acknowledgement => "acknowledgement of a number",
-            Sign::Output => "output, shown outside",
+            Sign::Output => "output, its SSN and first bytes",
             Sign::Call => "handler call, its job",
             Sign::Replayed => "replayed call",
             Sign::Open => "cut by a crash, or still open",

@@ -29,7 +29,8 @@ fn are_told(alloc: Global, rule: Rule, rows: &[(&str, &str)]) -> Result<bool, Fa
 
 const CARRIAGE_RETURN: &str = "a carriage return: lines end with a line feed alone";
 
-const TAB: &str = "a tab: one space stands behind the first word and behind a comma, and none before the first word or at the end";
+const TAB: &str =
+    "a tab: one space stands behind the first word and behind a comma, and none before the first word or at the end";
 
 const INDENT: &str = "a space before the first word";
 
@@ -37,9 +38,11 @@ const COMMENT: &str = "a comment stands on a line of its own, which begins with 
 
 const SEMICOLON: &str = "a semicolon: each instruction stands on a line of its own, without one";
 
-const MARK: &str = "a byte order mark (U+FEFF) before the first letter: save the text as UTF-8 without one";
+const MARK: &str =
+    "a byte order mark (U+FEFF) before the first letter: save the text as UTF-8 without one";
 
-const LANGUAGE: &str = "this looks like C: clang compiles it, and sblog pack writes the image (docs/HANDLERS.md)";
+const LANGUAGE: &str =
+    "this looks like C: clang compiles it, and sblog pack writes the image (docs/HANDLERS.md)";
 
 const SPACE: &str = "a space at the end, or two in a row";
 

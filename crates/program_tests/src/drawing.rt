@@ -2,17 +2,29 @@
 //!
 //! The first column is at 190, and each other one 24 further; the lines are at 100, 178 and 256.
 
-use diagram::{Moment, draw};
+use diagram::{Moment, Run, draw};
 use helpers::Payload;
 use scenario::{Allowed, parse};
 use std::alloc::Global;
 use std::test::Fail;
-use world::{Answer, Call, Entry};
+use world::{Answer, Call, Entry, Message};
 
 /// The picture of two processes, these entries and moments.
 fn picture(alloc: Global, entries: &[Entry], moments: &[Moment]) -> Result<String, Fail> {
+    let (sent, shown) = (&[], &[]);
+    let run = Run {
+        entries,
+        moments,
+        sent,
+        shown,
+    };
+    picture_of(alloc, &run)
+}
+
+/// The picture of a run of two processes.
+fn picture_of(alloc: Global, run: &Run<'_>) -> Result<String, Fail> {
     let scenario = parse(alloc, "process near a\nprocess far b\n", Allowed::All)?;
-    Ok(draw(alloc, &scenario.processes, entries, moments, false)?)
+    Ok(draw(alloc, &scenario.processes, run, false)?)
 }
 
 /// Moments of so many entries, each of the line behind that of the one before, from the third on.
@@ -70,10 +82,10 @@ const MESSAGE: [(Call, Answer); 5] = [
 ];
 
 const MESSAGE_PARTS: [&str; 14] = [
-    "width='900' height='432'",
+    "width='900' height='448'",
     "<text class='place' x='190' y='30'>3</text>\n<text class='place' x='190' y='18'>1</text>",
     "<text class='place' x='310' y='30'>8</text>\n<text class='place' x='310' y='18'>6</text>",
-    "<line class='column' x1='310' y1='34' x2='310' y2='300'/>",
+    "<line class='column' x1='310' y1='34' x2='310' y2='316'/>",
     "<line class='up' x1='160' y1='100' x2='334' y2='100'/>",
     "<text class='name' x='12' y='260'>2 far</text>",
     "<use href='#input' x='190' y='100'/>\n<text class='t' x='190' y='86'>in 7</text>",
@@ -182,7 +194,7 @@ const REFUSALS: [Moment; 5] = [
 ];
 
 const REFUSALS_PARTS: [(&str, bool); 12] = [
-    ("width='900' height='432'", true),
+    ("width='900' height='448'", true),
     (
         "<text class='place' x='190' y='30'>3</text>\n<use href='#refused' x='190' y='14'/>\n<text class='c' x='190' y='43'>4</text>\n",
         true,
@@ -197,11 +209,11 @@ const REFUSALS_PARTS: [(&str, bool); 12] = [
     ),
     ("<text class='c' x='262' y='43'>12</text>", true),
     (
-        "<line class='no' x1='238' y1='47' x2='238' y2='300'/>",
+        "<line class='no' x1='238' y1='47' x2='238' y2='316'/>",
         true,
     ),
     (
-        "<line class='column' x1='214' y1='34' x2='214' y2='300'/>",
+        "<line class='column' x1='214' y1='34' x2='214' y2='316'/>",
         true,
     ),
     (
@@ -242,6 +254,93 @@ fn small_journals(rt: HostRuntime) -> Result<(), Fail> {
     Ok(())
 }
 
+/// Messages from line to line, up, down and to nobody, and two outputs that are shown.
+const SENDINGS: [(Call, Answer); 7] = [
+    SEND,
+    START,
+    (
+        Call::Transmit {
+            from: 1,
+            to: 0,
+            ssn: 1,
+        },
+        Answer::Placed(0),
+    ),
+    (Call::Arrive { key: 0 }, Answer::Shown(1)),
+    (
+        Call::Transmit {
+            from: 1,
+            to: 2,
+            ssn: 1,
+        },
+        Answer::Placed(0),
+    ),
+    (
+        Call::Transmit {
+            from: 0,
+            to: 3,
+            ssn: 1,
+        },
+        Answer::Placed(1),
+    ),
+    (Call::Arrive { key: 2 }, Answer::Shown(2)),
+];
+
+/// What their messages say, by entry; the input before them has its own.
+const SAID: [Option<&[u8]>; 8] = [
+    Some(b"\xff"),
+    Some(b"\x01\x02\x03\x0a\xff"),
+    None,
+    Some(b"\x07"),
+    Some(b"\xee"),
+    Some(b""),
+    Some(b"\x09"),
+    None,
+];
+
+const SHOWN: [&[u8]; 2] = [b"\x0a\x0b\x0c\x0d", b"\x0e\x0e\x0e\x0e\x0e"];
+
+const SENDINGS_PARTS: [&str; 5] = [
+    "<text class='b' x='214' y='53'>0102030a..</text>",
+    "<text class='b' x='262' y='233'>07</text>",
+    "<text class='b' x='286' y='64'>0a0b0c0d</text>",
+    "<text class='b' x='310' y='131'>-</text>",
+    "<text class='b' x='358' y='53'>0e0e0e0e..</text>",
+];
+
+/// A message has its first bytes where it begins, if both lines are there, and an output where it is shown.
+#[test]
+fn first_bytes(rt: HostRuntime) -> Result<(), Fail> {
+    let alloc = rt.alloc();
+    let entries = behind_input(alloc, &SENDINGS)?;
+    let moments = accepted(alloc, entries.len())?;
+    let mut sent = Vec::new(alloc);
+    for said in SAID {
+        sent.push(said.map(Payload::from_slice))?;
+    }
+    let mut shown = Vec::new(alloc);
+    for said in SHOWN {
+        shown.push(Message {
+            sender: 1,
+            ssn: 1,
+            payload: Payload::from_slice(said),
+        })?;
+    }
+    let run = Run {
+        entries: entries.as_slice(),
+        moments: moments.as_slice(),
+        sent: sent.as_slice(),
+        shown: shown.as_slice(),
+    };
+    let text = picture_of(alloc, &run)?;
+    assert!(rt; has_all(text.as_str(), &SENDINGS_PARTS), "{text}");
+    assert!(rt;
+        has_none(text.as_str(), &[">ff<", ">ee<", ">09<"]),
+        "{text}"
+    );
+    Ok(())
+}
+
 /// Calls of nobody that is there, and of packets that aren't.
 const NOTHING: [(Call, Answer); 10] = [
     (
@@ -275,7 +374,7 @@ const NOTHING: [(Call, Answer); 10] = [
 ];
 
 const WIDE_PARTS: [&str; 3] = [
-    "width='1598' height='432'",
+    "width='1598' height='448'",
     "<text class='place' x='1530' y='18'>51</text>",
     "<text class='more' x='1438' y='182'>1 near</text>",
 ];

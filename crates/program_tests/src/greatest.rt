@@ -4,7 +4,7 @@
 use crate::drawing::accepted;
 use crate::running::adders;
 use cli::{Refusal, Request, Usage, parse_words};
-use diagram::draw;
+use diagram::{Run, draw};
 use explain::explain;
 use helpers::Payload;
 use images::FileForm;
@@ -101,7 +101,7 @@ fn a_full_journal_is_traced(rt: HostRuntime) -> Result<(), Fail> {
 /// What its picture begins with, and the last column: at 190 and 65,535 times 24, with 140 more after
 /// each 50 of the columns before it. A column further, and 44 pixels, the page ends.
 const DRAWN: [&str; 3] = [
-    "<svg xmlns='http://www.w3.org/2000/svg' width='1756498' height='354' ",
+    "<svg xmlns='http://www.w3.org/2000/svg' width='1756498' height='370' ",
     "<text class='place' x='1756430' y='30'>65538</text>\n<text class='place' x='1756430' y='18'>65536</text>",
     "<use href='#lost' x='1756430' y='139'/>",
 ];
@@ -112,13 +112,13 @@ fn a_full_journal_is_drawn(rt: HostRuntime) -> Result<(), Fail> {
     let scenario = parse(alloc, "process a x\n", Allowed::All)?;
     let entries = its_entries(alloc)?;
     let moments = accepted(alloc, entries.len())?;
-    let picture = draw(
-        alloc,
-        &scenario.processes,
-        entries.as_slice(),
-        moments.as_slice(),
-        false,
-    )?;
+    let run = Run {
+        entries: entries.as_slice(),
+        moments: moments.as_slice(),
+        sent: &[],
+        shown: &[],
+    };
+    let picture = draw(alloc, &scenario.processes, &run, false)?;
     let text = picture.as_str();
     assert!(rt;
         text.contains(DRAWN[0])

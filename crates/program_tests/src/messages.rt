@@ -3,7 +3,7 @@
 //! The first column is at 190, and each other one 24 further; the lines are at 100, 178 and 256.
 
 use crate::drawing::accepted;
-use diagram::draw;
+use diagram::{Run, draw};
 use scenario::{Allowed, parse};
 use std::test::Fail;
 use world::{Answer, Call, Entry};
@@ -85,13 +85,13 @@ fn messages_alone(rt: HostRuntime) -> Result<(), Fail> {
         })?;
     }
     let moments = accepted(alloc, entries.len())?;
-    let text = draw(
-        alloc,
-        &scenario.processes,
-        entries.as_slice(),
-        moments.as_slice(),
-        true,
-    )?;
+    let run = Run {
+        entries: entries.as_slice(),
+        moments: moments.as_slice(),
+        sent: &[],
+        shown: &[],
+    };
+    let text = draw(alloc, &scenario.processes, &run, true)?;
     for &(part, is_there) in PARTS.as_slice() {
         assert!(rt;
             text.as_str().contains(part) == is_there,

@@ -16,7 +16,7 @@ use Rattle.scenario.specs.declared.order.Order.TheVariants as order
 use Rattle.scenario.specs.declared.scenario.Step.{Step}
 use Rattle.runner.specs.Orders.{CarriesOut, BringsBack, HoldsJob, MakesCall, Position, beginning, held_for, with_entry, without_job, world_at}
 use Rattle.runner.specs.Results.{results_text}
-use Rattle.runner.specs.Inside.{AreNoted, ArePlayed, ArePlayedTo, IsNoted, IsPlayed}
+use Rattle.runner.specs.Inside.{AreNoted, ArePlayed, ArePlayedTo, IsNoted, IsPlayed, TheNotes}
 use Rattle.runner.specs.Run.{AreCarriedOut, CutsOff, IsCut, IsRun, Passage, RunsThrough, moments_of, passage, refused_lines, refused_text}
 
 -- an order keeps the images
@@ -91,17 +91,18 @@ played-more at mid next steps step old so new are is = (
   is.2 ∙ ap (λ ls. ls ++ refused_text step.line is.0) are.2 ∙ flat_map_more (λ (p : Passage). refused_text p.line p.refused) old are.0 (passage mid step next is.0),
 )
 
--- where no order is made, there is no moment
-pub noted-none : (at : Position) → AreNoted [] at at []
-noted-none at = ([], (refl, refl), refl)
+-- where no order is made, nothing is noted
+pub noted-none : (at : Position) → AreNoted [] at at (record { moments = []; sent = [] })
+noted-none at = ([], (refl, refl), refl, refl)
 
--- and one more that is made has its moments behind the rest
-pub noted-more : (at mid next : Position) (steps : List Step) (step : Step) (so new : List (ℕ × Option ℕ)) → AreNoted steps at mid so → IsNoted step mid next so new
+-- and one more that is made has its moments behind the rest, and what it put on the wire
+pub noted-more : (at mid next : Position) (steps : List Step) (step : Step) (so new : TheNotes) → AreNoted steps at mid so → IsNoted step mid next so new
     → AreNoted (steps ++ step ∷ []) at next new
 noted-more at mid next steps step so new are is = (
   are.0 ++ passage mid step next is.0 ∷ [],
   runs-more at mid next steps step are.0 is.0 are.1 is.1,
   is.2 ∙ ap (λ ms. ms ++ moments_of (passage mid step next is.0)) are.2 ∙ flat_map_more moments_of [] are.0 (passage mid step next is.0),
+  is.3 ∙ ap (λ ss. ss ++ (passage mid step next is.0).sent) are.3 ∙ flat_map_more (λ (p : Passage). p.sent) [] are.0 (passage mid step next is.0),
 )
 
 -- all of them, from the beginning on

@@ -3,6 +3,7 @@ use Rattle.std.specs.Prelude.{◌≡◌, ◌≢◌, ◌+◌, ◌++◌, ℕ, List
 use Rattle.world.specs.declared.message.Feed.{Feed}
 use Rattle.world.specs.declared.refusal.Refusal.{Refusal}
 use Rattle.world.specs.declared.refusal.Refusal.TheVariants.{Memory}
+use Rattle.world.specs.History.{Payload}
 use Rattle.world.specs.Refusals.{cause_of}
 use Rattle.sessions.specs.Seats.{TheSeat}
 use Rattle.sessions.specs.declared.share.Share.{Share}
@@ -10,6 +11,7 @@ use Rattle.sessions.specs.declared.share.End.TheVariants.{Refused}
 use Rattle.scenario.specs.declared.order.Order.{Order}
 use Rattle.scenario.specs.declared.order.Order.TheVariants.{Input, Bytes}
 use Rattle.scenario.specs.declared.scenario.Step.{Step}
+use Rattle.runner.specs.declared.chronicle.Notes.{Notes}
 use Rattle.runner.specs.declared.ended.Ended.{Ended}
 use Rattle.runner.specs.declared.player.Player.{Player}
 use Rattle.runner.specs.Orders.{CarriesOut, FindsNoMemory, Position}
@@ -19,6 +21,14 @@ use Rattle.runner.specs.Word.{message_word}
 -- where a player stands
 abbrev pub position_of : Player → Position
 position_of player = record { images = player.session.images; entries = player.session.entries; held = player.held.items; inputs = player.inputs }
+
+-- what is noted of the orders so far: their moments, and what their calls put on the wire
+pub record TheNotes : Type 0 where
+  pub moments : List (ℕ × Option ℕ)
+  pub sent : List (Option Payload)
+
+abbrev pub notes_of : Notes → TheNotes
+notes_of notes = record { moments = notes.moments.items; sent = notes.sent.items }
 
 -- something was done, or refused with a number. Where memory runs out nothing is said
 abbrev pub ComesTo : {X : Type 0} → (Option ℕ → Type 0) → Result X Refusal → Type 0
@@ -42,13 +52,17 @@ IsPlayed step here next old new = (refused : Option ℕ) × CarriesOut here step
 abbrev pub ArePlayed : List Step → Position → Position → List ℕ → List ℕ → Type 0
 ArePlayed steps here end old new = (passages : List Passage) × RunsThrough here steps passages end × (new ≡ old ++ refused_lines passages)
 
--- the order of a step is carried out, and its moments noted
-abbrev pub IsNoted : Step → Position → Position → List (ℕ × Option ℕ) → List (ℕ × Option ℕ) → Type 0
-IsNoted step here next old new = (refused : Option ℕ) × CarriesOut here step.order next refused × (new ≡ old ++ moments_of (passage here step next refused))
+-- the order of a step is carried out, and its moments noted, with what was put on the wire
+abbrev pub IsNoted : Step → Position → Position → TheNotes → TheNotes → Type 0
+IsNoted step here next old new =
+    (refused : Option ℕ) × CarriesOut here step.order next refused × (new.moments ≡ old.moments ++ moments_of (passage here step next refused))
+    × (new.sent ≡ old.sent ++ (passage here step next refused).sent)
 
 -- the same of all these steps, one after the other
-abbrev pub AreNoted : List Step → Position → Position → List (ℕ × Option ℕ) → Type 0
-AreNoted steps here end moments = (passages : List Passage) × RunsThrough here steps passages end × (moments ≡ flat_map moments_of passages)
+abbrev pub AreNoted : List Step → Position → Position → TheNotes → Type 0
+AreNoted steps here end notes =
+    (passages : List Passage) × RunsThrough here steps passages end × (notes.moments ≡ flat_map moments_of passages)
+    × (notes.sent ≡ flat_map (λ (p : Passage). p.sent) passages)
 
 -- the first of these steps are made, and the next one finds no memory
 pub record ArePlayedTo (steps : List Step) (here : Position) (old new : List ℕ) : Type 0 where

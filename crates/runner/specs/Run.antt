@@ -1,11 +1,17 @@
 -- What a run of a scenario writes (docs/FORMATS.md, "Carrying out"), and what its pictures show.
-use Rattle.std.specs.Prelude.{◌≡◌, ◌⊎◌, ◌-◌, ℕ, List, [], ◌∷◌, ◌++◌, codes, decimal, flat_map, length, replicate, slice_get, take, Option, Some, None}
+use Rattle.std.specs.Prelude.{◌≡◌, ◌⊎◌, ◌-◌, ℕ, List, [], ◌∷◌, ◌++◌, codes, decimal, drop, flat_map, length, map, replicate, slice_get, take, Option, Some, None}
 use Rattle.handlers.specs.Image.{TheImage}
+use Rattle.world.specs.declared.call.Call.{Call}
+use Rattle.world.specs.declared.call.Call.TheVariants as call
 use Rattle.world.specs.declared.entry.Entry.{Entry}
+use Rattle.world.specs.declared.message.Message.{Message}
 use Rattle.world.specs.Fold.{handlers_of}
-use Rattle.world.specs.Legal.{Legal}
+use Rattle.world.specs.History.{Payload}
+use Rattle.world.specs.Legal.{Legal, world_of}
+use Rattle.world.specs.World.{World}
+use Rattle.sessions.specs.Logged.{logged}
 use Rattle.scenario.specs.declared.scenario.Step.{Step}
-use Rattle.runner.specs.Orders.{CarriesOut, FindsNoMemory, Position, beginning}
+use Rattle.runner.specs.Orders.{CarriesOut, FindsNoMemory, Position, beginning, world_at}
 use Rattle.runner.specs.Results.{results_text}
 
 -- the line of an order that is refused with this number, if it is, and stands in this line of the scenario
@@ -13,15 +19,32 @@ abbrev pub refused_text : ℕ → Option ℕ → List ℕ
 refused_text line None = []
 refused_text line (Some n) = codes "line " ++ decimal line ++ codes " refused " ++ decimal n ++ codes "\n"
 
--- what the order of a line came to: it made so many calls that were accepted, and was refused with this number, if it was
+-- what a call put on the wire, if it did: the message as the log of its sender has it in this world
+abbrev pub sent_by : World → Call → Option Payload
+sent_by w (call.Transmit from to ssn) = logged w from to ssn
+sent_by w c = None
+
+-- the same of each of these entries
+abbrev pub sent_in : World → List Entry → List (Option Payload)
+sent_in w entries = map (λ e. sent_by w e.call) entries
+
+-- what the order of a line came to: it made so many calls that were accepted, and was refused with this number, if it was; and what
+-- each of these calls put on the wire, by the logs behind the order
 pub record Passage : Type 0 where
   pub line : ℕ
   pub added : ℕ
   pub refused : Option ℕ
+  pub sent : List (Option Payload)
 
 -- an order that leads from one position to another
 abbrev pub passage : Position → Step → Position → Option ℕ → Passage
-passage old step new refused = record { line = step.line; added = length new.entries - length old.entries; refused = refused }
+passage old step new refused =
+    record {
+      line = step.line;
+      added = length new.entries - length old.entries;
+      refused = refused;
+      sent = sent_in (world_at new) (drop (length old.entries) new.entries);
+    }
 
 -- the orders are carried out one after the other, and come to these
 abbrev pub RunsThrough : Position → List Step → List Passage → Position → Type 0
@@ -59,9 +82,14 @@ refused_moment line (Some n) = (line, Some n) ∷ []
 abbrev pub moments_of : Passage → List (ℕ × Option ℕ)
 moments_of p = replicate p.added (p.line, None) ++ refused_moment p.line p.refused
 
--- the orders lead to this journal, and to these moments, one after the other
-abbrev pub IsChronicle : List TheImage → List Step → List Entry → List (ℕ × Option ℕ) → Type 0
-IsChronicle images steps entries moments = (passages : List Passage) × AreCarriedOut images steps passages entries × (moments ≡ flat_map moments_of passages)
+-- the orders lead to this journal, and to these moments, one after the other; of each entry it is told what it put on the wire, and
+-- these outputs were shown
+pub record IsChronicle (images : List TheImage) (steps : List Step) (entries : List Entry) (moments : List (ℕ × Option ℕ)) (sent : List (Option Payload)) (shown : List Message) : Type 0 where
+  pub passages : List Passage
+  pub carried : AreCarriedOut images steps passages entries
+  pub moments_are : moments ≡ flat_map moments_of passages
+  pub sent_is : sent ≡ flat_map (λ p. p.sent) passages
+  pub shown_are : shown ≡ (world_of (length images) (handlers_of images) entries).shown
 
 -- where a run stops for want of memory: before the first order, at one that finds none, or behind all of them. An order that a number
 -- refuses is none of these

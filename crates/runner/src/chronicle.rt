@@ -1,19 +1,20 @@
 //! Runs of a scenario, and which line made each call.
 
-ghost use Rattle.std.specs.Prelude.{◌≡◌, ◌++◌, IfOk, None, OnOk, map, replicate};
+ghost use Rattle.std.specs.Prelude.{◌≡◌, ◌++◌, IfOk, None, OnOk, drop, map, replicate};
 ghost use Rattle.handlers.specs.Image.{image_in};
 ghost use Rattle.machine.specs.Opening.{AreFew};
-ghost use Rattle.runner.specs.Orders.{CarriesOut};
-ghost use Rattle.runner.specs.Inside.{AreNoted, IsNoted, position_of};
-ghost use Rattle.runner.specs.Run.{IsChronicle, refused_moment};
+ghost use Rattle.runner.specs.Orders.{CarriesOut, world_at};
+ghost use Rattle.runner.specs.Inside.{AreNoted, IsNoted, notes_of, position_of};
+ghost use Rattle.runner.specs.Run.{IsChronicle, refused_moment, sent_by, sent_in};
 
 use crate::player::Player;
 use handlers::Handler;
+use helpers::Payload;
 use scenario::{Scenario, Step};
-use sessions::copied;
+use sessions::{Slip, copied};
 use std::alloc::{AllocError, Global};
 use std::sync::Arc;
-use world::{Entry, Refusal};
+use world::{Call, Entry, Message, Refusal};
 
 /// A call that was accepted, or an order that was refused: the line that it is of, from 1, and the number that
 /// refused it.
@@ -26,6 +27,17 @@ pub struct Chronicle {
     pub entries: Vec<Entry>,
     /// One of each of these, and one of each order that was refused.
     pub moments: Vec<Moment>,
+    /// Of each of these calls what it put on the wire: what the message says, by the log of its sender.
+    pub sent: Vec<Option<Payload>>,
+    /// The outputs that were shown.
+    pub shown: Vec<Message>,
+}
+
+/// What is noted of the orders so far.
+#[derive(Drop)]
+struct Notes {
+    moments: Vec<Moment>,
+    sent: Vec<Option<Payload>>,
 }
 
 // Notes so many accepted calls of a line.
@@ -66,27 +78,67 @@ impl Player {
         }
     }
 
+    // What a call put on the wire, if it did, by the log of its sender.
+    fn sent_by(&self, call: &Call) -> Option<Payload>
+        ensures { result ≡ sent_by (world_at (position_of self.now)) call.now }
+    {
+        match *call {
+            Call::Transmit { from, to, ssn } => self.session.logged(from, to, ssn),
+            _ => None,
+        }
+    }
+
+    // The accepted calls behind so many.
+    fn added(&self, before: usize) -> &[Slip]
+        ensures { result.now ≡ drop before (position_of self.now).entries }
+    {
+        let journal = self.session.journal();
+        &journal[before.min(journal.len())..]
+    }
+
+    // Notes what these accepted calls put on the wire.
+    fn note_sent(&self, sent: &mut Vec<Option<Payload>>, slips: &[Slip]) -> Result<(), AllocError>
+        ensures { OnOk result (sent.new.items ≡ sent.old.items ++ sent_in (world_at (position_of self.now)) slips.now) }
+    {
+        for slip in slips {
+            let entry = slip.entry();
+            sent.push(self.sent_by(&entry.call))?;
+        }
+        Ok(())
+    }
+
     // Carries out the order of a step, and notes what it came to.
-    fn tell(&mut self, step: &Step, moments: &mut Vec<Moment>) -> Result<(), AllocError>
-        ensures { OnOk result (IsNoted step.now (position_of self.old) (position_of self.new) moments.old.items moments.new.items) }
+    fn tell(&mut self, step: &Step, notes: &mut Notes) -> Result<(), AllocError>
+        ensures { OnOk result (IsNoted step.now (position_of self.old) (position_of self.new) (notes_of notes.old) (notes_of notes.new)) }
     {
         let before = self.session.journal().len();
         let refused = self.heed(step)?;
         let after = self.session.journal().len();
-        note_calls(moments, step.line, after.saturating_sub(before))?;
-        note_refusal(moments, step.line, refused)
+        note_calls(&mut notes.moments, step.line, after.saturating_sub(before))?;
+        note_refusal(&mut notes.moments, step.line, refused)?;
+        self.note_sent(&mut notes.sent, self.added(before))
     }
 
     // Carries out the orders of all steps, one after the other, and answers what they came to.
-    fn tell_all(&mut self, alloc: Global, steps: &[Step]) -> Result<Vec<Moment>, AllocError>
-        ensures { IfOk result (λ moments. AreNoted steps.now (position_of self.old) (position_of self.new) moments.items) }
+    fn tell_all(&mut self, alloc: Global, steps: &[Step]) -> Result<Notes, AllocError>
+        ensures { IfOk result (λ notes. AreNoted steps.now (position_of self.old) (position_of self.new) (notes_of notes)) }
     {
-        let mut moments = Vec::new(alloc);
+        let mut notes = Notes {
+            moments: Vec::new(alloc),
+            sent: Vec::new(alloc),
+        };
         for step in steps {
-            self.tell(step, &mut moments)?;
+            self.tell(step, &mut notes)?;
         }
-        Ok(moments)
+        Ok(notes)
     }
+}
+
+// A copy of these messages.
+fn copied_messages(alloc: Global, messages: &[Message]) -> Result<Vec<Message>, AllocError>
+    ensures { IfOk result (λ v. v.items ≡ messages.now) }
+{
+    messages.iter().copied().collect(alloc)
 }
 
 /// What a scenario comes to where its orders are carried out as [`run`](crate::run) does it, in a session of these
@@ -97,10 +149,16 @@ pub fn chronicle_of(
     images: Vec<Arc<Handler>>,
 ) -> Result<Chronicle, AllocError>
     requires { AreFew (map image_in images.items) }
-    ensures { IfOk result (λ c. IsChronicle (map image_in images.items) scenario.now.steps.items c.entries.items c.moments.items) }
+    ensures { IfOk result (λ c. IsChronicle (map image_in images.items) scenario.now.steps.items c.entries.items c.moments.items c.sent.items c.shown.items) }
 {
     let mut player = Player::open(alloc, images)?;
-    let moments = player.tell_all(alloc, scenario.steps.as_slice())?;
+    let Notes { moments, sent } = player.tell_all(alloc, scenario.steps.as_slice())?;
     let entries = copied(alloc, player.session.journal())?;
-    Ok(Chronicle { entries, moments })
+    let shown = copied_messages(alloc, player.session.shown_since(0))?;
+    Ok(Chronicle {
+        entries,
+        moments,
+        sent,
+        shown,
+    })
 }

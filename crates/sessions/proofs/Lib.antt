@@ -4,3 +4,4 @@ mod SeatLemmas
 mod Own
 mod Together
 pub mod Driven
+mod LoggedLemmas

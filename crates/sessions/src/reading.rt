@@ -9,9 +9,11 @@ ghost use Rattle.theorems.specs.Kept.{HasKept};
 ghost use Rattle.theorems.specs.Orphans.{NoOrphan, ShownBegin};
 ghost use Rattle.sessions.specs.Journal.{IsExact, IsLegal, is_exact, world_at};
 ghost use Rattle.sessions.specs.Service.{KeepsPromises};
+ghost use Rattle.sessions.specs.Logged.{logged};
 
 use crate::service::Service;
 use crate::slip::Slip;
+use helpers::Payload;
 use limits::{ENTRIES, PROCESSES};
 use world::{Message, PhaseName};
 
@@ -85,6 +87,19 @@ impl Service {
     {
         let shown = self.machine.shown();
         &shown[since.min(shown.len())..]
+    }
+
+    /// What the message of one process to another with this SSN says, where the log of its sender has it.
+    /// Either may be the outside (0), whose messages are its inputs.
+    pub fn logged(&self, from: u8, to: u8, ssn: u32) -> Option<Payload>
+        ensures { result ≡ logged (world_at self.now) from to ssn }
+    {
+        let count = self.machine.count();
+        if from > count || to > count || from == to {
+            return None;
+        }
+        let (bytes, _) = self.machine.log(from).entry(to, ssn)?;
+        Some(Payload::from_slice(bytes))
     }
 
     /// The bytes of a process's latest checkpoint, in the second form (docs/FORMATS.md).

@@ -11,8 +11,8 @@ use crate::files::Files;
 use crate::loading::{Loaded, load_scenario};
 use crate::own_input::{spare, spare_images};
 use crate::site::Site;
-use diagram::draw;
-use runner::{Chronicle, chronicle_of};
+use diagram::{Run, draw};
+use runner::chronicle_of;
 use scenario::Allowed;
 use std::alloc::Global;
 
@@ -34,14 +34,14 @@ fn picture_of<F: Files>(
 {
     let Loaded { scenario, images } = load_scenario(alloc, path, Allowed::All, files, site)?;
     spare_images(alloc, &scenario.processes, place, files)?;
-    let Chronicle { entries, moments } = chronicle_of(alloc, &scenario, images)?;
-    let text = draw(
-        alloc,
-        &scenario.processes,
-        entries.as_slice(),
-        moments.as_slice(),
-        only_messages,
-    )?;
+    let chronicle = chronicle_of(alloc, &scenario, images)?;
+    let run = Run {
+        entries: chronicle.entries.as_slice(),
+        moments: chronicle.moments.as_slice(),
+        sent: chronicle.sent.as_slice(),
+        shown: chronicle.shown.as_slice(),
+    };
+    let text = draw(alloc, &scenario.processes, &run, only_messages)?;
     Ok(text)
 }
 

@@ -238,7 +238,7 @@ const PICTURES: [Line; 5] = [
             (
                 "out",
                 Seen::Has(&[
-                    "<svg xmlns='http://www.w3.org/2000/svg' width='900' height='354' ",
+                    "<svg xmlns='http://www.w3.org/2000/svg' width='900' height='370' ",
                     "<text class='name' x='12' y='182'>1 a</text>",
                     "</svg>\n",
                 ]),

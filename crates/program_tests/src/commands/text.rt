@@ -278,7 +278,9 @@ const REFUSED: [Scene; 7] = [
         &[(
             "asm s i --state 8",
             6,
-            Seen::Text("input or output\ns: not UTF-8, so no text\nline 1 is the first that is not UTF-8: save the text as that\n"),
+            Seen::Text(
+                "input or output\ns: not UTF-8, so no text\nline 1 is the first that is not UTF-8: save the text as that\n",
+            ),
             &[("i", Seen::Is(OLD))],
         )],
     ),

@@ -182,11 +182,7 @@ const TEXTS: [(&str, Allowed, &str); 5] = [
         Allowed::All,
         "no line begins with mov, and none declares a process, so this is no scenario (assembler text is for sblog asm, C for clang and then sblog pack)",
     ),
-    (
-        " process a x\ncrash a\n",
-        Allowed::All,
-        SPACE,
-    ),
+    (" process a x\ncrash a\n", Allowed::All, SPACE),
     (
         "process a x\ncrash a\n",
         Allowed::Inputs,

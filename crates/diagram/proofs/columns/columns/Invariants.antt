@@ -1,7 +1,7 @@
 use Rattle.std.proofs.Common.{◌≡◌, fold, take}
 use Rattle.diagram.specs.Columns.{behind, unmoved}
-use Rattle.diagram.specs.Standing.{standing_of}
+use Rattle.diagram.specs.Standing.{run_of, standing_of}
 use Rattle.diagram.proofs.columns.columns.Given as goal
 
 abbrev pub invariant-loop-moment : goal.invariant-loop-moment
-invariant-loop-moment l = standing_of l.standing ≡ fold (behind l.only_messages l.entries) unmoved (take l.moment-index l.moments)
+invariant-loop-moment l = standing_of l.standing ≡ fold (behind l.only_messages (run_of l.run)) unmoved (take l.moment-index (run_of l.run).moments)

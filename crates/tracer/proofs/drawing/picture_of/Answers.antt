@@ -1,10 +1,12 @@
-use Rattle.std.proofs.Common.{◌≡◌, ℕ, List, inr, length, map, string_bytes, subst, sym, true}
+use Rattle.std.proofs.Common.{◌≡◌, ℕ, List, Option, inr, length, map, string_bytes, subst, sym, true}
 use Rattle.handlers.specs.Image.{image_in}
 use Rattle.cli.specs.Asks.{Draw}
-use Rattle.diagram.specs.Columns.{Moment}
 use Rattle.diagram.specs.Picture.{IsPicture}
+use Rattle.diagram.specs.Run.{Moment}
 use Rattle.scenario.specs.declared.order.Allowed.TheVariants.{All}
 use Rattle.world.specs.declared.entry.Entry.{Entry}
+use Rattle.world.specs.declared.message.Message.{Message}
+use Rattle.world.specs.History.{Payload}
 use Rattle.tracer.specs.Inside.{IsOwnInput}
 use Rattle.tracer.specs.Program.{IsImagePath, WritesOver}
 use Rattle.tracer.proofs.CauseLemmas.{becomes, own_input_of}
@@ -21,17 +23,19 @@ returns-clause-drawn g c = λ known there.
     let s = c.in_ok-scenario.field-0.scenario in
     let images = map image_in c.in_ok-scenario.field-0.images.items in
     let count = length s.processes.entries in
-    let entries = c.in_ok-entries.field-0.entries.items in
-    let moments = c.in_ok-entries.field-0.moments.items in
+    let told = c.in_ok-chronicle.chronicle in
+    let P : List Entry → List Moment → List (Option Payload) → List Message → Type 0 =
+    λ es ms ss os. IsPicture count (record { entries = es; moments = ms; sent = ss; shown = os }) c.args.only_messages (string_bytes c.in_ok-text.text) in
     record {
       scenario = s;
       images = images;
       loaded = loaded_scenario (g.F.Files.content c.args.files.now) All c.args.path.now known s images c.in_ok-scenario.ensures.loaded there;
-      entries = entries;
-      moments = moments;
-      chronicle = c.in_ok-entries.ensures;
-      picture = subst (λ (ms : List Moment). IsPicture count entries ms c.args.only_messages (string_bytes c.in_ok-text.text)) c.as_slice-2.ensures.value
-          (subst (λ (es : List Entry). IsPicture count es c.as_slice-2.result.now c.args.only_messages (string_bytes c.in_ok-text.text)) c.as_slice.ensures.value c.in_ok-text.ensures);
+      run = record { entries = told.entries.items; moments = told.moments.items; sent = told.sent.items; shown = told.shown.items };
+      chronicle = c.in_ok-chronicle.ensures;
+      picture = subst (P told.entries.items told.moments.items told.sent.items) c.as_slice-4.ensures.value
+          (subst (λ ss. P told.entries.items told.moments.items ss c.as_slice-4.result.now) c.as_slice-3.ensures.value
+          (subst (λ ms. P told.entries.items ms c.as_slice-3.result.now c.as_slice-4.result.now) c.as_slice-2.ensures.value
+          (subst (λ es. P es c.as_slice-2.result.now c.as_slice-3.result.now c.as_slice-4.result.now) c.as_slice.ensures.value c.in_ok-text.ensures)));
     }
 
 pub returns-in_err-spare_images-clause-fault : goal.returns-in_err-spare_images-clause-fault
