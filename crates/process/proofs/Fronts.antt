@@ -1,5 +1,5 @@
 -- What is taken is the packet that waits first
-use Rattle.std.proofs.Common.{◌≡◌, List, [], ◌∷◌, refl, sym, ap, ◌∙◌, subst}
+use Rattle.std.proofs.Common.{◌≡◌, List, [], ◌∷◌, sym, ap, ◌∙◌, subst}
 use Rattle.std.specs.Prelude.{Option, Some, None}
 use Rattle.packets.specs.declared.packet.Packet.{Packet}
 use Rattle.process.specs.declared.course.Course.{Course}

@@ -1,5 +1,5 @@
 -- One that is up passes on to nothing
-use Rattle.std.proofs.Common.{◌≡◌, refl, true, false}
+use Rattle.std.proofs.Common.{◌≡◌, refl, true}
 use Rattle.process.specs.declared.course.Course.{Course}
 use Rattle.process.specs.declared.course.Course.TheVariants.{Up, Collecting, Replaying, Replayed, Restoring, Passing}
 use Rattle.process.specs.Process.{is_node}

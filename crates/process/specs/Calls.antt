@@ -1,5 +1,5 @@
 -- What the calls of a process are, by its stage: each is the call of that stage
-use Rattle.std.specs.Prelude.{◌≡◌, ℕ, List, [], ◌∷◌, Option, Some, None, Bool, true, false}
+use Rattle.std.specs.Prelude.{◌≡◌, [], ◌∷◌, Option, Some, None, Bool, true, false}
 use Rattle.packets.specs.declared.packet.Packet.{Packet}
 use Rattle.node.specs.declared.standing.Standing.{Standing}
 use Rattle.node.specs.declared.standing.Stage.TheVariants as stage
@@ -19,7 +19,7 @@ use Rattle.restoring.specs.Stands as restoring_owes
 use Rattle.restoring.specs.Reading.{restoring_standing}
 use Rattle.process.specs.declared.course.Course.{Course}
 use Rattle.process.specs.declared.course.Course.TheVariants.{Up, Collecting, Replaying, Replayed, Restoring, Passing}
-use Rattle.process.specs.Process.{TheProcess, state_of, out_of}
+use Rattle.process.specs.Process.{TheProcess}
 use Rattle.process.specs.Passing.{Passes}
 
 -- a packet comes

@@ -5,3 +5,4 @@ pub mod Reviving
 pub mod Working
 pub mod Packets
 pub mod Saving
+pub mod Job

@@ -10,7 +10,7 @@ use Rattle.recovery.specs.StandsReplaying.{ComesBack, Ends, replayed_of}
 use Rattle.restoring.specs.Restoring.{begun, is_up, up}
 use Rattle.restoring.specs.Stands.{Begins, IsUp}
 use Rattle.process.specs.declared.course.Course.{Course}
-use Rattle.process.specs.declared.course.Course.TheVariants.{Up, Collecting, Replaying, Replayed, Restoring, Passing}
+use Rattle.process.specs.declared.course.Course.TheVariants.{Up, Collecting, Replaying, Replayed, Restoring}
 
 -- where all peers have told all, one that collects recovers; or memory is refused, or it keeps too much
 abbrev pub Recovers : Course → Course → Type 0

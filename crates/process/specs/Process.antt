@@ -1,5 +1,5 @@
 -- What clauses see of a process
-use Rattle.std.specs.Prelude.{◌≡◌, ℕ, List, [], length, Bool, true, false}
+use Rattle.std.specs.Prelude.{ℕ, List, [], Bool, true, false}
 use Rattle.images.specs.declared.any_image.AnyImage.{AnyImage}
 use Rattle.packets.specs.declared.packet.Packet.{Packet}
 use Rattle.process.specs.declared.course.Course.{Course}

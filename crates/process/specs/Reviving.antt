@@ -7,7 +7,7 @@ use Rattle.packets.specs.declared.kept_fault.KeptFault.TheVariants.{Range}
 use Rattle.packets.specs.Kept.{IsKept}
 use Rattle.packets.specs.KeptFaults.{IsFirstKept}
 use Rattle.node.specs.declared.limit.Limits.{Limits}
-use Rattle.node.specs.Node.{TheNode, IsPositive}
+use Rattle.node.specs.Node.{IsPositive}
 use Rattle.world.specs.Handlers.{Handlers}
 use Rattle.cluster.specs.Cluster.{opening}
 use Rattle.node.specs.Stands.{Stands, BeginsWith}

@@ -17,7 +17,7 @@ use Rattle.node.specs.Stands as up_owes
 use Rattle.recovery.specs.Replaying.{next_job, did_replay}
 use Rattle.recovery.specs.StandsReplaying as replaying_owes
 use Rattle.process.specs.declared.course.Course.{Course}
-use Rattle.process.specs.declared.course.Course.TheVariants.{Up, Collecting, Replaying, Replayed, Restoring, Passing}
+use Rattle.process.specs.declared.course.Course.TheVariants.{Up, Replaying}
 use Rattle.process.specs.Process.{TheProcess, state_of}
 use Rattle.process.specs.Passing.{Passes}
 

@@ -5,7 +5,9 @@
 //! same calls in each stage: it hands it the packets that came ([`Process::receive_bytes`]), sends those
 //! that it gives ([`Process::take_bytes`]), has its handler run ([`Process::work`]), now and then lets it
 //! send again what isn't answered ([`Process::tick`]), and keeps its checkpoints
-//! ([`Process::checkpoint`], [`Process::saved`]). What was kept comes back by [`Process::revive`].
+//! ([`Process::checkpoint`], [`Process::saved`]). What was kept comes back by [`Process::revive`]. In place
+//! of [`Process::work`] a host may call the handler itself: [`Process::job`] gives it the call that is
+//! next, and [`Process::done`] takes what comes of it.
 //!
 //! The promise: each call is the call of the stage that the process is in, word for word, and then the
 //! process passes on to the next stage where that one is over: when all peers have told all it recovers,
@@ -22,15 +24,23 @@
 //! ```
 #![tactic(auto)]
 
+mod answering;
+mod call;
 mod course;
+mod done;
 mod fault;
 mod handing;
+mod job;
+mod laying;
 mod process;
 mod reading;
 mod saving;
 mod working;
 mod writable;
 
+pub use call::{Call, Ticket};
 pub use course::Course;
-pub use fault::Unrevived;
+pub use done::Done;
+pub use fault::{Undone, Unrevived};
+pub use job::Job;
 pub use process::Process;

@@ -1,7 +1,9 @@
 //! What a process does when its handler is to run.
 
-ghost use Rattle.std.specs.Prelude.{◌≡◌, ◌++◌, ◌≤◌, None, length, map, true, false, IfOk, OnOk, OnErr};
+ghost use Rattle.std.specs.Prelude.{◌≡◌, ◌++◌, ◌≤◌, None, Some, length, map, true, false, IfOk, IfNone, IfSome, OnOk, OnErr};
 ghost use Rattle.node.specs.declared.node.TheConstants.{MOST_GIVEN};
+ghost use Rattle.process.specs.Process.{state_of};
+ghost use Rattle.process.specs.Job.{IsCallable, TakesBack, IsNext};
 ghost use Rattle.process.specs.Working.{job_at, is_other, given_of, sent_by, shown_of, TakesIn, MayTakeIn, Works, Rests};
 
 use crate::course::Course;
@@ -13,7 +15,7 @@ use std::alloc::{AllocError, Global};
 impl Process {
     /// The message that the handler is to run on, and as whom: that of the open job, or the next one that is
     /// replayed; none, if there is none.
-    pub fn job(&self) -> Option<(OpenJob, Who)>
+    fn next_job(&self) -> Option<(OpenJob, Who)>
         ensures { result ≡ job_at self.now.course }
     {
         match &self.course {
@@ -46,7 +48,7 @@ impl Process {
     fn is_idle(&self) -> bool
         ensures { result ≡ true → job_at self.now.course ≡ None }
     {
-        self.job().is_none()
+        self.next_job().is_none()
     }
 
     /// The same as [`Process::work`]. A host asks more often than there is something to run on: so what takes room
@@ -57,21 +59,46 @@ impl Process {
         ensures rests { IfOk result (λ b. b ≡ false → Rests self.old × (self.new ≡ self.old)) }
         ensures err { OnErr result (self.new ≡ self.old) }
     {
-        let Some((job, who)) = self.job() else {
+        let Some((job, who)) = self.next_call() else {
             return Ok(false);
         };
         let mut state = Vec::from_slice(alloc, self.state())?;
-        if state.len() != self.image.state_len() as usize || !self.image.may_run_as(who) {
-            return Ok(false);
-        }
         self.effects.clear();
         let _end = self
             .image
             .call(state.as_mut_slice(), &job.payload, who, &mut self.effects);
         let given = given(alloc, who, &self.effects)?;
-        self.course.take_in(state, &given)?;
-        self.pass(alloc);
+        self.take_back(alloc, state, &given)?;
         Ok(true)
+    }
+
+    /// The message that the handler is to run on, and as whom: that of the open job, or the next one that is
+    /// replayed; none, if there is none, the state isn't the image's, or it can't be run as this process.
+    pub fn next_call(&self) -> Option<(OpenJob, Who)>
+        ensures none { IfNone result (Rests self.now) }
+        ensures next { IfSome result (λ c. IsNext self.now c.0 c.1) }
+    {
+        let (job, who) = self.next_job()?;
+        if self.state().len() != self.image.state_len() as usize || !self.image.may_run_as(who) {
+            return None;
+        }
+        Some((job, who))
+    }
+
+    /// What a call left is taken in. A refusal changes nothing.
+    pub(crate) fn take_back(
+        &mut self,
+        alloc: Global,
+        state: Vec<u8>,
+        given: &[Given],
+    ) -> Result<(), AllocError>
+        requires { MayTakeIn self.old.course given.now }
+        ensures ok { OnOk result (TakesBack state.items given.now self.old self.new) }
+        ensures err { OnErr result (self.new ≡ self.old) }
+    {
+        self.course.take_in(state, given)?;
+        self.pass(alloc);
+        Ok(())
     }
 }
 
@@ -91,7 +118,7 @@ impl Course {
 }
 
 /// The messages that a handler gave for others, and behind them its outputs, which are for the gateway.
-fn given(alloc: Global, who: Who, effects: &Effects) -> Result<Vec<Given>, AllocError>
+pub(crate) fn given(alloc: Global, who: Who, effects: &Effects) -> Result<Vec<Given>, AllocError>
     ensures value { IfOk result (λ v. v.items ≡ given_of who effects.now) }
     ensures few { IfOk result (λ v. length v.items ≤ MOST_GIVEN) }
 {

@@ -1,0 +1,144 @@
+-- Calls of a process's handler that are made outside of it
+use Rattle.std.specs.Prelude.{◌≡◌, ◌≢◌, ℕ, List, length, slice_range, Some}
+use Rattle.helpers.specs.declared.effects.Who.{Who}
+use Rattle.helpers.specs.Effects.{Emitted}
+use Rattle.limits.specs.declared.TheConstants.{MEMORY_BYTES}
+use Rattle.span_steps.specs.declared.array.TheConstants.{ARRAY_BYTES}
+use Rattle.images.specs.declared.any_image.AnyImage.{AnyImage}
+use Rattle.images.specs.declared.any_image.AnyImage.TheVariants.{Flat, Span}
+use Rattle.images.specs.AnyImage.{form_of, code_of, state_of as image_state}
+use Rattle.interp.specs.HandlerCall.{Handled}
+use Rattle.interp.specs.Configuration.{entry}
+use Rattle.interp.specs.Flat.{Holds}
+use Rattle.span_interp.specs.CallArray.{HoldsEntry, state_in}
+use Rattle.handlers.specs.Answer.{MayRunAs, shown, answer_by}
+use Rattle.node.specs.declared.job.OpenJob.{OpenJob}
+use Rattle.node.specs.declared.job.Given.{Given}
+use Rattle.process.specs.declared.course.Course.{Course}
+use Rattle.process.specs.declared.call.Ticket.{Ticket}
+use Rattle.process.specs.declared.fault.Undone.{Undone}
+use Rattle.process.specs.declared.fault.Undone.TheVariants as why
+use Rattle.process.specs.Process.{TheProcess, state_of}
+use Rattle.process.specs.Passing.{Passes}
+use Rattle.process.specs.Calls.{standing_at}
+use Rattle.process.specs.Working.{job_at, given_of, answer_to, TakesIn, Rests, Works}
+
+-- which job it is; the image whose handler is called, as whom, on which message and state
+pub record TheJob : Type 0 where
+  pub ticket : Ticket
+  pub image : AnyImage
+  pub who : Who
+  pub payload : List ℕ
+  pub state : List ℕ
+
+-- one that was made, and what the handler answered
+pub record TheDone : Type 0 where
+  pub job : TheJob
+  pub answer : Handled
+
+-- the handler's answer to a job: that of the run of its form
+abbrev pub IsAnswerTo : TheJob → Handled → Type 0
+IsAnswerTo j h = answer_by j.image j.who j.state j.payload ≡ Some h
+
+-- which job of the process the next one is
+abbrev pub ticket_at : Course → Ticket
+ticket_at c = record { incarnation = (standing_at c).incarnation; received = (standing_at c).length }
+
+-- the handler can be called as this one on this state: that is as long as the image's
+pub record IsCallable (image : AnyImage) (who : Who) (state : List ℕ) : Type 0 where
+  pub long : length state ≡ image_state image
+  pub may : MayRunAs image who
+
+-- a message is next, on which the handler can be called
+pub record IsNext (p : TheProcess) (message : OpenJob) (who : Who) : Type 0 where
+  pub next : job_at p.course ≡ Some (message, who)
+  pub callable : IsCallable p.image who (state_of p.course)
+
+-- the job is this one, as this one, on this message and state
+pub record IsSame (j : TheJob) (ticket : Ticket) (who : Who) (payload state : List ℕ) : Type 0 where
+  pub ticket_is : j.ticket ≡ ticket
+  pub who_is : j.who ≡ who
+  pub payload_is : j.payload ≡ payload
+  pub state_is : j.state ≡ state
+
+-- of two images the form and the instructions are the same
+pub record HasSameCode (one other : AnyImage) : Type 0 where
+  pub form : form_of one ≡ form_of other
+  pub code : code_of one ≡ code_of other
+
+-- the job is the call of the process's handler on this message
+abbrev pub IsCallOf : TheProcess → OpenJob → Who → TheJob → Type 0
+IsCallOf p message who j = IsSame j (ticket_at p.course) who message.payload (state_of p.course) × HasSameCode p.image j.image
+
+-- it is that on the message that is next
+pub record IsJobOf (p : TheProcess) (j : TheJob) : Type 0 where
+  pub message : OpenJob
+  pub is_next : IsNext p message j.who
+  pub is_call : IsCallOf p message j.who j
+  pub same_len : image_state p.image ≡ image_state j.image
+
+-- ---- the array of a call
+
+-- how many bytes it has
+abbrev pub array_size : AnyImage → ℕ
+array_size (Flat image) = MEMORY_BYTES
+array_size (Span image) = ARRAY_BYTES
+
+-- what the handler is shown of a message
+abbrev pub shown_by : AnyImage → List ℕ → List ℕ
+shown_by image payload = shown (form_of image) payload
+
+-- of form 3 it holds what a call begins with: the message at 0, the state at 512, and the stack of zeros behind it
+pub record IsSpanLaid (len : ℕ) (state payload array : List ℕ) : Type 0 where
+  pub entry_is : HoldsEntry len (slice_range array 0 (length payload)) (state_in len array) array
+  pub message_is : slice_range array 0 (length payload) ≡ payload
+  pub state_is : state_in len array ≡ state
+
+-- so it does of any form: in forms 1 and 2 the state stands at 256
+abbrev pub IsLaid : AnyImage → List ℕ → List ℕ → List ℕ → Type 0
+IsLaid (Flat image) state payload array =
+    Holds (length (shown_by (Flat image) payload)) image.len (entry image.form state (shown_by (Flat image) payload)) array
+IsLaid (Span image) state payload array = IsSpanLaid image.len state payload array
+
+-- ---- what comes of an answer
+
+-- this state and these messages and outputs are taken in as the handler's, and the process passes on; the image stays
+pub record TakesBack (state : List ℕ) (given : List Given) (old new : TheProcess) : Type 0 where
+  pub mid : Course
+  pub image : new.image ≡ old.image
+  pub takes : TakesIn state given old.course mid
+  pub passes : Passes mid new.course
+
+-- they are taken in as the answer to the message that is next, of this ticket, whatever the handler would have answered
+pub record IsAnswered (ticket : Ticket) (state : List ℕ) (e : Emitted) (old new : TheProcess) : Type 0 where
+  pub message : OpenJob
+  pub who : Who
+  pub next : job_at old.course ≡ Some (message, who)
+  pub ticket_is : ticket_at old.course ≡ ticket
+  pub taken : TakesBack state (given_of who e) old new
+
+-- where the handler answers just that, it has worked
+abbrev pub WorksAs : List ℕ → Emitted → TheProcess → TheProcess → Type 0
+WorksAs state e old new =
+    (message : OpenJob) (who : Who) (h : Handled) → job_at old.course ≡ Some (message, who) → answer_to old.image who (state_of old.course) message ≡ Some h
+    → h.state ≡ state → h.effects ≡ e → Works old new
+
+-- ---- refusals
+
+-- some message is next
+abbrev pub HasNext : TheProcess → Type 0
+HasNext p = (message : OpenJob) × (who : Who) × IsNext p message who
+
+-- why what comes of a job isn't taken: there is nothing to run on, or it isn't the next job
+abbrev pub IsUndone : TheProcess → TheJob → Undone → Type 0
+IsUndone p j why.Memory = HasNext p
+IsUndone p j why.Absent = Rests p
+IsUndone p j why.Other = HasNext p × ¬ IsJobOf p j
+IsUndone p j why.State = ⊥
+
+-- the same of a job that only its ticket and the state that it left tell of
+abbrev pub IsUnanswered : TheProcess → Ticket → List ℕ → Undone → Type 0
+IsUnanswered p ticket state why.Memory = HasNext p × (ticket_at p.course ≡ ticket) × (length state ≡ image_state p.image)
+IsUnanswered p ticket state why.Absent = Rests p
+IsUnanswered p ticket state why.Other = HasNext p × (ticket_at p.course ≢ ticket)
+IsUnanswered p ticket state why.State = HasNext p × (ticket_at p.course ≡ ticket) × (length state ≢ image_state p.image)

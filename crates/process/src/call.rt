@@ -1,0 +1,58 @@
+//! All that a call of a process's handler takes.
+
+ghost use Rattle.std.specs.Prelude.{◌≡◌, ◌↔◌, length, IsTrue};
+ghost use Rattle.std.specs.Arc.{arc_value};
+ghost use Rattle.handlers.specs.Answer.{MayRunAs};
+ghost use Rattle.handlers.specs.Handler.{image_of};
+ghost use Rattle.images.specs.AnyImage.{state_of};
+
+use handlers::Handler;
+use helpers::{Payload, Who};
+use std::marker::Model;
+use std::sync::Arc;
+
+/// Which of a process's jobs a job is.
+#[derive(Clone, Copy, PartialEq, Eq, Debug)]
+pub struct Ticket {
+    /// The incarnation of the process.
+    pub incarnation: u64,
+    /// How many messages it received before this one.
+    pub received: u64,
+}
+
+/// All that a call takes.
+#[derive(Drop)]
+pub struct Call {
+    pub(crate) ticket: Ticket,
+    pub(crate) image: Arc<Handler>,
+    pub(crate) who: Who,
+    pub(crate) payload: Payload,
+    pub(crate) state: Vec<u8>,
+}
+
+impl Model for Call {
+    ghost use Rattle.std.specs.Prelude.{◌≡◌, length};
+    ghost use Rattle.std.specs.Arc.{arc_value};
+    ghost use Rattle.handlers.specs.Handler.{image_of};
+    ghost use Rattle.process.specs.Job.{TheJob, IsCallable};
+
+    ghost Value = { TheJob };
+
+    ghost view = { λ c. record { ticket = c.ticket; image = image_of (arc_value c.image); who = c.who; payload = c.payload; state = c.state.items } };
+
+    ghost invariant = { λ c. IsCallable (image_of (arc_value c.image)) c.who c.state.items };
+}
+
+impl Call {
+    ghost use Rattle.process.specs.Job.{IsSame};
+
+    /// Whether it is this job, on this message and state, of a handler with the same code.
+    pub(crate) fn is(&self, ticket: Ticket, who: Who, payload: &Payload, state: &[u8]) -> bool
+        ensures { IsTrue result ↔ IsSame self.now ticket who payload.now state.now }
+    {
+        self.ticket == ticket
+            && self.who == who
+            && self.payload == *payload
+            && self.state.as_slice() == state
+    }
+}

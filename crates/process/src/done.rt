@@ -1,0 +1,60 @@
+//! Calls of a process's handler that were made outside of it.
+
+ghost use Rattle.std.specs.Prelude.{◌≡◌};
+ghost use Rattle.std.specs.Box.{box_value};
+
+use crate::call::{Call, Ticket};
+use helpers::Effects;
+use interp::CallEnd;
+use std::marker::Model;
+
+/// A call of a process's handler that was made, and what the handler answered. Only `Job::run` makes one.
+#[derive(Drop)]
+pub struct Done {
+    pub(crate) call: Call,
+    pub(crate) next: Vec<u8>,
+    pub(crate) effects: Box<Effects>,
+    pub(crate) end: CallEnd,
+}
+
+impl Model for Done {
+    ghost use Rattle.std.specs.Box.{box_value};
+    ghost use Rattle.process.specs.Job.{TheDone, IsAnswerTo};
+
+    ghost Value = { TheDone };
+
+    ghost view = { λ d. record { job = d.call; answer = record { state = d.next.items; effects = box_value d.effects; r0 = d.end.r0; steps = d.end.steps } } };
+
+    ghost invariant = { λ d. IsAnswerTo d.call (record { state = d.next.items; effects = box_value d.effects; r0 = d.end.r0; steps = d.end.steps }) };
+}
+
+impl Done {
+    /// Which job of its process it was.
+    pub fn ticket(&self) -> Ticket
+        ensures { result ≡ self.now.job.ticket }
+    {
+        self.call.ticket
+    }
+
+    /// The state that the handler left.
+    pub fn state(&self) -> &[u8]
+        ensures { result.now ≡ self.now.answer.state }
+    {
+        self.next.as_slice()
+    }
+
+    /// The messages and outputs that it gave.
+    pub fn effects(&self) -> &Effects
+        ensures { result.now ≡ self.now.answer.effects }
+    {
+        &self.effects
+    }
+
+    /// What it had in r0 at its exit, and the steps that it took.
+    pub fn end(&self) -> CallEnd
+        ensures r0 { result.r0 ≡ self.now.answer.r0 }
+        ensures steps { result.steps ≡ self.now.answer.steps }
+    {
+        self.end
+    }
+}

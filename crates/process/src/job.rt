@@ -1,0 +1,103 @@
+//! Calls of a process's handler that are to be made outside of it.
+
+ghost use Rattle.std.specs.Prelude.{◌≡◌, length};
+ghost use Rattle.std.specs.Box.{box_value};
+ghost use Rattle.process.specs.Job.{array_size, shown_by, IsLaid};
+
+use crate::call::{Call, Ticket};
+use crate::done::Done;
+use crate::laying::{lay_flat, lay_span, shown};
+use handlers::Handler;
+use helpers::{Effects, Who};
+use limits::MEMORY_BYTES;
+use span_steps::ARRAY_BYTES;
+use std::marker::Model;
+
+/// A call of a process's handler that is to be made, with the places for what it leaves.
+#[derive(Drop)]
+pub struct Job {
+    pub(crate) call: Call,
+    pub(crate) next: Vec<u8>,
+    pub(crate) effects: Box<Effects>,
+}
+
+impl Model for Job {
+    ghost use Rattle.std.specs.Prelude.{◌≡◌};
+    ghost use Rattle.process.specs.Job.{TheJob};
+
+    ghost Value = { TheJob };
+
+    ghost view = { λ j. j.call };
+
+    ghost invariant = { λ j. j.next.items ≡ j.call.state };
+}
+
+impl Job {
+    /// Which job of its process it is.
+    pub fn ticket(&self) -> Ticket
+        ensures { result ≡ self.now.ticket }
+    {
+        self.call.ticket
+    }
+
+    /// As whom the handler is called, and by whose message.
+    pub fn who(&self) -> Who
+        ensures { result ≡ self.now.who }
+    {
+        self.call.who
+    }
+
+    /// How many bytes the handler is shown of the message: 64 where its image is of form 1, else all.
+    pub fn message_len(&self) -> usize
+        ensures { result ≡ length (shown_by self.now.image self.now.payload) }
+    {
+        match &*self.call.image {
+            Handler::Flat(image) => shown(image, &self.call.payload).len(),
+            Handler::Span(_) => self.call.payload.len(),
+        }
+    }
+
+    /// How many bytes the array has on which it runs.
+    pub fn array_len(&self) -> usize
+        ensures { result ≡ array_size self.now.image }
+    {
+        match &*self.call.image {
+            Handler::Flat(_) => MEMORY_BYTES,
+            Handler::Span(_) => ARRAY_BYTES,
+        }
+    }
+
+    /// Lays the array out on which it runs, by `call_flat` of its form or as machine code.
+    pub fn lay(&self, array: &mut [u8])
+        requires { length array.old ≡ array_size self.now.image }
+        ensures { IsLaid self.now.image self.now.state self.now.payload array.new }
+    {
+        let (state, payload) = (self.call.state.as_slice(), &self.call.payload);
+        match &*self.call.image {
+            Handler::Flat(image) => lay_flat(image, state, payload, array),
+            Handler::Span(program) => lay_span(program, state, payload, array),
+        }
+    }
+
+    /// Calls the handler. It takes no memory.
+    pub fn run(self) -> Done
+        ensures { result.job ≡ self }
+    {
+        let Job {
+            call,
+            mut next,
+            mut effects,
+        } = self;
+        effects.clear();
+        let state = next.as_mut_slice();
+        let end = call
+            .image
+            .call(state, &call.payload, call.who, &mut effects);
+        Done {
+            call,
+            next,
+            effects,
+            end,
+        }
+    }
+}
