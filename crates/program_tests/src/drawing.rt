@@ -11,12 +11,15 @@ use world::{Answer, Call, Entry, Message};
 
 /// The picture of two processes, these entries and moments.
 fn picture(alloc: Global, entries: &[Entry], moments: &[Moment]) -> Result<String, Fail> {
-    let (sent, shown) = (&[], &[]);
+    let entries: Vec<Entry> = entries.iter().copied().collect(alloc)?;
+    let moments: Vec<Moment> = moments.iter().copied().collect(alloc)?;
+    let sent = Vec::new(alloc);
+    let shown = Vec::new(alloc);
     let run = Run {
-        entries,
-        moments,
-        sent,
-        shown,
+        entries: entries.as_slice(),
+        moments: moments.as_slice(),
+        sent: sent.as_slice(),
+        shown: shown.as_slice(),
     };
     picture_of(alloc, &run)
 }
