@@ -16,8 +16,9 @@ use crate::picture::Picture;
 use crate::run::Run;
 use crate::sign::Sign;
 use indexmap::IndexMap;
-use scenario::{Process, name_at};
+use scenario::Process;
 use std::alloc::{AllocError, Global};
+use trace::name_at;
 use world::Entry;
 
 /// From a column to the next, in pixels.

@@ -15,10 +15,8 @@ ghost use Rattle.machine.specs.Arriving.{IsJudged, IsNumbered, MayArrive, Drops,
 use crate::arrival::Arrival;
 use crate::machine::Machine;
 use limits::ENTRIES;
-use replay::{Job, Ticket};
 use rsn::Judgement;
 use sender_log::LogError;
-use std::sync::Arc;
 use world::{Call, Message, Packet, Refusal};
 
 impl Machine {

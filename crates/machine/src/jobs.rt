@@ -30,6 +30,7 @@ impl Machine {
             incarnation: process.incarnation(),
             rsn: process.length() + 1,
         };
+        // (the job has copies of the message and of the state)
         let given = &message;
         let handed = *given;
         let spare = self.spare.take();
@@ -71,7 +72,7 @@ impl Machine {
             return false;
         }
         let image: &Handler = &self.images[me as usize - 1];
-        image.same_code(task.image())
+        task.is_call_of(image)
     }
 
     /// Takes in what a handler left, if it is the result of the open job.

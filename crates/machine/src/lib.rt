@@ -11,6 +11,21 @@
 //! let mut machine = Machine::open(alloc, images)?;
 //! let ssn = machine.input(65_536, &feed)?;
 //! ```
+//!
+//! | File | Methods of a machine |
+//! |---|---|
+//! | `machine` | `open`, and what reads it |
+//! | `stepping` | `cause` and `step`: those of any call, by the method of its name |
+//! | `sending` | `input`, `transmit`, `copy`, `lose` |
+//! | `arriving` | `arrive` |
+//! | `jobs` | `run`, `finish`, `is_open` |
+//! | `saving` | `checkpoint`, `trim` |
+//! | `recovering` | `crash`, `recover`, `recover_alone` |
+//! | `replaying` | `replay_begin`, `resync` |
+//! | `picking` | `pick` |
+//!
+//! What the calls do to one process is in `process`, with its sends in `outbox` and `mail`; to the outside in `outside`; to
+//! the wire in `wire`.
 #![tactic(auto)]
 
 mod arrival;

@@ -1,5 +1,7 @@
 //! Handler calls that leave the session, and what a recovery replays.
 //!
+//! Every handler call of a session, live or replayed, is made here.
+//!
 //! A [`Job`] is a handler call that is to be made, and holds all that the call takes (its
 //! [`Task`]). [`Job::run`] makes the call without taking memory. The [`Done`] that it gives holds
 //! the same task with the new state, the effects and the end of the call, and its type keeps that

@@ -1,6 +1,6 @@
 //! All that a handler call takes.
 
-ghost use Rattle.std.specs.Prelude.{◌≡◌};
+ghost use Rattle.std.specs.Prelude.{◌≡◌, ◌↔◌, IsTrue};
 ghost use Rattle.handlers.specs.Image.{image_in, the_image};
 ghost use Rattle.std.specs.Box.{box_value};
 ghost use Rattle.replay.specs.Task.{TheTask, MayCall};
@@ -111,6 +111,13 @@ impl Task {
         ensures { the_image result.now ≡ self.now.image }
     {
         &self.image
+    }
+
+    /// Whether this handler has the form and the instructions of the one that is called.
+    pub fn is_call_of(&self, handler: &Handler) -> bool
+        ensures { IsTrue result ↔ ((the_image handler.now).form ≡ self.now.image.form) × ((the_image handler.now).code ≡ self.now.image.code) }
+    {
+        handler.same_code(&self.image)
     }
 
     /// The state before the call.

@@ -6,10 +6,10 @@ ghost use Rattle.sessions.specs.Journal.{world_at};
 ghost use Rattle.runner.specs.Results.{outputs_text, process_text_of, processes_text, results_text};
 
 use indexmap::IndexMap;
-use scenario::{Process, name_at};
+use scenario::Process;
 use sessions::{Service, copied};
 use std::alloc::{AllocError, Global};
-use trace::{push_exact, push_output, push_process, trace_text};
+use trace::{name_at, push_exact, push_output, push_process, trace_text};
 use world::Message;
 
 /// Writes the line of a process.
@@ -67,6 +67,7 @@ fn results(
     requires { length processes.now.entries ≡ length session.now.images }
     ensures { IfOk result (λ text. string_bytes text ≡ results_text (names_of processes.now) session.now.images session.now.entries) }
 {
+    // (the journal keeps its entries as slips)
     let entries = copied(alloc, session.journal())?;
     let mut text = trace_text(alloc, entries.as_slice())?;
     push_processes(&mut text, processes, session)?;

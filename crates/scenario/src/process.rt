@@ -65,14 +65,3 @@ pub fn party_of(processes: &IndexMap<String, Process>, text: &str) -> Option<u8>
     }
     named_process(processes, text)
 }
-
-/// The name of the process of this number, from 1. It is empty where there is no such process.
-pub fn name_at(processes: &IndexMap<String, Process>, number: u8) -> &str
-    ensures { result.now ≡ process_text (names_of processes.now) number }
-{
-    let place = usize::from(number).saturating_sub(1);
-    match processes.get_index(place) {
-        Some((name, _)) => name.as_str(),
-        None => "",
-    }
-}

@@ -88,14 +88,15 @@ impl Gate {
         self.released[dst as usize] = count;
     }
 
-    /// Whether a send with this position may leave.
+    /// Whether a send with this position may leave: all numbers up to it are acknowledged.
     pub fn is_open(&self, rsn: u32, receipts: &Receipts) -> bool
         ensures { result ≡ nat_le rsn (run_of receipts.now.acknowledged) }
     {
         rsn <= receipts.run_length()
     }
 
-    /// Releases the sends that may leave. Answers whether there were any.
+    /// Releases the sends that may leave: those whose number and all below it are acknowledged. Answers
+    /// whether there were any.
     pub fn release(&mut self, receipts: &Receipts) -> bool
         ensures value { result ≡ list_any (λ h. nat_le h.rsn (run_of receipts.now.acknowledged)) self.old.waiting }
         ensures after { Releases (run_of receipts.now.acknowledged) self.old self.new }

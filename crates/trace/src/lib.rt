@@ -2,15 +2,21 @@
 //!
 //! [`trace_text`] writes each accepted call with its worker and its answer, a line an entry. Its promise: the text is the
 //! printer of `specs/Trace.antt` over the whole list, to the last byte; only memory can run out. [`push_process`],
-//! [`push_output`] and [`push_exact`] write the lines of a report, those of `specs/Report.antt`.
+//! [`push_output`] and [`push_exact`] write the lines of a report, those of `specs/Report.antt`, with bytes as [`Hex`] spells
+//! them and names by [`name_at`].
 //!
 //! ```text
-//! trace_text(alloc, session.journal())?; // "000001 w0 input 1 1 -> logged 1\n.."
+//! let entries = copied(alloc, session.journal())?; // (`sessions::copied`)
+//! trace_text(alloc, entries.as_slice())?; // "000001 w0 input 1 1 -> logged 1\n.."
 //! ```
 #![tactic(auto)]
 
+mod hex;
+mod name;
 mod report;
 mod trace;
 
+pub use hex::Hex;
+pub use name::name_at;
 pub use report::{push_exact, push_output, push_process};
 pub use trace::trace_text;

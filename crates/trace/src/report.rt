@@ -3,7 +3,7 @@
 ghost use Rattle.std.specs.Prelude.{◌≡◌, ◌++◌, OnOk, string_bytes};
 ghost use Rattle.trace.specs.Report.{exact_line, output_line, phase_text, process_line};
 
-use scenario::Hex;
+use crate::hex::Hex;
 use std::alloc::AllocError;
 use world::PhaseName;
 

@@ -1,15 +1,12 @@
-//! The command `check`, and how the image of a file is loaded: `load_handler`.
+//! The command `check`.
 
 ghost use Rattle.std.specs.Prelude.{◌≡◌, ℕ, List, IfErr, IfOk, Some};
-ghost use Rattle.handlers.specs.Image.{the_image};
-ghost use Rattle.tracer.specs.Check.{HasImage, IsAccepted, IsUnaccepted, accepted_text};
-ghost use Rattle.tracer.specs.Inside.{HandlerFault};
+ghost use Rattle.tracer.specs.Check.{IsAccepted, IsUnaccepted, accepted_text};
 ghost use Rattle.tracer.specs.Program.{FaultOf};
 
 use crate::fault::Fault;
 use crate::files::Files;
 use crate::site::Site;
-use handlers::Handler;
 use limits::SLOTS;
 use std::alloc::Global;
 use std::fmt;
@@ -31,22 +28,6 @@ impl fmt::Display for Accepted {
         let count = self.count;
         writeln!(f, "accepted {count} instructions")
     }
-}
-
-/// The handler of the image of any form of a file, which is to be run or compiled.
-pub fn load_handler<F: Files>(
-    alloc: Global,
-    path: &str,
-    files: &mut F,
-    site: &mut Site,
-) -> Result<Handler, Fault>
-    ensures loaded { IfOk result (λ h. HasImage (F.content files.old) path.now (the_image h)) }
-    ensures same { F.content files.new ≡ F.content files.old }
-    ensures fault { IfErr result (HandlerFault (F.content files.old) (F.failed files.new) path.now) }
-{
-    let bytes = site.read(alloc, path, Some(IMAGE_LIMIT), files)?;
-    let handler = Handler::load(alloc, bytes.as_slice())?;
-    Ok(handler)
 }
 
 /// Verifies the image of any form of a file.

@@ -12,7 +12,7 @@
 //! can hold them in memory, where all of this is known of them, and let them fail.
 //!
 //! ```text
-//! let status = sblog(alloc, ["check", "adder.sbi"].as_slice(), &mut files, &mut out, &mut err);
+//! let status = sblog(&rt, alloc, ["check", "adder.sbi"].as_slice(), &mut files, &mut out, &mut err);
 //! // 0, and `out` has "accepted 6 instructions\n"
 //! ```
 #![tactic(auto)]

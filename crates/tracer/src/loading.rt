@@ -1,13 +1,14 @@
-//! Scenarios with the images of their processes.
+//! Scenarios, and the images of their processes.
 
 ghost use Rattle.std.specs.Prelude.{◌≡◌, IfErr, IfOk, map};
-ghost use Rattle.handlers.specs.Image.{image_in};
+ghost use Rattle.handlers.specs.Image.{image_in, the_image};
+ghost use Rattle.tracer.specs.Check.{HasImage};
 ghost use Rattle.tracer.specs.Fault.{IsFaultOfScenario};
-ghost use Rattle.tracer.specs.Inside.{ImagesFault, IsReadAs, IsLoadedAs};
+ghost use Rattle.tracer.specs.Inside.{HandlerFault, ImagesFault, IsReadAs, IsLoadedAs};
 ghost use Rattle.tracer.specs.Program.{FaultOf};
 ghost use Rattle.tracer.specs.Loading.{AreLoaded, IsUnloadable};
 
-use crate::check::load_handler;
+use crate::check::IMAGE_LIMIT;
 use crate::fault::Fault;
 use crate::files::Files;
 use crate::look::broken_line;
@@ -68,6 +69,22 @@ fn said(alloc: Global, text: &str, line: usize, allowed: Allowed) -> Result<Stri
         Some(mistake) => format!(in alloc; "line {line}: {mistake}\n"),
         None => Ok(String::new(alloc)),
     }
+}
+
+/// The handler of the image of any form of a file, which is to be run or compiled.
+pub fn load_handler<F: Files>(
+    alloc: Global,
+    path: &str,
+    files: &mut F,
+    site: &mut Site,
+) -> Result<Handler, Fault>
+    ensures loaded { IfOk result (λ h. HasImage (F.content files.old) path.now (the_image h)) }
+    ensures same { F.content files.new ≡ F.content files.old }
+    ensures fault { IfErr result (HandlerFault (F.content files.old) (F.failed files.new) path.now) }
+{
+    let bytes = site.read(alloc, path, Some(IMAGE_LIMIT), files)?;
+    let handler = Handler::load(alloc, bytes.as_slice())?;
+    Ok(handler)
 }
 
 /// Loads the images of processes, of any form, in their order.

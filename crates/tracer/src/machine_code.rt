@@ -7,9 +7,9 @@ ghost use Rattle.tracer.specs.Inside.{IsWriteFault};
 ghost use Rattle.tracer.specs.Native.{IsMachineCode};
 ghost use Rattle.tracer.specs.Program.{FaultOf, IsAnswer, Leaves};
 
-use crate::check::load_handler;
 use crate::fault::Fault;
 use crate::files::Files;
+use crate::loading::load_handler;
 use crate::own_input::spare;
 use crate::site::Site;
 use span_native::compile_handler;

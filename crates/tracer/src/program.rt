@@ -176,7 +176,7 @@ fn answer<R: Threads + Wait + Sync, F: Files>(
 
 /// Carries out what the words ask for without a thread, and puts what is to be printed into an empty
 /// text.
-fn carry_out_alone<S: AsStr, F: Files>(
+fn run_command_alone<S: AsStr, F: Files>(
     alloc: Global,
     words: &[S],
     files: &mut F,
@@ -199,7 +199,7 @@ fn carry_out_alone<S: AsStr, F: Files>(
 }
 
 /// Carries out what the words ask for, and puts what is to be printed into an empty text.
-fn carry_out<R: Threads + Wait + Sync, S: AsStr, F: Files>(
+fn run_command<R: Threads + Wait + Sync, S: AsStr, F: Files>(
     rt: &R,
     alloc: Global,
     words: &[S],
@@ -250,7 +250,7 @@ pub fn sblog<R: Threads + Wait + Sync, S: AsStr, F: Files, O: Stream, E: Stream>
 {
     let mut text = String::new(alloc);
     let (mut site, mut blocks) = (Site::new(alloc), Blocks::Kept);
-    let ended = carry_out(rt, alloc, words, files, &mut site, &mut text, &mut blocks);
+    let ended = run_command(rt, alloc, words, files, &mut site, &mut text, &mut blocks);
     print_or_tell(ended, text.as_str(), &site, blocks, out, err)
 }
 
@@ -277,6 +277,6 @@ pub fn sblog_alone<S: AsStr, F: Files, O: Stream, E: Stream>(
 {
     let mut text = String::new(alloc);
     let (mut site, mut blocks) = (Site::new(alloc), Blocks::Kept);
-    let ended = carry_out_alone(alloc, words, files, &mut site, &mut text, &mut blocks);
+    let ended = run_command_alone(alloc, words, files, &mut site, &mut text, &mut blocks);
     print_or_tell(ended, text.as_str(), &site, blocks, out, err)
 }

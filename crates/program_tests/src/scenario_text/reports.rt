@@ -1,9 +1,9 @@
 //! Lines of a report.
 
-use scenario::{Allowed, Scenario, name_at, parse};
+use scenario::{Allowed, Scenario, parse};
 use std::alloc::{AllocError, Global};
 use std::test::Fail;
-use trace::{push_exact, push_output, push_process};
+use trace::{name_at, push_exact, push_output, push_process};
 use world::PhaseName;
 
 /// A line of a report.

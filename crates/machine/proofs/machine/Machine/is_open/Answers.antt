@@ -5,7 +5,7 @@ use Rattle.std.proofs.lemmas.List.{get_or-map}
 use Rattle.handlers.specs.Image.{TheImage, image_in, the_image}
 use Rattle.machine.specs.Simulation.{TheMachine}
 use Rattle.machine.proofs.machine.Machine.is_open.Goals as goal
-use Rattle.machine.proofs.machine.Machine.is_open.Goals.{After-same_code}
+use Rattle.machine.proofs.machine.Machine.is_open.Goals.{After-is_call_of}
 
 -- the image at a place
 at_place : {X : Type 0} (image_of : X → TheImage) (items : List X) (images : List TheImage) (p me : ℕ) (x : X) (e : TheImage) → images ≡ map image_of items → p ≡ me → p - 1 < length items → x ≡ slice_index_or items (p - 1) x → slice_index_or images (me - 1) e ≡ image_of x
@@ -16,22 +16,22 @@ at_place image_of items images p me x e are same inside at =
     ∙ ap image_of (sym at)
 
 -- the image that is compared
-stored : (c : After-same_code) → (e : TheImage) → slice_index_or c.args.self.now.images (c.args.task.now.who.me - 1) e ≡ the_image c.deref-image.result.now
+stored : (c : After-is_call_of) → (e : TheImage) → slice_index_or c.args.self.now.images (c.args.task.now.who.me - 1) e ≡ the_image c.deref-image.result.now
 stored c e =
     let inside : c.process-me.result - 1 < length c.self.inside.images.items = first_of (search rules, grind (arith, common_steps, nat_tests)) in
     at_place image_in c.self.inside.images.items c.args.self.now.images c.process-me.result c.args.task.now.who.me c.index.result.now e (ap (λ (v : TheMachine). v.images) (sym c.self.view_is)) c.process-me.ensures inside c.index.ensures
     ∙ ap the_image (sym c.deref-image.ensures)
 
 -- what the comparison of the images says of a part of them
-alike : {X : Type 0} (part : TheImage → X) (c : After-same_code) (e : TheImage) → part (the_image c.deref-image.result.now) ≡ part (the_image c.image.result.now) → part (slice_index_or c.args.self.now.images (c.args.task.now.who.me - 1) e) ≡ part c.args.task.now.image
-alike part c e same = ap part (stored c e) ∙ same ∙ ap part c.image.ensures
+alike : {X : Type 0} (part : TheImage → X) (c : After-is_call_of) (e : TheImage) → part (the_image c.deref-image.result.now) ≡ part c.args.task.now.image → part (slice_index_or c.args.self.now.images (c.args.task.now.who.me - 1) e) ≡ part c.args.task.now.image
+alike part c e same = ap part (stored c e) ∙ same
 
 pub returns : goal.returns
 returns c =
     let t = c.args.task.now in
-    let g = (goal.at.returns c).After-same_code in (
+    let g = (goal.at.returns c).After-is_call_of in (
       λ yes.
-          let k = c.same_code.ensures.0 yes in
+          let k = c.is_call_of.ensures.0 yes in
           record {
             inside = first_of (search rules, grind (arith, common_steps, nat_tests));
             within = first_of (search rules, grind (arith, common_steps, nat_tests));
@@ -46,9 +46,5 @@ returns c =
           },
       λ k.
           let at = sym (stored g t.image) in
-          let is = sym c.image.ensures in
-          c.same_code.ensures.1 (
-            ap (λ (z : TheImage). z.form) at ∙ k.form t.image ∙ ap (λ (z : TheImage). z.form) is,
-            ap (λ (z : TheImage). z.code) at ∙ k.code t.image ∙ ap (λ (z : TheImage). z.code) is,
-          ),
+          c.is_call_of.ensures.1 (ap (λ (z : TheImage). z.form) at ∙ k.form t.image, ap (λ (z : TheImage). z.code) at ∙ k.code t.image),
     )

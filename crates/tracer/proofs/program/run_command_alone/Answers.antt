@@ -2,7 +2,7 @@ use Rattle.std.proofs.Common.{map}
 use Rattle.std.proofs.lemmas.Result.{IfErr-weaker}
 use Rattle.cli.specs.Asks.{order_of}
 use Rattle.tracer.proofs.CauseLemmas.{becomes, fault_is_cause, refusal_is_cause}
-use Rattle.tracer.proofs.program.carry_out_alone.Goals as goal
+use Rattle.tracer.proofs.program.run_command_alone.Goals as goal
 
 pub returns-in_err-request-clause-fault : goal.returns-in_err-request-clause-fault
 returns-in_err-request-clause-fault g c =

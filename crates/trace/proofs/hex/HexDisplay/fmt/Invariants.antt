@@ -1,7 +1,7 @@
 use Rattle.std.proofs.Common.{take}
 use Rattle.std.specs.Fmt.{HasWritten, IsPlainFormatter}
 use Rattle.scenario.specs.Hex.{pairs_text}
-use Rattle.scenario.proofs.hex.HexDisplay.fmt.Given as goal
+use Rattle.trace.proofs.hex.HexDisplay.fmt.Given as goal
 
 abbrev pub invariant-loop-byte : goal.invariant-loop-byte
 invariant-loop-byte g l =

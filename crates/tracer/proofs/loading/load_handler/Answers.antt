@@ -3,7 +3,7 @@ use Rattle.images.specs.ImageFile.{IsFile}
 use Rattle.handlers.specs.Image.{the_image}
 use Rattle.tracer.proofs.CauseLemmas.{becomes, handler_refused, plain_of}
 use Rattle.tracer.proofs.HeadLemmas.{any_file}
-use Rattle.tracer.proofs.check.load_handler.Goals as goal
+use Rattle.tracer.proofs.loading.load_handler.Goals as goal
 
 pub returns-in_err-bytes-clause-fault : goal.returns-in_err-bytes-clause-fault
 returns-in_err-bytes-clause-fault g c =
