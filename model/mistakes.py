@@ -2,6 +2,7 @@
 "What is said of a line of assembler text")."""
 
 import re
+import unicodedata
 
 FORMS = {
     "input": ("input NAME WORD", ("name", "word")),
@@ -21,7 +22,13 @@ FORMS = {
     "drive": ("drive BUDGET", ("number",)),
 }
 BITS = {"number": 32, "word": 64}
+WORDS = {"process", *FORMS}
 VERBS = "process, input, bytes, transmit, copy, lose, arrive, finish, checkpoint, trim, crash, recover, alone, replay, resync and drive do"
+
+
+NUL = "a NUL (U+0000), which each second letter of UTF-16 is: save the text as UTF-8"
+SEVERAL = "a semicolon: each order stands on a line of its own, without one"
+PATH = "more or fewer words than in: process NAME PATH (a path has no space in it, and no quotes)"
 
 
 def said(text, number, words):
@@ -41,7 +48,13 @@ def mistake(line, names, has_order, is_foreign, words):
         return "a byte order mark (U+FEFF) before the first letter: save the text as UTF-8 without one"
     if "\r" in line:
         return "a carriage return: lines end with a line feed alone"
+    if "\0" in line:
+        return NUL
     first, *operands = line.split(" ")
+    if first not in WORDS and first.isascii() and first.lower() in WORDS:
+        return f"{shown(first)} has a capital letter: words are in small ones"
+    if first in ("cluster", "gateway"):
+        return "this looks like the text of a cluster, which sblog-node --cluster reads (docs/CLUSTER.md)"
     if is_foreign and first not in FORMS:
         return (
             f"no line begins with {shown(first)}, and none declares a process, so this is no scenario (assembler text is for "
@@ -52,7 +65,9 @@ def mistake(line, names, has_order, is_foreign, words):
     if "" in line.split(" "):
         return "a space at the beginning or the end, or two in a row"
     if first != "process":
-        is_comment = any(word.startswith("#") for word in operands) or "//" in line or line.startswith(";")
+        is_comment = any(word.startswith("#") for word in operands) or "//" in line or line.startswith((";", "/*", "--"))
+        if not is_comment and has_order_behind(line):
+            return SEVERAL
         if line.endswith(";") and not is_comment:
             return "no line ends with a semicolon"
         if is_comment or any(word.startswith(";") for word in operands):
@@ -72,11 +87,21 @@ def mistake(line, names, has_order, is_foreign, words):
     return next(filter(None, (reading(kind, word, names) for kind, word in zip(kinds, operands))))
 
 
+def has_order_behind(line):
+    """Whether a line's word stands behind a semicolon."""
+    return any(part.lstrip().split(" ")[0] in WORDS for part in line.split(";")[1:])
+
+
 def foreign_letter(line, rule):
-    """What is said of the first letter that isn't ASCII, or None."""
+    """What is said of the first letter that isn't ASCII, or that no terminal shows, or None."""
     known = {0xA0: "a no-break space (U+00A0)", 0xFEFF: "a byte order mark (U+FEFF)"}
-    found = ((place, ord(letter)) for place, letter in enumerate(line, 1) if not letter.isascii())
-    return next((f"letter {place} is {known.get(number, f'U+{number:04x}')}: {rule}" for place, number in found), None)
+    for place, letter in enumerate(line, 1):
+        name = known.get(ord(letter), f"U+{ord(letter):04x}")
+        if unicodedata.category(letter) == "Cc":
+            return f"letter {place} is {name}, a control character: no terminal shows it"
+        if not letter.isascii():
+            return f"letter {place} is {name}: {rule}"
+    return None
 
 
 def declaring(operands, names, has_order):
@@ -84,8 +109,13 @@ def declaring(operands, names, has_order):
         return "processes are declared before the first order"
     if len(names) == 15:
         return "there are at most 15 processes"
-    if len(operands) != 2:
+    if len(operands) < 2:
         return "more or fewer words than in: process NAME PATH"
+    if len(operands) > 2:
+        path = " ".join(operands[1:])
+        if any(mark in path for mark in (" #", " //", " ;")):
+            return "a comment stands on a line of its own, which begins with #"
+        return SEVERAL if has_order_behind(path) else PATH
     name = operands[0]
     if name == "outside" or not re.fullmatch("[a-z][a-z0-9]{0,15}", name):
         return f"{shown(name)} is no name: 1 to 16 of a to z and 0 to 9, a letter first, and not outside"
