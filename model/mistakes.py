@@ -178,6 +178,8 @@ SHAPES = [
     ("stb sth stw stdw".split(), " [r1+0], 5", "AN"),
     (["lddw"], " r1, 5", "RU"),
 ]
+LISTING = "this looks like a listing, of sblog explain or llvm-objdump: sblog dis prints the text of an image"
+COMPILED = (".text", ".globl", ".type", ".section", ".file", "# %bb.")
 BY_WORD = {word: (form, kinds) for words, form, kinds in SHAPES for word in words}
 REGISTER = "r(?:[0-9]|10)"
 PLAIN, SIGNED = "(?:0|[1-9][0-9]*)", "(?:[+](?:0|[1-9][0-9]*)|-[1-9][0-9]*)"
@@ -213,6 +215,15 @@ def of_text(line, lines=()):
         return "a byte order mark (U+FEFF) before the first letter: save the text as UTF-8 without one"
     if "\r" in line:
         return "a carriage return: lines end with a line feed alone"
+    if "\0" in line:
+        return NUL
+    if any(it.lstrip().startswith(COMPILED) for it in lines):
+        return (
+            "this looks like a compiler's assembler text: clang -c in place of clang -S, and sblog pack writes the image "
+            "(docs/HANDLERS.md)"
+        )
+    if re.match("\\s*[0-9]+:", line):
+        return LISTING
     head = line.partition(";")[0]
     is_call = line.split(" ")[0] not in BY_WORD and "(" in head and not any(mark in head for mark in ("#", "=", "//"))
     if is_call or line.startswith("/*") or line.endswith("{") or any(it.startswith(("#include ", "#define ")) for it in lines):
@@ -221,6 +232,8 @@ def of_text(line, lines=()):
         return "a tab: one space stands behind the first word and behind a comma, and none before the first word or at the end"
     if line[0] == " ":
         return "a space before the first word"
+    if re.search(", #[-0-9]", line):
+        return "a number stands without a # before it"
     if "#" in line or "//" in line or line[0] == ";":
         return "a comment stands on a line of its own, which begins with #"
     if ";" in line:
@@ -252,6 +265,10 @@ def of_word(word):
     """What is said of a word that no instruction has."""
     if word.endswith(":"):
         return "there are no labels: a jump has its distance in slots, as ja +2"
+    if word == "form":
+        return LISTING
+    if word in ("if", "goto") or word.startswith("*("):
+        return "this is how clang writes an instruction: here a word stands first, as in jeq r1, 0, +2 or stxdw [r2+0], r3"
     if word == "process":
         return "this looks like a scenario: sblog run carries it out"
     if re.fullmatch(REGISTER, word):
