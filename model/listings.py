@@ -17,7 +17,8 @@ ANY = ("number", 0, WORD - 1)
 ENTRY = [None, ("message", 0, 0), ("state", 0, 0), ("number", 0, 256)] + [None] * 6 + [("stack", 512, 512)] + [ANY] * 64
 OPPOSITE = {0x1: 0x5, 0x5: 0x1, 0xA: 0x3, 0x3: 0xA, 0xB: 0x2, 0x2: 0xB, 0xC: 0x7, 0x7: 0xC, 0xD: 0x6, 0x6: 0xD}
 INDEX = (
-    "compare the index with a number, or mask it, on each way that leads here, before it is added; "
+    "compare the index with a number (if (i >= N) return 1;), or mask it (i & (N - 1), N a power of two), "
+    "on each way that leads here, before it is added; % bounds nothing where its divisor may be 0, or where clang makes div, mul and sub of it; "
     "where the C does so already, within(index, most); right above the access does so anew"
 )
 REGION = (
@@ -31,6 +32,9 @@ LENGTH = (
     "where the C compares it already, within(length, most); right above the call does so anew; or --state is too small"
 )
 POINTERS = "compare and compute with indices in place of pointers"
+MESSAGE = (
+    "copy it to a local array, and change the copy; where the state is meant, the message is the first argument, the state the second"
+)
 REACH = "compare the index of the local array with a number, or mask it, so that no pointer lies within its reach"
 
 
@@ -303,7 +307,7 @@ class Slot:
                 fixed, moving = (STATE, STATE_INDEX) if region == "state" else (REGION, INDEX)
                 raise Broken(6, f"not all of the {size} bytes at {text} lie there", fixed if hi <= lo else moving)
             if is_write and region == "message":
-                raise Broken(7, f"r{base} is a place of the message, which is for reading", "copy it to a local array, and change the copy")
+                raise Broken(7, f"r{base} is a place of the message, which is for reading", MESSAGE)
         left = self.moved()
         if left is None:
             return

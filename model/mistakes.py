@@ -2,6 +2,7 @@
 "What is said of a line of assembler text")."""
 
 import re
+import unicodedata
 
 FORMS = {
     "input": ("input NAME WORD", ("name", "word")),
@@ -21,7 +22,13 @@ FORMS = {
     "drive": ("drive BUDGET", ("number",)),
 }
 BITS = {"number": 32, "word": 64}
+WORDS = {"process", *FORMS}
 VERBS = "process, input, bytes, transmit, copy, lose, arrive, finish, checkpoint, trim, crash, recover, alone, replay, resync and drive do"
+
+
+NUL = "a NUL (U+0000), which each second letter of UTF-16 is: save the text as UTF-8"
+SEVERAL = "a semicolon: each order stands on a line of its own, without one"
+PATH = "more or fewer words than in: process NAME PATH (a path has no space in it, and no quotes)"
 
 
 def said(text, number, words):
@@ -41,7 +48,13 @@ def mistake(line, names, has_order, is_foreign, words):
         return "a byte order mark (U+FEFF) before the first letter: save the text as UTF-8 without one"
     if "\r" in line:
         return "a carriage return: lines end with a line feed alone"
+    if "\0" in line:
+        return NUL
     first, *operands = line.split(" ")
+    if first not in WORDS and first.isascii() and first.lower() in WORDS:
+        return f"{shown(first)} has a capital letter: words are in small ones"
+    if first in ("cluster", "gateway"):
+        return "this looks like the text of a cluster, which sblog-node --cluster reads (docs/CLUSTER.md)"
     if is_foreign and first not in FORMS:
         return (
             f"no line begins with {shown(first)}, and none declares a process, so this is no scenario (assembler text is for "
@@ -52,7 +65,9 @@ def mistake(line, names, has_order, is_foreign, words):
     if "" in line.split(" "):
         return "a space at the beginning or the end, or two in a row"
     if first != "process":
-        is_comment = any(word.startswith("#") for word in operands) or "//" in line or line.startswith(";")
+        is_comment = any(word.startswith("#") for word in operands) or "//" in line or line.startswith((";", "/*", "--"))
+        if not is_comment and has_order_behind(line):
+            return SEVERAL
         if line.endswith(";") and not is_comment:
             return "no line ends with a semicolon"
         if is_comment or any(word.startswith(";") for word in operands):
@@ -72,11 +87,21 @@ def mistake(line, names, has_order, is_foreign, words):
     return next(filter(None, (reading(kind, word, names) for kind, word in zip(kinds, operands))))
 
 
+def has_order_behind(line):
+    """Whether a line's word stands behind a semicolon."""
+    return any(part.lstrip().split(" ")[0] in WORDS for part in line.split(";")[1:])
+
+
 def foreign_letter(line, rule):
-    """What is said of the first letter that isn't ASCII, or None."""
+    """What is said of the first letter that isn't ASCII, or that no terminal shows, or None."""
     known = {0xA0: "a no-break space (U+00A0)", 0xFEFF: "a byte order mark (U+FEFF)"}
-    found = ((place, ord(letter)) for place, letter in enumerate(line, 1) if not letter.isascii())
-    return next((f"letter {place} is {known.get(number, f'U+{number:04x}')}: {rule}" for place, number in found), None)
+    for place, letter in enumerate(line, 1):
+        name = known.get(ord(letter), f"U+{ord(letter):04x}")
+        if unicodedata.category(letter) == "Cc":
+            return f"letter {place} is {name}, a control character: no terminal shows it"
+        if not letter.isascii():
+            return f"letter {place} is {name}: {rule}"
+    return None
 
 
 def declaring(operands, names, has_order):
@@ -84,8 +109,13 @@ def declaring(operands, names, has_order):
         return "processes are declared before the first order"
     if len(names) == 15:
         return "there are at most 15 processes"
-    if len(operands) != 2:
+    if len(operands) < 2:
         return "more or fewer words than in: process NAME PATH"
+    if len(operands) > 2:
+        path = " ".join(operands[1:])
+        if any(mark in path for mark in (" #", " //", " ;")):
+            return "a comment stands on a line of its own, which begins with #"
+        return SEVERAL if has_order_behind(path) else PATH
     name = operands[0]
     if name == "outside" or not re.fullmatch("[a-z][a-z0-9]{0,15}", name):
         return f"{shown(name)} is no name: 1 to 16 of a to z and 0 to 9, a letter first, and not outside"
@@ -148,6 +178,8 @@ SHAPES = [
     ("stb sth stw stdw".split(), " [r1+0], 5", "AN"),
     (["lddw"], " r1, 5", "RU"),
 ]
+LISTING = "this looks like a listing, of sblog explain or llvm-objdump: sblog dis prints the text of an image"
+COMPILED = (".text", ".globl", ".type", ".section", ".file", "# %bb.")
 BY_WORD = {word: (form, kinds) for words, form, kinds in SHAPES for word in words}
 REGISTER = "r(?:[0-9]|10)"
 PLAIN, SIGNED = "(?:0|[1-9][0-9]*)", "(?:[+](?:0|[1-9][0-9]*)|-[1-9][0-9]*)"
@@ -183,6 +215,15 @@ def of_text(line, lines=()):
         return "a byte order mark (U+FEFF) before the first letter: save the text as UTF-8 without one"
     if "\r" in line:
         return "a carriage return: lines end with a line feed alone"
+    if "\0" in line:
+        return NUL
+    if any(it.lstrip().startswith(COMPILED) for it in lines):
+        return (
+            "this looks like a compiler's assembler text: clang -c in place of clang -S, and sblog pack writes the image "
+            "(docs/HANDLERS.md)"
+        )
+    if re.match("\\s*[0-9]+:", line):
+        return LISTING
     head = line.partition(";")[0]
     is_call = line.split(" ")[0] not in BY_WORD and "(" in head and not any(mark in head for mark in ("#", "=", "//"))
     if is_call or line.startswith("/*") or line.endswith("{") or any(it.startswith(("#include ", "#define ")) for it in lines):
@@ -191,6 +232,8 @@ def of_text(line, lines=()):
         return "a tab: one space stands behind the first word and behind a comma, and none before the first word or at the end"
     if line[0] == " ":
         return "a space before the first word"
+    if re.search(", #[-0-9]", line):
+        return "a number stands without a # before it"
     if "#" in line or "//" in line or line[0] == ";":
         return "a comment stands on a line of its own, which begins with #"
     if ";" in line:
@@ -222,6 +265,10 @@ def of_word(word):
     """What is said of a word that no instruction has."""
     if word.endswith(":"):
         return "there are no labels: a jump has its distance in slots, as ja +2"
+    if word == "form":
+        return LISTING
+    if word in ("if", "goto") or word.startswith("*("):
+        return "this is how clang writes an instruction: here a word stands first, as in jeq r1, 0, +2 or stxdw [r2+0], r3"
     if word == "process":
         return "this looks like a scenario: sblog run carries it out"
     if re.fullmatch(REGISTER, word):

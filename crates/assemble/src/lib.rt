@@ -26,6 +26,6 @@ mod writing;
 
 pub use fault::{AsmError, Rule};
 pub use laws::{one_fault, one_list, read_back, there_and_back};
-pub use mistake::{Mistake, Wanted, mistake_of};
+pub use mistake::{Mistake, Wanted, is_compiled, mistake_of};
 pub use reading::assemble;
 pub use writing::disassemble;

@@ -35,6 +35,10 @@ pub enum Mistake<'a> {
     /// A byte order mark at the beginning.
     Mark,
     CarriageReturn,
+    /// A NUL, as each second letter of a text in UTF-16 is.
+    Null,
+    /// The text is what a compiler writes for an assembler.
+    Compiler,
     /// The text is C.
     Language,
     Tab,
@@ -44,6 +48,10 @@ pub enum Mistake<'a> {
     Semicolon,
     /// Something behind an instruction that looks like a comment.
     Comment,
+    /// A number behind a `#`.
+    Hash,
+    /// A control character, at this place, counted from 1.
+    Control { letter: char, place: usize },
     /// A letter that isn't ASCII, at this place, counted from 1.
     Letter { letter: char, place: usize },
     /// A space at the end, or two in a row.
@@ -52,6 +60,10 @@ pub enum Mistake<'a> {
     Comma,
     /// The first word is a label.
     Label,
+    /// The line is one of a listing.
+    Listing,
+    /// The line is an instruction as compilers write it.
+    Foreign,
     /// The first word is that of a scenario's line.
     Scenario,
     /// The first word is a register.
@@ -101,10 +113,38 @@ fn writing<'a>(text: &'a str, line: &'a str) -> Option<Mistake<'a>> {
     if line.contains('\r') {
         return Some(Mistake::CarriageReturn);
     }
+    if line.contains('\0') {
+        return Some(Mistake::Null);
+    }
+    if text.split('\n').any(is_compiled) {
+        return Some(Mistake::Compiler);
+    }
+    if is_listed(line) {
+        return Some(Mistake::Listing);
+    }
     if is_c(text, line) {
         return Some(Mistake::Language);
     }
     None
+}
+
+/// Whether a line is one of a listing: the number of a slot stands first in it, and a colon behind that.
+fn is_listed(line: &str) -> bool {
+    match line.trim_start().split_once(':') {
+        Some((number, _)) => is_slot(number),
+        None => false,
+    }
+}
+
+/// Whether a line is one of those that a compiler writes for an assembler beside instructions.
+pub fn is_compiled(line: &str) -> bool {
+    let line = line.trim_start();
+    line.starts_with(".text")
+        || line.starts_with(".globl")
+        || line.starts_with(".type")
+        || line.starts_with(".section")
+        || line.starts_with(".file")
+        || line.starts_with("# %bb.")
 }
 
 /// Whether a line that is refused is one of C, or some line of its text is.
@@ -140,6 +180,9 @@ fn spacing(line: &str) -> Option<Mistake<'_>> {
     let mut place = 0usize;
     for letter in line.chars() {
         place = place.saturating_add(1);
+        if letter.is_control() {
+            return Some(Mistake::Control { letter, place });
+        }
         if !letter.is_ascii() {
             return Some(Mistake::Letter { letter, place });
         }
@@ -152,6 +195,9 @@ fn spacing(line: &str) -> Option<Mistake<'_>> {
 
 /// What is wrong with a mark behind an instruction, or in its place.
 fn marking(line: &str) -> Option<Mistake<'_>> {
+    if line.split(", #").skip(1).any(is_number_begun) {
+        return Some(Mistake::Hash);
+    }
     if line.contains('#') || line.contains("//") || line.starts_with(';') {
         return Some(Mistake::Comment);
     }
@@ -164,10 +210,26 @@ fn marking(line: &str) -> Option<Mistake<'_>> {
     Some(Mistake::Comment)
 }
 
+/// Whether a number begins here.
+fn is_number_begun(text: &str) -> bool {
+    matches!(text.bytes().next(), Some(b'-' | b'0'..=b'9'))
+}
+
+/// Whether a word is the number of a slot.
+fn is_slot(word: &str) -> bool {
+    !word.is_empty() && word.bytes().all(|letter| letter.is_ascii_digit())
+}
+
 /// What is wrong with a word that no instruction has.
 fn naming(word: &str) -> Mistake<'_> {
     if word.ends_with(':') {
         return Mistake::Label;
+    }
+    if word == "form" {
+        return Mistake::Listing;
+    }
+    if word == "if" || word == "goto" || word.starts_with("*(") {
+        return Mistake::Foreign;
     }
     if word == "process" {
         return Mistake::Scenario;
@@ -349,6 +411,15 @@ impl Mistake<'_> {
                 "a byte order mark (U+FEFF) before the first letter: save the text as UTF-8 without one",
             ),
             Mistake::CarriageReturn => Some("a carriage return: lines end with a line feed alone"),
+            Mistake::Null => {
+                Some(
+                    "a NUL (U+0000), which each second letter of UTF-16 is: save the text as UTF-8",
+                )
+            }
+            Mistake::Compiler => Some(
+                "this looks like a compiler's assembler text: clang -c in place of clang -S, and sblog pack writes the image (docs/HANDLERS.md)",
+            ),
+            Mistake::Hash => Some("a number stands without a # before it"),
             Mistake::Language => Some(
                 "this looks like C: clang compiles it, and sblog pack writes the image (docs/HANDLERS.md)",
             ),
@@ -367,6 +438,12 @@ impl Mistake<'_> {
             Mistake::Label => Some(
                 "there are no labels: a jump has its distance in slots, as ja +2",
             ),
+            Mistake::Listing => Some(
+                "this looks like a listing, of sblog explain or llvm-objdump: sblog dis prints the text of an image",
+            ),
+            Mistake::Foreign => Some(
+                "this is how clang writes an instruction: here a word stands first, as in jeq r1, 0, +2 or stxdw [r2+0], r3",
+            ),
             Mistake::Scenario => Some("this looks like a scenario: sblog run carries it out"),
             _ => None,
         }
@@ -379,6 +456,13 @@ impl fmt::Display for Mistake<'_> {
             return f.write_str(words);
         }
         match *self {
+            Mistake::Control { letter, place } => {
+                let letter = Beyond(letter);
+                write!(
+                    f,
+                    "letter {place} is {letter}, a control character: no terminal shows it"
+                )
+            }
             Mistake::Letter { letter, place } => {
                 let letter = Beyond(letter);
                 write!(

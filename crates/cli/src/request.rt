@@ -232,26 +232,52 @@ fn request_of<'a>(matches: &ArgMatches<'a>) -> Option<Request<'a>>
     request_in(name, inner)
 }
 
-/// The text of an error of `clap`, or a line in its place if it has none.
-fn text_of(alloc: Global, error: &Error) -> Result<String, AllocError>
+/// Whether a word is a number with a sign.
+fn is_negative(word: &str) -> bool {
+    match word.strip_prefix('-') {
+        Some(number) => number.starts_with(|letter: char| letter.is_ascii_digit()),
+        None => false,
+    }
+}
+
+/// A line that says what the value of an option is, where one was given with a sign, which `clap` takes for an option; else
+/// nothing.
+fn range_words<S: AsStr>(words: &[S]) -> &'static str {
+    let mut before = "";
+    for word in words {
+        let word = word.as_str();
+        match before {
+            "--state" if is_negative(word) => return "--state is a number from 0 to 1024\n",
+            "--form" if is_negative(word) => return "--form is 1, 2 or 3\n",
+            "--workers" if is_negative(word) => return "--workers is a number from 1 to 16\n",
+            "--budget" if is_negative(word) => return "--budget is a number from 1 to 1000000\n",
+            _ => before = word,
+        }
+    }
+    ""
+}
+
+/// The text of an error of `clap`, or a line in its place if it has none, and further words below it.
+fn text_of(alloc: Global, error: &Error, below: &str) -> Result<String, AllocError>
     ensures { IfOk result (λ text. string_bytes text ≢ []) }
 {
-    let text = error.to_string(alloc)?;
+    let mut text = error.to_string(alloc)?;
+    text.push_str(below)?;
     if text.is_empty() {
         return String::from_str(alloc, "error: the command line is not taken\n");
     }
     Ok(text)
 }
 
-/// The refusal of a command line that `clap` refused.
-fn refusal_of(alloc: Global, error: &Error) -> Refusal
+/// The refusal of a command line that `clap` refused, with further words below the error.
+fn refusal_of(alloc: Global, error: &Error, below: &str) -> Refusal
     ensures { Explains (kind_of error.now) result }
 {
     let kind = error.kind();
     if kind == ErrorKind::OutOfMemory {
         return Refusal::Memory;
     }
-    match text_of(alloc, error) {
+    match text_of(alloc, error, below) {
         Ok(text) => Refusal::Usage(Usage { kind, text }),
         Err(_) => Refusal::Memory,
     }
@@ -271,6 +297,6 @@ pub fn parse_words<'a, S: AsStr>(alloc: Global, words: &'a [S]) -> Result<Reques
             Some(request) => Ok(request),
             None => unreachable!(),
         },
-        Err(error) => Err(refusal_of(alloc, &error)),
+        Err(error) => Err(refusal_of(alloc, &error, range_words(words))),
     }
 }

@@ -310,14 +310,15 @@ pub fn advice(rule: Rule) -> &'static str
         Rule::V1 => "jump forward, to where an instruction begins; unroll a loop",
         Rule::V2 => "end each way with exit",
         Rule::V3 =>
-            "set it on each way that leads here, alike; what a helper must not lose belongs in r6 to r9",
+            "set it on each way that leads here, alike; what a helper must not lose belongs in r6 to r9; r3 is the length in forms 2 and 3 alone, and a handler in C wants --form 3",
         Rule::V4 => "copy it by mov, and change the copy",
         Rule::V5 =>
-            "compute with numbers alone; load and store through places, and move them by add and sub of a constant",
+            "compute with numbers alone; load and store through places, and move them by add and sub of a constant; a handler in C wants --form 3",
         Rule::V6 =>
-            "stay inside the region (the state has as many bytes as --state says); in form 2 compare the length before the message is read",
-        Rule::V7 => "write to the state or the stack",
-        Rule::V8 => "call helper 1, 2, 3 or 4, or in form 2 also 5 or 6",
+            "stay inside the region (the state has as many bytes as --state says, the message 64 in form 1); in form 2 compare the length before the message is read; a handler in C wants --form 3",
+        Rule::V7 =>
+            "write to the state or the stack; in C the message is the first argument, the state the second",
+        Rule::V8 => "call helper 1, 2, 3 or 4, or in forms 2 and 3 also 5 or 6",
         Rule::V9 =>
             "set the arguments right before the call, and let the bytes lie inside one region",
         Rule::V10 => "put a number in r0 before exit, as by mov r0, 0",

@@ -48,6 +48,19 @@ const SPACE: &str = "a space at the end, or two in a row";
 
 const COMMA: &str = "a comma and one space stand between operands, and no space before the comma";
 
+const NUL: &str = "a NUL (U+0000), which each second letter of UTF-16 is: save the text as UTF-8";
+
+const COMPILED: &str =
+    "this looks like a compiler's assembler text: clang -c in place of clang -S, and sblog pack writes the image (docs/HANDLERS.md)";
+
+const LISTING: &str =
+    "this looks like a listing, of sblog explain or llvm-objdump: sblog dis prints the text of an image";
+
+const OF_CLANG: &str =
+    "this is how clang writes an instruction: here a word stands first, as in jeq r1, 0, +2 or stxdw [r2+0], r3";
+
+const HASH: &str = "a number stands without a # before it";
+
 const LABEL: &str = "there are no labels: a jump has its distance in slots, as ja +2";
 
 #[test]
@@ -73,6 +86,17 @@ fn words_of_no_instruction(rt: HostRuntime) -> Result<(), Fail> {
             "a line begins with the word of its instruction, as mov r0, 0, and not with a register",
         ),
         ("loop:", LABEL),
+        ("e\0x\0", NUL),
+        ("\t.text", COMPILED),
+        ("form 1, 8 bytes of state", LISTING),
+        ("0: exit", LISTING),
+        ("       0:\tb7 00 00 00 00 00 00 00\tr0 = 0", LISTING),
+        ("if r1 == 0 goto +2", OF_CLANG),
+        ("*(u64 *)(r2 + 0) = r3", OF_CLANG),
+        (
+            "exit\u{1b}",
+            "letter 5 is U+001b, a control character: no terminal shows it",
+        ),
         ("EXIT", "EXIT has a capital letter: words are in small ones"),
         (
             "exit\u{e9}",
@@ -93,6 +117,7 @@ fn operands_of_another_shape(rt: HostRuntime) -> Result<(), Fail> {
         ("mov r0, 0\r", CARRIAGE_RETURN),
         ("mov r0,\t0", TAB),
         ("mov r0, 0 # none", COMMENT),
+        ("mov r0, #5", HASH),
         ("mov r0, 0 ; none", COMMENT),
         ("mov r0, 0;", SEMICOLON),
         ("mov r0, 0; exit", SEMICOLON),

@@ -202,7 +202,18 @@ const USAGE: [Scene; 1] = [(
             Seen::Tells("invalid value '1025'"),
             &[],
         ),
-        ("asm a b --state -1", 2, Seen::Tells("'-1'"), &[]),
+        (
+            "asm a b --state -1",
+            2,
+            Seen::Has(&["'-1'", "--state is a number from 0 to 1024\n"]),
+            &[],
+        ),
+        (
+            "live a --budget 9 --workers -4",
+            2,
+            Seen::Has(&["'-4'", "--workers is a number from 1 to 16\n"]),
+            &[],
+        ),
         (
             "asm a b --state 8 --state 8",
             2,

@@ -42,7 +42,7 @@ static CASES: [(ImageForm, u16, &str, &str); 17] = [
          0: mov r0, r3\n\
          \x20\x20\x20\x20r3 unset: never set on a way that leads here\n\
          \x20\x20\x20\x20refused by V3: r3 is read and isn't set\n\
-         \x20\x20\x20\x20to do: set it on each way that leads here, alike; what a helper must not lose belongs in r6 to r9\n\
+         \x20\x20\x20\x20to do: set it on each way that leads here, alike; what a helper must not lose belongs in r6 to r9; r3 is the length in forms 2 and 3 alone, and a handler in C wants --form 3\n\
          1: exit\n\
          verify refused V3 at slot 0\n",
     ),
@@ -55,7 +55,7 @@ static CASES: [(ImageForm, u16, &str, &str); 17] = [
          1: ldxdw r0, [r2+0]\n\
          \x20\x20\x20\x20r2 unset: lost behind the helper at slot 0\n\
          \x20\x20\x20\x20refused by V3: r2 is read and isn't set\n\
-         \x20\x20\x20\x20to do: set it on each way that leads here, alike; what a helper must not lose belongs in r6 to r9\n\
+         \x20\x20\x20\x20to do: set it on each way that leads here, alike; what a helper must not lose belongs in r6 to r9; r3 is the length in forms 2 and 3 alone, and a handler in C wants --form 3\n\
          2: exit\n\
          verify refused V3 at slot 1\n",
     ),
@@ -70,7 +70,7 @@ static CASES: [(ImageForm, u16, &str, &str); 17] = [
          2: ldxdw r0, [r2+0]\n\
          \x20\x20\x20\x20r2 unset: lost behind the helper at slot 0\n\
          \x20\x20\x20\x20refused by V3: r2 is read and isn't set\n\
-         \x20\x20\x20\x20to do: set it on each way that leads here, alike; what a helper must not lose belongs in r6 to r9\n\
+         \x20\x20\x20\x20to do: set it on each way that leads here, alike; what a helper must not lose belongs in r6 to r9; r3 is the length in forms 2 and 3 alone, and a handler in C wants --form 3\n\
          3: exit\n\
          verify refused V3 at slot 2\n",
     ),
@@ -92,7 +92,7 @@ static CASES: [(ImageForm, u16, &str, &str); 17] = [
          6: ldxdw r0, [r4+0]\n\
          \x20\x20\x20\x20r4 unset: slots 3 and 4 leave different things in it where they meet, at slot 5\n\
          \x20\x20\x20\x20refused by V3: r4 is read and isn't set\n\
-         \x20\x20\x20\x20to do: set it on each way that leads here, alike; what a helper must not lose belongs in r6 to r9\n\
+         \x20\x20\x20\x20to do: set it on each way that leads here, alike; what a helper must not lose belongs in r6 to r9; r3 is the length in forms 2 and 3 alone, and a handler in C wants --form 3\n\
          7: exit\n\
          verify refused V3 at slot 6\n",
     ),
@@ -116,7 +116,7 @@ static CASES: [(ImageForm, u16, &str, &str); 17] = [
          \x20\x20\x20\x20r1 message+0 of 64\n\
          \x20\x20\x20\x20r2 state+0 of 8\n\
          \x20\x20\x20\x20refused by V5: r2 is read as a number and holds a place\n\
-         \x20\x20\x20\x20to do: compute with numbers alone; load and store through places, and move them by add and sub of a constant\n\
+         \x20\x20\x20\x20to do: compute with numbers alone; load and store through places, and move them by add and sub of a constant; a handler in C wants --form 3\n\
          1: exit\n\
          verify refused V5 at slot 0\n",
     ),
@@ -129,7 +129,7 @@ static CASES: [(ImageForm, u16, &str, &str); 17] = [
          1: ldxdw r0, [r3+0]\n\
          \x20\x20\x20\x20r3 number\n\
          \x20\x20\x20\x20refused by V5: r3 is the base of a load or store and holds a number\n\
-         \x20\x20\x20\x20to do: compute with numbers alone; load and store through places, and move them by add and sub of a constant\n\
+         \x20\x20\x20\x20to do: compute with numbers alone; load and store through places, and move them by add and sub of a constant; a handler in C wants --form 3\n\
          2: exit\n\
          verify refused V5 at slot 1\n",
     ),
@@ -141,7 +141,7 @@ static CASES: [(ImageForm, u16, &str, &str); 17] = [
          0: ldxdw r0, [r1+57]\n\
          \x20\x20\x20\x20r1 message+0 of 64\n\
          \x20\x20\x20\x20refused by V6: not all of the 8 bytes at message+57 of 64 lie there\n\
-         \x20\x20\x20\x20to do: stay inside the region (the state has as many bytes as --state says); in form 2 compare the length before the message is read\n\
+         \x20\x20\x20\x20to do: stay inside the region (the state has as many bytes as --state says, the message 64 in form 1); in form 2 compare the length before the message is read; a handler in C wants --form 3\n\
          1: exit\n\
          verify refused V6 at slot 0\n",
     ),
@@ -155,7 +155,7 @@ static CASES: [(ImageForm, u16, &str, &str); 17] = [
          1: sub r3, -40000\n\
          \x20\x20\x20\x20r3 stack+512 of 512\n\
          \x20\x20\x20\x20refused by V6: r3 is moved by 40000, out of the places from -32768 to 32767\n\
-         \x20\x20\x20\x20to do: stay inside the region (the state has as many bytes as --state says); in form 2 compare the length before the message is read\n\
+         \x20\x20\x20\x20to do: stay inside the region (the state has as many bytes as --state says, the message 64 in form 1); in form 2 compare the length before the message is read; a handler in C wants --form 3\n\
          2: exit\n\
          verify refused V6 at slot 1\n",
     ),
@@ -167,7 +167,7 @@ static CASES: [(ImageForm, u16, &str, &str); 17] = [
          0: stw [r1+4], 5\n\
          \x20\x20\x20\x20r1 message+0 of 64\n\
          \x20\x20\x20\x20refused by V7: r1 is a place of the message, which is for reading\n\
-         \x20\x20\x20\x20to do: write to the state or the stack\n\
+         \x20\x20\x20\x20to do: write to the state or the stack; in C the message is the first argument, the state the second\n\
          1: exit\n\
          verify refused V7 at slot 0\n",
     ),
@@ -178,7 +178,7 @@ static CASES: [(ImageForm, u16, &str, &str); 17] = [
         "form 1, 0 bytes of state\n\
          0: call 5\n\
          \x20\x20\x20\x20refused by V8: form 1 has no helper 5\n\
-         \x20\x20\x20\x20to do: call helper 1, 2, 3 or 4, or in form 2 also 5 or 6\n\
+         \x20\x20\x20\x20to do: call helper 1, 2, 3 or 4, or in forms 2 and 3 also 5 or 6\n\
          1: exit\n\
          verify refused V8 at slot 0\n",
     ),

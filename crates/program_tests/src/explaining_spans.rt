@@ -171,7 +171,7 @@ static CASES: [(u16, &str, &str); 25] = [
          2: ldxw r0, [r2+2]\n\
          \x20\x20\x20\x20r2 state+0 to 7 of 8\n\
          \x20\x20\x20\x20refused by V6: not all of the 4 bytes at state+2 to 9 of 8 lie there\n\
-         \x20\x20\x20\x20to do: compare the index with a number, or mask it, on each way that leads here, before it is added; where the C does so already, within(index, most); right above the access does so anew; or --state is too small\n\
+         \x20\x20\x20\x20to do: compare the index with a number (if (i >= N) return 1;), or mask it (i & (N - 1), N a power of two), on each way that leads here, before it is added; % bounds nothing where its divisor may be 0, or where clang makes div, mul and sub of it; where the C does so already, within(index, most); right above the access does so anew; or --state is too small\n\
          3: exit\n\
          verify refused V6 at slot 2\n",
     ),
@@ -185,7 +185,7 @@ static CASES: [(u16, &str, &str); 25] = [
          \x20\x20\x20\x20r1 message+0 of 512\n\
          \x20\x20\x20\x20r4 number\n\
          \x20\x20\x20\x20refused by V6: r1 is moved by 0 to 18446744073709551615, out of the places from -32768 to 32767\n\
-         \x20\x20\x20\x20to do: compare the index with a number, or mask it, on each way that leads here, before it is added; where the C does so already, within(index, most); right above the access does so anew\n\
+         \x20\x20\x20\x20to do: compare the index with a number (if (i >= N) return 1;), or mask it (i & (N - 1), N a power of two), on each way that leads here, before it is added; % bounds nothing where its divisor may be 0, or where clang makes div, mul and sub of it; where the C does so already, within(index, most); right above the access does so anew\n\
          2: exit\n\
          verify refused V6 at slot 1\n",
     ),
@@ -207,7 +207,7 @@ static CASES: [(u16, &str, &str); 25] = [
          0: stb [r1+0], 1\n\
          \x20\x20\x20\x20r1 message+0 of 512\n\
          \x20\x20\x20\x20refused by V7: r1 is a place of the message, which is for reading\n\
-         \x20\x20\x20\x20to do: copy it to a local array, and change the copy\n\
+         \x20\x20\x20\x20to do: copy it to a local array, and change the copy; where the state is meant, the message is the first argument, the state the second\n\
          1: exit\n\
          verify refused V7 at slot 0\n",
     ),

@@ -232,7 +232,7 @@ const LOST: (&[u8], &str) = (
 1022: mov r0, r2
     r2 unset: lost behind the helper at slot 1021
     refused by V3: r2 is read and isn't set
-    to do: set it on each way that leads here, alike; what a helper must not lose belongs in r6 to r9
+    to do: set it on each way that leads here, alike; what a helper must not lose belongs in r6 to r9; r3 is the length in forms 2 and 3 alone, and a handler in C wants --form 3
 1023: exit
 verify refused V3 at slot 1022
 ",

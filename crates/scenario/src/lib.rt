@@ -25,7 +25,7 @@ mod verb;
 
 pub use above::Above;
 pub use laws::{one_fault, one_scenario};
-pub use mistake::{Mistake, mistake_of};
+pub use mistake::{Mistake, is_begun, mistake_of};
 pub use order::{Allowed, Order};
 pub use process::Process;
 pub use scenario::{Scenario, ScenarioError, Step, parse};

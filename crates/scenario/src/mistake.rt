@@ -12,6 +12,26 @@ use std::fmt;
 /// The most letters of a word that are shown.
 const SHOWN_LIMIT: usize = 40;
 
+/// What lines begin with.
+const WORDS: [&str; 16] = [
+    "process",
+    "input",
+    "bytes",
+    "transmit",
+    "copy",
+    "lose",
+    "arrive",
+    "finish",
+    "checkpoint",
+    "trim",
+    "crash",
+    "recover",
+    "alone",
+    "replay",
+    "resync",
+    "drive",
+];
+
 /// What bytes are.
 const PAIRS: &str = "bytes are pairs of 0 to 9 and a to f, at most 256 pairs, or - for none";
 
@@ -23,6 +43,12 @@ pub enum Mistake<'a> {
     /// A byte order mark at the beginning.
     Mark,
     CarriageReturn,
+    /// A NUL, as each second letter of a text in UTF-16 is.
+    Null,
+    /// The text is of a cluster.
+    Cluster,
+    /// The first word would begin a line, but for a capital letter.
+    Capital { word: &'a str },
     /// The first word begins no line, and no line of the text looks like the one of a process.
     Foreign { word: &'a str },
     Tab,
@@ -30,14 +56,20 @@ pub enum Mistake<'a> {
     Space,
     /// A semicolon at the end.
     Semicolon,
+    /// A semicolon between two orders.
+    Several,
     /// Something that looks like a comment, behind an order or in its place.
     Comment,
+    /// A control character, at this place, counted from 1.
+    Control { letter: char, place: usize },
     /// A letter that isn't ASCII, at this place, counted from 1.
     Letter { letter: char, place: usize },
     /// The first word begins no line.
     Verb { word: &'a str },
     /// Too many words or too few; a line has this form.
     Words { form: &'static str },
+    /// A path with a space in it, or what looks like one.
+    Path,
     /// A process behind the first order.
     Late,
     /// A process more than there can be.
@@ -91,8 +123,11 @@ pub fn mistake_of(text: &str, number: usize, allowed: Allowed) -> Option<Mistake
     if written.is_some() {
         return written;
     }
-    if verb_named(word).is_none() && !is_declaring(text) {
-        return Some(Mistake::Foreign { word });
+    if !is_line_word(word) {
+        let meant = meaning(text, word);
+        if meant.is_some() {
+            return meant;
+        }
     }
     let spaced = spacing(line);
     if spaced.is_some() {
@@ -116,7 +151,35 @@ fn writing(line: &str) -> Option<Mistake<'_>> {
     if line.contains('\r') {
         return Some(Mistake::CarriageReturn);
     }
+    if line.contains('\0') {
+        return Some(Mistake::Null);
+    }
     None
+}
+
+/// Whether lines begin with this word.
+fn is_line_word(word: &str) -> bool {
+    WORDS.contains(&word)
+}
+
+/// Whether the first word of a line is one that a line of a scenario begins with.
+pub fn is_begun(line: &str) -> bool {
+    let (word, _) = line.split_once(' ').unwrap_or((line, ""));
+    is_line_word(word)
+}
+
+/// What is meant by a word that begins no line, where the word or the whole text is of another kind.
+fn meaning<'a>(text: &'a str, word: &'a str) -> Option<Mistake<'a>> {
+    if WORDS.iter().any(|known| word.eq_ignore_ascii_case(*known)) {
+        return Some(Mistake::Capital { word });
+    }
+    if word == "cluster" || word == "gateway" {
+        return Some(Mistake::Cluster);
+    }
+    if is_declaring(text) {
+        return None;
+    }
+    Some(Mistake::Foreign { word })
 }
 
 /// Whether some line of a text looks like the one of a process.
@@ -146,7 +209,14 @@ fn spacing(line: &str) -> Option<Mistake<'_>> {
 
 /// What is wrong with a mark behind an order, or in its place.
 fn marking(line: &str) -> Option<Mistake<'_>> {
-    let is_comment = line.contains(" #") || line.contains("//") || line.starts_with(';');
+    let is_comment = line.contains(" #")
+        || line.contains("//")
+        || line.starts_with(';')
+        || line.starts_with("/*")
+        || line.starts_with("--");
+    if !is_comment && has_order_behind(line) {
+        return Some(Mistake::Several);
+    }
     if line.ends_with(';') && !is_comment {
         return Some(Mistake::Semicolon);
     }
@@ -156,7 +226,14 @@ fn marking(line: &str) -> Option<Mistake<'_>> {
     None
 }
 
-/// The first letter of a line that isn't ASCII, but of a path.
+/// Whether the word of a line stands behind a semicolon.
+fn has_order_behind(line: &str) -> bool {
+    line.split(';')
+        .skip(1)
+        .any(|part| is_begun(part.trim_start()))
+}
+
+/// The first letter of a line that isn't ASCII, or that no terminal shows, but of a path.
 fn lettering(line: &str) -> Option<Mistake<'_>> {
     match declared(line) {
         Some(name) if name.is_ascii() => return None,
@@ -165,6 +242,9 @@ fn lettering(line: &str) -> Option<Mistake<'_>> {
     let mut place = 0usize;
     for letter in line.chars() {
         place = place.saturating_add(1);
+        if letter.is_control() {
+            return Some(Mistake::Control { letter, place });
+        }
         if !letter.is_ascii() {
             return Some(Mistake::Letter { letter, place });
         }
@@ -189,10 +269,13 @@ fn declaring<'a>(above: Above<'a>, operands: &'a str) -> Option<Mistake<'a>> {
         return Some(Mistake::Full);
     }
     let (name, path) = operands.split_once(' ').unwrap_or((operands, ""));
-    if path.is_empty() || path.contains(' ') {
+    if path.is_empty() {
         return Some(Mistake::Words {
             form: "process NAME PATH",
         });
+    }
+    if path.contains(' ') {
+        return Some(following(path));
     }
     if !is_name(name) {
         return Some(Mistake::Name { name });
@@ -201,6 +284,17 @@ fn declaring<'a>(above: Above<'a>, operands: &'a str) -> Option<Mistake<'a>> {
         return Some(Mistake::Taken { name });
     }
     None
+}
+
+/// What is wrong with a path in which a space stands.
+fn following(path: &str) -> Mistake<'_> {
+    if path.contains(" #") || path.contains(" //") || path.contains(" ;") {
+        return Mistake::Comment;
+    }
+    if has_order_behind(path) {
+        return Mistake::Several;
+    }
+    Mistake::Path
 }
 
 /// What is wrong with the line of an order.
@@ -333,9 +427,25 @@ impl Mistake<'_> {
                 "a byte order mark (U+FEFF) before the first letter: save the text as UTF-8 without one",
             ),
             Mistake::CarriageReturn => Some("a carriage return: lines end with a line feed alone"),
+            Mistake::Null => {
+                Some(
+                    "a NUL (U+0000), which each second letter of UTF-16 is: save the text as UTF-8",
+                )
+            }
+            Mistake::Cluster => Some(
+                "this looks like the text of a cluster, which sblog-node --cluster reads (docs/CLUSTER.md)",
+            ),
             Mistake::Tab => Some("a tab: words stand with one space between them"),
             Mistake::Space => Some("a space at the beginning or the end, or two in a row"),
             Mistake::Semicolon => Some("no line ends with a semicolon"),
+            Mistake::Several => Some(
+                "a semicolon: each order stands on a line of its own, without one",
+            ),
+            Mistake::Path => {
+                Some(
+                    "more or fewer words than in: process NAME PATH (a path has no space in it, and no quotes)",
+                )
+            }
             Mistake::Comment => Some("a comment stands on a line of its own, which begins with #"),
             Mistake::Late => Some("processes are declared before the first order"),
             Mistake::InputsAlone => Some("only input and bytes lines can stand here"),
@@ -401,6 +511,17 @@ impl fmt::Display for Mistake<'_> {
                 write!(
                     f,
                     "no line begins with {word}, and none declares a process, so this is no scenario (assembler text is for sblog asm, C for clang and then sblog pack)"
+                )
+            }
+            Mistake::Capital { word } => {
+                let word = Shown(word);
+                write!(f, "{word} has a capital letter: words are in small ones")
+            }
+            Mistake::Control { letter, place } => {
+                let letter = Beyond(letter);
+                write!(
+                    f,
+                    "letter {place} is {letter}, a control character: no terminal shows it"
                 )
             }
             Mistake::Letter { letter, place } => {

@@ -53,7 +53,7 @@ register_advice register.PlaceAsNumber = codes "compare and compute with indices
 register_advice register.NumberAsBase =
     codes "load and store at an index of the message, the state or a local array: a pointer that was kept in the state comes back as a number"
 register_advice register.PlaceStored = codes "keep an index in its place; a pointer is kept by a local variable alone"
-register_advice register.Message = codes "copy it to a local array, and change the copy"
+register_advice register.Message = codes "copy it to a local array, and change the copy; where the state is meant, the message is the first argument, the state the second"
 
 -- what to do about a word of the stack
 abbrev pub word_advice : WordFault → List ℕ
@@ -64,14 +64,14 @@ word_advice (word.Written n) = codes "compare the index of the local array with 
 
 -- what to do about an index, and about a place that no index moves
 abbrev pub index_advice : List ℕ
-index_advice = codes "compare the index with a number, or mask it, on each way that leads here, before it is added; where the C does so already, within(index, most); right above the access does so anew"
+index_advice = codes "compare the index with a number (if (i >= N) return 1;), or mask it (i & (N - 1), N a power of two), on each way that leads here, before it is added; % bounds nothing where its divisor may be 0, or where clang makes div, mul and sub of it; where the C does so already, within(index, most); right above the access does so anew"
 
 abbrev pub region_advice : List ℕ
 region_advice = codes "stay inside the region: the message has 512 bytes with the zeros behind it, the local variables have 512, the state has as many as --state says"
 
 -- the same in the state
 abbrev pub state_index_advice : List ℕ
-state_index_advice = codes "compare the index with a number, or mask it, on each way that leads here, before it is added; where the C does so already, within(index, most); right above the access does so anew; or --state is too small"
+state_index_advice = codes "compare the index with a number (if (i >= N) return 1;), or mask it (i & (N - 1), N a power of two), on each way that leads here, before it is added; % bounds nothing where its divisor may be 0, or where clang makes div, mul and sub of it; where the C does so already, within(index, most); right above the access does so anew; or --state is too small"
 
 abbrev pub state_advice : List ℕ
 state_advice = codes "stay inside the state, which has as many bytes as --state says, or pack it with a greater one"

@@ -161,7 +161,8 @@ fn register_advice(fault: RegisterFault) -> &'static str
             "load and store at an index of the message, the state or a local array: a pointer that was kept in the state comes back as a number",
         RegisterFault::PlaceStored =>
             "keep an index in its place; a pointer is kept by a local variable alone",
-        RegisterFault::Message => "copy it to a local array, and change the copy",
+        RegisterFault::Message =>
+            "copy it to a local array, and change the copy; where the state is meant, the message is the first argument, the state the second",
     }
 }
 
@@ -180,7 +181,7 @@ fn word_advice(fault: WordFault) -> &'static str
 
 /// What to do about an index.
 const INDEX: &str =
-    "compare the index with a number, or mask it, on each way that leads here, before it is added; where the C does so already, within(index, most); right above the access does so anew";
+    "compare the index with a number (if (i >= N) return 1;), or mask it (i & (N - 1), N a power of two), on each way that leads here, before it is added; % bounds nothing where its divisor may be 0, or where clang makes div, mul and sub of it; where the C does so already, within(index, most); right above the access does so anew";
 
 /// What to do about a place that no index moves.
 const REGION: &str =
@@ -188,7 +189,7 @@ const REGION: &str =
 
 /// What to do about an index in the state.
 const STATE_INDEX: &str =
-    "compare the index with a number, or mask it, on each way that leads here, before it is added; where the C does so already, within(index, most); right above the access does so anew; or --state is too small";
+    "compare the index with a number (if (i >= N) return 1;), or mask it (i & (N - 1), N a power of two), on each way that leads here, before it is added; % bounds nothing where its divisor may be 0, or where clang makes div, mul and sub of it; where the C does so already, within(index, most); right above the access does so anew; or --state is too small";
 
 /// What to do about a place in the state that no index moves.
 const STATE: &str =

@@ -39,7 +39,14 @@ const SPACE: &str = "a space at the beginning or the end, or two in a row";
 
 const COMMENT: &str = "a comment stands on a line of its own, which begins with #";
 
-const SPACED: [(&str, &str); 12] = [
+const SEVERAL: &str = "a semicolon: each order stands on a line of its own, without one";
+
+const NUL: &str = "a NUL (U+0000), which each second letter of UTF-16 is: save the text as UTF-8";
+
+const PATH: &str =
+    "more or fewer words than in: process NAME PATH (a path has no space in it, and no quotes)";
+
+const SPACED: [(&str, &str); 18] = [
     (
         "\u{feff}drive 5",
         "a byte order mark (U+FEFF) before the first letter: save the text as UTF-8 without one",
@@ -55,6 +62,15 @@ const SPACED: [(&str, &str); 12] = [
     ("drive 5 # all", COMMENT),
     ("drive 5 // all", COMMENT),
     ("drive 5;", "no line ends with a semicolon"),
+    ("input a 1; drive 100", SEVERAL),
+    ("drive 5;crash a;", SEVERAL),
+    ("/* all */", COMMENT),
+    ("drive 5 ; all", COMMENT),
+    ("drive 5\0", NUL),
+    (
+        "drive \u{7}5",
+        "letter 7 is U+0007, a control character: no terminal shows it",
+    ),
     (
         "drive\u{a0}5",
         "letter 6 is a no-break space (U+00A0): outside of paths and comments all are ASCII",
@@ -72,7 +88,7 @@ fn what_stands_between_words(rt: HostRuntime) -> Result<(), Fail> {
     Ok(())
 }
 
-const ORDERS: [(&str, &str); 18] = [
+const ORDERS: [(&str, &str); 20] = [
     ("input b 5", "no process is named b; declared are a, c"),
     (
         "input outside 5",
@@ -124,6 +140,14 @@ const ORDERS: [(&str, &str); 18] = [
         "x is no digit of bytes: bytes are pairs of 0 to 9 and a to f, at most 256 pairs, or - for none",
     ),
     (
+        "Drive 5",
+        "Drive has a capital letter: words are in small ones",
+    ),
+    (
+        "gateway unix:x",
+        "this looks like the text of a cluster, which sblog-node --cluster reads (docs/CLUSTER.md)",
+    ),
+    (
         "deliver 5",
         "no line begins with deliver: process, input, bytes, transmit, copy, lose, arrive, finish, checkpoint, trim, crash, recover, alone, replay, resync and drive do",
     ),
@@ -135,15 +159,15 @@ fn words_of_orders(rt: HostRuntime) -> Result<(), Fail> {
     Ok(())
 }
 
-const PROCESSES: [(&str, &str); 6] = [
+const PROCESSES: [(&str, &str); 9] = [
     (
         "process d",
         "more or fewer words than in: process NAME PATH",
     ),
-    (
-        "process d x y",
-        "more or fewer words than in: process NAME PATH",
-    ),
+    ("process d x y", PATH),
+    ("process d \"x y\"", PATH),
+    ("process d x # one", COMMENT),
+    ("process d x; crash a", SEVERAL),
     (
         "process 1st x",
         "1st is no name: 1 to 16 of a to z and 0 to 9, a letter first, and not outside",
@@ -166,7 +190,7 @@ fn lines_of_processes(rt: HostRuntime) -> Result<(), Fail> {
 }
 
 /// Whole texts, and what is said of their first faulty line.
-const TEXTS: [(&str, Allowed, &str); 5] = [
+const TEXTS: [(&str, Allowed, &str); 7] = [
     (
         "# nothing\ndrive 5\n",
         Allowed::All,
@@ -183,6 +207,12 @@ const TEXTS: [(&str, Allowed, &str); 5] = [
         "no line begins with mov, and none declares a process, so this is no scenario (assembler text is for sblog asm, C for clang and then sblog pack)",
     ),
     (" process a x\ncrash a\n", Allowed::All, SPACE),
+    ("p\0r\0o\0c\0e\0s\0s\0 \0a\0 \0x\0\n\0", Allowed::All, NUL),
+    (
+        "PROCESS a x\ninput a 5\n",
+        Allowed::All,
+        "PROCESS has a capital letter: words are in small ones",
+    ),
     (
         "process a x\ncrash a\n",
         Allowed::Inputs,
