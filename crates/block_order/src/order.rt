@@ -15,7 +15,7 @@ use std::alloc::{AllocError, Global};
 use typings::lay_out;
 
 /// What becomes of the order of blocks.
-#[derive(Debug, Drop)]
+#[derive(Drop)]
 pub enum Order {
     /// Each jump goes to a later slot as it is.
     Forward,
@@ -69,7 +69,7 @@ fn jump_back(
             if behind > place {
                 walk.extend_from_slice(&open[place..behind])?;
             }
-            return Ok(loop_of(slots, walk.as_slice(), behind));
+            return Ok(loop_of(slots, walk.as_slice()));
         }
     }
     Ok(None)

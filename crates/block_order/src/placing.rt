@@ -7,7 +7,7 @@ use limits::SLOTS;
 use std::alloc::{AllocError, Global};
 
 /// Code in another order.
-#[derive(Debug, Drop)]
+#[derive(Drop)]
 pub struct Placed {
     pub insns: Vec<Insn>,
     /// For each slot of the code the one at which its instruction stands now; `None` where no call comes.

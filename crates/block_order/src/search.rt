@@ -5,7 +5,7 @@ use decode::Insn;
 use std::alloc::{AllocError, Global};
 
 /// How far the search is with a slot.
-#[derive(Clone, Copy, Debug, PartialEq, Eq)]
+#[derive(Clone, Copy)]
 enum Mark {
     New,
     /// It lies on the way from slot 0.
@@ -15,7 +15,7 @@ enum Mark {
 }
 
 /// What a search finds.
-#[derive(Debug, Drop)]
+#[derive(Drop)]
 pub enum Found {
     /// The slots that a call can come to, each behind those that it leads to.
     Finished(Vec<usize>),

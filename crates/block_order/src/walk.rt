@@ -43,18 +43,19 @@ fn is_walk(slots: &[Option<Insn>], walk: &[usize]) -> bool
     true
 }
 
-/// The slot where such a walk ends and an earlier one, at this place of it, to which it jumps back.
-pub fn loop_of(slots: &[Option<Insn>], walk: &[usize], place: usize) -> Option<(usize, usize)>
+/// The slot where such a walk ends and the first of its slots to which that one jumps back.
+pub fn loop_of(slots: &[Option<Insn>], walk: &[usize]) -> Option<(usize, usize)>
     ensures { IfSome result (λ jump. IsLoop (insn_at slots.now) jump.0 jump.1) }
 {
-    if place >= walk.len() || walk[0] != 0 || !is_walk(slots, walk) {
+    if walk.is_empty() || walk[0] != 0 || !is_walk(slots, walk) {
         return None;
     }
     let from = walk[walk.len() - 1];
-    let to = walk[place];
-    if to <= from && leads(slots, from, to) {
-        Some((from, to))
-    } else {
-        None
+    for place in 0..walk.len() {
+        let to = walk[place];
+        if to <= from && leads(slots, from, to) {
+            return Some((from, to));
+        }
     }
+    None
 }

@@ -85,3 +85,21 @@ fn other_magic(rt: HostRuntime) -> Result<(), Fail> {
     assert!(rt; refused == Some(ImageError::Header(HeaderFault::Magic)));
     Ok(())
 }
+
+/// Whether two files have the same code, in the same form.
+fn is_same(alloc: Global, one: &[u8], other: &[u8]) -> Result<bool, Fail> {
+    let one = Handler::load(alloc, one)?;
+    let other = Handler::load(alloc, other)?;
+    Ok(one.same_code(&other))
+}
+
+// The same instructions in another form are other code.
+#[test]
+fn same_code(rt: HostRuntime) -> Result<(), Fail> {
+    let alloc = rt.alloc();
+    let mut other = LAST_SHOWN;
+    other[3] = b'3';
+    assert!(rt; is_same(alloc, &other, &other)?);
+    assert!(rt; !is_same(alloc, &LAST_SHOWN, &other)?);
+    Ok(())
+}
