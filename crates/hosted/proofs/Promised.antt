@@ -1,0 +1,146 @@
+-- What holds of hosted processes
+use Rattle.std.proofs.Common.{◌≡◌, ℕ, ◌≤◌, List, [], ◌∷◌, ◌++◌, Bool, true, false, refl, sym, ap, ◌∙◌, subst}
+use Rattle.std.specs.Prelude.{Some}
+use Rattle.world.specs.Handlers.{Handlers}
+use Rattle.world.specs.History.{count_of, nth}
+use Rattle.images.specs.declared.any_image.AnyImage.{AnyImage}
+use Rattle.packets.specs.declared.packet.Packet.{Packet}
+use Rattle.stores.specs.declared.change.Output.{Output}
+use Rattle.cluster.specs.Cluster.{Cluster, opening}
+use Rattle.cluster.specs.Rules.{after_run}
+use Rattle.node.specs.declared.limit.Limits.{Limits}
+use Rattle.node.specs.Runs.{Answering}
+use Rattle.node.specs.Stands.{Each}
+use Rattle.gateway.specs.Gateway.{TheGateway, peer_of}
+use Rattle.gateway.specs.Stands as gateways
+use Rattle.lives.specs.Process.{StandsAs}
+use Rattle.lives.specs.Process as stages
+use Rattle.lives.specs.System.{System as Lived, AreStored, AreStoredOf, AllStand, IsRunOf}
+use Rattle.lives.specs.System as called
+use Rattle.lives.specs.Durable.{AreAfter, IsSentBy, Keep, outputs_of as lives_outputs}
+use Rattle.lives.proofs.Lives.{lives-run}
+use Rattle.lives.proofs.Back.{nothing-is-lost}
+use Rattle.lives.proofs.Alone.{lone-failures-stay-exact}
+use Rattle.lives.proofs.Durable.{nothing, begins-now}
+use Rattle.lives.proofs.Keeping.{durable-keep}
+use Rattle.process.specs.Process.{TheProcess, is_settled}
+use Rattle.process.specs.Saving.{Keeps}
+use Rattle.hosted.specs.Process.{stage_of, as_process}
+use Rattle.hosted.specs.Answering.{answering}
+use Rattle.hosted.specs.System.{System, Opens, new_system, HostCall, as_lives, AreCalls, after_call, after_calls}
+use Rattle.hosted.specs.Lives.{IsAs, len_of, handlers, StayExact, HostedLive, HostedRun, HostedAlone, HostedBack, HostedKeep, outputs_of}
+use Rattle.hosted.proofs.Lists.{State, Are, are-go, calls-append, exact-append, after-append}
+
+-- ---- the opening
+
+are-stored : (images : ℕ → AnyImage) (n : ℕ) (limits : ℕ → Limits) (processes : ℕ → TheProcess) (bytes : ℕ → List ℕ) → Opens n images limits processes bytes → AreStored n (len_of images) bytes
+are-stored images n limits processes bytes o p l = (subst (λ z. Keeps z (bytes p)) (o.opened p l).course_is (o.stored p l)).0
+
+opened : (images : ℕ → AnyImage) (n page tick : ℕ) (limits : ℕ → Limits) (processes : ℕ → TheProcess) (bytes : ℕ → List ℕ) → Opens n images limits processes bytes
+    → State images n (new_system n processes bytes page tick) (called.new_system n limits (len_of images) bytes page tick)
+opened images n page tick limits processes bytes o =
+    record {
+      stand = record {
+        processes = λ p l. sym (ap stage_of (o.opened p l).course_is);
+        stored = λ p l. refl;
+        lives = λ p l. refl;
+        gateway = refl;
+        durable = refl;
+        given = refl;
+      };
+      good = λ p l. ((o.opened p l).image_is, (ap is_settled (o.opened p l).course_is, tt));
+      now = λ p l. ([], begins-now (answering n images) (len_of images) n p page tick false false (λ q. false) nothing l.1 limits bytes (are-stored images n limits processes bytes o) l (λ e. absurd (cc (e))));
+    }
+
+-- ---- what holds of a system of `lives` holds of that of hosts
+
+all-stand : (n : ℕ) (s : System) (t : Lived) (c : Cluster) → IsAs n s t → AllStand n t c → AllStand n (as_lives s) c
+all-stand n s t c st a =
+    record {
+      processes = λ p l. subst (λ z. StandsAs z c p) (st.processes p l) (a.processes p l);
+      stored = λ p l. subst (λ z. AreStoredOf z (as_process (s.processes p)) c p) (st.stored p l) (subst (λ z. AreStoredOf (t.stored p) z c p) (st.processes p l) (a.stored p l));
+      lives = λ p l. subst (λ z. c.stored p ≤ z) (st.lives p l) (a.lives p l);
+      durable = subst (λ z. gateways.Stands z c) st.durable a.durable;
+      gateway = subst (λ z. gateways.Goes z c) st.gateway a.gateway;
+      shown = λ p l. subst (λ (z : TheGateway). (peer_of p z).shown ≡ count_of p c.shown) st.durable (a.shown p l);
+    }
+
+run-of : (n : ℕ) (f : Handlers) (s : System) (t : Lived) → IsAs n s t → IsRunOf n f t → IsRunOf n f (as_lives s)
+run-of n f s t st r =
+    record {
+      acts = r.acts;
+      run = r.run;
+      stand = all-stand n s t (after_run (opening n f) r.acts) st r.stand;
+      no_orphan = r.no_orphan;
+      output_once = r.output_once;
+      received_once = r.received_once;
+    }
+
+keep-of : (n : ℕ) (f : Handlers) (durable : ℕ → Bool) (s : System) (t : Lived) (xs ys : List Output) → IsAs n s t → xs ≡ ys → Keep n f durable t xs → Keep n f durable (as_lives s) ys
+keep-of n f durable s t xs ys st same k =
+    record {
+      messages = k.messages;
+      stored = λ p l. subst (AreAfter n f p (k.messages p)) (st.stored p l) (k.stored p l);
+      received = k.received;
+      up = λ p l m e. k.up p l m (st.processes p l ∙ e);
+      given = subst (Each (λ (x : Packet). durable x.from ≡ true → IsSentBy f x.from (k.messages x.from) x)) st.given k.given;
+      shown = subst (Each (λ (o : Output). durable o.process ≡ true → nth (f.sends o.process (k.messages o.process) 0) o.ssn ≡ Some o.payload)) same k.shown;
+    }
+
+-- ---- calls of hosts behind others
+
+after-more : (s : System) (ks more : List HostCall) → after_calls s (ks ++ more) ≡ after_calls (after_calls s ks) more
+after-more s [] more = refl
+after-more s (k ∷ ks) more = after-more (after_call s k) ks more
+
+calls-split : (images : ℕ → AnyImage) (n : ℕ) (s : System) (ks more : List HostCall) → AreCalls images n s (ks ++ more) → AreCalls images n s ks × AreCalls images n (after_calls s ks) more
+calls-split images n s [] more g = (tt, g)
+calls-split images n s (k ∷ ks) more g = let r = calls-split images n (after_call s k) ks more g.1 in ((g.0, r.0), r.1)
+
+exact-split : (n : ℕ) (s : System) (ks more : List HostCall) → StayExact n s (ks ++ more) → StayExact n s ks × StayExact n (after_calls s ks) more
+exact-split n s [] more g = (tt, g)
+exact-split n s (k ∷ ks) more g = let r = exact-split n (after_call s k) ks more g.1 in ((g.0, r.0), r.1)
+
+-- ---- the laws
+
+pub hosted-live : HostedLive
+hosted-live images n page tick limits processes bytes calls o g =
+    let a = are-go images n (new_system n processes bytes page tick) (called.new_system n limits (len_of images) bytes page tick) calls (opened images n page tick limits processes bytes o) g in
+    record { calls = a.calls; are = a.are; whole = a.whole; stand = a.state.stand }
+
+pub hosted-run : HostedRun
+hosted-run images n page tick limits processes bytes calls few o g e =
+    let s : System = new_system n processes bytes page tick in
+    let t : Lived = called.new_system n limits (len_of images) bytes page tick in
+    let a : Are images n s t calls = are-go images n s t calls (opened images n page tick limits processes bytes o) g in
+    run-of n (handlers n images) (after_calls s calls) (called.after_calls t a.calls) a.state.stand
+    (lives-run (answering n images) n page tick limits (len_of images) bytes a.calls few (are-stored images n limits processes bytes o) a.are (a.exact e))
+
+pub hosted-alone : HostedAlone
+hosted-alone images n page tick limits processes bytes calls few o g one =
+    let s : System = new_system n processes bytes page tick in
+    let t : Lived = called.new_system n limits (len_of images) bytes page tick in
+    let a : Are images n s t calls = are-go images n s t calls (opened images n page tick limits processes bytes o) g in
+    a.stays (λ p l. refl) (lone-failures-stay-exact (answering n images) n page tick limits (len_of images) bytes a.calls few (are-stored images n limits processes bytes o) a.are (a.alone one))
+
+pub hosted-back : HostedBack
+hosted-back images n page tick limits processes bytes calls more p was is few o l g e old new =
+    let f : Answering = answering n images in
+    let s : System = new_system n processes bytes page tick in
+    let t : Lived = called.new_system n limits (len_of images) bytes page tick in
+    let made = calls-split images n s calls more g in
+    let exact = exact-split n s calls more e in
+    let a : Are images n s t calls = are-go images n s t calls (opened images n page tick limits processes bytes o) made.0 in
+    let u : Lived = called.after_calls t a.calls in
+    let b : Are images n (after_calls s calls) u more = are-go images n (after_calls s calls) u more a.state made.1 in
+    let last : as_process ((after_calls (after_calls s calls) more).processes p) ≡ stages.Up is = ap (λ (z : System). as_process (z.processes p)) (sym (after-more s calls more)) ∙ new in
+    nothing-is-lost f n page tick limits (len_of images) bytes a.calls b.calls p was is few (are-stored images n limits processes bytes o) l (calls-append f n t a.calls b.calls a.are b.are)
+    (exact-append n t a.calls b.calls (a.exact exact.0) (b.exact exact.1)) (a.state.stand.processes p l ∙ old) (ap (λ (z : Lived). z.processes p) (after-append t a.calls b.calls) ∙ b.state.stand.processes p l ∙ last)
+
+pub hosted-keep : HostedKeep
+hosted-keep images n page tick limits processes bytes calls durable o lasting g d =
+    let s : System = new_system n processes bytes page tick in
+    let t : Lived = called.new_system n limits (len_of images) bytes page tick in
+    let a : Are images n s t calls = are-go images n s t calls (opened images n page tick limits processes bytes o) g in
+    keep-of n (handlers n images) durable (after_calls s calls) (called.after_calls t a.calls) (lives_outputs t a.calls) (outputs_of s calls) a.state.stand a.outputs
+    (durable-keep (answering n images) n page tick limits (len_of images) bytes a.calls durable (are-stored images n limits processes bytes o) lasting a.are a.whole (λ p e. a.durable p (d p e)))

@@ -1,0 +1,4 @@
+pub mod Process
+pub mod Answering
+pub mod System
+pub mod Lives

@@ -1,0 +1,115 @@
+-- Calls of hosted processes are those of `lives`, and what is promised of these
+use Rattle.std.specs.Prelude.{◌≡◌, ◌≢◌, ℕ, ◌≤◌, List, [], ◌∷◌, ◌++◌, Bool, true}
+use Rattle.world.specs.Handlers.{Handlers}
+use Rattle.images.specs.declared.any_image.AnyImage.{AnyImage}
+use Rattle.images.specs.AnyImage.{state_of}
+use Rattle.stores.specs.declared.change.Output.{Output}
+use Rattle.node.specs.declared.limit.Limits.{Limits}
+use Rattle.node.specs.Node.{TheNode}
+use Rattle.node.specs.Runs.{handlers_of}
+use Rattle.together.specs.Together.{IsFirst}
+use Rattle.lives.specs.Process as stages
+use Rattle.lives.specs.System as called
+use Rattle.lives.specs.System.{Call, DidOut, IsRunOf}
+use Rattle.lives.specs.Alone.{is_up}
+use Rattle.lives.specs.Back.{HasBack}
+use Rattle.lives.specs.Durable.{ReplayWhole, handed_out, Keep}
+use Rattle.process.specs.Process.{TheProcess}
+use Rattle.hosted.specs.Process.{as_process}
+use Rattle.hosted.specs.Answering.{answering}
+use Rattle.hosted.specs.System.{System, Opens, new_system, HostCall, Died, Revived, Outside, as_lives, AreCalls, after_call, after_calls}
+
+-- the first n processes are these, and so are what is stored of them, their incarnations, the gateway and what was given
+pub record IsAs (n : ℕ) (s : System) (t : called.System) : Type 0 where
+  pub processes : (p : ℕ) → IsFirst n p → t.processes p ≡ as_process (s.processes p)
+  pub stored : (p : ℕ) → IsFirst n p → t.stored p ≡ s.stored p
+  pub lives : (p : ℕ) → IsFirst n p → t.lives p ≡ s.lives p
+  pub gateway : t.gateway ≡ s.gateway
+  pub durable : t.durable ≡ s.durable
+  pub given : t.given ≡ s.given
+
+-- the calls of hosts from s to s2 are calls of `lives` from t on, by which each process that replays does so to the end
+pub record AreLives (images : ℕ → AnyImage) (n : ℕ) (t : called.System) (s2 : System) : Type 0 where
+  pub calls : List Call
+  pub are : called.Calls (answering n images) n t calls
+  pub whole : ReplayWhole t calls
+  pub stand : IsAs n s2 (called.after_calls t calls)
+
+-- how many bytes the state of each has
+abbrev pub len_of : (ℕ → AnyImage) → ℕ → ℕ
+len_of images = λ p. state_of (images p)
+
+-- what the handlers of these images do
+abbrev pub handlers : ℕ → (ℕ → AnyImage) → Handlers
+handlers n images = handlers_of (answering n images) (len_of images)
+
+-- calls of processes by their hosts, from their opening on, each killed and brought back at any moment, and of the gateway, in any order, with
+-- packets handed over late, twice or never, are calls of `lives`
+abbrev pub HostedLive : Type 0
+HostedLive = (images : ℕ → AnyImage) (n page tick : ℕ) (limits : ℕ → Limits) (processes : ℕ → TheProcess) (bytes : ℕ → List ℕ) (calls : List HostCall) → Opens n images limits processes bytes
+    → AreCalls images n (new_system n processes bytes page tick) calls
+    → AreLives images n (called.new_system n limits (len_of images) bytes page tick) (after_calls (new_system n processes bytes page tick) calls)
+
+-- ---- what is asked
+
+-- each process that is alive is exact, at the end of each of these calls
+abbrev pub StayExact : ℕ → System → List HostCall → Type 0
+StayExact n s [] = Unit {0}
+StayExact n s (k ∷ ks) = called.AreExact n (as_lives (after_call s k)) × StayExact n (after_call s k) ks
+
+-- a process is killed only while all others are up
+abbrev pub FailsAlone : ℕ → System → HostCall → Type 0
+FailsAlone n s (Died p) = (q : ℕ) → IsFirst n q → q ≢ p → is_up (as_process (s.processes q)) ≡ true
+FailsAlone n s call = Unit {0}
+
+-- each is
+abbrev pub OneAtATime : ℕ → System → List HostCall → Type 0
+OneAtATime n s [] = Unit {0}
+OneAtATime n s (k ∷ ks) = FailsAlone n s k × OneAtATime n (after_call s k) ks
+
+-- where p comes back, it does as a durable one
+abbrev pub KeepsDurable : ℕ → HostCall → Type 0
+KeepsDurable p (Revived q limits life new) = p ≡ q → limits.durable ≡ true
+KeepsDurable p call = Unit {0}
+
+-- each time
+abbrev pub StaysDurable : ℕ → List HostCall → Type 0
+StaysDurable p [] = Unit {0}
+StaysDurable p (k ∷ ks) = KeepsDurable p k × StaysDurable p ks
+
+-- ---- what is promised
+
+-- where each that is alive stays exact, the calls are a run of a cluster
+abbrev pub HostedRun : Type 0
+HostedRun = (images : ℕ → AnyImage) (n page tick : ℕ) (limits : ℕ → Limits) (processes : ℕ → TheProcess) (bytes : ℕ → List ℕ) (calls : List HostCall) → n ≤ 15 → Opens n images limits processes bytes
+    → AreCalls images n (new_system n processes bytes page tick) calls → StayExact n (new_system n processes bytes page tick) calls
+    → IsRunOf n (handlers n images) (as_lives (after_calls (new_system n processes bytes page tick) calls))
+
+-- so each does where processes fail one at a time
+abbrev pub HostedAlone : Type 0
+HostedAlone = (images : ℕ → AnyImage) (n page tick : ℕ) (limits : ℕ → Limits) (processes : ℕ → TheProcess) (bytes : ℕ → List ℕ) (calls : List HostCall) → n ≤ 15 → Opens n images limits processes bytes
+    → AreCalls images n (new_system n processes bytes page tick) calls → OneAtATime n (new_system n processes bytes page tick) calls
+    → StayExact n (new_system n processes bytes page tick) calls
+
+-- what a process had, of which all was acknowledged, it has where it is up again
+abbrev pub HostedBack : Type 0
+HostedBack = (images : ℕ → AnyImage) (n page tick : ℕ) (limits : ℕ → Limits) (processes : ℕ → TheProcess) (bytes : ℕ → List ℕ) (calls more : List HostCall) (p : ℕ) (a b : TheNode) → n ≤ 15 → Opens n images limits processes bytes → IsFirst n p
+    → AreCalls images n (new_system n processes bytes page tick) (calls ++ more) → StayExact n (new_system n processes bytes page tick) (calls ++ more)
+    → as_process ((after_calls (new_system n processes bytes page tick) calls).processes p) ≡ stages.Up a
+    → as_process ((after_calls (new_system n processes bytes page tick) (calls ++ more)).processes p) ≡ stages.Up b → HasBack (handlers n images) p a b
+
+-- the outputs that the gateway hands out by a call
+abbrev pub shown_by : System → HostCall → List Output
+shown_by s (Outside (DidOut new)) = handed_out s.gateway new
+shown_by s call = []
+
+-- by each of these
+abbrev pub outputs_of : System → List HostCall → List Output
+outputs_of s [] = []
+outputs_of s (k ∷ ks) = shown_by s k ++ outputs_of (after_call s k) ks
+
+-- whatever fails and meets, what anyone has of a durable process is what is stored of it to be sent
+abbrev pub HostedKeep : Type 0
+HostedKeep = (images : ℕ → AnyImage) (n page tick : ℕ) (limits : ℕ → Limits) (processes : ℕ → TheProcess) (bytes : ℕ → List ℕ) (calls : List HostCall) (durable : ℕ → Bool) → Opens n images limits processes bytes
+    → ((p : ℕ) → durable p ≡ true → IsFirst n p × ((limits p).durable ≡ true)) → AreCalls images n (new_system n processes bytes page tick) calls → ((p : ℕ) → durable p ≡ true → StaysDurable p calls)
+    → Keep n (handlers n images) durable (as_lives (after_calls (new_system n processes bytes page tick) calls)) (outputs_of (new_system n processes bytes page tick) calls)

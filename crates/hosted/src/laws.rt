@@ -1,0 +1,34 @@
+//! What holds of hosted processes.
+
+ghost use Rattle.hosted.specs.Lives.{HostedAlone, HostedBack, HostedKeep, HostedLive, HostedRun};
+
+/// Calls of processes by their hosts, from their opening on, as the contracts of their functions say,
+/// and of the gateway, in any order, with packets handed over late, twice or never, each process killed
+/// at any moment and revived from the bytes that are stored of it, are calls of `lives`: after these
+/// each process is the one of its stage, and what is stored, the gateway and the packets are the same.
+pub fn hosted_live()
+    ensures { HostedLive }
+{}
+
+/// Where at the end of each call all processes that are alive are exact, such calls are a run of a
+/// cluster.
+pub fn hosted_run()
+    ensures { HostedRun }
+{}
+
+/// Where a process is killed only while all others are up, all that are alive are exact.
+pub fn hosted_alone()
+    ensures { HostedAlone }
+{}
+
+/// Where a process is up at two moments, it has at the second all that was acknowledged without a gap
+/// at the first.
+pub fn hosted_back()
+    ensures { HostedBack }
+{}
+
+/// Whatever fails and meets, what anyone has of a durable process is what the messages that are stored
+/// of it make it send.
+pub fn hosted_keep()
+    ensures { HostedKeep }
+{}
