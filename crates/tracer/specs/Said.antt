@@ -15,7 +15,7 @@ use Rattle.tracer.specs.Fault.{fault_text}
 use Rattle.tracer.specs.declared.fault.Fault.{Fault}
 use Rattle.tracer.specs.declared.fault.Fault.TheVariants.{Usage, Header, Decode, Verify, Assemble, Scenario, Memory, InputOutput}
 use Rattle.tracer.specs.declared.files.Reason.{Reason}
-use Rattle.tracer.specs.declared.files.Reason.TheVariants.{Missing, Denied, Folder, Other}
+use Rattle.tracer.specs.declared.files.Reason.TheVariants.{Missing, Denied, Folder, Full, Other}
 use Rattle.tracer.specs.declared.kind.Kind.{Kind}
 use Rattle.tracer.specs.declared.kind.Kind.TheVariants as kind
 use Rattle.tracer.specs.declared.site.Site.{Site}
@@ -97,6 +97,7 @@ reason_words k None = text_words k
 reason_words k (Some Missing) = codes "no such file or folder"
 reason_words k (Some Denied) = codes "that isn't allowed"
 reason_words k (Some Folder) = codes "that is a folder"
+reason_words k (Some Full) = codes "no space is left there"
 reason_words k (Some Other) = codes "reading or writing failed"
 
 -- ---- the file, and the whole text

@@ -25,6 +25,8 @@ pub enum Reason {
     Denied,
     /// A folder is there.
     Folder,
+    /// There is no room for it.
+    Full,
     Other,
 }
 

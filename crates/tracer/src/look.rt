@@ -1,6 +1,8 @@
 //! What a file that is no image looks like, in words.
 
 use crate::kind::Kind;
+use assemble::is_compiled;
+use scenario::is_begun;
 use std::alloc::{AllocError, Global};
 use std::str;
 
@@ -15,14 +17,25 @@ pub fn look_of(bytes: &[u8]) -> &'static str {
     }
 }
 
-/// The same of a text.
+/// The same of a text: its first line that decides does so. A page of prose is none of these, whatever its examples are.
 fn look_of_text(text: &str) -> &'static str {
+    let mut is_first = true;
     for line in text.split('\n') {
-        if line.starts_with("process ") {
-            return "this looks like a scenario: sblog run carries it out\n";
-        }
         if is_c(line) {
             return "this looks like C: clang compiles it, and sblog pack writes the image (docs/HANDLERS.md)\n";
+        }
+        if is_compiled(line) {
+            return "this looks like a compiler's assembler text: clang -c in place of clang -S, and sblog pack writes the image (docs/HANDLERS.md)\n";
+        }
+        if line.starts_with("```") {
+            return "";
+        }
+        let said = line.trim_start_matches('\u{feff}').trim();
+        if !said.is_empty() && !said.starts_with('#') {
+            if is_first && is_begun(said) {
+                return "this looks like a scenario: sblog run carries it out\n";
+            }
+            is_first = false;
         }
     }
     ""
@@ -31,6 +44,29 @@ fn look_of_text(text: &str) -> &'static str {
 /// Whether a line looks like one of C.
 fn is_c(line: &str) -> bool {
     line.starts_with("#include ") || line.starts_with("/*") || line.starts_with("u64 ")
+}
+
+/// A line that says what a path that leads to nothing may have been meant for; it may be the one of a process.
+pub fn lost_words(path: &str, is_of_process: bool) -> &'static str {
+    if path == "-" {
+        return "the standard input is /dev/stdin\n";
+    }
+    if !is_of_process || path.starts_with('/') {
+        return "";
+    }
+    if path.starts_with('"') || path.starts_with('\'') {
+        return "a path in a scenario stands without quotes\n";
+    }
+    if path.starts_with('~') || path.starts_with('$') {
+        return "a path in a scenario is taken as it stands: ~ and $ are the shell's\n";
+    }
+    if path.contains('\\') {
+        return "between the folders of a path stands /\n";
+    }
+    if path.ends_with(';') || path.ends_with(',') {
+        return "no mark stands behind a path in a scenario\n";
+    }
+    "a path in a scenario is taken from the folder in which sblog runs, wherever the scenario lies\n"
 }
 
 /// A line that names the first line of bytes that is not UTF-8; of a file that isn't meant for a text nothing.

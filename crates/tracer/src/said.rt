@@ -117,6 +117,7 @@ fn reason_words(kind: Kind, reason: Option<Reason>) -> &'static str
         Some(Reason::Missing) => "no such file or folder",
         Some(Reason::Denied) => "that isn't allowed",
         Some(Reason::Folder) => "that is a folder",
+        Some(Reason::Full) => "no space is left there",
         Some(Reason::Other) => "reading or writing failed",
     }
 }

@@ -7,7 +7,7 @@ ghost use Rattle.tracer.specs.declared.files.Failure.TheVariants.{Memory};
 
 use crate::files::{Failure, Files, Reason};
 use crate::kind::{Kind, kind_of};
-use crate::look::look_of;
+use crate::look::{look_of, lost_words};
 use std::alloc::{AllocError, Global};
 use std::fmt;
 
@@ -85,6 +85,10 @@ impl Site {
             }
             Err(failure) => {
                 self.keep(failure);
+                if self.reason == Some(Reason::Missing) {
+                    self.words
+                        .push_str(lost_words(path, self.process.is_some()))?;
+                }
                 Err(failure)
             }
         }

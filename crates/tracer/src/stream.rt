@@ -63,8 +63,13 @@ impl From<io::Error> for Failure {
             io::ErrorKind::NotFound | io::ErrorKind::NotADirectory => {
                 Failure::InputOutput(Reason::Missing)
             }
-            io::ErrorKind::PermissionDenied => Failure::InputOutput(Reason::Denied),
+            io::ErrorKind::PermissionDenied | io::ErrorKind::ReadOnlyFilesystem => {
+                Failure::InputOutput(Reason::Denied)
+            }
             io::ErrorKind::IsADirectory => Failure::InputOutput(Reason::Folder),
+            io::ErrorKind::StorageFull | io::ErrorKind::QuotaExceeded => {
+                Failure::InputOutput(Reason::Full)
+            }
             _ => Failure::InputOutput(Reason::Other),
         }
     }

@@ -16,6 +16,17 @@ static SECOND: &[u8] =
 
 static NO_ANSWER: &[u8] = b"SBI1\x00\x00\x01\x00\x95\x00\x00\x00\x00\x00\x00\x00";
 
+/// What is said of what a compiler writes for an assembler.
+const COMPILED_IMAGE: &str = "load refused 2
+a: not an image file (assembler text? sblog asm writes images)
+this looks like a compiler's assembler text: clang -c in place of clang -S, and sblog pack writes the image (docs/HANDLERS.md)
+";
+
+const COMPILED_TEXT: &str = "asm refused 1 at line 1
+a: no instruction has the line's first word
+line 1: this looks like a compiler's assembler text: clang -c in place of clang -S, and sblog pack writes the image (docs/HANDLERS.md)
+";
+
 /// The beginning of an ELF file.
 static OBJECT: &[u8] = b"\x7fELF\x02\x01\x01\x00\x00\x00\x00\x00\x00\x00\x00\x00\x01\x00\xf7\x00";
 
@@ -36,6 +47,22 @@ fn files_of_another_kind(rt: HostRuntime) -> Result<(), Fail> {
             "check a",
             b"mov r0, 0\n",
             "load refused 2\na: not an image file (assembler text? sblog asm writes images)\n",
+        ),
+        (
+            "check a",
+            b"# sblog\n\nA page, with\n\n```\nprocess a x\n```\n",
+            "load refused 2\na: not an image file (assembler text? sblog asm writes images)\n",
+        ),
+        (
+            "check a",
+            b"# one\n\ninput a 5\n",
+            "load refused 2\na: not an image file (assembler text? sblog asm writes images)\nthis looks like a scenario: sblog run carries it out\n",
+        ),
+        ("check a", b"\t.text\n", COMPILED_IMAGE),
+        (
+            "asm a b --state 0",
+            b"\t.text\n\t.globl\tf\n",
+            COMPILED_TEXT,
         ),
         (
             "check a",

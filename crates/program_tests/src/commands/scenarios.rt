@@ -253,7 +253,7 @@ fn pictures(rt: HostRuntime) -> Result<(), Fail> {
     Ok(())
 }
 
-const REFUSED: [Row; 15] = [
+const REFUSED: [Row; 17] = [
     (
         "run s",
         b"",
@@ -296,7 +296,19 @@ const REFUSED: [Row; 15] = [
         "run s",
         b"process a missing.sbi\n",
         6,
-        "input or output\nprocess a, missing.sbi: no such file or folder\n",
+        "input or output\nprocess a, missing.sbi: no such file or folder\na path in a scenario is taken from the folder in which sblog runs, wherever the scenario lies\n",
+    ),
+    (
+        "draw s out",
+        b"process a adder.sbi\nprocess b \"adder.sbi\"\n",
+        6,
+        "input or output\nprocess b, \"adder.sbi\": no such file or folder\na path in a scenario stands without quotes\n",
+    ),
+    (
+        "run -",
+        b"",
+        6,
+        "input or output\n-: no such file or folder\nthe standard input is /dev/stdin\n",
     ),
     ("run s", b"process a cut.sbi\n", 3, CUT),
     (
