@@ -13,23 +13,24 @@ use Rattle.node.specs.Runs.{Answering}
 use Rattle.node.specs.Stands.{Each}
 use Rattle.gateway.specs.Gateway.{TheGateway, peer_of}
 use Rattle.gateway.specs.Stands as gateways
+use Rattle.together.specs.Together.{IsFirst}
 use Rattle.lives.specs.Process.{StandsAs}
 use Rattle.lives.specs.Process as stages
 use Rattle.lives.specs.System.{System as Lived, AreStored, AreStoredOf, AllStand, IsRunOf}
 use Rattle.lives.specs.System as called
-use Rattle.lives.specs.Durable.{AreAfter, IsSentBy, Keep, outputs_of as lives_outputs}
+use Rattle.lives.specs.Durable.{AreAfter, IsSentBy, Stays, Keep, outputs_of as lives_outputs}
 use Rattle.lives.proofs.Lives.{lives-run}
 use Rattle.lives.proofs.Back.{nothing-is-lost}
 use Rattle.lives.proofs.Alone.{lone-failures-stay-exact}
-use Rattle.lives.proofs.Durable.{nothing, begins-now}
+use Rattle.lives.proofs.Durable.{nothing, begins-now, stored-stays}
 use Rattle.lives.proofs.Keeping.{durable-keep}
 use Rattle.process.specs.Process.{TheProcess, is_settled}
 use Rattle.process.specs.Saving.{Keeps}
 use Rattle.hosted.specs.Process.{stage_of, as_process}
 use Rattle.hosted.specs.Answering.{answering}
 use Rattle.hosted.specs.System.{System, Opens, new_system, HostCall, as_lives, AreCalls, after_call, after_calls}
-use Rattle.hosted.specs.Lives.{IsAs, len_of, handlers, StayExact, HostedLive, HostedRun, HostedAlone, HostedBack, HostedKeep, outputs_of}
-use Rattle.hosted.proofs.Lists.{State, Are, are-go, calls-append, exact-append, after-append}
+use Rattle.hosted.specs.Lives.{IsAs, len_of, handlers, StayExact, HostedLive, HostedRun, HostedAlone, HostedBack, HostedStays, HostedKeep, outputs_of}
+use Rattle.hosted.proofs.Lists.{State, Are, are-go, calls-append, whole-append, exact-append, after-append}
 
 -- ---- the opening
 
@@ -87,6 +88,16 @@ keep-of n f durable s t xs ys st same k =
       shown = subst (Each (λ (o : Output). durable o.process ≡ true → nth (f.sends o.process (k.messages o.process) 0) o.ssn ≡ Some o.payload)) same k.shown;
     }
 
+stays-of : (n : ℕ) (f : Handlers) (p : ℕ) (s s2 : System) (t t2 : Lived) → IsFirst n p → IsAs n s t → IsAs n s2 t2 → Stays n f p t t2 → Stays n f p (as_lives s) (as_lives s2)
+stays-of n f p s s2 t t2 l st st2 k =
+    record {
+      was = k.was;
+      more = k.more;
+      stored_was = subst (AreAfter n f p k.was) (st.stored p l) k.stored_was;
+      stored_is = subst (AreAfter n f p (k.was ++ k.more)) (st2.stored p l) k.stored_is;
+      up = λ m e. k.up m (st2.processes p l ∙ e);
+    }
+
 -- ---- calls of hosts behind others
 
 after-more : (s : System) (ks more : List HostCall) → after_calls s (ks ++ more) ≡ after_calls (after_calls s ks) more
@@ -136,6 +147,20 @@ hosted-back images n page tick limits processes bytes calls more p was is few o 
     let last : as_process ((after_calls (after_calls s calls) more).processes p) ≡ stages.Up is = ap (λ (z : System). as_process (z.processes p)) (sym (after-more s calls more)) ∙ new in
     nothing-is-lost f n page tick limits (len_of images) bytes a.calls b.calls p was is few (are-stored images n limits processes bytes o) l (calls-append f n t a.calls b.calls a.are b.are)
     (exact-append n t a.calls b.calls (a.exact exact.0) (b.exact exact.1)) (a.state.stand.processes p l ∙ old) (ap (λ (z : Lived). z.processes p) (after-append t a.calls b.calls) ∙ b.state.stand.processes p l ∙ last)
+
+pub hosted-stays : HostedStays
+hosted-stays images n page tick limits processes bytes calls more p o l g =
+    let f : Answering = answering n images in
+    let s : System = new_system n processes bytes page tick in
+    let t : Lived = called.new_system n limits (len_of images) bytes page tick in
+    let made = calls-split images n s calls more g in
+    let a : Are images n s t calls = are-go images n s t calls (opened images n page tick limits processes bytes o) made.0 in
+    let u : Lived = called.after_calls t a.calls in
+    let b : Are images n (after_calls s calls) u more = are-go images n (after_calls s calls) u more a.state made.1 in
+    let last : IsAs n (after_calls s (calls ++ more)) (called.after_calls t (a.calls ++ b.calls)) =
+    subst (λ z. IsAs n z (called.after_calls t (a.calls ++ b.calls))) (sym (after-more s calls more)) (subst (IsAs n (after_calls (after_calls s calls) more)) (sym (after-append t a.calls b.calls)) b.state.stand) in
+    stays-of n (handlers n images) p (after_calls s calls) (after_calls s (calls ++ more)) u (called.after_calls t (a.calls ++ b.calls)) l a.state.stand last
+    (stored-stays f n page tick limits (len_of images) bytes a.calls b.calls p (are-stored images n limits processes bytes o) l (calls-append f n t a.calls b.calls a.are b.are) (whole-append t a.calls b.calls a.whole b.whole))
 
 pub hosted-keep : HostedKeep
 hosted-keep images n page tick limits processes bytes calls durable o lasting g d =

@@ -13,7 +13,7 @@ use Rattle.lives.specs.System as called
 use Rattle.lives.specs.System.{Call, DidOut, IsRunOf}
 use Rattle.lives.specs.Alone.{is_up}
 use Rattle.lives.specs.Back.{HasBack}
-use Rattle.lives.specs.Durable.{ReplayWhole, handed_out, Keep}
+use Rattle.lives.specs.Durable.{ReplayWhole, handed_out, Stays, Keep}
 use Rattle.process.specs.Process.{TheProcess}
 use Rattle.hosted.specs.Process.{as_process}
 use Rattle.hosted.specs.Answering.{answering}
@@ -97,6 +97,12 @@ HostedBack = (images : ℕ → AnyImage) (n page tick : ℕ) (limits : ℕ → L
     → AreCalls images n (new_system n processes bytes page tick) (calls ++ more) → StayExact n (new_system n processes bytes page tick) (calls ++ more)
     → as_process ((after_calls (new_system n processes bytes page tick) calls).processes p) ≡ stages.Up a
     → as_process ((after_calls (new_system n processes bytes page tick) (calls ++ more)).processes p) ≡ stages.Up b → HasBack (handlers n images) p a b
+
+-- whatever fails and meets, what is stored of a process only gets more, and where it is up, it has no less
+abbrev pub HostedStays : Type 0
+HostedStays = (images : ℕ → AnyImage) (n page tick : ℕ) (limits : ℕ → Limits) (processes : ℕ → TheProcess) (bytes : ℕ → List ℕ) (calls more : List HostCall) (p : ℕ) → Opens n images limits processes bytes → IsFirst n p
+    → AreCalls images n (new_system n processes bytes page tick) (calls ++ more)
+    → Stays n (handlers n images) p (as_lives (after_calls (new_system n processes bytes page tick) calls)) (as_lives (after_calls (new_system n processes bytes page tick) (calls ++ more)))
 
 -- the outputs that the gateway hands out by a call
 abbrev pub shown_by : System → HostCall → List Output

@@ -1,6 +1,6 @@
 //! What holds of hosted processes.
 
-ghost use Rattle.hosted.specs.Lives.{HostedAlone, HostedBack, HostedKeep, HostedLive, HostedRun};
+ghost use Rattle.hosted.specs.Lives.{HostedAlone, HostedBack, HostedKeep, HostedLive, HostedRun, HostedStays};
 
 /// Calls of processes by their hosts, from their opening on, as the contracts of their functions say,
 /// and of the gateway, in any order, with packets handed over late, twice or never, each process killed
@@ -25,6 +25,12 @@ pub fn hosted_alone()
 /// at the first.
 pub fn hosted_back()
     ensures { HostedBack }
+{}
+
+/// Whatever fails and meets, what is stored of a process, durable or not, is its state after some
+/// messages and what they send; these only get more; and where it is up, it has no less.
+pub fn hosted_stays()
+    ensures { HostedStays }
 {}
 
 /// Whatever fails and meets, what anyone has of a durable process is what the messages that are stored

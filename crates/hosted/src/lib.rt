@@ -4,11 +4,12 @@
 //! packets of it and hands it others, has its handler run, lets it send again what isn't answered,
 //! stores the bytes of its checkpoints and then tells it so; it may be killed at any moment, and is
 //! revived from the bytes that are stored. The contract of each function says what it leaves. Here
-//! such calls, in any order, are shown to be those of crate `lives` ([`hosted_live`]): each is one
-//! call there, and one more for each stage to which the process passes on. So what is promised there
-//! is promised of these values ([`hosted_run`], [`hosted_alone`], [`hosted_back`], [`hosted_keep`]).
+//! such calls, in any order, are shown to be those of crate `lives` ([`hosted_live`]): each is at
+//! most one call there, and one more for each stage to which the process passes on. So what is promised there
+//! is promised of these values ([`hosted_run`], [`hosted_alone`], [`hosted_back`],
+//! [`hosted_stays`], [`hosted_keep`]).
 #![tactic(auto)]
 
 mod laws;
 
-pub use laws::{hosted_alone, hosted_back, hosted_keep, hosted_live, hosted_run};
+pub use laws::{hosted_alone, hosted_back, hosted_keep, hosted_live, hosted_run, hosted_stays};
