@@ -387,7 +387,8 @@ enum sblog_node_code {
     SBLOG_NODE_ABSENT = 20, /* there is none */
     SBLOG_NODE_BYTES = 21,  /* the bytes are refused; the fault says by what */
     SBLOG_NODE_UNREADY = 22, /* not now */
-    SBLOG_NODE_LIMIT = 23   /* a limit, me, n or an incarnation is out of its range */
+    SBLOG_NODE_LIMIT = 23,  /* a limit, me, n or an incarnation is out of its range */
+    SBLOG_NODE_LEFT = 24    /* no call of the handler leaves this array and record */
 };
 
 enum sblog_node_stage {
@@ -413,6 +414,16 @@ typedef struct {
     uint64_t waited_for;  /* peers whose answers it waits for: bit q of peer q */
 } sblog_standing;
 
+/* A call of the handler that is next, for whoever makes it outside. */
+typedef struct {
+    uint64_t incarnation; /* which call it is: of this incarnation, */
+    uint64_t received;    /* with so many messages received before */
+    uint64_t message_len; /* bytes of the message, at the array's front: of form 1 64, else at most 256 */
+    uint64_t me;          /* as which process it is called, */
+    uint64_t from;        /* by whose message, */
+    uint64_t count;       /* of how many processes */
+} sblog_job;
+
 /* What a program holds of a node: zeros are a closed handle, sblog_node node = {0}. A program writes no other
    bytes into it, and makes no copy of an open one. */
 typedef struct {
@@ -436,6 +447,13 @@ SBLOG_NODE_ASSERT(offsetof(sblog_standing, entries) == 48, "place of entries");
 SBLOG_NODE_ASSERT(offsetof(sblog_standing, packets) == 56, "place of packets");
 SBLOG_NODE_ASSERT(offsetof(sblog_standing, replays) == 64, "place of replays");
 SBLOG_NODE_ASSERT(offsetof(sblog_standing, waited_for) == 72, "place of waited_for");
+SBLOG_NODE_ASSERT(sizeof(sblog_job) == 48, "size of sblog_job");
+SBLOG_NODE_ASSERT(offsetof(sblog_job, incarnation) == 0, "place of incarnation");
+SBLOG_NODE_ASSERT(offsetof(sblog_job, received) == 8, "place of received");
+SBLOG_NODE_ASSERT(offsetof(sblog_job, message_len) == 16, "place of message_len");
+SBLOG_NODE_ASSERT(offsetof(sblog_job, me) == 24, "place of me");
+SBLOG_NODE_ASSERT(offsetof(sblog_job, from) == 32, "place of from");
+SBLOG_NODE_ASSERT(offsetof(sblog_job, count) == 40, "place of count");
 SBLOG_NODE_ASSERT(sizeof(sblog_node) == 16, "size of sblog_node");
 SBLOG_NODE_ASSERT(offsetof(sblog_node, at) == 0, "place of at");
 SBLOG_NODE_ASSERT(offsetof(sblog_node, held) == 8, "place of held");
@@ -460,6 +478,14 @@ uint32_t sblog_node_receive(sblog_node *node, const uint8_t *packet, size_t pack
 uint32_t sblog_node_take(sblog_node *node, uint8_t *out, size_t out_len, size_t *size, uint8_t *to);
 /* The handler runs; 20, if there is nothing to work on. */
 uint32_t sblog_node_work(sblog_node *node);
+/* Or it runs outside of the node, as machine code. The array of the call that sblog_node_work would make (20: there is
+   none), as machine code is called with it, how many bytes it has, and which call it is; the node stays as it was. */
+uint32_t sblog_node_job(sblog_node *node, uint8_t *array, size_t array_len, size_t *size, sblog_job *job);
+/* What that call left in its array and its record is taken in, whoever made it: nothing tests that it is what the handler
+   answers. 22 where another call is next; 24 where no call leaves such bytes: the array or the record is too short, there
+   are more than 8 messages or outputs, one is longer than 256 bytes or to no other process, or it was called as another. */
+uint32_t sblog_node_done(sblog_node *node, uint64_t incarnation, uint64_t received, const uint8_t *array,
+                         size_t array_len, const uint8_t *record, size_t record_len);
 uint32_t sblog_node_tick(sblog_node *node);
 /* Bytes to be kept durably; 22 where it isn't up, works on a message, or waits for another checkpoint. */
 uint32_t sblog_node_checkpoint(sblog_node *node, uint8_t *out, size_t out_len, size_t *size);
@@ -467,6 +493,16 @@ uint32_t sblog_node_checkpoint(sblog_node *node, uint8_t *out, size_t out_len, s
 uint32_t sblog_node_saved(sblog_node *node);
 uint32_t sblog_node_standing(sblog_node *node, sblog_standing *out);
 uint32_t sblog_node_state(sblog_node *node, uint8_t *out, size_t out_len, size_t *size);
+
+#ifdef SBLOG_CALLS_CODE
+/* Calls machine code on a job's array, which sblog_node_job wrote, and answers r0: C of the program's own, as above. */
+static inline uint64_t sblog_native_call_job(sblog_native_code code, uint8_t *array, const sblog_job *job,
+                                             uint8_t *record) {
+    const uint64_t front[6] = {0, 0, 0, job->me, job->from, job->count};
+    memcpy(record, front, sizeof front);
+    return code(array, record, job->message_len);
+}
+#endif
 
 #endif
 

@@ -1,3 +1,4 @@
 mod AsBox
 mod Fronts
 mod Opened
+mod Outcomes

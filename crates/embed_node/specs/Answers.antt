@@ -3,9 +3,9 @@ use Rattle.std.specs.Prelude.{◌≡◌, ◌⊎◌, ℕ, ◌<◌, ◌≤◌, Lis
 use Rattle.operations.specs.Bytes.{overwritten}
 use Rattle.process.specs.Process.{TheProcess}
 use Rattle.embed_node.specs.declared.fault.Fault.{Fault}
-use Rattle.embed_node.specs.declared.fault.Fault.TheVariants.{Memory, Handle, Image, Room, Absent, Bytes, Unready, Limit}
+use Rattle.embed_node.specs.declared.fault.Fault.TheVariants.{Memory, Handle, Image, Room, Absent, Bytes, Unready, Limit, Left}
 
--- the code of a fault, 15 to 23
+-- the code of a fault, 15 to 24
 abbrev pub fault_number : Fault → ℕ
 fault_number Memory = 15
 fault_number Handle = 16
@@ -15,6 +15,7 @@ fault_number Absent = 20
 fault_number (Bytes f) = 21
 fault_number Unready = 22
 fault_number Limit = 23
+fault_number Left = 24
 
 -- what a code says of a handle, which held one thing before and holds another now: 0 that this was done, any other number why it was not
 abbrev pub Answers : ℕ → Option TheProcess → Option TheProcess → (Option TheProcess → Option TheProcess → Type 0) → (Option TheProcess → Option TheProcess → Fault → Type 0) → Type 0

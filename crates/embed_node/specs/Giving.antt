@@ -40,7 +40,7 @@ IsMade out out' size old new = OfBoth old new (Makes out out' size)
 abbrev pub DoesNotMake : List ℕ → List ℕ → ℕ → ℕ → TheProcess → TheProcess → Fault → Type 0
 DoesNotMake out out' was size p p' Unready = (p' ≡ p) × (¬ IsSavable p.course) × IsUntouched out out' was size
 DoesNotMake out out' was size p p' Room = (p' ≡ p) × IsSavable p.course × ((bytes : List ℕ) × Keeps p.course bytes × IsUncopied bytes out out' size)
-DoesNotMake out out' was size p p' Memory = (p' ≡ p) × IsUntouched out out' was size
+DoesNotMake out out' was size p p' Memory = (p' ≡ p) × IsSavable p.course × IsUntouched out out' was size
 DoesNotMake out out' was size p p' other = ⊥
 
 -- why none is: that, or the handle is closed. Nothing else has changed

@@ -4,3 +4,5 @@ pub mod Calls
 pub mod Giving
 pub mod Opening
 pub mod Standing
+pub mod Outcome
+pub mod NodeJob

@@ -5,14 +5,17 @@ ghost use Rattle.std.specs.Prelude.{◌≡◌};
 ghost use Rattle.embed_node.specs.Answers.{Answers, AnswersOfBytes, OnFault};
 ghost use Rattle.embed_node.specs.Calls.{IsClosed, WasClosed, IsReceived, IsUnreceived, HasWorked, HasNotWorked, HasTicked, HasSaved, HasNotSaved};
 ghost use Rattle.embed_node.specs.Giving.{IsTaken, IsUntaken, IsMade, IsUnmade, IsRead, IsUnread};
+ghost use Rattle.embed_node.specs.NodeJob.{ticket_from, IsGiven, IsNotGiven, IsDone, IsNotDone};
 ghost use Rattle.embed_node.specs.Opening.{limits_from, AnswersOpening, AnswersRevival};
 ghost use Rattle.embed_node.specs.Standing.{IsStanding};
 
 use crate::fault::{code, code_of_bytes};
 use crate::handle::NodeHandle;
+use crate::node_job::NodeJob;
 use crate::opening::Limits;
 use crate::standing::NodeStanding;
-use crate::{calling, giving, opening, standing};
+use crate::{calling, giving, node_job, opening, standing};
+use process::Ticket;
 use std::alloc::Global;
 
 /// Opens the process `me` of `n`, which received nothing, by the image file of its handler. The handle has
@@ -113,6 +116,41 @@ pub extern "C" fn sblog_node_work(alloc: Global, node: &mut NodeHandle) -> u32
     ensures { Answers result node.old.process.value node.new.process.value HasWorked HasNotWorked }
 {
     code(calling::work(alloc, node))
+}
+
+/// Writes the array of the call of its handler that is next, for whoever makes it outside, how many bytes it has, and
+/// which call it is. It stays next until `sblog_node_done` takes in what it left.
+#[unsafe(no_mangle)]
+pub extern "C" fn sblog_node_job(
+    alloc: Global,
+    node: &mut NodeHandle,
+    array: &mut [u8],
+    size: &mut usize,
+    job: &mut NodeJob,
+) -> u32
+    ensures given { Answers result node.old.process.value node.new.process.value (IsGiven array.old array.new size.new job.new) (IsNotGiven array.old array.new size.old size.new) }
+    ensures kept { OnFault result (job.new ≡ job.old) }
+{
+    code(node_job::job(alloc, node, array, size, job))
+}
+
+/// Takes in what that call left in its array and its record, whatever made it.
+#[unsafe(no_mangle)]
+pub extern "C" fn sblog_node_done(
+    alloc: Global,
+    node: &mut NodeHandle,
+    incarnation: u64,
+    received: u64,
+    array: &[u8],
+    left: &[u8],
+) -> u32
+    ensures { Answers result node.old.process.value node.new.process.value (IsDone (ticket_from incarnation received) array.now left.now) (IsNotDone (ticket_from incarnation received) array.now left.now) }
+{
+    let ticket = Ticket {
+        incarnation,
+        received,
+    };
+    code(node_job::done(alloc, node, ticket, array, left))
 }
 
 /// Has it send again what isn't answered.

@@ -32,10 +32,13 @@ pub enum Fault {
     /// 23: a limit, a number of a process or an incarnation is out of its range.
     #[error("a limit is out of its range")]
     Limit,
+    /// 24: no call of the handler leaves this array and record.
+    #[error("no call leaves this array and record")]
+    Left,
 }
 
 impl Fault {
-    /// Its number, 15 to 23.
+    /// Its number, 15 to 24.
     pub fn number(&self) -> u32
         ensures { result ≡ fault_number self.now }
     {
@@ -48,6 +51,7 @@ impl Fault {
             Fault::Bytes(_) => 21,
             Fault::Unready => 22,
             Fault::Limit => 23,
+            Fault::Left => 24,
         }
     }
 }

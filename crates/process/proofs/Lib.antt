@@ -4,3 +4,5 @@ mod Openings
 mod Fronts
 mod Workings
 pub mod Rooms
+mod Holdings
+mod Courses

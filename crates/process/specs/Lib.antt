@@ -6,3 +6,4 @@ pub mod Working
 pub mod Packets
 pub mod Saving
 pub mod Job
+pub mod Holding

@@ -1,16 +1,20 @@
 -- Checkpoints of a process
-use Rattle.std.specs.Prelude.{◌≡◌, ◌≤◌, List, ℕ, length, true}
+use Rattle.std.specs.Prelude.{◌≡◌, ◌≤◌, ◌<◌, List, ℕ, length, true}
 use Rattle.limits.specs.declared.TheConstants.{STATE_BYTES}
 use Rattle.packets.specs.Kept.{IsKept}
+use Rattle.node.specs.declared.kept.TheConstants.{MOST_KEPT}
 use Rattle.node.specs.Kept.{kept_of, Covers}
 use Rattle.process.specs.declared.course.Course.{Course}
 use Rattle.process.specs.declared.course.Course.TheVariants.{Up}
 use Rattle.process.specs.Process.{state_of}
-use Rattle.process.specs.Calls.{may_freeze}
+use Rattle.process.specs.Calls.{may_freeze, standing_at}
 
--- a checkpoint of it can be made and written
-abbrev pub IsSavable : Course → Type 0
-IsSavable c = (may_freeze c ≡ true) × (length (state_of c) ≤ STATE_BYTES)
+-- a checkpoint of it can be made and written: it is up, works on nothing and waits for none, and neither its state nor what its logs keep
+-- is too much for the bytes
+pub record IsSavable (c : Course) : Type 0 where
+  pub may : may_freeze c ≡ true
+  pub state : length (state_of c) ≤ STATE_BYTES
+  pub entries : (standing_at c).entries < MOST_KEPT
 
 -- the bytes are what is to be kept of its node, and cover what that has
 abbrev pub Keeps : Course → List ℕ → Type 0

@@ -1,7 +1,9 @@
 //! What a process gives to whoever runs its handler outside, and takes back.
 
-ghost use Rattle.std.specs.Prelude.{◌≡◌, ◌↔◌, IfOk, IfErr, IfNone, IfSome, OnOk, OnErr, IsTrue};
+ghost use Rattle.std.specs.Prelude.{◌≡◌, ◌≤◌, ◌+◌, ◌↔◌, IfOk, IfErr, IfNone, IfSome, OnOk, OnErr, IsTrue};
 ghost use Rattle.process.specs.Process.{TheProcess};
+ghost use Rattle.node.specs.declared.node.TheConstants.{MOST_GIVEN};
+ghost use Rattle.process.specs.Holding.{entries_of};
 ghost use Rattle.process.specs.Working.{Rests, Works};
 ghost use Rattle.process.specs.Job.{IsJobOf, IsCallOf, IsAnswered, WorksAs, IsUndone, IsUnanswered, ticket_at};
 
@@ -48,6 +50,7 @@ impl Process {
     /// nothing.
     pub fn done(&mut self, alloc: Global, done: &Done) -> Result<(), Undone>
         ensures ok { OnOk result (Works self.old self.new) }
+        ensures few { OnOk result (entries_of self.new ≤ entries_of self.old + MOST_GIVEN) }
         ensures refused { IfErr result (IsUndone self.old done.now.job) }
         ensures err { OnErr result (self.new ≡ self.old) }
     {
@@ -75,6 +78,7 @@ impl Process {
     ) -> Result<(), Undone>
         ensures ok { OnOk result (IsAnswered ticket state.now effects.now self.old self.new) }
         ensures works { OnOk result (WorksAs state.now effects.now self.old self.new) }
+        ensures few { OnOk result (entries_of self.new ≤ entries_of self.old + MOST_GIVEN) }
         ensures refused { IfErr result (IsUnanswered self.old ticket state.now) }
         ensures err { OnErr result (self.new ≡ self.old) }
     {

@@ -8,18 +8,24 @@ ghost use Rattle.process.specs.Saving.{IsSavable, Keeps};
 use crate::course::Course;
 use crate::process::Process;
 use limits::STATE_BYTES;
-use node::Stage;
+use node::{MOST_KEPT, Stage};
 use std::alloc::{AllocError, Global};
 
 impl Process {
-    /// The bytes that a checkpoint made now is to keep; none, where none can be made.
+    /// The bytes that a checkpoint made now is to keep; none, where none can be made. Where one can be, only memory
+    /// can be wanting.
     pub fn kept_bytes(&self, alloc: Global) -> Result<Option<Vec<u8>>, AllocError>
         ensures none { IfOk result (λ o. IfNone o (¬ IsSavable self.now.course)) }
         ensures some { IfOk result (λ o. IfSome o (λ v. IsSavable self.now.course × Keeps self.now.course v.items)) }
+        ensures memory { OnErr result (IsSavable self.now.course) }
     {
         match &self.course {
             Course::Up(node) => {
-                if node.standing().stage != Stage::Up || node.state().len() > STATE_BYTES {
+                let standing = node.standing();
+                if standing.stage != Stage::Up
+                    || standing.entries >= MOST_KEPT as u64
+                    || node.state().len() > STATE_BYTES
+                {
                     return Ok(None);
                 }
                 let bytes = node.kept_bytes(alloc)?;
@@ -41,11 +47,12 @@ impl Process {
         }
     }
 
-    /// A checkpoint is made, of which these are the bytes; none, where none can be made. A refusal changes
-    /// nothing.
+    /// A checkpoint is made, of which these are the bytes; none, where none can be made. Where one can be, only
+    /// memory can be wanting. A refusal changes nothing.
     pub fn checkpoint(&mut self, alloc: Global) -> Result<Option<Vec<u8>>, AllocError>
         ensures none { IfOk result (λ o. IfNone o (¬ IsSavable self.old.course × (self.new ≡ self.old))) }
         ensures some { IfOk result (λ o. IfSome o (λ v. IsSavable self.old.course × Keeps self.old.course v.items × Stays Freezes self.old self.new)) }
+        ensures memory { OnErr result (IsSavable self.old.course) }
         ensures err { OnErr result (self.new ≡ self.old) }
     {
         let bytes = self.kept_bytes(alloc)?;

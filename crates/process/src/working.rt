@@ -1,9 +1,10 @@
 //! What a process does when its handler is to run.
 
-ghost use Rattle.std.specs.Prelude.{◌≡◌, ◌++◌, ◌≤◌, None, Some, length, map, true, false, IfOk, IfNone, IfSome, OnOk, OnErr};
+ghost use Rattle.std.specs.Prelude.{◌≡◌, ◌+◌, ◌++◌, ◌≤◌, None, Some, length, map, true, false, IfOk, IfNone, IfSome, OnOk, OnErr};
 ghost use Rattle.node.specs.declared.node.TheConstants.{MOST_GIVEN};
 ghost use Rattle.process.specs.Process.{state_of};
 ghost use Rattle.process.specs.Job.{IsCallable, TakesBack, IsNext};
+ghost use Rattle.process.specs.Holding.{entries_of};
 ghost use Rattle.process.specs.Working.{job_at, is_other, given_of, sent_by, shown_of, TakesIn, MayTakeIn, Works, Rests};
 
 use crate::course::Course;
@@ -36,6 +37,7 @@ impl Process {
     pub fn work(&mut self, alloc: Global) -> Result<bool, AllocError>
         ensures works { IfOk result (λ b. b ≡ true → Works self.old self.new) }
         ensures rests { IfOk result (λ b. b ≡ false → Rests self.old × (self.new ≡ self.old)) }
+        ensures few { OnOk result (entries_of self.new ≤ entries_of self.old + MOST_GIVEN) }
         ensures err { OnErr result (self.new ≡ self.old) }
     {
         if self.is_idle() {
@@ -57,6 +59,7 @@ impl Process {
     fn run(&mut self, alloc: Global) -> Result<bool, AllocError>
         ensures works { IfOk result (λ b. b ≡ true → Works self.old self.new) }
         ensures rests { IfOk result (λ b. b ≡ false → Rests self.old × (self.new ≡ self.old)) }
+        ensures few { OnOk result (entries_of self.new ≤ entries_of self.old + MOST_GIVEN) }
         ensures err { OnErr result (self.new ≡ self.old) }
     {
         let Some((job, who)) = self.next_call() else {
@@ -94,6 +97,7 @@ impl Process {
     ) -> Result<(), AllocError>
         requires { MayTakeIn self.old.course given.now }
         ensures ok { OnOk result (TakesBack state.items given.now self.old self.new) }
+        ensures few { OnOk result (entries_of self.new ≤ entries_of self.old + MOST_GIVEN) }
         ensures err { OnErr result (self.new ≡ self.old) }
     {
         self.course.take_in(state, given)?;

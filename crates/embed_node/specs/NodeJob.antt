@@ -1,0 +1,121 @@
+-- Calls of a node's handler that are made outside of it, and what they leave
+use Rattle.std.specs.Prelude.{◌≡◌, ◌≢◌, ◌+◌, ◌≤◌, ◌<◌, ℕ, List, Option, length, slice_range}
+use Rattle.helpers.specs.declared.effects.Who.{Who}
+use Rattle.helpers.specs.Effects.{Emitted}
+use Rattle.images.specs.declared.any_image.AnyImage.{AnyImage}
+use Rattle.images.specs.declared.any_image.AnyImage.TheVariants as any
+use Rattle.images.specs.AnyImage.{state_of as image_state}
+use Rattle.node.specs.declared.job.OpenJob.{OpenJob}
+use Rattle.process.specs.declared.call.Ticket.{Ticket}
+use Rattle.process.specs.Process.{TheProcess}
+use Rattle.process.specs.Working.{Rests}
+use Rattle.process.specs.Job.{TheJob, array_size, shown_by, ticket_at, HasNext, IsJobOf, IsLaid, IsNext, IsAnswered, WorksAs}
+use Rattle.embed_node.specs.declared.node_job.NodeJob.{NodeJob}
+use Rattle.embed_node.specs.declared.node_job.TheConstants.{STATE_AT, SPAN_STATE_AT}
+use Rattle.embed_node.specs.declared.fault.Fault.{Fault}
+use Rattle.embed_node.specs.declared.fault.Fault.TheVariants.{Memory, Handle, Room, Absent, Unready, Left}
+use Rattle.embed_node.specs.Answers.{OfBoth, OfSame, StaysClosed, IsCopied, IsUntouched}
+use Rattle.embed_node.specs.Outcome.{IsLeft}
+
+-- ---- a job
+
+-- a job in six words
+abbrev pub words_of : TheJob → NodeJob
+words_of j =
+    record {
+      incarnation = j.ticket.incarnation;
+      received = j.ticket.received;
+      message_len = length (shown_by j.image j.payload);
+      me = j.who.me;
+      from = j.who.from;
+      count = j.who.count;
+    }
+
+-- the array of this job stands in front, and how many bytes it has is told
+pub record LaysOut (j : TheJob) (old new : List ℕ) (size : ℕ) : Type 0 where
+  pub array : List ℕ
+  pub whole : length array ≡ array_size j.image
+  pub laid : IsLaid j.image j.state j.payload array
+  pub copied : IsCopied array old new size
+
+-- the buffer is too short for it and unchanged, and how many bytes it has is told
+abbrev pub DoesNotLayOut : TheJob → List ℕ → List ℕ → ℕ → Type 0
+DoesNotLayOut j old new size = (length old < array_size j.image) × (new ≡ old) × (size ≡ array_size j.image)
+
+-- the call that is next is given out: its array, and its words
+pub record GivesJob (old new : List ℕ) (size : ℕ) (words : NodeJob) (p : TheProcess) : Type 0 where
+  pub job : TheJob
+  pub is_next : IsJobOf p job
+  pub laid : LaysOut job old new size
+  pub words_are : words ≡ words_of job
+
+-- so it is of a handle
+abbrev pub IsGiven : List ℕ → List ℕ → ℕ → NodeJob → Option TheProcess → Option TheProcess → Type 0
+IsGiven out out' size words old new = OfSame old new (GivesJob out out' size words)
+
+-- why none is, of an open one: there is nothing to run on, the buffer is too short for the array, or memory ran out
+abbrev pub GivesNone : List ℕ → List ℕ → ℕ → ℕ → TheProcess → Fault → Type 0
+GivesNone out out' was size p Absent = Rests p × IsUntouched out out' was size
+GivesNone out out' was size p Room = (j : TheJob) × IsJobOf p j × DoesNotLayOut j out out' size
+GivesNone out out' was size p Memory = IsUntouched out out' was size
+GivesNone out out' was size p other = ⊥
+
+-- why none is: that, or the handle is closed
+abbrev pub IsNotGiven : List ℕ → List ℕ → ℕ → ℕ → Option TheProcess → Option TheProcess → Fault → Type 0
+IsNotGiven out out' was size old new Handle = StaysClosed old new × IsUntouched out out' was size
+IsNotGiven out out' was size old new why = OfSame old new (λ p. GivesNone out out' was size p why)
+
+-- ---- what a call left
+
+-- where the state begins in the array
+abbrev pub state_place : AnyImage → ℕ
+state_place (any.Flat image) = STATE_AT
+state_place (any.Span image) = SPAN_STATE_AT
+
+-- the state in it
+abbrev pub state_in : AnyImage → List ℕ → List ℕ
+state_in image array = slice_range array (state_place image) (state_place image + image_state image)
+
+-- a call of this image's handler as this one left array and record, with these messages and outputs
+pub record IsLeftBy (image : AnyImage) (who : Who) (array bytes : List ℕ) (e : Emitted) : Type 0 where
+  pub whole : array_size image ≤ length array
+  pub left : IsLeft who bytes e
+
+-- what it left is taken in as the answer to the message that is next; and where the handler answers just that, it has worked
+pub record TakesLeft (ticket : Ticket) (array bytes : List ℕ) (old new : TheProcess) : Type 0 where
+  pub message : OpenJob
+  pub who : Who
+  pub effects : Emitted
+  pub next : IsNext old message who
+  pub left : IsLeftBy old.image who array bytes effects
+  pub answered : IsAnswered ticket (state_in old.image array) effects old new
+  pub works : WorksAs (state_in old.image array) effects old new
+
+-- so it is of a handle
+abbrev pub IsDone : Ticket → List ℕ → List ℕ → Option TheProcess → Option TheProcess → Type 0
+IsDone ticket array bytes old new = OfBoth old new (TakesLeft ticket array bytes)
+
+-- no call on the message that is next left array and record
+pub record IsLeftByNone (array bytes : List ℕ) (p : TheProcess) : Type 0 where
+  pub message : OpenJob
+  pub who : Who
+  pub next : IsNext p message who
+  pub none : (e : Emitted) → ¬ IsLeftBy p.image who array bytes e
+
+-- why it isn't taken, of an open one: there is nothing to run on, it is of another call, no call left it, or memory ran out; the first of
+-- these. Nothing has changed
+abbrev pub LeavesOut : Ticket → List ℕ → List ℕ → TheProcess → Fault → Type 0
+LeavesOut ticket array bytes p Absent = Rests p
+LeavesOut ticket array bytes p Unready = HasNext p × (ticket_at p.course ≢ ticket)
+LeavesOut ticket array bytes p Left = IsLeftByNone array bytes p × (ticket_at p.course ≡ ticket)
+LeavesOut ticket array bytes p Memory = HasNext p × (ticket_at p.course ≡ ticket)
+LeavesOut ticket array bytes p other = ⊥
+
+-- why it isn't: that, or the handle is closed
+abbrev pub IsNotDone : Ticket → List ℕ → List ℕ → Option TheProcess → Option TheProcess → Fault → Type 0
+IsNotDone ticket array bytes old new Handle = StaysClosed old new
+IsNotDone ticket array bytes old new why = OfSame old new (λ p. LeavesOut ticket array bytes p why)
+
+-- the ticket of a job's words
+abbrev pub ticket_from : ℕ → ℕ → Ticket
+ticket_from incarnation received = record { incarnation = incarnation; received = received }

@@ -1,0 +1,198 @@
+//! Calls of a node's handler that a program makes outside of it.
+
+ghost use Rattle.std.specs.Prelude.{◌≡◌, ◌≤◌, ◌<◌, ◌+◌, ◌↔◌, length, IfErr, IsTrue, MatchOption, MatchResult, OnErr, OnOk};
+ghost use Rattle.handlers.specs.Handler.{image_of};
+ghost use Rattle.images.specs.AnyImage.{state_of as image_state};
+ghost use Rattle.process.specs.Job.{array_size, ticket_at};
+ghost use Rattle.embed_node.specs.declared.fault.Fault.TheVariants.{Room};
+ghost use Rattle.embed_node.specs.Answers.{Results};
+ghost use Rattle.embed_node.specs.NodeJob.{words_of, state_place, state_in, LaysOut, DoesNotLayOut, GivesJob, GivesNone, IsGiven, IsNotGiven, TakesLeft, LeavesOut, IsDone, IsNotDone};
+
+use crate::fault::Fault;
+use crate::handle::NodeHandle;
+use crate::outcome::left_in;
+use crate::output::copy;
+use handlers::Handler;
+use limits::{STACK_BYTES, STATE_BYTES};
+use process::{Job, Process, Ticket, Undone};
+use span_steps::ARRAY_BYTES;
+use std::alloc::Global;
+
+/// Where the state begins in the array of forms 1 and 2.
+pub const STATE_AT: usize = 256;
+
+/// Where it begins in that of form 3.
+pub const SPAN_STATE_AT: usize = 512;
+
+/// A call of the handler that is next, as a program in C reads it: six words of 8 bytes.
+#[repr(C)]
+#[derive(Clone, Copy)]
+pub struct NodeJob {
+    /// The incarnation of the node.
+    pub incarnation: u64,
+    /// How many messages it received before this one.
+    pub received: u64,
+    /// How many bytes of the message the handler is shown.
+    pub message_len: u64,
+    /// As which process it is called.
+    pub me: u64,
+    /// Who sent the message.
+    pub from: u64,
+    /// How many processes there are.
+    pub count: u64,
+}
+
+impl NodeJob {
+    fn of(job: &Job) -> NodeJob
+        ensures { result ≡ words_of job.now }
+    {
+        let ticket = job.ticket();
+        let who = job.who();
+        NodeJob {
+            incarnation: ticket.incarnation,
+            received: ticket.received,
+            message_len: job.message_len() as u64,
+            me: u64::from(who.me),
+            from: u64::from(who.from),
+            count: u64::from(who.count),
+        }
+    }
+}
+
+/// Gives the call out that is next: lays its array out in front of the buffer, and tells its words.
+pub(crate) fn job(
+    alloc: Global,
+    handle: &mut NodeHandle,
+    array: &mut [u8],
+    size: &mut usize,
+    words: &mut NodeJob,
+) -> Result<(), Fault>
+    ensures given { Results result handle.old.process.value handle.new.process.value (IsGiven array.old array.new size.new words.new) (IsNotGiven array.old array.new size.old size.new) }
+    ensures kept { OnErr result (words.new ≡ words.old) }
+{
+    let Some(process) = handle.take(alloc) else {
+        return Err(Fault::Handle);
+    };
+    let given = job_of(alloc, &process, array, size, words);
+    handle.put(process);
+    given
+}
+
+fn job_of(
+    alloc: Global,
+    process: &Process,
+    array: &mut [u8],
+    size: &mut usize,
+    words: &mut NodeJob,
+) -> Result<(), Fault>
+    ensures given { MatchResult result (λ _. GivesJob array.old array.new size.new words.new process.now) (GivesNone array.old array.new size.old size.new process.now) }
+    ensures kept { OnErr result (words.new ≡ words.old) }
+{
+    let job = match process.job(alloc) {
+        Ok(Some(job)) => job,
+        Ok(None) => return Err(Fault::Absent),
+        Err(_) => return Err(Fault::Memory),
+    };
+    lay(&job, array, size)?;
+    *words = NodeJob::of(&job);
+    Ok(())
+}
+
+/// Lays the array of a job out in front of a buffer.
+fn lay(job: &Job, array: &mut [u8], size: &mut usize) -> Result<(), Fault>
+    ensures laid { OnOk result (LaysOut job.now array.old array.new size.new) }
+    ensures room { IfErr result (λ why. (why ≡ Room) × DoesNotLayOut job.now array.old array.new size.new) }
+{
+    let mut laid = [0; ARRAY_BYTES];
+    let len = array_len(job);
+    job.lay(&mut laid[..len]);
+    copy(&laid[..len], array, size)
+}
+
+/// How many bytes the array of a job has.
+fn array_len(job: &Job) -> usize
+    ensures value { result ≡ array_size job.now.image }
+    ensures bound { result ≤ ARRAY_BYTES }
+{
+    job.array_len()
+}
+
+/// Takes in what a call outside left in its array and its record.
+pub(crate) fn done(
+    alloc: Global,
+    handle: &mut NodeHandle,
+    ticket: Ticket,
+    array: &[u8],
+    left: &[u8],
+) -> Result<(), Fault>
+    ensures { Results result handle.old.process.value handle.new.process.value (IsDone ticket array.now left.now) (IsNotDone ticket array.now left.now) }
+{
+    let Some(mut process) = handle.take(alloc) else {
+        return Err(Fault::Handle);
+    };
+    let taken = done_of(alloc, &mut process, ticket, array, left);
+    handle.put(process);
+    taken
+}
+
+fn done_of(
+    alloc: Global,
+    process: &mut Process,
+    ticket: Ticket,
+    array: &[u8],
+    left: &[u8],
+) -> Result<(), Fault>
+    ensures taken { MatchResult result (λ _. TakesLeft ticket array.now left.now process.old process.new) (LeavesOut ticket array.now left.now process.old) }
+    ensures kept { OnErr result (process.new ≡ process.old) }
+{
+    let Some((_, who)) = process.next_call() else {
+        return Err(Fault::Absent);
+    };
+    if !is_next(process, ticket) {
+        return Err(Fault::Unready);
+    }
+    let Some(state) = state_of(process.handler(), array) else {
+        return Err(Fault::Left);
+    };
+    let Some(effects) = left_in(who, left) else {
+        return Err(Fault::Left);
+    };
+    match process.done_unchecked(alloc, ticket, state, &effects) {
+        Ok(()) => Ok(()),
+        Err(Undone::Memory) => Err(Fault::Memory),
+        Err(Undone::Absent) => Err(Fault::Absent),
+        Err(Undone::Other) => Err(Fault::Unready),
+        Err(Undone::State) => Err(Fault::Left),
+    }
+}
+
+/// Whether the next call of a process has this ticket.
+fn is_next(process: &Process, ticket: Ticket) -> bool
+    ensures { IsTrue result ↔ (ticket_at process.now.course ≡ ticket) }
+{
+    let standing = process.standing();
+    standing.incarnation == ticket.incarnation && standing.length == ticket.received
+}
+
+/// The state in the array of a call; none, where the array is too short.
+fn state_of<'a>(handler: &Handler, array: &'a [u8]) -> Option<&'a [u8]>
+    ensures { MatchOption result (length array.now < array_size (image_of handler.now)) (λ state. (array_size (image_of handler.now) ≤ length array.now) × (state.now ≡ state_in (image_of handler.now) array.now) × (length state.now ≡ image_state (image_of handler.now))) }
+{
+    let at = state_at(handler);
+    let len = usize::from(handler.state_len());
+    if array.len() < at + STATE_BYTES + STACK_BYTES {
+        return None;
+    }
+    Some(&array[at..at + len])
+}
+
+/// Where the state begins in the array of a handler. Behind it there is room for the longest, and for a stack.
+fn state_at(handler: &Handler) -> usize
+    ensures value { result ≡ state_place (image_of handler.now) }
+    ensures size { result + STATE_BYTES + STACK_BYTES ≡ array_size (image_of handler.now) }
+{
+    match handler {
+        Handler::Flat(_) => STATE_AT,
+        Handler::Span(_) => SPAN_STATE_AT,
+    }
+}

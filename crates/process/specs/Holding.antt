@@ -1,0 +1,39 @@
+-- How many messages a process keeps, and how many more each call makes it keep
+use Rattle.std.specs.Prelude.{◌≡◌, ◌+◌, ◌-◌, ◌≤◌, ℕ, List, length, Option, true}
+use Rattle.packets.specs.declared.packet.Body.TheVariants.{Saved}
+use Rattle.packets.specs.declared.packet.Packet.{Packet}
+use Rattle.node.specs.declared.job.Given.{Given}
+use Rattle.node.specs.Queue.{TheQueue}
+use Rattle.node.specs.Node.{TheNode, log_at}
+use Rattle.node.specs.Calls.{is_for}
+use Rattle.process.specs.declared.course.Course.TheVariants.{Up}
+use Rattle.process.specs.Process.{TheProcess}
+use Rattle.process.specs.Calls.{Calls, Stays, IsHanded, Ticks, Takes, Freezes, Thaws, standing_at}
+use Rattle.process.specs.Job.{TakesBack}
+
+-- how many messages its logs keep, as a host reads it
+abbrev pub entries_of : TheProcess → ℕ
+entries_of p = (standing_at p.course).entries
+
+-- a call makes it keep no more
+abbrev pub KeepsNoMore : TheProcess → TheProcess → Type 0
+KeepsNoMore old new = entries_of new ≤ entries_of old
+
+-- no call makes a process keep more messages, but that its handler works on one, or on one that is replayed: then as many more, at most, as
+-- that gives. A call passes on through any stages
+pub record EntriesAreGiven : Type 0 where
+  pub received : (x : Packet) (old new : TheProcess) → Calls (IsHanded x) old new → KeepsNoMore old new
+  pub ticked : (old new : TheProcess) → Calls Ticks old new → KeepsNoMore old new
+  pub taken : (o : Option Packet) (old new : TheProcess) → Stays (Takes o) old new → KeepsNoMore old new
+  pub frozen : (old new : TheProcess) → Stays Freezes old new → KeepsNoMore old new
+  pub saved : (old new : TheProcess) → Stays Thaws old new → KeepsNoMore old new
+  pub worked : (state : List ℕ) (given : List Given) (old new : TheProcess) → TakesBack state given old new → entries_of new ≤ entries_of old + length given
+
+-- how many messages a log is of, with those that it dropped
+abbrev pub sent_in : TheQueue → ℕ
+sent_in q = q.dropped + length q.payloads
+
+-- a node that is up is told that so many messages to a receiver are covered for good: its log for that one keeps none of these
+pub record CoveredAreDropped : Type 0 where
+  pub dropped : (x : Packet) (k : ℕ) (n : TheNode) (old new : TheProcess) → old.course ≡ Up n → x.body ≡ Saved k → is_for n x ≡ true → Calls (IsHanded x) old new
+      → (m : TheNode) × (new.course ≡ Up m) × (length (log_at m.logs x.from).payloads ≤ sent_in (log_at n.logs x.from) - k)
