@@ -6,8 +6,11 @@
  * 512 bytes. It reads and writes its state, which has as many bytes as its image says, and calls the four
  * helpers below. What it returns means nothing to the runtime. It is compiled by clang:
  *
- *     clang --target=bpf -mcpu=v3 -O2 -Iinclude -c name.c -o name.o
+ *     clang --target=bpf -mcpu=v3 -O2 -g -Iinclude -c name.c -o name.o
  *     ./sblog pack name.o name.sbi --form 3 --state 64
+ *
+ * There is no other function to call, so memcpy and memset are for a constant length alone: where it varies,
+ * an unrolled loop compares the index with the length. There is no floating point: count in whole numbers.
  */
 #ifndef SBLOG_HANDLER_H
 #define SBLOG_HANDLER_H
@@ -43,5 +46,9 @@ static u64 (*const output)(const void *payload, u64 length) = (void *)6;
 /* Above an access at an index that is at most `most` in a way that clang sees and the verifier doesn't. Of a greater one the
  * function that it stands in returns 0: so it stands in none that is void. */
 #define within(index, most) do { asm volatile("" : "+r"(index)); if ((index) > (most)) return 0; } while (0)
+
+/* So that clang says it at the line. */
+#define float there_is_no_floating_point_in_a_handler
+#define double there_is_no_floating_point_in_a_handler
 
 #endif
