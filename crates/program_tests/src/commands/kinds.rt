@@ -58,7 +58,7 @@ fn files_of_another_kind(rt: HostRuntime) -> Result<(), Fail> {
             b"# one\n\ninput a 5\n",
             "load refused 2\na: not an image file (assembler text? sblog asm writes images)\nthis looks like a scenario: sblog run carries it out\n",
         ),
-        ("check a", b"\t.text\n", COMPILED_IMAGE),
+        ("check a", b"\t.text\n\t.globl\tf\n", COMPILED_IMAGE),
         (
             "asm a b --state 0",
             b"\t.text\n\t.globl\tf\n",
