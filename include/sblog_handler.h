@@ -9,8 +9,8 @@
  *     clang --target=bpf -mcpu=v3 -O2 -g -Iinclude -c name.c -o name.o
  *     ./sblog pack name.o name.sbi --form 3 --state 64
  *
- * There is no other function to call, so memcpy and memset are for a constant length alone: where it varies,
- * an unrolled loop compares the index with the length. There is no floating point: count in whole numbers.
+ * There is no other function to call. memcpy and memset are for a constant length alone: where it varies, an
+ * unrolled loop compares the index with the length. There is no floating point: count in whole numbers.
  */
 #ifndef SBLOG_HANDLER_H
 #define SBLOG_HANDLER_H
@@ -47,8 +47,17 @@ static u64 (*const output)(const void *payload, u64 length) = (void *)6;
  * function that it stands in returns 0: so it stands in none that is void. */
 #define within(index, most) do { asm volatile("" : "+r"(index)); if ((index) > (most)) return 0; } while (0)
 
-/* So that clang says it at the line. */
+/* So that clang says at the line what a handler doesn't have. */
 #define float there_is_no_floating_point_in_a_handler
 #define double there_is_no_floating_point_in_a_handler
+
+__attribute__((error("a handler has no memcpy or memset of a length that varies: in an unrolled loop compare the index with it")))
+void *length_that_varies(void);
+#define __builtin_memcpy(to, from, length) \
+    (__builtin_constant_p(length) ? __builtin_memcpy(to, from, length) : length_that_varies())
+#define __builtin_memset(to, byte, length) \
+    (__builtin_constant_p(length) ? __builtin_memset(to, byte, length) : length_that_varies())
+#define memcpy(to, from, length) __builtin_memcpy(to, from, length)
+#define memset(to, byte, length) __builtin_memset(to, byte, length)
 
 #endif
