@@ -301,7 +301,7 @@ frozen-now n e = if-true (may_freeze n) (record n { frozen = true }) n e
 pub froze-is : (bytes : List ℕ) (w : Checkpoint) (c d : Course) → Fits w c → IsSavable c → Keeps c bytes → Freezes c d
     → (is_settled d ≡ true) × (Fits (Pending bytes) d × ((ps : List Process) × Chain (seen w c) ps (seen (Pending bytes) d)))
 froze-is bytes Absent (Up n) (Up m) f may keeps g =
-    let is : m ≡ record n { frozen = true } = g.0 ∙ frozen-now n may.0 in
+    let is : m ≡ record n { frozen = true } = g.0 ∙ frozen-now n may.may in
     (refl, (subst (λ (z : TheNode). (z.frozen ≡ true) × AreOf bytes z) (sym is) (refl, keeps), (lives.Up m ∷ [], ((m, (refl, (inr g.0, g.1))), (tt, (ap (λ (z : TheNode). z.exact) g.0 ∙ froze-exact n, refl))))))
 froze-is bytes Absent (Up n) (Collecting m) f may keeps g = absurd g
 froze-is bytes Absent (Up n) (Replaying m) f may keeps g = absurd g
