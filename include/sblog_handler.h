@@ -30,7 +30,8 @@ static u64 (*const me)(void) = (void *)3;
 /* The number of the process that sent the message, 0 for the outside; never more than 15, so it is an index. */
 static u64 (*const sender)(void) = (void *)4;
 
-/* Sends 0 to 256 bytes to a process: 0, or 1 where there is no such other process, 2 where 8 messages were
+/* Sends 0 to 256 bytes to another process, which neither the own one is nor the outside (0), that gets outputs:
+ * 0, or 1 where there is no such other process, 2 where 8 messages were
  * sent by this call, 3 where the length is greater than 256. */
 static u64 (*const send)(u64 process, const void *payload, u64 length) = (void *)5;
 
