@@ -16,7 +16,7 @@ use regtypes::{Access, Attributes, Flow, Region, Rule, attributes_from, flow_fro
 use spans::{Cells, Kind, Span};
 
 /// What is the matter with a register.
-#[derive(Clone, Copy, Debug, PartialEq, Eq)]
+#[derive(Clone, Copy)]
 pub enum RegisterFault {
     /// It is read and isn't set.
     Unset,
@@ -31,7 +31,7 @@ pub enum RegisterFault {
 }
 
 /// What is the matter with a word of the stack.
-#[derive(Clone, Copy, Debug, PartialEq, Eq)]
+#[derive(Clone, Copy)]
 pub enum WordFault {
     /// It is read and isn't set.
     Unset,
@@ -44,7 +44,7 @@ pub enum WordFault {
 }
 
 /// What breaks a rule.
-#[derive(Clone, Copy, Debug, PartialEq, Eq)]
+#[derive(Clone, Copy)]
 pub enum Cause {
     /// Nothing that is known.
     Nothing,

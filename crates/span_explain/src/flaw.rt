@@ -10,7 +10,7 @@ use regtypes::{Access, Region};
 use spans::{Cells, Kind, Reach};
 
 /// What may be wrong with a register or a word of the stack.
-#[derive(Clone, Copy, Debug, PartialEq, Eq)]
+#[derive(Clone, Copy)]
 pub enum Flaw {
     /// Nothing is known of it.
     Missing,

@@ -13,7 +13,7 @@ use spans::Cells;
 use std::alloc::{AllocError, Global};
 
 /// Code slot by slot, with what the verifier's pass over it finds.
-#[derive(Debug, Drop)]
+#[derive(Drop)]
 pub struct SpanStudy {
     /// How many bytes the state has.
     pub state_len: u16,
