@@ -89,7 +89,7 @@ impl Handler {
         ensures refused { IfErr result IsUnmade }
     {
         match compile_handler(alloc, &self.handler) {
-            Ok(code) => Ok(code),
+            Ok(code) => Ok(code.into_bytes()),
             Err(_) => Err(Refusal::Image(ImageError::Memory)),
         }
     }

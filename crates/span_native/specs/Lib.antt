@@ -2,3 +2,4 @@ pub mod SpanTasks
 pub mod Correct
 pub mod Written
 pub mod AnyForm
+pub mod Code

@@ -1,31 +1,50 @@
 //! Handlers of any form.
 
-ghost use Rattle.std.specs.Prelude.{IfOk};
+ghost use Rattle.std.specs.Prelude.{◌≡◌, IfOk};
 ghost use Rattle.images.specs.declared.any_image.AnyImage.TheVariants as any;
 ghost use Rattle.handlers.specs.Image.{as_image, the_image};
-ghost use Rattle.span_native.specs.AnyForm.{IsNativeOf};
+ghost use Rattle.span_native.specs.Code.{IsCode};
 
+use crate::code::Code;
 use crate::image_code::compile;
 use handlers::Handler;
+use span_images::SpanImage;
 use std::alloc::{AllocError, Global};
 use verifier::Image;
 
 // Of form 1 or 2.
 fn compile_flat(alloc: Global, image: &Image) -> Result<Vec<u8>, AllocError>
-    ensures { IfOk result (λ code. IsNativeOf (as_image (any.Flat image.now)) code.items) }
+    ensures { IfOk result (λ code. IsCode (as_image (any.Flat image.now)) code.items) }
 {
-    // Its clause says that the slots are those of the code.
-    let _insns = image.code();
+    // Its clauses say that the slots are those of the code, and have a typing.
+    let _begin = image.begin();
     let code = native::compile(alloc, image)?;
     Ok(code)
 }
 
-/// The machine code of a handler's image, of any form. Only memory can want.
-pub fn compile_handler(alloc: Global, handler: &Handler) -> Result<Vec<u8>, AllocError>
-    ensures { IfOk result (λ code. IsNativeOf (the_image handler.now) code.items) }
+// Of form 3.
+fn compile_span(alloc: Global, image: &SpanImage) -> Result<Vec<u8>, AllocError>
+    ensures { IfOk result (λ code. IsCode (as_image (any.Span image.now)) code.items) }
+{
+    // Its clauses say that it is typable.
+    let _insns = image.code();
+    let code = compile(alloc, image)?;
+    Ok(code)
+}
+
+fn bytes_of(alloc: Global, handler: &Handler) -> Result<Vec<u8>, AllocError>
+    ensures { IfOk result (λ code. IsCode (the_image handler.now) code.items) }
 {
     match handler {
         Handler::Flat(image) => compile_flat(alloc, image),
-        Handler::Span(program) => compile(alloc, program.image()),
+        Handler::Span(program) => compile_span(alloc, program.image()),
     }
+}
+
+/// The machine code of a handler's image, of any form. Only memory can want.
+pub fn compile_handler<'h>(alloc: Global, handler: &'h Handler) -> Result<Code<'h>, AllocError>
+    ensures { IfOk result (λ code. code.image ≡ the_image handler.now) }
+{
+    let bytes = bytes_of(alloc, handler)?;
+    Ok(Code { handler, bytes })
 }

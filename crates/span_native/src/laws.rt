@@ -1,8 +1,26 @@
 //! That code is one.
 
+ghost use Rattle.std.specs.Prelude.{◌≡◌};
+ghost use Rattle.span_native.specs.Code.{IsOneInAnyForm};
 ghost use Rattle.span_native.specs.Written.{IsOneCode};
+
+use crate::code::Code;
 
 /// Images with the same instructions and states of one length have the same machine code, byte for byte.
 pub fn code_is_one()
     ensures { IsOneCode }
 {}
+
+/// So they have in any form.
+pub fn code_is_one_in_any_form()
+    ensures { IsOneInAnyForm }
+{}
+
+/// Two codes of one image have the same bytes.
+pub fn codes_are_one<'h, 'k>(one: &Code<'h>, other: &Code<'k>)
+    ensures { one.now.image ≡ other.now.image → one.now.bytes ≡ other.now.bytes }
+{
+    // By their clauses both are written so.
+    let _mine = one.bytes();
+    let _its = other.bytes();
+}

@@ -29,7 +29,7 @@ fn machine_code<F: Files>(
 {
     let handler = load_handler(alloc, path, files, site)?;
     let code = compile_handler(alloc, &handler)?;
-    Ok(code)
+    Ok(code.into_bytes())
 }
 
 /// Verifies the image of any form of a file, and writes its machine code into another.

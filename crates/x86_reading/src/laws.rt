@@ -1,6 +1,7 @@
 //! What is read in the bytes of instructions.
 
 ghost use Rattle.x86_reading.specs.Reading.{ReadsBack, TellOne};
+ghost use Rattle.x86_reading.specs.Runs.{RunOneWay};
 
 /// From the bytes of an instruction the instruction is read, and what stands behind is left.
 pub fn bytes_are_read_back()
@@ -10,4 +11,9 @@ pub fn bytes_are_read_back()
 /// No bytes begin with those of two instructions.
 pub fn bytes_tell_one_instruction()
     ensures { TellOne }
+{}
+
+/// Whatever bytes are code, two runs from one place and state return in one state.
+pub fn code_runs_one_way()
+    ensures { RunOneWay }
 {}

@@ -1,5 +1,6 @@
 use Rattle.std.proofs.Common.{subst, sym}
 use Rattle.handlers.specs.Image.{the_image}
+use Rattle.span_native.specs.AnyForm.{IsNativeOf}
 use Rattle.tracer.specs.Inside.{HandlerFault}
 use Rattle.tracer.proofs.CauseLemmas.{becomes}
 use Rattle.tracer.proofs.LoadLemmas.{handler_fault}
@@ -20,5 +21,5 @@ returns-clause-compiled g c = λ known there.
       len = image.len;
       file = loaded.0;
       typable = loaded.1;
-      native = c.in_ok-code.ensures;
+      native = subst (λ i. IsNativeOf i c.into_bytes.result.items) c.in_ok-code.ensures c.into_bytes.ensures.native;
     }
