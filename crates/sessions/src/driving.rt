@@ -39,10 +39,11 @@ impl Service {
     }
 
     /// Picks calls and makes them, until no call can be picked or `budget` calls were accepted, and
-    /// answers how many were accepted. A packet that can arrive comes first, then a message that is replayed,
-    /// then numbers that are restored, then a message that is put on the wire. A job that starts is run and finished at once, past the
-    /// budget too. It refuses want of memory alone: the calls that were accepted before it stand,
-    /// and a job whose result was refused stays open.
+    /// answers how many were accepted. A packet that can arrive comes first, then a message that is
+    /// replayed, then numbers that are restored, then a message that is put on the wire: none that is
+    /// on it already, and none that its receiver has under a number that is acknowledged. A job that
+    /// starts is run and finished at once, past the budget too. It refuses want of memory alone: the
+    /// calls that were accepted before it stand, and a job whose result was refused stays open.
     pub fn drive(&mut self, budget: u32) -> Result<u32, Refusal>
         ensures { Driven budget self.old self.new (own_seat self.old) (own_seat self.new) result }
     {
