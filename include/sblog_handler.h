@@ -44,9 +44,20 @@ static u64 (*const output)(const void *payload, u64 length) = (void *)6;
 /* First in an unrolled loop that clang leaves as one, since it has joined the tests of two ways out. */
 #define turn() asm volatile("")
 
-/* Above an access at an index that is at most `most` in a way that clang sees and the verifier doesn't. Of a greater one the
- * function that it stands in returns 0: so it stands in none that is void. */
-#define within(index, most) do { asm volatile("" : "+r"(index)); if ((index) > (most)) return 0; } while (0)
+/* Above an access at an index that is at most `most` in a way that clang sees and the verifier doesn't. Of a greater one, or a
+ * negative one, the function that it stands in returns 0: so it stands in none that is void. Of an index of fewer than 64 bits
+ * clang would test a copy, so the tested one is put back. */
+#define within(index, most) do { \
+    if (sizeof(index) == 8) { \
+        asm volatile("" : "+r"(index)); \
+        if ((u64)(index) > (most)) return 0; \
+    } else { \
+        u64 within_ = (index); \
+        asm volatile("" : "+r"(within_)); \
+        if (within_ > (most)) return 0; \
+        (index) = within_; \
+    } \
+} while (0)
 
 /* So that clang says at the line what a handler doesn't have. */
 #define float there_is_no_floating_point_in_a_handler

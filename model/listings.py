@@ -21,6 +21,8 @@ INDEX = (
     "on each way that leads here, before it is added; % bounds nothing where its divisor may be 0, or where clang makes div, mul and sub of it; "
     "where the C does so already, within(index, most); right above the access does so anew"
 )
+# Of an index that can be any number.
+ANY_INDEX = f"{INDEX}; one of a signed type, as int, may be negative: make it a u64, and compare that"
 REGION = (
     "stay inside the region: the message has 512 bytes with the zeros behind it, the local variables have 512, "
     "the state has as many as --state says"
@@ -313,10 +315,9 @@ class Slot:
             return
         (_, lo, hi), register, by = left
         if lo < -32768 or hi > 32767:
-            is_index = self.form == "register"
-            raise Broken(
-                6, f"r{register} is moved by {by}, out of the places from -32768 to 32767", INDEX if is_index else REGION
-            )
+            is_index, is_any = self.form == "register", str(by).endswith(f"{WORD - 1}")
+            advice = REGION if not is_index else ANY_INDEX if is_any else INDEX
+            raise Broken(6, f"r{register} is moved by {by}, out of the places from -32768 to 32767", advice)
 
     def moved(self):
         """Places that an addition leaves, the register that held them, and by what they are moved."""

@@ -66,7 +66,7 @@ static inline u64 output(const void *payload, u64 length)
 
 #define unrolled
 #define turn() asm volatile("")
-#define within(index, most) do { if ((index) > (most)) return 0; } while (0)
+#define within(index, most) do { if ((u64)(index) > (most)) return 0; } while (0)
 
 u64 HANDLER();
 

@@ -257,6 +257,39 @@ fn range_words<S: AsStr>(words: &[S]) -> &'static str {
     ""
 }
 
+/// A line that says which commands take an option, where another was given it; else nothing.
+fn option_words<S: AsStr>(words: &[S]) -> &'static str {
+    let command = match words.first() {
+        Some(word) => word.as_str(),
+        None => return "",
+    };
+    for word in words {
+        let word = word.as_str();
+        let name = word.split_once('=').map_or(word, |(name, _)| name);
+        match name {
+            "--state" | "--form" if !matches!(command, "asm" | "pack") => {
+                return "asm and pack take --state and --form: an image has both in it (./sblog explain --source takes them, of an object file)\n";
+            }
+            "--workers" | "--budget" if command != "live" => {
+                return "live takes --workers and --budget\n";
+            }
+            "--messages" if command != "draw" => return "draw takes --messages\n",
+            _ => {}
+        }
+    }
+    ""
+}
+
+/// What is said below an error of `clap`: a line, or nothing.
+fn below_words<S: AsStr>(words: &[S]) -> &'static str {
+    let range = range_words(words);
+    if range.is_empty() {
+        option_words(words)
+    } else {
+        range
+    }
+}
+
 /// The text of an error of `clap`, or a line in its place if it has none, and further words below it.
 fn text_of(alloc: Global, error: &Error, below: &str) -> Result<String, AllocError>
     ensures { IfOk result (λ text. string_bytes text ≢ []) }
@@ -297,6 +330,6 @@ pub fn parse_words<'a, S: AsStr>(alloc: Global, words: &'a [S]) -> Result<Reques
             Some(request) => Ok(request),
             None => unreachable!(),
         },
-        Err(error) => Err(refusal_of(alloc, &error, range_words(words))),
+        Err(error) => Err(refusal_of(alloc, &error, below_words(words))),
     }
 }

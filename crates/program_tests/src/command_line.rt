@@ -122,7 +122,7 @@ fn is_told(alloc: Global, line: &str, part: &str) -> Result<bool, Fail> {
 }
 
 /// Lines that ask for nothing, and a part of what is told of each.
-const USAGE: [(&str, &str); 38] = [
+const USAGE: [(&str, &str); 42] = [
     ("", "Usage: sblog <COMMAND>"),
     ("fly", "unrecognized subcommand 'fly'"),
     ("check", "<IMAGE>"),
@@ -161,6 +161,13 @@ const USAGE: [(&str, &str); 38] = [
     ("dis", "<IMAGE>"),
     ("native a", "<OUT>"),
     ("native a b c", "unexpected argument 'c' found"),
+    (
+        "explain a --form 3",
+        "asm and pack take --state and --form: an image has both in it (./sblog explain --source takes them, of an object file)",
+    ),
+    ("check --state=8 a", "asm and pack take --state and --form"),
+    ("run a --workers 2", "live takes --workers and --budget"),
+    ("live a --messages", "draw takes --messages"),
     ("--help", "Usage: sblog <COMMAND>"),
     ("help run", "Usage: sblog run <SCENARIO>"),
     ("check --help", "Usage: sblog check <IMAGE>"),

@@ -185,7 +185,7 @@ static CASES: [(u16, &str, &str); 25] = [
          \x20\x20\x20\x20r1 message+0 of 512\n\
          \x20\x20\x20\x20r4 number\n\
          \x20\x20\x20\x20refused by V6: r1 is moved by 0 to 18446744073709551615, out of the places from -32768 to 32767\n\
-         \x20\x20\x20\x20to do: compare the index with a number (if (i >= N) return 1;), or mask it (i & (N - 1), N a power of two), on each way that leads here, before it is added; % bounds nothing where its divisor may be 0, or where clang makes div, mul and sub of it; where the C does so already, within(index, most); right above the access does so anew\n\
+         \x20\x20\x20\x20to do: compare the index with a number (if (i >= N) return 1;), or mask it (i & (N - 1), N a power of two), on each way that leads here, before it is added; % bounds nothing where its divisor may be 0, or where clang makes div, mul and sub of it; where the C does so already, within(index, most); right above the access does so anew; one of a signed type, as int, may be negative: make it a u64, and compare that\n\
          2: exit\n\
          verify refused V6 at slot 1\n",
     ),

@@ -1,10 +1,11 @@
 -- A line is of one kind of order.
 use Rattle.std.proofs.Common.{◌≡◌, ◌≢◌, ℕ, List, ◌∷◌, ◌++◌, length, Option, Some, None, true, false, true≢false, refl, sym, ap, ap₂, subst, ◌∙◌}
 use Rattle.std.specs.Prelude.{codes, if◌then◌else◌}
-use Rattle.std.specs.List.{list_all}
+use Rattle.std.specs.List.{AllByRecursion, list_all}
 use Rattle.std.specs.Str.{bytes_eq}
 use Rattle.scenario.specs.declared.order.Order.{Order}
 use Rattle.scenario.specs.declared.order.Order.TheVariants as order
+use Rattle.scenario.specs.declared.verb.TheConstants.{VERBS}
 use Rattle.scenario.specs.declared.verb.Verb.{Verb}
 use Rattle.scenario.specs.declared.verb.Verb.TheVariants as verb
 use Rattle.scenario.specs.Order.{verb_text, verb_of, operands_text, order_text, IsInRange, is_name_byte}
@@ -29,6 +30,24 @@ back v = refl
 
 one_verb : (v w : Verb) → verb_text v ≡ verb_text w → v ≡ w
 one_verb v w e = sym (back v) ∙ ap verb_at e ∙ back w
+
+-- a text that is none of the words in the list is none of an order
+pub every_verb : (text : List ℕ) → AllByRecursion (λ v. text ≢ verb_text v) VERBS → (v : Verb) → text ≢ verb_text v
+every_verb text none verb.Input = none.0
+every_verb text none verb.Bytes = none.1.0
+every_verb text none verb.Transmit = none.1.1.0
+every_verb text none verb.Copy = none.1.1.1.0
+every_verb text none verb.Lose = none.1.1.1.1.0
+every_verb text none verb.Arrive = none.1.1.1.1.1.0
+every_verb text none verb.Finish = none.1.1.1.1.1.1.0
+every_verb text none verb.Checkpoint = none.1.1.1.1.1.1.1.0
+every_verb text none verb.Trim = none.1.1.1.1.1.1.1.1.0
+every_verb text none verb.Crash = none.1.1.1.1.1.1.1.1.1.0
+every_verb text none verb.Recover = none.1.1.1.1.1.1.1.1.1.1.0
+every_verb text none verb.Alone = none.1.1.1.1.1.1.1.1.1.1.1.0
+every_verb text none verb.Replay = none.1.1.1.1.1.1.1.1.1.1.1.1.0
+every_verb text none verb.Resync = none.1.1.1.1.1.1.1.1.1.1.1.1.1.0
+every_verb text none verb.Drive = none.1.1.1.1.1.1.1.1.1.1.1.1.1.1.0
 
 verb_bytes : (v : Verb) → list_all is_name_byte (verb_text v) ≡ true
 verb_bytes verb.Input = refl

@@ -5,32 +5,15 @@ use crate::hex::payload_of;
 use crate::number::{number_of, word_of};
 use crate::order::Allowed;
 use crate::process::is_name;
-use crate::verb::{Verb, verb_named};
+use crate::verb::{VERBS, Verb, verb_named};
 use limits::PROCESSES;
 use std::fmt;
 
 /// The most letters of a word that are shown.
 const SHOWN_LIMIT: usize = 40;
 
-/// What lines begin with.
-const WORDS: [&str; 16] = [
-    "process",
-    "input",
-    "bytes",
-    "transmit",
-    "copy",
-    "lose",
-    "arrive",
-    "finish",
-    "checkpoint",
-    "trim",
-    "crash",
-    "recover",
-    "alone",
-    "replay",
-    "resync",
-    "drive",
-];
+/// The word of a line that declares a process.
+const PROCESS: &str = "process";
 
 /// What bytes are.
 const PAIRS: &str = "bytes are pairs of 0 to 9 and a to f, at most 256 pairs, or - for none";
@@ -66,8 +49,8 @@ pub enum Mistake<'a> {
     Letter { letter: char, place: usize },
     /// The first word begins no line.
     Verb { word: &'a str },
-    /// Too many words or too few; a line has this form.
-    Words { form: &'static str },
+    /// Too many words or too few: behind this one stand these operands.
+    Words(&'static str, &'static str),
     /// A path with a space in it, or what looks like one.
     Path,
     /// A process behind the first order.
@@ -133,7 +116,7 @@ pub fn mistake_of(text: &str, number: usize, allowed: Allowed) -> Option<Mistake
     if spaced.is_some() {
         return spaced;
     }
-    if word == "process" {
+    if word == PROCESS {
         return declaring(above, operands);
     }
     match verb_named(word) {
@@ -159,7 +142,7 @@ fn writing(line: &str) -> Option<Mistake<'_>> {
 
 /// Whether lines begin with this word.
 fn is_line_word(word: &str) -> bool {
-    WORDS.contains(&word)
+    word == PROCESS || verb_named(word).is_some()
 }
 
 /// Whether the first word of a line is one that a line of a scenario begins with.
@@ -170,7 +153,7 @@ pub fn is_begun(line: &str) -> bool {
 
 /// What is meant by a word that begins no line, where the word or the whole text is of another kind.
 fn meaning<'a>(text: &'a str, word: &'a str) -> Option<Mistake<'a>> {
-    if WORDS.iter().any(|known| word.eq_ignore_ascii_case(*known)) {
+    if is_capital(word) {
         return Some(Mistake::Capital { word });
     }
     if word == "cluster" || word == "gateway" {
@@ -180,6 +163,14 @@ fn meaning<'a>(text: &'a str, word: &'a str) -> Option<Mistake<'a>> {
         return None;
     }
     Some(Mistake::Foreign { word })
+}
+
+/// Whether lines begin with this word, but for capital letters.
+fn is_capital(word: &str) -> bool {
+    word.eq_ignore_ascii_case(PROCESS)
+        || VERBS
+            .iter()
+            .any(|verb| word.eq_ignore_ascii_case(verb.word()))
 }
 
 /// Whether some line of a text looks like the one of a process.
@@ -270,9 +261,7 @@ fn declaring<'a>(above: Above<'a>, operands: &'a str) -> Option<Mistake<'a>> {
     }
     let (name, path) = operands.split_once(' ').unwrap_or((operands, ""));
     if path.is_empty() {
-        return Some(Mistake::Words {
-            form: "process NAME PATH",
-        });
+        return Some(Mistake::Words(PROCESS, "NAME PATH"));
     }
     if path.contains(' ') {
         return Some(following(path));
@@ -299,10 +288,10 @@ fn following(path: &str) -> Mistake<'_> {
 
 /// What is wrong with the line of an order.
 fn ordering<'a>(above: Above<'a>, verb: Verb, operands: &'a str) -> Option<Mistake<'a>> {
-    let (form, kinds) = form_of(verb);
+    let (wanted, kinds) = operands_of(verb);
     let words = operands.split(' ').filter(|word| !word.is_empty()).count();
     if words != kinds.len() {
-        return Some(Mistake::Words { form });
+        return Some(Mistake::Words(verb.word(), wanted));
     }
     for (kind, word) in kinds.iter().zip(operands.split(' ')) {
         let wrong = reading(above, *kind, word);
@@ -313,27 +302,21 @@ fn ordering<'a>(above: Above<'a>, verb: Verb, operands: &'a str) -> Option<Mista
     None
 }
 
-/// How the line of an order is written, and what its operands are.
-fn form_of(verb: Verb) -> (&'static str, &'static [Operand]) {
+/// How the operands of an order are written, and what they are.
+fn operands_of(verb: Verb) -> (&'static str, &'static [Operand]) {
     match verb {
-        Verb::Input => ("input NAME WORD", &[Operand::Process, Operand::Word]),
-        Verb::Bytes => ("bytes NAME HEX", &[Operand::Process, Operand::Bytes]),
+        Verb::Input => ("NAME WORD", &[Operand::Process, Operand::Word]),
+        Verb::Bytes => ("NAME HEX", &[Operand::Process, Operand::Bytes]),
         Verb::Transmit => (
-            "transmit NAME NAME SSN",
+            "NAME NAME SSN",
             &[Operand::Party, Operand::Party, Operand::Number],
         ),
-        Verb::Copy => ("copy KEY", &[Operand::Number]),
-        Verb::Lose => ("lose KEY", &[Operand::Number]),
-        Verb::Arrive => ("arrive KEY", &[Operand::Number]),
-        Verb::Finish => ("finish NAME", &[Operand::Process]),
-        Verb::Checkpoint => ("checkpoint NAME", &[Operand::Process]),
-        Verb::Trim => ("trim NAME", &[Operand::Party]),
-        Verb::Crash => ("crash NAME", &[Operand::Process]),
-        Verb::Recover => ("recover NAME", &[Operand::Process]),
-        Verb::Alone => ("alone NAME", &[Operand::Process]),
-        Verb::Replay => ("replay NAME", &[Operand::Process]),
-        Verb::Resync => ("resync NAME NAME", &[Operand::Process, Operand::Process]),
-        Verb::Drive => ("drive BUDGET", &[Operand::Number]),
+        Verb::Copy | Verb::Lose | Verb::Arrive => ("KEY", &[Operand::Number]),
+        Verb::Trim => ("NAME", &[Operand::Party]),
+        Verb::Finish | Verb::Checkpoint | Verb::Crash => ("NAME", &[Operand::Process]),
+        Verb::Recover | Verb::Alone | Verb::Replay => ("NAME", &[Operand::Process]),
+        Verb::Resync => ("NAME NAME", &[Operand::Process, Operand::Process]),
+        Verb::Drive => ("BUDGET", &[Operand::Number]),
     }
 }
 
@@ -416,6 +399,17 @@ impl fmt::Display for Beyond {
             _ => write!(f, "U+{number:04x}"),
         }
     }
+}
+
+/// Writes what lines begin with.
+fn name_words<W: fmt::Write>(f: &mut fmt::Formatter<W>) -> fmt::Result {
+    f.write_str(PROCESS)?;
+    for verb in VERBS {
+        let before = if verb == Verb::Drive { " and " } else { ", " };
+        f.write_str(before)?;
+        f.write_str(verb.word())?;
+    }
+    f.write_str(" do")
 }
 
 impl Mistake<'_> {
@@ -533,12 +527,12 @@ impl fmt::Display for Mistake<'_> {
             }
             Mistake::Verb { word } => {
                 let word = Shown(word);
-                write!(
-                    f,
-                    "no line begins with {word}: process, input, bytes, transmit, copy, lose, arrive, finish, checkpoint, trim, crash, recover, alone, replay, resync and drive do"
-                )
+                write!(f, "no line begins with {word}: ")?;
+                name_words(f)
             }
-            Mistake::Words { form } => write!(f, "more or fewer words than in: {form}"),
+            Mistake::Words(word, operands) => {
+                write!(f, "more or fewer words than in: {word} {operands}")
+            }
             Mistake::Full => write!(f, "there are at most {PROCESSES} processes"),
             Mistake::Name { name } => {
                 let name = Shown(name);

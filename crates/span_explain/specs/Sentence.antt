@@ -1,10 +1,11 @@
 -- A cause as a sentence, and what to do about it.
-use Rattle.std.specs.Prelude.{ℕ, ℤ, ◌++◌, int_le, List, [], codes, decimal, if◌then◌else◌}
+use Rattle.std.specs.Prelude.{ℕ, ℤ, ◌++◌, ◌-◌, ◌^◌, ◌==◌, int_le, List, [], codes, decimal, if◌then◌else◌}
 use Rattle.std.specs.Fmt.{signed_decimal}
 use Rattle.explain.specs.Cause.{count_cause, distance_cause, jump_cause}
 use Rattle.explain.specs.Kinds.{reg_text}
 use Rattle.regtypes.specs.declared.frame.Region.{Region}
 use Rattle.regtypes.specs.declared.frame.Region.TheVariants.{Message, State, Stack}
+use Rattle.spans.specs.declared.span.Span.{Span}
 use Rattle.span_explain.specs.declared.cause.Cause.{Cause}
 use Rattle.span_explain.specs.declared.cause.Cause.TheVariants.{Nothing, Jump, NothingFollows, FramePointer, NoAnswer, OfRegister, OfWord, SumOfPlaces, Outside, MovedBy, ShiftedBy, NoHelper, NoCount, NoPayload}
 use Rattle.span_explain.specs.declared.cause.RegisterFault.{RegisterFault}
@@ -62,10 +63,15 @@ word_advice word.NoNumber = codes "send or output a local array of numbers, each
 word_advice (word.Read n) = codes "compare the index of the local array with a number, or mask it, so that no pointer lies within its reach"
 word_advice (word.Written n) = codes "compare the index of the local array with a number, or mask it, so that no pointer lies within its reach"
 
--- what to do about an index, and about a place that no index moves
+-- what to do about an index
 abbrev pub index_advice : List ℕ
 index_advice = codes "compare the index with a number (if (i >= N) return 1;), or mask it (i & (N - 1), N a power of two), on each way that leads here, before it is added; % bounds nothing where its divisor may be 0, or where clang makes div, mul and sub of it; where the C does so already, within(index, most); right above the access does so anew"
 
+-- the same of an index that can be any number
+abbrev pub any_index_advice : List ℕ
+any_index_advice = codes "compare the index with a number (if (i >= N) return 1;), or mask it (i & (N - 1), N a power of two), on each way that leads here, before it is added; % bounds nothing where its divisor may be 0, or where clang makes div, mul and sub of it; where the C does so already, within(index, most); right above the access does so anew; one of a signed type, as int, may be negative: make it a u64, and compare that"
+
+-- what to do about a place that no index moves
 abbrev pub region_advice : List ℕ
 region_advice = codes "stay inside the region: the message has 512 bytes with the zeros behind it, the local variables have 512, the state has as many as --state says"
 
@@ -82,6 +88,10 @@ outside_advice Message lo hi = if int_le hi lo then region_advice else index_adv
 outside_advice State lo hi = if int_le hi lo then state_advice else state_index_advice
 outside_advice Stack lo hi = if int_le hi lo then region_advice else index_advice
 
+-- what to do about an index that moves a place too far
+abbrev pub moved_advice : Span → List ℕ
+moved_advice t = if t.hi == 2 ^ 64 - 1 then any_index_advice else index_advice
+
 -- what to do about a cause
 abbrev pub cause_advice : Cause → List ℕ
 cause_advice Nothing = codes "read the listing from here upward"
@@ -93,7 +103,7 @@ cause_advice (OfRegister r fault) = register_advice fault
 cause_advice (OfWord c fault) = word_advice fault
 cause_advice (SumOfPlaces r q) = codes "compare and compute with indices in place of pointers"
 cause_advice (Outside n r lo hi) = outside_advice r lo hi
-cause_advice (MovedBy r t) = index_advice
+cause_advice (MovedBy r t) = moved_advice t
 cause_advice (ShiftedBy r z) = region_advice
 cause_advice (NoHelper z) = codes "call helper 1 to 6"
 cause_advice (NoCount r) = codes "give the helper a number, set on each way that leads here"

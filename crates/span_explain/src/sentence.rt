@@ -4,7 +4,7 @@ ghost use Rattle.std.specs.Prelude.{◌≡◌, ◌<◌, ◌≤◌, ◌++◌, OnO
 ghost use Rattle.std.specs.Fmt.{signed_decimal};
 ghost use Rattle.explain.specs.Kinds.{reg_text};
 ghost use Rattle.span_explain.specs.Kinds.{places_text, range_text, word_text};
-ghost use Rattle.span_explain.specs.Sentence.{cause_advice, cause_text, outside_advice, register_advice, register_words, word_advice, word_words};
+ghost use Rattle.span_explain.specs.Sentence.{cause_advice, cause_text, moved_advice, outside_advice, register_advice, register_words, word_advice, word_words};
 
 use crate::cause::{Cause, RegisterFault, WordFault};
 use crate::kinds::{push_places, push_range, push_word};
@@ -183,6 +183,10 @@ fn word_advice(fault: WordFault) -> &'static str
 const INDEX: &str =
     "compare the index with a number (if (i >= N) return 1;), or mask it (i & (N - 1), N a power of two), on each way that leads here, before it is added; % bounds nothing where its divisor may be 0, or where clang makes div, mul and sub of it; where the C does so already, within(index, most); right above the access does so anew";
 
+/// What to do about an index that can be any number.
+const ANY_INDEX: &str =
+    "compare the index with a number (if (i >= N) return 1;), or mask it (i & (N - 1), N a power of two), on each way that leads here, before it is added; % bounds nothing where its divisor may be 0, or where clang makes div, mul and sub of it; where the C does so already, within(index, most); right above the access does so anew; one of a signed type, as int, may be negative: make it a u64, and compare that";
+
 /// What to do about a place that no index moves.
 const REGION: &str =
     "stay inside the region: the message has 512 bytes with the zeros behind it, the local variables have 512, the state has as many as --state says";
@@ -205,6 +209,17 @@ fn outside_advice(region: Region, lo: i64, hi: i64) -> &'static str
     }
 }
 
+/// What to do about an index that moves a place too far.
+fn moved_advice(span: Span) -> &'static str
+    ensures { result.now ≡ moved_advice span }
+{
+    if span.hi == u64::MAX {
+        ANY_INDEX
+    } else {
+        INDEX
+    }
+}
+
 /// What to do about a cause.
 pub fn cause_advice(cause: Cause) -> &'static str
     ensures { result.now ≡ cause_advice cause }
@@ -220,7 +235,7 @@ pub fn cause_advice(cause: Cause) -> &'static str
         Cause::OfWord(_, fault) => word_advice(fault),
         Cause::SumOfPlaces(_, _) => "compare and compute with indices in place of pointers",
         Cause::Outside(_, region, lo, hi) => outside_advice(region, lo, hi),
-        Cause::MovedBy(_, _) => INDEX,
+        Cause::MovedBy(_, span) => moved_advice(span),
         Cause::ShiftedBy(_, _) => REGION,
         Cause::NoHelper(_) => "call helper 1 to 6",
         Cause::NoCount(_) => "give the helper a number, set on each way that leads here",
