@@ -400,7 +400,8 @@ enum sblog_node_stage {
     SBLOG_NODE_RESUMING = 5
 };
 
-/* How a node stands. */
+/* How a node stands. However long it runs, receipts and replays together are at most 65536, packets at most 4096, and
+   entries at most 64425558016: 16 for each of the receipts, besides 2^32 for each of 15 peers. */
 typedef struct {
     uint64_t length;      /* messages that it received */
     uint64_t base;        /* of these, that its checkpoint covers */

@@ -1,5 +1,5 @@
 -- Acts of one process, one after another, as calls of `lives`
-use Rattle.std.proofs.Common.{◌≡◌, ◌≢◌, ℕ, List, [], ◌∷◌, Bool, true, false, refl, sym, ap, ◌∙◌, subst, arith}
+use Rattle.std.proofs.Common.{◌≡◌, ◌≢◌, ℕ, List, [], ◌∷◌, ◌++◌, Bool, true, false, refl, sym, ap, ◌∙◌, subst, arith}
 use Rattle.std.specs.Prelude.{◌==◌}
 use Rattle.std.proofs.lemmas.Bool.Decides.{nat_tests}
 use Rattle.node.specs.Runs.{Answering}
@@ -7,7 +7,7 @@ use Rattle.together.specs.Together.{IsFirst}
 use Rattle.lives.specs.Process.{Process, Acts, is_exact}
 use Rattle.lives.specs.System.{System as Lived, Call, Did, Calls, after_call, after_calls, AreExact, StayExact}
 use Rattle.lives.specs.Alone.{OneAtATime}
-use Rattle.lives.specs.Durable.{ReplaysAll, ReplayWhole, StaysDurable, outputs_of}
+use Rattle.lives.specs.Durable.{ReplaysAll, ReplayWhole, StaysDurable, given_by, outputs_of}
 use Rattle.lives.proofs.Sound.{raised-here, raised-other}
 use Rattle.hosted.specs.Process.{as_process}
 use Rattle.hosted.specs.System.{System}
@@ -17,6 +17,15 @@ use Rattle.hosted.proofs.Chains.{Chain}
 abbrev pub dids : ℕ → List Process → List Call
 dids p [] = []
 dids p (x ∷ xs) = Did p x ∷ dids p xs
+
+pub dids-append : (p : ℕ) (xs ys : List Process) → dids p (xs ++ ys) ≡ dids p xs ++ dids p ys
+dids-append p [] ys = refl
+dids-append p (x ∷ xs) ys = ap (λ z. Did p x ∷ z) (dids-append p xs ys)
+
+-- by these no packet is given
+pub dids-give : (q p : ℕ) (ps : List Process) → given_by q (dids p ps) ≡ []
+dids-give q p [] = refl
+dids-give q p (x ∷ ps) = dids-give q p ps
 
 -- p is this then, and nothing else changed
 pub record Only (p : ℕ) (new : Process) (t u : Lived) : Type 0 where
@@ -88,6 +97,18 @@ pub record Beside (n p : ℕ) (s : System) (t : Lived) : Type 0 where
   pub gateway : t.gateway ≡ s.gateway
   pub durable : t.durable ≡ s.durable
   pub given : t.given ≡ s.given
+
+-- so it is where that one changed
+pub beside-on : (n p : ℕ) (s : System) (new : Process) (t u : Lived) → Beside n p s t → Only p new t u → Beside n p s u
+beside-on n p s new t u b o =
+    record {
+      processes = λ q l a. o.others q a ∙ b.processes q l a;
+      stored = λ q l. ap (λ z. z q) o.stored ∙ b.stored q l;
+      lives = λ q l. ap (λ z. z q) o.lives ∙ b.lives q l;
+      gateway = o.gateway ∙ b.gateway;
+      durable = o.durable ∙ b.durable;
+      given = o.given ∙ b.given;
+    }
 
 -- and then for none
 pub ends : (n p : ℕ) (s : System) (new : Process) (t u : Lived) → Beside n p s t → Only p new t u → as_process (s.processes p) ≡ new → IsAs n s u

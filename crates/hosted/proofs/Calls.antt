@@ -7,6 +7,7 @@ use Rattle.interp.specs.HandlerCall.{Handled}
 use Rattle.handlers.specs.Answer.{answer_by}
 use Rattle.packets.specs.declared.packet.Packet.{Packet}
 use Rattle.node.specs.declared.job.OpenJob.{OpenJob}
+use Rattle.theorems.proofs.Tests.{both}
 use Rattle.node.specs.Node.{TheNode}
 use Rattle.node.specs.Calls.{handed}
 use Rattle.node.specs.Sending.{ticked}
@@ -20,7 +21,7 @@ use Rattle.restoring.specs.Restoring.{TheRestoring}
 use Rattle.process.specs.declared.course.Course.{Course}
 use Rattle.process.specs.declared.course.Course.TheVariants.{Up, Collecting, Replaying, Replayed, Restoring, Passing}
 use Rattle.process.specs.Process.{is_settled, state_of}
-use Rattle.process.specs.Calls.{IsHanded, Ticks, Takes, Freezes, Thaws}
+use Rattle.process.specs.Calls.{IsHanded, Ticks, Takes, Freezes, FreezesAs, Thaws, is_storable}
 use Rattle.process.specs.Saving.{IsSavable, Keeps}
 use Rattle.process.specs.Working.{job_as, job_at, answer_to, given_of, TakesIn}
 use Rattle.lives.specs.Process.{Process, AreOf, Gives, Hears, Works, IsTold}
@@ -301,8 +302,10 @@ frozen-now n e = if-true (may_freeze n) (record n { frozen = true }) n e
 pub froze-is : (bytes : List ℕ) (w : Checkpoint) (c d : Course) → Fits w c → IsSavable c → Keeps c bytes → Freezes c d
     → (is_settled d ≡ true) × (Fits (Pending bytes) d × ((ps : List Process) × Chain (seen w c) ps (seen (Pending bytes) d)))
 froze-is bytes Absent (Up n) (Up m) f may keeps g =
-    let is : m ≡ record n { frozen = true } = g.0 ∙ frozen-now n may.may in
-    (refl, (subst (λ (z : TheNode). (z.frozen ≡ true) × AreOf bytes z) (sym is) (refl, keeps), (lives.Up m ∷ [], ((m, (refl, (inr g.0, g.1))), (tt, (ap (λ (z : TheNode). z.exact) g.0 ∙ froze-exact n, refl))))))
+    let can = both (may_freeze n) (is_storable n) may.may in
+    let made = subst (λ b. FreezesAs b n m) can.1 g in
+    let is : m ≡ record n { frozen = true } = made.0 ∙ frozen-now n can.0 in
+    (refl, (subst (λ (z : TheNode). (z.frozen ≡ true) × AreOf bytes z) (sym is) (refl, keeps), (lives.Up m ∷ [], ((m, (refl, (inr made.0, made.1))), (tt, (ap (λ (z : TheNode). z.exact) made.0 ∙ froze-exact n, refl))))))
 froze-is bytes Absent (Up n) (Collecting m) f may keeps g = absurd g
 froze-is bytes Absent (Up n) (Replaying m) f may keeps g = absurd g
 froze-is bytes Absent (Up n) (Replayed m) f may keeps g = absurd g
@@ -313,13 +316,13 @@ froze-is bytes Absent (Replaying n) d f may keeps g = absurd keeps
 froze-is bytes Absent (Replayed n) d f may keeps g = absurd keeps
 froze-is bytes Absent (Restoring n) d f may keeps g = absurd keeps
 froze-is bytes Absent Passing d f may keeps g = absurd keeps
-froze-is bytes (Pending others) (Up n) d f may keeps g = not-frozen n.frozen (is_none n.working) may.may f.0
+froze-is bytes (Pending others) (Up n) d f may keeps g = not-frozen n.frozen (is_none n.working) (both (may_freeze n) (is_storable n) may.may).0 f.0
 froze-is bytes (Pending others) (Collecting n) d f may keeps g = absurd f
 froze-is bytes (Pending others) (Replaying n) d f may keeps g = absurd f
 froze-is bytes (Pending others) (Replayed n) d f may keeps g = absurd f
 froze-is bytes (Pending others) (Restoring n) d f may keeps g = absurd f
 froze-is bytes (Pending others) Passing d f may keeps g = absurd f
-froze-is bytes Durable (Up n) d f may keeps g = not-frozen n.frozen (is_none n.working) may.may f
+froze-is bytes Durable (Up n) d f may keeps g = not-frozen n.frozen (is_none n.working) (both (may_freeze n) (is_storable n) may.may).0 f
 froze-is bytes Durable (Collecting n) d f may keeps g = absurd f
 froze-is bytes Durable (Replaying n) d f may keeps g = absurd f
 froze-is bytes Durable (Replayed n) d f may keeps g = absurd f
@@ -330,8 +333,16 @@ froze-is bytes Durable Passing d f may keeps g = absurd f
 froze-rests : (n : TheNode) → n.frozen ≡ true → froze n ≡ n
 froze-rests n e = rw e refl
 
+pauses-as : (b : Bool) (n m : TheNode) → FreezesAs b n m → GoesOn Absent (Up n) (Up m)
+pauses-as true n m g = (refl, (tt, (lives.Up m ∷ [], ((m, (refl, (inr g.0, g.1))), (tt, (ap (λ (z : TheNode). z.exact) g.0 ∙ froze-exact n, refl))))))
+pauses-as false n m g = on Absent (Up n) (Up m) refl tt (ap Up g)
+
+rests-as : (b : Bool) (n m : TheNode) → n.frozen ≡ true → FreezesAs b n m → m ≡ n
+rests-as true n m f g = g.0 ∙ froze-rests n f
+rests-as false n m f g = g
+
 pub paused-is : (w : Checkpoint) (c d : Course) → is_settled c ≡ true → Fits w c → Freezes c d → GoesOn w c d
-paused-is Absent (Up n) (Up m) s f g = (refl, (tt, (lives.Up m ∷ [], ((m, (refl, (inr g.0, g.1))), (tt, (ap (λ (z : TheNode). z.exact) g.0 ∙ froze-exact n, refl))))))
+paused-is Absent (Up n) (Up m) s f g = pauses-as (is_storable n) n m g
 paused-is Absent (Up n) (Collecting m) s f g = absurd g
 paused-is Absent (Up n) (Replaying m) s f g = absurd g
 paused-is Absent (Up n) (Replayed m) s f g = absurd g
@@ -342,7 +353,7 @@ paused-is Absent (Replaying n) d s f g = on Absent (Replaying n) d s f g
 paused-is Absent (Replayed n) d s f g = on Absent (Replayed n) d s f g
 paused-is Absent (Restoring n) d s f g = on Absent (Restoring n) d s f g
 paused-is Absent Passing d s f g = unsettled s
-paused-is (Pending bytes) (Up n) (Up m) s f g = on (Pending bytes) (Up n) (Up m) s f (ap Up (g.0 ∙ froze-rests n f.0))
+paused-is (Pending bytes) (Up n) (Up m) s f g = on (Pending bytes) (Up n) (Up m) s f (ap Up (rests-as (is_storable n) n m f.0 g))
 paused-is (Pending bytes) (Up n) (Collecting m) s f g = absurd g
 paused-is (Pending bytes) (Up n) (Replaying m) s f g = absurd g
 paused-is (Pending bytes) (Up n) (Replayed m) s f g = absurd g
@@ -353,7 +364,7 @@ paused-is (Pending bytes) (Replaying n) d s f g = absurd f
 paused-is (Pending bytes) (Replayed n) d s f g = absurd f
 paused-is (Pending bytes) (Restoring n) d s f g = absurd f
 paused-is (Pending bytes) Passing d s f g = absurd f
-paused-is Durable (Up n) (Up m) s f g = on Durable (Up n) (Up m) s f (ap Up (g.0 ∙ froze-rests n f))
+paused-is Durable (Up n) (Up m) s f g = on Durable (Up n) (Up m) s f (ap Up (rests-as (is_storable n) n m f g))
 paused-is Durable (Up n) (Collecting m) s f g = absurd g
 paused-is Durable (Up n) (Replaying m) s f g = absurd g
 paused-is Durable (Up n) (Replayed m) s f g = absurd g

@@ -2,6 +2,8 @@ pub mod Chains
 pub mod Stages
 pub mod Calls
 pub mod Acts
+pub mod Moments
 pub mod Steps
 pub mod Lists
 pub mod Promised
+pub mod Back

@@ -1,5 +1,6 @@
 -- Calls of hosts, one after another
-use Rattle.std.proofs.Common.{◌≡◌, ℕ, ◌≤◌, List, [], ◌∷◌, ◌++◌, false, refl, sym, ap, ◌∙◌, subst, append_assoc}
+use Rattle.std.proofs.Common.{◌≡◌, ℕ, ◌≤◌, List, [], ◌∷◌, ◌++◌, Bool, true, false, refl, sym, ap, ◌∙◌, subst, append_assoc}
+use Rattle.std.specs.Prelude.{◌==◌, if◌then◌else◌}
 use Rattle.images.specs.declared.any_image.AnyImage.{AnyImage}
 use Rattle.world.specs.declared.message.Message.{Message}
 use Rattle.node.specs.Runs.{Answering}
@@ -7,10 +8,10 @@ use Rattle.together.specs.Together.{IsFirst}
 use Rattle.lives.specs.Process.{Process, Up, Covered, Collects, Replays, Replayed, Restores, Killed, is_exact}
 use Rattle.lives.specs.System.{System as Lived, Call, Gave, Handed, Worked, Did, Stored, Saved, Died, Revived, GaveOut, HandedOut, DidOut, StoredOut, RevivedOut, Calls, after_call, after_calls, AreExact, StayExact}
 use Rattle.lives.specs.Alone.{OneAtATime}
-use Rattle.lives.specs.Durable.{ReplayWhole, StaysDurable, handed_out, outputs_of}
+use Rattle.lives.specs.Durable.{ReplayWhole, StaysDurable, handed_out, given_by, outputs_of}
 use Rattle.lives.proofs.Lasting.{IsFor}
 use Rattle.lives.proofs.Durable.{Now, nothing, all-fair, step}
-use Rattle.hosted.specs.System.{System, HostCall, as_lives, AreCalls}
+use Rattle.hosted.specs.System.{System, HostCall, as_lives, AreCalls, DoesIt}
 use Rattle.hosted.specs.System as hosted
 use Rattle.hosted.specs.Answering.{answering}
 use Rattle.hosted.specs.Lives.{IsAs, len_of}
@@ -48,7 +49,7 @@ alone-append : (n : ℕ) (t : Lived) (xs ys : List Call) → OneAtATime n t xs �
 alone-append n t [] ys g h = h
 alone-append n t (x ∷ xs) ys g h = (g.0, alone-append n (after_call t x) xs ys g.1 h)
 
-durable-append : (p : ℕ) (t : Lived) (xs ys : List Call) → StaysDurable p t xs → StaysDurable p (after_calls t xs) ys → StaysDurable p t (xs ++ ys)
+pub durable-append : (p : ℕ) (t : Lived) (xs ys : List Call) → StaysDurable p t xs → StaysDurable p (after_calls t xs) ys → StaysDurable p t (xs ++ ys)
 durable-append p t [] ys g h = h
 durable-append p t (x ∷ xs) ys g h = (g.0, durable-append p (after_call t x) xs ys g.1 h)
 
@@ -69,6 +70,27 @@ outputs-append t (RevivedOut new ∷ xs) ys = outputs-append (after_call t (Revi
 outputs-append t (DidOut new ∷ xs) ys =
     let u : Lived = after_call t (DidOut new) in
     ap (λ z. handed_out t.gateway new ++ z) (outputs-append u xs ys) ∙ sym (append_assoc (handed_out t.gateway new) (outputs_of u xs) (outputs_of (after_calls u xs) ys))
+
+pub given-append : (p : ℕ) (xs ys : List Call) → given_by p (xs ++ ys) ≡ given_by p xs ++ given_by p ys
+given-append p [] ys = refl
+given-append p (Gave q x new ∷ xs) ys = by-test (q == p) (given-append p xs ys)
+  where
+    by-test : (b : Bool) → given_by p (xs ++ ys) ≡ given_by p xs ++ given_by p ys
+        → (if b then x ∷ given_by p (xs ++ ys) else given_by p (xs ++ ys)) ≡ (if b then x ∷ given_by p xs else given_by p xs) ++ given_by p ys
+    by-test true rest = ap (λ z. x ∷ z) rest
+    by-test false rest = rest
+given-append p (Handed q x new ∷ xs) ys = given-append p xs ys
+given-append p (Worked q a new ∷ xs) ys = given-append p xs ys
+given-append p (Did q new ∷ xs) ys = given-append p xs ys
+given-append p (Stored q bytes ∷ xs) ys = given-append p xs ys
+given-append p (Saved q new ∷ xs) ys = given-append p xs ys
+given-append p (Died q ∷ xs) ys = given-append p xs ys
+given-append p (Revived q life new ∷ xs) ys = given-append p xs ys
+given-append p (GaveOut x new ∷ xs) ys = given-append p xs ys
+given-append p (HandedOut x new ∷ xs) ys = given-append p xs ys
+given-append p (StoredOut ∷ xs) ys = given-append p xs ys
+given-append p (RevivedOut new ∷ xs) ys = given-append p xs ys
+given-append p (DidOut new ∷ xs) ys = given-append p xs ys
 
 -- ---- what holds between two calls
 
@@ -97,7 +119,7 @@ here-of f len n p low h Killed s = tt
 exact-here : (n : ℕ) (s : System) (t : Lived) → IsAs n s t → AreExact n t → AreExact n (as_lives s)
 exact-here n s t st e p l = ap is_exact (sym (st.processes p l)) ∙ e p l
 
-exact-there : (n : ℕ) (s : System) (t : Lived) → IsAs n s t → AreExact n (as_lives s) → AreExact n t
+pub exact-there : (n : ℕ) (s : System) (t : Lived) → IsAs n s t → AreExact n (as_lives s) → AreExact n t
 exact-there n s t st e p l = ap is_exact (st.processes p l) ∙ e p l
 
 -- ---- and behind them
@@ -112,20 +134,34 @@ pub record Are (images : ℕ → AnyImage) (n : ℕ) (s : System) (t : Lived) (k
   pub alone : laws.OneAtATime n s ks → OneAtATime n t calls
   pub durable : (p : ℕ) → laws.StaysDurable p ks → StaysDurable p t calls
   pub outputs : outputs_of t calls ≡ laws.outputs_of s ks
+  pub gave : (p : ℕ) → given_by p calls ≡ laws.given_by p ks
+
+-- one call, and what holds behind it
+pub record One (images : ℕ → AnyImage) (n : ℕ) (s : System) (t : Lived) (k : HostCall) : Type 0 where
+  pub steps : Steps images n s t k
+  pub state : State images n (hosted.after_call s k) (after_calls t steps.calls)
+
+pub one-goes : (images : ℕ → AnyImage) (n : ℕ) (s : System) (t : Lived) (k : HostCall) → State images n s t → DoesIt images n s k → One images n s t k
+one-goes images n s t k st g =
+    let one : Steps images n s t k = steps images n s t st.stand st.good (λ p l. here-of (answering n images) (len_of images) n p l.1 (st.now p l).0 (t.processes p) (st.now p l).1.holds) k g in
+    record {
+      steps = one;
+      state = record {
+        stand = one.stand;
+        good = one.good;
+        now = λ p l. now-goes (answering n images) (len_of images) n p l.1 (st.now p l).0 t one.calls (st.now p l).1 one.are one.whole;
+      };
+    }
 
 pub are-go : (images : ℕ → AnyImage) (n : ℕ) (s : System) (t : Lived) (ks : List HostCall) → State images n s t → AreCalls images n s ks → Are images n s t ks
 are-go images n s t [] st g =
-    record { calls = []; are = tt; whole = tt; state = st; exact = λ e. tt; stays = λ a e. tt; alone = λ a. tt; durable = λ p d. tt; outputs = refl }
+    record { calls = []; are = tt; whole = tt; state = st; exact = λ e. tt; stays = λ a e. tt; alone = λ a. tt; durable = λ p d. tt; outputs = refl; gave = λ p. refl }
 are-go images n s t (k ∷ ks) st g =
     let f : Answering = answering n images in
-    let one : Steps images n s t k = steps images n s t st.stand st.good (λ p l. here-of f (len_of images) n p l.1 (st.now p l).0 (t.processes p) (st.now p l).1.holds) k g.0 in
+    let goes : One images n s t k = one-goes images n s t k st g.0 in
+    let one : Steps images n s t k = goes.steps in
     let u : Lived = after_calls t one.calls in
-    let state : State images n (hosted.after_call s k) u = record {
-      stand = one.stand;
-      good = one.good;
-      now = λ p l. now-goes f (len_of images) n p l.1 (st.now p l).0 t one.calls (st.now p l).1 one.are one.whole;
-    } in
-    let rest : Are images n (hosted.after_call s k) u ks = are-go images n (hosted.after_call s k) u ks state g.1 in
+    let rest : Are images n (hosted.after_call s k) u ks = are-go images n (hosted.after_call s k) u ks goes.state g.1 in
     record {
       calls = one.calls ++ rest.calls;
       are = calls-append f n t one.calls rest.calls one.are rest.are;
@@ -135,5 +171,6 @@ are-go images n s t (k ∷ ks) st g =
       stays = λ a e. let both = exact-split n t one.calls rest.calls e in let end = exact-end n t one.calls a both.0 in (exact-here n (hosted.after_call s k) u one.stand end, rest.stays end both.1);
       alone = λ a. alone-append n t one.calls rest.calls (one.alone a.0) (rest.alone a.1);
       durable = λ p d. durable-append p t one.calls rest.calls (one.durable p d.0) (rest.durable p d.1);
+      gave = λ p. given-append p one.calls rest.calls ∙ ap (λ z. z ++ given_by p rest.calls) (one.gave p) ∙ ap (λ z. laws.gave_by p k ++ z) (rest.gave p);
       outputs = outputs-append t one.calls rest.calls ∙ ap (λ z. z ++ outputs_of u rest.calls) one.outputs ∙ ap (λ z. laws.shown_by s k ++ z) rest.outputs;
     }

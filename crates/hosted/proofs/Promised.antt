@@ -1,5 +1,5 @@
 -- What holds of hosted processes
-use Rattle.std.proofs.Common.{◌≡◌, ℕ, ◌≤◌, List, [], ◌∷◌, ◌++◌, Bool, true, false, refl, sym, ap, ◌∙◌, subst}
+use Rattle.std.proofs.Common.{◌≡◌, ℕ, ◌≤◌, List, [], ◌∷◌, ◌++◌, Bool, true, false, refl, sym, ap, ◌∙◌, subst, append_assoc}
 use Rattle.std.specs.Prelude.{Some}
 use Rattle.world.specs.Handlers.{Handlers}
 use Rattle.world.specs.History.{count_of, nth}
@@ -18,26 +18,26 @@ use Rattle.lives.specs.Process.{StandsAs}
 use Rattle.lives.specs.Process as stages
 use Rattle.lives.specs.System.{System as Lived, AreStored, AreStoredOf, AllStand, IsRunOf}
 use Rattle.lives.specs.System as called
-use Rattle.lives.specs.Durable.{AreAfter, IsSentBy, Stays, Keep, outputs_of as lives_outputs}
+use Rattle.lives.specs.Durable.{AreAfter, IsSentBy, Stays, Lasts, Keep, given_by as lives_given, outputs_of as lives_outputs}
 use Rattle.lives.proofs.Lives.{lives-run}
 use Rattle.lives.proofs.Back.{nothing-is-lost}
 use Rattle.lives.proofs.Alone.{lone-failures-stay-exact}
-use Rattle.lives.proofs.Durable.{nothing, begins-now, stored-stays}
+use Rattle.lives.proofs.Durable.{nothing, begins-now, stored-stays, durable-last}
 use Rattle.lives.proofs.Keeping.{durable-keep}
 use Rattle.process.specs.Process.{TheProcess, is_settled}
 use Rattle.process.specs.Saving.{Keeps}
 use Rattle.hosted.specs.Process.{stage_of, as_process}
 use Rattle.hosted.specs.Answering.{answering}
 use Rattle.hosted.specs.System.{System, Opens, new_system, HostCall, as_lives, AreCalls, after_call, after_calls}
-use Rattle.hosted.specs.Lives.{IsAs, len_of, handlers, StayExact, HostedLive, HostedRun, HostedAlone, HostedBack, HostedStays, HostedKeep, outputs_of}
-use Rattle.hosted.proofs.Lists.{State, Are, are-go, calls-append, whole-append, exact-append, after-append}
+use Rattle.hosted.specs.Lives.{IsAs, len_of, handlers, StayExact, HostedLive, HostedRun, HostedAlone, HostedBack, HostedStays, HostedLast, HostedKeep, StaysDurable, gave_by, given_by, outputs_of}
+use Rattle.hosted.proofs.Lists.{State, Are, are-go, calls-append, whole-append, exact-append, durable-append, given-append, after-append}
 
 -- ---- the opening
 
-are-stored : (images : ℕ → AnyImage) (n : ℕ) (limits : ℕ → Limits) (processes : ℕ → TheProcess) (bytes : ℕ → List ℕ) → Opens n images limits processes bytes → AreStored n (len_of images) bytes
+pub are-stored : (images : ℕ → AnyImage) (n : ℕ) (limits : ℕ → Limits) (processes : ℕ → TheProcess) (bytes : ℕ → List ℕ) → Opens n images limits processes bytes → AreStored n (len_of images) bytes
 are-stored images n limits processes bytes o p l = (subst (λ z. Keeps z (bytes p)) (o.opened p l).course_is (o.stored p l)).0
 
-opened : (images : ℕ → AnyImage) (n page tick : ℕ) (limits : ℕ → Limits) (processes : ℕ → TheProcess) (bytes : ℕ → List ℕ) → Opens n images limits processes bytes
+pub opened : (images : ℕ → AnyImage) (n page tick : ℕ) (limits : ℕ → Limits) (processes : ℕ → TheProcess) (bytes : ℕ → List ℕ) → Opens n images limits processes bytes
     → State images n (new_system n processes bytes page tick) (called.new_system n limits (len_of images) bytes page tick)
 opened images n page tick limits processes bytes o =
     record {
@@ -55,7 +55,7 @@ opened images n page tick limits processes bytes o =
 
 -- ---- what holds of a system of `lives` holds of that of hosts
 
-all-stand : (n : ℕ) (s : System) (t : Lived) (c : Cluster) → IsAs n s t → AllStand n t c → AllStand n (as_lives s) c
+pub all-stand : (n : ℕ) (s : System) (t : Lived) (c : Cluster) → IsAs n s t → AllStand n t c → AllStand n (as_lives s) c
 all-stand n s t c st a =
     record {
       processes = λ p l. subst (λ z. StandsAs z c p) (st.processes p l) (a.processes p l);
@@ -98,19 +98,34 @@ stays-of n f p s s2 t t2 l st st2 k =
       up = λ m e. k.up m (st2.processes p l ∙ e);
     }
 
+lasts-of : (n : ℕ) (f : Handlers) (p : ℕ) (s s2 : System) (t t2 : Lived) (xs xs2 ys ys2 : List Packet) → IsFirst n p → IsAs n s t → IsAs n s2 t2 → xs ≡ ys → xs2 ≡ ys2 → Lasts n f p t t2 xs xs2 → Lasts n f p (as_lives s) (as_lives s2) ys ys2
+lasts-of n f p s s2 t t2 xs xs2 ys ys2 l st st2 same same2 k =
+    record {
+      was = k.was;
+      more = k.more;
+      stored_was = subst (AreAfter n f p k.was) (st.stored p l) k.stored_was;
+      stored_is = subst (AreAfter n f p (k.was ++ k.more)) (st2.stored p l) k.stored_is;
+      given_was = subst (Each (IsSentBy f p k.was)) same k.given_was;
+      given_is = subst (Each (IsSentBy f p (k.was ++ k.more))) same2 k.given_is;
+    }
+
 -- ---- calls of hosts behind others
 
-after-more : (s : System) (ks more : List HostCall) → after_calls s (ks ++ more) ≡ after_calls (after_calls s ks) more
+pub after-more : (s : System) (ks more : List HostCall) → after_calls s (ks ++ more) ≡ after_calls (after_calls s ks) more
 after-more s [] more = refl
 after-more s (k ∷ ks) more = after-more (after_call s k) ks more
 
-calls-split : (images : ℕ → AnyImage) (n : ℕ) (s : System) (ks more : List HostCall) → AreCalls images n s (ks ++ more) → AreCalls images n s ks × AreCalls images n (after_calls s ks) more
+pub calls-split : (images : ℕ → AnyImage) (n : ℕ) (s : System) (ks more : List HostCall) → AreCalls images n s (ks ++ more) → AreCalls images n s ks × AreCalls images n (after_calls s ks) more
 calls-split images n s [] more g = (tt, g)
 calls-split images n s (k ∷ ks) more g = let r = calls-split images n (after_call s k) ks more g.1 in ((g.0, r.0), r.1)
 
-exact-split : (n : ℕ) (s : System) (ks more : List HostCall) → StayExact n s (ks ++ more) → StayExact n s ks × StayExact n (after_calls s ks) more
+pub exact-split : (n : ℕ) (s : System) (ks more : List HostCall) → StayExact n s (ks ++ more) → StayExact n s ks × StayExact n (after_calls s ks) more
 exact-split n s [] more g = (tt, g)
 exact-split n s (k ∷ ks) more g = let r = exact-split n (after_call s k) ks more g.1 in ((g.0, r.0), r.1)
+
+durable-split : (p : ℕ) (ks more : List HostCall) → StaysDurable p (ks ++ more) → StaysDurable p ks × StaysDurable p more
+durable-split p [] more d = (tt, d)
+durable-split p (k ∷ ks) more d = let r = durable-split p ks more d.1 in ((d.0, r.0), r.1)
 
 -- ---- the laws
 
@@ -161,6 +176,28 @@ hosted-stays images n page tick limits processes bytes calls more p o l g =
     subst (λ z. IsAs n z (called.after_calls t (a.calls ++ b.calls))) (sym (after-more s calls more)) (subst (IsAs n (after_calls (after_calls s calls) more)) (sym (after-append t a.calls b.calls)) b.state.stand) in
     stays-of n (handlers n images) p (after_calls s calls) (after_calls s (calls ++ more)) u (called.after_calls t (a.calls ++ b.calls)) l a.state.stand last
     (stored-stays f n page tick limits (len_of images) bytes a.calls b.calls p (are-stored images n limits processes bytes o) l (calls-append f n t a.calls b.calls a.are b.are) (whole-append t a.calls b.calls a.whole b.whole))
+
+given-more : (p : ℕ) (ks more : List HostCall) → given_by p (ks ++ more) ≡ given_by p ks ++ given_by p more
+given-more p [] more = refl
+given-more p (k ∷ ks) more = ap (λ z. gave_by p k ++ z) (given-more p ks more) ∙ sym (append_assoc (gave_by p k) (given_by p ks) (given_by p more))
+
+pub hosted-last : HostedLast
+hosted-last images n page tick limits processes bytes calls more p o l durable g d =
+    let f : Answering = answering n images in
+    let s : System = new_system n processes bytes page tick in
+    let t : Lived = called.new_system n limits (len_of images) bytes page tick in
+    let made = calls-split images n s calls more g in
+    let lasting = durable-split p calls more d in
+    let a : Are images n s t calls = are-go images n s t calls (opened images n page tick limits processes bytes o) made.0 in
+    let u : Lived = called.after_calls t a.calls in
+    let b : Are images n (after_calls s calls) u more = are-go images n (after_calls s calls) u more a.state made.1 in
+    let last : IsAs n (after_calls s (calls ++ more)) (called.after_calls t (a.calls ++ b.calls)) =
+    subst (λ z. IsAs n z (called.after_calls t (a.calls ++ b.calls))) (sym (after-more s calls more)) (subst (IsAs n (after_calls (after_calls s calls) more)) (sym (after-append t a.calls b.calls)) b.state.stand) in
+    let gave : lives_given p (a.calls ++ b.calls) ≡ given_by p (calls ++ more) =
+    given-append p a.calls b.calls ∙ ap (λ z. z ++ lives_given p b.calls) (a.gave p) ∙ ap (λ z. given_by p calls ++ z) (b.gave p) ∙ sym (given-more p calls more) in
+    lasts-of n (handlers n images) p (after_calls s calls) (after_calls s (calls ++ more)) u (called.after_calls t (a.calls ++ b.calls)) (lives_given p a.calls) (lives_given p (a.calls ++ b.calls)) (given_by p calls) (given_by p (calls ++ more)) l a.state.stand last (a.gave p) gave
+    (durable-last f n page tick limits (len_of images) bytes a.calls b.calls p (are-stored images n limits processes bytes o) l durable (calls-append f n t a.calls b.calls a.are b.are) (whole-append t a.calls b.calls a.whole b.whole)
+    (durable-append p t a.calls b.calls (a.durable p lasting.0) (b.durable p lasting.1)))
 
 pub hosted-keep : HostedKeep
 hosted-keep images n page tick limits processes bytes calls durable o lasting g d =

@@ -1,6 +1,7 @@
 -- What each call of a host is of `lives`
-use Rattle.std.proofs.Common.{◌≡◌, ◌≢◌, ℕ, ◌<◌, List, [], ◌∷◌, ◌++◌, true, refl, sym, ap, ◌∙◌, subst, append-nil}
-use Rattle.std.specs.Prelude.{Some, ◌==◌, if◌then◌else◌}
+use Rattle.std.proofs.Common.{◌≡◌, ◌≢◌, inl, inr, ℕ, ◌<◌, List, [], ◌∷◌, ◌++◌, Bool, true, false, refl, sym, ap, ◌∙◌, subst, append-nil, arith}
+use Rattle.std.specs.Prelude.{◌⊎◌, Some, ◌==◌, if◌then◌else◌}
+use Rattle.std.proofs.lemmas.Bool.Decides.{nat_tests}
 use Rattle.world.specs.World.{put}
 use Rattle.images.specs.declared.any_image.AnyImage.{AnyImage}
 use Rattle.packets.specs.declared.packet.Packet.{Packet}
@@ -35,11 +36,13 @@ use Rattle.process.specs.Working as working
 use Rattle.hosted.specs.Process.{Checkpoint, Absent, Pending, Durable, Hosted, Runs, Killed, Alive, Has, goes_on, keeps, stage_of, seen, as_process}
 use Rattle.hosted.specs.Answering.{answering}
 use Rattle.hosted.specs.System.{System, HostCall, Gave, GaveBytes, Handed, HandedBytes, Worked, Answered, Ticked, Froze, Paused, Stored, Saved, Died, Revived, Outside, IsOutside, as_lives, AnswersSo, DoesIt, after_call}
-use Rattle.hosted.specs.Lives.{IsAs, FailsAlone, KeepsDurable, shown_by}
+use Rattle.hosted.specs.Lives.{IsAs, FailsAlone, KeepsDurable, gave_by, shown_by}
+use Rattle.hosted.specs.Back.{has_recovered}
 use Rattle.hosted.proofs.Chains.{Chain, chain-append, revived-limits}
 use Rattle.hosted.proofs.Stages.{Fits, GoesOn, passes-on}
 use Rattle.hosted.proofs.Calls.{Is, IsHere, answered, handed-is, taken-is, ticks-is, works-is, froze-is, paused-is, stored-is, saved-is}
-use Rattle.hosted.proofs.Acts.{dids, Ran, ran, Beside, ends}
+use Rattle.hosted.proofs.Acts.{dids, dids-give, Ran, ran, Beside, ends}
+use Rattle.hosted.proofs.Moments.{Moment, of-acts, behind-one, dead-end, not-collecting}
 
 -- it has this image, is in some stage, and waits for what is pending
 abbrev pub IsGood : AnyImage → Hosted → Type 0
@@ -60,6 +63,10 @@ pub record Steps (images : ℕ → AnyImage) (n : ℕ) (s : System) (t : Lived) 
   pub alone : FailsAlone n s k → lone.OneAtATime n t calls
   pub durable : (q : ℕ) → KeepsDurable q k → durables.StaysDurable q t calls
   pub outputs : durables.outputs_of t calls ≡ shown_by s k
+  pub gave : (q : ℕ) → durables.given_by q calls ≡ gave_by q k
+  -- where a process collects before it, and doesn't behind it, it recovers among them
+  pub moment : (q : ℕ) → IsFirst n q → (from : TheCollecting) → t.processes q ≡ stages.Collects from → (now : TheProcess) (w : Checkpoint) → (after_call s k).processes q ≡ Runs now w → has_recovered now.course ≡ true
+      → Moment n q (after_call s k) t calls now.course
 
 module _ (images : ℕ → AnyImage) (n : ℕ) (s : System) (t : Lived) (st : IsAs n s t) (goods : AreGood images n s) (heres : (p : ℕ) → IsFirst n p → IsHere n p (t.processes p)) where
   abbrev f : Answering
@@ -77,10 +84,30 @@ module _ (images : ℕ → AnyImage) (n : ℕ) (s : System) (t : Lived) (st : Is
   both-put : {X : Type 0} (g h : ℕ → X) (p q : ℕ) (x : X) → g q ≡ h q → put g p x q ≡ put h p x q
   both-put {X} g h p q x e = ap (λ z. if q == p then x else z) e
 
+  -- one that isn't changed doesn't recover
+  unmoved : {P : Type 0} (q : ℕ) → IsFirst n q → (from : TheCollecting) → t.processes q ≡ stages.Collects from → (now : TheProcess) (w : Checkpoint) → s.processes q ≡ Runs now w → has_recovered now.course ≡ true → P
+  unmoved q l from c now w is r = not-collecting w now.course from (sym (st.processes q l ∙ ap as_process is) ∙ c) r
+
+  -- the moment is p's, where others don't change
+  of-one : (k : HostCall) (p : ℕ) (h : Hosted) (ks : List Call) → (after_call s k).processes ≡ put s.processes p h
+      → ((from : TheCollecting) → t.processes p ≡ stages.Collects from → (now : TheProcess) (w : Checkpoint) → h ≡ Runs now w → has_recovered now.course ≡ true → Moment n p (after_call s k) t ks now.course)
+      → (q : ℕ) → IsFirst n q → (from : TheCollecting) → t.processes q ≡ stages.Collects from → (now : TheProcess) (w : Checkpoint) → (after_call s k).processes q ≡ Runs now w → has_recovered now.course ≡ true
+      → Moment n q (after_call s k) t ks now.course
+  of-one k p h ks e mine q l from c now w is rec = split (q == p) refl
+    where
+      split : (b : Bool) → (q == p) ≡ b → Moment n q (after_call s k) t ks now.course
+      split true d =
+          let same : q ≡ p = grind (arith, nat_tests) in
+          let here : h ≡ Runs now w = sym (raised-here s.processes p h) ∙ ap (λ z. put s.processes p h z) (sym same) ∙ sym (ap (λ z. z q) e) ∙ is in
+          subst (λ z. Moment n z (after_call s k) t ks now.course) (sym same) (mine from (subst (λ z. t.processes z ≡ stages.Collects from) same c) now w here rec)
+      split false d =
+          let apart : q ≢ p = grind (arith, nat_tests) in
+          unmoved q l from c now w (sym (raised-other s.processes p q h apart) ∙ sym (ap (λ z. z q) e) ∙ is) rec
+
   -- acts alone
   by-acts : (k : HostCall) (p : ℕ) (h : Hosted) (ps : List Process) → IsFirst n p → Chain (t.processes p) ps (as_process h) → after_call s k ≡ record s { processes = put s.processes p h } → IsGood (images p) h
-      → shown_by s k ≡ [] → Steps images n s t k
-  by-acts k p h ps l c e g o =
+      → shown_by s k ≡ [] → ((q : ℕ) → gave_by q k ≡ []) → Steps images n s t k
+  by-acts k p h ps l c e g o gave =
       let r : Ran f n p (as_process h) t (dids p ps) = ran f n p l (t.processes p) ps (as_process h) t refl c in
       let end : System = record s { processes = put s.processes p h } in
       let b : Beside n p end t = record {
@@ -101,13 +128,21 @@ module _ (images : ℕ → AnyImage) (n : ℕ) (s : System) (t : Lived) (st : Is
         alone = λ x. r.alone;
         durable = λ q x. r.durable q;
         outputs = r.outputs ∙ sym o;
+        gave = λ q. dids-give q p ps ∙ sym (gave q);
+        moment = of-one k p h (dids p ps) (ap (λ (z : System). z.processes) e)
+            (λ from is now w was rec. of-acts f n p l (after_call s k) t from ps w now.course is (subst (λ z. Beside n p z t) (sym e) b) rec
+            (subst (λ z. Chain z ps (seen w now.course)) is (subst (λ z. Chain (t.processes p) ps (as_process z)) was c)));
       }
+
+  -- what one call makes of one that collects: that it collects, or is killed
+  abbrev Lands : ℕ → Process → Type 0
+  Lands p first = (from : TheCollecting) → t.processes p ≡ stages.Collects from → ((mid : TheCollecting) × (first ≡ stages.Collects mid)) ⊎ (first ≡ stages.Killed)
 
   -- one call of `lives`, and acts behind it
   by-call : (k : HostCall) (p : ℕ) (h : Hosted) (one : Call) (first : Process) (ps : List Process) → IsFirst n p → called.DoesIt f n t one → ReplaysWhole t one → (called.after_call t one).processes p ≡ first → Chain first ps (as_process h)
       → Beside n p (after_call s k) (called.after_call t one) → (after_call s k).processes ≡ put s.processes p h → IsGood (images p) h → (FailsAlone n s k → lone.FailsAlone n t one) → ((q : ℕ) → KeepsDurable q k → durables.KeepsDurable q t one)
-      → durables.outputs_of t (one ∷ dids p ps) ≡ durables.outputs_of (called.after_call t one) (dids p ps) → shown_by s k ≡ [] → Steps images n s t k
-  by-call k p h one first ps l does whole is c b e g a d more o =
+      → durables.outputs_of t (one ∷ dids p ps) ≡ durables.outputs_of (called.after_call t one) (dids p ps) → shown_by s k ≡ [] → ((q : ℕ) → durables.given_by q (one ∷ dids p ps) ≡ gave_by q k) → Lands p first → Steps images n s t k
+  by-call k p h one first ps l does whole is c b e g a d more o gave lands =
       let u : Lived = called.after_call t one in
       let r : Ran f n p (as_process h) u (dids p ps) = ran f n p l first ps (as_process h) u is c in
       record {
@@ -120,7 +155,16 @@ module _ (images : ℕ → AnyImage) (n : ℕ) (s : System) (t : Lived) (st : Is
         alone = λ x. (a x, r.alone);
         durable = λ q x. (d q x, r.durable q);
         outputs = more ∙ r.outputs ∙ sym o;
+        gave = gave;
+        moment = of-one k p h (one ∷ dids p ps) e (λ from at now w was rec. landed now w was rec (lands from at));
       }
+    where
+      landed : (now : TheProcess) (w : Checkpoint) → h ≡ Runs now w → has_recovered now.course ≡ true → ((mid : TheCollecting) × (first ≡ stages.Collects mid)) ⊎ (first ≡ stages.Killed) → Moment n p (after_call s k) t (one ∷ dids p ps) now.course
+      landed now w was rec (inl m) =
+          let u : Lived = called.after_call t one in
+          behind-one n p (after_call s k) t one (dids p ps) now.course
+          (of-acts f n p l (after_call s k) u m.0 ps w now.course (is ∙ m.1) b rec (subst (λ z. Chain z ps (seen w now.course)) m.1 (subst (λ z. Chain first ps (as_process z)) was c)))
+      landed now w was rec (inr m) = dead-end ps w now.course (subst (λ z. Chain z ps (seen w now.course)) m (subst (λ z. Chain first ps (as_process z)) was c)) rec
 
   -- where it runs so, the process of `lives` is this
   here : (p : ℕ) (old : TheProcess) (w : Checkpoint) → IsFirst n p → s.processes p ≡ Runs old w → t.processes p ≡ seen w old.course
@@ -139,8 +183,8 @@ module _ (images : ℕ → AnyImage) (n : ℕ) (s : System) (t : Lived) (st : Is
   -- ---- packets
 
   took : (k : HostCall) (p : ℕ) (x : Packet) (old new : TheProcess) (w : Checkpoint) → IsFirst n p → s.processes p ≡ Runs old w → Stays (Takes (Some x)) old new
-      → after_call s k ≡ record s { processes = put s.processes p (Runs new w); given = x ∷ s.given } → shown_by s k ≡ [] → Steps images n s t k
-  took k p x old new w l e g is o =
+      → after_call s k ≡ record s { processes = put s.processes p (Runs new w); given = x ∷ s.given } → shown_by s k ≡ [] → ((q : ℕ) → (if p == q then x ∷ [] else []) ≡ gave_by q k) → Steps images n s t k
+  took k p x old new w l e g is o gave =
       let good = good-of p old w l e in
       let a : Is (Gives x) w old.course new.course = taken-is x w old.course new.course good.1.0 good.1.1 g.does in
       let end : System = record s { processes = put s.processes p (Runs new w); given = x ∷ s.given } in
@@ -154,22 +198,23 @@ module _ (images : ℕ → AnyImage) (n : ℕ) (s : System) (t : Lived) (st : Is
         given = ap (λ z. x ∷ z) st.given;
       } in
       by-call k p (Runs new w) (called.Gave p x to) to [] l (l, subst (λ z. Gives x z to) (sym (here p old w l e)) a.1.1) tt (raised-here t.processes p to) refl (subst (λ z. Beside n p z (called.after_call t (called.Gave p x to))) (sym is) b)
-      (ap (λ (z : System). z.processes) is) (g.image ∙ good.0, (a.0, a.1.0)) (λ z. tt) (λ q z. tt) refl o
+      (ap (λ (z : System). z.processes) is) (g.image ∙ good.0, (a.0, a.1.0)) (λ z. tt) (λ q z. tt) refl o gave (λ from c. let it = subst (λ z. Gives x z to) (sym (here p old w l e) ∙ c) a.1.1 in inl (it.0, it.1.0))
 
   heard : (k : HostCall) (p : ℕ) (x : Packet) (old new : TheProcess) (w : Checkpoint) → IsFirst n p → IsOne x s.given → s.processes p ≡ Runs old w → process.Calls (IsHanded x) old new
-      → after_call s k ≡ record s { processes = put s.processes p (Runs new w) } → shown_by s k ≡ [] → Steps images n s t k
-  heard k p x old new w l one e g is o =
+      → after_call s k ≡ record s { processes = put s.processes p (Runs new w) } → shown_by s k ≡ [] → ((q : ℕ) → gave_by q k ≡ []) → Steps images n s t k
+  heard k p x old new w l one e g is o gave =
       let good = good-of p old w l e in
       let a : Is (Hears x) w old.course g.mid = handed-is x w old.course g.mid good.1.0 good.1.1 g.does in
       let c : GoesOn w g.mid new.course = passes-on w g.mid new.course a.0 a.1.0 g.passes in
       let to : Process = seen w g.mid in
       by-call k p (Runs new w) (called.Handed p x to) to c.1.1.0 l (l, (subst (IsOne x) (sym st.given) one, subst (λ z. Hears x z to) (sym (here p old w l e)) a.1.1)) tt (raised-here t.processes p to) c.1.1.1
       (subst (λ z. Beside n p z (called.after_call t (called.Handed p x to))) (sym is) (beside-one p (Runs new w) to)) (ap (λ (z : System). z.processes) is) (g.image ∙ good.0, (c.0, c.1.0)) (λ z. tt) (λ q z. tt) refl o
+      (λ q. dids-give q p c.1.1.0 ∙ sym (gave q)) (λ from at. let it = subst (λ z. Hears x z to) (sym (here p old w l e) ∙ at) a.1.1 in inl (it.0, it.1.0))
 
   -- ---- its handler, and what is sent again
 
-  worked : (k : HostCall) (p : ℕ) (old new : TheProcess) (w : Checkpoint) → IsFirst n p → s.processes p ≡ Runs old w → working.Works old new → after_call s k ≡ record s { processes = put s.processes p (Runs new w) } → shown_by s k ≡ [] → Steps images n s t k
-  worked k p old new w l e g is o =
+  worked : (k : HostCall) (p : ℕ) (old new : TheProcess) (w : Checkpoint) → IsFirst n p → s.processes p ≡ Runs old w → working.Works old new → after_call s k ≡ record s { processes = put s.processes p (Runs new w) } → shown_by s k ≡ [] → ((q : ℕ) → gave_by q k ≡ []) → Steps images n s t k
+  worked k p old new w l e g is o gave =
       let good = good-of p old w l e in
       let am : IsHere n p (seen w old.course) = subst (IsHere n p) (here p old w l e) (heres p l) in
       let does : Answer = answered g.who g.answer in
@@ -178,6 +223,7 @@ module _ (images : ℕ → AnyImage) (n : ℕ) (s : System) (t : Lived) (st : Is
       let to : Process = seen w g.mid in
       by-call k p (Runs new w) (called.Worked p does to) to c.1.1.0 l (l, subst (λ z. Works f p does z to) (sym (here p old w l e)) a.1.1) tt (raised-here t.processes p to) c.1.1.1
       (subst (λ z. Beside n p z (called.after_call t (called.Worked p does to))) (sym is) (beside-one p (Runs new w) to)) (ap (λ (z : System). z.processes) is) (g.image ∙ good.0, (c.0, c.1.0)) (λ z. tt) (λ q z. tt) refl o
+      (λ q. dids-give q p c.1.1.0 ∙ sym (gave q)) (λ from at. absurd (subst (λ z. Works f p does z to) (sym (here p old w l e) ∙ at) a.1.1))
 
   ticks : (p : ℕ) (old new : TheProcess) (w : Checkpoint) → IsFirst n p → s.processes p ≡ Runs old w → process.Calls Ticks old new → Steps images n s t (Ticked p new)
   ticks p old new w l e g =
@@ -186,7 +232,7 @@ module _ (images : ℕ → AnyImage) (n : ℕ) (s : System) (t : Lived) (st : Is
       let c : GoesOn w g.mid new.course = passes-on w g.mid new.course a.0 a.1.0 g.passes in
       let chain : Chain (seen w old.course) (a.1.1.0 ++ c.1.1.0) (seen w new.course) = chain-append (seen w old.course) a.1.1.0 (seen w g.mid) c.1.1.0 (seen w new.course) a.1.1.1 c.1.1.1 in
       by-acts (Ticked p new) p (Runs new w) (a.1.1.0 ++ c.1.1.0) l (subst (λ z. Chain z (a.1.1.0 ++ c.1.1.0) (seen w new.course)) (sym (here p old w l e)) chain)
-      (ap (λ z. record s { processes = put s.processes p z }) (on-by p old new w e)) (g.image ∙ good.0, (c.0, c.1.0)) refl
+      (ap (λ z. record s { processes = put s.processes p z }) (on-by p old new w e)) (g.image ∙ good.0, (c.0, c.1.0)) refl (λ q. refl)
 
   -- ---- checkpoints
 
@@ -194,13 +240,13 @@ module _ (images : ℕ → AnyImage) (n : ℕ) (s : System) (t : Lived) (st : Is
   freezes p bytes old new w l e may kept g =
       let good = good-of p old w l e in
       let a = froze-is bytes w old.course new.course good.1.1 may kept g.does in
-      by-acts (Froze p bytes new) p (Runs new (Pending bytes)) a.1.1.0 l (subst (λ z. Chain z a.1.1.0 (seen (Pending bytes) new.course)) (sym (here p old w l e)) a.1.1.1) refl (g.image ∙ good.0, (a.0, a.1.0)) refl
+      by-acts (Froze p bytes new) p (Runs new (Pending bytes)) a.1.1.0 l (subst (λ z. Chain z a.1.1.0 (seen (Pending bytes) new.course)) (sym (here p old w l e)) a.1.1.1) refl (g.image ∙ good.0, (a.0, a.1.0)) refl (λ q. refl)
 
   pauses : (p : ℕ) (old new : TheProcess) (w : Checkpoint) → IsFirst n p → s.processes p ≡ Runs old w → Stays Freezes old new → Steps images n s t (Paused p new)
   pauses p old new w l e g =
       let good = good-of p old w l e in
       let a : GoesOn w old.course new.course = paused-is w old.course new.course good.1.0 good.1.1 g.does in
-      by-acts (Paused p new) p (Runs new w) a.1.1.0 l (subst (λ z. Chain z a.1.1.0 (seen w new.course)) (sym (here p old w l e)) a.1.1.1) (ap (λ z. record s { processes = put s.processes p z }) (on-by p old new w e)) (g.image ∙ good.0, (a.0, a.1.0)) refl
+      by-acts (Paused p new) p (Runs new w) a.1.1.0 l (subst (λ z. Chain z a.1.1.0 (seen w new.course)) (sym (here p old w l e)) a.1.1.1) (ap (λ z. record s { processes = put s.processes p z }) (on-by p old new w e)) (g.image ∙ good.0, (a.0, a.1.0)) refl (λ q. refl)
 
   stores : (p : ℕ) (bytes : List ℕ) (old : TheProcess) → IsFirst n p → s.processes p ≡ Runs old (Pending bytes) → Steps images n s t (Stored p bytes)
   stores p bytes old l e =
@@ -220,6 +266,7 @@ module _ (images : ℕ → AnyImage) (n : ℕ) (s : System) (t : Lived) (st : Is
       } in
       by-call (Stored p bytes) p (Runs old Durable) (called.Stored p bytes) to [] l (l, subst (WaitsFor bytes) (sym is) good.1.1) tt (raised-here t.processes p (covered (t.processes p)) ∙ ap covered is) refl
       (subst (λ z. Beside n p (record s { processes = put s.processes p z; stored = put s.stored p bytes }) u) (sym now) b) (ap (put s.processes p) now) (good.0, (good.1.0, stored-is bytes old.course good.1.1)) (λ z. tt) (λ q z. tt) refl refl
+      (λ q. refl) (λ from at. absurd (subst (WaitsFor bytes) (sym is ∙ at) good.1.1))
 
   saves : (p : ℕ) (old new : TheProcess) → IsFirst n p → s.processes p ≡ Runs old Durable → Stays Thaws old new → Steps images n s t (Saved p new)
   saves p old new l e g =
@@ -227,13 +274,13 @@ module _ (images : ℕ → AnyImage) (n : ℕ) (s : System) (t : Lived) (st : Is
       let a = saved-is old.course new.course good.1.1 g.does in
       let to : Process = stage_of new.course in
       by-call (Saved p new) p (Runs new Absent) (called.Saved p to) to [] l (l, subst (λ z. IsTold z to) (sym (here p old Durable l e)) a.1) tt (raised-here t.processes p to) refl (beside-one p (Runs new Absent) to) refl
-      (g.image ∙ good.0, (a.0, tt)) (λ z. tt) (λ q z. tt) refl refl
+      (g.image ∙ good.0, (a.0, tt)) (λ z. tt) (λ q z. tt) refl refl (λ q. refl) (λ from at. absurd (subst (λ z. IsTold z to) (sym (here p old Durable l e) ∙ at) a.1))
 
   -- ---- it is killed, and comes back
 
   dies : (p : ℕ) → IsFirst n p → Steps images n s t (Died p)
   dies p l =
-      by-call (Died p) p Killed (called.Died p) stages.Killed [] l l tt (raised-here t.processes p stages.Killed) refl (beside-one p Killed stages.Killed) refl tt (λ a q m o. ap is_up (st.processes q m) ∙ a q m o) (λ q z. tt) refl refl
+      by-call (Died p) p Killed (called.Died p) stages.Killed [] l l tt (raised-here t.processes p stages.Killed) refl (beside-one p Killed stages.Killed) refl tt (λ a q m o. ap is_up (st.processes q m) ∙ a q m o) (λ q z. tt) refl refl (λ q. refl) (λ from at. inr refl)
 
   revives : (p : ℕ) (limits : Limits) (life : ℕ) (new : TheProcess) → IsFirst n p → s.processes p ≡ Killed → s.lives p < life → IsRevived (images p) limits (s.stored p) life new → Steps images n s t (Revived p limits life new)
   revives p limits life new l e above g =
@@ -252,7 +299,7 @@ module _ (images : ℕ → AnyImage) (n : ℕ) (s : System) (t : Lived) (st : Is
         given = st.given;
       } in
       by-call (Revived p limits life new) p (Runs new Absent) (called.Revived p life n2) to [] l (l, (subst IsKilled (sym dead) tt, (subst (λ z. z < life) (sym (st.lives p l)) above, from))) tt (raised-here t.processes p to) is b refl
-      (g.image_is, (ap is_settled g.course_is, tt)) (λ z. tt) (λ q d same. ap (λ (z : Limits). z.durable) (revived-limits limits g.kept life) ∙ d same) refl refl
+      (g.image_is, (ap is_settled g.course_is, tt)) (λ z. tt) (λ q d same. ap (λ (z : Limits). z.durable) (revived-limits limits g.kept life) ∙ d same) refl refl (λ q. refl) (λ from at. absurd (subst IsKilled (sym dead ∙ at) tt))
 
   -- ---- the gateway
 
@@ -271,6 +318,8 @@ module _ (images : ℕ → AnyImage) (n : ℕ) (s : System) (t : Lived) (st : Is
         alone = λ a. (tt, tt);
         durable = λ q d. (tt, tt);
         outputs = refl;
+        gave = λ q. refl;
+        moment = λ q l from at now w is rec. unmoved q l from at now w is rec;
       }
 
   handed-out : (x : Packet) (new : TheGateway) → called.DoesIt f n (as_lives s) (called.HandedOut x new) → by-gateway (called.HandedOut x new)
@@ -286,6 +335,8 @@ module _ (images : ℕ → AnyImage) (n : ℕ) (s : System) (t : Lived) (st : Is
         alone = λ a. (tt, tt);
         durable = λ q d. (tt, tt);
         outputs = refl;
+        gave = λ q. refl;
+        moment = λ q l from at now w is rec. unmoved q l from at now w is rec;
       }
 
   did-out : (new : TheGateway) → called.DoesIt f n (as_lives s) (called.DidOut new) → by-gateway (called.DidOut new)
@@ -301,6 +352,8 @@ module _ (images : ℕ → AnyImage) (n : ℕ) (s : System) (t : Lived) (st : Is
         alone = λ a. (tt, tt);
         durable = λ q d. (tt, tt);
         outputs = append-nil (handed_out t.gateway new) ∙ ap (λ z. handed_out z new) st.gateway;
+        gave = λ q. refl;
+        moment = λ q l from at now w is rec. unmoved q l from at now w is rec;
       }
 
   stored-out : by-gateway called.StoredOut
@@ -315,6 +368,8 @@ module _ (images : ℕ → AnyImage) (n : ℕ) (s : System) (t : Lived) (st : Is
         alone = λ a. (tt, tt);
         durable = λ q d. (tt, tt);
         outputs = refl;
+        gave = λ q. refl;
+        moment = λ q l from at now w is rec. unmoved q l from at now w is rec;
       }
 
   revived-out : (new : TheGateway) → called.DoesIt f n (as_lives s) (called.RevivedOut new) → by-gateway (called.RevivedOut new)
@@ -330,6 +385,8 @@ module _ (images : ℕ → AnyImage) (n : ℕ) (s : System) (t : Lived) (st : Is
         alone = λ a. (tt, tt);
         durable = λ q d. (tt, tt);
         outputs = refl;
+        gave = λ q. refl;
+        moment = λ q l from at now w is rec. unmoved q l from at now w is rec;
       }
 
   outwards : (k : Call) → IsOutside k → called.DoesIt f n (as_lives s) k → by-gateway k
@@ -361,19 +418,19 @@ module _ (images : ℕ → AnyImage) (n : ℕ) (s : System) (t : Lived) (st : Is
 
   pub steps : (k : HostCall) → DoesIt images n s k → Steps images n s t k
   steps (Gave p x new) g = alive (λ old. Stays (Takes (Some x)) old new) (Gave p x new) (s.processes p) p refl g.1
-      (λ old w e does. took (Gave p x new) p x old new w g.0 e does (ap (λ z. record s { processes = put s.processes p z; given = x ∷ s.given }) (on-by p old new w e)) refl)
+      (λ old w e does. took (Gave p x new) p x old new w g.0 e does (ap (λ z. record s { processes = put s.processes p z; given = x ∷ s.given }) (on-by p old new w e)) refl (λ q. refl))
   steps (GaveBytes p x bytes new) g = alive (λ old. GivesBytes bytes old new) (GaveBytes p x bytes new) (s.processes p) p refl g.1.1
       (λ old w e does. took (GaveBytes p x bytes new) p x old new w g.0 e (subst (λ z. Stays (Takes (Some z)) old new) (one_packet does.0 x bytes does.1 g.1.0) does.2)
-      (ap (λ z. record s { processes = put s.processes p z; given = x ∷ s.given }) (on-by p old new w e)) refl)
+      (ap (λ z. record s { processes = put s.processes p z; given = x ∷ s.given }) (on-by p old new w e)) refl (λ q. refl))
   steps (Handed p x new) g = alive (λ old. process.Calls (IsHanded x) old new) (Handed p x new) (s.processes p) p refl g.1.1
-      (λ old w e does. heard (Handed p x new) p x old new w g.0 g.1.0 e does (ap (λ z. record s { processes = put s.processes p z }) (on-by p old new w e)) refl)
+      (λ old w e does. heard (Handed p x new) p x old new w g.0 g.1.0 e does (ap (λ z. record s { processes = put s.processes p z }) (on-by p old new w e)) refl (λ q. refl))
   steps (HandedBytes p x bytes new) g = alive (λ old. (y : Packet) → IsPacket y bytes → process.Calls (IsHanded y) old new) (HandedBytes p x bytes new) (s.processes p) p refl g.1.1.1
-      (λ old w e does. heard (HandedBytes p x bytes new) p x old new w g.0 g.1.0 e (does x g.1.1.0) (ap (λ z. record s { processes = put s.processes p z }) (on-by p old new w e)) refl)
+      (λ old w e does. heard (HandedBytes p x bytes new) p x old new w g.0 g.1.0 e (does x g.1.1.0) (ap (λ z. record s { processes = put s.processes p z }) (on-by p old new w e)) refl (λ q. refl))
   steps (Worked p new) g = alive (λ old. working.Works old new) (Worked p new) (s.processes p) p refl g.1
-      (λ old w e does. worked (Worked p new) p old new w g.0 e does (ap (λ z. record s { processes = put s.processes p z }) (on-by p old new w e)) refl)
+      (λ old w e does. worked (Worked p new) p old new w g.0 e does (ap (λ z. record s { processes = put s.processes p z }) (on-by p old new w e)) refl (λ q. refl))
   steps (Answered p ticket state a new) g = alive (λ old. AnswersSo state a old × (IsAnswered ticket state a old new × WorksAs state a old new)) (Answered p ticket state a new) (s.processes p) p refl g.1
       (λ old w e does. let h = does.0 does.1.0.message does.1.0.who does.1.0.next in
-      worked (Answered p ticket state a new) p old new w g.0 e (does.1.1 does.1.0.message does.1.0.who h.0 does.1.0.next h.1.0 h.1.1.0 h.1.1.1) (ap (λ z. record s { processes = put s.processes p z }) (on-by p old new w e)) refl)
+      worked (Answered p ticket state a new) p old new w g.0 e (does.1.1 does.1.0.message does.1.0.who h.0 does.1.0.next h.1.0 h.1.1.0 h.1.1.1) (ap (λ z. record s { processes = put s.processes p z }) (on-by p old new w e)) refl (λ q. refl))
   steps (Paused p new) g = alive (λ old. Stays Freezes old new) (Paused p new) (s.processes p) p refl g.1 (λ old w e does. pauses p old new w g.0 e does)
   steps (Ticked p new) g = alive (λ old. process.Calls Ticks old new) (Ticked p new) (s.processes p) p refl g.1 (λ old w e does. ticks p old new w g.0 e does)
   steps (Froze p bytes new) g = alive (λ old. IsSavable old.course × (Keeps old.course bytes × Stays Freezes old new)) (Froze p bytes new) (s.processes p) p refl g.1

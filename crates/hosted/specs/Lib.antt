@@ -2,3 +2,4 @@ pub mod Process
 pub mod Answering
 pub mod System
 pub mod Lives
+pub mod Back

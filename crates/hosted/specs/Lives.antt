@@ -1,8 +1,9 @@
 -- Calls of hosted processes are those of `lives`, and what is promised of these
-use Rattle.std.specs.Prelude.{◌≡◌, ◌≢◌, ℕ, ◌≤◌, List, [], ◌∷◌, ◌++◌, Bool, true}
+use Rattle.std.specs.Prelude.{◌≡◌, ◌≢◌, ℕ, ◌≤◌, List, [], ◌∷◌, ◌++◌, Bool, true, ◌==◌, if◌then◌else◌}
 use Rattle.world.specs.Handlers.{Handlers}
 use Rattle.images.specs.declared.any_image.AnyImage.{AnyImage}
 use Rattle.images.specs.AnyImage.{state_of}
+use Rattle.packets.specs.declared.packet.Packet.{Packet}
 use Rattle.stores.specs.declared.change.Output.{Output}
 use Rattle.node.specs.declared.limit.Limits.{Limits}
 use Rattle.node.specs.Node.{TheNode}
@@ -13,11 +14,11 @@ use Rattle.lives.specs.System as called
 use Rattle.lives.specs.System.{Call, DidOut, IsRunOf}
 use Rattle.lives.specs.Alone.{is_up}
 use Rattle.lives.specs.Back.{HasBack}
-use Rattle.lives.specs.Durable.{ReplayWhole, handed_out, Stays, Keep}
+use Rattle.lives.specs.Durable.{ReplayWhole, handed_out, Stays, Lasts, Keep}
 use Rattle.process.specs.Process.{TheProcess}
 use Rattle.hosted.specs.Process.{as_process}
 use Rattle.hosted.specs.Answering.{answering}
-use Rattle.hosted.specs.System.{System, Opens, new_system, HostCall, Died, Revived, Outside, as_lives, AreCalls, after_call, after_calls}
+use Rattle.hosted.specs.System.{System, Opens, new_system, HostCall, Gave, GaveBytes, Died, Revived, Outside, as_lives, AreCalls, after_call, after_calls}
 
 -- the first n processes are these, and so are what is stored of them, their incarnations, the gateway and what was given
 pub record IsAs (n : ℕ) (s : System) (t : called.System) : Type 0 where
@@ -103,6 +104,23 @@ abbrev pub HostedStays : Type 0
 HostedStays = (images : ℕ → AnyImage) (n page tick : ℕ) (limits : ℕ → Limits) (processes : ℕ → TheProcess) (bytes : ℕ → List ℕ) (calls more : List HostCall) (p : ℕ) → Opens n images limits processes bytes → IsFirst n p
     → AreCalls images n (new_system n processes bytes page tick) (calls ++ more)
     → Stays n (handlers n images) p (as_lives (after_calls (new_system n processes bytes page tick) calls)) (as_lives (after_calls (new_system n processes bytes page tick) (calls ++ more)))
+
+-- the packets that p gave by a call
+abbrev pub gave_by : ℕ → HostCall → List Packet
+gave_by p (Gave q x new) = if q == p then x ∷ [] else []
+gave_by p (GaveBytes q x bytes new) = if q == p then x ∷ [] else []
+gave_by p call = []
+
+-- by each of these
+abbrev pub given_by : ℕ → List HostCall → List Packet
+given_by p [] = []
+given_by p (k ∷ ks) = gave_by p k ++ given_by p ks
+
+-- and of a durable process all that it gave is besides what the messages of then make it send, each in its place
+abbrev pub HostedLast : Type 0
+HostedLast = (images : ℕ → AnyImage) (n page tick : ℕ) (limits : ℕ → Limits) (processes : ℕ → TheProcess) (bytes : ℕ → List ℕ) (calls more : List HostCall) (p : ℕ) → Opens n images limits processes bytes → IsFirst n p
+    → (limits p).durable ≡ true → AreCalls images n (new_system n processes bytes page tick) (calls ++ more) → StaysDurable p (calls ++ more)
+    → Lasts n (handlers n images) p (as_lives (after_calls (new_system n processes bytes page tick) calls)) (as_lives (after_calls (new_system n processes bytes page tick) (calls ++ more))) (given_by p calls) (given_by p (calls ++ more))
 
 -- the outputs that the gateway hands out by a call
 abbrev pub shown_by : System → HostCall → List Output

@@ -1,6 +1,7 @@
 //! What holds of hosted processes.
 
-ghost use Rattle.hosted.specs.Lives.{HostedAlone, HostedBack, HostedKeep, HostedLive, HostedRun, HostedStays};
+ghost use Rattle.hosted.specs.Lives.{HostedAlone, HostedBack, HostedKeep, HostedLast, HostedLive, HostedRun, HostedStays};
+ghost use Rattle.hosted.specs.Back.{HostedRecovers, HostedRecoversAlone};
 
 /// Calls of processes by their hosts, from their opening on, as the contracts of their functions say,
 /// and of the gateway, in any order, with packets handed over late, twice or never, each process killed
@@ -27,10 +28,28 @@ pub fn hosted_back()
     ensures { HostedBack }
 {}
 
+/// A call before which a process collects, and behind which it doesn't: what it keeps then it had received,
+/// with all that was acknowledged without a gap; that stays the first that it has; and where it is up with
+/// no more, its state is the one that it had after these messages.
+pub fn hosted_recovers()
+    ensures { HostedRecovers }
+{}
+
+/// So it is where a process is killed only while all others are up, whether they stay exact or not.
+pub fn hosted_recovers_alone()
+    ensures { HostedRecoversAlone }
+{}
+
 /// Whatever fails and meets, what is stored of a process, durable or not, is its state after some
 /// messages and what they send; these only get more; and where it is up, it has no less.
 pub fn hosted_stays()
     ensures { HostedStays }
+{}
+
+/// Whatever fails and meets, all that a durable process ever gave is, by its SSN, what the messages that are
+/// stored of it make it send.
+pub fn hosted_last()
+    ensures { HostedLast }
 {}
 
 /// Whatever fails and meets, what anyone has of a durable process is what the messages that are stored

@@ -6,10 +6,13 @@
 //! revived from the bytes that are stored. The contract of each function says what it leaves. Here
 //! such calls, in any order, are shown to be those of crate `lives` ([`hosted_live`]): each is at
 //! most one call there, and one more for each stage to which the process passes on. So what is promised there
-//! is promised of these values ([`hosted_run`], [`hosted_alone`], [`hosted_back`],
-//! [`hosted_stays`], [`hosted_keep`]).
+//! is promised of these values ([`hosted_run`], [`hosted_alone`], [`hosted_back`], [`hosted_recovers`],
+//! [`hosted_stays`], [`hosted_last`], [`hosted_keep`]).
 #![tactic(auto)]
 
 mod laws;
 
-pub use laws::{hosted_alone, hosted_back, hosted_keep, hosted_live, hosted_run, hosted_stays};
+pub use laws::{
+    hosted_alone, hosted_back, hosted_keep, hosted_last, hosted_live, hosted_recovers,
+    hosted_recovers_alone, hosted_run, hosted_stays,
+};

@@ -1,6 +1,6 @@
 -- A process through its stages: none of its calls makes it keep more messages, but where its handler works
 use Rattle.std.proofs.Common.{◌≡◌, ◌∙◌, ◌≤◌, ◌+◌, ◌-◌, ℕ, zero, suc, List, [], ◌∷◌, length, min, refl, sym, ap, subst, arith, length-drop}
-use Rattle.std.specs.Prelude.{Option, Some, None, slice_set, if◌then◌else◌}
+use Rattle.std.specs.Prelude.{Option, Some, None, Bool, true, false, slice_set, if◌then◌else◌}
 use Rattle.packets.specs.declared.packet.Body.{Body}
 use Rattle.packets.specs.declared.packet.Packet.{Packet}
 use Rattle.node.specs.declared.job.OpenJob.{OpenJob}
@@ -17,7 +17,7 @@ use Rattle.process.specs.declared.course.Course.{Course}
 use Rattle.process.specs.declared.course.Course.TheVariants.{Up, Collecting, Replaying, Replayed, Restoring, Passing}
 use Rattle.process.specs.Process.{TheProcess}
 use Rattle.process.specs.Passing.{Recovers, Finishes, Begun, Returns, Passes}
-use Rattle.process.specs.Calls.{Calls, Stays, IsHanded, Ticks, Takes, Freezes, Thaws, standing_at}
+use Rattle.process.specs.Calls.{Calls, Stays, IsHanded, Ticks, Takes, Freezes, FreezesAs, Thaws, is_storable, standing_at}
 use Rattle.process.specs.Working.{TakesIn, MayTakeIn}
 use Rattle.process.specs.Job.{TakesBack}
 use Rattle.process.specs.Holding.{entries_of, KeepsNoMore, sent_in, EntriesAreGiven, CoveredAreDropped}
@@ -87,8 +87,12 @@ takes (Some x) (Restoring old) (Restoring new) h = same old.own.logs new.own.log
 takes o Passing new h = moved Passing new h.1
 takes o old new h = absurd h
 
+freezes-as : (s : Bool) (old new : TheNode) → FreezesAs s old new → NoMore old.logs new.logs
+freezes-as true old new h = subst (λ (m : TheNode). NoMore old.logs m.logs) (sym h.0) (logs.froze old)
+freezes-as false old new h = same old.logs new.logs (ap (λ (m : TheNode). m.logs) h)
+
 freezes : (old new : Course) → Freezes old new → No old new
-freezes (Up old) (Up new) h = subst (λ (m : TheNode). NoMore old.logs m.logs) (sym h.0) (logs.froze old)
+freezes (Up old) (Up new) h = freezes-as (is_storable old) old new h
 freezes (Up old) new h = absurd h
 freezes old new h = moved old new h
 

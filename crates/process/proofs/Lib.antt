@@ -6,3 +6,6 @@ mod Workings
 pub mod Rooms
 mod Holdings
 mod Courses
+pub mod Bounds
+mod Bounded
+mod Within

@@ -1,12 +1,14 @@
 -- What the calls of a process are, by its stage: each is the call of that stage
-use Rattle.std.specs.Prelude.{◌≡◌, [], ◌∷◌, Option, Some, None, Bool, true, false}
+use Rattle.std.specs.Prelude.{◌≡◌, [], ◌∷◌, Option, Some, None, Bool, true, false, ◌&&◌, nat_lt}
 use Rattle.packets.specs.declared.packet.Packet.{Packet}
 use Rattle.node.specs.declared.standing.Standing.{Standing}
 use Rattle.node.specs.declared.standing.Stage.TheVariants as stage
 use Rattle.node.specs.Calls as up
 use Rattle.node.specs.Stands as up_owes
 use Rattle.node.specs.Sending.{ticked}
-use Rattle.node.specs.Standing.{standing_of}
+use Rattle.node.specs.Node.{TheNode}
+use Rattle.node.specs.Standing.{entries_kept, standing_of}
+use Rattle.node.specs.declared.kept.TheConstants.{MOST_KEPT}
 use Rattle.node.specs.Saving as saving
 use Rattle.recovery.specs.Collecting as collecting
 use Rattle.recovery.specs.Stands as collecting_owes
@@ -65,9 +67,13 @@ Takes o (Restoring old) (Restoring new) = restoring_owes.Takes o old new
 Takes o Passing new = (o ≡ None) × (new ≡ Passing)
 Takes o old new = ⊥
 
--- a checkpoint can be made: it is up, with no job open, and waits for none
+-- its logs keep no more than a checkpoint can hold
+abbrev pub is_storable : TheNode → Bool
+is_storable n = nat_lt (entries_kept n.logs) MOST_KEPT
+
+-- a checkpoint can be made: it is up, with no job open, waits for none, and its logs keep no more than one can hold
 abbrev pub may_freeze : Course → Bool
-may_freeze (Up n) = saving.may_freeze n
+may_freeze (Up n) = saving.may_freeze n && is_storable n
 may_freeze other = false
 
 -- it waits for one
@@ -75,9 +81,13 @@ abbrev pub is_frozen : Course → Bool
 is_frozen (Up n) = n.frozen
 is_frozen other = false
 
--- one is made
+-- one is made, where it can hold what the logs keep
+abbrev pub FreezesAs : Bool → TheNode → TheNode → Type 0
+FreezesAs true old new = (new ≡ saving.froze old) × up_owes.Acts old new
+FreezesAs false old new = new ≡ old
+
 abbrev pub Freezes : Course → Course → Type 0
-Freezes (Up old) (Up new) = (new ≡ saving.froze old) × up_owes.Acts old new
+Freezes (Up old) (Up new) = FreezesAs (is_storable old) old new
 Freezes (Up old) new = ⊥
 Freezes old new = new ≡ old
 

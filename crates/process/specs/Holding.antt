@@ -8,7 +8,8 @@ use Rattle.node.specs.Node.{TheNode, log_at}
 use Rattle.node.specs.Calls.{is_for}
 use Rattle.process.specs.declared.course.Course.TheVariants.{Up}
 use Rattle.process.specs.Process.{TheProcess}
-use Rattle.process.specs.Calls.{Calls, Stays, IsHanded, Ticks, Takes, Freezes, Thaws, standing_at}
+use Rattle.process.specs.Calls.{Calls, Stays, IsHanded, Ticks, Takes, Freezes, Thaws, is_frozen, standing_at}
+use Rattle.process.specs.Bounds.{waiting_of}
 use Rattle.process.specs.Job.{TakesBack}
 
 -- how many messages its logs keep, as a host reads it
@@ -37,3 +38,8 @@ sent_in q = q.dropped + length q.payloads
 pub record CoveredAreDropped : Type 0 where
   pub dropped : (x : Packet) (k : ℕ) (n : TheNode) (old new : TheProcess) → old.course ≡ Up n → x.body ≡ Saved k → is_for n x ≡ true → Calls (IsHanded x) old new
       → (m : TheNode) × (new.course ≡ Up m) × (length (log_at m.logs x.from).payloads ≤ sent_in (log_at n.logs x.from) - k)
+
+-- the checkpoint for which a process waits is durable: it covers all that it received, so nothing is behind it, and no number waits
+pub record SavedDrops : Type 0 where
+  pub none : (old new : TheProcess) → is_frozen old.course ≡ true → Stays Thaws old new
+      → ((standing_at new.course).receipts ≡ 0) × (((standing_at new.course).base ≡ (standing_at old.course).length) × (waiting_of new.course ≡ 0))

@@ -6,4 +6,5 @@ pub mod Working
 pub mod Packets
 pub mod Saving
 pub mod Job
+pub mod Bounds
 pub mod Holding

@@ -1,5 +1,6 @@
 -- How a process passes from one stage to the next
-use Rattle.std.specs.Prelude.{◌≡◌, true, false}
+use Rattle.std.specs.Prelude.{◌≡◌, ◌≤◌, length, true, false}
+use Rattle.rsn.specs.declared.receipts.TheConstants.{LIMIT}
 use Rattle.node.specs.Node.{TheNode}
 use Rattle.node.specs.Sending.{ticked}
 use Rattle.node.specs.Stands.{Acts}
@@ -12,9 +13,10 @@ use Rattle.restoring.specs.Stands.{Begins, IsUp}
 use Rattle.process.specs.declared.course.Course.{Course}
 use Rattle.process.specs.declared.course.Course.TheVariants.{Up, Collecting, Replaying, Replayed, Restoring}
 
--- where all peers have told all, one that collects recovers; or memory is refused, or it keeps too much
+-- where all peers have told all, one that collects recovers, with no more messages than a process takes; or memory is refused, or it keeps too
+-- much
 abbrev pub Recovers : Course → Course → Type 0
-Recovers (Collecting n) (Replaying r) = (has_all n ≡ true) × Recovered n r × ComesBack n r
+Recovers (Collecting n) (Replaying r) = (has_all n ≡ true) × Recovered n r × ComesBack n r × (length r.plan ≤ LIMIT)
 Recovers old new = new ≡ old
 
 -- where nothing is left to be replayed, one that replays has replayed all

@@ -44,5 +44,6 @@ pub use course::Course;
 pub use done::Done;
 pub use fault::{Undone, Unrevived};
 pub use job::Job;
-pub use laws::{covered_are_dropped, entries_are_given};
+pub use laws::{covered_are_dropped, entries_are_given, saved_drops};
 pub use process::Process;
+pub use reading::{MOST_ENTRIES, MOST_STORED};

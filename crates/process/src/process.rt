@@ -29,16 +29,17 @@ pub struct Process {
 }
 
 impl Model for Process {
-    ghost use Rattle.std.specs.Prelude.{◌≡◌, true};
     ghost use Rattle.std.specs.Arc.{arc_value};
     ghost use Rattle.handlers.specs.Handler.{image_of};
-    ghost use Rattle.process.specs.Process.{TheProcess, is_settled};
+    ghost use Rattle.process.specs.Process.{TheProcess};
 
     ghost Value = { TheProcess };
 
+    ghost use Rattle.process.specs.Bounds.{IsWithin};
+
     ghost view = { λ p. record { image = image_of (arc_value p.image); course = p.course } };
 
-    ghost invariant = { λ p. is_settled p.course ≡ true };
+    ghost invariant = { λ p. IsWithin p.course };
 }
 
 impl Process {

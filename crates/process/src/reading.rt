@@ -1,16 +1,32 @@
 //! What a host reads of a process.
 
-ghost use Rattle.std.specs.Prelude.{◌≡◌, ◌∷◌, [], List, MatchOption};
+ghost use Rattle.std.specs.Prelude.{◌≡◌, ◌≤◌, ◌∷◌, [], List, MatchOption};
 ghost use Rattle.packets.specs.declared.packet.Packet.{Packet};
 ghost use Rattle.handlers.specs.Handler.{image_of};
 ghost use Rattle.process.specs.Process.{out_of, state_of};
+ghost use Rattle.node.specs.declared.node.TheConstants.{WINDOW};
 ghost use Rattle.process.specs.Calls.{standing_at};
+ghost use Rattle.process.specs.Bounds.{IsBounded, waiting_of};
 
 use crate::course::Course;
 use crate::process::Process;
 use handlers::Handler;
-use node::{Stage, Standing};
+use limits::PROCESSES;
+use node::{MOST_GIVEN, MOST_KEPT, Stage, Standing};
 use packets::Packet;
+use rsn::LIMIT;
+
+/// What is stored of a process has no more messages in its logs than this: fewer than [`node::MOST_KEPT`] for
+/// each peer.
+pub const MOST_STORED: usize = 0xF_0000_0000;
+
+const _: () = prove!(MOST_STORED == PROCESSES * MOST_KEPT);
+
+/// So many messages the logs of a process keep at most: those that are stored of it, and those that its
+/// messages behind its checkpoint gave.
+pub const MOST_ENTRIES: usize = 0xF_0010_0000;
+
+const _: () = prove!(MOST_ENTRIES == MOST_STORED + MOST_GIVEN * LIMIT);
 
 impl Process {
     /// Its handler.
@@ -48,11 +64,23 @@ impl Process {
         }
     }
 
-    /// How it stands.
+    /// How it stands. However long it runs, its messages behind its checkpoint, with those that it still has
+    /// to replay, the messages that its logs keep, the packets that wait, and the numbers that wait for their
+    /// acknowledgement are no more than these.
     pub fn standing(&self) -> Standing
-        ensures { result ≡ standing_at self.now.course }
+        ensures value { result ≡ standing_at self.now.course }
+        ensures bounded { IsBounded result }
+        ensures waits { waiting_of self.now.course ≤ WINDOW }
     {
-        match &self.course {
+        self.course.standing()
+    }
+}
+
+impl Course {
+    fn standing(&self) -> Standing
+        ensures { result ≡ standing_at self.now }
+    {
+        match self {
             Course::Up(process) => process.standing(),
             Course::Collecting(process) => process.standing(),
             Course::Replaying(process) => process.standing(),

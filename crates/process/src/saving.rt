@@ -2,13 +2,14 @@
 
 ghost use Rattle.std.specs.Prelude.{◌≡◌, ◌⊎◌, ◌≤◌, ◌<◌, length, false, true, IfOk, IfNone, IfSome, OnOk, OnErr};
 ghost use Rattle.packets.specs.Kept.{IsKept};
-ghost use Rattle.process.specs.Calls.{Stays, Freezes, Thaws, may_freeze, is_frozen};
+ghost use Rattle.process.specs.declared.course.Course.TheVariants.{Up};
+ghost use Rattle.process.specs.Calls.{Stays, Freezes, FreezesAs, Thaws, may_freeze, is_frozen, is_storable};
 ghost use Rattle.process.specs.Saving.{IsSavable, Keeps};
 
 use crate::course::Course;
 use crate::process::Process;
 use limits::STATE_BYTES;
-use node::{MOST_KEPT, Stage};
+use node::{MOST_KEPT, Node, Stage};
 use std::alloc::{AllocError, Global};
 
 impl Process {
@@ -36,13 +37,13 @@ impl Process {
     }
 
     /// A checkpoint is made, and the process waits for it until [`Process::saved`]. Answers whether one was
-    /// made: it has to be up, with no job open, and wait for none.
+    /// made: it has to be up, with no job open, wait for none, and its logs keep no more than one can hold.
     pub fn freeze(&mut self) -> bool
         ensures made { result ≡ may_freeze self.old.course }
         ensures stays { Stays Freezes self.old self.new }
     {
         match &mut self.course {
-            Course::Up(node) => node.checkpoint(),
+            Course::Up(node) => freeze(node),
             _ => false,
         }
     }
@@ -74,4 +75,15 @@ impl Process {
             _ => Ok(false),
         }
     }
+}
+
+/// One is made of a node, where it can hold what the logs keep.
+fn freeze(node: &mut Node) -> bool
+    ensures made { result ≡ may_freeze (Up node.old) }
+    ensures freezes { FreezesAs (is_storable node.old) node.old node.new }
+{
+    if node.standing().entries >= MOST_KEPT as u64 {
+        return false;
+    }
+    node.checkpoint()
 }

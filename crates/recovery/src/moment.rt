@@ -36,6 +36,7 @@ impl Collecting {
     pub fn recover(self, alloc: Global) -> Result<Replaying, Unrecovered>
         requires { has_all self ≡ true }
         ensures value { IfOk result (λ r. Recovered self r) }
+        ensures few { IfOk result (λ r. length r.plan ≤ LIMIT) }
         ensures acts { IfOk result (λ r. ComesBack self r) }
         ensures err { IfErr result (λ e. e.collecting ≡ self) }
         ensures cause { IfErr result (λ e. e.cause ≡ TooMany → Overruns self) }

@@ -1,0 +1,76 @@
+-- The moment of recovery, which is inside a call of its host
+use Rattle.std.specs.Prelude.{◌≡◌, ℕ, ◌+◌, ◌≤◌, List, [], ◌∷◌, ◌++◌, length, take, Bool, true, false}
+use Rattle.world.specs.Handlers.{Handlers}
+use Rattle.world.specs.World.{put}
+use Rattle.cluster.specs.Cluster.{opening}
+use Rattle.cluster.specs.Rules.{Act, Run, after_run}
+use Rattle.images.specs.declared.any_image.AnyImage.{AnyImage}
+use Rattle.node.specs.declared.limit.Limits.{Limits}
+use Rattle.node.specs.declared.job.OpenJob.{OpenJob}
+use Rattle.node.specs.Node.{TheNode}
+use Rattle.recovery.specs.Collecting.{TheCollecting}
+use Rattle.recovery.specs.Moment.{HadReceived}
+use Rattle.together.specs.Together.{IsFirst}
+use Rattle.lives.specs.Process as stages
+use Rattle.lives.specs.System as called
+use Rattle.lives.specs.System.{AllStand}
+use Rattle.lives.specs.Back.{length_of}
+use Rattle.process.specs.declared.course.Course.{Course}
+use Rattle.process.specs.declared.course.Course.TheVariants.{Up, Collecting, Replaying, Replayed, Restoring, Passing}
+use Rattle.process.specs.Process.{TheProcess}
+use Rattle.process.specs.Calls.{standing_at}
+use Rattle.hosted.specs.Process.{Checkpoint, Runs, as_process}
+use Rattle.hosted.specs.System.{System, Opens, new_system, HostCall, as_lives, AreCalls, after_call, after_calls}
+use Rattle.hosted.specs.Lives.{handlers, StayExact, OneAtATime}
+
+-- it collects no more
+abbrev pub has_recovered : Course → Bool
+has_recovered (Up n) = true
+has_recovered (Replaying n) = true
+has_recovered (Replayed n) = true
+has_recovered (Restoring n) = true
+has_recovered c = false
+
+-- the messages that it goes on to replay
+abbrev pub plan_of : Course → List OpenJob
+plan_of (Replaying n) = n.plan
+plan_of c = []
+
+-- how many messages it keeps, as a host reads it: those that it has, and those that it still has to replay
+abbrev pub keeps : Course → ℕ
+keeps c = (standing_at c).length + (standing_at c).replays
+
+-- where all is as s has it, but that p collects still
+abbrev pub still : System → ℕ → TheCollecting → called.System
+still s p n = record (as_lives s) { processes = put (as_lives s).processes p (stages.Collects n) }
+
+-- p recovered in a call, behind which it is in this stage and the system is s, which goes on to t: it had received what it keeps, and all is
+-- among that which was acknowledged without a gap; these stay its first messages; and where it is up with just as many, its state is the one
+-- that it had after them. It had these in the cluster in which it stood as one that collects, all others as in s
+pub record HasRecovered (n : ℕ) (f : Handlers) (s t : System) (p : ℕ) (now : Course) : Type 0 where
+  pub collected : TheCollecting
+  pub acts : List Act
+  pub more : List Act
+  pub run : Run (opening n f) (acts ++ more)
+  pub before : AllStand n (still s p collected) (after_run (opening n f) acts)
+  pub after : AllStand n (as_lives t) (after_run (opening n f) (acts ++ more))
+  pub had : HadReceived (after_run (opening n f) acts) p collected.own.base (plan_of now)
+  pub kept : keeps now ≡ collected.own.base + length (plan_of now)
+  pub stays : take (keeps now) ((after_run (opening n f) (acts ++ more)).history p) ≡ take (keeps now) ((after_run (opening n f) acts).history p)
+  pub back : (m : TheNode) → as_process (t.processes p) ≡ stages.Up m → length_of m ≡ keeps now → f.state p (take (keeps now) ((after_run (opening n f) acts).history p)) ≡ m.state
+
+-- a call before which p collects, and behind which it doesn't
+abbrev pub HostedRecovers : Type 0
+HostedRecovers = (images : ℕ → AnyImage) (n page tick : ℕ) (limits : ℕ → Limits) (processes : ℕ → TheProcess) (bytes : ℕ → List ℕ) (calls more : List HostCall) (k : HostCall) (p : ℕ) (from : TheCollecting) (now : TheProcess) (w : Checkpoint)
+    → n ≤ 15 → Opens n images limits processes bytes → IsFirst n p → AreCalls images n (new_system n processes bytes page tick) (calls ++ k ∷ more) → StayExact n (new_system n processes bytes page tick) (calls ++ k ∷ more)
+    → as_process ((after_calls (new_system n processes bytes page tick) calls).processes p) ≡ stages.Collects from
+    → (after_call (after_calls (new_system n processes bytes page tick) calls) k).processes p ≡ Runs now w → has_recovered now.course ≡ true
+    → HasRecovered n (handlers n images) (after_call (after_calls (new_system n processes bytes page tick) calls) k) (after_calls (new_system n processes bytes page tick) (calls ++ k ∷ more)) p now.course
+
+-- so each does where processes fail one at a time
+abbrev pub HostedRecoversAlone : Type 0
+HostedRecoversAlone = (images : ℕ → AnyImage) (n page tick : ℕ) (limits : ℕ → Limits) (processes : ℕ → TheProcess) (bytes : ℕ → List ℕ) (calls more : List HostCall) (k : HostCall) (p : ℕ) (from : TheCollecting) (now : TheProcess) (w : Checkpoint)
+    → n ≤ 15 → Opens n images limits processes bytes → IsFirst n p → AreCalls images n (new_system n processes bytes page tick) (calls ++ k ∷ more) → OneAtATime n (new_system n processes bytes page tick) (calls ++ k ∷ more)
+    → as_process ((after_calls (new_system n processes bytes page tick) calls).processes p) ≡ stages.Collects from
+    → (after_call (after_calls (new_system n processes bytes page tick) calls) k).processes p ≡ Runs now w → has_recovered now.course ≡ true
+    → HasRecovered n (handlers n images) (after_call (after_calls (new_system n processes bytes page tick) calls) k) (after_calls (new_system n processes bytes page tick) (calls ++ k ∷ more)) p now.course
