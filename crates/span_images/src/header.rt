@@ -16,7 +16,7 @@ pub const HEADER: usize = 8;
 const MAGIC_3: [u8; 4] = [0x53, 0x42, 0x49, 0x33];
 
 /// The fields of a header.
-#[derive(Clone, Copy, Debug, PartialEq, Eq)]
+#[derive(Clone, Copy)]
 pub struct Fields {
     pub magic: [u8; 4],
     pub state_len: u16,
