@@ -121,7 +121,7 @@ def unbounded(ways, slot, _):
         before = ways.parting(slot, register)
         if before is not None:
             source = ways.slots[before].source
-            line = f", {source}" if source else ""
+            line = f" ({source})" if source else ""
             yield f"{register} is bounded on one way that leads here, and not on the one by slot {before}{line}{BOTH if '&&' in source else ''}"
 
 
