@@ -2,7 +2,6 @@
 read for an address, and how many bytes are lacking. Nothing here is proved."""
 import re
 from dataclasses import dataclass, field
-from functools import lru_cache
 
 BOUNDED, UNKNOWN = "bounded", "unknown"
 SLOT = re.compile(r"(\d+): (\S+) ?(.*)")
@@ -10,7 +9,8 @@ PLACE = re.compile(r" at (\w+)[+](\d+)(?: to (\d+))? of (\d+) lie there")
 ASKED = re.compile(r"refused by V9: (r\d) is to be a place, with (\d+) bytes from there on")
 # Jumps by which an unsigned number is known to be below another one: on the way that they take, or on the other one.
 BELOW_TAKEN, BELOW_ELSE = {"jlt", "jle", "jeq"}, {"jgt", "jge", "jne"}
-KEPT = {"lsh", "add", "sub", "mul", "or", "xor"}
+KEPT = {"lsh", "add", "or"}
+REGISTERS = [f"r{number}" for number in range(11)]
 MOST_STATE = 1024
 BOTH = ": && holds where both sides do, || where one does"
 
@@ -48,11 +48,14 @@ class Ways:
         for slot, it in self.slots.items():
             distance = it.operands[-1] if it.operation.startswith("j") else ""
             following = slot + (2 if it.operation == "lddw" else 1)
-            if it.operation not in ("exit", "ja", "ja32"):
+            if it.operation not in ("exit", "ja", "ja32") and "every number takes this jump" not in it.known:
                 self.before.setdefault(following, []).append((slot, False))
-            if re.fullmatch(r"[+]\d+", distance):
+            if re.fullmatch(r"[+]\d+", distance) and "no number takes this jump" not in it.known:
                 self.before.setdefault(following + int(distance), []).append((slot, True))
-        self.origins = lru_cache(None)(self.origins)
+        self.origins = {}
+        for slot in sorted(self.slots):
+            for register in REGISTERS:
+                self.origins[slot, register] = self.union(slot, register)
 
     def step(self, slot, is_taken, register):
         """What an instruction leaves of what is known to be in a register behind it: another register to look for before it, or where
@@ -72,7 +75,8 @@ class Ways:
             return operands[1]
         if name in ("lddw", "mov", "mov32", "and", "and32", "mod", "mod32"):
             return (BOUNDED,) if is_number else (UNKNOWN,)
-        return register if name in KEPT and is_number else (UNKNOWN,)
+        is_kept = name in KEPT and is_number and not operands[1].startswith("-")
+        return register if is_kept else (UNKNOWN,)
 
     @staticmethod
     def compared(name, operands, is_taken, register):
@@ -84,28 +88,33 @@ class Ways:
             return (UNKNOWN,)
         return (BOUNDED,) if (name in BELOW_TAKEN) == is_taken else register
 
-    def origins(self, slot, register):
+    def union(self, slot, register):
         """Where what is in a register before a slot comes from, over all ways: slots of loads, or that it is bounded or unknown."""
         found = set() if self.before.get(slot) else {UNKNOWN}
-        for before, is_taken in self.before.get(slot, []):
-            step = self.step(before, is_taken, register)
-            found |= set(step) if isinstance(step, tuple) else self.origins(before, step)
+        for edge in self.before.get(slot, []):
+            found |= self.along(edge, register)
         return frozenset(found)
+
+    def along(self, edge, register):
+        """The same of one way to the slot."""
+        step = self.step(*edge, register)
+        return frozenset(step) if isinstance(step, tuple) else self.origins[edge[0], step]
 
     def parting(self, slot, register):
         """The slot by which a number comes unbounded to one to which it comes bounded by another way, if there are both."""
-        while BOUNDED in self.origins(slot, register) and UNKNOWN not in self.origins(slot, register):
-            following = None
-            for before, is_taken in self.before[slot]:
-                step = self.step(before, is_taken, register)
-                origins = set(step) if isinstance(step, tuple) else self.origins(before, step)
+        origins = self.origins[slot, register]
+        while BOUNDED in origins and UNKNOWN not in origins:
+            mixed = None
+            for edge in self.before[slot]:
+                origins = self.along(edge, register)
                 if BOUNDED not in origins:
-                    return before
+                    return edge[0]
                 if origins != {BOUNDED}:
-                    following = before, step
-            if following is None:
+                    mixed = edge
+            if mixed is None:
                 return None
-            slot, register = following
+            slot, register = mixed[0], self.step(*mixed, register)
+            origins = self.origins[slot, register]
         return None
 
     def likely(self, slot, told):
@@ -141,14 +150,14 @@ def outside(_ways, _slot, told):
     elif is_one:
         yield f"{index}; or --state is too small, by {lacking} bytes at least"
     else:
-        yield f"--state is too small, by {lacking} bytes at least" + (", if the index is right" if found[3] else "")
+        yield f"--state is too small, by {lacking} bytes at least, if the {'index' if found[3] else 'place'} is right"
 
 
 def address(ways, slot, told):
     register = re.search(r"(r\d) is the base of a load or store", told)[1]
-    origins = ways.origins(slot, register)
+    origins = ways.origins[slot, register]
     loads = [ways.slots[it] for it in origins if isinstance(it, int)]
-    if len(loads) == len(origins) and all(any(" message+" in line for line in it.known) for it in loads):
+    if loads and len(loads) == len(origins) and all(any(" message+" in line for line in it.known) for it in loads):
         yield f"{register} was read from the message: the arguments of a handler are message, state and length"
 
 
@@ -163,10 +172,10 @@ def short(ways, slot, told):
         found = re.fullmatch(asked[1] + r" (\w+)[+](\d+)(?: to (\d+))? of (\d+)", line)
         left = int(found[4]) - int(found[3] or found[2]) if found else 0
         if found and 0 <= left < int(asked[2]):
-            is_fixed = any(line.startswith("r") and line.endswith(f" number {asked[2]}") for line in known)
+            most = "up to " if any(re.fullmatch(r"r[23] number( \d+ to \d+)?", line) for line in known) else ""
             stack = ": local variables lie there, and --state changes nothing" if found[1] == "stack" else ""
             some = f"{'as few as ' if found[3] else ''}{left} byte{'' if left == 1 else 's'}"
-            yield f"the {found[1]} has {some} from there on, and {'' if is_fixed else 'up to '}{asked[2]} are asked for{stack}"
+            yield f"the {found[1]} has {some} from there on, and {most}{asked[2]} are asked for{stack}"
 
 
 # What is said of a refusal, by words of its cause.
