@@ -92,7 +92,7 @@ class Trials:
         """The run of the first lines, and of orders behind them."""
         if (above, orders) in self.kept:
             return self.kept[above, orders]
-        with tempfile.NamedTemporaryFile("w", newline="") as text:
+        with tempfile.NamedTemporaryFile("w", encoding="utf-8", newline="") as text:
             text.write("".join(f"{line}\n" for line in (*self.lines[:above], *orders)))
             text.flush()
             printed = subprocess.run([self.program, "run", text.name], stdout=subprocess.PIPE, stderr=subprocess.DEVNULL, check=False)
