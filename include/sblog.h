@@ -5,6 +5,10 @@
 #ifndef SBLOG_H
 #define SBLOG_H
 
+#ifdef __bpf__
+#error a handler includes sblog_handler.h: sblog.h is for programs that call the library
+#else
+
 #include <stdbool.h>
 #include <stddef.h>
 #include <stdint.h>
@@ -511,4 +515,5 @@ static inline uint64_t sblog_native_call_job(sblog_native_code code, uint8_t *ar
 }
 #endif
 
+#endif
 #endif

@@ -59,7 +59,11 @@ static u64 (*const output)(const void *payload, u64 length) = (void *)6;
     } \
 } while (0)
 
-/* So that clang says at the line what a handler doesn't have. */
+/* So that clang says at the line what a handler doesn't have. It warns of an array whose length varies, which it can't compile, and of
+ * one whose length is a const variable, which it can. */
+#ifdef __clang__
+#pragma clang diagnostic warning "-Wvla"
+#endif
 #define float there_is_no_floating_point_in_a_handler
 #define double there_is_no_floating_point_in_a_handler
 
