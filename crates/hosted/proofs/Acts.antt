@@ -8,6 +8,7 @@ use Rattle.lives.specs.Process.{Process, Acts, is_exact}
 use Rattle.lives.specs.System.{System as Lived, Call, Did, Calls, after_call, after_calls, AreExact, StayExact}
 use Rattle.lives.specs.Alone.{OneAtATime}
 use Rattle.lives.specs.Durable.{ReplaysAll, ReplayWhole, StaysDurable, given_by, outputs_of}
+use Rattle.lives.specs.Outputs.{OneLife}
 use Rattle.lives.proofs.Sound.{raised-here, raised-other}
 use Rattle.hosted.specs.Process.{as_process}
 use Rattle.hosted.specs.System.{System}
@@ -46,6 +47,7 @@ pub record Ran (f : Answering) (n p : ℕ) (new : Process) (t : Lived) (ks : Lis
   pub alone : OneAtATime n t ks
   pub durable : (q : ℕ) → StaysDurable q t ks
   pub outputs : outputs_of t ks ≡ []
+  pub life : OneLife ks
 
 -- it was as exact before
 exact-before : (n p : ℕ) (t : Lived) (old next : Process) → t.processes p ≡ old → is_exact next ≡ is_exact old → IsFirst n p → AreExact n (after_call t (Did p next)) → AreExact n t
@@ -67,6 +69,7 @@ ran f n p first old [] new t is c =
       alone = tt;
       durable = λ q. tt;
       outputs = refl;
+      life = tt;
     }
 ran f n p first old (next ∷ ps) new t is c =
     let u : Lived = after_call t (Did p next) in
@@ -87,6 +90,7 @@ ran f n p first old (next ∷ ps) new t is c =
       alone = (tt, rest.alone);
       durable = λ q. (tt, rest.durable q);
       outputs = rest.outputs;
+      life = (tt, rest.life);
     }
 
 -- all is as in the system of hosts, but for p

@@ -6,4 +6,5 @@ pub mod Moments
 pub mod Steps
 pub mod Lists
 pub mod Promised
+pub mod Outputs
 pub mod Back

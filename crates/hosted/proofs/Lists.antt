@@ -9,6 +9,8 @@ use Rattle.lives.specs.Process.{Process, Up, Covered, Collects, Replays, Replaye
 use Rattle.lives.specs.System.{System as Lived, Call, Gave, Handed, Worked, Did, Stored, Saved, Died, Revived, GaveOut, HandedOut, DidOut, StoredOut, RevivedOut, Calls, after_call, after_calls, AreExact, StayExact}
 use Rattle.lives.specs.Alone.{OneAtATime}
 use Rattle.lives.specs.Durable.{ReplayWhole, StaysDurable, handed_out, given_by, outputs_of}
+use Rattle.lives.specs.Outputs.{OneLife}
+pub use Rattle.lives.proofs.Back.{after-append}
 use Rattle.lives.proofs.Lasting.{IsFor}
 use Rattle.lives.proofs.Durable.{Now, nothing, all-fair, step}
 use Rattle.hosted.specs.System.{System, HostCall, as_lives, AreCalls, DoesIt}
@@ -20,10 +22,6 @@ use Rattle.hosted.proofs.Calls.{IsHere}
 use Rattle.hosted.proofs.Steps.{AreGood, Steps, steps}
 
 -- ---- calls of `lives` behind others
-
-pub after-append : (t : Lived) (xs ys : List Call) → after_calls t (xs ++ ys) ≡ after_calls (after_calls t xs) ys
-after-append t [] ys = refl
-after-append t (x ∷ xs) ys = after-append (after_call t x) xs ys
 
 pub calls-append : (f : Answering) (n : ℕ) (t : Lived) (xs ys : List Call) → Calls f n t xs → Calls f n (after_calls t xs) ys → Calls f n t (xs ++ ys)
 calls-append f n t [] ys g h = h
@@ -52,6 +50,10 @@ alone-append n t (x ∷ xs) ys g h = (g.0, alone-append n (after_call t x) xs ys
 pub durable-append : (p : ℕ) (t : Lived) (xs ys : List Call) → StaysDurable p t xs → StaysDurable p (after_calls t xs) ys → StaysDurable p t (xs ++ ys)
 durable-append p t [] ys g h = h
 durable-append p t (x ∷ xs) ys g h = (g.0, durable-append p (after_call t x) xs ys g.1 h)
+
+life-append : (xs ys : List Call) → OneLife xs → OneLife ys → OneLife (xs ++ ys)
+life-append [] ys g h = h
+life-append (x ∷ xs) ys g h = (g.0, life-append xs ys g.1 h)
 
 outputs-append : (t : Lived) (xs ys : List Call) → outputs_of t (xs ++ ys) ≡ outputs_of t xs ++ outputs_of (after_calls t xs) ys
 outputs-append t [] ys = refl
@@ -133,6 +135,7 @@ pub record Are (images : ℕ → AnyImage) (n : ℕ) (s : System) (t : Lived) (k
   pub stays : AreExact n t → StayExact n t calls → laws.StayExact n s ks
   pub alone : laws.OneAtATime n s ks → OneAtATime n t calls
   pub durable : (p : ℕ) → laws.StaysDurable p ks → StaysDurable p t calls
+  pub life : laws.OneLife ks → OneLife calls
   pub outputs : outputs_of t calls ≡ laws.outputs_of s ks
   pub gave : (p : ℕ) → given_by p calls ≡ laws.given_by p ks
 
@@ -155,7 +158,7 @@ one-goes images n s t k st g =
 
 pub are-go : (images : ℕ → AnyImage) (n : ℕ) (s : System) (t : Lived) (ks : List HostCall) → State images n s t → AreCalls images n s ks → Are images n s t ks
 are-go images n s t [] st g =
-    record { calls = []; are = tt; whole = tt; state = st; exact = λ e. tt; stays = λ a e. tt; alone = λ a. tt; durable = λ p d. tt; outputs = refl; gave = λ p. refl }
+    record { calls = []; are = tt; whole = tt; state = st; exact = λ e. tt; stays = λ a e. tt; alone = λ a. tt; durable = λ p d. tt; life = λ l. tt; outputs = refl; gave = λ p. refl }
 are-go images n s t (k ∷ ks) st g =
     let f : Answering = answering n images in
     let goes : One images n s t k = one-goes images n s t k st g.0 in
@@ -171,6 +174,7 @@ are-go images n s t (k ∷ ks) st g =
       stays = λ a e. let both = exact-split n t one.calls rest.calls e in let end = exact-end n t one.calls a both.0 in (exact-here n (hosted.after_call s k) u one.stand end, rest.stays end both.1);
       alone = λ a. alone-append n t one.calls rest.calls (one.alone a.0) (rest.alone a.1);
       durable = λ p d. durable-append p t one.calls rest.calls (one.durable p d.0) (rest.durable p d.1);
+      life = λ l. life-append one.calls rest.calls (one.life l.0) (rest.life l.1);
       gave = λ p. given-append p one.calls rest.calls ∙ ap (λ z. z ++ given_by p rest.calls) (one.gave p) ∙ ap (λ z. laws.gave_by p k ++ z) (rest.gave p);
       outputs = outputs-append t one.calls rest.calls ∙ ap (λ z. z ++ outputs_of u rest.calls) one.outputs ∙ ap (λ z. laws.shown_by s k ++ z) rest.outputs;
     }

@@ -23,6 +23,8 @@ use Rattle.lives.specs.Alone as lone
 use Rattle.lives.specs.Alone.{is_up}
 use Rattle.lives.specs.Durable as durables
 use Rattle.lives.specs.Durable.{ReplaysWhole, ReplayWhole, handed_out}
+use Rattle.lives.specs.Outputs as outs
+use Rattle.lives.specs.Outputs.{OneLife}
 use Rattle.lives.proofs.Lives.{at-each}
 use Rattle.lives.proofs.Sound.{raised-here, raised-other}
 use Rattle.process.specs.Process.{TheProcess, is_settled}
@@ -36,7 +38,7 @@ use Rattle.process.specs.Working as working
 use Rattle.hosted.specs.Process.{Checkpoint, Absent, Pending, Durable, Hosted, Runs, Killed, Alive, Has, goes_on, keeps, stage_of, seen, as_process}
 use Rattle.hosted.specs.Answering.{answering}
 use Rattle.hosted.specs.System.{System, HostCall, Gave, GaveBytes, Handed, HandedBytes, Worked, Answered, Ticked, Froze, Paused, Stored, Saved, Died, Revived, Outside, IsOutside, as_lives, AnswersSo, DoesIt, after_call}
-use Rattle.hosted.specs.Lives.{IsAs, FailsAlone, KeepsDurable, gave_by, shown_by}
+use Rattle.hosted.specs.Lives.{IsAs, FailsAlone, KeepsDurable, LivesOn, gave_by, shown_by}
 use Rattle.hosted.specs.Back.{has_recovered}
 use Rattle.hosted.proofs.Chains.{Chain, chain-append, revived-limits}
 use Rattle.hosted.proofs.Stages.{Fits, GoesOn, passes-on}
@@ -62,6 +64,7 @@ pub record Steps (images : ℕ → AnyImage) (n : ℕ) (s : System) (t : Lived) 
   pub exact : AreExact n (called.after_calls t calls) → StayExact n t calls
   pub alone : FailsAlone n s k → lone.OneAtATime n t calls
   pub durable : (q : ℕ) → KeepsDurable q k → durables.StaysDurable q t calls
+  pub life : LivesOn k → OneLife calls
   pub outputs : durables.outputs_of t calls ≡ shown_by s k
   pub gave : (q : ℕ) → durables.given_by q calls ≡ gave_by q k
   -- where a process collects before it, and doesn't behind it, it recovers among them
@@ -127,6 +130,7 @@ module _ (images : ℕ → AnyImage) (n : ℕ) (s : System) (t : Lived) (st : Is
         exact = λ x. (r.exact x).1;
         alone = λ x. r.alone;
         durable = λ q x. r.durable q;
+        life = λ x. r.life;
         outputs = r.outputs ∙ sym o;
         gave = λ q. dids-give q p ps ∙ sym (gave q);
         moment = of-one k p h (dids p ps) (ap (λ (z : System). z.processes) e)
@@ -141,8 +145,8 @@ module _ (images : ℕ → AnyImage) (n : ℕ) (s : System) (t : Lived) (st : Is
   -- one call of `lives`, and acts behind it
   by-call : (k : HostCall) (p : ℕ) (h : Hosted) (one : Call) (first : Process) (ps : List Process) → IsFirst n p → called.DoesIt f n t one → ReplaysWhole t one → (called.after_call t one).processes p ≡ first → Chain first ps (as_process h)
       → Beside n p (after_call s k) (called.after_call t one) → (after_call s k).processes ≡ put s.processes p h → IsGood (images p) h → (FailsAlone n s k → lone.FailsAlone n t one) → ((q : ℕ) → KeepsDurable q k → durables.KeepsDurable q t one)
-      → durables.outputs_of t (one ∷ dids p ps) ≡ durables.outputs_of (called.after_call t one) (dids p ps) → shown_by s k ≡ [] → ((q : ℕ) → durables.given_by q (one ∷ dids p ps) ≡ gave_by q k) → Lands p first → Steps images n s t k
-  by-call k p h one first ps l does whole is c b e g a d more o gave lands =
+      → durables.outputs_of t (one ∷ dids p ps) ≡ durables.outputs_of (called.after_call t one) (dids p ps) → shown_by s k ≡ [] → ((q : ℕ) → durables.given_by q (one ∷ dids p ps) ≡ gave_by q k) → outs.LivesOn one → Lands p first → Steps images n s t k
+  by-call k p h one first ps l does whole is c b e g a d more o gave on lands =
       let u : Lived = called.after_call t one in
       let r : Ran f n p (as_process h) u (dids p ps) = ran f n p l first ps (as_process h) u is c in
       record {
@@ -154,6 +158,7 @@ module _ (images : ℕ → AnyImage) (n : ℕ) (s : System) (t : Lived) (st : Is
         exact = λ x. r.exact x;
         alone = λ x. (a x, r.alone);
         durable = λ q x. (d q x, r.durable q);
+        life = λ x. (on, r.life);
         outputs = more ∙ r.outputs ∙ sym o;
         gave = gave;
         moment = of-one k p h (one ∷ dids p ps) e (λ from at now w was rec. landed now w was rec (lands from at));
@@ -198,7 +203,7 @@ module _ (images : ℕ → AnyImage) (n : ℕ) (s : System) (t : Lived) (st : Is
         given = ap (λ z. x ∷ z) st.given;
       } in
       by-call k p (Runs new w) (called.Gave p x to) to [] l (l, subst (λ z. Gives x z to) (sym (here p old w l e)) a.1.1) tt (raised-here t.processes p to) refl (subst (λ z. Beside n p z (called.after_call t (called.Gave p x to))) (sym is) b)
-      (ap (λ (z : System). z.processes) is) (g.image ∙ good.0, (a.0, a.1.0)) (λ z. tt) (λ q z. tt) refl o gave (λ from c. let it = subst (λ z. Gives x z to) (sym (here p old w l e) ∙ c) a.1.1 in inl (it.0, it.1.0))
+      (ap (λ (z : System). z.processes) is) (g.image ∙ good.0, (a.0, a.1.0)) (λ z. tt) (λ q z. tt) refl o gave tt (λ from c. let it = subst (λ z. Gives x z to) (sym (here p old w l e) ∙ c) a.1.1 in inl (it.0, it.1.0))
 
   heard : (k : HostCall) (p : ℕ) (x : Packet) (old new : TheProcess) (w : Checkpoint) → IsFirst n p → IsOne x s.given → s.processes p ≡ Runs old w → process.Calls (IsHanded x) old new
       → after_call s k ≡ record s { processes = put s.processes p (Runs new w) } → shown_by s k ≡ [] → ((q : ℕ) → gave_by q k ≡ []) → Steps images n s t k
@@ -209,7 +214,7 @@ module _ (images : ℕ → AnyImage) (n : ℕ) (s : System) (t : Lived) (st : Is
       let to : Process = seen w g.mid in
       by-call k p (Runs new w) (called.Handed p x to) to c.1.1.0 l (l, (subst (IsOne x) (sym st.given) one, subst (λ z. Hears x z to) (sym (here p old w l e)) a.1.1)) tt (raised-here t.processes p to) c.1.1.1
       (subst (λ z. Beside n p z (called.after_call t (called.Handed p x to))) (sym is) (beside-one p (Runs new w) to)) (ap (λ (z : System). z.processes) is) (g.image ∙ good.0, (c.0, c.1.0)) (λ z. tt) (λ q z. tt) refl o
-      (λ q. dids-give q p c.1.1.0 ∙ sym (gave q)) (λ from at. let it = subst (λ z. Hears x z to) (sym (here p old w l e) ∙ at) a.1.1 in inl (it.0, it.1.0))
+      (λ q. dids-give q p c.1.1.0 ∙ sym (gave q)) tt (λ from at. let it = subst (λ z. Hears x z to) (sym (here p old w l e) ∙ at) a.1.1 in inl (it.0, it.1.0))
 
   -- ---- its handler, and what is sent again
 
@@ -223,7 +228,7 @@ module _ (images : ℕ → AnyImage) (n : ℕ) (s : System) (t : Lived) (st : Is
       let to : Process = seen w g.mid in
       by-call k p (Runs new w) (called.Worked p does to) to c.1.1.0 l (l, subst (λ z. Works f p does z to) (sym (here p old w l e)) a.1.1) tt (raised-here t.processes p to) c.1.1.1
       (subst (λ z. Beside n p z (called.after_call t (called.Worked p does to))) (sym is) (beside-one p (Runs new w) to)) (ap (λ (z : System). z.processes) is) (g.image ∙ good.0, (c.0, c.1.0)) (λ z. tt) (λ q z. tt) refl o
-      (λ q. dids-give q p c.1.1.0 ∙ sym (gave q)) (λ from at. absurd (subst (λ z. Works f p does z to) (sym (here p old w l e) ∙ at) a.1.1))
+      (λ q. dids-give q p c.1.1.0 ∙ sym (gave q)) tt (λ from at. absurd (subst (λ z. Works f p does z to) (sym (here p old w l e) ∙ at) a.1.1))
 
   ticks : (p : ℕ) (old new : TheProcess) (w : Checkpoint) → IsFirst n p → s.processes p ≡ Runs old w → process.Calls Ticks old new → Steps images n s t (Ticked p new)
   ticks p old new w l e g =
@@ -266,7 +271,7 @@ module _ (images : ℕ → AnyImage) (n : ℕ) (s : System) (t : Lived) (st : Is
       } in
       by-call (Stored p bytes) p (Runs old Durable) (called.Stored p bytes) to [] l (l, subst (WaitsFor bytes) (sym is) good.1.1) tt (raised-here t.processes p (covered (t.processes p)) ∙ ap covered is) refl
       (subst (λ z. Beside n p (record s { processes = put s.processes p z; stored = put s.stored p bytes }) u) (sym now) b) (ap (put s.processes p) now) (good.0, (good.1.0, stored-is bytes old.course good.1.1)) (λ z. tt) (λ q z. tt) refl refl
-      (λ q. refl) (λ from at. absurd (subst (WaitsFor bytes) (sym is ∙ at) good.1.1))
+      (λ q. refl) tt (λ from at. absurd (subst (WaitsFor bytes) (sym is ∙ at) good.1.1))
 
   saves : (p : ℕ) (old new : TheProcess) → IsFirst n p → s.processes p ≡ Runs old Durable → Stays Thaws old new → Steps images n s t (Saved p new)
   saves p old new l e g =
@@ -274,13 +279,13 @@ module _ (images : ℕ → AnyImage) (n : ℕ) (s : System) (t : Lived) (st : Is
       let a = saved-is old.course new.course good.1.1 g.does in
       let to : Process = stage_of new.course in
       by-call (Saved p new) p (Runs new Absent) (called.Saved p to) to [] l (l, subst (λ z. IsTold z to) (sym (here p old Durable l e)) a.1) tt (raised-here t.processes p to) refl (beside-one p (Runs new Absent) to) refl
-      (g.image ∙ good.0, (a.0, tt)) (λ z. tt) (λ q z. tt) refl refl (λ q. refl) (λ from at. absurd (subst (λ z. IsTold z to) (sym (here p old Durable l e) ∙ at) a.1))
+      (g.image ∙ good.0, (a.0, tt)) (λ z. tt) (λ q z. tt) refl refl (λ q. refl) tt (λ from at. absurd (subst (λ z. IsTold z to) (sym (here p old Durable l e) ∙ at) a.1))
 
   -- ---- it is killed, and comes back
 
   dies : (p : ℕ) → IsFirst n p → Steps images n s t (Died p)
   dies p l =
-      by-call (Died p) p Killed (called.Died p) stages.Killed [] l l tt (raised-here t.processes p stages.Killed) refl (beside-one p Killed stages.Killed) refl tt (λ a q m o. ap is_up (st.processes q m) ∙ a q m o) (λ q z. tt) refl refl (λ q. refl) (λ from at. inr refl)
+      by-call (Died p) p Killed (called.Died p) stages.Killed [] l l tt (raised-here t.processes p stages.Killed) refl (beside-one p Killed stages.Killed) refl tt (λ a q m o. ap is_up (st.processes q m) ∙ a q m o) (λ q z. tt) refl refl (λ q. refl) tt (λ from at. inr refl)
 
   revives : (p : ℕ) (limits : Limits) (life : ℕ) (new : TheProcess) → IsFirst n p → s.processes p ≡ Killed → s.lives p < life → IsRevived (images p) limits (s.stored p) life new → Steps images n s t (Revived p limits life new)
   revives p limits life new l e above g =
@@ -299,7 +304,7 @@ module _ (images : ℕ → AnyImage) (n : ℕ) (s : System) (t : Lived) (st : Is
         given = st.given;
       } in
       by-call (Revived p limits life new) p (Runs new Absent) (called.Revived p life n2) to [] l (l, (subst IsKilled (sym dead) tt, (subst (λ z. z < life) (sym (st.lives p l)) above, from))) tt (raised-here t.processes p to) is b refl
-      (g.image_is, (ap is_settled g.course_is, tt)) (λ z. tt) (λ q d same. ap (λ (z : Limits). z.durable) (revived-limits limits g.kept life) ∙ d same) refl refl (λ q. refl) (λ from at. absurd (subst IsKilled (sym dead ∙ at) tt))
+      (g.image_is, (ap is_settled g.course_is, tt)) (λ z. tt) (λ q d same. ap (λ (z : Limits). z.durable) (revived-limits limits g.kept life) ∙ d same) refl refl (λ q. refl) tt (λ from at. absurd (subst IsKilled (sym dead ∙ at) tt))
 
   -- ---- the gateway
 
@@ -317,6 +322,7 @@ module _ (images : ℕ → AnyImage) (n : ℕ) (s : System) (t : Lived) (st : Is
         exact = λ e. (e, tt);
         alone = λ a. (tt, tt);
         durable = λ q d. (tt, tt);
+        life = λ x. (x, tt);
         outputs = refl;
         gave = λ q. refl;
         moment = λ q l from at now w is rec. unmoved q l from at now w is rec;
@@ -334,6 +340,7 @@ module _ (images : ℕ → AnyImage) (n : ℕ) (s : System) (t : Lived) (st : Is
         exact = λ e. (e, tt);
         alone = λ a. (tt, tt);
         durable = λ q d. (tt, tt);
+        life = λ x. (x, tt);
         outputs = refl;
         gave = λ q. refl;
         moment = λ q l from at now w is rec. unmoved q l from at now w is rec;
@@ -351,6 +358,7 @@ module _ (images : ℕ → AnyImage) (n : ℕ) (s : System) (t : Lived) (st : Is
         exact = λ e. (e, tt);
         alone = λ a. (tt, tt);
         durable = λ q d. (tt, tt);
+        life = λ x. (x, tt);
         outputs = append-nil (handed_out t.gateway new) ∙ ap (λ z. handed_out z new) st.gateway;
         gave = λ q. refl;
         moment = λ q l from at now w is rec. unmoved q l from at now w is rec;
@@ -367,6 +375,7 @@ module _ (images : ℕ → AnyImage) (n : ℕ) (s : System) (t : Lived) (st : Is
         exact = λ e. (e, tt);
         alone = λ a. (tt, tt);
         durable = λ q d. (tt, tt);
+        life = λ x. (x, tt);
         outputs = refl;
         gave = λ q. refl;
         moment = λ q l from at now w is rec. unmoved q l from at now w is rec;
@@ -384,6 +393,7 @@ module _ (images : ℕ → AnyImage) (n : ℕ) (s : System) (t : Lived) (st : Is
         exact = λ e. (e, tt);
         alone = λ a. (tt, tt);
         durable = λ q d. (tt, tt);
+        life = λ x. (x, tt);
         outputs = refl;
         gave = λ q. refl;
         moment = λ q l from at now w is rec. unmoved q l from at now w is rec;

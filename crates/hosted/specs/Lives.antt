@@ -15,6 +15,8 @@ use Rattle.lives.specs.System.{Call, DidOut, IsRunOf}
 use Rattle.lives.specs.Alone.{is_up}
 use Rattle.lives.specs.Back.{HasBack}
 use Rattle.lives.specs.Durable.{ReplayWhole, handed_out, Stays, Lasts, Keep}
+use Rattle.lives.specs.Outputs as outs
+use Rattle.lives.specs.Outputs.{NoGap, GoOn, AreBehind, SayTheSame}
 use Rattle.process.specs.Process.{TheProcess}
 use Rattle.hosted.specs.Process.{as_process}
 use Rattle.hosted.specs.Answering.{answering}
@@ -78,6 +80,16 @@ abbrev pub StaysDurable : ℕ → List HostCall → Type 0
 StaysDurable p [] = Unit {0}
 StaysDurable p (k ∷ ks) = KeepsDurable p k × StaysDurable p ks
 
+-- the gateway isn't killed by this call
+abbrev pub LivesOn : HostCall → Type 0
+LivesOn (Outside call) = outs.LivesOn call
+LivesOn call = Unit {0}
+
+-- nor by any of these
+abbrev pub OneLife : List HostCall → Type 0
+OneLife [] = Unit {0}
+OneLife (k ∷ ks) = LivesOn k × OneLife ks
+
 -- ---- what is promised
 
 -- where each that is alive stays exact, the calls are a run of a cluster
@@ -137,3 +149,27 @@ abbrev pub HostedKeep : Type 0
 HostedKeep = (images : ℕ → AnyImage) (n page tick : ℕ) (limits : ℕ → Limits) (processes : ℕ → TheProcess) (bytes : ℕ → List ℕ) (calls : List HostCall) (durable : ℕ → Bool) → Opens n images limits processes bytes
     → ((p : ℕ) → durable p ≡ true → IsFirst n p × ((limits p).durable ≡ true)) → AreCalls images n (new_system n processes bytes page tick) calls → ((p : ℕ) → durable p ≡ true → StaysDurable p calls)
     → Keep n (handlers n images) durable (as_lives (after_calls (new_system n processes bytes page tick) calls)) (outputs_of (new_system n processes bytes page tick) calls)
+
+-- what the gateway hands out in one life goes on, in order, where what it handed out before lets it
+abbrev pub HostedInOrder : Type 0
+HostedInOrder = (images : ℕ → AnyImage) (n page tick : ℕ) (limits : ℕ → Limits) (processes : ℕ → TheProcess) (bytes : ℕ → List ℕ) (calls life : List HostCall) → Opens n images limits processes bytes
+    → AreCalls images n (new_system n processes bytes page tick) (calls ++ life) → OneLife life
+    → GoOn (outputs_of (new_system n processes bytes page tick) calls) (outputs_of (after_calls (new_system n processes bytes page tick) calls) life)
+
+-- and of all that it ever hands out none is left out
+abbrev pub HostedWithoutGap : Type 0
+HostedWithoutGap = (images : ℕ → AnyImage) (n page tick : ℕ) (limits : ℕ → Limits) (processes : ℕ → TheProcess) (bytes : ℕ → List ℕ) (calls : List HostCall) → Opens n images limits processes bytes
+    → AreCalls images n (new_system n processes bytes page tick) calls → NoGap (outputs_of (new_system n processes bytes page tick) calls)
+
+-- what it handed out in a life it hands out in none again, from when it is durable as it is in that life on
+abbrev pub HostedStayOut : Type 0
+HostedStayOut = (images : ℕ → AnyImage) (n page tick : ℕ) (limits : ℕ → Limits) (processes : ℕ → TheProcess) (bytes : ℕ → List ℕ) (calls life more : List HostCall) → Opens n images limits processes bytes
+    → AreCalls images n (new_system n processes bytes page tick) (calls ++ (life ++ more)) → OneLife life
+    → (after_calls (new_system n processes bytes page tick) (calls ++ life)).durable ≡ (after_calls (new_system n processes bytes page tick) (calls ++ life)).gateway
+    → AreBehind (outputs_of (after_calls (new_system n processes bytes page tick) calls) life) (outputs_of (after_calls (new_system n processes bytes page tick) (calls ++ life)) more)
+
+-- and what it hands out again of durable processes is what it was
+abbrev pub HostedAgree : Type 0
+HostedAgree = (images : ℕ → AnyImage) (n page tick : ℕ) (limits : ℕ → Limits) (processes : ℕ → TheProcess) (bytes : ℕ → List ℕ) (calls : List HostCall) (durable : ℕ → Bool) → Opens n images limits processes bytes
+    → ((p : ℕ) → durable p ≡ true → IsFirst n p × ((limits p).durable ≡ true)) → AreCalls images n (new_system n processes bytes page tick) calls → ((p : ℕ) → durable p ≡ true → StaysDurable p calls)
+    → SayTheSame durable (outputs_of (new_system n processes bytes page tick) calls)

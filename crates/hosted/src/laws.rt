@@ -1,6 +1,6 @@
 //! What holds of hosted processes.
 
-ghost use Rattle.hosted.specs.Lives.{HostedAlone, HostedBack, HostedKeep, HostedLast, HostedLive, HostedRun, HostedStays};
+ghost use Rattle.hosted.specs.Lives.{HostedAgree, HostedAlone, HostedBack, HostedInOrder, HostedKeep, HostedLast, HostedLive, HostedRun, HostedStayOut, HostedStays, HostedWithoutGap};
 ghost use Rattle.hosted.specs.Back.{HostedRecovers, HostedRecoversAlone};
 
 /// Calls of processes by their hosts, from their opening on, as the contracts of their functions say,
@@ -56,4 +56,26 @@ pub fn hosted_last()
 /// of it make it send.
 pub fn hosted_keep()
     ensures { HostedKeep }
+{}
+
+/// Whatever fails and meets, what the gateway hands out in one of its lives is of each process in order,
+/// each output's SSN one more than the one before, from SSN 1 on in its first life, and in a later one no
+/// further than behind what it had handed out before.
+pub fn hosted_in_order()
+    ensures { HostedInOrder }
+{}
+
+/// So of all that it ever hands out none is left out.
+pub fn hosted_without_gap()
+    ensures { HostedWithoutGap }
+{}
+
+/// What it handed out in a life and then stored that it did, it doesn't hand out again.
+pub fn hosted_stay_out()
+    ensures { HostedStayOut }
+{}
+
+/// And what it hands out again of a durable process is what it was.
+pub fn hosted_agree()
+    ensures { HostedAgree }
 {}

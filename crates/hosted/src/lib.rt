@@ -7,12 +7,14 @@
 //! such calls, in any order, are shown to be those of crate `lives` ([`hosted_live`]): each is at
 //! most one call there, and one more for each stage to which the process passes on. So what is promised there
 //! is promised of these values ([`hosted_run`], [`hosted_alone`], [`hosted_back`], [`hosted_recovers`],
-//! [`hosted_stays`], [`hosted_last`], [`hosted_keep`]).
+//! [`hosted_stays`], [`hosted_last`], [`hosted_keep`], [`hosted_in_order`], [`hosted_without_gap`],
+//! [`hosted_stay_out`], [`hosted_agree`]).
 #![tactic(auto)]
 
 mod laws;
 
 pub use laws::{
-    hosted_alone, hosted_back, hosted_keep, hosted_last, hosted_live, hosted_recovers,
-    hosted_recovers_alone, hosted_run, hosted_stays,
+    hosted_agree, hosted_alone, hosted_back, hosted_in_order, hosted_keep, hosted_last,
+    hosted_live, hosted_recovers, hosted_recovers_alone, hosted_run, hosted_stay_out, hosted_stays,
+    hosted_without_gap,
 };

@@ -42,8 +42,13 @@ pub record GoesOn (f : Handlers) (n : ℕ) (s : System) (acts : List Act) : Type
   pub more : List Act
   pub reached : Reached f n s (acts ++ more)
 
+-- calls behind others
+pub after-append : (s : System) (ks ls : List Call) → after_calls s (ks ++ ls) ≡ after_calls (after_calls s ks) ls
+after-append s [] ls = refl
+after-append s (k ∷ ks) ls = after-append (after_call s k) ks ls
+
 -- calls of two parts, taken apart
-calls-parts : (f : Answering) (n : ℕ) (s : System) (ks ls : List Call) → Calls f n s (ks ++ ls) → Calls f n s ks × (Calls f n (after_calls s ks) ls × (after_calls s (ks ++ ls) ≡ after_calls (after_calls s ks) ls))
+pub calls-parts : (f : Answering) (n : ℕ) (s : System) (ks ls : List Call) → Calls f n s (ks ++ ls) → Calls f n s ks × (Calls f n (after_calls s ks) ls × (after_calls s (ks ++ ls) ≡ after_calls (after_calls s ks) ls))
 calls-parts f n s [] ls m = (tt, (m, refl))
 calls-parts f n s (k ∷ ks) ls m = let t = calls-parts f n (after_call s k) ks ls m.1 in ((m.0, t.0), (t.1.0, t.1.1))
 

@@ -13,6 +13,7 @@ use Rattle.packets.specs.declared.packet.Body as bodies
 use Rattle.packets.specs.declared.packet.Body.TheVariants as packets
 use Rattle.packets.specs.declared.packet.Packet.{Packet}
 use Rattle.stores.specs.declared.change.Output.{Output}
+use Rattle.stores.specs.Store.{TheStore}
 use Rattle.gateway.specs.Gateway.{TheGateway, new_gateway}
 use Rattle.node.specs.Node.{TheNode}
 use Rattle.node.specs.Runs.{Answering, handlers_of}
@@ -26,7 +27,7 @@ use Rattle.lives.specs.System.{System, new_system, Call, Gave, Handed, Worked, D
 use Rattle.lives.specs.Durable.{ReplaysWhole, ReplayWhole, KeepsDurable, StaysDurable, HasAfter, IsSentBy, handed_out, outputs_of, Knows, DurableKeep}
 use Rattle.lives.proofs.Taken.{IsFair, fair-more, fair-of}
 use Rattle.lives.proofs.HeldNode.{grown}
-use Rattle.lives.proofs.HeldGateway.{IsQuiet, OfGateway, deals, hands-good, hands}
+use Rattle.lives.proofs.HeldGateway.{IsQuiet, OfGateway, EachOutput, each-deals, each-hands}
 use Rattle.lives.proofs.Lasting.{IsStored, IsFor, giving, storing, for-more, stored-more}
 use Rattle.lives.proofs.Durable.{Now, is_store, step, IsFairCall, at-place, begins-now, after-of}
 
@@ -42,12 +43,16 @@ IsTrue F D H x = IsFair (D x.from) (D x.from) (F.sends x.from (H x.from) x.to) (
 abbrev pub IsShown : Handlers → (ℕ → Bool) → (ℕ → List Message) → Output → Type 0
 IsShown F D H o = D o.process ≡ true → nth (F.sends o.process (H o.process) 0) o.ssn ≡ Some o.payload
 
+-- so is each output that waits
+abbrev pub AreShown : Handlers → (ℕ → Bool) → (ℕ → List Message) → TheStore → Type 0
+AreShown F D H s = EachOutput (IsShown F D H) s
+
 -- these messages are stored of the processes, and bear out all that was given
 pub record All (f : Answering) (len : ℕ → ℕ) (n : ℕ) (D : ℕ → Bool) (H : ℕ → List Message) (s : System) : Type 0 where
   pub each : (p : ℕ) (l : IsFirst n p) → Now f len n p (D p) (D p) D (sent_to (handlers_of f len) H p) l.1 (H p) s
   pub given : Each (IsTrue (handlers_of f len) D H) s.given
-  pub gateway : OfGateway (IsShown (handlers_of f len) D H) s.gateway
-  pub durable : OfGateway (IsShown (handlers_of f len) D H) s.durable
+  pub gateway : OfGateway (AreShown (handlers_of f len) D H) s.gateway
+  pub durable : OfGateway (AreShown (handlers_of f len) D H) s.durable
 
 -- after a call these or more do; and what it handed out these make their processes show
 pub record Goes (f : Answering) (len : ℕ → ℕ) (n : ℕ) (D : ℕ → Bool) (H : ℕ → List Message) (s : System) (k : Call) : Type 0 where
@@ -81,8 +86,8 @@ module _ (f : Answering) (len : ℕ → ℕ) (n : ℕ) (D : ℕ → Bool) (prope
   shown-more : (H G : ℕ → List Message) → ((q : ℕ) → Begins (H q) (G q)) → (xs : List Output) → Each (IsShown F D H) xs → Each (IsShown F D G) xs
   shown-more H G b xs a = all-more (IsShown F D H) (IsShown F D G) xs (λ o t d. nth-prefix (In H 0 o.process) (In G 0 o.process) o.ssn o.payload (sent-more H G b 0 o.process) (t d)) a
 
-  gateway-more : (H G : ℕ → List Message) → ((q : ℕ) → Begins (H q) (G q)) → (g : TheGateway) → OfGateway (IsShown F D H) g → OfGateway (IsShown F D G) g
-  gateway-more H G b g s = record { out = s.out; outputs = shown-more H G b g.store.outputs s.outputs }
+  gateway-more : (H G : ℕ → List Message) → ((q : ℕ) → Begins (H q) (G q)) → (g : TheGateway) → OfGateway (AreShown F D H) g → OfGateway (AreShown F D G) g
+  gateway-more H G b g s = record { out = s.out; store = shown-more H G b g.store.outputs s.store }
 
   -- a packet of a process
   gave-true : (H : ℕ → List Message) (s : System) (q : ℕ) (x : Packet) (new : Process) → All f len n D H s → IsFirst n q → Gives x (s.processes q) new → IsTrue F D H x
@@ -105,11 +110,11 @@ module _ (f : Answering) (len : ℕ → ℕ) (n : ℕ) (D : ℕ → Bool) (prope
   quiet-true sent b back (packets.Resume i k s) q = tt
   quiet-true sent b back (packets.Saved k) q = tt
 
-  gave-out : (H : ℕ → List Message) (x : Packet) (g new : TheGateway) → g ≡ record new { out = x ∷ new.out } → OfGateway (IsShown F D H) g → IsTrue F D H x × OfGateway (IsShown F D H) new
+  gave-out : (H : ℕ → List Message) (x : Packet) (g new : TheGateway) → g ≡ record new { out = x ∷ new.out } → OfGateway (AreShown F D H) g → IsTrue F D H x × OfGateway (AreShown F D H) new
   gave-out H x g new e s =
-      let t = subst (OfGateway (IsShown F D H)) e s in
+      let t = subst (OfGateway (AreShown F D H)) e s in
       let P : ℕ → Type 0 = λ z. IsFair (D z) (D z) (F.sends z (H z) x.to) (D x.to) (F.sends x.to (H x.to) z) x.body in
-      (subst P (sym t.out.0.0) (quiet-true (F.sends 0 (H 0) x.to) (D x.to) (F.sends x.to (H x.to) 0) x.body t.out.0.1), record { out = t.out.1; outputs = t.outputs })
+      (subst P (sym t.out.0.0) (quiet-true (F.sends 0 (H 0) x.to) (D x.to) (F.sends x.to (H x.to) 0) x.body t.out.0.1), record { out = t.out.1; store = t.store })
 
   -- it is handed to its receiver
   handed-true : (H : ℕ → List Message) (x : Packet) (p : ℕ) → IsTrue F D H x → x.to ≡ p → IsFair (D x.from) (D x.from) (In H p x.from) (D p) (F.sends p (H p) x.from) x.body
@@ -198,7 +203,7 @@ module _ (f : Answering) (len : ℕ → ℕ) (n : ℕ) (D : ℕ → Bool) (prope
 
   -- where what was given, and the gateway, are these
   stays : (H : ℕ → List Message) (s : System) (k : Call) → is_store k ≡ false → All f len n D H s → DoesIt f n s k → ReplaysWhole s k → ((p : ℕ) → D p ≡ true → KeepsDurable p s k)
-      → ((p : ℕ) (l : IsFirst n p) → IsFairCall f len n p (D p) (D p) D (In H p) l.1 (H p) k) → Each (IsTrue F D H) (after_call s k).given → OfGateway (IsShown F D H) (after_call s k).gateway → OfGateway (IsShown F D H) (after_call s k).durable
+      → ((p : ℕ) (l : IsFirst n p) → IsFairCall f len n p (D p) (D p) D (In H p) l.1 (H p) k) → Each (IsTrue F D H) (after_call s k).given → OfGateway (AreShown F D H) (after_call s k).gateway → OfGateway (AreShown F D H) (after_call s k).durable
       → ((ks : List Call) (G : ℕ → List Message) → ((q : ℕ) → Begins (H q) (G q)) → Each (IsShown F D G) (outputs_of (after_call s k) ks) → Each (IsShown F D G) (outputs_of s (k ∷ ks))) → Goes f len n D H s k
   stays H s k e a m v w fair given gateway durable shows =
       record {
@@ -224,13 +229,14 @@ module _ (f : Answering) (len : ℕ → ℕ) (n : ℕ) (D : ℕ → Bool) (prope
       stays H s (GaveOut x new) refl a m v w (λ p l. tt) (t.0, a.given) t.1 t.1 (λ ks G b o. o)
   goes H s (HandedOut x new) a m v w =
       let t : IsTrue F D H x = one-was (IsTrue F D H) x s.given a.given m.0 in
-      stays H s (HandedOut x new) refl a m v w (λ p l. tt) a.given (subst (OfGateway (IsShown F D H)) (sym m.1.0) (hands (IsShown F D H) x s.gateway (shown-true H x t) a.gateway)) a.durable (λ ks G b o. o)
+      stays H s (HandedOut x new) refl a m v w (λ p l. tt) a.given (subst (OfGateway (AreShown F D H)) (sym m.1.0) (each-hands (IsShown F D H) x s.gateway (shown-true H x t) a.gateway)) a.durable (λ ks G b o. o)
   goes H s (DidOut new) a m v w =
-      stays H s (DidOut new) refl a m v w (λ p l. tt) a.given (deals (IsShown F D H) s.gateway new m.0 a.gateway) a.durable
-      (λ ks G b o. each-append (IsShown F D G) (handed_out s.gateway new) (outputs_of (after_call s (DidOut new)) ks) (shown-more H G b (handed_out s.gateway new) (hands-good (IsShown F D H) s.gateway new a.gateway)) o)
+      let t = each-deals (IsShown F D H) s.gateway new m.0 a.gateway in
+      stays H s (DidOut new) refl a m v w (λ p l. tt) a.given t.0 a.durable
+      (λ ks G b o. each-append (IsShown F D G) (handed_out s.gateway new) (outputs_of (after_call s (DidOut new)) ks) (shown-more H G b (handed_out s.gateway new) t.1) o)
   goes H s StoredOut a m v w = stays H s StoredOut refl a m v w (λ p l. tt) a.given a.gateway a.gateway (λ ks G b o. o)
   goes H s (RevivedOut new) a m v w =
-      let t : OfGateway (IsShown F D H) new = subst (OfGateway (IsShown F D H)) (sym m.0) (record { out = tt; outputs = a.durable.outputs }) in
+      let t : OfGateway (AreShown F D H) new = subst (OfGateway (AreShown F D H)) (sym m.0) (record { out = tt; store = a.durable.store }) in
       stays H s (RevivedOut new) refl a m v w (λ p l. tt) a.given t t (λ ks G b o. o)
 
   pub goes-on : (H : ℕ → List Message) (s : System) (ks : List Call) → All f len n D H s → Calls f n s ks → ReplayWhole s ks → ((p : ℕ) → D p ≡ true → StaysDurable p s ks) → Ends f len n D H s ks
@@ -257,7 +263,7 @@ pub durable-keep : DurableKeep
 durable-keep f n page tick limits len bytes calls durable stored lasting m v w =
     let s : System = new_system n limits len bytes page tick in
     let proper : (p : ℕ) → durable p ≡ true → IsFirst n p = λ p d. (lasting p d).0 in
-    let none : OfGateway (IsShown (handlers_of f len) durable (λ q. [])) (new_gateway n page tick) = record { out = tt; outputs = tt } in
+    let none : OfGateway (AreShown (handlers_of f len) durable (λ q. [])) (new_gateway n page tick) = record { out = tt; store = tt } in
     let all : All f len n durable (λ p. []) s = record {
       each = λ p l. begins-now f len n p page tick (durable p) (durable p) durable (sent_to (handlers_of f len) (λ q. []) p) l.1 limits bytes stored l (λ d. (lasting p d).1);
       given = tt;

@@ -25,3 +25,4 @@ pub mod Durable
 pub mod HeldGateway
 pub mod Keeping
 pub mod Meeting
+pub mod Outputs

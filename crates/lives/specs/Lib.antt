@@ -6,3 +6,4 @@ pub mod Beside
 pub mod Alone
 pub mod Durable
 pub mod Meeting
+pub mod Outputs

@@ -5,6 +5,7 @@ ghost use Rattle.lives.specs.Back.{NothingIsLost, RecoversExactly};
 ghost use Rattle.lives.specs.Beside.{ComesBackBeside};
 ghost use Rattle.lives.specs.Durable.{DurableKeep, DurableLast, StoredStays};
 ghost use Rattle.lives.specs.Meeting.{DurableMeet};
+ghost use Rattle.lives.specs.Outputs.{OutputsAgree, OutputsInOrder, OutputsStayOut, OutputsWithoutGap};
 ghost use Rattle.lives.specs.System.{LivesRun, LossIsDropped};
 ghost use Rattle.lives.specs.Worked.{ComesBackUp};
 
@@ -93,4 +94,28 @@ pub fn durable_keep()
 /// isn't exact: these are such calls.
 pub fn durable_meet()
     ensures { DurableMeet }
+{}
+
+/// Whatever fails and meets, what the gateway hands out in one of its lives is of each process in order,
+/// each output's SSN one more than the one before. In its first life it begins with SSN 1; in a later one,
+/// after it was killed and came back from its store, no further than behind what it had handed out before.
+pub fn outputs_in_order()
+    ensures { OutputsInOrder }
+{}
+
+/// So of all that it ever hands out none is left out: before an output it has handed out all of its
+/// process that come before it, from SSN 1 on.
+pub fn outputs_without_gap()
+    ensures { OutputsWithoutGap }
+{}
+
+/// What it handed out in a life and then stored that it did, it doesn't hand out again, in no later life:
+/// of each process the outputs that it hands out from then on have greater SSNs.
+pub fn outputs_stay_out()
+    ensures { OutputsStayOut }
+{}
+
+/// Of a durable process two outputs with one SSN say the same: what is handed out again is what it was.
+pub fn outputs_agree()
+    ensures { OutputsAgree }
 {}

@@ -10,7 +10,8 @@
 //! comes back is the process that was lost ([`nothing_is_lost`], [`recovers_exactly`]). Where one at a
 //! time fails all tell that they are ([`lone_failures_stay_exact`]). Whatever fails, and exact or not,
 //! what is stored of a process only gets more ([`stored_stays`]), and nobody has anything of a durable
-//! one but what is stored of it to be sent ([`durable_keep`]).
+//! one but what is stored of it to be sent ([`durable_keep`]). What the gateway hands out comes in order,
+//! and of it none is left out, also where it is killed ([`outputs_in_order`], [`outputs_without_gap`]).
 #![tactic(auto)]
 
 mod laws;
@@ -18,5 +19,6 @@ mod laws;
 pub use laws::{
     comes_back_beside, comes_back_up, durable_keep, durable_last, durable_meet, lives_run,
     lone_failures_stay_exact, lone_lives_run, loss_is_dropped, nothing_is_lost,
-    nothing_is_lost_alone, recovers_exactly, recovers_exactly_alone, stored_stays,
+    nothing_is_lost_alone, outputs_agree, outputs_in_order, outputs_stay_out, outputs_without_gap,
+    recovers_exactly, recovers_exactly_alone, stored_stays,
 };
