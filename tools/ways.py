@@ -129,29 +129,42 @@ class Ways:
         base = next(filter(None, (re.fullmatch(rf"{found[1]} (\w+)([+]\d+) of \d+", line) for line in it.known)), None) if found else None
         return f"{base[1]}{int(base[2]) + int(found[2]):+}" if base else None
 
-    def signs(self, slot, register):
-        """The slots that bound a number from above with a sign on the ways to a slot; none where it is tested on one that it isn't
-        negative."""
-        found, seen, sought = set(), set(), [(slot, register)]
+    def back(self, slot, register):
+        """The ways back from a register at a slot: each with the jump or other instruction, whether that is taken, and the register
+        before it, if that is known to be what this one is made of."""
+        seen, sought = set(), [(slot, register)]
         while sought:
             slot, register = sought.pop()
             for before, is_taken in self.before.get(slot, []):
-                bound = self.bound(before, is_taken, register)
-                if bound == "below":
-                    return set()
-                found |= {before} if bound == "above" else set()
                 earlier = before, self.earlier(before, register)
+                yield before, is_taken, earlier[1]
                 if earlier[1] and earlier not in seen:
                     seen.add(earlier)
                     sought.append(earlier)
+
+    def loads(self, slot, register):
+        """The loads of which a number is made."""
+        return {before for before, _, earlier in self.back(slot, register) if not earlier and self.slots[before].operation.startswith("ldx")}
+
+    def signs(self, slot, register):
+        """The slots that bound a number, or another one of the same load, from above with a sign on the ways to a slot; none where it is
+        tested on one that it isn't negative."""
+        found, loads = set(), self.loads(slot, register)
+        for before, is_taken, _ in self.back(slot, register):
+            bound = self.bound(before, is_taken)
+            if bound and self.loads(before, self.slots[before].operands[0]) & loads:
+                if bound == "below":
+                    return set()
+                found.add(before)
         return found
 
-    def bound(self, slot, is_taken, register):
+    def bound(self, slot, is_taken):
         """From where a jump that compares with a sign bounds a number that may be negative, on one of its ways."""
         it = self.slots[slot]
         is_half, name = it.operation.endswith("32"), it.operation.removesuffix("32")
-        if name not in SIGNED or it.operands[0] != register or it.operands[1].startswith("r"):
+        if name not in SIGNED or it.operands[1].startswith("r"):
             return None
+        register = it.operands[0]
         known = next(filter(None, (re.fullmatch(rf"{register} number(?: (\d+))?(?: to (\d+))?", line) for line in it.known)), None)
         if not known or int(known[2] or known[1] or WORDS) < 1 << (31 if is_half else 63):
             return None
