@@ -206,8 +206,8 @@ def unbounded(ways, slot, _):
 
 def signed(slot, source):
     """What is said of a comparison with a sign."""
-    found = re.search(r"([a-z_][\w.>\[\]-]*) <=? \w+", source)
-    other = f"test {found[1]} >= 0 too" if found else "test too that it isn't negative"
+    found = re.findall(r"([A-Za-z_][\w.>-]*) (?:[<>]=?|==|!=) ", source)
+    other = f"test {found[0]} >= 0 too" if len(found) == 1 else "test too that it isn't negative"
     return f"slot {slot}{f' ({source})' if source else ''} compares with a sign, and a negative number passes: make it a u64, or {other}"
 
 
