@@ -59,10 +59,10 @@ static u64 (*const output)(const void *payload, u64 length) = (void *)6;
     } \
 } while (0)
 
-/* So that clang says at the line what a handler doesn't have. It warns of an array whose length varies, which it can't compile, and of
- * one whose length is a const variable, which it can. */
+/* So that clang says at the line what a handler doesn't have. An array's length is no variable, also no const one, but a number: by
+ * `enum { N = 8 };` or `#define N 8`. Where it varies, the array has the greatest one. */
 #ifdef __clang__
-#pragma clang diagnostic warning "-Wvla"
+#pragma clang diagnostic error "-Wvla"
 #endif
 #define float there_is_no_floating_point_in_a_handler
 #define double there_is_no_floating_point_in_a_handler

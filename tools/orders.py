@@ -38,6 +38,13 @@ WHY = {
 }
 REFUSED = re.compile(rb"line (\d+) refused (\d+)\n")
 ENTRY = re.compile(rb"\d{6} w\d+ ")
+# Entries that put a packet on the wire, and those that take one away; and what a packet is that no order of its own put there.
+PUT = re.compile(rb"\d+ w\d+ (\w+) (.*) -> (packet|duplicate|numbered|committed \d+) (\d+)\n")
+TAKEN = re.compile(rb"\d+ w\d+ (arrive|lose) (\d+) -> ")
+TOLD = {b"numbered": "an acknowledgement"}
+TAKING = {b"arrive": "arrived", b"lose": "was lost"}
+# How many packets are named.
+MOST_NAMED = 4
 PHASE = re.compile(rb"process (\S+) (up|busy|down|replaying|resync) ")
 ENDED = {
     "drive": ": drive finishes the jobs that it starts",
@@ -46,6 +53,7 @@ ENDED = {
 }
 RETURNING = ("replaying", "resync")
 HANDING = {"input", "bytes"}
+TRIED = ("transmit", "checkpoint", "recover", "finish", "arrive", "lose", "copy")
 
 
 @dataclass
@@ -80,8 +88,8 @@ def standing(down, returning):
 class Trials:
     """Runs of a scenario's lines and of others behind them."""
 
-    def __init__(self, lines, program):
-        self.lines, self.program = lines, program
+    def __init__(self, lines, program, refused=()):
+        self.lines, self.program, self.refused = lines, program, refused
         self.processes = [line.split(" ")[1] for line in lines if line.startswith("process ")]
         self.kept, self.ways = {}, {}
 
@@ -137,9 +145,9 @@ class Trials:
 
     def why(self, place, number):
         """Why the order of a line was refused, as far as runs show it."""
-        way = {2: self.not_up, 6: self.unreleased, 8: self.others_not_up, 9: self.unheld}.get(number)
+        way = {2: self.not_up, 4: self.vacant, 6: self.unreleased, 8: self.others_not_up, 9: self.unheld}.get(number)
         words = self.lines[place - 1].split(" ")
-        return way(place - 1, words) if way and words[0] in ("transmit", "checkpoint", "recover", "finish") else None
+        return way(place - 1, words) if way and words[0] in TRIED else None
 
     def not_up(self, above, words):
         phase = self.run(above).phases.get(words[1])
@@ -160,7 +168,14 @@ class Trials:
         before = self.ways.setdefault(tuple(way), above + 1)
         if before != above + 1:
             return f"{asks}: as line {before}"
-        return f"{asks}: {', '.join(way)} in place of this line bring all back{inexact(way)}"
+        same = [f" and of line {place}" for place in self.others(above + 1, way)]
+        return f"{asks}: {', '.join(way)} in place of this line{''.join(same)} bring all back{inexact(way)}"
+
+    def others(self, place, way):
+        """The refused orders to recover behind a line at which the same ones bring all back."""
+        for other, number in self.refused[:MOST_TRIED]:
+            if other > place and number == 8 and self.lines[other - 1].startswith("recover ") and self.way_back(other - 1) == way:
+                yield other
 
     def unheld(self, above, words):
         pattern = re.compile(rb"\d+ w\d+ (?:finish|crash) %d -> " % self.number(words[1]))
@@ -170,6 +185,43 @@ class Trials:
         line = self.line_of(ends[-1], above)
         order = self.lines[line - 1]
         return f"no job is held for the process, as none was started since line {line} ({order}){ENDED.get(order.split(' ')[0], '')}"
+
+    def wire(self, trace):
+        """The packets on the wire behind a trace by their keys, with the entry and what they are; and the entry and order that took the
+        last one of a key away."""
+        held, taken = {}, {}
+        for entry, line in enumerate(trace, 1):
+            if found := TAKEN.match(line):
+                held.pop(int(found[2]), None)
+                taken[int(found[2])] = entry, found[1]
+            if found := PUT.fullmatch(line):
+                held[int(found[4])] = entry, self.packet(found)
+        return held, taken
+
+    def packet(self, found):
+        """What a packet is, by the entry that put it on the wire."""
+        words = found[2].decode().split(" ")
+        if found[1] == b"transmit":
+            return " ".join(["transmit", *(self.name(int(it)) for it in words[:2]), words[2]])
+        return f"copy {words[0]}" if found[1] == b"copy" else TOLD.get(found[3], "a number")
+
+    def name(self, number):
+        return ["outside", *self.processes][number]
+
+    def vacant(self, above, words):
+        """What became of a key that no packet has, and which ones packets have."""
+        trace, key = self.run(above).trace, int(words[1])
+        held, taken = self.wire(trace)
+        if key in taken:
+            entry, order = taken[key]
+            line = self.line_of(entry, above)
+            became = f"packet {key} {TAKING[order]} at line {line} ({self.lines[line - 1]})"
+        else:
+            is_ssn = any(what.startswith("transmit ") and what.endswith(f" {key}") for _, what in held.values())
+            became = f"key {key} was never given" + (", and a key is no SSN" if is_ssn else "")
+        named = [f"packet {it} ({what}, line {self.line_of(entry, above)})" for it, (entry, what) in sorted(held.items())[:MOST_NAMED]]
+        more = f" and {len(held) - MOST_NAMED} more" if len(held) > MOST_NAMED else ""
+        return f"{became}; on the wire here: {', '.join(named) or 'nothing'}{more}"
 
     def unreleased(self, above, words):
         if words[1] == "outside":
@@ -189,7 +241,7 @@ class Trials:
         most = {self.number(name): 0 for name in (words[2],)}
         for _, to, number in sent:
             most[to] = max(most.get(to, 0), number)
-        counts = (f"{count or 'none'} to {(['the outside'] + self.processes)[to]}" for to, count in sorted(most.items()))
+        counts = (f"{count or 'none'} to {self.name(to) if to else 'the outside'}" for to, count in sorted(most.items()))
         return f"{words[1]} hasn't sent it, and doesn't where drive goes on to the end: its messages are {', '.join(counts)}"
 
     def unlogged(self, above, words):

@@ -10,7 +10,12 @@ ASKED = re.compile(r"refused by V9: (r\d) is to be a place, with (\d+) bytes fro
 # Jumps by which an unsigned number is known to be below another one: on the way that they take, or on the other one.
 BELOW_TAKEN, BELOW_ELSE = {"jlt", "jle", "jeq"}, {"jgt", "jge", "jne"}
 KEPT = {"lsh", "add", "or"}
+WORDS = 1 << 64
+# Jumps that compare with a sign: whether greater numbers take them, and the least number by which the way of these leaves out all below 0.
+SIGNED = {"jsgt": (True, -1), "jsge": (True, 0), "jslt": (False, 0), "jsle": (False, -1)}
 REGISTERS = [f"r{number}" for number in range(11)]
+# Registers that a call leaves without their numbers.
+CALLED = REGISTERS[:6]
 MOST_STATE = 1024
 BOTH = ": && holds where both sides do, || where one does"
 
@@ -65,7 +70,7 @@ class Ways:
         if name.startswith("j"):
             return self.compared(name, operands, is_taken, register)
         if name == "call":
-            return (UNKNOWN,) if register in ("r0", "r1", "r2", "r3", "r4", "r5") else register
+            return (UNKNOWN,) if register in CALLED else register
         if operands[0] != register or name.startswith("st") or name == "exit":
             return register
         if name.startswith("ldx"):
@@ -117,6 +122,68 @@ class Ways:
             origins = self.origins[slot, register]
         return None
 
+    def place(self, slot):
+        """The place from which an instruction loads, if it does and that is known."""
+        it = self.slots[slot]
+        found = re.fullmatch(r"\[(r\d+)([+-]\d+)\]", it.operands[-1]) if it.operation.startswith("ldx") else None
+        base = next(filter(None, (re.fullmatch(rf"{found[1]} (\w+)([+]\d+) of \d+", line) for line in it.known)), None) if found else None
+        return f"{base[1]}{int(base[2]) + int(found[2]):+}" if base else None
+
+    def back(self, slot, register):
+        """The ways back from a register at a slot: each with the jump or other instruction, whether that is taken, and the register
+        before it, if that is known to be what this one is made of."""
+        seen, sought = set(), [(slot, register)]
+        while sought:
+            slot, register = sought.pop()
+            for before, is_taken in self.before.get(slot, []):
+                earlier = before, self.earlier(before, register)
+                yield before, is_taken, earlier[1]
+                if earlier[1] and earlier not in seen:
+                    seen.add(earlier)
+                    sought.append(earlier)
+
+    def loads(self, slot, register):
+        """The loads of which a number is made."""
+        return {before for before, _, earlier in self.back(slot, register) if not earlier and self.slots[before].operation.startswith("ldx")}
+
+    def signs(self, slot, register):
+        """The slots that bound a number, or another one of the same load, from above with a sign on the ways to a slot; none where it is
+        tested on one that it isn't negative."""
+        found, loads = set(), self.loads(slot, register)
+        for before, is_taken, _ in self.back(slot, register):
+            bound = self.bound(before, is_taken)
+            if bound and self.loads(before, self.slots[before].operands[0]) & loads:
+                if bound == "below":
+                    return set()
+                found.add(before)
+        return found
+
+    def bound(self, slot, is_taken):
+        """From where a jump that compares with a sign bounds a number that may be negative, on one of its ways."""
+        it = self.slots[slot]
+        is_half, name = it.operation.endswith("32"), it.operation.removesuffix("32")
+        if name not in SIGNED or it.operands[1].startswith("r"):
+            return None
+        register = it.operands[0]
+        known = next(filter(None, (re.fullmatch(rf"{register} number(?: (\d+))?(?: to (\d+))?", line) for line in it.known)), None)
+        if not known or int(known[2] or known[1] or WORDS) < 1 << (31 if is_half else 63):
+            return None
+        is_above, least = SIGNED[name]
+        number = int(it.operands[1])
+        return "below" if is_above == is_taken and number >= least else "above" if is_above != is_taken and number > least else None
+
+    def earlier(self, slot, register):
+        """The register before an instruction whose number is the one, or is made by a number into the one, that is in this one behind it."""
+        it = self.slots[slot]
+        if it.operation.startswith(("j", "st")) or it.operation == "exit" or it.operands[0] != register:
+            return None if it.operation == "call" and register in CALLED else register
+        if len(it.operands) < 2:
+            return None
+        is_move = it.operation.startswith("mov")
+        if it.operation.startswith("ld") or is_move and not it.operands[1].startswith("r"):
+            return None
+        return it.operands[1] if is_move else None if it.operands[1].startswith("r") else register
+
     def likely(self, slot, told):
         """What may be the cause that a refusal of this slot doesn't tell."""
         for rule, words in RULES:
@@ -132,6 +199,30 @@ def unbounded(ways, slot, _):
             source = ways.slots[before].source
             line = f" ({source})" if source else ""
             yield f"{register} is bounded on one way that leads here, and not on the one by slot {before}{line}{BOTH if '&&' in source else ''}"
+        for sign in sorted(ways.signs(slot, register)):
+            yield signed(sign, ways.slots[sign].source)
+        yield from read_again(ways, slot, register)
+
+
+def signed(slot, source):
+    """What is said of a comparison with a sign."""
+    found = re.findall(r"([A-Za-z_][\w.>-]*) (?:[<>]=?|==|!=) ", source)
+    other = f"test {found[0]} >= 0 too" if len(found) == 1 else "test too that it isn't negative"
+    return f"slot {slot}{f' ({source})' if source else ''} compares with a sign, and a negative number passes: make it a u64, or {other}"
+
+
+def read_again(ways, slot, register):
+    """Of an index that was read, and tested after an earlier load from the same place."""
+    origins = ways.origins[slot, register]
+    load = next(iter(origins)) if len(origins) == 1 else None
+    if not isinstance(load, int) or ways.place(load) is None:
+        return
+    name, place = ways.slots[load].operation, ways.place(load)
+    earlier = {at for at, it in ways.slots.items() if at < load and it.operation == name and ways.place(at) == place}
+    for at, it in ways.slots.items():
+        if it.operation.startswith("j") and len(it.operands) == 3 and set() < ways.origins[at, it.operands[0]] <= earlier:
+            yield f"{place} is read again at slot {load}, and slot {at} tested what was read before: read it once, into a variable"
+            return
 
 
 def outside(_ways, _slot, told):
