@@ -95,8 +95,7 @@ fn entry_of(bytes: &[u8]) -> Result<(u64, u64, &[u8], &[u8]), PacketError>
     ensures exact { Gives (λ x. (record { number = x.0; ssn = x.1; payload = x.2.now }, x.3.now)) result (entry_at bytes.now) }
     ensures bound { IfOk result (λ x. length x.2.now ≤ PAYLOAD_BYTES) }
 {
-    let (number, rest) = u64_of(bytes)?;
-    let (ssn, rest) = u64_of(rest)?;
+    let (number, ssn, rest) = two_of(bytes)?;
     let (payload, rest) = payload_of(rest)?;
     Ok((number, ssn, payload, rest))
 }

@@ -117,8 +117,7 @@ fn pairs_alone(alloc: Global, bytes: &[u8]) -> Result<(u8, Page<Pair>), PacketEr
 fn read_delivery(bytes: &[u8], body: &mut Body) -> Result<(), PacketError>
     ensures { Gives (λ _. body.new) result (body_at kinds.Delivery bytes.now) }
 {
-    let (incarnation, rest) = u64_of(bytes)?;
-    let (ssn, rest) = u64_of(rest)?;
+    let (incarnation, ssn, rest) = two_of(bytes)?;
     let (payload, rest) = payload_of(rest)?;
     let payload = Payload::from_slice(payload);
     ended(rest)?;
