@@ -114,6 +114,7 @@ fn put_body(out: &mut Vec<u8>, body: &Body) -> Result<(), AllocError>
 }
 
 /// Appends two numbers of eight bytes.
+#[inline(always)]
 fn put_two(out: &mut Vec<u8>, a: u64, b: u64) -> Result<(), AllocError>
     ensures { OnOk result (out.new.items ≡ out.old.items ++ (long_bytes a ++ long_bytes b)) }
 {
@@ -122,6 +123,7 @@ fn put_two(out: &mut Vec<u8>, a: u64, b: u64) -> Result<(), AllocError>
 }
 
 /// Appends three numbers of eight bytes.
+#[inline(always)]
 fn put_three(out: &mut Vec<u8>, a: u64, b: u64, c: u64) -> Result<(), AllocError>
     ensures { OnOk result (out.new.items ≡ out.old.items ++ (long_bytes a ++ (long_bytes b ++ long_bytes c))) }
 {
@@ -130,6 +132,7 @@ fn put_three(out: &mut Vec<u8>, a: u64, b: u64, c: u64) -> Result<(), AllocError
 }
 
 /// Appends two numbers of eight bytes and a payload.
+#[inline(always)]
 fn put_message(out: &mut Vec<u8>, a: u64, b: u64, payload: &[u8]) -> Result<(), AllocError>
     requires { length payload.now ≤ PAYLOAD_BYTES }
     ensures { OnOk result (out.new.items ≡ out.old.items ++ (long_bytes a ++ (long_bytes b ++ payload_bytes payload.now))) }
