@@ -59,6 +59,7 @@ pub fn u64_of(bytes: &[u8]) -> Result<(u64, &[u8]), PacketError>
 }
 
 /// Two numbers of eight bytes.
+#[inline(always)]
 pub fn two_of(bytes: &[u8]) -> Result<(u64, u64, &[u8]), PacketError>
     ensures { Gives (λ x. ((x.0, x.1), x.2.now)) result (both (number_at 8) (number_at 8) bytes.now) }
 {
@@ -68,6 +69,7 @@ pub fn two_of(bytes: &[u8]) -> Result<(u64, u64, &[u8]), PacketError>
 }
 
 /// Three numbers of eight bytes.
+#[inline(always)]
 pub fn three_of(bytes: &[u8]) -> Result<(u64, u64, u64, &[u8]), PacketError>
     ensures { Gives (λ x. ((x.0, (x.1, x.2)), x.3.now)) result (both (number_at 8) (both (number_at 8) (number_at 8)) bytes.now) }
 {
