@@ -31,3 +31,4 @@ pub mod Handed
 pub mod Deliveries
 pub mod Begun
 pub mod Queues
+pub mod Posting
