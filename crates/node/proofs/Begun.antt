@@ -1,13 +1,12 @@
 -- What a new node keeps
-use Rattle.std.proofs.Common.{◌≡◌, ℕ, List, [], Bool, false, zero, suc, ◌+◌, ◌*◌, ◌≤◌, length, replicate, refl, ap, ◌∙◌, arith}
+use Rattle.std.proofs.Common.{◌≡◌, ℕ, List, [], Bool, false, zero, suc, ◌+◌, ◌≤◌, length, replicate, refl, ap, ◌∙◌, arith}
 use Rattle.std.specs.Prelude.{slice_index_or, sum, true, None}
 use Rattle.rsn.specs.Receipts.{Received}
 use Rattle.packets.specs.declared.packet.Packet.{Packet}
 use Rattle.node.specs.declared.limit.Limits.{Limits}
-use Rattle.node.specs.declared.node.TheConstants.{MOST_GIVEN}
 use Rattle.node.specs.Limit.{AreAllowed}
 use Rattle.node.specs.Queue.{TheQueue, no_queue}
-use Rattle.node.specs.Node.{TheNode, Within, log_at, new_node}
+use Rattle.node.specs.Node.{TheNode, Within, new_node}
 
 as-many : {X : Type 0} (k : ℕ) (x : X) → length (replicate k x) ≡ k
 as-many zero x = refl

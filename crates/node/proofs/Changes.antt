@@ -1,11 +1,11 @@
 -- What holds still where parts of a node change
-use Rattle.std.proofs.Common.{◌≡◌, ◌≢◌, ℕ, suc, ◌*◌, ◌+◌, ◌-◌, ◌<◌, ◌≤◌, ◌^◌, List, ◌∷◌, length, drop, min, Bool, true, false, refl, sym, ap, ◌∙◌, subst, arith}
-use Rattle.std.specs.Prelude.{Some, is_some, slice_index_or, slice_set, if◌then◌else◌, not, ◌&&◌, ◌||◌, ◌==◌, nat_lt}
+use Rattle.std.proofs.Common.{◌≡◌, ◌≢◌, ℕ, suc, ◌*◌, ◌+◌, ◌-◌, ◌<◌, ◌≤◌, List, length, min, Bool, true, false, sym, ap, ◌∙◌, subst, arith}
+use Rattle.std.specs.Prelude.{slice_index_or, slice_set, if◌then◌else◌, not, ◌&&◌, ◌||◌, ◌==◌, nat_lt}
 use Rattle.std.proofs.lemmas.Bool.Decides.{nat_tests}
 use Rattle.std.proofs.lemmas.List.{get_or_default, length-drop}
 use Rattle.packets.specs.declared.packet.Body.{Body}
 use Rattle.node.specs.Queue.{TheQueue, is_kept, recorded, dropped_to, forgotten_above}
-use Rattle.node.specs.Node.{TheNode, Within, IsPeer, IsPositive, CanSay, log_at, posts, numbered}
+use Rattle.node.specs.Node.{TheNode, Within, IsPeer, CanSay, log_at, posts, numbered}
 use Rattle.node.specs.Pages.{told_of, restored_of}
 use Rattle.node.specs.Asking.{heard_of, hears, asked_by, works_for, obeys, resumed_by}
 use Rattle.node.specs.Calls.{recorded_by}

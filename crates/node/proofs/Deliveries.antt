@@ -1,5 +1,5 @@
 -- A message that comes, by what a node makes of it
-use Rattle.std.proofs.Common.{◌≡◌, ◌≢◌, ℕ, ◌+◌, ◌-◌, ◌<◌, ◌≤◌, ◌^◌, List, length, Bool, true, false, refl, sym, ap, ◌∙◌, subst, arith}
+use Rattle.std.proofs.Common.{◌≡◌, ◌≢◌, ℕ, ◌+◌, ◌-◌, ◌<◌, ◌≤◌, List, length, Bool, true, false, sym, ap, ◌∙◌, arith}
 use Rattle.std.specs.Prelude.{Some, is_some, slice_index_or, not, ◌&&◌, ◌||◌, ◌==◌, nat_lt, nat_le, if◌then◌else◌}
 use Rattle.std.proofs.lemmas.Bool.Decides.{nat_tests}
 use Rattle.rsn.specs.Receipts.{numbers_of}
@@ -7,8 +7,7 @@ use Rattle.rsn.proofs.ReceiptLemmas.{numbers_from-bound}
 use Rattle.theorems.proofs.Tests.{both}
 use Rattle.packets.specs.declared.packet.Body.TheVariants.{Saved}
 use Rattle.node.specs.declared.node.TheConstants.{MOST_RECEIVED}
-use Rattle.node.specs.declared.job.OpenJob.{OpenJob}
-use Rattle.node.specs.Node.{TheNode, Within, IsPeer, IsPositive, posts, tells, covered_of}
+use Rattle.node.specs.Node.{TheNode, Within, IsPeer, posts, tells, covered_of}
 use Rattle.node.specs.Asking.{heard_of}
 use Rattle.node.specs.Calls.{delivered, takes_more}
 

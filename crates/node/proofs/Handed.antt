@@ -12,10 +12,10 @@ use Rattle.node.specs.Calls.{told, is_for, handed}
 
 -- ---- which are dropped
 
-no-first : (a b : Bool) → a ≡ false → (a && b) ≡ false
+pub no-first : (a b : Bool) → a ≡ false → (a && b) ≡ false
 no-first a b e = rw e refl
 
-no-second : (a b : Bool) → b ≡ false → (a && b) ≡ false
+pub no-second : (a b : Bool) → b ≡ false → (a && b) ≡ false
 no-second true b e = e
 no-second false b e = refl
 

@@ -32,3 +32,4 @@ pub mod Deliveries
 pub mod Begun
 pub mod Queues
 pub mod Posting
+pub mod Acknowledged

@@ -1,9 +1,8 @@
-use Rattle.std.proofs.Common.{◌≡◌, ◌≤◌, ◌<◌, length, false, refl, arith}
+use Rattle.std.proofs.Common.{◌<◌, length, false, refl}
 use Rattle.std.specs.Prelude.{slice_set}
 use Rattle.std.proofs.lemmas.List.{length-set}
 use Rattle.node.specs.contracts.node.Node.{the_view}
 use Rattle.node.specs.Node.{TheNode}
-use Rattle.node.specs.Asking.{heard_of}
 use Rattle.node.proofs.Changes.{has-place, there-is, within-still, same-logs, newer, not-newer}
 use Rattle.node.proofs.node.Node.hear.Goals as goal
 

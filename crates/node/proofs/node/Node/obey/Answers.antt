@@ -1,8 +1,8 @@
-use Rattle.std.proofs.Common.{◌≡◌, ◌<◌, length, true, false, refl, sym, ap, ◌∙◌, subst}
+use Rattle.std.proofs.Common.{◌≡◌, ◌<◌, length, true, refl, ap, ◌∙◌}
 use Rattle.std.specs.Prelude.{slice_set}
 use Rattle.std.proofs.lemmas.List.{length-set}
 use Rattle.node.specs.contracts.node.Node.{the_view}
-use Rattle.node.specs.Queue.{TheQueue, no_queue, forgotten_above}
+use Rattle.node.specs.Queue.{no_queue, forgotten_above}
 use Rattle.node.specs.Node.{TheNode, log_at}
 use Rattle.node.proofs.Changes.{has-place, there-is, no-longer, same-logs, within-still, obeyed, obeyed-before}
 use Rattle.node.proofs.node.Node.obey.Goals as goal

@@ -1,7 +1,5 @@
-use Rattle.std.proofs.Common.{◌≡◌, [], refl, ap, ◌∙◌, subst, sym}
-use Rattle.node.specs.contracts.node.Node.{the_view}
-use Rattle.node.specs.Node.{TheNode, Within, new_node}
-use Rattle.world.specs.Handlers.{Handlers}
+use Rattle.std.proofs.Common.{subst, sym}
+use Rattle.node.specs.Node.{TheNode, Within}
 use Rattle.cluster.specs.Cluster.{opening}
 use Rattle.node.specs.Stands.{Stands}
 use Rattle.node.proofs.Opening.{stands-opened}

@@ -1,10 +1,10 @@
-use Rattle.std.proofs.Common.{◌≡◌, ◌<◌, ◌-◌, length, false, true, sym, ap, ◌∙◌, subst, arith}
+use Rattle.std.proofs.Common.{◌≡◌, length, false, true, sym, ap, ◌∙◌, subst, arith}
 use Rattle.std.specs.Prelude.{is_some, Some}
 use Rattle.rsn.specs.Receipts.{numbers_of}
 use Rattle.node.specs.contracts.node.Node.{the_view}
 use Rattle.node.specs.Node.{TheNode, IsPeer, covered_of}
 use Rattle.node.specs.Asking.{heard_of}
-use Rattle.node.specs.Calls.{delivered, takes_more}
+use Rattle.node.specs.Calls.{takes_more}
 use Rattle.node.proofs.Changes.{has-place, there-is}
 use Rattle.node.proofs.Sendable.{can-say, saved-fits}
 use Rattle.packets.specs.declared.packet.Body.TheVariants.{Saved}

@@ -1,8 +1,8 @@
-use Rattle.std.proofs.Common.{◌≡◌, ◌<◌, length, true, false, refl, sym, ap, ◌∙◌, subst}
+use Rattle.std.proofs.Common.{◌≡◌, ◌<◌, length, refl, sym, ap, ◌∙◌, subst}
 use Rattle.std.specs.Prelude.{slice_set}
 use Rattle.std.proofs.lemmas.List.{length-set}
 use Rattle.node.specs.contracts.node.Node.{the_view}
-use Rattle.node.specs.Queue.{TheQueue, no_queue, recorded, is_kept}
+use Rattle.node.specs.Queue.{no_queue, recorded, is_kept}
 use Rattle.node.specs.Node.{TheNode, IsPeer, log_at}
 use Rattle.node.specs.Asking.{heard_of}
 use Rattle.node.proofs.Sendable.{can-say, acknowledgement-fits}

@@ -1,6 +1,4 @@
-use Rattle.std.proofs.Common.{◌≡◌, ◌<◌, length, true, false, refl, sym, ap, ◌∙◌, subst}
-use Rattle.std.specs.Prelude.{slice_set}
-use Rattle.std.proofs.lemmas.List.{length-set}
+use Rattle.std.proofs.Common.{◌≡◌, ◌<◌, length, sym, ◌∙◌}
 use Rattle.node.specs.contracts.node.Node.{the_view}
 use Rattle.node.specs.Node.{TheNode}
 use Rattle.node.specs.Asking.{heard_of}
