@@ -1,11 +1,11 @@
 -- An acknowledgement that comes, by what a node makes of it
-use Rattle.std.proofs.Common.{◌≡◌, ◌≢◌, ℕ, ◌+◌, ◌-◌, ◌≤◌, ◌<◌, length, Bool, true, false, refl, sym, ap, ◌∙◌, arith}
+use Rattle.std.proofs.Common.{◌≡◌, ℕ, ◌+◌, ◌-◌, ◌≤◌, ◌<◌, length, Bool, true, false, refl, sym, ap, ◌∙◌, arith}
 use Rattle.std.specs.Prelude.{slice_index_or, not, ◌&&◌, ◌==◌, nat_lt, nat_le, if◌then◌else◌}
 use Rattle.std.proofs.lemmas.Bool.Decides.{nat_tests}
 use Rattle.node.specs.Node.{TheNode, counted}
 use Rattle.node.specs.Sending.{released}
 use Rattle.node.specs.Calls.{acknowledged_by}
-use Rattle.node.proofs.Handed.{no-first, no-second}
+use Rattle.node.proofs.Handed.{no-second}
 
 pub behind-in : (b k f l n : ℕ) → b < k → k ≤ b + f → f ≡ l → l ≡ n → (1 ≤ k - b) × (k - b ≤ n)
 behind-in b k f l n above low e g = (omega arith, omega arith)
@@ -28,15 +28,6 @@ module _ (life k : ℕ) (m n : TheNode) (same : m ≡ n) where
 
   passed : (A && B && C && D) ≡ false → n ≡ acknowledged_by life k n
   passed e = sym same ∙ ap by-test (sym e) ∙ ap (acknowledged_by life k) same
-
-  pub other-life : life ≢ m.life → n ≡ acknowledged_by life k n
-  other-life e = passed (no-first (A && B && C) D (no-first (A && B) C (no-first A B (grind (arith, nat_tests)))))
-
-  pub covered-before : k ≤ m.base → n ≡ acknowledged_by life k n
-  covered-before e = passed (no-first (A && B && C) D (no-first (A && B) C (no-second A B (grind (arith, nat_tests)))))
-
-  pub not-yet : (f l : ℕ) → m.base + f < k → f ≡ l → l ≡ length m.receipts.senders → n ≡ acknowledged_by life k n
-  not-yet f l e g h = passed (no-first (A && B && C) D (no-second (A && B) C (let above : m.base + length m.receipts.senders < k = omega (arith, e, g, h) in grind (arith, nat_tests))))
 
   pub told-before : (b : Bool) → b ≡ slice_index_or m.receipts.acknowledged (k - m.base - 1) false → b ≡ true → n ≡ acknowledged_by life k n
   told-before b e f = let t : slice_index_or m.receipts.acknowledged (k - m.base - 1) false ≡ true = sym e ∙ f in passed (no-second (A && B && C) D (rw t refl))

@@ -102,22 +102,9 @@ obeyer-says d k to body n s is peer fits = subst (λ z. CanSay z to body) (sym i
 
 -- ---- an Ask comes
 
-pub stale-ask : (d life above x : ℕ) (m n : TheNode) → m ≡ n → x ≡ heard_of d m → life < x → n ≡ asked_by d life above n
-stale-ask d life above x m n same is less =
-    let t : nat_lt life (heard_of d m) ≡ true = below life x (heard_of d m) is less in
-    sym same ∙ ap (λ b. if b then m else posts d (told_of d life above m) (hears d life m)) (sym t) ∙ ap (asked_by d life above) same
-  where
-    below : (k y h : ℕ) → y ≡ h → k < y → nat_lt k h ≡ true
-    below k y h e l = let f : k < h = omega arith in grind (arith, nat_tests)
-
-pub told-above : (d life above x : ℕ) (m n s new : TheNode) (b : Body) → m ≡ n → x ≡ heard_of d m → x ≤ life → b ≡ told_of d life above n → s ≡ hears d life n → new ≡ posts d b s → new ≡ asked_by d life above n
-told-above d life above x m n s new b same is low body heard put =
-    let at : x ≡ heard_of d n = is ∙ ap (heard_of d) same in
-    let t : nat_lt life (heard_of d n) ≡ false = not-below life x (heard_of d n) at low in
+pub told-above : (d life above : ℕ) (n s new : TheNode) (b : Body) → nat_lt life (heard_of d n) ≡ false → b ≡ told_of d life above n → s ≡ hears d life n → new ≡ posts d b s → new ≡ asked_by d life above n
+told-above d life above n s new b t body heard put =
     put ∙ ap (posts d b) heard ∙ ap (λ z. posts d z (hears d life n)) body ∙ ap (λ z. if z then n else posts d (told_of d life above n) (hears d life n)) (sym t)
-  where
-    not-below : (k y h : ℕ) → y ≡ h → y ≤ k → nat_lt k h ≡ false
-    not-below k y h e l = let f : h ≤ k = omega arith in grind (arith, nat_tests)
 
 -- ---- a Resume comes
 
@@ -126,18 +113,6 @@ equal a b y e f = let g : a ≡ b = f ∙ e in grind (arith, nat_tests)
 
 unequal : (a b y : ℕ) → y ≡ b → a ≢ y → (a == b) ≡ false
 unequal a b y e f = let g : a ≢ b = λ h. f (h ∙ sym e) in grind (arith, nat_tests)
-
-pub stale-resume : (d life kept above x : ℕ) (m n : TheNode) → m ≡ n → x ≡ heard_of d m → life ≢ x → n ≡ resumed_by d life kept above n
-stale-resume d life kept above x m n same is other =
-    let at : x ≡ heard_of d n = is ∙ ap (heard_of d) same in
-    let t : (life == heard_of d n) ≡ false = unequal life (heard_of d n) x at other in
-    ap (λ z. if not z || works_for d n.working then n else posts d (restored_of d life above n) (obeys d kept n)) (sym t)
-
-pub busy-resume : (d life kept above x : ℕ) (m n : TheNode) → m ≡ n → x ≡ heard_of d m → life ≡ x → works_for d n.working ≡ true → n ≡ resumed_by d life kept above n
-busy-resume d life kept above x m n same is here busy =
-    let at : x ≡ heard_of d n = is ∙ ap (heard_of d) same in
-    let t : (life == heard_of d n) ≡ true = equal life (heard_of d n) x at here in
-    ap (λ z. if not true || z then n else posts d (restored_of d life above n) (obeys d kept n)) (sym busy) ∙ ap (λ z. if not z || works_for d n.working then n else posts d (restored_of d life above n) (obeys d kept n)) (sym t)
 
 pub restored-above : (d life kept above x : ℕ) (m n s new : TheNode) (b : Body) → m ≡ n → x ≡ heard_of d m → life ≡ x → works_for d n.working ≡ false → b ≡ restored_of d life above n → s ≡ obeys d kept n → new ≡ posts d b s → new ≡ resumed_by d life kept above n
 restored-above d life kept above x m n s new b same is here free body obeyed put =

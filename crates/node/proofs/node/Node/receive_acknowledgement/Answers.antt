@@ -1,21 +1,8 @@
-use Rattle.std.proofs.Common.{◌-◌, ◌≤◌, length, subst}
+use Rattle.std.proofs.Common.{rules, ◌-◌, ◌≤◌, length, subst}
 use Rattle.node.specs.contracts.node.Node.{the_view}
 use Rattle.node.specs.Node.{TheNode}
-use Rattle.node.proofs.Acknowledged.{behind-in, other-life, covered-before, not-yet, told-before, counts-so}
+use Rattle.node.proofs.Acknowledged.{behind-in, told-before, counts-so}
 use Rattle.node.proofs.node.Node.receive_acknowledgement.Goals as goal
-use Rattle.node.proofs.node.Node.receive_acknowledgement.Goals.{then-life-self-via-then-life-self, then-life-self-via-else-life-self+then-rsn-self, then-life-self-via-else-life-self+else-rsn-self+then-last-rsn}
-
-pub returns-then-life-self : goal.returns-then-life-self
-returns-then-life-self c =
-    let m : TheNode = the_view c.self.inside in
-    let n = c.args.self.now in
-    let life = c.args.life in
-    let k = c.args.rsn in
-    elim c.then-life-self.branch [
-      | then-life-self-via-then-life-self w ↦ other-life life k m n c.self.view_is w.if-life-self.true
-      | then-life-self-via-else-life-self+then-rsn-self w ↦ covered-before life k m n c.self.view_is w.if-rsn-self.true
-      | then-life-self-via-else-life-self+else-rsn-self+then-last-rsn w ↦ not-yet life k m n c.self.view_is c.from.result c.length.result w.if-last-rsn.true c.from.ensures c.length.ensures.value
-    ]
 
 pub is_acknowledged-requires : goal.is_acknowledged-requires
 is_acknowledged-requires c = behind-in c.self.inside.base c.args.rsn c.from.result c.length.result (length c.self.inside.receipts.senders) c.if-rsn-self.false c.if-last-rsn.false c.from.ensures c.length.ensures.value
@@ -31,7 +18,7 @@ returns-then-not-is_acknowledged c =
     let n = c.args.self.now in
     let life = c.args.life in
     let k = c.args.rsn in
-    counts-so life k m n c.self.view_is c.from.result c.length.result c.is_acknowledged.result c.acknowledge.new.self c.release.new.self c.if-life-self.false c.if-rsn-self.false c.if-last-rsn.false c.from.ensures c.length.ensures.value c.is_acknowledged.ensures c.if-not-is_acknowledged.true c.acknowledge.ensures c.release.ensures
+    counts-so life k m n c.self.view_is c.from.result c.length.result c.is_acknowledged.result c.acknowledge.new.self c.release.new.self (search rules) c.if-rsn-self.false c.if-last-rsn.false c.from.ensures c.length.ensures.value c.is_acknowledged.ensures c.if-not-is_acknowledged.true c.acknowledge.ensures c.release.ensures
 
 pub returns-else-not-is_acknowledged : goal.returns-else-not-is_acknowledged
 returns-else-not-is_acknowledged c =

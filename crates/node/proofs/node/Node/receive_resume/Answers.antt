@@ -1,21 +1,11 @@
-use Rattle.std.proofs.Common.{◌≡◌, ◌<◌, length, sym, ◌∙◌}
+use Rattle.std.proofs.Common.{rules, arith, false, ◌≡◌, ◌<◌, length}
 use Rattle.node.specs.contracts.node.Node.{the_view}
 use Rattle.node.specs.Node.{TheNode}
 use Rattle.node.specs.Asking.{heard_of}
-use Rattle.node.proofs.Changes.{has-place, there-is, obeyer-says, stale-resume, busy-resume, restored-above}
+use Rattle.node.specs.Asking.{works_for}
+use Rattle.std.proofs.lemmas.Grind.{common_steps}
+use Rattle.node.proofs.Changes.{has-place, there-is, obeyer-says, restored-above}
 use Rattle.node.proofs.node.Node.receive_resume.Goals as goal
-use Rattle.node.proofs.node.Node.receive_resume.Goals.{then-life-index-via-then-life-index, then-life-index-via-else-life-index+then-works_for}
-
-pub returns-then-life-index-clause-ok : goal.returns-then-life-index-clause-ok
-returns-then-life-index-clause-ok c =
-    let m : TheNode = the_view c.self.inside in
-    let from = c.args.from in
-    let inside : from < length m.heard = has-place m.heard m c.args.self.now from c.self.invariant.heard_wide c.self.view_is c.requires.peer.0 in
-    let is : c.index.result.now ≡ heard_of from m = there-is m.heard from c.index.result.now 0 inside c.index.ensures in
-    elim c.then-life-index.branch [
-      | then-life-index-via-then-life-index w ↦ stale-resume from c.args.life c.args.kept c.args.above c.index.result.now m c.args.self.now c.self.view_is is w.if-life-index.true
-      | then-life-index-via-else-life-index+then-works_for w ↦ busy-resume from c.args.life c.args.kept c.args.above c.index.result.now m c.args.self.now c.self.view_is is w.if-life-index.false (sym w.works_for.ensures ∙ w.if-works_for.true)
-    ]
 
 pub restored-requires-clause-peer : goal.restored-requires-clause-peer
 restored-requires-clause-peer c = c.requires.peer.0
@@ -38,4 +28,5 @@ returns-clause-ok c =
     let from = c.args.from in
     let inside : from < length m.heard = has-place m.heard m c.args.self.now from c.self.invariant.heard_wide c.self.view_is c.requires.peer.0 in
     let is : c.index.result.now ≡ heard_of from m = there-is m.heard from c.index.result.now 0 inside c.index.ensures in
-    restored-above from c.args.life c.args.kept c.args.above c.index.result.now m c.args.self.now c.obey.new.self c.put.new.self c.in_ok-body.body c.self.view_is is c.if-life-index.false (sym c.works_for.ensures ∙ c.if-works_for.false) c.in_ok-body.ensures.value c.obey.ensures c.put.ensures
+    let free : works_for from c.args.self.now.working ≡ false = first_of (search rules, grind (arith, common_steps)) in
+    restored-above from c.args.life c.args.kept c.args.above c.index.result.now m c.args.self.now c.obey.new.self c.put.new.self c.in_ok-body.body c.self.view_is is c.if-life-index.false free c.in_ok-body.ensures.value c.obey.ensures c.put.ensures
