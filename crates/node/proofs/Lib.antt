@@ -26,3 +26,10 @@ pub mod Keeping
 pub mod Outside
 pub mod Runs
 pub mod Releases
+pub mod Changes
+pub mod Handed
+pub mod Deliveries
+pub mod Begun
+pub mod Queues
+pub mod Posting
+pub mod Acknowledged

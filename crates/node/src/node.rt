@@ -1,7 +1,8 @@
 //! What a node holds in memory.
 
-ghost use Rattle.std.specs.Prelude.{◌≡◌, ◌≤◌, IfOk};
+ghost use Rattle.std.specs.Prelude.{◌≡◌, ◌≤◌, replicate, true, IfOk};
 ghost use Rattle.node.specs.Limit.{AreAllowed};
+ghost use Rattle.node.specs.Queue.{no_queue};
 ghost use Rattle.node.specs.Node.{new_node, posts, CanSay};
 ghost use Rattle.world.specs.Handlers.{Handlers};
 ghost use Rattle.cluster.specs.Cluster.{opening};
@@ -83,18 +84,11 @@ impl Node {
         ensures stands { IfOk result (λ n. (f : Handlers) → BeginsWith f me state_len → Stands n (opening count f) me) }
     {
         let wide = count as usize + 1;
-        let mut state = Vec::new(alloc);
-        state.resize(state_len as usize, 0)?;
-        let mut covered = Vec::new(alloc);
-        covered.resize(wide, 0)?;
-        let mut heard = Vec::new(alloc);
-        heard.resize(wide, 1)?;
-        let mut resumed = Vec::new(alloc);
-        resumed.resize(wide, true)?;
-        let mut logs = Vec::new(alloc);
-        for made in 0..wide {
-            logs.push(Queue::new(alloc))?;
-        }
+        let state = zeros(alloc, state_len as usize)?;
+        let covered = numbers(alloc, wide, 0)?;
+        let heard = numbers(alloc, wide, 1)?;
+        let resumed = flags(alloc, wide)?;
+        let logs = queues(alloc, wide)?;
         let receipts = Receipts::new(alloc, &[])?;
         let out = Outbox::new(alloc)?;
         Ok(Node {
@@ -153,4 +147,42 @@ impl Node {
         };
         self.out.push(packet);
     }
+}
+
+/// So many bytes that are zero.
+fn zeros(alloc: Global, many: usize) -> Result<Vec<u8>, AllocError>
+    ensures { IfOk result (λ v. v.items ≡ replicate many 0) }
+{
+    let mut bytes = Vec::new(alloc);
+    bytes.resize(many, 0)?;
+    Ok(bytes)
+}
+
+/// So many times this number.
+fn numbers(alloc: Global, many: usize, number: u64) -> Result<Vec<u64>, AllocError>
+    ensures { IfOk result (λ v. v.items ≡ replicate many number) }
+{
+    let mut numbers = Vec::new(alloc);
+    numbers.resize(many, number)?;
+    Ok(numbers)
+}
+
+/// So many flags that are set.
+fn flags(alloc: Global, many: usize) -> Result<Vec<bool>, AllocError>
+    ensures { IfOk result (λ v. v.items ≡ replicate many true) }
+{
+    let mut flags = Vec::new(alloc);
+    flags.resize(many, true)?;
+    Ok(flags)
+}
+
+/// So many queues that nothing was put in.
+fn queues(alloc: Global, many: usize) -> Result<Vec<Queue>, AllocError>
+    ensures { IfOk result (λ v. v.items ≡ replicate many no_queue) }
+{
+    let mut queues = Vec::new(alloc);
+    for made in 0..many {
+        queues.push(Queue::new(alloc))?;
+    }
+    Ok(queues)
 }

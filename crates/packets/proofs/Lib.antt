@@ -1,5 +1,6 @@
 pub mod ChecksumLemmas
 pub mod Counted
+pub mod Spelled
 pub mod Codecs
 pub mod BodyLemmas
 pub mod WholeLemmas

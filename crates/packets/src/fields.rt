@@ -1,7 +1,7 @@
 //! The fields of a packet, from bytes.
 
 ghost use Rattle.std.specs.Prelude.{◌≡◌, ◌≤◌, length, IfOk};
-ghost use Rattle.packets.specs.Inside.Reading.{Gives, bytes_at, byte_at, number_at, payload_at, entry_at, pair_at, times, page_at};
+ghost use Rattle.packets.specs.Inside.Reading.{Gives, bytes_at, byte_at, number_at, both, payload_at, entry_at, pair_at, times, page_at};
 
 use crate::fault::{PacketError, PacketFault};
 use crate::page::{Entry, Page, Pair};
@@ -58,6 +58,26 @@ pub fn u64_of(bytes: &[u8]) -> Result<(u64, &[u8]), PacketError>
     Ok((LittleEndian::read_u64(front), rest))
 }
 
+/// Two numbers of eight bytes.
+#[inline(always)]
+pub fn two_of(bytes: &[u8]) -> Result<(u64, u64, &[u8]), PacketError>
+    ensures { Gives (λ x. ((x.0, x.1), x.2.now)) result (both (number_at 8) (number_at 8) bytes.now) }
+{
+    let (a, rest) = u64_of(bytes)?;
+    let (b, rest) = u64_of(rest)?;
+    Ok((a, b, rest))
+}
+
+/// Three numbers of eight bytes.
+#[inline(always)]
+pub fn three_of(bytes: &[u8]) -> Result<(u64, u64, u64, &[u8]), PacketError>
+    ensures { Gives (λ x. ((x.0, (x.1, x.2)), x.3.now)) result (both (number_at 8) (both (number_at 8) (number_at 8)) bytes.now) }
+{
+    let (a, rest) = u64_of(bytes)?;
+    let (b, c, rest) = two_of(rest)?;
+    Ok((a, b, c, rest))
+}
+
 /// A payload behind its length.
 #[tactic(auto, unfolding(crate::specs::Inside::Reading::payload_at))]
 pub fn payload_of(bytes: &[u8]) -> Result<(&[u8], &[u8]), PacketError>
@@ -77,8 +97,7 @@ fn entry_of(bytes: &[u8]) -> Result<(u64, u64, &[u8], &[u8]), PacketError>
     ensures exact { Gives (λ x. (record { number = x.0; ssn = x.1; payload = x.2.now }, x.3.now)) result (entry_at bytes.now) }
     ensures bound { IfOk result (λ x. length x.2.now ≤ PAYLOAD_BYTES) }
 {
-    let (number, rest) = u64_of(bytes)?;
-    let (ssn, rest) = u64_of(rest)?;
+    let (number, ssn, rest) = two_of(bytes)?;
     let (payload, rest) = payload_of(rest)?;
     Ok((number, ssn, payload, rest))
 }
@@ -88,8 +107,7 @@ fn entry_of(bytes: &[u8]) -> Result<(u64, u64, &[u8], &[u8]), PacketError>
 fn pair_of(bytes: &[u8]) -> Result<(Pair, &[u8]), PacketError>
     ensures { Gives (λ x. (x.0, x.1.now)) result (pair_at bytes.now) }
 {
-    let (ssn, rest) = u64_of(bytes)?;
-    let (number, rest) = u64_of(rest)?;
+    let (ssn, number, rest) = two_of(bytes)?;
     Ok((Pair { ssn, number }, rest))
 }
 

@@ -1,6 +1,6 @@
 //! A packet.
 
-ghost use Rattle.std.specs.Prelude.{◌≡◌};
+ghost use Rattle.std.specs.Prelude.{◌≡◌, ◌&&◌};
 ghost use Rattle.std.specs.List.{list_all};
 ghost use Rattle.packets.specs.Packet.{kind_of, is_number, is_positive, in_range, is_entry_above, is_pair_above, entry_before, pair_before, ascends, entries_in_range, pairs_in_range};
 
@@ -101,16 +101,16 @@ impl Body {
                 incarnation,
                 ssn,
                 ..
-            } => is_positive(*incarnation) && is_positive(*ssn),
+            } => are_positive(*incarnation, *ssn),
             Body::Number {
                 incarnation,
                 ssn,
                 number,
-            } => is_positive(*incarnation) && is_positive(*ssn) && is_positive(*number),
+            } => are_positive(*incarnation, *ssn) && is_positive(*number),
             Body::Acknowledgement {
                 incarnation,
                 number,
-            } => is_positive(*incarnation) && is_positive(*number),
+            } => are_positive(*incarnation, *number),
             Body::Ask { incarnation, above } => is_positive(*incarnation) && is_number(*above),
             Body::Told {
                 incarnation,
@@ -119,8 +119,7 @@ impl Body {
                 flags,
                 entries,
             } => {
-                is_positive(*incarnation)
-                    && is_positive(*teller)
+                are_positive(*incarnation, *teller)
                     && is_number(*above)
                     && are_entries(*above, *flags, entries.as_slice())
             }
@@ -128,7 +127,7 @@ impl Body {
                 incarnation,
                 kept,
                 above,
-            } => is_positive(*incarnation) && is_number(*kept) && is_number(*above),
+            } => is_positive(*incarnation) && are_numbers(*kept, *above),
             Body::Restored {
                 incarnation,
                 teller,
@@ -137,10 +136,8 @@ impl Body {
                 flags,
                 pairs,
             } => {
-                is_positive(*incarnation)
-                    && is_positive(*teller)
-                    && is_number(*covered)
-                    && is_number(*above)
+                are_positive(*incarnation, *teller)
+                    && are_numbers(*covered, *above)
                     && are_pairs(*above, *flags, pairs.as_slice())
             }
             Body::Saved { covered } => is_number(*covered),
@@ -160,6 +157,20 @@ fn is_positive(n: u64) -> bool
     ensures { result ≡ is_positive n }
 {
     n > 0 && n < NUMBER_LIMIT
+}
+
+/// Whether both are numbers.
+fn are_numbers(a: u64, b: u64) -> bool
+    ensures { result ≡ (is_number a && is_number b) }
+{
+    is_number(a) && is_number(b)
+}
+
+/// Whether both are numbers that aren't zero.
+fn are_positive(a: u64, b: u64) -> bool
+    ensures { result ≡ (is_positive a && is_positive b) }
+{
+    is_positive(a) && is_positive(b)
 }
 
 /// Whether these are the flags and the entries of a page above this number.

@@ -6,14 +6,14 @@ ghost use Rattle.packets.specs.declared.kind.Kind.TheVariants as kinds;
 ghost use Rattle.packets.specs.declared.fault.PacketFault.TheVariants as faults;
 ghost use Rattle.packets.specs.Format.{IsPacket};
 ghost use Rattle.packets.specs.Faults.{IsReason, Reads};
-ghost use Rattle.packets.specs.Inside.Reading.{Gives, body_at, reading};
+ghost use Rattle.packets.specs.Inside.Reading.{Gives, byte_at, number_at, page_at, entry_at, pair_at, both, whole, body_at, reading};
 
 use crate::fault::{PacketError, PacketFault};
-use crate::fields::{byte_of, entries_of, pairs_of, payload_of, u64_of};
+use crate::fields::{byte_of, entries_of, pairs_of, payload_of, three_of, two_of, u64_of};
 use crate::head::{fields_of, head_of};
 use crate::kind::Kind;
 use crate::packet::{Body, Packet};
-use crate::page::Flags;
+use crate::page::{Entry, Flags, Page, Pair};
 use helpers::Payload;
 use std::alloc::Global;
 
@@ -75,12 +75,49 @@ fn ended(rest: &[u8]) -> Result<(), PacketError>
     Ok(())
 }
 
+/// Two numbers of eight bytes, and nothing behind them.
+fn two_alone(bytes: &[u8]) -> Result<(u64, u64), PacketError>
+    ensures { Gives (λ x. x) result (whole (both (number_at 8) (number_at 8)) bytes.now) }
+{
+    let (a, b, rest) = two_of(bytes)?;
+    ended(rest)?;
+    Ok((a, b))
+}
+
+/// Three numbers of eight bytes, and nothing behind them.
+fn three_alone(bytes: &[u8]) -> Result<(u64, u64, u64), PacketError>
+    ensures { Gives (λ x. (x.0, (x.1, x.2))) result (whole (both (number_at 8) (both (number_at 8) (number_at 8))) bytes.now) }
+{
+    let (a, b, c, rest) = three_of(bytes)?;
+    ended(rest)?;
+    Ok((a, b, c))
+}
+
+/// Flags and a page of entries, and nothing behind them.
+fn entries_alone(alloc: Global, bytes: &[u8]) -> Result<(u8, Page<Entry>), PacketError>
+    ensures { Gives (λ x. x) result (whole (both byte_at (page_at entry_at)) bytes.now) }
+{
+    let (bits, rest) = byte_of(bytes)?;
+    let (entries, rest) = entries_of(alloc, rest)?;
+    ended(rest)?;
+    Ok((bits, entries))
+}
+
+/// Flags and a page of pairs, and nothing behind them.
+fn pairs_alone(alloc: Global, bytes: &[u8]) -> Result<(u8, Page<Pair>), PacketError>
+    ensures { Gives (λ x. x) result (whole (both byte_at (page_at pair_at)) bytes.now) }
+{
+    let (bits, rest) = byte_of(bytes)?;
+    let (pairs, rest) = pairs_of(alloc, rest)?;
+    ended(rest)?;
+    Ok((bits, pairs))
+}
+
 #[tactic(auto, unfolding(crate::specs::Inside::Reading::body_at))]
 fn read_delivery(bytes: &[u8], body: &mut Body) -> Result<(), PacketError>
     ensures { Gives (λ _. body.new) result (body_at kinds.Delivery bytes.now) }
 {
-    let (incarnation, rest) = u64_of(bytes)?;
-    let (ssn, rest) = u64_of(rest)?;
+    let (incarnation, ssn, rest) = two_of(bytes)?;
     let (payload, rest) = payload_of(rest)?;
     let payload = Payload::from_slice(payload);
     ended(rest)?;
@@ -96,10 +133,7 @@ fn read_delivery(bytes: &[u8], body: &mut Body) -> Result<(), PacketError>
 fn read_number(bytes: &[u8], body: &mut Body) -> Result<(), PacketError>
     ensures { Gives (λ _. body.new) result (body_at kinds.Number bytes.now) }
 {
-    let (incarnation, rest) = u64_of(bytes)?;
-    let (ssn, rest) = u64_of(rest)?;
-    let (number, rest) = u64_of(rest)?;
-    ended(rest)?;
+    let (incarnation, ssn, number) = three_alone(bytes)?;
     *body = Body::Number {
         incarnation,
         ssn,
@@ -112,9 +146,7 @@ fn read_number(bytes: &[u8], body: &mut Body) -> Result<(), PacketError>
 fn read_acknowledgement(bytes: &[u8], body: &mut Body) -> Result<(), PacketError>
     ensures { Gives (λ _. body.new) result (body_at kinds.Acknowledgement bytes.now) }
 {
-    let (incarnation, rest) = u64_of(bytes)?;
-    let (number, rest) = u64_of(rest)?;
-    ended(rest)?;
+    let (incarnation, number) = two_alone(bytes)?;
     *body = Body::Acknowledgement {
         incarnation,
         number,
@@ -126,9 +158,7 @@ fn read_acknowledgement(bytes: &[u8], body: &mut Body) -> Result<(), PacketError
 fn read_ask(bytes: &[u8], body: &mut Body) -> Result<(), PacketError>
     ensures { Gives (λ _. body.new) result (body_at kinds.Ask bytes.now) }
 {
-    let (incarnation, rest) = u64_of(bytes)?;
-    let (above, rest) = u64_of(rest)?;
-    ended(rest)?;
+    let (incarnation, above) = two_alone(bytes)?;
     *body = Body::Ask { incarnation, above };
     Ok(())
 }
@@ -137,12 +167,8 @@ fn read_ask(bytes: &[u8], body: &mut Body) -> Result<(), PacketError>
 fn read_told(alloc: Global, bytes: &[u8], body: &mut Body) -> Result<(), PacketError>
     ensures { Gives (λ _. body.new) result (body_at kinds.Told bytes.now) }
 {
-    let (incarnation, rest) = u64_of(bytes)?;
-    let (teller, rest) = u64_of(rest)?;
-    let (above, rest) = u64_of(rest)?;
-    let (bits, rest) = byte_of(rest)?;
-    let (entries, rest) = entries_of(alloc, rest)?;
-    ended(rest)?;
+    let (incarnation, teller, above, rest) = three_of(bytes)?;
+    let (bits, entries) = entries_alone(alloc, rest)?;
     *body = Body::Told {
         incarnation,
         teller,
@@ -157,10 +183,7 @@ fn read_told(alloc: Global, bytes: &[u8], body: &mut Body) -> Result<(), PacketE
 fn read_resume(bytes: &[u8], body: &mut Body) -> Result<(), PacketError>
     ensures { Gives (λ _. body.new) result (body_at kinds.Resume bytes.now) }
 {
-    let (incarnation, rest) = u64_of(bytes)?;
-    let (kept, rest) = u64_of(rest)?;
-    let (above, rest) = u64_of(rest)?;
-    ended(rest)?;
+    let (incarnation, kept, above) = three_alone(bytes)?;
     *body = Body::Resume {
         incarnation,
         kept,
@@ -173,13 +196,9 @@ fn read_resume(bytes: &[u8], body: &mut Body) -> Result<(), PacketError>
 fn read_restored(alloc: Global, bytes: &[u8], body: &mut Body) -> Result<(), PacketError>
     ensures { Gives (λ _. body.new) result (body_at kinds.Restored bytes.now) }
 {
-    let (incarnation, rest) = u64_of(bytes)?;
-    let (teller, rest) = u64_of(rest)?;
-    let (covered, rest) = u64_of(rest)?;
+    let (incarnation, teller, covered, rest) = three_of(bytes)?;
     let (above, rest) = u64_of(rest)?;
-    let (bits, rest) = byte_of(rest)?;
-    let (pairs, rest) = pairs_of(alloc, rest)?;
-    ended(rest)?;
+    let (bits, pairs) = pairs_alone(alloc, rest)?;
     *body = Body::Restored {
         incarnation,
         teller,

@@ -1,13 +1,13 @@
 //! A packet to bytes.
 
-ghost use Rattle.std.specs.Prelude.{◌≡◌, ◌++◌, ◌<◌, ◌≤◌, ◌^◌, length, IfOk, OnOk};
+ghost use Rattle.std.specs.Prelude.{◌≡◌, ◌++◌, ◌∷◌, [], ◌<◌, ◌≤◌, ◌^◌, length, IfOk, OnOk};
 ghost use Rattle.std.specs.List.{flat_map, AllByRecursion};
-ghost use Rattle.packets.specs.Format.{short_bytes, long_bytes, checksum_bytes, payload_bytes, entry_bytes, pair_bytes, page_bytes, body_bytes, packet_bytes, HasRoom, IsEntry, IsPage, Fits, IsPacket};
+ghost use Rattle.packets.specs.Format.{short_bytes, long_bytes, checksum_bytes, payload_bytes, entry_bytes, pair_bytes, page_bytes, body_bytes, unsealed, packet_bytes, HasRoom, IsEntry, IsPage, Fits, IsPacket};
 
 use crate::checksum::crc32c;
 use crate::head::MAGIC;
 use crate::packet::{Body, Packet};
-use crate::page::{Entry, Pair};
+use crate::page::{Entry, Flags, Pair};
 use byteorder::{ByteOrder, LittleEndian};
 use limits::PAYLOAD_BYTES;
 use std::alloc::{AllocError, Global};
@@ -21,6 +21,24 @@ pub fn encode(alloc: Global, packet: &Packet) -> Result<Vec<u8>, AllocError>
     ensures { IfOk result (λ v. IsPacket packet.now v.items) }
 {
     let mut out = Vec::with_capacity(alloc, WITHOUT_A_PAGE)?;
+    put_packet(&mut out, packet)?;
+    Ok(out)
+}
+
+/// Appends what comes before the checksum, and the checksum of all that is there then.
+fn put_packet(out: &mut Vec<u8>, packet: &Packet) -> Result<(), AllocError>
+    requires { HasRoom packet.now.body }
+    ensures { OnOk result (out.new.items ≡ (out.old.items ++ unsealed packet.now) ++ checksum_bytes (out.old.items ++ unsealed packet.now)) }
+{
+    put_unsealed(out, packet)?;
+    put_checksum(out)
+}
+
+/// Appends the head and the fields.
+fn put_unsealed(out: &mut Vec<u8>, packet: &Packet) -> Result<(), AllocError>
+    requires { HasRoom packet.now.body }
+    ensures { OnOk result (out.new.items ≡ out.old.items ++ unsealed packet.now) }
+{
     out.extend_from_slice(&MAGIC)?;
     let head = [
         packet.body.kind().number(),
@@ -29,9 +47,7 @@ pub fn encode(alloc: Global, packet: &Packet) -> Result<Vec<u8>, AllocError>
         packet.to,
     ];
     out.extend_from_slice(&head)?;
-    put_body(&mut out, &packet.body)?;
-    put_checksum(&mut out)?;
-    Ok(out)
+    put_body(out, &packet.body)
 }
 
 /// Appends the fields.
@@ -44,11 +60,7 @@ fn put_body(out: &mut Vec<u8>, body: &Body) -> Result<(), AllocError>
             incarnation,
             ssn,
             payload,
-        } => {
-            put_u64(out, *incarnation)?;
-            put_u64(out, *ssn)?;
-            put_payload(out, payload.as_slice())
-        }
+        } => put_message(out, *incarnation, *ssn, payload.as_slice()),
         Body::Number {
             incarnation: a,
             ssn: b,
@@ -58,11 +70,7 @@ fn put_body(out: &mut Vec<u8>, body: &Body) -> Result<(), AllocError>
             incarnation: a,
             kept: b,
             above: c,
-        } => {
-            put_u64(out, *a)?;
-            put_u64(out, *b)?;
-            put_u64(out, *c)
-        }
+        } => put_three(out, *a, *b, *c),
         Body::Acknowledgement {
             incarnation: a,
             number: b,
@@ -70,23 +78,21 @@ fn put_body(out: &mut Vec<u8>, body: &Body) -> Result<(), AllocError>
         | Body::Ask {
             incarnation: a,
             above: b,
-        } => {
-            put_u64(out, *a)?;
-            put_u64(out, *b)
-        }
+        } => put_two(out, *a, *b),
         Body::Told {
             incarnation,
             teller,
             above,
             flags,
             entries,
-        } => {
-            put_u64(out, *incarnation)?;
-            put_u64(out, *teller)?;
-            put_u64(out, *above)?;
-            out.extend_from_slice(&[flags.bits])?;
-            put_entries(out, entries.as_slice())
-        }
+        } => put_told(
+            out,
+            *incarnation,
+            *teller,
+            *above,
+            *flags,
+            entries.as_slice(),
+        ),
         Body::Restored {
             incarnation,
             teller,
@@ -94,16 +100,81 @@ fn put_body(out: &mut Vec<u8>, body: &Body) -> Result<(), AllocError>
             above,
             flags,
             pairs,
-        } => {
-            put_u64(out, *incarnation)?;
-            put_u64(out, *teller)?;
-            put_u64(out, *covered)?;
-            put_u64(out, *above)?;
-            out.extend_from_slice(&[flags.bits])?;
-            put_pairs(out, pairs.as_slice())
-        }
+        } => put_restored(
+            out,
+            *incarnation,
+            *teller,
+            *covered,
+            *above,
+            *flags,
+            pairs.as_slice(),
+        ),
         Body::Saved { covered } => put_u64(out, *covered),
     }
+}
+
+/// Appends two numbers of eight bytes.
+#[inline(always)]
+fn put_two(out: &mut Vec<u8>, a: u64, b: u64) -> Result<(), AllocError>
+    ensures { OnOk result (out.new.items ≡ out.old.items ++ (long_bytes a ++ long_bytes b)) }
+{
+    put_u64(out, a)?;
+    put_u64(out, b)
+}
+
+/// Appends three numbers of eight bytes.
+#[inline(always)]
+fn put_three(out: &mut Vec<u8>, a: u64, b: u64, c: u64) -> Result<(), AllocError>
+    ensures { OnOk result (out.new.items ≡ out.old.items ++ (long_bytes a ++ (long_bytes b ++ long_bytes c))) }
+{
+    put_two(out, a, b)?;
+    put_u64(out, c)
+}
+
+/// Appends two numbers of eight bytes and a payload.
+#[inline(always)]
+fn put_message(out: &mut Vec<u8>, a: u64, b: u64, payload: &[u8]) -> Result<(), AllocError>
+    requires { length payload.now ≤ PAYLOAD_BYTES }
+    ensures { OnOk result (out.new.items ≡ out.old.items ++ (long_bytes a ++ (long_bytes b ++ payload_bytes payload.now))) }
+{
+    put_two(out, a, b)?;
+    put_payload(out, payload)
+}
+
+/// Appends the fields of a Told.
+fn put_told(
+    out: &mut Vec<u8>,
+    incarnation: u64,
+    teller: u64,
+    above: u64,
+    flags: Flags,
+    entries: &[Entry],
+) -> Result<(), AllocError>
+    requires { length entries.now < 2 ^ 16 }
+    ensures { OnOk result (out.new.items ≡ out.old.items ++ (long_bytes incarnation ++ (long_bytes teller ++ (long_bytes above ++ (flags.bits ∷ [] ++ page_bytes entry_bytes entries.now))))) }
+{
+    put_three(out, incarnation, teller, above)?;
+    out.extend_from_slice(&[flags.bits])?;
+    put_entries(out, entries)
+}
+
+/// Appends the fields of a Restored.
+fn put_restored(
+    out: &mut Vec<u8>,
+    incarnation: u64,
+    teller: u64,
+    covered: u64,
+    above: u64,
+    flags: Flags,
+    pairs: &[Pair],
+) -> Result<(), AllocError>
+    requires { length pairs.now < 2 ^ 16 }
+    ensures { OnOk result (out.new.items ≡ out.old.items ++ (long_bytes incarnation ++ (long_bytes teller ++ (long_bytes covered ++ (long_bytes above ++ (flags.bits ∷ [] ++ page_bytes pair_bytes pairs.now)))))) }
+{
+    put_three(out, incarnation, teller, covered)?;
+    put_u64(out, above)?;
+    out.extend_from_slice(&[flags.bits])?;
+    put_pairs(out, pairs)
 }
 
 /// Appends a number of two bytes.
@@ -149,9 +220,7 @@ pub fn put_payload(out: &mut Vec<u8>, payload: &[u8]) -> Result<(), AllocError>
 fn put_entry(out: &mut Vec<u8>, entry: &Entry) -> Result<(), AllocError>
     ensures { OnOk result (out.new.items ≡ out.old.items ++ entry_bytes entry.now) }
 {
-    put_u64(out, entry.number)?;
-    put_u64(out, entry.ssn)?;
-    put_payload(out, entry.payload.as_slice())
+    put_message(out, entry.number, entry.ssn, entry.payload.as_slice())
 }
 
 /// Appends how many entries there are, and each.
@@ -170,8 +239,7 @@ fn put_entries(out: &mut Vec<u8>, entries: &[Entry]) -> Result<(), AllocError>
 fn put_pair(out: &mut Vec<u8>, pair: &Pair) -> Result<(), AllocError>
     ensures { OnOk result (out.new.items ≡ out.old.items ++ pair_bytes pair.now) }
 {
-    put_u64(out, pair.ssn)?;
-    put_u64(out, pair.number)
+    put_two(out, pair.ssn, pair.number)
 }
 
 /// Appends how many pairs there are, and each.

@@ -7,6 +7,12 @@ use Rattle.node.specs.declared.job.Given.{Given}
 use Rattle.node.specs.Node.{TheNode, OfPeer, given_to, log_at}
 use Rattle.node.proofs.Logs.{length-push, given-length, given-room}
 use Rattle.node.proofs.Counting.{from-more}
+use Rattle.std.proofs.Common.{◌≤◌, ◌*◌, ◌^◌, sym}
+use Rattle.node.specs.declared.node.TheConstants.{MOST_GIVEN, MOST_RECEIVED}
+use Rattle.node.specs.contracts.node.Node.{the_view}
+use Rattle.node.specs.Node.{Within, HasSsn, IsPositive}
+use Rattle.node.proofs.Changes.{has-place}
+use Rattle.node.proofs.Sendable.{number-fits}
 use Rattle.node.proofs.node.Node.finish.Goals as goal
 
 pub unlog-requires : goal.unlog-requires
@@ -57,3 +63,31 @@ invariant_of-self-2 c =
       alive = i.alive;
       fit = i.fit;
     }
+
+room-for : (a b s : ℕ) → a + b ≤ MOST_GIVEN * s → s ≤ MOST_RECEIVED → a + b + MOST_GIVEN < 2 ^ 63
+room-for a b s l m = omega arith
+
+next-number : (base k l n : ℕ) → k ≡ l + 1 → l ≡ n → base + n ≤ MOST_RECEIVED → IsPositive (base + k)
+next-number base k l n e f g = (omega arith, omega arith)
+
+pub log-requires-clause-to : goal.log-requires-clause-to
+log-requires-clause-to c = λ i s e. has-place c.self.inside.logs.items (the_view c.self.inside) c.args.self.now s.to c.self.invariant.logs_wide c.self.view_is (c.requires.others i s e).0
+
+pub log-requires-clause-room : goal.log-requires-clause-room
+log-requires-clause-room c = λ d.
+    let i = c.self.invariant in
+    let q = log_at c.self.inside.logs.items d in
+    room-for q.dropped (length q.payloads) (c.self.inside.base + length c.self.inside.receipts.senders) (i.short d) i.young
+
+pub invariant_of-self : goal.invariant_of-self
+invariant_of-self c =
+    let m : TheNode = the_view c.self.inside in
+    subst (λ (ls : List TheQueue). Within (record m { logs = ls })) (sym c.in_err-log.ensures.err) c.self.invariant
+
+pub put-requires : goal.put-requires
+put-requires c =
+    let i = c.self.invariant in
+    let own = c.self.inside in
+    let number = next-number own.base c.from.result c.length-behind.result (length own.receipts.senders) c.from.ensures c.length-behind.ensures.value i.young in
+    let fits = number-fits own.life c.in-Some.job.ssn (own.base + c.from.result) i.alive (subst HasSsn c.in-Some.is i.numbered) number in
+    record { peer = subst (OfPeer own.me own.count) c.in-Some.is i.own; room = fits.0; range = fits.1 }

@@ -1,8 +1,10 @@
-use Rattle.std.proofs.Common.{rules, ◌≡◌, ◌<◌, ◌+◌, ◌-◌, true, false, refl, sym, ap, ◌∙◌, subst, arith}
+use Rattle.std.proofs.Common.{rules, ◌≡◌, ◌<◌, ◌+◌, ◌-◌, length, true, false, refl, sym, ap, ◌∙◌, subst, arith}
 use Rattle.std.proofs.lemmas.Grind.{common_steps}
 use Rattle.node.specs.Node.{TheNode, tells, covered_of}
 use Rattle.node.specs.Sending.{renumbers, is_told_at}
 use Rattle.node.proofs.Sendings.{OnlyPosts, only-then, renumbers-step}
+use Rattle.rsn.specs.Receipts.{numbers_of}
+use Rattle.node.proofs.Posting.{posts-peer, posts-covered, posts-known, beyond-covered, told-place, told-all, told-most}
 use Rattle.node.proofs.node.Node.renumber.Goals as goal
 use Rattle.node.proofs.node.Node.renumber.Goals.{then-not-is_told_at, else-not-is_told_at}
 
@@ -38,3 +40,29 @@ loop-place-preserved c =
             only = subst P (sym same) i.only;
           }
     ]
+
+pub is_told_at-requires-clause-to : goal.is_told_at-requires-clause-to
+is_told_at-requires-clause-to c = (posts-peer c.args.self.now c.loop-place.self c.args.to c.loop-place.invariant.only c.requires).0
+
+pub is_told_at-requires-clause-known : goal.is_told_at-requires-clause-known
+is_told_at-requires-clause-known c = posts-known c.args.self.now c.loop-place.self c.args.to c.loop-place.place c.told_span-first.result.1 c.loop-place.invariant.only c.loop-place-test.true c.told_span-first.ensures.last
+
+pub tell-requires-clause-to : goal.tell-requires-clause-to
+tell-requires-clause-to c = posts-peer c.args.self.now c.loop-place.self c.args.to c.loop-place.invariant.only c.requires
+
+pub tell-requires-clause-above : goal.tell-requires-clause-above
+tell-requires-clause-above c =
+    beyond-covered c.from.result c.told_span-first.result.2 (covered_of c.args.to c.loop-place.self) (posts-covered c.args.self.now c.loop-place.self c.args.to c.told_span-first.result.2 c.loop-place.invariant.only c.told_span-first.ensures.covered)
+
+pub tell-requires-clause-known : goal.tell-requires-clause-known
+tell-requires-clause-known c =
+    let s = c.loop-place.self in
+    let to = c.args.to in
+    told-place c.told_span-first.result.2 (covered_of to s) c.from.result c.loop-place.place (length (numbers_of to s.receipts)) (posts-covered c.args.self.now s to c.told_span-first.result.2 c.loop-place.invariant.only c.told_span-first.ensures.covered) c.from.ensures
+    (posts-known c.args.self.now s to c.loop-place.place c.told_span-first.result.1 c.loop-place.invariant.only c.loop-place-test.true c.told_span-first.ensures.last)
+
+pub returns-then-left-eq0 : goal.returns-then-left-eq0
+returns-then-left-eq0 c = told-most c.args.to c.loop-place.place (c.told_span-first.result.1 - c.loop-place.place) c.loop-place.left c.loop-place.self c.args.self.now c.if-left-eq0.true c.loop-place.invariant.rest
+
+pub returns : goal.returns
+returns c = told-all c.args.to c.loop-place.place c.told_span-first.result.1 c.loop-place.left c.loop-place.self c.args.self.now c.loop-place-test.false c.loop-place.invariant.rest

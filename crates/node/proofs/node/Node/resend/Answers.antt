@@ -5,6 +5,7 @@ use Rattle.node.specs.Queue.{number_of}
 use Rattle.node.specs.Node.{TheNode, log_at}
 use Rattle.node.specs.Sending.{delivers, resends}
 use Rattle.node.proofs.Sendings.{OnlyPosts, only-then, resends-step}
+use Rattle.node.proofs.Posting.{sent-all, sent-most}
 use Rattle.node.proofs.node.Node.resend.Goals as goal
 use Rattle.node.proofs.node.Node.resend.Goals.{then-is_none, else-is_none}
 
@@ -38,3 +39,9 @@ loop-before-preserved c =
             only = subst P (sym same) i.only;
           }
     ]
+
+pub returns-then-left-eq0 : goal.returns-then-left-eq0
+returns-then-left-eq0 c = sent-most c.args.to c.loop-before.before (c.released_span-first.result.1 - c.loop-before.before) c.loop-before.left c.loop-before.self c.args.self.now c.if-left-eq0.true c.loop-before.invariant.rest
+
+pub returns : goal.returns
+returns c = sent-all c.args.to c.loop-before.before c.released_span-first.result.1 c.loop-before.left c.loop-before.self c.args.self.now c.loop-before-test.false c.loop-before.invariant.rest

@@ -1,0 +1,10 @@
+use Rattle.std.proofs.Common.{◌<◌, length, rules, arith}
+use Rattle.packets.specs.Format.{short_bytes, pair_bytes}
+use Rattle.packets.proofs.Spelled.{one_more}
+use Rattle.packets.proofs.writing.put_pairs.Goals as goal
+
+pub loop-pair-preserved : goal.loop-pair-preserved
+loop-pair-preserved c =
+    let xs = c.args.pairs.now in
+    let lt : c.loop-pair.pair-index < length xs = first_of (omega arith, search rules) in
+    one_more pair_bytes xs c.loop-pair.pair-index _ c.args.out.now.items (short_bytes (length xs)) c.loop-pair.out.items c.put_pair.new.out.items lt c.loop-pair.invariant c.in_ok-put_pair.ensures
