@@ -70,7 +70,7 @@ static uint32_t close_handle(void) {
 }
 
 /* A new export is a line here: its name, how it is called, whether it may ask for memory, and its codes for
-   an image of form 1 and for one of form 2. */
+   an image of form 1 or 3 and for one of form 2. */
 static const struct export {
     const char *name;
     uint32_t (*call)(void);
@@ -110,7 +110,7 @@ static const char *made(const struct export *export) {
         code = export->call();
     }
     if (code == SBLOG_MEMORY) return "answers want of memory twice";
-    if (code != export->codes[file[3] - '1']) return "answers another code";
+    if (code != export->codes[file[3] == '2']) return "answers another code";
     printf("%s %u %016llx\n", export->name, code, (unsigned long long)sum());
     return NULL;
 }
@@ -119,7 +119,7 @@ int main(int count, char **words) {
     static char line[1 << 12];
     int image = count == 2 ? open(words[1], O_RDONLY) : -1;
     ssize_t size = image < 0 ? -1 : read(image, file, sizeof file);
-    if (size < HEADER || (file[3] != '1' && file[3] != '2')) return 2;
+    if (size < HEADER || (file[3] < '1' || file[3] > '3')) return 2;
     file_len = size;
     state_len = file[4] | file[5] << 8;
     if (state_len > STATE_LIMIT) return 2;
