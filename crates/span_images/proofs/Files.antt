@@ -21,8 +21,7 @@ use Rattle.verifier.specs.Inside.Header.{HasHeader, header_bytes}
 use Rattle.verifier.proofs.Files.{Fields, fields_of, header_once}
 use Rattle.span_verifier.specs.Verdict.{IsFault}
 use Rattle.span_verifier.proofs.Forms.{one_refusal_3}
-use Rattle.span_images.specs.declared.header.Fields as declared
-use Rattle.span_images.specs.Inside.Header.{IsSound, header_of}
+use Rattle.span_images.specs.Inside.Header.{IsSound}
 use Rattle.span_images.specs.ImageFile.{HasFault, IsCodeFault, IsFile, IsHeaderFault, IsOneFileRefusal, magic_3}
 use Rattle.span_images.specs.Typed.{IsTypable}
 
@@ -69,7 +68,7 @@ pub starts_broken : (fault : HeaderFault) (h : FileHeader) (rest bytes : List �
 starts_broken fault h rest bytes has broken = passes TooShort _ fault h rest bytes has (λ b. b) broken
 
 -- a header without a fault has none of them
-sound_breaks : (q : HeaderFault) (h : declared.Fields) (rest : List ℕ) → IsSound h rest → Breaks q (header_of h) rest → ⊥
+sound_breaks : (q : HeaderFault) (h : FileHeader) (rest : List ℕ) → IsSound h rest → Breaks q h rest → ⊥
 sound_breaks TooShort h rest s b = b
 sound_breaks Magic h rest s b = b s.magic_is
 sound_breaks StateLength h rest s b = let k = s.state in omega arith
@@ -78,24 +77,24 @@ sound_breaks SlotCount h rest s (inr b) = let k = s.short in omega arith
 sound_breaks FileLength h rest s b = b s.size
 
 -- bytes with a sound header have none of a header's faults
-pub sound_has : (h : declared.Fields) (rest bytes : List ℕ) → HasHeader (header_of h) rest bytes → IsSound h rest → (q : HeaderFault) → ¬ HasFault bytes q
-sound_has h rest bytes has s q b = sound_breaks q h rest s (to_fields q (header_of h) rest bytes (fields_of (header_of h) rest bytes has) b)
+pub sound_has : (h : FileHeader) (rest bytes : List ℕ) → HasHeader h rest bytes → IsSound h rest → (q : HeaderFault) → ¬ HasFault bytes q
+sound_has h rest bytes has s q b = sound_breaks q h rest s (to_fields q h rest bytes (fields_of h rest bytes has) b)
 
 faultless : (bytes : List ℕ) (fault : HeaderFault) → ((q : HeaderFault) → ¬ HasFault bytes q) → IsHeaderFault bytes fault → ⊥
 faultless bytes fault none first = none fault (firsts.first_holds (HasFault bytes) _ fault first)
 
 -- behind a sound header a fault of the code is one of the file
-pub code_fault : (h : declared.Fields) (rest bytes : List ℕ) (rule : Rule) (slot : ℕ) → HasHeader (header_of h) rest bytes → IsSound h rest → decoding.IsFault rest rule slot → IsCodeFault bytes rule slot
+pub code_fault : (h : FileHeader) (rest bytes : List ℕ) (rule : Rule) (slot : ℕ) → HasHeader h rest bytes → IsSound h rest → decoding.IsFault rest rule slot → IsCodeFault bytes rule slot
 code_fault h rest bytes rule slot has s fault =
-    (sound_has h rest bytes has s, subst (λ (r : List ℕ). decoding.IsFault r rule slot) (sym (fields_of (header_of h) rest bytes has).code) fault)
+    (sound_has h rest bytes has s, subst (λ (r : List ℕ). decoding.IsFault r rule slot) (sym (fields_of h rest bytes has).code) fault)
 
 -- ---- the file
 
-abbrev pub file_fields : List Insn → ℕ → declared.Fields
+abbrev pub file_fields : List Insn → ℕ → FileHeader
 file_fields is len = record { magic = magic_3; state_len = len; slots = slots is }
 
 -- a file is the header of its code, and the code's bytes behind it
-pub file_has : (is : List Insn) (len : ℕ) (bytes : List ℕ) → IsFile is len bytes → HasHeader (header_of (file_fields is len)) (encoding is) bytes
+pub file_has : (is : List Insn) (len : ℕ) (bytes : List ℕ) → IsFile is len bytes → HasHeader (file_fields is len) (encoding is) bytes
 file_has is len bytes f = record {
   magic_len = refl;
   state_len = let k = f.state in omega arith;
@@ -114,9 +113,9 @@ file_sound is len bytes f = record {
 }
 
 -- a header without a fault and the code behind it
-pub file_of : (is : List Insn) (h : declared.Fields) (rest bytes : List ℕ) → HasHeader (header_of h) rest bytes → IsSound h rest → AllByRecursion Fits is → rest ≡ encoding is → IsFile is h.state_len bytes
+pub file_of : (is : List Insn) (h : FileHeader) (rest bytes : List ℕ) → HasHeader h rest bytes → IsSound h rest → AllByRecursion Fits is → rest ≡ encoding is → IsFile is h.state_len bytes
 file_of is h rest bytes has s fits e = record {
-  bytes_are = has.fields ∙ ap (λ (x : List ℕ). header_bytes (header_of h) ++ x) e ∙ ap (λ (x : FileHeader). header_bytes x ++ encoding is) same;
+  bytes_are = has.fields ∙ ap (λ (x : List ℕ). header_bytes h ++ x) e ∙ ap (λ (x : FileHeader). header_bytes x ++ encoding is) same;
   fits = fits;
   state = s.state;
   some = let k = s.some in omega (arith, count);
@@ -126,7 +125,7 @@ file_of is h rest bytes has s fits e = record {
     count : h.slots ≡ slots is
     count = let k = length_encoding is in let l = ap length e in let n = s.size in omega arith
 
-    same : header_of h ≡ header_of (file_fields is h.state_len)
+    same : h ≡ file_fields is h.state_len
     same = λ i. record { magic = s.magic_is i; state_len = h.state_len; slots = count i }
 
 pub no_header_fault : (is : List Insn) (len : ℕ) (bytes : List ℕ) (fault : HeaderFault) → IsFile is len bytes → IsHeaderFault bytes fault → ⊥
@@ -135,18 +134,18 @@ no_header_fault is len bytes fault f b =
 
 pub no_code_fault : (is : List Insn) (len : ℕ) (bytes : List ℕ) (rule : Rule) (slot : ℕ) → IsFile is len bytes → IsCodeFault bytes rule slot → ⊥
 no_code_fault is len bytes rule slot f b =
-    let k = fields_of (header_of (file_fields is len)) (encoding is) bytes (file_has is len bytes f) in
+    let k = fields_of (file_fields is len) (encoding is) bytes (file_has is len bytes f) in
     no_fault is rule slot f.fits (subst (λ (r : List ℕ). decoding.IsFault r rule slot) k.code b.1)
 
 -- bytes are the file of one code and one state's length at most
 pub file_once : (is js : List Insn) (m n : ℕ) (bytes : List ℕ) → IsFile is m bytes → IsFile js n bytes → (is ≡ js) × (m ≡ n)
 file_once is js m n bytes f g =
-    let k = header_once (header_of (file_fields is m)) (header_of (file_fields js n)) (encoding is) (encoding js) bytes (file_has is m bytes f) (file_has js n bytes g) in
+    let k = header_once (file_fields is m) (file_fields js n) (encoding is) (encoding js) bytes (file_has is m bytes f) (file_has js n bytes g) in
     (encoding_once is js f.fits g.fits k.1, ap (λ (h : FileHeader). h.state_len) k.0)
 
 -- what follows the first eight bytes is the code
 pub code_behind : (is : List Insn) (len : ℕ) (front rest bytes : List ℕ) → IsFile is len bytes → length front ≡ 8 → bytes ≡ front ++ rest → rest ≡ encoding is
-code_behind is len front rest bytes f size e = sym (drop_front front rest size) ∙ ap (drop 8) (sym e) ∙ (fields_of (header_of (file_fields is len)) (encoding is) bytes (file_has is len bytes f)).code
+code_behind is len front rest bytes f size e = sym (drop_front front rest size) ∙ ap (drop 8) (sym e) ∙ (fields_of (file_fields is len) (encoding is) bytes (file_has is len bytes f)).code
   where
     drop_front : (front rest : List ℕ) → length front ≡ 8 → drop 8 (front ++ rest) ≡ rest
     drop_front front rest size = subst (λ n. drop n (front ++ rest) ≡ rest) size (drop-append_seam front rest)

@@ -1,13 +1,13 @@
 //! The header of an image file of form 3.
 
-ghost use Rattle.std.specs.Prelude.{◌≡◌, ◌≤◌, length, IfOk, IfErr};
+ghost use Rattle.std.specs.Prelude.{◌≡◌, IfOk, IfErr};
 ghost use Rattle.span_images.specs.ImageFile.{IsHeaderFault, magic_3};
-ghost use Rattle.span_images.specs.Inside.Header.{IsSound, header_of};
+ghost use Rattle.span_images.specs.Inside.Header.{IsSound};
 ghost use Rattle.verifier.specs.Inside.Header.{HasHeader, header_bytes};
 
 use byteorder::{ByteOrder, LittleEndian};
 use limits::{SLOTS, STATE_BYTES};
-use verifier::HeaderFault;
+use verifier::{FileHeader, HeaderFault, header_at};
 
 /// How many bytes a header has, and so a slot.
 pub const HEADER: usize = 8;
@@ -15,31 +15,9 @@ pub const HEADER: usize = 8;
 /// What a file of form 3 begins with.
 const MAGIC_3: [u8; 4] = [0x53, 0x42, 0x49, 0x33];
 
-/// The fields of a header.
-#[derive(Clone, Copy)]
-pub struct Fields {
-    pub magic: [u8; 4],
-    pub state_len: u16,
-    pub slots: u16,
-}
-
-/// The fields of the first eight bytes, and the bytes after them.
-fn header_at(bytes: &[u8]) -> (Fields, &[u8])
-    requires { 8 ≤ length bytes.now }
-    ensures { HasHeader (header_of result.0) result.1.now bytes.now }
-{
-    let (front, rest) = bytes.split_at(HEADER);
-    let fields = Fields {
-        magic: [front[0], front[1], front[2], front[3]],
-        state_len: LittleEndian::read_u16(&front[4..6]),
-        slots: LittleEndian::read_u16(&front[6..8]),
-    };
-    (fields, rest)
-}
-
 /// The header of a file and its code, if the header has no fault.
-pub fn read_header(bytes: &[u8]) -> Result<(Fields, &[u8]), HeaderFault>
-    ensures found { IfOk result (λ x. HasHeader (header_of x.0) x.1.now bytes.now) }
+pub fn read_header(bytes: &[u8]) -> Result<(FileHeader, &[u8]), HeaderFault>
+    ensures found { IfOk result (λ x. HasHeader x.0 x.1.now bytes.now) }
     ensures sound { IfOk result (λ x. IsSound x.0 x.1.now) }
     ensures refused { IfErr result (IsHeaderFault bytes.now) }
 {

@@ -22,13 +22,16 @@ const MAGIC_2: [u8; 4] = [0x53, 0x42, 0x49, 0x32];
 /// The fields of a header.
 #[derive(Clone, Copy, Debug, PartialEq, Eq)]
 pub struct FileHeader {
+    /// The first four bytes, which tell the form.
     pub magic: [u8; 4],
+    /// How many bytes the state has.
     pub state_len: u16,
+    /// How many slots the code has.
     pub slots: u16,
 }
 
-/// The fields of the first eight bytes, and the bytes after them.
-fn header_at(bytes: &[u8]) -> (FileHeader, &[u8])
+/// The fields of the first eight bytes, whatever they are, and the bytes after them.
+pub fn header_at(bytes: &[u8]) -> (FileHeader, &[u8])
     requires { 8 ≤ length bytes.now }
     ensures { HasHeader result.0 result.1.now bytes.now }
 {

@@ -33,6 +33,7 @@ mod verifying;
 
 pub use fault::{HeaderFault, ImageError, VerifyError};
 pub use framing::{Frames, frames_of};
+pub use header::{FileHeader, header_at};
 pub use image::Image;
 pub use laws::{file_refusals_are_one, refusals_are_one};
 pub use loading::{load, parts};

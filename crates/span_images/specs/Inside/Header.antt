@@ -2,15 +2,10 @@
 use Rattle.std.specs.Prelude.{◌≡◌, ◌<◌, ◌≤◌, ℕ, ◌*◌, length, List}
 use Rattle.limits.specs.declared.TheConstants.{SLOTS, STATE_BYTES}
 use Rattle.verifier.specs.declared.header.FileHeader.{FileHeader}
-use Rattle.span_images.specs.declared.header.Fields.{Fields}
 use Rattle.span_images.specs.ImageFile.{magic_3}
 
--- the fields as those of a header of forms 1 and 2
-abbrev pub header_of : Fields → FileHeader
-header_of h = record { magic = h.magic; state_len = h.state_len; slots = h.slots }
-
 -- a header without a fault
-pub record IsSound (h : Fields) (rest : List ℕ) : Type 0 where
+pub record IsSound (h : FileHeader) (rest : List ℕ) : Type 0 where
   pub magic_is : h.magic ≡ magic_3
   pub state : h.state_len ≤ STATE_BYTES
   pub some : 0 < h.slots
