@@ -47,18 +47,25 @@ pub fn shifted(at: i16, by: i64) -> i16
     (i128::from(at) + i128::from(by)) as i16
 }
 
+/// Where bytes begin at an offset from this distance.
+fn begin(at: i16, offset: i16) -> i32
+    ensures { result ≡ at +ℤ offset }
+{
+    i32::from(at) + i32::from(offset)
+}
+
 /// Whether bytes that begin at an offset from this distance begin in the region.
 pub fn begins_inside(at: i16, offset: i16) -> bool
     ensures { result ≡ int_le (pos 0) (at +ℤ offset) }
 {
-    0 <= i32::from(at) + i32::from(offset)
+    0 <= begin(at, offset)
 }
 
 /// Where so many bytes end that begin at an offset from this distance.
 fn end(at: i16, offset: i16, bytes: u16) -> i32
     ensures { result ≡ at +ℤ offset +ℤ pos bytes }
 {
-    i32::from(at) + i32::from(offset) + i32::from(bytes)
+    begin(at, offset) + i32::from(bytes)
 }
 
 /// Whether so many bytes from there end in a region of this size.
@@ -72,7 +79,7 @@ pub fn ends_inside(at: i16, offset: i16, bytes: u16, size: u16) -> bool
 pub fn begins_before(at: i16, offset: i16, byte: u16) -> bool
     ensures { result ≡ int_lt (at +ℤ offset) (pos byte) }
 {
-    i32::from(at) + i32::from(offset) < i32::from(byte)
+    begin(at, offset) < i32::from(byte)
 }
 
 /// Whether so many bytes end behind the begin of another byte.
