@@ -2,6 +2,7 @@ pub mod ChecksumLemmas
 pub mod Counted
 pub mod Spelled
 pub mod Codecs
+pub mod Fixed
 pub mod BodyLemmas
 pub mod WholeLemmas
 pub mod KeptCodecs

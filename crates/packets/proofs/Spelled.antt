@@ -1,7 +1,7 @@
 -- Things spelled one after the other, as a loop does
-use Rattle.std.proofs.Common.{◌≡◌, ℕ, suc, ◌+◌, ◌<◌, List, [], ◌∷◌, ◌++◌, length, take, get_or, sym, ap, ◌∙◌, append_assoc, arith}
+use Rattle.std.proofs.Common.{◌≡◌, ℕ, suc, ◌+◌, ◌<◌, ◌≤◌, List, [], ◌∷◌, ◌++◌, length, take, get_or, sym, ap, ◌∙◌, append_assoc, arith}
 use Rattle.std.specs.List.{flat_map}
-use Rattle.std.proofs.Math.Seq.{take-suc}
+use Rattle.std.proofs.Math.Seq.{take-suc, take-length}
 use Rattle.std.proofs.lemmas.List.{append-nil}
 use Rattle.std.proofs.lemmas.List.Concat.{flat_map-append}
 
@@ -23,3 +23,13 @@ one_more spell xs i d old head out new lt so_far step =
 pub one_behind : {A : Type 0} (spell : A → List ℕ) (xs : List A) (i : ℕ) (d : A) (old out new : List ℕ) → i < length xs → out ≡ old ++ flat_map spell (take i xs) → new ≡ out ++ spell (get_or xs i d)
     → new ≡ old ++ flat_map spell (take (i + 1) xs)
 one_behind spell xs i d old out new lt so_far step = one_more spell xs i d old [] out new lt so_far step
+
+-- none is spelled yet
+pub none_yet : (old head out : List ℕ) → out ≡ old ++ head → out ≡ old ++ (head ++ [])
+none_yet old head out e = e ∙ ap (λ t. old ++ t) (sym (append-nil head))
+
+-- all are
+pub all_spelled : {A : Type 0} (spell : A → List ℕ) (xs : List A) (i : ℕ) (old head out : List ℕ) → i ≤ length xs → length xs ≤ i → out ≡ old ++ (head ++ flat_map spell (take i xs)) → out ≡ old ++ (head ++ flat_map spell xs)
+all_spelled {A} spell xs i old head out le ge so_far =
+    let last : i ≡ length xs = omega arith in
+    so_far ∙ ap (λ k. old ++ (head ++ flat_map spell (take k xs))) last ∙ ap (λ (ys : List A). old ++ (head ++ flat_map spell ys)) (take-length xs)

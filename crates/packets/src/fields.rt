@@ -32,30 +32,33 @@ pub fn byte_of(bytes: &[u8]) -> Result<(u8, &[u8]), PacketError>
 }
 
 /// A number of two bytes.
-#[tactic(auto, unfolding(crate::specs::Inside::Reading::number_at))]
 fn u16_of(bytes: &[u8]) -> Result<(u16, &[u8]), PacketError>
     ensures { Gives (λ x. (x.0, x.1.now)) result (number_at 2 bytes.now) }
 {
-    let (front, rest) = bytes_of(2, bytes)?;
-    Ok((LittleEndian::read_u16(front), rest))
+    if bytes.len() < 2 {
+        return Err(PacketError::Fault(PacketFault::Fields));
+    }
+    Ok((LittleEndian::read_u16(bytes), &bytes[2..]))
 }
 
 /// A number of four bytes.
-#[tactic(auto, unfolding(crate::specs::Inside::Reading::number_at))]
 pub fn u32_of(bytes: &[u8]) -> Result<(u32, &[u8]), PacketError>
     ensures { Gives (λ x. (x.0, x.1.now)) result (number_at 4 bytes.now) }
 {
-    let (front, rest) = bytes_of(4, bytes)?;
-    Ok((LittleEndian::read_u32(front), rest))
+    if bytes.len() < 4 {
+        return Err(PacketError::Fault(PacketFault::Fields));
+    }
+    Ok((LittleEndian::read_u32(bytes), &bytes[4..]))
 }
 
 /// A number of eight bytes.
-#[tactic(auto, unfolding(crate::specs::Inside::Reading::number_at))]
 pub fn u64_of(bytes: &[u8]) -> Result<(u64, &[u8]), PacketError>
     ensures { Gives (λ x. (x.0, x.1.now)) result (number_at 8 bytes.now) }
 {
-    let (front, rest) = bytes_of(8, bytes)?;
-    Ok((LittleEndian::read_u64(front), rest))
+    if bytes.len() < 8 {
+        return Err(PacketError::Fault(PacketFault::Fields));
+    }
+    Ok((LittleEndian::read_u64(bytes), &bytes[8..]))
 }
 
 /// Two numbers of eight bytes.
@@ -63,9 +66,12 @@ pub fn u64_of(bytes: &[u8]) -> Result<(u64, &[u8]), PacketError>
 pub fn two_of(bytes: &[u8]) -> Result<(u64, u64, &[u8]), PacketError>
     ensures { Gives (λ x. ((x.0, x.1), x.2.now)) result (both (number_at 8) (number_at 8) bytes.now) }
 {
-    let (a, rest) = u64_of(bytes)?;
-    let (b, rest) = u64_of(rest)?;
-    Ok((a, b, rest))
+    if bytes.len() < 16 {
+        return Err(PacketError::Fault(PacketFault::Fields));
+    }
+    let a = LittleEndian::read_u64(bytes);
+    let b = LittleEndian::read_u64(&bytes[8..]);
+    Ok((a, b, &bytes[16..]))
 }
 
 /// Three numbers of eight bytes.
@@ -73,9 +79,13 @@ pub fn two_of(bytes: &[u8]) -> Result<(u64, u64, &[u8]), PacketError>
 pub fn three_of(bytes: &[u8]) -> Result<(u64, u64, u64, &[u8]), PacketError>
     ensures { Gives (λ x. ((x.0, (x.1, x.2)), x.3.now)) result (both (number_at 8) (both (number_at 8) (number_at 8)) bytes.now) }
 {
-    let (a, rest) = u64_of(bytes)?;
-    let (b, c, rest) = two_of(rest)?;
-    Ok((a, b, c, rest))
+    if bytes.len() < 24 {
+        return Err(PacketError::Fault(PacketFault::Fields));
+    }
+    let a = LittleEndian::read_u64(bytes);
+    let b = LittleEndian::read_u64(&bytes[8..]);
+    let c = LittleEndian::read_u64(&bytes[16..]);
+    Ok((a, b, c, &bytes[24..]))
 }
 
 /// A payload behind its length.

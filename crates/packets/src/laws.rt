@@ -36,7 +36,7 @@ pub fn back_and_there(alloc: Global, bytes: &[u8]) -> Result<Vec<u8>, PacketErro
     ensures { IfOk result (λ v. v.items ≡ bytes.now) }
 {
     let packet = decode(alloc, bytes)?;
-    Ok(encode(alloc, &packet)?)
+    encode(alloc, &packet).map_err(PacketError::from)
 }
 
 /// Bytes are kept of one process in one state, if they are kept of one.
@@ -58,5 +58,5 @@ pub fn same_bytes_again(alloc: Global, bytes: &[u8]) -> Result<Vec<u8>, KeptErro
     ensures { IfOk result (λ v. v.items ≡ bytes.now) }
 {
     let kept = decode_kept(alloc, bytes)?;
-    Ok(encode_kept(alloc, &kept)?)
+    encode_kept(alloc, &kept).map_err(KeptError::from)
 }

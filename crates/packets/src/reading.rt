@@ -1,9 +1,8 @@
 //! Bytes to a packet.
 
-ghost use Rattle.std.specs.Prelude.{◌≡◌, ◌==◌, if◌then◌else◌, length, IfOk, IfErr, Ok, Err};
+ghost use Rattle.std.specs.Prelude.{IfOk, IfErr};
 ghost use Rattle.packets.specs.declared.packet.Packet.{Packet};
 ghost use Rattle.packets.specs.declared.kind.Kind.TheVariants as kinds;
-ghost use Rattle.packets.specs.declared.fault.PacketFault.TheVariants as faults;
 ghost use Rattle.packets.specs.Format.{IsPacket};
 ghost use Rattle.packets.specs.Faults.{IsReason, Reads};
 ghost use Rattle.packets.specs.Inside.Reading.{Gives, byte_at, number_at, page_at, entry_at, pair_at, both, whole, body_at, reading};
@@ -14,6 +13,7 @@ use crate::head::{fields_of, head_of};
 use crate::kind::Kind;
 use crate::packet::{Body, Packet};
 use crate::page::{Entry, Flags, Page, Pair};
+use byteorder::{ByteOrder, LittleEndian};
 use helpers::Payload;
 use std::alloc::Global;
 
@@ -65,22 +65,15 @@ fn read_body(alloc: Global, kind: Kind, bytes: &[u8], body: &mut Body) -> Result
     }
 }
 
-/// No bytes are left.
-fn ended(rest: &[u8]) -> Result<(), PacketError>
-    ensures { Gives (λ x. x) result (if length rest.now == 0 then Ok tt else Err faults.Fields) }
-{
-    if !rest.is_empty() {
-        return Err(PacketError::Fault(PacketFault::Fields));
-    }
-    Ok(())
-}
-
 /// Two numbers of eight bytes, and nothing behind them.
 fn two_alone(bytes: &[u8]) -> Result<(u64, u64), PacketError>
     ensures { Gives (λ x. x) result (whole (both (number_at 8) (number_at 8)) bytes.now) }
 {
-    let (a, b, rest) = two_of(bytes)?;
-    ended(rest)?;
+    if bytes.len() != 16 {
+        return Err(PacketError::Fault(PacketFault::Fields));
+    }
+    let a = LittleEndian::read_u64(bytes);
+    let b = LittleEndian::read_u64(&bytes[8..]);
     Ok((a, b))
 }
 
@@ -88,8 +81,12 @@ fn two_alone(bytes: &[u8]) -> Result<(u64, u64), PacketError>
 fn three_alone(bytes: &[u8]) -> Result<(u64, u64, u64), PacketError>
     ensures { Gives (λ x. (x.0, (x.1, x.2))) result (whole (both (number_at 8) (both (number_at 8) (number_at 8))) bytes.now) }
 {
-    let (a, b, c, rest) = three_of(bytes)?;
-    ended(rest)?;
+    if bytes.len() != 24 {
+        return Err(PacketError::Fault(PacketFault::Fields));
+    }
+    let a = LittleEndian::read_u64(bytes);
+    let b = LittleEndian::read_u64(&bytes[8..]);
+    let c = LittleEndian::read_u64(&bytes[16..]);
     Ok((a, b, c))
 }
 
@@ -99,7 +96,9 @@ fn entries_alone(alloc: Global, bytes: &[u8]) -> Result<(u8, Page<Entry>), Packe
 {
     let (bits, rest) = byte_of(bytes)?;
     let (entries, rest) = entries_of(alloc, rest)?;
-    ended(rest)?;
+    if !rest.is_empty() {
+        return Err(PacketError::Fault(PacketFault::Fields));
+    }
     Ok((bits, entries))
 }
 
@@ -109,7 +108,9 @@ fn pairs_alone(alloc: Global, bytes: &[u8]) -> Result<(u8, Page<Pair>), PacketEr
 {
     let (bits, rest) = byte_of(bytes)?;
     let (pairs, rest) = pairs_of(alloc, rest)?;
-    ended(rest)?;
+    if !rest.is_empty() {
+        return Err(PacketError::Fault(PacketFault::Fields));
+    }
     Ok((bits, pairs))
 }
 
@@ -120,7 +121,9 @@ fn read_delivery(bytes: &[u8], body: &mut Body) -> Result<(), PacketError>
     let (incarnation, ssn, rest) = two_of(bytes)?;
     let (payload, rest) = payload_of(rest)?;
     let payload = Payload::from_slice(payload);
-    ended(rest)?;
+    if !rest.is_empty() {
+        return Err(PacketError::Fault(PacketFault::Fields));
+    }
     *body = Body::Delivery {
         incarnation,
         ssn,
@@ -214,8 +217,10 @@ fn read_restored(alloc: Global, bytes: &[u8], body: &mut Body) -> Result<(), Pac
 fn read_saved(bytes: &[u8], body: &mut Body) -> Result<(), PacketError>
     ensures { Gives (λ _. body.new) result (body_at kinds.Saved bytes.now) }
 {
-    let (covered, rest) = u64_of(bytes)?;
-    ended(rest)?;
+    if bytes.len() != 8 {
+        return Err(PacketError::Fault(PacketFault::Fields));
+    }
+    let covered = LittleEndian::read_u64(bytes);
     *body = Body::Saved { covered };
     Ok(())
 }
