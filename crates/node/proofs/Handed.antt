@@ -1,75 +1,68 @@
 -- A packet that is handed to a node, by what it is
-use Rattle.std.proofs.Common.{◌≡◌, ◌≢◌, ℕ, ◌≤◌, ◌<◌, ◌^◌, List, Bool, true, false, refl, sym, ap, ◌∙◌, subst, arith}
-use Rattle.std.specs.Prelude.{not, ◌&&◌, ◌==◌, nat_lt, nat_le, if◌then◌else◌}
+use Rattle.std.proofs.Common.{◌≡◌, ◌≢◌, ℕ, ◌<◌, ◌^◌, List, Bool, true, false, refl, sym, ap, ◌∙◌, arith}
+use Rattle.std.specs.Prelude.{not, ◌&&◌, ◌==◌, nat_lt, nat_le}
 use Rattle.std.proofs.lemmas.Bool.Decides.{nat_tests}
 use Rattle.theorems.proofs.Tests.{both}
 use Rattle.packets.specs.declared.packet.Packet.{Packet}
 use Rattle.packets.specs.declared.packet.Body.{Body}
 use Rattle.packets.specs.declared.packet.Body.TheVariants.{Delivery, Number, Acknowledgement, Ask, Resume, Saved, Told, Restored}
 use Rattle.packets.specs.Packet.{in_range, is_positive, is_number}
-use Rattle.node.specs.Node.{TheNode, IsPositive}
+use Rattle.node.specs.Node.{TheNode, IsPeer, IsPositive}
 use Rattle.node.specs.Calls.{told, is_for, handed}
 
--- ---- which are dropped
+-- ---- which are dropped, and what the others do
 
-pub no-first : (a b : Bool) → a ≡ false → (a && b) ≡ false
-no-first a b e = rw e refl
+pub drops : (x : Packet) (n : TheNode) → is_for n x ≡ false → n ≡ handed x n
+drops x n e = rw e refl
+
+pub takes : (x : Packet) (n : TheNode) → is_for n x ≡ true → handed x n ≡ told x.from x.body n
+takes x n e = rw e refl
 
 pub no-second : (a b : Bool) → b ≡ false → (a && b) ≡ false
 no-second true b e = e
 no-second false b e = refl
 
-passed : (x : Packet) (m n : TheNode) → m ≡ n → is_for m x ≡ false → n ≡ handed x n
-passed x m n same e = sym same ∙ ap (λ b. if b then told x.from x.body m else m) (sym e) ∙ ap (handed x) same
+not-set : (b : Bool) → not b ≡ true → b ≡ false
+not-set true e = absurd cc
+not-set false e = refl
 
-module _ (x : Packet) (m n : TheNode) (same : m ≡ n) where
+-- a packet that it takes is of a peer, with its fields in their ranges, and it waits for nothing
+module _ (x : Packet) (n : TheNode) (e : is_for n x ≡ true) where
   abbrev A : Bool
-  A = not m.frozen
+  A = not n.frozen
 
   abbrev B : Bool
-  B = x.count == m.count
+  B = x.count == n.count
 
   abbrev C : Bool
-  C = x.to == m.me
+  C = x.to == n.me
 
   abbrev D : Bool
-  D = nat_le x.from m.count
+  D = nat_le x.from n.count
 
   abbrev E : Bool
-  E = not (x.from == m.me)
+  E = not (x.from == n.me)
 
   abbrev F : Bool
   F = in_range x.body
 
-  pub frozen-drops : m.frozen ≡ true → n ≡ handed x n
-  frozen-drops e = passed x m n same (no-first (A && B && C && D && E) F (no-first (A && B && C && D) E (no-first (A && B && C) D (no-first (A && B) C (no-first A B (rw e refl))))))
+  others : (A && B && C && D && E) ≡ true
+  others = (both (A && B && C && D && E) F e).0
 
-  pub strange-drops : x.count ≢ m.count → n ≡ handed x n
-  strange-drops e = passed x m n same (no-first (A && B && C && D && E) F (no-first (A && B && C && D) E (no-first (A && B && C) D (no-first (A && B) C (no-second A B (grind (arith, nat_tests)))))))
+  near : (A && B && C && D) ≡ true
+  near = (both (A && B && C && D) E others).0
 
-  pub others-drops : x.to ≢ m.me → n ≡ handed x n
-  others-drops e = passed x m n same (no-first (A && B && C && D && E) F (no-first (A && B && C && D) E (no-first (A && B && C) D (no-second (A && B) C (grind (arith, nat_tests))))))
+  pub is-ranged : in_range x.body ≡ true
+  is-ranged = (both (A && B && C && D && E) F e).1
 
-  pub nobody-drops : m.count < x.from → n ≡ handed x n
-  nobody-drops e = passed x m n same (no-first (A && B && C && D && E) F (no-first (A && B && C && D) E (no-second (A && B && C) D (grind (arith, nat_tests)))))
+  pub is-peer : IsPeer n.me n.count x.from
+  is-peer =
+      let low : D ≡ true = (both (A && B && C) D near).1 in
+      let apart : (x.from == n.me) ≡ false = not-set (x.from == n.me) (both (A && B && C && D) E others).1 in
+      (grind (arith, nat_tests), grind (arith, nat_tests))
 
-  pub own-drops : x.from ≡ m.me → n ≡ handed x n
-  own-drops e = passed x m n same (no-first (A && B && C && D && E) F (no-second (A && B && C && D) E (let t : (x.from == m.me) ≡ true = grind (arith, nat_tests) in rw t refl)))
-
-  pub wild-drops : in_range x.body ≡ false → n ≡ handed x n
-  wild-drops e = passed x m n same (no-second (A && B && C && D && E) F e)
-
-  -- ---- what the others do
-
-  pub takes : m.frozen ≡ false → x.count ≡ m.count → x.to ≡ m.me → x.from ≤ m.count → x.from ≢ m.me → in_range x.body ≡ true → handed x n ≡ told x.from x.body n
-  takes live count to low other range =
-      let b : B ≡ true = grind (arith, nat_tests) in
-      let c : C ≡ true = grind (arith, nat_tests) in
-      let d : D ≡ true = grind (arith, nat_tests) in
-      let e : (x.from == m.me) ≡ false = grind (arith, nat_tests) in
-      let is : is_for m x ≡ true = rw (live, b, c, d, e, range) refl in
-      let at : handed x m ≡ told x.from x.body m = ap (λ t. if t then told x.from x.body m else m) is in
-      subst (λ z. handed x z ≡ told x.from x.body z) same at
+  pub is-live : n.frozen ≡ false
+  is-live = not-set n.frozen (both A B (both (A && B) C (both (A && B && C) D near).0).0).0
 
 -- what isn't named changes nothing
 pub nothing-told : (from : ℕ) (b : Body) (n : TheNode) → ((i s : ℕ) (p : List ℕ) → b ≢ Delivery i s p) → ((i s k : ℕ) → b ≢ Number i s k) → ((i k : ℕ) → b ≢ Acknowledgement i k) → ((i k : ℕ) → b ≢ Ask i k) → ((i k s : ℕ) → b ≢ Resume i k s) → ((k : ℕ) → b ≢ Saved k) → told from b n ≡ n

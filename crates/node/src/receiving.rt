@@ -3,7 +3,7 @@
 ghost use Rattle.std.specs.Prelude.{◌≡◌, ◌≤◌, ◌<◌, ◌+◌, ◌-◌, length, false, OnOk, OnErr};
 ghost use Rattle.rsn.specs.Receipts.{numbers_of};
 ghost use Rattle.node.specs.Node.{IsPeer, IsPositive, tells, counted, covered_of};
-ghost use Rattle.node.specs.Calls.{delivered, recorded_by, acknowledged_by, dropped_by, handed, takes_more};
+ghost use Rattle.node.specs.Calls.{delivered, recorded_by, acknowledged_by, dropped_by, handed, is_for, takes_more};
 ghost use Rattle.node.specs.Stands.{IsHanded};
 
 use crate::job::OpenJob;
@@ -30,16 +30,10 @@ impl Node {
         ensures value { OnOk result (self.new ≡ handed packet.now self.old) }
         ensures err { OnErr result (self.new ≡ self.old) }
     {
-        let from = packet.from;
-        if self.frozen
-            || packet.count != self.count
-            || packet.to != self.me
-            || from > self.count
-            || from == self.me
-            || !packet.body.is_in_range()
-        {
+        if !self.accepts(packet) {
             return Ok(());
         }
+        let from = packet.from;
         match &packet.body {
             Body::Delivery {
                 incarnation,
@@ -67,6 +61,19 @@ impl Node {
             _ => {}
         }
         Ok(())
+    }
+
+    /// Whether a packet is of another node of this cluster to this one, which takes what arrives, and
+    /// has each field in its range.
+    fn accepts(&self, packet: &Packet) -> bool
+        ensures { result ≡ is_for self.now packet.now }
+    {
+        !self.frozen
+            && packet.count == self.count
+            && packet.to == self.me
+            && packet.from <= self.count
+            && packet.from != self.me
+            && packet.body.is_in_range()
     }
 
     /// A message of `from`, in its incarnation `life`, came.

@@ -1,9 +1,12 @@
-use Rattle.std.proofs.Common.{rules, ◌≡◌, ◌<◌, ◌+◌, suc, length, take, drop, ap, ◌∙◌, arith, slice_index_or, slice_set, ◌++◌}
+use Rattle.std.proofs.Common.{rules, refl, ◌≡◌, ◌<◌, ◌+◌, suc, length, take, drop, ap, ◌∙◌, arith, slice_index_or, slice_set, ◌++◌}
 use Rattle.std.proofs.lemmas.List.{get_or_default}
 use Rattle.rsn.specs.Receipts.{numbers_of}
 use Rattle.node.specs.Saving.{counts_from}
 use Rattle.node.proofs.Freezing.{counts-long, counts-next, counts-more}
 use Rattle.node.proofs.saving.count.Goals as goal
+
+pub loop-q-init : goal.loop-q-init
+loop-q-init c = refl
 
 pub loop-q-preserved : goal.loop-q-preserved
 loop-q-preserved c =
