@@ -17,7 +17,6 @@ use Rattle.verifier.specs.declared.fault.ImageError.{ImageError}
 use Rattle.verifier.specs.declared.fault.ImageError.TheVariants.{Memory, Header, Decode, Verify}
 use Rattle.verifier.proofs.Files.{file_has, file_header, fields_of}
 use Rattle.span_images.specs.ImageFile as span
-use Rattle.span_images.specs.Inside.Header.{header_of}
 use Rattle.span_images.proofs.Files as spans
 use Rattle.images.specs.ImageFile as any
 use Rattle.images.specs.declared.file_form.FileForm.{FileForm}
@@ -54,7 +53,7 @@ head_file form is len bytes f = kept (IsFile form is len) (file_length form is l
 
 span_length : (is : List Insn) (len : ℕ) (bytes : List ℕ) → span.IsFile is len bytes → length bytes ≤ 8200
 span_length is len bytes f =
-    let k = fields_of (header_of (spans.file_fields is len)) (encoding is) bytes (spans.file_has is len bytes f) in
+    let k = fields_of (spans.file_fields is len) (encoding is) bytes (spans.file_has is len bytes f) in
     omega (arith, k.size, length_encoding is, f.short)
 
 -- the same of an image of any form
