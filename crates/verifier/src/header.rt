@@ -30,7 +30,7 @@ pub struct FileHeader {
     pub slots: u16,
 }
 
-/// The fields of the first eight bytes, whatever they are, and the bytes after them.
+/// The fields of the first eight bytes, whatever they are, and the bytes after them. There are at least eight.
 pub fn header_at(bytes: &[u8]) -> (FileHeader, &[u8])
     requires { 8 ≤ length bytes.now }
     ensures { HasHeader result.0 result.1.now bytes.now }
