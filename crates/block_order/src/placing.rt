@@ -73,15 +73,18 @@ fn distance_to(place: usize, to: usize) -> Option<i32> {
     }
 }
 
+/// A jump at a place to a later one.
+fn led_to(insn: &Insn, place: usize, to: usize) -> Option<Insn> {
+    with_distance(insn, distance_to(place, to)?)
+}
+
 /// The instruction of a slot as it stands at its place.
 fn moved(code: &[Option<Insn>], places: &[Option<usize>], slot: usize) -> Option<Insn> {
     let insn = insn_at(code, slot)?;
-    let (jump, _) = ways(&insn, slot);
-    let Some(to) = jump else {
-        return Some(insn);
-    };
-    let distance = distance_to(place_at(places, slot)?, place_at(places, to)?)?;
-    with_distance(&insn, distance)
+    match ways(&insn, slot).0 {
+        None => Some(insn),
+        Some(to) => led_to(&insn, place_at(places, slot)?, place_at(places, to)?),
+    }
 }
 
 /// The jump behind the instruction of a slot that leads to where another stands.
@@ -99,6 +102,32 @@ fn jump_to(
     })
 }
 
+/// Puts the k-th instruction from the end behind those in front of it, and behind it the jump that it may need. Whether there
+/// was room.
+fn append(
+    insns: &mut Vec<Insn>,
+    code: &[Option<Insn>],
+    places: &[Option<usize>],
+    finished: &[usize],
+    k: usize,
+) -> Result<bool, AllocError> {
+    let Some(slot) = from_end(finished, k) else {
+        return Ok(false);
+    };
+    let Some(insn) = moved(code, places, slot) else {
+        return Ok(false);
+    };
+    insns.push(insn)?;
+    let Some(to) = parted(code, finished, k) else {
+        return Ok(true);
+    };
+    let Some(jump) = jump_to(code, places, slot, to) else {
+        return Ok(false);
+    };
+    insns.push(jump)?;
+    Ok(true)
+}
+
 /// The code in the order in which a search has left it, the last slot first. `None` where an instruction has no room.
 pub(crate) fn place(
     alloc: Global,
@@ -108,18 +137,8 @@ pub(crate) fn place(
     let places = places_of(alloc, code, finished)?;
     let mut insns = Vec::new(alloc);
     for k in 0..finished.len() {
-        let Some(slot) = from_end(finished, k) else {
+        if !append(&mut insns, code, places.as_slice(), finished, k)? {
             return Ok(None);
-        };
-        let Some(insn) = moved(code, places.as_slice(), slot) else {
-            return Ok(None);
-        };
-        insns.push(insn)?;
-        if let Some(to) = parted(code, finished, k) {
-            let Some(jump) = jump_to(code, places.as_slice(), slot, to) else {
-                return Ok(None);
-            };
-            insns.push(jump)?;
         }
     }
     Ok(Some(Placed { insns, places }))
