@@ -76,6 +76,10 @@ state_place (any.Span image) = SPAN_STATE_AT
 abbrev pub state_in : AnyImage → List ℕ → List ℕ
 state_in image array = slice_range array (state_place image) (state_place image + image_state image)
 
+-- this is that state, in an array that is long enough
+abbrev pub IsStateIn : AnyImage → List ℕ → List ℕ → Type 0
+IsStateIn image array state = (array_size image ≤ length array) × (state ≡ state_in image array) × (length state ≡ image_state image)
+
 -- a call of this image's handler as this one left array and record, with these messages and outputs
 pub record IsLeftBy (image : AnyImage) (who : Who) (array bytes : List ℕ) (e : Emitted) : Type 0 where
   pub whole : array_size image ≤ length array

@@ -2,11 +2,10 @@
 
 ghost use Rattle.std.specs.Prelude.{◌≡◌, ◌≤◌, ◌<◌, ◌+◌, ◌↔◌, length, IfErr, IsTrue, MatchOption, MatchResult, OnErr, OnOk};
 ghost use Rattle.handlers.specs.Handler.{image_of};
-ghost use Rattle.images.specs.AnyImage.{state_of as image_state};
 ghost use Rattle.process.specs.Job.{array_size, ticket_at};
 ghost use Rattle.embed_node.specs.declared.fault.Fault.TheVariants.{Room};
 ghost use Rattle.embed_node.specs.Answers.{Results};
-ghost use Rattle.embed_node.specs.NodeJob.{words_of, state_place, state_in, LaysOut, DoesNotLayOut, GivesJob, GivesNone, IsGiven, IsNotGiven, TakesLeft, LeavesOut, IsDone, IsNotDone};
+ghost use Rattle.embed_node.specs.NodeJob.{words_of, state_place, IsStateIn, LaysOut, DoesNotLayOut, GivesJob, GivesNone, IsGiven, IsNotGiven, TakesLeft, LeavesOut, IsDone, IsNotDone};
 
 use crate::fault::Fault;
 use crate::handle::NodeHandle;
@@ -176,7 +175,7 @@ fn is_next(process: &Process, ticket: Ticket) -> bool
 
 /// The state in the array of a call; none, where the array is too short.
 fn state_of<'a>(handler: &Handler, array: &'a [u8]) -> Option<&'a [u8]>
-    ensures { MatchOption result (length array.now < array_size (image_of handler.now)) (λ state. (array_size (image_of handler.now) ≤ length array.now) × (state.now ≡ state_in (image_of handler.now) array.now) × (length state.now ≡ image_state (image_of handler.now))) }
+    ensures { MatchOption result (length array.now < array_size (image_of handler.now)) (λ state. IsStateIn (image_of handler.now) array.now state.now) }
 {
     let at = state_at(handler);
     let len = usize::from(handler.state_len());

@@ -60,9 +60,13 @@ unsealed p = magic ++ (kind_number (kind_of p.body) ∷ p.count ∷ p.from ∷ p
 unfoldable pub checksum_bytes : List ℕ → List ℕ
 checksum_bytes bytes = little_bytes 4 (crc32c bytes)
 
+-- some bytes, and their checksum behind them
+abbrev pub sealed : List ℕ → List ℕ
+sealed bytes = bytes ++ checksum_bytes bytes
+
 -- and the checksum of all that
 abbrev pub packet_bytes : Packet → List ℕ
-packet_bytes p = unsealed p ++ checksum_bytes (unsealed p)
+packet_bytes p = sealed (unsealed p)
 
 -- ---- what can be spelled
 

@@ -2,7 +2,7 @@
 
 ghost use Rattle.std.specs.Prelude.{◌≡◌, ◌++◌, ◌∷◌, [], ◌<◌, ◌≤◌, ◌^◌, length, IfOk, OnOk};
 ghost use Rattle.std.specs.List.{flat_map, AllByRecursion};
-ghost use Rattle.packets.specs.Format.{short_bytes, long_bytes, checksum_bytes, payload_bytes, entry_bytes, pair_bytes, page_bytes, body_bytes, unsealed, packet_bytes, HasRoom, IsEntry, IsPage, Fits, IsPacket};
+ghost use Rattle.packets.specs.Format.{short_bytes, long_bytes, payload_bytes, entry_bytes, pair_bytes, page_bytes, body_bytes, unsealed, sealed, packet_bytes, HasRoom, IsEntry, IsPage, Fits, IsPacket};
 
 use crate::checksum::crc32c;
 use crate::head::MAGIC;
@@ -28,7 +28,7 @@ pub fn encode(alloc: Global, packet: &Packet) -> Result<Vec<u8>, AllocError>
 /// Appends what comes before the checksum, and the checksum of all that is there then.
 fn put_packet(out: &mut Vec<u8>, packet: &Packet) -> Result<(), AllocError>
     requires { HasRoom packet.now.body }
-    ensures { OnOk result (out.new.items ≡ (out.old.items ++ unsealed packet.now) ++ checksum_bytes (out.old.items ++ unsealed packet.now)) }
+    ensures { OnOk result (out.new.items ≡ sealed (out.old.items ++ unsealed packet.now)) }
 {
     put_unsealed(out, packet)?;
     put_checksum(out)
@@ -190,7 +190,7 @@ pub fn put_u16(out: &mut Vec<u8>, n: u16) -> Result<(), AllocError>
 /// Appends the checksum of what is there.
 #[tactic(auto, unfolding(crate::specs::Format::checksum_bytes))]
 pub fn put_checksum(out: &mut Vec<u8>) -> Result<(), AllocError>
-    ensures { OnOk result (out.new.items ≡ out.old.items ++ checksum_bytes out.old.items) }
+    ensures { OnOk result (out.new.items ≡ sealed out.old.items) }
 {
     let mut bytes = [0; 4];
     LittleEndian::write_u32(&mut bytes, crc32c(out));
