@@ -109,7 +109,7 @@ type Row = (&'static str, u16, &'static [[u8; 8]], Verdict);
 
 /// The verdicts of handlers are those of `stress/corpus/verdicts.txt`; the others were read from the
 /// rules (docs/FORMATS.md) by hand.
-const ROWS: [Row; 10] = [
+const ROWS: [Row; 17] = [
     ("slice", 0, &SLICE, Verdict::Accepted(10)),
     ("kv_masked", 512, &KV_MASKED, Verdict::Accepted(16)),
     ("at_offset", 128, &AT_OFFSET, Verdict::Verify(6, 9)),
@@ -172,6 +172,91 @@ const ROWS: [Row; 10] = [
         0,
         &[[0xb7, 0, 0, 0, 0, 0, 0, 0]],
         Verdict::Verify(2, 0),
+    ),
+    (
+        "a number that a helper doesn't leave",
+        0,
+        &[
+            [0xb7, 5, 0, 0, 7, 0, 0, 0],
+            [0x85, 0, 0, 0, 3, 0, 0, 0],
+            [0xbf, 0x50, 0, 0, 0, 0, 0, 0],
+            [0x95, 0, 0, 0, 0, 0, 0, 0],
+        ],
+        Verdict::Verify(3, 2),
+    ),
+    (
+        "a place among the words that an index may load",
+        0,
+        &[
+            [0x71, 0x14, 0, 0, 0, 0, 0, 0],
+            [0x57, 4, 0, 0, 8, 0, 0, 0],
+            [0x7b, 0x2a, 0xf0, 0xff, 0, 0, 0, 0],
+            [0x7a, 0x0a, 0xf8, 0xff, 0, 0, 0, 0],
+            [0xbf, 0xa5, 0, 0, 0, 0, 0, 0],
+            [0x0f, 0x45, 0, 0, 0, 0, 0, 0],
+            [0x79, 0x50, 0xf0, 0xff, 0, 0, 0, 0],
+            [0xb7, 0, 0, 0, 0, 0, 0, 0],
+            [0x95, 0, 0, 0, 0, 0, 0, 0],
+        ],
+        Verdict::Verify(5, 6),
+    ),
+    (
+        "a signed test of a word that may be negative",
+        0,
+        &[
+            [0x79, 0x14, 0, 0, 0, 0, 0, 0],
+            [0xc5, 4, 2, 0, 8, 0, 0, 0],
+            [0xb7, 0, 0, 0, 1, 0, 0, 0],
+            [0x95, 0, 0, 0, 0, 0, 0, 0],
+            [0x0f, 0x41, 0, 0, 0, 0, 0, 0],
+            [0x71, 0x10, 0, 0, 0, 0, 0, 0],
+            [0x95, 0, 0, 0, 0, 0, 0, 0],
+        ],
+        Verdict::Verify(6, 4),
+    ),
+    (
+        "a byte over a place in the stack",
+        8,
+        &[
+            [0x7b, 0x2a, 0xf8, 0xff, 0, 0, 0, 0],
+            [0x72, 0x0a, 0xf8, 0xff, 0, 0, 0, 0],
+            [0xb7, 0, 0, 0, 0, 0, 0, 0],
+            [0x95, 0, 0, 0, 0, 0, 0, 0],
+        ],
+        Verdict::Verify(5, 1),
+    ),
+    (
+        "the message is written",
+        0,
+        &[
+            [0x72, 1, 0, 0, 0, 0, 0, 0],
+            [0xb7, 0, 0, 0, 0, 0, 0, 0],
+            [0x95, 0, 0, 0, 0, 0, 0, 0],
+        ],
+        Verdict::Verify(7, 0),
+    ),
+    (
+        "a payload of all 64 bytes of the state",
+        64,
+        &[
+            [0xbf, 0x21, 0, 0, 0, 0, 0, 0],
+            [0x85, 0, 0, 0, 2, 0, 0, 0],
+            [0xb7, 0, 0, 0, 0, 0, 0, 0],
+            [0x95, 0, 0, 0, 0, 0, 0, 0],
+        ],
+        Verdict::Accepted(4),
+    ),
+    (
+        "one byte further than the state",
+        64,
+        &[
+            [0xbf, 0x21, 0, 0, 0, 0, 0, 0],
+            [7, 1, 0, 0, 1, 0, 0, 0],
+            [0x85, 0, 0, 0, 2, 0, 0, 0],
+            [0xb7, 0, 0, 0, 0, 0, 0, 0],
+            [0x95, 0, 0, 0, 0, 0, 0, 0],
+        ],
+        Verdict::Verify(9, 2),
     ),
 ];
 
