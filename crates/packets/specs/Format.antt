@@ -64,7 +64,7 @@ checksum_bytes bytes = little_bytes 4 (crc32c bytes)
 abbrev pub sealed : List ℕ → List ℕ
 sealed bytes = bytes ++ checksum_bytes bytes
 
--- and the checksum of all that
+-- a packet with its checksum
 abbrev pub packet_bytes : Packet → List ℕ
 packet_bytes p = sealed (unsealed p)
 
