@@ -1,3 +1,5 @@
 pub mod FileForm
 pub mod AnyImage
 pub mod ImageFile
+pub mod Reading
+pub mod Laws

@@ -6,11 +6,10 @@ use Rattle.spans.specs.Configuration.{Configuration}
 use Rattle.spans.specs.Step.{Ends, Fault, Goes, Leaps, Outcome, step}
 use Rattle.span_calls.specs.Typing.{Code, target}
 use Rattle.span_calls.specs.Calls.{Last, Replies, Request, after, call_by, call_from, more, noted, replied, request}
-use Rattle.block_order.specs.Laws.{EndsAs}
-use Rattle.block_order.specs.Order.{code_of}
-use Rattle.block_order.specs.Placement.{place_at}
-use Rattle.block_order.proofs.Runs as order
-use Rattle.ordered_images.specs.Laws.{AreRunsKept}
+use Rattle.ordered_images.specs.Order.{code_of}
+use Rattle.ordered_images.specs.Placement.{place_at}
+use Rattle.ordered_images.proofs.MovedRuns.{moved-runs-kept}
+use Rattle.ordered_images.specs.Laws.{AreRunsKept, EndsAs}
 use Rattle.ordered_images.specs.declared.blocks.Blocks.TheVariants.{Kept, Moved, Loops, Unknown}
 
 -- ---- the same code with more fuel
@@ -78,6 +77,6 @@ pub runs-kept : AreRunsKept
 runs-kept form code written state Kept n reply c q h = alike code written state n reply c q h.0
 runs-kept form code written state Moved n reply c q (back, placed, is, moved) =
     subst (λ (w : List Insn). Alike code w state n reply c q) (sym is)
-    (order.runs-kept code placed.insns.items (place_at placed.places.items) state n reply c q moved.placed)
+    (moved-runs-kept code placed.insns.items (place_at placed.places.items) state n reply c q moved.placed)
 runs-kept form code written state (Loops from to) n reply c q h = alike code written state n reply c q h.0
 runs-kept form code written state Unknown n reply c q h = alike code written state n reply c q h.0

@@ -6,8 +6,8 @@ use Rattle.span_verifier.specs.Verdict.{IsFault}
 use Rattle.images.specs.ImageFile.{IsFile}
 use Rattle.images.specs.declared.file_form.FileForm.{FileForm}
 use Rattle.images.specs.declared.file_form.FileForm.TheVariants.{Sbi1, Sbi2, Sbi3}
-use Rattle.block_order.specs.Order.{IsForward, IsLoop, IsMoved, code_of}
-use Rattle.block_order.specs.declared.placing.Placed.{Placed}
+use Rattle.ordered_images.specs.Order.{IsForward, IsLoop, IsMoved, code_of}
+use Rattle.ordered_images.specs.declared.placing.Placed.{Placed}
 use Rattle.ordered_images.specs.declared.blocks.Blocks.{Blocks}
 use Rattle.ordered_images.specs.declared.blocks.Blocks.TheVariants.{Kept, Moved, Loops, Unknown}
 use Rattle.ordered_images.specs.declared.storing.Ordered.{Ordered}

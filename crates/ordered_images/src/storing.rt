@@ -10,7 +10,7 @@ ghost use Rattle.verifier.specs.ImageFile.{IsUnwritten};
 ghost use Rattle.ordered_images.specs.Ordered.{BreaksV1, IsOrdered};
 
 use crate::blocks::Blocks;
-use block_order::{Order, order_blocks};
+use crate::order::{Order, order_blocks};
 use decode::Insn;
 use images::{FileForm, file};
 use limits::{SLOTS, STATE_BYTES};

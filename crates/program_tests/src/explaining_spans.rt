@@ -6,7 +6,7 @@ use crate::rows::holds;
 use assemble::assemble;
 use images::{FileForm, file};
 use limits::STATE_BYTES;
-use listings::explain;
+use span_explain::explain_file;
 use std::alloc::Global;
 use std::test::Fail;
 use verifier::{HeaderFault, ImageError};
@@ -369,7 +369,7 @@ fn explained(alloc: Global, state: u16, source: &str) -> Result<String, Fail>
 {
     let code = assemble(alloc, source)?;
     let bytes = file(alloc, FileForm::Sbi3, &code, state)?;
-    let text = explain(alloc, &bytes)?;
+    let text = explain_file(alloc, &bytes)?;
     Ok(text)
 }
 
@@ -392,7 +392,7 @@ fn listings_of_form_3(rt: HostRuntime) -> Result<(), Fail> {
 
 /// What a file is refused for, where it is.
 fn refused(alloc: Global, file: &[u8]) -> Option<ImageError> {
-    match explain(alloc, file) {
+    match explain_file(alloc, file) {
         Ok(_) => None,
         Err(error) => Some(error),
     }

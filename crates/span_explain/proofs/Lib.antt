@@ -1,3 +1,4 @@
 mod Words
 mod Frames
 mod Written
+mod Forms

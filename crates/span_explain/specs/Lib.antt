@@ -4,3 +4,4 @@ pub mod Cause
 pub mod Sentence
 pub mod Study
 pub mod Listing
+pub mod FileListing

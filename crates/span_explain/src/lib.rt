@@ -8,7 +8,8 @@
 //! The promise: the text is the listing (`specs/Listing`) of the frames and of the verdict that
 //! `span_verifier::frames_of` gives for the code. So code is called refused by a rule at a slot exactly where
 //! `span_images::load` refuses it so, and what is said of a register or of a word is what the least typing says; of
-//! code that is refused, that of the slots up to the one that is named.
+//! code that is refused, that of the slots up to the one that is named. [`explain_file`] writes the listing of an image file of any form: of form
+//! 1 or 2 that of the crate `explain`.
 //!
 //! ```text
 //! let text = explain(alloc, &code, 8)?;
@@ -22,6 +23,7 @@
 
 mod argument;
 mod cause;
+mod file_listing;
 mod flaw;
 mod kinds;
 mod listing;
@@ -30,6 +32,7 @@ mod sentence;
 mod study;
 
 pub use cause::{Cause, RegisterFault, WordFault};
+pub use file_listing::explain_file;
 pub use flaw::Flaw;
 pub use listing::explain;
 pub use study::SpanStudy;

@@ -7,7 +7,7 @@ use Rattle.decode.specs.First.{IsFirst}
 use Rattle.decode.proofs.SlotLemmas.{length_encoding}
 use Rattle.explain.specs.Listing as flat
 use Rattle.span_explain.specs.Listing as listed
-use Rattle.listings.specs.Explained.{IsExplained}
+use Rattle.span_explain.specs.FileListing.{IsFileExplained}
 use Rattle.regtypes.specs.declared.image_form.ImageForm.{ImageForm}
 use Rattle.regtypes.specs.declared.image_form.ImageForm.TheVariants.{Sbi1, Sbi2}
 use Rattle.verifier.specs.ImageFile.{HasFault, IsFile, field_at, magic}
@@ -84,7 +84,7 @@ head_listed bytes text e = record {
   listed = e.listed;
 }
 
-pub any_explained : (bytes text : List ℕ) → IsExplained (take IMAGE_LIMIT bytes) text → IsExplained bytes text
+pub any_explained : (bytes text : List ℕ) → IsFileExplained (take IMAGE_LIMIT bytes) text → IsFileExplained bytes text
 any_explained bytes text (inl e) = inl (head_explained bytes text e)
 any_explained bytes text (inr e) = inr (head_listed bytes text e)
 

@@ -1,7 +1,7 @@
 -- What a command prints, by the file that it reads.
 use Rattle.std.specs.Prelude.{◌≡◌, ℕ, List, []}
 use Rattle.cli.specs.Asks.{Order, Run, Live, Draw, Check, Explain, Asm, Pack, Dis, Native}
-use Rattle.listings.specs.Explained.{IsExplained}
+use Rattle.span_explain.specs.FileListing.{IsFileExplained}
 use Rattle.ordered_images.specs.declared.blocks.Blocks.{Blocks}
 use Rattle.tracer.specs.Asm.{IsAssembled}
 use Rattle.tracer.specs.Check.{IsAccepted, accepted_text}
@@ -32,7 +32,7 @@ IsReport content (Live scenario workers budget) bytes text = IsLiveText content 
 IsReport content (Draw scenario picture only) bytes text = ((file : List ℕ) × IsDrawn content bytes only file) × (text ≡ [])
 IsReport content (Check image) bytes text = (count : ℕ) × IsAccepted bytes count × (text ≡ accepted_text count)
 IsReport content (Asm source image state form) bytes text = ((file : List ℕ) × IsAssembled bytes state form file) × (text ≡ [])
-IsReport content (Explain image) bytes text = IsExplained bytes text
+IsReport content (Explain image) bytes text = IsFileExplained bytes text
 IsReport content (Pack code image state form) bytes text = ((file : List ℕ) × (blocks : Blocks) × IsPacked bytes state form file blocks) × (text ≡ [])
 IsReport content (Dis image) bytes text = IsListing bytes text
 IsReport content (Native image code) bytes text = ((file : List ℕ) × IsMachineCode bytes file) × (text ≡ [])

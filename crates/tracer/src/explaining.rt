@@ -1,7 +1,7 @@
 //! The command `explain`.
 
 ghost use Rattle.std.specs.Prelude.{◌≡◌, ℕ, List, IfErr, IfOk, Some, string_bytes};
-ghost use Rattle.listings.specs.Explained.{IsExplained};
+ghost use Rattle.span_explain.specs.FileListing.{IsFileExplained};
 ghost use Rattle.tracer.specs.Explain.{IsUnexplained};
 ghost use Rattle.tracer.specs.Program.{FaultOf};
 
@@ -9,7 +9,7 @@ use crate::check::IMAGE_LIMIT;
 use crate::fault::Fault;
 use crate::files::Files;
 use crate::site::Site;
-use listings::explain;
+use span_explain::explain_file;
 use std::alloc::Global;
 
 /// The listing of the image of a file, whether or not its code is accepted.
@@ -20,11 +20,11 @@ pub fn explain_image<F: Files>(
     site: &mut Site,
 ) -> Result<String, Fault>
     ensures listing { IfOk result (λ t. (bytes : List ℕ) → F.content files.old path.now ≡ Some bytes
-        → IsExplained bytes (string_bytes t)) }
+        → IsFileExplained bytes (string_bytes t)) }
     ensures same { F.content files.new ≡ F.content files.old }
     ensures fault { IfErr result (FaultOf (F.content files.old) (F.failed files.new) path.now IsUnexplained) }
 {
     let bytes = site.read(alloc, path, Some(IMAGE_LIMIT), files)?;
-    let text = explain(alloc, bytes.as_slice())?;
+    let text = explain_file(alloc, bytes.as_slice())?;
     Ok(text)
 }

@@ -1,7 +1,7 @@
 //! The orders that are found, and the loops that are named.
 
 use assemble::{assemble, disassemble};
-use block_order::{Order, order_blocks};
+use ordered_images::{Order, order_blocks};
 use std::alloc::Global;
 use std::process::Abort;
 use std::test::Fail;

@@ -2,8 +2,8 @@ use Rattle.std.proofs.Common.{rules, refl, subst, arith}
 use Rattle.decode.proofs.SlotLemmas.{length-slots_of}
 use Rattle.images.specs.ImageFile.{IsFile}
 use Rattle.images.specs.declared.file_form.FileForm.TheVariants.{Sbi3}
-use Rattle.block_order.specs.Order.{IsOrder}
-use Rattle.block_order.specs.declared.order.Order.TheVariants.{Moved}
+use Rattle.ordered_images.specs.Order.{IsOrder}
+use Rattle.ordered_images.specs.declared.order.Order.TheVariants.{Moved}
 use Rattle.ordered_images.specs.Ordered.{BreaksV1}
 use Rattle.ordered_images.proofs.storing.span_file.Goals as goal
 

@@ -1,6 +1,6 @@
 use Rattle.std.proofs.Common.{◌≡◌, ◌∙◌, subst, string_bytes}
 use Rattle.images.specs.ImageFile.{IsUnread}
-use Rattle.listings.specs.Explained.{IsExplained}
+use Rattle.span_explain.specs.FileListing.{IsFileExplained}
 use Rattle.tracer.proofs.CauseLemmas.{becomes, read_fault}
 use Rattle.tracer.proofs.HeadLemmas.{any_explained, any_unread}
 use Rattle.tracer.proofs.explaining.explain_image.Goals as goal
@@ -14,4 +14,4 @@ returns-in_err-text-clause-fault g c =
 pub returns-clause-listing : goal.returns-clause-listing
 returns-clause-listing g c = λ known there.
     let text = string_bytes c.in_ok-text.text in
-    any_explained known text (subst (λ b. IsExplained b text) (c.as_slice.ensures.value ∙ c.in_ok-bytes.ensures.bytes known there) c.in_ok-text.ensures.listing)
+    any_explained known text (subst (λ b. IsFileExplained b text) (c.as_slice.ensures.value ∙ c.in_ok-bytes.ensures.bytes known there) c.in_ok-text.ensures.listing)

@@ -1,3 +1,0 @@
-pub mod Placement
-pub mod Order
-pub mod Laws

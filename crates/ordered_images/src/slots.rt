@@ -1,0 +1,51 @@
+//! Slots, and where they lead.
+
+ghost use Rattle.std.specs.Prelude.{◌≡◌, ◌+◌, ◌+ℤ◌, IfSome, pos};
+ghost use Rattle.decode.specs.Slots.{insn_at};
+ghost use Rattle.ordered_images.specs.Placement.{place_at};
+
+use decode::Insn;
+use regtypes::{Flow, flow_from};
+
+/// The instruction that begins at a slot.
+pub fn insn_at(slots: &[Option<Insn>], slot: usize) -> Option<Insn>
+    ensures { result ≡ insn_at slots.now slot }
+{
+    match slots.get(slot) {
+        Some(insn) => *insn,
+        None => None,
+    }
+}
+
+/// Where the instruction of a slot stands.
+pub fn place_at(places: &[Option<usize>], slot: usize) -> Option<usize>
+    ensures { result ≡ place_at places.now slot }
+{
+    match places.get(slot) {
+        Some(place) => *place,
+        None => None,
+    }
+}
+
+/// The slot that a jump leads to, if there is one of this number.
+pub fn target(slot: usize, distance: i32) -> Option<usize>
+    ensures { IfSome result (λ t. pos (slot + 1) +ℤ distance ≡ pos t) }
+{
+    let behind = slot.checked_add(1)?;
+    let far = distance.unsigned_abs() as usize;
+    if distance >= 0 {
+        behind.checked_add(far)
+    } else {
+        behind.checked_sub(far)
+    }
+}
+
+/// The slots that the instruction at a slot leads to: by its jump, and to the one behind it.
+pub(crate) fn ways(insn: &Insn, slot: usize) -> (Option<usize>, Option<usize>) {
+    match flow_from(insn) {
+        Flow::Ends => (None, None),
+        Flow::Leaps(distance) => (target(slot, distance), None),
+        Flow::Forks(distance) => (target(slot, distance), slot.checked_add(1)),
+        Flow::Falls(size) => (None, slot.checked_add(size)),
+    }
+}

@@ -1,5 +1,0 @@
-pub mod Reading
-pub mod Memory
-pub mod Rules
-pub mod Typings
-pub mod Files
