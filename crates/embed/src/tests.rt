@@ -11,6 +11,7 @@ use crate::running::run;
 use handlers::Handler as AnyHandler;
 use helpers::Who;
 use std::alloc::Global;
+use std::process::Abort;
 use std::test::Fail;
 
 // r3 = message[0..8]; r4 = state[0..8]; r4 += r3; state[0..8] = r4; r0 = 0; exit
@@ -33,11 +34,25 @@ fn number_of(answer: Result<(), Refusal>) -> u32 {
     }
 }
 
+// Assertions, each proved once.
+
+fn is_code(rt: &impl Abort, code: u32, want: u32) {
+    assert_eq!(rt; code, want);
+}
+
+fn are_codes(rt: &impl Abort, codes: (u32, u32), want: (u32, u32)) {
+    assert_eq!(rt; codes, want);
+}
+
+fn are_bytes(rt: &impl Abort, bytes: &[u8], want: &[u8]) {
+    assert_eq!(rt; bytes, want);
+}
+
 #[test]
 fn accepted(rt: HostRuntime) -> Result<(), Fail> {
     let mut out = [7u8; 16];
-    assert_eq!(rt; number_of(check(rt.alloc(), &ADDER, &mut out)), 0);
-    assert_eq!(rt; out, [7u8; 16]);
+    is_code(&rt, number_of(check(rt.alloc(), &ADDER, &mut out)), 0);
+    are_bytes(&rt, &out, &[7; 16]);
     Ok(())
 }
 
@@ -47,16 +62,16 @@ fn refused(rt: HostRuntime) -> Result<(), Fail> {
     // the last instruction is a move: V2 at slot 5
     let mut file = ADDER;
     file[48] = 0xb7;
-    assert_eq!(rt; number_of(check(rt.alloc(), &file, &mut out)), 4);
-    assert_eq!(rt; out, [2, 0, 0, 0, 0, 0, 0, 0, 5, 0, 0, 0, 0, 0, 0, 0]);
+    is_code(&rt, number_of(check(rt.alloc(), &file, &mut out)), 4);
+    are_bytes(&rt, &out, &[2, 0, 0, 0, 0, 0, 0, 0, 5, 0, 0, 0, 0, 0, 0, 0]);
     // no opcode 0xff: rule 2 at slot 0
     file[8] = 0xff;
-    assert_eq!(rt; number_of(check(rt.alloc(), &file, &mut out)), 3);
-    assert_eq!(rt; out, [2, 0, 0, 0, 0, 0, 0, 0, 0, 0, 0, 0, 0, 0, 0, 0]);
+    is_code(&rt, number_of(check(rt.alloc(), &file, &mut out)), 3);
+    are_bytes(&rt, &out, &[2, 0, 0, 0, 0, 0, 0, 0, 0, 0, 0, 0, 0, 0, 0, 0]);
     // SBI4
     file[3] = 0x34;
-    assert_eq!(rt; number_of(check(rt.alloc(), &file, &mut out)), 2);
-    assert_eq!(rt; number_of(check(rt.alloc(), &ADDER, &mut out[..15])), 8);
+    is_code(&rt, number_of(check(rt.alloc(), &file, &mut out)), 2);
+    is_code(&rt, number_of(check(rt.alloc(), &ADDER, &mut out[..15])), 8);
     Ok(())
 }
 
@@ -66,17 +81,18 @@ fn one_call(rt: HostRuntime) -> Result<(), Fail> {
     let mut message = [0u8; 64];
     message[0] = 5;
     let mut out = [7u8; REPORT_LIMIT];
-    assert_eq!(rt;
+    is_code(
+        &rt,
         number_of(call(rt.alloc(), &ADDER, &mut state, &message, CALLED, &mut out)),
-        0
+        0,
     );
-    assert_eq!(rt; state, [6, 0, 0, 0, 0, 0, 0, 0]);
+    are_bytes(&rt, &state, &[6, 0, 0, 0, 0, 0, 0, 0]);
     // r0 is 0, six instructions, nothing emitted
-    assert_eq!(rt; out[0], 0);
-    assert_eq!(rt; out[8], 6);
-    assert_eq!(rt; out[16], 0);
-    assert_eq!(rt; out[24], 0);
-    assert_eq!(rt; out[32], 7);
+    are_bytes(
+        &rt,
+        &[out[0], out[8], out[16], out[24], out[32]],
+        &[0, 6, 0, 0, 7],
+    );
     Ok(())
 }
 
@@ -87,13 +103,13 @@ fn two_calls(rt: HostRuntime) -> Result<(), Fail> {
     messages[0] = 5;
     messages[64] = 6;
     let mut out = [7u8; 2128];
-    assert_eq!(rt;
+    is_code(
+        &rt,
         number_of(call_many(rt.alloc(), &ADDER, &mut state, &messages, CALLED, &mut out)),
-        0
+        0,
     );
-    assert_eq!(rt; state, [11, 0, 0, 0, 0, 0, 0, 0]);
-    assert_eq!(rt; out[40], 6);
-    assert_eq!(rt; out[64], 7);
+    are_bytes(&rt, &state, &[11, 0, 0, 0, 0, 0, 0, 0]);
+    are_bytes(&rt, &[out[40], out[64]], &[6, 7]);
     Ok(())
 }
 
@@ -103,11 +119,19 @@ fn no_call(rt: HostRuntime) -> Result<(), Fail> {
     let message = [0u8; 64];
     let mut out = [7u8; REPORT_LIMIT];
     let nobody = Who { from: 1, ..CALLED };
-    assert_eq!(rt; code_of(alloc, &ADDER, &message, CALLED, &mut out), 5);
-    assert_eq!(rt; code_of(alloc, &ADDER, &message[1..], CALLED, &mut out), 6);
-    assert_eq!(rt; code_of(alloc, &ADDER, &message, nobody, &mut out), 7);
-    assert_eq!(rt; code_of(alloc, &ADDER, &message, CALLED, &mut out[1..]), 8);
-    assert_eq!(rt; out[0], 7);
+    is_code(&rt, code_of(alloc, &ADDER, &message, CALLED, &mut out), 5);
+    is_code(
+        &rt,
+        code_of(alloc, &ADDER, &message[1..], CALLED, &mut out),
+        6,
+    );
+    is_code(&rt, code_of(alloc, &ADDER, &message, nobody, &mut out), 7);
+    is_code(
+        &rt,
+        code_of(alloc, &ADDER, &message, CALLED, &mut out[1..]),
+        8,
+    );
+    are_bytes(&rt, &[out[0]], &[7]);
     Ok(())
 }
 
@@ -126,13 +150,13 @@ fn two_faults(rt: HostRuntime) -> Result<(), Fail> {
     broken[48] = 0xb7;
     let mut room = [7u8; REPORT_LIMIT];
     let mut less = [7u8; 1063];
-    assert_eq!(rt; code_of(alloc, &broken, &[0; 63], nobody, &mut less), 7);
-    assert_eq!(rt; code_of(alloc, &broken, &[0; 63], CALLED, &mut less), 6);
-    assert_eq!(rt; code_of(alloc, &broken, &[0; 64], CALLED, &mut less), 8);
-    assert_eq!(rt; code_of(alloc, &broken, &[0; 64], CALLED, &mut room), 4);
-    assert_eq!(rt; code_of(alloc, &ADDER, &[0; 64], CALLED, &mut room), 5);
-    assert_eq!(rt; number_of(check(alloc, &broken, &mut less[..15])), 8);
-    assert_eq!(rt; less[0], 7);
+    is_code(&rt, code_of(alloc, &broken, &[0; 63], nobody, &mut less), 7);
+    is_code(&rt, code_of(alloc, &broken, &[0; 63], CALLED, &mut less), 6);
+    is_code(&rt, code_of(alloc, &broken, &[0; 64], CALLED, &mut less), 8);
+    is_code(&rt, code_of(alloc, &broken, &[0; 64], CALLED, &mut room), 4);
+    is_code(&rt, code_of(alloc, &ADDER, &[0; 64], CALLED, &mut room), 5);
+    is_code(&rt, number_of(check(alloc, &broken, &mut less[..15])), 8);
+    are_bytes(&rt, &[less[0]], &[7]);
     Ok(())
 }
 
@@ -145,9 +169,9 @@ const FORM_2: [u8; 24] =
 fn form_2(rt: HostRuntime) -> Result<(), Fail> {
     let alloc = rt.alloc();
     let mut out = [7u8; REPORT_LIMIT];
-    assert_eq!(rt; number_of(check(alloc, &FORM_2, &mut out)), 0);
-    assert_eq!(rt; code_of(alloc, &FORM_2, &[0; 64], CALLED, &mut out), 9);
-    assert_eq!(rt; out[0], 7);
+    is_code(&rt, number_of(check(alloc, &FORM_2, &mut out)), 0);
+    is_code(&rt, code_of(alloc, &FORM_2, &[0; 64], CALLED, &mut out), 9);
+    are_bytes(&rt, &[out[0]], &[7]);
     Ok(())
 }
 
@@ -167,12 +191,12 @@ fn messages_of_other_lengths(rt: HostRuntime) -> Result<(), Fail> {
     let third = *b"SBI3\x00\x00\x00\x00";
     for file in [&ADDER[..], &FORM_2, &third] {
         for message in [&[0; 63][..], &[0; 65], &[0; 257]] {
-            assert_eq!(rt; codes_of(alloc, file, message), (6, 6));
+            are_codes(&rt, codes_of(alloc, file, message), (6, 6));
         }
     }
-    assert_eq!(rt; codes_of(alloc, &ADDER, &[0; 64]), (5, 5));
-    assert_eq!(rt; codes_of(alloc, &FORM_2, &[0; 64]), (9, 9));
-    assert_eq!(rt; codes_of(alloc, &third, &[0; 64]), (2, 2));
+    are_codes(&rt, codes_of(alloc, &ADDER, &[0; 64]), (5, 5));
+    are_codes(&rt, codes_of(alloc, &FORM_2, &[0; 64]), (9, 9));
+    are_codes(&rt, codes_of(alloc, &third, &[0; 64]), (2, 2));
     Ok(())
 }
 
@@ -184,9 +208,9 @@ fn two_faults_of_many(rt: HostRuntime) -> Result<(), Fail> {
     let mut state = [0u8; 9];
     let mut less = [7u8; 1063];
     let code = number_of(call_many(alloc, &broken, &mut state, &[0; 63], CALLED, &mut less));
-    assert_eq!(rt; code, 6);
+    is_code(&rt, code, 6);
     let code = number_of(call_many(alloc, &broken, &mut state, &[0; 64], CALLED, &mut less));
-    assert_eq!(rt; code, 8);
+    is_code(&rt, code, 8);
     Ok(())
 }
 
@@ -199,9 +223,8 @@ fn longest_state(rt: HostRuntime) -> Result<(), Fail> {
     let message = [0u8; 64];
     let mut out = [7u8; REPORT_LIMIT];
     let code = number_of(call(rt.alloc(), &file, &mut state, &message, CALLED, &mut out));
-    assert_eq!(rt; code, 0);
-    assert_eq!(rt; out[8], 2);
-    assert_eq!(rt; state[1023], 9);
+    is_code(&rt, code, 0);
+    are_bytes(&rt, &[out[8], state[1023]], &[2, 9]);
     Ok(())
 }
 
@@ -237,8 +260,8 @@ fn faults_of_runs(rt: HostRuntime) -> Result<(), Fail> {
         ((8, 64, 1064), CALLED, 0, 9),
         ((8, 0, 0), CALLED, 0, 9),
     ] {
-        assert_eq!(rt; run_code(alloc, &mut adder, lens, who)?, code);
-        assert_eq!(rt; run_code(alloc, &mut second, lens, who)?, of_second);
+        is_code(&rt, run_code(alloc, &mut adder, lens, who)?, code);
+        is_code(&rt, run_code(alloc, &mut second, lens, who)?, of_second);
     }
     Ok(())
 }
@@ -246,22 +269,23 @@ fn faults_of_runs(rt: HostRuntime) -> Result<(), Fail> {
 #[test]
 fn two_runs(rt: HostRuntime) -> Result<(), Fail> {
     let mut handler = Handler::new(AnyHandler::load(rt.alloc(), &ADDER)?);
-    assert_eq!(rt; handler.state_len(), 8);
+    assert!(rt; handler.state_len() == 8);
     let mut state = [0u8; 8];
     let mut messages = [0u8; 128];
     messages[0] = 5;
     messages[64] = 6;
     let mut out = [7u8; 2128];
-    assert_eq!(rt;
+    is_code(
+        &rt,
         run(&mut handler, &mut state, &messages, 1, 0, 2, &mut out),
-        0
+        0,
     );
-    assert_eq!(rt;
+    is_code(
+        &rt,
         run(&mut handler, &mut state, &messages[64..], 1, 0, 2, &mut out),
-        0
+        0,
     );
-    assert_eq!(rt; state, [17, 0, 0, 0, 0, 0, 0, 0]);
-    assert_eq!(rt; out[40], 6);
-    assert_eq!(rt; out[64], 7);
+    are_bytes(&rt, &state, &[17, 0, 0, 0, 0, 0, 0, 0]);
+    are_bytes(&rt, &[out[40], out[64]], &[6, 7]);
     Ok(())
 }

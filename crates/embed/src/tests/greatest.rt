@@ -1,6 +1,6 @@
 //! Images of the greatest size (docs/FORMATS.md, "Limits"), and many messages.
 
-use super::{CALLED, number_of};
+use super::{CALLED, are_bytes, is_code, number_of};
 use crate::calling::{call, call_many, check};
 use crate::handler::Handler;
 use crate::report::REPORT_LIMIT;
@@ -52,11 +52,11 @@ fn an_image_of_1_024_slots(rt: HostRuntime) -> Result<(), Fail> {
     message[0] = 1;
     let mut state = [0u8; 1024];
     let mut out = [7u8; REPORT_LIMIT];
-    assert_eq!(rt; number_of(check(alloc, &file, &mut out)), 0);
+    is_code(&rt, number_of(check(alloc, &file, &mut out)), 0);
     let code = number_of(call(alloc, &file, &mut state, &message, CALLED, &mut out));
-    assert_eq!(rt; code, 0);
-    assert_eq!(rt; last_word(&state), [0xfb, 0x03, 0]);
-    assert_eq!(rt; (out[8], out[9], out[10]), (0, 4, 0));
+    is_code(&rt, code, 0);
+    are_bytes(&rt, &last_word(&state), &[0xfb, 0x03, 0]);
+    are_bytes(&rt, &[out[8], out[9], out[10]], &[0, 4, 0]);
     Ok(())
 }
 
@@ -69,8 +69,8 @@ fn many_calls_of_1_024_slots(rt: HostRuntime) -> Result<(), Fail> {
     let mut state = [0u8; 1024];
     let mut out = Vec::from_elem(alloc, 7u8, MESSAGES * 1_064)?;
     let code = number_of(call_many(alloc, &file, &mut state, &messages, CALLED, &mut out));
-    assert_eq!(rt; code, 0);
-    assert_eq!(rt; last_word(&state), [0x78, 0x8c, 0x0f]);
+    is_code(&rt, code, 0);
+    are_bytes(&rt, &last_word(&state), &[0x78, 0x8c, 0x0f]);
     Ok(())
 }
 
@@ -83,7 +83,7 @@ fn a_handle_of_1_024_slots(rt: HostRuntime) -> Result<(), Fail> {
     let mut state = [0u8; 1024];
     let mut out = Vec::from_elem(alloc, 7u8, MESSAGES * 1_064)?;
     let code = run(&mut handler, &mut state, &messages, 1, 0, 2, &mut out);
-    assert_eq!(rt; code, 0);
-    assert_eq!(rt; last_word(&state), [0x78, 0x8c, 0x0f]);
+    is_code(&rt, code, 0);
+    are_bytes(&rt, &last_word(&state), &[0x78, 0x8c, 0x0f]);
     Ok(())
 }

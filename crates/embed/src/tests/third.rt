@@ -1,7 +1,7 @@
 //! A handler of form 3, as a C compiler makes it: it keeps a pointer in its stack and takes the length
 //! of its message for an index. The expected values are worked out by hand.
 
-use super::{CALLED, codes_of, number_of};
+use super::{CALLED, are_bytes, are_codes, codes_of, is_code, number_of};
 use crate::calling::{call, call_many, check};
 use crate::handler::Handler;
 use crate::machine_code::compile;
@@ -43,10 +43,12 @@ fn calls_of_form_3(rt: HostRuntime) -> Result<(), Fail> {
         state[0], state[1], out[0], out[8], out[16], out[24], out[32], out[33], out[34], out[35],
         out[95], out[104], out[120], out[128], out[129], out[191], out[192],
     ];
-    assert_eq!(rt; codes, [0, 0, 0]);
-    assert_eq!(rt;
-        said,
-        [0x40, 1, 0, 12, 0, 1, 0, 1, 0, 0, 0, 12, 1, 0x40, 1, 0, 7]
+    are_codes(&rt, (codes[0], codes[1]), (0, 0));
+    is_code(&rt, codes[2], 0);
+    are_bytes(
+        &rt,
+        &said,
+        &[0x40, 1, 0, 12, 0, 1, 0, 1, 0, 0, 0, 12, 1, 0x40, 1, 0, 7],
     );
     Ok(())
 }
@@ -63,8 +65,10 @@ fn refusals_of_form_3(rt: HostRuntime) -> Result<(), Fail> {
         codes_of(alloc, &COUNTER, &[0; 64]),
         codes_of(alloc, &short, &[0; 64]),
     );
-    assert_eq!(rt; (code, out[0], out[8]), (4, 6, 5));
-    assert_eq!(rt; codes, ((5, 5), (4, 4)));
+    is_code(&rt, code, 4);
+    are_bytes(&rt, &[out[0], out[8]], &[6, 5]);
+    are_codes(&rt, codes.0, (5, 5));
+    are_codes(&rt, codes.1, (4, 4));
     Ok(())
 }
 
@@ -80,9 +84,9 @@ fn machine_code_of_form_3(rt: HostRuntime) -> Result<(), Fail> {
     let mut out = [7u8; 1024];
     let mut whole = 9;
     let written = compile(alloc, &handler, &mut out, &mut whole);
-    assert_eq!(rt; (refused, short, written), (8, [7; 16], 0));
-    assert_eq!(rt; size, whole);
-    assert!(rt; whole > 16 && whole < 1024);
-    assert_eq!(rt; (out[whole - 1], out[whole]), (0xc3, 7));
+    are_codes(&rt, (refused, written), (8, 0));
+    are_bytes(&rt, &short, &[7; 16]);
+    assert!(rt; size == whole && whole > 16 && whole < 1024);
+    are_bytes(&rt, &[out[whole - 1], out[whole]], &[0xc3, 7]);
     Ok(())
 }
