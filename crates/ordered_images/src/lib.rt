@@ -15,6 +15,13 @@
 //! ```text
 //! let file = ordered_file(alloc, FileForm::Sbi3, &code, 64)?;
 //! // file.blocks: Kept, Moved, Loops { from, to } or Unknown; file.bytes: the image file
+//!
+//! match order_blocks(alloc, &code)? {
+//!     Order::Forward => {}            // nothing is to be done
+//!     Order::Moved(placed) => {}      // the same code, with all jumps forward
+//!     Order::Loops { from, to } => {} // slot `from` jumps back to slot `to`
+//!     Order::Unknown => {}            // no order was found
+//! }
 //! ```
 #![tactic(auto)]
 
