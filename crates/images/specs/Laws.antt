@@ -16,7 +16,7 @@ use Rattle.spans.specs.Leaving.{LeqWay}
 use Rattle.span_rules.specs.Rules.{broken_rule}
 use Rattle.span_rules.specs.Leaving.{ways}
 use Rattle.span_calls.specs.Typing.{Table}
-use Rattle.typings.specs.Form.{Below}
+use Rattle.span_verifier.specs.Form.{Below}
 use Rattle.span_verifier.specs.Typing.{IsTyped, span_form}
 use Rattle.span_verifier.specs.Verdict.{IsLeastTyping}
 use Rattle.images.specs.declared.file_form.FileForm.{FileForm}

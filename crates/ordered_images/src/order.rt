@@ -11,8 +11,8 @@ use crate::search::{Found, search_slots};
 use crate::walk::loop_of;
 use decode::{Insn, slots as slots_in};
 use limits::SLOTS;
+use span_verifier::lay_out;
 use std::alloc::{AllocError, Global};
-use typings::lay_out;
 
 /// What becomes of the order of blocks.
 #[derive(Drop)]

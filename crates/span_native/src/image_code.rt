@@ -7,8 +7,8 @@ ghost use Rattle.span_native.specs.Written.{IsCodeOf};
 use crate::slot_tasks::tasks_of;
 use native::{Opening, write_tasks};
 use span_images::SpanImage;
+use span_verifier::lay_out;
 use std::alloc::{AllocError, Global};
-use typings::lay_out;
 
 /// The machine code of an image. Only memory can want.
 pub fn compile(alloc: Global, image: &SpanImage) -> Result<Vec<u8>, AllocError>

@@ -22,10 +22,10 @@ use Rattle.span_rules.proofs.Exact.{both, exact}
 use Rattle.span_calls.specs.Typing.{Table, IsAllowed, IsTyping, target}
 use Rattle.span_calls.specs.Typing as calls
 use Rattle.span_calls.proofs.Entry.{calls-shown}
-use Rattle.typings.specs.Form.{Below, IsForm}
-use Rattle.typings.proofs.Passes.{one_refusal}
+use Rattle.span_verifier.specs.Form.{Below, IsForm}
 use Rattle.span_verifier.specs.Typing.{IsPlaced, broken_at, span_form, IsTyped}
 use Rattle.span_verifier.specs.Laws.{AreTypedCallsShown, AreTypings, IsOneRefusal}
+use Rattle.span_verifier.proofs.Passes.{one_refusal}
 
 -- ---- order
 

@@ -1,3 +1,5 @@
+pub mod Layouts
+pub mod Passes
 pub mod Forms
-pub mod Leads
+pub mod SpanPasses
 pub mod Slots

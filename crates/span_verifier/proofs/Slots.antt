@@ -24,7 +24,7 @@ use Rattle.spans.proofs.Tests.{parts}
 use Rattle.span_calls.specs.Typing.{distance, target}
 use Rattle.span_rules.specs.Leaving.{ways}
 use Rattle.span_rules.specs.Transfer.{frame_of}
-use Rattle.typings.specs.Layout.{Follows}
+use Rattle.span_verifier.specs.Layout.{Follows}
 use Rattle.span_verifier.specs.Inside.Pass.{AreFitting, IsWayWithin}
 use Rattle.span_verifier.specs.Typing.{table_of}
 

@@ -9,7 +9,7 @@ use Rattle.spans.specs.Configuration.{entry}
 use Rattle.span_calls.specs.Concrete.{array_size, concrete_entry}
 use Rattle.span_calls.specs.Typing.{Table, IsTyping}
 use Rattle.span_calls.specs.Calls.{Request, Replies, call_from, concrete_call_from, ShowsLast}
-use Rattle.typings.specs.Form.{IsForm}
+use Rattle.span_verifier.specs.Form.{IsForm}
 use Rattle.span_verifier.specs.Typing.{IsPlaced, IsTyped, span_form}
 use Rattle.span_verifier.specs.Verdict.{IsRefused}
 

@@ -1,3 +1,6 @@
+pub mod Form
+pub mod Least
+pub mod Layout
 pub mod Typing
 pub mod Verdict
 pub mod Laws

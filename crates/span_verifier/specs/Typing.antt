@@ -14,8 +14,8 @@ use Rattle.spans.specs.Frame.{Frame, IsFrame, Leq, entry_frame}
 use Rattle.span_rules.specs.Transfer.{frame_of}
 use Rattle.span_rules.specs.Rules.{frame_pointer_rule, broken_rule}
 use Rattle.span_calls.specs.Typing.{Table, IsAllowed}
-use Rattle.typings.specs.Form.{Form}
-use Rattle.typings.specs.Least.{TypesBelow}
+use Rattle.span_verifier.specs.Form.{Form}
+use Rattle.span_verifier.specs.Least.{TypesBelow}
 
 -- the frames of arrays of kinds, slot by slot; none behind their end
 abbrev pub table_of : List (Option (Box Cells)) → Table

@@ -9,12 +9,12 @@ ghost use Rattle.span_verifier.specs.Typing.{table_of};
 ghost use Rattle.span_verifier.specs.Verdict.{IsJudged};
 
 use crate::judging::judge;
+use crate::layout::lay_out;
 use decode::Insn;
 use limits::SLOTS;
 use regtypes::Rule;
 use spans::Cells;
 use std::alloc::{AllocError, Global};
-use typings::lay_out;
 
 /// Code slot by slot, and what is known of registers and of the stack's words there, also of code that
 /// is refused.

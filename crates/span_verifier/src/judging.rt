@@ -5,9 +5,10 @@ ghost use Rattle.decode.specs.Encoding.{Fits};
 ghost use Rattle.spans.specs.Frame.{IsFrame, kind_at};
 ghost use Rattle.span_verifier.specs.Inside.Pass.{AreFitting, IsLeavingAt, IsSlotJudged};
 ghost use Rattle.span_verifier.specs.Typing.{span_form, table_of};
-ghost use Rattle.typings.specs.Layout.{Follows};
-ghost use Rattle.typings.specs.Least.{IsLeast};
+ghost use Rattle.span_verifier.specs.Layout.{Follows};
+ghost use Rattle.span_verifier.specs.Least.{IsLeast};
 
+use crate::leading::leads;
 use crate::merging::spread;
 use decode::Insn;
 use limits::SLOTS;
@@ -15,7 +16,6 @@ use regtypes::Rule;
 use span_rules::{Leaving, transfer};
 use spans::Cells;
 use std::alloc::{AllocError, Global};
-use typings::leads;
 
 /// The frames that leave the instruction at a slot, or the least rule that it breaks.
 fn leave(

@@ -12,7 +12,7 @@ use Rattle.span_calls.specs.Typing.{Table, target}
 use Rattle.span_rules.specs.declared.leaving.Leaving.{Leaving}
 use Rattle.span_rules.specs.Transfer.{frames_of}
 use Rattle.span_rules.specs.Leaving.{ways}
-use Rattle.typings.specs.Least.{IsLeast, StopsAt}
+use Rattle.span_verifier.specs.Least.{IsLeast, StopsAt}
 use Rattle.span_verifier.specs.Typing.{broken_at, span_form, table_of}
 
 -- what a slot has where a frame has come to what it had

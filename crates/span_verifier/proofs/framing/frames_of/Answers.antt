@@ -1,13 +1,13 @@
 use Rattle.std.proofs.Common.{◌≡◌, ℕ, ◌<◌, ◌++◌, List, length, take, drop, sym, ap, ◌∙◌, subst, arith}
 use Rattle.std.proofs.Math.Seq.{take-append_seam}
 use Rattle.decode.specs.Slots.{slots_of}
-use Rattle.typings.specs.Layout.{Follows}
-use Rattle.typings.specs.Least.{IsLeast, StopsAt}
-use Rattle.typings.proofs.Layouts.{first_begins_at, laid_some}
+use Rattle.span_verifier.specs.Layout.{Follows}
+use Rattle.span_verifier.specs.Least.{IsLeast, StopsAt}
 use Rattle.span_verifier.specs.Inside.Pass.{AreFitting, IsSlotJudged}
 use Rattle.span_verifier.specs.Typing.{span_form, table_of}
 use Rattle.span_verifier.specs.Verdict.{IsLeastTyping}
-use Rattle.span_verifier.proofs.Leads.{least_first, refused}
+use Rattle.span_verifier.proofs.Layouts.{first_begins_at, laid_some}
+use Rattle.span_verifier.proofs.SpanPasses.{least_first, refused}
 use Rattle.span_verifier.proofs.Slots.{are_fitting}
 use Rattle.span_verifier.proofs.framing.frames_of.Goals as goal
 

@@ -1,5 +1,5 @@
 use Rattle.std.proofs.Common.{◌≡◌, length}
-use Rattle.typings.specs.Least.{IsLeast}
+use Rattle.span_verifier.specs.Least.{IsLeast}
 use Rattle.span_verifier.specs.Typing.{span_form, table_of}
 use Rattle.span_verifier.proofs.framing.frames_of.Given as goal
 

@@ -2,11 +2,11 @@ use Rattle.std.proofs.Common.{◌≡◌, refl, subst, Some, None, arith}
 use Rattle.decode.specs.Slots.{insn_at}
 use Rattle.spans.specs.Frame.{kind_at}
 use Rattle.spans.specs.Leaving.{Ways}
-use Rattle.typings.proofs.Passes.{least_skip}
 use Rattle.span_verifier.specs.Inside.Pass.{IsSpread}
 use Rattle.span_verifier.specs.Typing.{span_form, table_of}
+use Rattle.span_verifier.proofs.Passes.{least_skip}
 use Rattle.span_verifier.proofs.Forms.{form_3}
-use Rattle.span_verifier.proofs.Leads.{stepped, stops, unbroken_parts}
+use Rattle.span_verifier.proofs.SpanPasses.{stepped, stops, unbroken_parts}
 use Rattle.span_verifier.proofs.Slots.{insn_is, taken_within, there_none, there_some}
 use Rattle.span_verifier.proofs.judging.judge.Goals as goal
 use Rattle.span_verifier.proofs.judging.judge.Goals.{After-deref}

@@ -2,7 +2,7 @@
 
 ghost use Rattle.std.specs.Prelude.{◌≡◌, IfOk};
 ghost use Rattle.decode.specs.Slots.{slots_of};
-ghost use Rattle.typings.specs.Layout.{Follows};
+ghost use Rattle.span_verifier.specs.Layout.{Follows};
 
 use decode::Insn;
 use std::alloc::{AllocError, Global};

@@ -20,13 +20,13 @@ use Rattle.span_rules.specs.Leaving.{ways}
 use Rattle.span_rules.proofs.Exact.{exact, neither}
 use Rattle.span_calls.specs.Typing.{Table, IsAllowed, target}
 use Rattle.span_calls.specs.Typing as calls
-use Rattle.typings.specs.Form.{Below}
-use Rattle.typings.specs.Layout.{Follows}
-use Rattle.typings.specs.Least.{IsLeast, StopsAt}
-use Rattle.typings.proofs.Passes.{Led, Merged, led_more, led_none, least_opening, least_step, no_typing}
+use Rattle.span_verifier.specs.Form.{Below}
+use Rattle.span_verifier.specs.Layout.{Follows}
+use Rattle.span_verifier.specs.Least.{IsLeast, StopsAt}
 use Rattle.span_verifier.specs.Inside.Pass.{IsMerged, IsOpening, IsSpread, IsWayMerged, merged}
 use Rattle.span_verifier.specs.Typing.{IsPlaced, broken_at, span_form, IsTyped}
 use Rattle.span_verifier.specs.Verdict.{IsRefused}
+use Rattle.span_verifier.proofs.Passes.{Led, Merged, led_more, led_none, least_opening, least_step, no_typing}
 use Rattle.span_verifier.proofs.Forms.{form_3, way_above}
 use Rattle.span_verifier.proofs.Slots.{later, next_begins, size_positive, taken_begins, target_past}
 

@@ -1,7 +1,7 @@
 -- The least typing, and the one slot and rule that a refusal names.
 use Rattle.std.specs.Prelude.{◌≡◌, ℕ, ◌<◌, Some}
 use Rattle.regtypes.specs.declared.rule.Rule.{Rule}
-use Rattle.typings.specs.Form.{Form, TableOf, Enters, Below}
+use Rattle.span_verifier.specs.Form.{Form, TableOf, Enters, Below}
 
 -- the frame as a call begins fits slot 0, frames stand where they may, and below slot n each is allowed
 pub record TypesBelow (form : Form) (n : ℕ) (table : TableOf form) : Type 0 where

@@ -1,8 +1,8 @@
 use Rattle.std.proofs.Common.{◌≡◌, List, Option, Some, None, ◌++◌, ◌∷◌, [], ap, ◌∙◌, append_assoc}
 use Rattle.decode.specs.declared.insn.Insn.{Insn}
-use Rattle.typings.proofs.Layouts.{laid_more, laid_wide, laid_narrow, follows_taken}
-use Rattle.typings.proofs.layout.lay_out.Goals as goal
-use Rattle.typings.proofs.layout.lay_out.Goals.{then-is_wide+in_ok-push-2, else-is_wide}
+use Rattle.span_verifier.proofs.Layouts.{laid_more, laid_wide, laid_narrow, follows_taken}
+use Rattle.span_verifier.proofs.layout.lay_out.Goals as goal
+use Rattle.span_verifier.proofs.layout.lay_out.Goals.{then-is_wide+in_ok-push-2, else-is_wide}
 
 pub loop-insn-preserved : goal.loop-insn-preserved
 loop-insn-preserved c =

@@ -2,8 +2,8 @@
 use Rattle.std.proofs.Common.{◌≡◌, ◌≢◌, ℕ, ◌+◌, ◌<◌, ◌≤◌, Option, Some, None, refl, sym, ap, ◌∙◌, subst, ⊎_elim, arith}
 use Rattle.std.proofs.lemmas.Bool.{cases_eq, cases_lt}
 use Rattle.regtypes.specs.declared.rule.Rule.{Rule}
-use Rattle.typings.specs.Form.{Form, TableOf, IsForm, Enters, Below}
-use Rattle.typings.specs.Least.{TypesBelow, IsLeast, StopsAt}
+use Rattle.span_verifier.specs.Form.{Form, TableOf, IsForm, Enters, Below}
+use Rattle.span_verifier.specs.Least.{TypesBelow, IsLeast, StopsAt}
 
 -- ---- frames and tables
 

@@ -5,7 +5,7 @@ use Rattle.std.proofs.lemmas.List.{take_more}
 use Rattle.decode.specs.declared.insn.Insn.{Insn}
 use Rattle.decode.specs.Slots.{slots_of, size_of, insn_at}
 use Rattle.decode.proofs.SlotLemmas.{slots_of-append, one_or_two}
-use Rattle.typings.specs.Layout.{Follows}
+use Rattle.span_verifier.specs.Layout.{Follows}
 
 -- an instruction begins at the first slot
 abbrev Begin : List (Option Insn) → Type 0
