@@ -5,7 +5,7 @@ use Rattle.regtypes.specs.declared.frame.Region.TheVariants.{Message, State}
 use Rattle.verifier.specs.Typed.{Typed}
 use Rattle.interp.specs.Flat.{part, IsSpent}
 use Rattle.images.specs.declared.any_image.AnyImage.TheVariants.{Flat as AnyFlat, Span as AnySpan}
-use Rattle.span_images.specs.Typed as span
+use Rattle.images.specs.Typed as span
 use Rattle.span_interp.specs.CallArray as span_array
 use Rattle.handlers.specs.Image.{TheImage, as_image}
 use Rattle.handlers.specs.declared.handler.Handler.{Handler}

@@ -13,7 +13,7 @@ use Rattle.verifier.specs.declared.fault.ImageError.{ImageError}
 use Rattle.verifier.specs.declared.fault.ImageError.TheVariants.{Memory, Header, Decode, Verify}
 use Rattle.verifier.specs.Typed.{Typed}
 use Rattle.verifier.specs.Verdict as flat_verdict
-use Rattle.span_images.specs.ImageFile as span
+use Rattle.images.specs.SpanFile as span
 use Rattle.images.specs.AnyImage.{IsImageOf}
 use Rattle.images.specs.FileForm.{file_form_of}
 use Rattle.images.specs.ImageFile.{HasFault, IsFile, IsRefusal, IsTypable, IsUnread}

@@ -4,3 +4,4 @@ pub mod Memory
 pub mod Rules
 pub mod Typings
 pub mod SubsumedFiles
+pub mod SpanFiles

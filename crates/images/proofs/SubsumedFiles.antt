@@ -8,8 +8,8 @@ use Rattle.regtypes.specs.declared.image_form.ImageForm.{ImageForm}
 use Rattle.regtypes.specs.declared.image_form.ImageForm.TheVariants as two
 use Rattle.regtypes.specs.Typing.{Table, IsTyping}
 use Rattle.verifier.specs.ImageFile as flat
-use Rattle.span_images.specs.ImageFile as span
-use Rattle.span_images.specs.Typed.{IsTypable}
+use Rattle.images.specs.SpanFile as span
+use Rattle.images.specs.Typed.{IsTypable}
 use Rattle.images.specs.declared.file_form.FileForm.TheVariants.{Sbi1, Sbi2, Sbi3}
 use Rattle.images.specs.Laws.{AreFilesSubsumed}
 use Rattle.images.specs.Reading.{as_form_3, read_table}

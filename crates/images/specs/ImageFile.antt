@@ -1,4 +1,4 @@
--- Image files of all three forms: those of forms 1 and 2 as `verifier` has them, those of form 3 as `span_images`.
+-- Image files of all three forms: those of forms 1 and 2 as `verifier` has them, those of form 3 as `SpanFile`.
 use Rattle.std.specs.Prelude.{◌≢◌, ℕ, take, drop, List, [], ◌∷◌}
 use Rattle.decode.specs.declared.insn.Insn.{Insn}
 use Rattle.decode.specs.Slots.{slots_of}
@@ -14,8 +14,8 @@ use Rattle.verifier.specs.declared.fault.HeaderFault.{HeaderFault}
 use Rattle.verifier.specs.declared.fault.HeaderFault.TheVariants.{TooShort, Magic, StateLength, SlotCount, FileLength}
 use Rattle.verifier.specs.declared.fault.ImageError.{ImageError}
 use Rattle.verifier.specs.declared.fault.ImageError.TheVariants.{Memory, Header, Decode, Verify}
-use Rattle.span_images.specs.ImageFile as span
-use Rattle.span_images.specs.Typed as span_typed
+use Rattle.images.specs.SpanFile as span
+use Rattle.images.specs.Typed as span_typed
 use Rattle.span_verifier.specs.Verdict as span_verdict
 use Rattle.images.specs.declared.file_form.FileForm.{FileForm}
 use Rattle.images.specs.declared.file_form.FileForm.TheVariants.{Sbi1, Sbi2, Sbi3}

@@ -3,3 +3,6 @@ pub mod AnyImage
 pub mod ImageFile
 pub mod Reading
 pub mod Laws
+pub mod Typed
+pub mod SpanFile
+pub mod Inside

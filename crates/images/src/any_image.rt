@@ -1,8 +1,8 @@
 //! Images of any form.
 
 use crate::file_form::FileForm;
+use crate::span_image::SpanImage;
 use decode::Insn;
-use span_images::SpanImage;
 use verifier::Image;
 
 /// An image of one of the three forms.

@@ -5,11 +5,12 @@ ghost use Rattle.decode.specs.declared.insn.Insn.{Insn};
 ghost use Rattle.images.specs.AnyImage.{IsImageOf, code_of, form_of, state_of};
 ghost use Rattle.images.specs.ImageFile.{IsFile, IsRefusal, IsTypable, IsUnread};
 ghost use Rattle.images.specs.declared.file_form.FileForm.{FileForm};
-ghost use Rattle.span_images.specs.ImageFile.{magic_3};
+ghost use Rattle.images.specs.SpanFile.{magic_3};
 ghost use Rattle.verifier.specs.declared.fault.ImageError.TheVariants.{Memory};
 
 use crate::any_image::AnyImage;
 use crate::file_form::FileForm;
+use crate::span_loading::{load_span, span_parts};
 use decode::Insn;
 use std::alloc::Global;
 use verifier::ImageError;
@@ -33,7 +34,7 @@ pub fn parts(alloc: Global, bytes: &[u8]) -> Result<(Vec<Insn>, u16, FileForm), 
     ensures refused { IfErr result (IsUnread bytes.now) }
 {
     if is_form_3(bytes) {
-        match span_images::parts(alloc, bytes) {
+        match span_parts(alloc, bytes) {
             Ok((code, state_len)) => Ok((code, state_len, FileForm::Sbi3)),
             Err(error) => Err(error),
         }
@@ -54,7 +55,7 @@ pub fn load(alloc: Global, bytes: &[u8]) -> Result<AnyImage, ImageError>
     ensures refused { IfErr result (IsRefusal bytes.now) }
 {
     if is_form_3(bytes) {
-        match span_images::load(alloc, bytes) {
+        match load_span(alloc, bytes) {
             Ok(image) => Ok(AnyImage::Span(image)),
             Err(error) => Err(error),
         }

@@ -5,6 +5,7 @@ ghost use Rattle.images.specs.ImageFile.{IsFile};
 ghost use Rattle.verifier.specs.ImageFile.{IsUnwritten};
 
 use crate::file_form::FileForm;
+use crate::span_storing::span_file;
 use decode::Insn;
 use limits::STATE_BYTES;
 use regtypes::ImageForm;
@@ -26,6 +27,6 @@ pub fn file(
     match form {
         FileForm::Sbi1 => verifier::file(alloc, ImageForm::Sbi1, code, state_len),
         FileForm::Sbi2 => verifier::file(alloc, ImageForm::Sbi2, code, state_len),
-        FileForm::Sbi3 => span_images::file(alloc, code, state_len),
+        FileForm::Sbi3 => span_file(alloc, code, state_len),
     }
 }

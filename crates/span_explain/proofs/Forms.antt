@@ -7,7 +7,7 @@ use Rattle.decode.proofs.SlotLemmas.{length-slots_of}
 use Rattle.regtypes.specs.declared.image_form.ImageForm.{ImageForm}
 use Rattle.regtypes.specs.declared.image_form.ImageForm.TheVariants as two
 use Rattle.verifier.specs.ImageFile as flat
-use Rattle.span_images.specs.ImageFile as span
+use Rattle.images.specs.SpanFile as span
 use Rattle.images.specs.ImageFile.{IsFile}
 use Rattle.images.specs.declared.file_form.FileForm.{FileForm}
 use Rattle.images.specs.declared.file_form.FileForm.TheVariants.{Sbi1, Sbi2, Sbi3}

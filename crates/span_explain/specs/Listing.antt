@@ -19,7 +19,7 @@ use Rattle.spans.specs.Leaving.{operand_kind}
 use Rattle.spans.specs.Narrowing.{SpanPair, opposite, shown}
 use Rattle.explain.specs.Listing.{texts_below, verdict_text}
 use Rattle.explain.specs.Reads.{is_read}
-use Rattle.span_images.specs.ImageFile.{IsFile}
+use Rattle.images.specs.SpanFile.{IsFile}
 use Rattle.span_explain.specs.declared.cause.Cause.{Cause}
 use Rattle.span_explain.specs.declared.study.SpanStudy.{SpanStudy}
 use Rattle.span_explain.specs.Cause.{cause_of}

@@ -7,7 +7,7 @@
 //!
 //! The promise: the text is the listing (`specs/Listing`) of the frames and of the verdict that
 //! `span_verifier::frames_of` gives for the code. So code is called refused by a rule at a slot exactly where
-//! `span_images::load` refuses it so, and what is said of a register or of a word is what the least typing says; of
+//! `images::load_span` refuses it so, and what is said of a register or of a word is what the least typing says; of
 //! code that is refused, that of the slots up to the one that is named. [`explain_file`] writes the listing of an image file of any form: of form
 //! 1 or 2 that of the crate `explain`.
 //!

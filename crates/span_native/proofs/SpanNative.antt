@@ -9,7 +9,7 @@ use Rattle.helpers.specs.Effects.{Emitted}
 use Rattle.interp.specs.Words.{AreBytes}
 use Rattle.x86.specs.Machine.{State, Runs}
 use Rattle.span_calls.specs.Concrete.{array_size}
-use Rattle.span_images.specs.Typed.{IsTypable}
+use Rattle.images.specs.Typed.{IsTypable}
 use Rattle.native.specs.declared.opening.Opening.TheVariants as opening
 use Rattle.native.specs.Correct.{IsCalled}
 use Rattle.native.specs.Needs.{saved_in}

@@ -8,7 +8,7 @@ ghost use Rattle.span_native.specs.Code.{IsCode};
 use crate::code::Code;
 use crate::image_code::compile;
 use handlers::Handler;
-use span_images::SpanImage;
+use images::SpanImage;
 use std::alloc::{AllocError, Global};
 use verifier::Image;
 

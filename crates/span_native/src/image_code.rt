@@ -5,8 +5,8 @@ ghost use Rattle.span_native.specs.Correct.{IsSpanNative};
 ghost use Rattle.span_native.specs.Written.{IsCodeOf};
 
 use crate::slot_tasks::tasks_of;
+use images::SpanImage;
 use native::{Opening, write_tasks};
-use span_images::SpanImage;
 use span_verifier::lay_out;
 use std::alloc::{AllocError, Global};
 

@@ -16,8 +16,8 @@ use Rattle.verifier.specs.declared.fault.HeaderFault.TheVariants.{TooShort, Magi
 use Rattle.verifier.specs.declared.fault.ImageError.{ImageError}
 use Rattle.verifier.specs.declared.fault.ImageError.TheVariants.{Memory, Header, Decode, Verify}
 use Rattle.verifier.proofs.Files.{file_has, file_header, fields_of}
-use Rattle.span_images.specs.ImageFile as span
-use Rattle.span_images.proofs.Files as spans
+use Rattle.images.specs.SpanFile as span
+use Rattle.images.proofs.SpanFiles as spans
 use Rattle.images.specs.ImageFile as any
 use Rattle.images.specs.declared.file_form.FileForm.{FileForm}
 use Rattle.images.specs.declared.file_form.FileForm.TheVariants as form

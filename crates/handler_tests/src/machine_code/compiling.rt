@@ -136,7 +136,7 @@ fn sums_code_is_the_stored_code(rt: HostRuntime) -> Result<(), Fail> {
 #[test]
 fn lookup_code_is_the_stored_code(rt: HostRuntime) -> Result<(), Fail> {
     let alloc = rt.alloc();
-    let image = span_images::load(alloc, &LOOKUP)?;
+    let image = images::load_span(alloc, &LOOKUP)?;
     let code = span_native::compile(alloc, &image)?;
     assert!(rt; code.as_slice() == LOOKUP_CODE.as_slice());
     Ok(())

@@ -3,7 +3,7 @@
 use decode::{Insn, Reg, Size};
 use dense::Next;
 use helpers::{Effects, Who};
-use span_images::load;
+use images::load_span;
 use span_interp::{Program, call_flat, fill, refill, take};
 use span_steps::{ARRAY_BYTES, accesses_are_reached, perform, steps_are_performed};
 use std::process::Abort;
@@ -31,7 +31,7 @@ const WHO: Who = Who {
 #[test]
 fn next_message(rt: HostRuntime) -> Result<(), Fail> {
     let alloc = rt.alloc();
-    let image = load(alloc, &BEHIND)?;
+    let image = load_span(alloc, &BEHIND)?;
     let program = Program::new(alloc, image)?;
     assert_eq!(rt; program.image().count(), 6);
     let mut state = [7; 8];

@@ -1,8 +1,8 @@
 //! Calls of handlers that clang compiled, with the answers of the same C for the processor.
 
 use helpers::{Effects, Who};
+use images::load_span;
 use limits::{PAYLOAD_BYTES, PROCESSES};
-use span_images::load;
 use span_interp::{Program, call};
 use std::alloc::Global;
 use std::process::Abort;
@@ -480,7 +480,7 @@ fn answers(
     slots: &[[u8; 8]],
     rows: &[Row],
 ) -> Result<(), Fail> {
-    let image = load(alloc, &file_of(alloc, state_len, slots)?)?;
+    let image = load_span(alloc, &file_of(alloc, state_len, slots)?)?;
     let program = Program::new(alloc, image)?;
     let mut state = Vec::new(alloc);
     for _ in 0..state_len {

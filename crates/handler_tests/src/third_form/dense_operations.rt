@@ -2,7 +2,7 @@
 
 use assemble::assemble;
 use helpers::{Effects, Who};
-use span_images::{file, load};
+use images::{load_span, span_file};
 use span_interp::{Program, call};
 use std::alloc::Global;
 use std::process::Abort;
@@ -121,7 +121,7 @@ fn left_in_r6(alloc: Global, lines: &str) -> Result<u64, Fail> {
         "ldxdw r6, [r1+0]\nldxdw r7, [r1+8]\n{lines}\nmov r0, r6\nexit\n"
     )?;
     let code = assemble(alloc, &text)?;
-    let image = load(alloc, &file(alloc, &code, 0)?)?;
+    let image = load_span(alloc, &span_file(alloc, &code, 0)?)?;
     let program = Program::new(alloc, image)?;
     if program.state_len() != 0 {
         return Err("the handler has a state")?;

@@ -1,7 +1,7 @@
 //! Image files of form 3, their verdicts and their frames.
 
+use images::load_span;
 use limits::SLOTS;
-use span_images::load;
 use span_verifier::Frames;
 use spans::{Kind, Reach, Span};
 use std::alloc::Global;
@@ -71,7 +71,7 @@ enum Verdict {
 }
 
 fn verdict_of(alloc: Global, bytes: &[u8]) -> Verdict {
-    match load(alloc, bytes) {
+    match load_span(alloc, bytes) {
         Ok(image) => Verdict::Accepted(image.count()),
         Err(ImageError::Header(fault)) => Verdict::Header(fault.number()),
         Err(ImageError::Decode { rule, slot }) => Verdict::Decode(rule.number(), slot),
@@ -334,7 +334,7 @@ const SHORT_OR_LONG: [[u8; 8]; 5] = [
 #[test]
 fn frames(rt: HostRuntime) -> Result<(), Fail> {
     let alloc = rt.alloc();
-    let image = load(alloc, &file_of(alloc, 0x33, 8, &SHORT_OR_LONG)?)?;
+    let image = load_span(alloc, &file_of(alloc, 0x33, 8, &SHORT_OR_LONG)?)?;
     let frames = image.frames(alloc)?;
     is_known(&rt, &frames, 0, 3, Kind::Num(Span { lo: 0, hi: 256 }));
     is_known(&rt, &frames, 1, 3, Kind::Num(Span { lo: 8, hi: 256 }));

@@ -1,5 +1,5 @@
 use Rattle.std.proofs.Common.{rules, ◌≡◌, ◌≢◌, take}
-use Rattle.span_images.specs.ImageFile.{magic_3}
+use Rattle.images.specs.SpanFile.{magic_3}
 use Rattle.images.proofs.Files.{flat_failed, flat_loaded, flat_refusal, span_refusal}
 use Rattle.images.proofs.loading.load.Goals as goal
 

@@ -1,5 +1,5 @@
 use Rattle.std.proofs.Common.{rules, ◌≡◌, ◌≢◌, take}
-use Rattle.span_images.specs.ImageFile.{magic_3}
+use Rattle.images.specs.SpanFile.{magic_3}
 use Rattle.images.proofs.Files.{flat_unheard, flat_unread, span_unread}
 use Rattle.images.proofs.loading.parts.Goals as goal
 

@@ -4,7 +4,7 @@ use Rattle.limits.specs.declared.TheConstants.{SLOTS}
 use Rattle.decode.specs.Slots.{slots_of}
 use Rattle.explain.specs.Listing as flat
 use Rattle.verifier.specs.ImageFile as file
-use Rattle.span_images.specs.ImageFile.{magic_3}
+use Rattle.images.specs.SpanFile.{magic_3}
 use Rattle.images.specs.ImageFile.{IsUnread}
 use Rattle.images.proofs.Files.{flat_unread}
 use Rattle.span_explain.specs.FileListing.{IsFileExplained}

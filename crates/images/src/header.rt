@@ -1,8 +1,8 @@
 //! The header of an image file of form 3.
 
 ghost use Rattle.std.specs.Prelude.{◌≡◌, IfOk, IfErr};
-ghost use Rattle.span_images.specs.ImageFile.{IsHeaderFault, magic_3};
-ghost use Rattle.span_images.specs.Inside.Header.{IsSound};
+ghost use Rattle.images.specs.SpanFile.{IsHeaderFault, magic_3};
+ghost use Rattle.images.specs.Inside.Header.{IsSound};
 ghost use Rattle.verifier.specs.Inside.Header.{HasHeader, header_bytes};
 
 use byteorder::{ByteOrder, LittleEndian};

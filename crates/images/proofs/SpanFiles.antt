@@ -21,9 +21,9 @@ use Rattle.verifier.specs.Inside.Header.{HasHeader, header_bytes}
 use Rattle.verifier.proofs.Files.{Fields, fields_of, header_once}
 use Rattle.span_verifier.specs.Verdict.{IsFault}
 use Rattle.span_verifier.proofs.Forms.{one_refusal_3}
-use Rattle.span_images.specs.Inside.Header.{IsSound}
-use Rattle.span_images.specs.ImageFile.{HasFault, IsCodeFault, IsFile, IsHeaderFault, IsOneFileRefusal, magic_3}
-use Rattle.span_images.specs.Typed.{IsTypable}
+use Rattle.images.specs.Inside.Header.{IsSound}
+use Rattle.images.specs.SpanFile.{HasFault, IsCodeFault, IsFile, IsHeaderFault, IsOneFileRefusal, magic_3}
+use Rattle.images.specs.Typed.{IsTypable}
 
 -- ---- the first fault
 

@@ -1,7 +1,7 @@
-//! Instructions to image files.
+//! Instructions to image files of form 3.
 
 ghost use Rattle.std.specs.Prelude.{◌≤◌, IfOk, IfErr};
-ghost use Rattle.span_images.specs.ImageFile.{IsFile};
+ghost use Rattle.images.specs.SpanFile.{IsFile};
 ghost use Rattle.verifier.specs.ImageFile.{IsUnwritten};
 
 use crate::header::write_header;
@@ -11,8 +11,8 @@ use std::alloc::Global;
 use verifier::{HeaderFault, ImageError};
 
 /// The image file of form 3 of these instructions with a state of this length, at most 1,024 bytes. They are
-/// not verified; `parts` gives them back.
-pub fn file(alloc: Global, code: &[Insn], state_len: u16) -> Result<Vec<u8>, ImageError>
+/// not verified; `span_parts` gives them back.
+pub fn span_file(alloc: Global, code: &[Insn], state_len: u16) -> Result<Vec<u8>, ImageError>
     requires { state_len ≤ STATE_BYTES }
     ensures written { IfOk result (λ v. IsFile code.now state_len v.items) }
     ensures refused { IfErr result (IsUnwritten code.now) }

@@ -1,7 +1,7 @@
 use Rattle.std.proofs.Common.{rules}
 use Rattle.verifier.specs.declared.fault.HeaderFault.TheVariants.{Magic, StateLength, SlotCount, FileLength}
-use Rattle.span_images.proofs.Files.{too_short, stops, passes, starts_broken}
-use Rattle.span_images.proofs.header.read_header.Goals as goal
+use Rattle.images.proofs.SpanFiles.{too_short, stops, passes, starts_broken}
+use Rattle.images.proofs.header.read_header.Goals as goal
 
 pub returns-then-bytes-lt-HEADER-clause-refused : goal.returns-then-bytes-lt-HEADER-clause-refused
 returns-then-bytes-lt-HEADER-clause-refused c = too_short c.args.bytes.now (search rules)

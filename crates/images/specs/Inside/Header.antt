@@ -2,7 +2,7 @@
 use Rattle.std.specs.Prelude.{◌≡◌, ◌<◌, ◌≤◌, ℕ, ◌*◌, length, List}
 use Rattle.limits.specs.declared.TheConstants.{SLOTS, STATE_BYTES}
 use Rattle.verifier.specs.declared.header.FileHeader.{FileHeader}
-use Rattle.span_images.specs.ImageFile.{magic_3}
+use Rattle.images.specs.SpanFile.{magic_3}
 
 -- a header without a fault
 pub record IsSound (h : FileHeader) (rest : List ℕ) : Type 0 where

@@ -1,20 +1,20 @@
-//! Image files to images.
+//! Image files of form 3 to images.
 
 ghost use Rattle.std.specs.Prelude.{◌≡◌, ℕ, List, IfOk, IfErr};
 ghost use Rattle.decode.specs.declared.insn.Insn.{Insn};
-ghost use Rattle.span_images.specs.ImageFile.{IsFile, IsRefusal, IsUnread};
-ghost use Rattle.span_images.specs.Typed.{IsImageOf, IsTypable};
+ghost use Rattle.images.specs.SpanFile.{IsFile, IsRefusal, IsUnread};
+ghost use Rattle.images.specs.Typed.{IsImageOf, IsTypable};
 ghost use Rattle.verifier.specs.declared.fault.ImageError.TheVariants.{Memory};
 
 use crate::header::{HEADER, read_header};
-use crate::image::{SpanImage, verified};
+use crate::span_image::{SpanImage, verified};
 use decode::{DecodeError, Insn, decode};
 use span_verifier::VerifyError;
 use std::alloc::Global;
 use verifier::ImageError;
 
-/// The instructions of an image file, and the length of its state. The code is not verified.
-pub fn parts(alloc: Global, bytes: &[u8]) -> Result<(Vec<Insn>, u16), ImageError>
+/// The instructions of an image file of form 3, and the length of its state. The code is not verified.
+pub fn span_parts(alloc: Global, bytes: &[u8]) -> Result<(Vec<Insn>, u16), ImageError>
     // What is read is written so.
     ensures found { IfOk result (λ p. IsFile p.0.items p.1 bytes.now) }
     // What is written so is read, unless memory runs out.
@@ -32,16 +32,16 @@ pub fn parts(alloc: Global, bytes: &[u8]) -> Result<(Vec<Insn>, u16), ImageError
     }
 }
 
-/// The image of a file of typable code. The first fault is named, in the order header, code, rules of
+/// The image of a file of form 3 of typable code. The first fault is named, in the order header, code, rules of
 /// the verifier.
-pub fn load(alloc: Global, bytes: &[u8]) -> Result<SpanImage, ImageError>
+pub fn load_span(alloc: Global, bytes: &[u8]) -> Result<SpanImage, ImageError>
     ensures found { IfOk result (λ image. IsFile image.code image.len bytes.now) }
     ensures typable { IfOk result (λ image. IsTypable image.code image.len) }
     // A file of typable code is loaded, unless memory runs out.
     ensures only { (code : List Insn) (len : ℕ) → IsFile code len bytes.now → IsTypable code len → IfOk result (IsImageOf code len) × IfErr result (λ e. e ≡ Memory) }
     ensures refused { IfErr result (IsRefusal bytes.now) }
 {
-    let (code, state_len) = parts(alloc, bytes)?;
+    let (code, state_len) = span_parts(alloc, bytes)?;
     let (_header, rest) = bytes.split_at(HEADER);
     let Ok(encoded) = Vec::from_slice(alloc, rest) else {
         return Err(ImageError::Memory);

@@ -3,8 +3,8 @@ use Rattle.decode.specs.declared.insn.Insn.{Insn}
 use Rattle.span_verifier.specs.declared.framing.Frames.{Frames}
 use Rattle.span_verifier.specs.Typing.{table_of}
 use Rattle.span_verifier.specs.Verdict.{IsFramesOf}
-use Rattle.span_images.specs.Typed.{IsTypable}
-use Rattle.span_images.proofs.image.verified.Goals as goal
+use Rattle.images.specs.Typed.{IsTypable}
+use Rattle.images.proofs.span_image.verified.Goals as goal
 
 -- code that has frames is typable
 typable : (code code' : List Insn) (len : ℕ) (frames : Frames) → code ≡ code' → IsFramesOf code len frames → IsTypable code' len

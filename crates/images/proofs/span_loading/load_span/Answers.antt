@@ -2,9 +2,9 @@ use Rattle.std.proofs.Common.{ℕ, List, sym, subst, ◌∙◌}
 use Rattle.decode.specs.declared.insn.Insn.{Insn}
 use Rattle.span_verifier.specs.declared.fault.VerifyError.{VerifyError}
 use Rattle.span_verifier.specs.Verdict.{IsWhy}
-use Rattle.span_images.specs.Typed.{IsTypable}
-use Rattle.span_images.proofs.Files.{code_behind, file_once, not_typable, short_code}
-use Rattle.span_images.proofs.loading.load.Goals as goal
+use Rattle.images.specs.Typed.{IsTypable}
+use Rattle.images.proofs.SpanFiles.{code_behind, file_once, not_typable, short_code}
+use Rattle.images.proofs.span_loading.load_span.Goals as goal
 
 pub verified-requires-clause-slots : goal.verified-requires-clause-slots
 verified-requires-clause-slots c = short_code c.in_ok-code.code.items c.in_ok-code.state_len c.args.bytes.now c.in_ok-code.ensures.found

@@ -4,7 +4,7 @@ ghost use Rattle.std.specs.Prelude.{◌≡◌, ◌≤◌, MatchResult, length};
 ghost use Rattle.std.specs.List.{AllByRecursion};
 ghost use Rattle.decode.specs.Encoding.{Fits, encoding};
 ghost use Rattle.decode.specs.Slots.{slots_of};
-ghost use Rattle.span_images.specs.Typed.{IsImageOf};
+ghost use Rattle.images.specs.Typed.{IsImageOf};
 ghost use Rattle.span_verifier.specs.Verdict.{IsWhy};
 
 use decode::Insn;
@@ -28,7 +28,7 @@ impl Model for SpanImage {
     ghost use Rattle.limits.specs.declared.TheConstants.{SLOTS, STATE_BYTES};
     ghost use Rattle.decode.specs.Encoding.{Fits, encoding};
     ghost use Rattle.decode.specs.Slots.{slots_of};
-    ghost use Rattle.span_images.specs.Typed.{Typed, IsTypable};
+    ghost use Rattle.images.specs.Typed.{Typed, IsTypable};
 
     ghost Value = { Typed };
 
@@ -45,7 +45,7 @@ impl SpanImage {
     ghost use Rattle.std.specs.List.{AllByRecursion};
     ghost use Rattle.decode.specs.Encoding.{Fits, encoding};
     ghost use Rattle.decode.specs.Slots.{slots_of};
-    ghost use Rattle.span_images.specs.Typed.{IsTypable};
+    ghost use Rattle.images.specs.Typed.{IsTypable};
     ghost use Rattle.span_verifier.specs.Verdict.{IsFramesOf};
 
     /// How many instructions it has. A wide one counts once.

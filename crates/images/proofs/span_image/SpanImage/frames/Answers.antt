@@ -3,7 +3,7 @@ use Rattle.decode.specs.declared.insn.Insn.{Insn}
 use Rattle.span_verifier.specs.declared.fault.VerifyError.{VerifyError}
 use Rattle.span_verifier.specs.declared.fault.VerifyError.TheVariants.{Fault}
 use Rattle.span_verifier.specs.Verdict.{IsWhy}
-use Rattle.span_images.proofs.image.SpanImage.frames.Goals as goal
+use Rattle.images.proofs.span_image.SpanImage.frames.Goals as goal
 
 pub unreachable-requires : goal.unreachable-requires
 unreachable-requires c =

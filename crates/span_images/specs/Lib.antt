@@ -1,3 +1,0 @@
-pub mod Typed
-pub mod ImageFile
-pub mod Inside
