@@ -21,7 +21,7 @@ use regtypes::{Rule, attributes_from, bytes_in, signed_bytes_in};
 use spans::{Cells, Kind, Span};
 
 /// What is known behind an instruction; nothing goes on where there is no frame.
-#[derive(Clone, Copy, Debug, PartialEq, Eq)]
+#[derive(Clone, Copy)]
 pub struct Leaving {
     /// On the way to the instruction behind it.
     pub next: Option<Cells>,
