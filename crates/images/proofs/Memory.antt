@@ -21,7 +21,7 @@ use Rattle.spans.specs.Leaving.{HasPayload, HasSized}
 use Rattle.spans.proofs.Tests.{both}
 use Rattle.spans.proofs.Access.{whole_word-is_reached}
 use Rattle.spans.proofs.Order.{LeqKind-refl, Leq-refl}
-use Rattle.span_rules.proofs.Exact.{reached-within}
+use Rattle.span_verifier.proofs.Exact.{reached-within}
 use Rattle.images.specs.Reading.{read_kind}
 use Rattle.images.proofs.Reading.{IsAnyStack, any_word, below, stays}
 

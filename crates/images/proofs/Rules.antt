@@ -46,8 +46,8 @@ use Rattle.spans.proofs.Monotone.{operand-is}
 use Rattle.spans.proofs.Narrowing.{WithinWay, where_met-inside}
 use Rattle.spans.proofs.Order.{LeqKind-refl, Leq-refl, within-refl}
 use Rattle.spans.proofs.Tests.{both}
-use Rattle.span_rules.specs.Rules.{frame_pointer_rule, frame_rule}
-use Rattle.span_rules.proofs.Exact.{exact, both as both_kept}
+use Rattle.span_verifier.specs.Rules.{frame_pointer_rule, frame_rule}
+use Rattle.span_verifier.proofs.Exact.{exact, both as both_kept}
 use Rattle.images.specs.Reading.{read_frame, read_kind}
 use Rattle.images.specs.Laws.{AreRulesSubsumed}
 use Rattle.images.proofs.Reading.{any_stack, any_word, below, helped, read_frame-is, read_kinds, register, written}

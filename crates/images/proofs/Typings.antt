@@ -18,9 +18,9 @@ use Rattle.regtypes.proofs.Typings.{typing_keeps, typing_leads, within}
 use Rattle.spans.specs.Frame.{Frame, entry_frame}
 use Rattle.spans.specs.Leaving.{LeqWay}
 use Rattle.spans.proofs.Order.{Leq-trans}
-use Rattle.span_rules.specs.Leaving.{ways}
-use Rattle.span_rules.specs.Rules.{frame_pointer_rule, frame_rule}
-use Rattle.span_rules.proofs.Exact.{exact, neither}
+use Rattle.span_verifier.specs.Leaving.{ways}
+use Rattle.span_verifier.specs.Rules.{frame_pointer_rule, frame_rule}
+use Rattle.span_verifier.proofs.Exact.{exact, neither}
 use Rattle.span_calls.specs.Typing.{Enters, IsAllowed, target}
 use Rattle.span_verifier.specs.Inside.Pass.{AreFitting}
 use Rattle.span_verifier.specs.Typing.{IsPlaced, IsTyped}

@@ -13,8 +13,8 @@ use Rattle.regtypes.specs.Leaving.{next, taken}
 use Rattle.regtypes.specs.Typing.{Table as FlatTable, IsTyping}
 use Rattle.spans.specs.Frame.{Leq}
 use Rattle.spans.specs.Leaving.{LeqWay}
-use Rattle.span_rules.specs.Rules.{broken_rule}
-use Rattle.span_rules.specs.Leaving.{ways}
+use Rattle.span_verifier.specs.Rules.{broken_rule}
+use Rattle.span_verifier.specs.Leaving.{ways}
 use Rattle.span_calls.specs.Typing.{Table}
 use Rattle.span_verifier.specs.Form.{Below}
 use Rattle.span_verifier.specs.Typing.{IsTyped, span_form}

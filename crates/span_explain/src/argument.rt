@@ -8,7 +8,7 @@ use crate::cause::{Cause, WordFault};
 use crate::flaw::{Flaw, flawed_word};
 use decode::Insn;
 use regtypes::Region;
-use span_rules::is_inside;
+use span_verifier::is_inside;
 use spans::{Cells, Kind};
 
 /// A word of a payload that is no number.

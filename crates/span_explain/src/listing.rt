@@ -6,7 +6,7 @@ ghost use Rattle.std.specs.Option.{option_map};
 ghost use Rattle.decode.specs.Encoding.{Fits};
 ghost use Rattle.decode.specs.Slots.{slots_of};
 ghost use Rattle.regtypes.specs.Rules.{rule_number};
-ghost use Rattle.span_rules.specs.Transfer.{frame_of};
+ghost use Rattle.span_verifier.specs.Transfer.{frame_of};
 ghost use Rattle.span_explain.specs.Listing.{IsListed, broken_text, listing, notes_text, refusal_text, slot_text};
 
 use crate::cause::{Cause, cause_of};

@@ -2,7 +2,7 @@
 
 ghost use Rattle.std.specs.Prelude.{◌≡◌, ◌<◌, ◌≤◌, ◌++◌, Some, OnOk, string_bytes};
 ghost use Rattle.std.specs.Option.{option_map};
-ghost use Rattle.span_rules.specs.Transfer.{frame_of};
+ghost use Rattle.span_verifier.specs.Transfer.{frame_of};
 ghost use Rattle.spans.specs.Frame.{kind_at};
 ghost use Rattle.span_explain.specs.Listing.{dead_text, kept_text, known_text, read_text, register_text, stack_text, ways_known, ways_text, word_at, word_line};
 
@@ -11,7 +11,7 @@ use decode::{Insn, Reg};
 use explain::is_read;
 use limits::REGISTERS;
 use regtypes::{ImageForm, Region, bytes_in};
-use span_rules::{is_inside, operand_kind, opposite, shown, whole_word};
+use span_verifier::{is_inside, operand_kind, opposite, shown, whole_word};
 use spans::{Cells, Kind, Span};
 use std::alloc::AllocError;
 

@@ -27,7 +27,7 @@ impl SpanStudy {
     ghost use Rattle.std.specs.Prelude.{◌≡◌};
     ghost use Rattle.std.specs.Option.{option_map};
     ghost use Rattle.decode.specs.Slots.{insn_at};
-    ghost use Rattle.span_rules.specs.Transfer.{frame_of};
+    ghost use Rattle.span_verifier.specs.Transfer.{frame_of};
     ghost use Rattle.span_explain.specs.Study.{frame_at};
 
     /// The instruction that begins at a slot.

@@ -35,7 +35,7 @@ use Rattle.span_verifier.proofs.Forms.{typing_of}
 use Rattle.regtypes.specs.Flow.{flow_of}
 use Rattle.regtypes.specs.Rules.{first_broken}
 use Rattle.regtypes.specs.Typing.{flow_tests}
-use Rattle.span_rules.specs.Rules.{frame_pointer_rule}
+use Rattle.span_verifier.specs.Rules.{frame_pointer_rule}
 use Rattle.span_steps.specs.Acts.{insn_act, IsReached}
 use Rattle.span_steps.specs.Machine.{machine}
 use Rattle.span_steps.specs.Mirrors.{Mirrors}

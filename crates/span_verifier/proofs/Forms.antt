@@ -17,8 +17,8 @@ use Rattle.spans.specs.Frame.{Frame, IsFrame, Leq, LeqKind}
 use Rattle.spans.specs.Leaving.{LeqWay}
 use Rattle.spans.proofs.Order.{Leq-refl, Leq-trans}
 use Rattle.spans.proofs.Monotone.{monotone}
-use Rattle.span_rules.specs.Rules.{broken_rule, frame_pointer_rule, frame_rule}
-use Rattle.span_rules.proofs.Exact.{both, exact}
+use Rattle.span_verifier.specs.Rules.{broken_rule, frame_pointer_rule, frame_rule}
+use Rattle.span_verifier.proofs.Exact.{both, exact}
 use Rattle.span_calls.specs.Typing.{Table, IsAllowed, IsTyping, target}
 use Rattle.span_calls.specs.Typing as calls
 use Rattle.span_calls.proofs.Entry.{calls-shown}

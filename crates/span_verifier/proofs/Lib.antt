@@ -1,3 +1,8 @@
+pub mod Exact
+pub mod Ones
+pub mod Wiping
+pub mod Words
+pub mod Stores
 pub mod Layouts
 pub mod Passes
 pub mod Forms

@@ -22,8 +22,8 @@ use Rattle.spans.specs.Frame.{Frame, kind_at}
 use Rattle.spans.specs.Leaving.{Ways}
 use Rattle.spans.proofs.Tests.{parts}
 use Rattle.span_calls.specs.Typing.{distance, target}
-use Rattle.span_rules.specs.Leaving.{ways}
-use Rattle.span_rules.specs.Transfer.{frame_of}
+use Rattle.span_verifier.specs.Leaving.{ways}
+use Rattle.span_verifier.specs.Transfer.{frame_of}
 use Rattle.span_verifier.specs.Layout.{Follows}
 use Rattle.span_verifier.specs.Inside.Pass.{AreFitting, IsWayWithin}
 use Rattle.span_verifier.specs.Typing.{table_of}

@@ -15,9 +15,9 @@ use Rattle.spans.specs.Leaving.{Leaves, Ways}
 use Rattle.spans.proofs.Order.{Leq-refl, is-least-join}
 use Rattle.spans.proofs.Entry.{entered}
 use Rattle.spans.proofs.Closed.{closed}
-use Rattle.span_rules.specs.Rules.{broken_rule, frame_pointer_rule, frame_rule}
-use Rattle.span_rules.specs.Leaving.{ways}
-use Rattle.span_rules.proofs.Exact.{exact, neither}
+use Rattle.span_verifier.specs.Rules.{broken_rule, frame_pointer_rule, frame_rule}
+use Rattle.span_verifier.specs.Leaving.{ways}
+use Rattle.span_verifier.proofs.Exact.{exact, neither}
 use Rattle.span_calls.specs.Typing.{Table, IsAllowed, target}
 use Rattle.span_calls.specs.Typing as calls
 use Rattle.span_verifier.specs.Form.{Below}

@@ -1,3 +1,7 @@
+pub mod Rules
+pub mod Leaving
+pub mod Exactness
+pub mod Transfer
 pub mod Form
 pub mod Least
 pub mod Layout

@@ -9,11 +9,11 @@ ghost use Rattle.span_verifier.specs.Layout.{Follows};
 ghost use Rattle.span_verifier.specs.Least.{IsLeast};
 
 use crate::leading::leads;
+use crate::leaving::{Leaving, transfer};
 use crate::merging::spread;
 use decode::Insn;
 use limits::SLOTS;
 use regtypes::Rule;
-use span_rules::{Leaving, transfer};
 use spans::Cells;
 use std::alloc::{AllocError, Global};
 

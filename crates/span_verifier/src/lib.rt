@@ -1,5 +1,5 @@
-//! The verifier of form 3 of images: one pass over the slots gives the least typing of code, or the
-//! one slot and rule of its refusal.
+//! The verifier of form 3 of images: its local rules by number, and one pass over the slots that gives
+//! the least typing of code, or the one slot and rule of its refusal.
 //!
 //! [`frames_of`] makes the pass: it tells what is known at each slot of registers and of the stack's
 //! words, also of code that is refused, and [`verify`] answers the frames of typable code alone. Code is
@@ -8,6 +8,13 @@
 //! comes to a fault ([`typed_calls_are_shown`]). A refusal names the first slot whose frame breaks a
 //! rule, and the least rule that it breaks; no other slot or rule could have been named
 //! ([`refusals_are_one`]).
+//!
+//! [`transfer`] is the rule of one instruction: it answers the frames that leave it on its two ways, none
+//! on a way that no number takes, or the least of the rules V3 to V10 that is broken. `specs/Rules` says
+//! which that is and `specs/Leaving` what leaves; [`rules_are_exact`] that both say what the definition of
+//! form 3 says, which knows only whether something leaves. Its parts have each the equation that its
+//! definition is: [`alu_rule`] and [`alu_kind`] for arithmetic, [`shown`] for conditions, [`load_rule`],
+//! [`loaded`], [`store_rule`] and [`stored`] for memory, [`call_rule`] and [`answered`] for helpers.
 //!
 //! What a pass needs of a form of images stands by itself, so that another form can be verified the same
 //! way. `specs/Form` says what a form gives of a slot and which laws it has to keep, and `specs/Least`
@@ -21,21 +28,44 @@
 //! let slots = lay_out(alloc, &code)?;
 //! // the first instruction jumps to one that begins at a later slot, and another begins behind it
 //! leads(&slots, 0, &code[0])?;
+//! // r3 is a number from 0 to 256, and r2 the state's first byte: their sum is a place of the state
+//! let add = Insn::Alu { op: AluOp::Add, width: Width::W64, dst: r2, operand: Operand::Reg(r3) };
+//! let left = transfer(&add, &Cells::entry(), 257);
 //! ```
 #![tactic(auto)]
 
+mod access;
+mod alu;
+mod call;
+mod distance;
+mod exactness;
 mod fault;
 mod framing;
 mod judging;
 mod laws;
 mod layout;
 mod leading;
+mod leaving;
+mod memory;
 mod merging;
+mod narrowing;
+mod results;
+mod rules;
+mod sums;
 mod verifying;
 
+pub use access::{is_inside, whole_word, wiped, words_rule};
+pub use alu::{alu_kind, alu_rule, any_number, extended, operand_kind};
+pub use call::{answered, call_rule};
+pub use exactness::rules_are_exact;
 pub use fault::VerifyError;
 pub use framing::{Frames, frames_of};
 pub use laws::{form_3_keeps_laws, refusals_are_one, typed_calls_are_shown, typings_are_typings};
 pub use layout::lay_out;
 pub use leading::leads;
+pub use leaving::{Leaving, transfer};
+pub use memory::{load_rule, loaded, store_rule, stored};
+pub use narrowing::{opposite, shown};
+pub use results::{result, whole};
+pub use rules::{argument_rule, exit_rule, lesser, number_rule, value_rule};
 pub use verifying::verify;

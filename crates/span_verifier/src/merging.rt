@@ -4,13 +4,13 @@ ghost use Rattle.std.specs.Prelude.{◌≡◌, ◌<◌, ◌+◌, ◌≤ℤ◌, p
 ghost use Rattle.std.specs.Option.{option_map};
 ghost use Rattle.decode.specs.Slots.{size_of};
 ghost use Rattle.span_calls.specs.Typing.{distance, target};
-ghost use Rattle.span_rules.specs.Transfer.{frame_of, frames_of};
+ghost use Rattle.span_verifier.specs.Transfer.{frame_of, frames_of};
 ghost use Rattle.span_verifier.specs.Inside.Pass.{IsMerged, IsSpread, IsWayMerged, IsWayWithin};
 ghost use Rattle.span_verifier.specs.Typing.{table_of};
 
+use crate::leaving::Leaving;
 use decode::Insn;
 use limits::SLOTS;
-use span_rules::Leaving;
 use spans::{Cells, join};
 use std::alloc::{AllocError, Global};
 

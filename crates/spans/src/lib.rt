@@ -1,6 +1,6 @@
 //! What is known of registers and of the stack's words in form 3 of images, and why a step from what
-//! fits it is no fault. Of its code there are kinds, frames, their order and their join; `span_rules` has
-//! the rules in code, and `span_verifier` goes through a handler by them.
+//! fits it is no fault. Of its code there are kinds, frames, their order and their join; `span_verifier`
+//! has the rules in code, and goes through a handler by them.
 //!
 //! A number is known to lie between two others, and a place to have one of the distances between two
 //! others from its region's first byte; each of the stack's 64 words has such a kind too. So a handler

@@ -3,7 +3,7 @@ use Rattle.std.specs.Option.{option_map}
 use Rattle.std.proofs.lemmas.Result.{on_ok_weaker}
 use Rattle.limits.specs.declared.TheConstants.{REGISTERS}
 use Rattle.spans.specs.Frame.{kind_at}
-use Rattle.span_rules.specs.Transfer.{frame_of}
+use Rattle.span_verifier.specs.Transfer.{frame_of}
 use Rattle.explain.specs.Listing.{texts_below}
 use Rattle.explain.proofs.Texts.{joined, texts_more, texts_none}
 use Rattle.span_explain.specs.Listing.{known_text, register_text, stack_text}

@@ -1,5 +1,0 @@
-pub mod Exact
-pub mod Ones
-pub mod Wiping
-pub mod Words
-pub mod Stores

@@ -1,4 +1,0 @@
-pub mod Rules
-pub mod Leaving
-pub mod Laws
-pub mod Transfer

@@ -1,0 +1,76 @@
+//! The rules that a kind of a register or of a word breaks.
+
+ghost use Rattle.std.specs.Prelude.{◌≡◌};
+ghost use Rattle.span_verifier.specs.Rules.{argument_rule, exit_rule, lesser, number_rule, unless, value_rule};
+
+use regtypes::Rule;
+use spans::Kind;
+
+/// The lesser of two rules, where both are broken.
+pub fn lesser(first: Option<Rule>, second: Option<Rule>) -> Option<Rule>
+    ensures { result ≡ lesser first second }
+{
+    match first {
+        None => second,
+        Some(rule) => match second {
+            None => Some(rule),
+            Some(other) => {
+                if rule.number() <= other.number() {
+                    Some(rule)
+                } else {
+                    Some(other)
+                }
+            }
+        },
+    }
+}
+
+/// The rule, where a test fails.
+pub fn unless(holds: bool, rule: Rule) -> Option<Rule>
+    ensures { result ≡ unless holds rule }
+{
+    if holds { None } else { Some(rule) }
+}
+
+/// What is read as a number has to be one.
+pub fn number_rule(kind: Kind) -> Option<Rule>
+    ensures { result ≡ number_rule kind }
+{
+    match kind {
+        Kind::Unset => Some(Rule::V3),
+        Kind::Num(_) => None,
+        Kind::Place(_, _) => Some(Rule::V5),
+    }
+}
+
+/// What is copied has to be set.
+pub fn value_rule(kind: Kind) -> Option<Rule>
+    ensures { result ≡ value_rule kind }
+{
+    match kind {
+        Kind::Unset => Some(Rule::V3),
+        Kind::Num(_) => None,
+        Kind::Place(_, _) => None,
+    }
+}
+
+/// A helper's argument has to be what it wants.
+pub fn argument_rule(rule: Option<Rule>) -> Option<Rule>
+    ensures { result ≡ argument_rule rule }
+{
+    match rule {
+        None => None,
+        Some(_) => Some(Rule::V9),
+    }
+}
+
+/// r0 has to be a number at the end.
+pub fn exit_rule(kind: Kind) -> Option<Rule>
+    ensures { result ≡ exit_rule kind }
+{
+    match kind {
+        Kind::Unset => Some(Rule::V10),
+        Kind::Num(_) => None,
+        Kind::Place(_, _) => Some(Rule::V10),
+    }
+}
