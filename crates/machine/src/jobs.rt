@@ -10,7 +10,7 @@ use crate::arrival::Finished;
 use crate::machine::Machine;
 use handlers::Handler;
 use limits::ENTRIES;
-use replay::{Done, Job, Task, Ticket};
+use replay::{Done, Job, Ticket};
 use std::sync::Arc;
 use world::{Message, Packet, Refusal};
 
@@ -51,11 +51,19 @@ impl Machine {
         job.run()
     }
 
-    /// Whether the task is that of the job that its process has open. All that it takes is
-    /// compared, but not its serial number.
-    pub fn is_open(&self, task: &Task) -> bool
-        ensures { IsTrue result ↔ Matches self.now task.now }
+    /// The process that receives the message of a job, 1 to 15.
+    pub fn receiver_of(done: &Done) -> u8
+        ensures { result ≡ done.now.who.me }
     {
+        done.task().process()
+    }
+
+    /// Whether what came back is of the job that its process has open. All that the job took is
+    /// compared, but not its serial number.
+    pub fn is_open(&self, done: &Done) -> bool
+        ensures { IsTrue result ↔ Matches self.now done.now }
+    {
+        let task = done.task();
         let me = task.process();
         if !self.is_inside(me) {
             return false;
@@ -81,11 +89,10 @@ impl Machine {
         ensures step { Finishes self.old self.new done result }
         ensures calls { OnOk result (self.new.calls ≡ self.old.calls + 1) }
     {
-        let task = done.task();
-        if !self.is_open(task) {
+        if !self.is_open(&done) {
             return Err((Refusal::StaleJob, done));
         }
-        if self.is_up(task.process()) {
+        if self.is_up(Machine::receiver_of(&done)) {
             return self.commit(done);
         }
         self.recall(done)

@@ -18,7 +18,7 @@
 //! | `stepping` | `cause` and `step`: those of any call, by the method of its name |
 //! | `sending` | `input`, `transmit`, `copy`, `lose` |
 //! | `arriving` | `arrive` |
-//! | `jobs` | `run`, `finish`, `is_open` |
+//! | `jobs` | `run`, `finish`, `is_open`, `receiver_of` |
 //! | `saving` | `checkpoint`, `trim` |
 //! | `recovering` | `crash`, `recover`, `recover_alone` |
 //! | `replaying` | `replay_begin`, `resync` |

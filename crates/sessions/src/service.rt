@@ -118,12 +118,12 @@ impl Service {
         ensures bound { length self.new.entries ≤ ENTRIES }
     {
         if !self.journal.reserve() {
-            if self.machine.is_open(done.task()) {
+            if self.machine.is_open(&done) {
                 return Err((Refusal::Memory, done));
             }
             return Err((Refusal::StaleJob, done));
         }
-        let process = done.task().process();
+        let process = Machine::receiver_of(&done);
         // (machine/src/jobs.rt)
         let finished = self.machine.finish(done)?;
         let call = Brief::Finish { process };

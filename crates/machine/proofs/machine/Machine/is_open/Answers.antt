@@ -1,8 +1,9 @@
-use Rattle.std.proofs.Common.{rules, ◌≡◌, ℕ, ◌<◌, ◌-◌, arith, sym, ap, ◌∙◌, length, map, List, slice_index_or}
+use Rattle.std.proofs.Common.{rules, ◌≡◌, ℕ, ◌<◌, ◌-◌, arith, sym, ap, ◌∙◌, subst, length, map, List, slice_index_or}
 use Rattle.std.proofs.lemmas.Grind.{common_steps}
 use Rattle.std.proofs.lemmas.Bool.Decides.{nat_tests}
 use Rattle.std.proofs.lemmas.List.{get_or-map}
 use Rattle.handlers.specs.Image.{TheImage, image_in, the_image}
+use Rattle.machine.specs.Jobs.{Matches}
 use Rattle.machine.specs.Simulation.{TheMachine}
 use Rattle.machine.proofs.machine.Machine.is_open.Goals as goal
 use Rattle.machine.proofs.machine.Machine.is_open.Goals.{After-is_call_of}
@@ -16,23 +17,25 @@ at_place image_of items images p me x e are same inside at =
     ∙ ap image_of (sym at)
 
 -- the image that is compared
-stored : (c : After-is_call_of) → (e : TheImage) → slice_index_or c.args.self.now.images (c.args.task.now.who.me - 1) e ≡ the_image c.deref-image.result.now
+stored : (c : After-is_call_of) → (e : TheImage) → slice_index_or c.args.self.now.images (c.task-task.result.now.who.me - 1) e ≡ the_image c.deref-image.result.now
 stored c e =
     let inside : c.process-me.result - 1 < length c.self.inside.images.items = first_of (search rules, grind (arith, common_steps, nat_tests)) in
-    at_place image_in c.self.inside.images.items c.args.self.now.images c.process-me.result c.args.task.now.who.me c.index.result.now e (ap (λ (v : TheMachine). v.images) (sym c.self.view_is)) c.process-me.ensures inside c.index.ensures
+    at_place image_in c.self.inside.images.items c.args.self.now.images c.process-me.result c.task-task.result.now.who.me c.index.result.now e (ap (λ (v : TheMachine). v.images) (sym c.self.view_is)) c.process-me.ensures inside c.index.ensures
     ∙ ap the_image (sym c.deref-image.ensures)
 
 -- what the comparison of the images says of a part of them
-alike : {X : Type 0} (part : TheImage → X) (c : After-is_call_of) (e : TheImage) → part (the_image c.deref-image.result.now) ≡ part c.args.task.now.image → part (slice_index_or c.args.self.now.images (c.args.task.now.who.me - 1) e) ≡ part c.args.task.now.image
+alike : {X : Type 0} (part : TheImage → X) (c : After-is_call_of) (e : TheImage) → part (the_image c.deref-image.result.now) ≡ part c.task-task.result.now.image → part (slice_index_or c.args.self.now.images (c.task-task.result.now.who.me - 1) e) ≡ part c.task-task.result.now.image
 alike part c e same = ap part (stored c e) ∙ same
 
 pub returns : goal.returns
 returns c =
-    let t = c.args.task.now in
+    let t = c.task-task.result.now in
+    let m = c.args.self.now in
+    let same = c.task-task.ensures in
     let g = (goal.at.returns c).After-is_call_of in (
       λ yes.
           let k = c.is_call_of.ensures.0 yes in
-          record {
+          subst (Matches m) same (record {
             inside = first_of (search rules, grind (arith, common_steps, nat_tests));
             within = first_of (search rules, grind (arith, common_steps, nat_tests));
             message = first_of (search rules, grind (arith, common_steps));
@@ -43,8 +46,9 @@ returns c =
             count = first_of (search rules, grind (arith, common_steps));
             code = λ e. alike (λ z. z.code) g e k.1;
             form = λ e. alike (λ z. z.form) g e k.0;
-          },
-      λ k.
+          }),
+      λ is_open.
+          let k = subst (Matches m) (sym same) is_open in
           let at = sym (stored g t.image) in
           c.is_call_of.ensures.1 (ap (λ (z : TheImage). z.form) at ∙ k.form t.image, ap (λ (z : TheImage). z.code) at ∙ k.code t.image),
     )
