@@ -369,7 +369,7 @@ impl Wanted {
 }
 
 /// A word as it is shown: no letter that could move the cursor of a terminal, and not too long.
-#[derive(Clone, Copy, Debug)]
+#[derive(Clone, Copy)]
 struct Shown<'a>(&'a str);
 
 impl fmt::Display for Shown<'_> {
@@ -389,7 +389,7 @@ impl fmt::Display for Shown<'_> {
 }
 
 /// A letter that isn't ASCII, by its number.
-#[derive(Clone, Copy, Debug)]
+#[derive(Clone, Copy)]
 struct Beyond(char);
 
 impl fmt::Display for Beyond {

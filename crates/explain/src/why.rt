@@ -24,7 +24,7 @@ pub enum Why {
 }
 
 /// How a register comes to a slot: unset from this slot, or there is the reason why it is unset.
-#[derive(Clone, Copy, Debug, PartialEq, Eq)]
+#[derive(Clone, Copy)]
 enum Arrival {
     Unset(usize),
     Reason(Why),

@@ -82,7 +82,7 @@ pub enum Mistake<'a> {
 }
 
 /// What stands behind the word of an order.
-#[derive(Clone, Copy, PartialEq, Eq, Debug)]
+#[derive(Clone, Copy, PartialEq, Eq)]
 enum Operand {
     Process,
     /// A process or the outside.
@@ -367,7 +367,7 @@ fn spelling(word: &str) -> Mistake<'_> {
 }
 
 /// A word as it is shown: no letter that could move the cursor of a terminal, and not too long.
-#[derive(Clone, Copy, Debug)]
+#[derive(Clone, Copy)]
 struct Shown<'a>(&'a str);
 
 impl fmt::Display for Shown<'_> {
@@ -387,7 +387,7 @@ impl fmt::Display for Shown<'_> {
 }
 
 /// A letter that isn't ASCII, by its number.
-#[derive(Clone, Copy, Debug)]
+#[derive(Clone, Copy)]
 struct Beyond(char);
 
 impl fmt::Display for Beyond {
