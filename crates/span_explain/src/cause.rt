@@ -252,6 +252,8 @@ fn out_by(frame: &Cells, access: Option<Access>, moved: Option<(Reg, i64)>) -> C
 fn out_cause(insn: &Insn, frame: &Cells) -> Cause
     ensures { result ≡ out_cause insn.now (kind_at frame.now.kinds) }
 {
+    let what = attributes_from(insn);
+    let other = out_by(frame, what.access, what.moved);
     match *insn {
         Insn::Alu {
             op: AluOp::Add,
@@ -259,10 +261,7 @@ fn out_cause(insn: &Insn, frame: &Cells) -> Cause
             dst,
             operand: Operand::Reg(src),
         } => moved_cause(dst, src, frame.kind(dst), frame.kind(src)),
-        _ => {
-            let what = attributes_from(insn);
-            out_by(frame, what.access, what.moved)
-        }
+        _ => other,
     }
 }
 

@@ -2,7 +2,7 @@
 
 ghost use Rattle.std.specs.Prelude.{◌≡◌, ◌++◌, ◌-◌, ◌*◌, OnOk, string_bytes};
 ghost use Rattle.spans.specs.Access.{region_size};
-ghost use Rattle.span_explain.specs.Kinds.{distances_text, is_whole, kind_text, places_text, range_text, span_text, word_text};
+ghost use Rattle.span_explain.specs.Kinds.{distances_text, is_whole, kind_text, places_text, range_text, span_text};
 
 use explain::{push_signed, push_with, push_with_signed, region_word};
 use limits::STACK_BYTES;
@@ -74,7 +74,7 @@ pub fn push_places(
     out.push_str(region_word(region))?;
     push_distances(out, lo, hi)?;
     let size = region_size(region, state_len);
-    write!(out, " of {size}")
+    push_with(out, " of ", size.into(), "")
 }
 
 /// Writes what is known.
@@ -94,15 +94,8 @@ pub fn push_kind(out: &mut String, kind: Kind, state_len: u16) -> Result<(), All
 }
 
 /// How many bytes before the end of the stack the word of a cell begins.
-fn distance_of(cell: usize) -> usize
+pub fn distance_of(cell: usize) -> usize
     ensures { result ≡ 600 - 8 * cell }
 {
     if cell < 75 { 600 - 8 * cell } else { 0 }
-}
-
-/// Writes a word of the stack by its cell.
-pub fn push_word(out: &mut String, cell: usize) -> Result<(), AllocError>
-    ensures { OnOk result (string_bytes out.new ≡ string_bytes out.old ++ word_text cell) }
-{
-    push_with(out, "stack-", distance_of(cell), "")
 }

@@ -1,11 +1,10 @@
 //! The listing of code of form 3.
 
-ghost use Rattle.std.specs.Prelude.{◌≡◌, ◌<◌, ◌≤◌, ◌++◌, IfOk, OnOk, codes, decimal, length, string_bytes};
+ghost use Rattle.std.specs.Prelude.{◌≡◌, ◌<◌, ◌≤◌, ◌++◌, IfOk, OnOk, length, string_bytes};
 ghost use Rattle.std.specs.List.{AllByRecursion};
 ghost use Rattle.std.specs.Option.{option_map};
 ghost use Rattle.decode.specs.Encoding.{Fits};
 ghost use Rattle.decode.specs.Slots.{slots_of};
-ghost use Rattle.regtypes.specs.Rules.{rule_number};
 ghost use Rattle.span_verifier.specs.Transfer.{frame_of};
 ghost use Rattle.span_explain.specs.Listing.{IsListed, broken_text, listing, notes_text, refusal_text, slot_text};
 
@@ -21,13 +20,6 @@ use regtypes::Rule;
 use spans::Cells;
 use std::alloc::{AllocError, Global};
 
-/// Writes which rule is broken.
-fn push_rule(out: &mut String, rule: Rule) -> Result<(), AllocError>
-    ensures { OnOk result (string_bytes out.new ≡ string_bytes out.old ++ (codes "    refused by V" ++ decimal (rule_number rule) ++ codes ": ")) }
-{
-    push_with(out, "    refused by V", rule.number().into(), ": ")
-}
-
 /// Writes which rule is broken, by what, and what to do about that.
 fn push_broken(
     out: &mut String,
@@ -40,11 +32,10 @@ fn push_broken(
     requires short { length study.now.frames.slots.items ≤ SLOTS }
     ensures { OnOk result (string_bytes out.new ≡ string_bytes out.old ++ broken_text study.now rule slot cause) }
 {
-    push_rule(out, rule)?;
+    push_with(out, "    refused by V", rule.number().into(), ": ")?;
     push_cause(out, study.state_len, study.frames.slots.len(), slot, cause)?;
-    out.push_str("\n    to do: ")?;
-    out.push_str(cause_advice(cause))?;
-    out.push('\n')
+    let advice = cause_advice(cause);
+    write!(out, "\n    to do: {advice}\n")
 }
 
 /// Writes what is wrong at the slot that is refused.
@@ -106,15 +97,9 @@ fn push_slot(
         return Ok(());
     };
     let line = disassemble(alloc, &[insn])?;
-    write!(out, "{slot}: {line}")?;
+    push_with(out, "", slot, ": ")?;
+    out.push_str(&line)?;
     push_notes(out, study, slot, &insn, &study.cells_at(slot))
-}
-
-/// Writes the length of the state.
-fn push_head(out: &mut String, state_len: u16) -> Result<(), AllocError>
-    ensures { OnOk result (string_bytes out.new ≡ string_bytes out.old ++ (codes "form 3, " ++ decimal state_len ++ codes " bytes of state\n")) }
-{
-    push_with(out, "form 3, ", state_len.into(), " bytes of state\n")
 }
 
 /// The listing of a study.
@@ -123,7 +108,12 @@ fn listing_of(alloc: Global, study: &SpanStudy) -> Result<String, AllocError>
     ensures { IfOk result (λ text. string_bytes text ≡ listing study.now) }
 {
     let mut out = String::new(alloc);
-    push_head(&mut out, study.state_len)?;
+    push_with(
+        &mut out,
+        "form 3, ",
+        study.state_len.into(),
+        " bytes of state\n",
+    )?;
     for slot in 0..study.frames.slots.len() {
         push_slot(alloc, &mut out, study, slot)?;
     }

@@ -6,9 +6,9 @@ ghost use Rattle.span_verifier.specs.Transfer.{frame_of};
 ghost use Rattle.spans.specs.Frame.{kind_at};
 ghost use Rattle.span_explain.specs.Listing.{dead_text, kept_text, known_text, read_text, register_text, stack_text, ways_known, ways_text, word_at, word_line};
 
-use crate::kinds::{push_kind, push_word};
+use crate::kinds::{distance_of, push_kind};
 use decode::{Insn, Reg};
-use explain::is_read;
+use explain::{is_read, push_with};
 use limits::REGISTERS;
 use regtypes::{ImageForm, Region, bytes_in};
 use span_verifier::{is_inside, operand_kind, opposite, shown, whole_word};
@@ -29,9 +29,9 @@ fn push_register(
     if !is_read(ImageForm::Sbi2, insn, number) {
         return Ok(());
     }
-    write!(out, "    r{number} ")?;
+    push_with(out, "    r", number.into(), " ")?;
     push_kind(out, frame.kinds[number as usize], state_len)?;
-    out.push('\n')
+    out.push_str("\n")
 }
 
 /// What is known of a cell; nothing behind the last.
@@ -66,11 +66,9 @@ fn push_word_line(
 ) -> Result<(), AllocError>
     ensures { OnOk result (string_bytes out.new ≡ string_bytes out.old ++ word_line state_len cell kind) }
 {
-    out.push_str("    ")?;
-    push_word(out, cell)?;
-    out.push(' ')?;
+    push_with(out, "    stack-", distance_of(cell), " ")?;
     push_kind(out, kind, state_len)?;
-    out.push('\n')
+    out.push_str("\n")
 }
 
 /// Writes the word that is read.

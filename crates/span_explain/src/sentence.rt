@@ -1,15 +1,16 @@
 //! A cause as a sentence, and what to do about it.
 
 ghost use Rattle.std.specs.Prelude.{◌≡◌, ◌<◌, ◌≤◌, ◌++◌, OnOk, codes, decimal, string_bytes};
-ghost use Rattle.std.specs.Fmt.{signed_decimal};
 ghost use Rattle.explain.specs.Kinds.{reg_text};
 ghost use Rattle.span_explain.specs.Kinds.{places_text, range_text, word_text};
 ghost use Rattle.span_explain.specs.Sentence.{cause_advice, cause_text, moved_advice, outside_advice, register_advice, register_words, word_advice, word_words};
 
 use crate::cause::{Cause, RegisterFault, WordFault};
-use crate::kinds::{push_places, push_range, push_word};
+use crate::kinds::{distance_of, push_places, push_range};
 use decode::Reg;
-use explain::{push_count_cause, push_distance_cause, push_jump_cause, push_reg, push_with};
+use explain::{
+    push_count_cause, push_distance_cause, push_jump_cause, push_with, push_with_signed,
+};
 use limits::SLOTS;
 use regtypes::Region;
 use spans::Span;
@@ -28,14 +29,6 @@ fn register_words(fault: RegisterFault) -> &'static str
     }
 }
 
-/// Writes what is done with a part of a place.
-fn push_part(out: &mut String, bytes: u8, what: &str) -> Result<(), AllocError>
-    ensures { OnOk result (string_bytes out.new ≡ string_bytes out.old ++ (codes " holds a place, of which " ++ decimal bytes ++ codes " bytes " ++ what.now)) }
-{
-    push_with(out, " holds a place, of which ", bytes.into(), " bytes ")?;
-    out.push_str(what)
-}
-
 /// Writes what is the matter with a word of the stack.
 fn push_word_words(out: &mut String, fault: WordFault) -> Result<(), AllocError>
     ensures { OnOk result (string_bytes out.new ≡ string_bytes out.old ++ word_words fault) }
@@ -43,8 +36,22 @@ fn push_word_words(out: &mut String, fault: WordFault) -> Result<(), AllocError>
     match fault {
         WordFault::Unset => out.push_str(" is read and isn't set"),
         WordFault::NoNumber => out.push_str(" is to be a number"),
-        WordFault::Read(bytes) => push_part(out, bytes, "are read"),
-        WordFault::Written(bytes) => push_part(out, bytes, "are written"),
+        WordFault::Read(bytes) => {
+            push_with(
+                out,
+                " holds a place, of which ",
+                bytes.into(),
+                " bytes are read",
+            )
+        }
+        WordFault::Written(bytes) => {
+            push_with(
+                out,
+                " holds a place, of which ",
+                bytes.into(),
+                " bytes are written",
+            )
+        }
     }
 }
 
@@ -52,10 +59,13 @@ fn push_word_words(out: &mut String, fault: WordFault) -> Result<(), AllocError>
 fn push_sum(out: &mut String, first: Reg, second: Reg) -> Result<(), AllocError>
     ensures { OnOk result (string_bytes out.new ≡ string_bytes out.old ++ (reg_text first ++ codes " and " ++ reg_text second ++ codes " are added, and both hold places")) }
 {
-    push_reg(out, first)?;
-    out.push_str(" and ")?;
-    push_reg(out, second)?;
-    out.push_str(" are added, and both hold places")
+    push_with(out, "r", first.number.into(), " and r")?;
+    push_with(
+        out,
+        "",
+        second.number.into(),
+        " are added, and both hold places",
+    )
 }
 
 /// Writes the bytes that are reached.
@@ -78,18 +88,9 @@ fn push_outside(
 fn push_moved(out: &mut String, reg: Reg, span: Span) -> Result<(), AllocError>
     ensures { OnOk result (string_bytes out.new ≡ string_bytes out.old ++ (reg_text reg ++ codes " is moved by " ++ range_text span ++ codes ", out of the places from -32768 to 32767")) }
 {
-    push_reg(out, reg)?;
-    out.push_str(" is moved by ")?;
+    push_with(out, "r", reg.number.into(), " is moved by ")?;
     push_range(out, span)?;
     out.push_str(", out of the places from -32768 to 32767")
-}
-
-/// Writes which helper there isn't.
-fn push_helper(out: &mut String, helper: i32) -> Result<(), AllocError>
-    ensures { OnOk result (string_bytes out.new ≡ string_bytes out.old ++ (codes "form 3 has no helper " ++ signed_decimal helper)) }
-{
-    out.push_str("form 3 has no helper ")?;
-    write!(out, "{helper}")
 }
 
 /// Writes what an argument is to be.
@@ -97,25 +98,15 @@ fn push_payload(out: &mut String, reg: u8, bytes: u16) -> Result<(), AllocError>
     ensures { OnOk result (string_bytes out.new ≡ string_bytes out.old ++ (codes "r" ++ decimal reg ++ codes " is to be a place, with " ++ decimal bytes ++ codes " bytes from there on in its region")) }
 {
     push_with(out, "r", reg.into(), " is to be a place, with ")?;
-    write!(out, "{bytes}")?;
-    out.push_str(" bytes from there on in its region")
+    push_with(out, "", bytes.into(), " bytes from there on in its region")
 }
 
 /// Writes a word of the stack and what is the matter with it.
 fn push_word_cause(out: &mut String, cell: usize, fault: WordFault) -> Result<(), AllocError>
     ensures { OnOk result (string_bytes out.new ≡ string_bytes out.old ++ (codes "the word at " ++ word_text cell ++ word_words fault)) }
 {
-    out.push_str("the word at ")?;
-    push_word(out, cell)?;
+    push_with(out, "the word at stack-", distance_of(cell), "")?;
     push_word_words(out, fault)
-}
-
-/// Writes a register and what is the matter with it.
-fn push_register_cause(out: &mut String, reg: Reg, fault: RegisterFault) -> Result<(), AllocError>
-    ensures { OnOk result (string_bytes out.new ≡ string_bytes out.old ++ (reg_text reg ++ register_words fault)) }
-{
-    push_reg(out, reg)?;
-    out.push_str(register_words(fault))
 }
 
 /// Writes what breaks a rule at a slot.
@@ -136,7 +127,9 @@ pub fn push_cause(
         Cause::NothingFollows => out.push_str("nothing follows this instruction"),
         Cause::FramePointer => out.push_str("r10 is written, and is for reading"),
         Cause::NoAnswer => out.push_str("r0 is to be a number at the end"),
-        Cause::OfRegister(reg, fault) => push_register_cause(out, reg, fault),
+        Cause::OfRegister(reg, fault) => {
+            push_with(out, "r", reg.number.into(), register_words(fault))
+        }
         Cause::OfWord(cell, fault) => push_word_cause(out, cell, fault),
         Cause::SumOfPlaces(first, second) => push_sum(out, first, second),
         Cause::Outside(bytes, region, lo, hi) => {
@@ -144,7 +137,9 @@ pub fn push_cause(
         }
         Cause::MovedBy(reg, span) => push_moved(out, reg, span),
         Cause::ShiftedBy(reg, by) => push_distance_cause(out, reg, by),
-        Cause::NoHelper(helper) => push_helper(out, helper),
+        Cause::NoHelper(helper) => {
+            push_with_signed(out, "form 3 has no helper ", helper.into(), "")
+        }
         Cause::NoCount(reg) => push_count_cause(out, reg.into()),
         Cause::NoPayload(reg, bytes) => push_payload(out, reg, bytes),
     }

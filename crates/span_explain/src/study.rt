@@ -45,8 +45,9 @@ impl SpanStudy {
         ensures { option_map frame_of result ≡ frame_at self.now slot }
     {
         match self.frames.table.get(slot) {
+            None => None,
+            Some(None) => None,
             Some(Some(cells)) => Some(**cells),
-            _ => None,
         }
     }
 }

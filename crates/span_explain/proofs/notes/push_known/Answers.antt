@@ -1,4 +1,5 @@
 use Rattle.std.proofs.Common.{◌≡◌, ◌∙◌, ◌++◌, string_bytes, sym, ap, arith}
+use Rattle.std.specs.Prelude.{None}
 use Rattle.std.specs.Option.{option_map}
 use Rattle.std.proofs.lemmas.Result.{on_ok_weaker}
 use Rattle.limits.specs.declared.TheConstants.{REGISTERS}
@@ -7,6 +8,7 @@ use Rattle.span_verifier.specs.Transfer.{frame_of}
 use Rattle.explain.specs.Listing.{texts_below}
 use Rattle.explain.proofs.Texts.{joined, texts_more, texts_none}
 use Rattle.span_explain.specs.Listing.{known_text, register_text, stack_text}
+use Rattle.span_explain.proofs.Written.{of_that, when_ok}
 use Rattle.span_explain.proofs.notes.push_known.Goals as goal
 
 pub loop-number-init : goal.loop-number-init
@@ -27,3 +29,10 @@ returns c =
     let known : texts_below text REGISTERS ++ stack_text c.args.state_len c.args.insn.now f ≡ whole =
     ap (λ o. known_text c.args.state_len c.args.insn.now (option_map frame_of o)) (sym c.in-Some.is) in
     on_ok_weaker c.push_stack.result (λ h. joined old (texts_below text REGISTERS) (string_bytes c.loop-number.out) (stack_text c.args.state_len c.args.insn.now f) (string_bytes c.push_stack.new.out) whole all h known) c.push_stack.ensures
+
+pub returns-in_default : goal.returns-in_default
+returns-in_default c =
+    let old = string_bytes c.args.out.now in
+    let new = string_bytes c.push_str.new.self in
+    let r = c.push_str.result in
+    of_that (λ o. known_text c.args.state_len c.args.insn.now (option_map frame_of o)) c.args.frame.now None r new old c.in_default.is (when_ok r new _ old c.push_str.ensures.bytes)
