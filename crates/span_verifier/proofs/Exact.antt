@@ -1,7 +1,7 @@
 -- Which rules are broken is what the definition of form 3 says.
 use Rattle.std.proofs.Common.{◌≡◌, ℕ, zero, suc, ◌+◌, ◌-◌, ◌*◌, ◌<◌, ◌≤◌, Bool, true, false, Option, Some, None, ℤ, pos, negsuc, ◌+ℤ◌, ◌<ℤ◌, ◌≤ℤ◌, refl, sym, ap, ◌∙◌, subst, ⊎_elim, arith}
 use Rattle.std.specs.Prelude.{unwrap_or, int_le, ◌&&◌, min, if◌then◌else◌}
-use Rattle.std.proofs.lemmas.Bool.{cases_eq}
+use Rattle.std.proofs.lemmas.Bool.{cases_eq, false≢true}
 use Rattle.std.proofs.lemmas.Int.{ints}
 use Rattle.decode.specs.declared.insn.Reg.{Reg}
 use Rattle.decode.specs.declared.insn.Width.{Width}
@@ -33,6 +33,12 @@ use Rattle.span_verifier.specs.Exactness.{IsExact}
 
 -- ---- two rules
 
+broken : {A : Type 0} {x : A} → Some x ≡ None → ⊥
+broken e = cc
+
+missing : {A : Type 0} {x : A} → None ≡ Some x → ⊥
+missing e = cc
+
 pub neither : (a b : Option Rule) → lesser a b ≡ None → (a ≡ None) × (b ≡ None)
 neither None b e = (refl, e)
 neither (Some r) None e = cc
@@ -44,39 +50,39 @@ both (Some r) b e h = cc
 
 holds : (t : Bool) (r : Rule) → unless t r ≡ None → t ≡ true
 holds true r e = refl
-holds false r e = cc
+holds false r e = absurd (broken e)
 
 unbroken : (t : Bool) (r : Rule) → t ≡ true → unless t r ≡ None
 unbroken true r e = refl
-unbroken false r e = cc
+unbroken false r e = absurd (false≢true e)
 
 -- ---- kinds
 
 is_number : (k : Kind) → number_rule k ≡ None → (s : Span) × (k ≡ Num s)
-is_number Unset e = cc
+is_number Unset e = absurd (broken e)
 is_number (Num s) e = (s, refl)
-is_number (Place r s) e = cc
+is_number (Place r s) e = absurd (broken e)
 
 number-none : (k : Kind) (s : Span) → k ≡ Num s → number_rule k ≡ None
 number-none k s e = ap number_rule e
 
 num-is : (k : Kind) → number_rule k ≡ None → is_num k ≡ true
-num-is Unset e = cc
+num-is Unset e = absurd (broken e)
 num-is (Num s) e = refl
-num-is (Place r s) e = cc
+num-is (Place r s) e = absurd (broken e)
 
 is-num : (k : Kind) → is_num k ≡ true → number_rule k ≡ None
-is-num Unset e = cc
+is-num Unset e = absurd (false≢true e)
 is-num (Num s) e = refl
-is-num (Place r s) e = cc
+is-num (Place r s) e = absurd (false≢true e)
 
 set-is : (k : Kind) → value_rule k ≡ None → is_set k ≡ true
-set-is Unset e = cc
+set-is Unset e = absurd (broken e)
 set-is (Num s) e = refl
 set-is (Place r s) e = refl
 
 is-set : (k : Kind) → is_set k ≡ true → value_rule k ≡ None
-is-set Unset e = cc
+is-set Unset e = absurd (false≢true e)
 is-set (Num s) e = refl
 is-set (Place r s) e = refl
 
@@ -87,76 +93,76 @@ Known k = (h : Kind) × (k ≡ Some h)
 
 near-known : (t : Bool) (r : Region) (s : Reach) → unless t V6 ≡ None → Known (if t then Some (Place r s) else None)
 near-known true r s e = (Place r s, refl)
-near-known false r s e = cc
+near-known false r s e = absurd (broken e)
 
 known-near : (t : Bool) (r : Region) (s : Reach) → Known (if t then Some (Place r s) else None) → unless t V6 ≡ None
 known-near true r s k = refl
-known-near false r s k = let e = k.1 in cc
+known-near false r s k = absurd (missing k.1)
 
 abbrev near : Reach → Bool
 near s = int_le (negsuc 32767) s.lo && int_le s.hi (pos 32767)
 
 alu-known : (form : AluForm) (a b : Kind) → alu_rule form a b ≡ None → Known (result_kind form a b)
-alu-known Copies a Unset e = cc
+alu-known Copies a Unset e = absurd (broken e)
 alu-known Copies a (Num s) e = (Num s, refl)
 alu-known Copies a (Place r s) e = (Place r s, refl)
-alu-known Sums Unset b e = cc
-alu-known Sums (Num s) Unset e = cc
+alu-known Sums Unset b e = absurd (broken e)
+alu-known Sums (Num s) Unset e = absurd (broken e)
 alu-known Sums (Num s) (Num t) e = (_, refl)
 alu-known Sums (Num s) (Place r t) e = near-known (near (moved_reach t (pos s.lo) (pos s.hi))) r (moved_reach t (pos s.lo) (pos s.hi)) e
-alu-known Sums (Place r s) Unset e = cc
+alu-known Sums (Place r s) Unset e = absurd (broken e)
 alu-known Sums (Place r s) (Num t) e = near-known (near (moved_reach s (pos t.lo) (pos t.hi))) r (moved_reach s (pos t.lo) (pos t.hi)) e
-alu-known Sums (Place r s) (Place q t) e = cc
-alu-known (Moves width z) Unset b e = cc
+alu-known Sums (Place r s) (Place q t) e = absurd (broken e)
+alu-known (Moves width z) Unset b e = absurd (broken e)
 alu-known (Moves width z) (Num s) b e = (_, refl)
-alu-known (Moves W32 z) (Place r s) b e = cc
+alu-known (Moves W32 z) (Place r s) b e = absurd (broken e)
 alu-known (Moves W64 z) (Place r s) b e = near-known (near (moved_reach s z z)) r (moved_reach s z z) e
-alu-known (Sets width) a Unset e = cc
+alu-known (Sets width) a Unset e = absurd (broken e)
 alu-known (Sets width) a (Num s) e = (_, refl)
-alu-known (Sets width) a (Place r s) e = cc
+alu-known (Sets width) a (Place r s) e = absurd (broken e)
 alu-known (Computes op width) a b e = numbers a b (neither (number_rule a) (number_rule b) e)
   where
     numbers : (a b : Kind) → (number_rule a ≡ None) × (number_rule b ≡ None) → Known (result_kind (Computes op width) a b)
-    numbers Unset b h = let x = h.0 in cc
-    numbers (Place r s) b h = let x = h.0 in cc
-    numbers (Num s) Unset h = let x = h.1 in cc
+    numbers Unset b h = absurd (broken h.0)
+    numbers (Place r s) b h = absurd (broken h.0)
+    numbers (Num s) Unset h = absurd (broken h.1)
     numbers (Num s) (Num t) h = (_, refl)
-    numbers (Num s) (Place q t) h = let x = h.1 in cc
+    numbers (Num s) (Place q t) h = absurd (broken h.1)
 
 known-alu : (form : AluForm) (a b : Kind) → Known (result_kind form a b) → alu_rule form a b ≡ None
-known-alu Copies a Unset k = let e = k.1 in cc
+known-alu Copies a Unset k = absurd (missing k.1)
 known-alu Copies a (Num s) k = refl
 known-alu Copies a (Place r s) k = refl
-known-alu Sums Unset b k = let e = k.1 in cc
-known-alu Sums (Num s) Unset k = let e = k.1 in cc
+known-alu Sums Unset b k = absurd (missing k.1)
+known-alu Sums (Num s) Unset k = absurd (missing k.1)
 known-alu Sums (Num s) (Num t) k = refl
 known-alu Sums (Num s) (Place r t) k = known-near (near (moved_reach t (pos s.lo) (pos s.hi))) r (moved_reach t (pos s.lo) (pos s.hi)) k
-known-alu Sums (Place r s) Unset k = let e = k.1 in cc
+known-alu Sums (Place r s) Unset k = absurd (missing k.1)
 known-alu Sums (Place r s) (Num t) k = known-near (near (moved_reach s (pos t.lo) (pos t.hi))) r (moved_reach s (pos t.lo) (pos t.hi)) k
-known-alu Sums (Place r s) (Place q t) k = let e = k.1 in cc
-known-alu (Moves W32 z) Unset b k = let e = k.1 in cc
-known-alu (Moves W64 z) Unset b k = let e = k.1 in cc
+known-alu Sums (Place r s) (Place q t) k = absurd (missing k.1)
+known-alu (Moves W32 z) Unset b k = absurd (missing k.1)
+known-alu (Moves W64 z) Unset b k = absurd (missing k.1)
 known-alu (Moves width z) (Num s) b k = refl
-known-alu (Moves W32 z) (Place r s) b k = let e = k.1 in cc
+known-alu (Moves W32 z) (Place r s) b k = absurd (missing k.1)
 known-alu (Moves W64 z) (Place r s) b k = known-near (near (moved_reach s z z)) r (moved_reach s z z) k
-known-alu (Sets width) a Unset k = let e = k.1 in cc
+known-alu (Sets width) a Unset k = absurd (missing k.1)
 known-alu (Sets width) a (Num s) k = refl
-known-alu (Sets width) a (Place r s) k = let e = k.1 in cc
-known-alu (Computes op width) Unset b k = let e = k.1 in cc
-known-alu (Computes op width) (Place r s) b k = let e = k.1 in cc
-known-alu (Computes op width) (Num s) Unset k = let e = k.1 in cc
+known-alu (Sets width) a (Place r s) k = absurd (missing k.1)
+known-alu (Computes op width) Unset b k = absurd (missing k.1)
+known-alu (Computes op width) (Place r s) b k = absurd (missing k.1)
+known-alu (Computes op width) (Num s) Unset k = absurd (missing k.1)
 known-alu (Computes op width) (Num s) (Num t) k = refl
-known-alu (Computes op width) (Num s) (Place q t) k = let e = k.1 in cc
+known-alu (Computes op width) (Num s) (Place q t) k = absurd (missing k.1)
 
 span-known : (make : Span → Span) (k : Kind) → number_rule k ≡ None → Known (from_span make k)
-span-known make Unset e = cc
+span-known make Unset e = absurd (broken e)
 span-known make (Num s) e = (_, refl)
-span-known make (Place r s) e = cc
+span-known make (Place r s) e = absurd (broken e)
 
 known-span : (make : Span → Span) (k : Kind) → Known (from_span make k) → number_rule k ≡ None
-known-span make Unset k = let e = k.1 in cc
+known-span make Unset k = absurd (missing k.1)
 known-span make (Num s) k = refl
-known-span make (Place r s) k = let e = k.1 in cc
+known-span make (Place r s) k = absurd (missing k.1)
 
 -- ---- words of the stack
 
@@ -215,7 +221,7 @@ all-numbers f s o n h = are-words 64 f s o n (λ v l r. h (11 + v) r)
 
 inner-of : (t : Bool) (inner : Option Rule) (r : Rule) → (if t then inner else Some r) ≡ None → (t ≡ true) × (inner ≡ None)
 inner-of true inner r e = (refl, e)
-inner-of false inner r e = cc
+inner-of false inner r e = absurd (broken e)
 
 of-inner : (t : Bool) (inner : Option Rule) (r : Rule) → t ≡ true → inner ≡ None → (if t then inner else Some r) ≡ None
 of-inner true inner r e h = h
@@ -230,8 +236,8 @@ read-none (Some c) f s o n h = is-set (f c) h
 read-none None f s o n h = all-numbers f s o n h
 
 pub may-load : (state : ℕ) (f : Frame) (k : Kind) (o : ℤ) (n : ℕ) → load_rule state f k o n ≡ None → MayLoad state f k o n
-may-load state f Unset o n e = cc
-may-load state f (Num s) o n e = cc
+may-load state f Unset o n e = absurd (broken e)
+may-load state f (Num s) o n e = absurd (broken e)
 may-load state f (Place Message s) o n e = holds (is_inside 512 s o n) V6 e
 may-load state f (Place State s) o n e = holds (is_inside state s o n) V6 e
 may-load state f (Place Stack s) o n e =
@@ -257,7 +263,7 @@ write-none (Some c) f k s o n h = is-set k h
 write-none None f k s o n h = both (number_rule k) (words_rule 64 f s o n) (is-num k h.0) (all-numbers f s o n h.1)
 
 pub may-store : (state : ℕ) (f : Frame) (k a : Kind) (o : ℤ) (n : ℕ) → store_rule state f k a o n ≡ None → MayStore state f k a o n
-may-store state f k Unset o n e = cc
+may-store state f k Unset o n e = absurd (broken e)
 may-store state f k (Num s) o n e = let h = (neither (value_rule k) (Some V5) e).1 in cc
 may-store state f k (Place Message s) o n e = let h = (neither (number_rule k) (Some (if is_inside 512 s o n then V7 else V6)) e).1 in cc
 may-store state f k (Place State s) o n e =
@@ -282,11 +288,11 @@ store-none state f k (Place Stack s) o n h =
 
 wanted : (r : Option Rule) → argument_rule r ≡ None → r ≡ None
 wanted None e = refl
-wanted (Some r) e = cc
+wanted (Some r) e = absurd (broken e)
 
 has-payload : (state : ℕ) (f : Frame) (k : Kind) (n : ℕ) → payload_rule state f k n ≡ None → HasPayload state f k n
-has-payload state f Unset n e = cc
-has-payload state f (Num s) n e = cc
+has-payload state f Unset n e = absurd (broken e)
+has-payload state f (Num s) n e = absurd (broken e)
 has-payload state f (Place Message s) n e = (holds (is_inside 512 s (pos 0) n) V9 e, λ q. cc)
 has-payload state f (Place State s) n e = (holds (is_inside state s (pos 0) n) V9 e, λ q. cc)
 has-payload state f (Place Stack s) n e =
@@ -302,8 +308,8 @@ payload-none state f (Place Stack s) n h =
     of-inner (is_inside 512 s (pos 0) n) (argument_rule (words_rule 64 f s (pos 0) n)) V9 h.0 (ap argument_rule (all-numbers f s (pos 0) n (h.1 refl)))
 
 has-sized : (state : ℕ) (f : Frame) (p k : Kind) → sized_rule state f p k ≡ None → HasSized state f p k
-has-sized state f p Unset e = cc
-has-sized state f p (Place r s) e = cc
+has-sized state f p Unset e = absurd (broken e)
+has-sized state f p (Place r s) e = absurd (broken e)
 has-sized state f p (Num s) e = has-payload state f p (min s.hi 256) e
 
 sized-none : (state : ℕ) (f : Frame) (p k : Kind) → HasSized state f p k → sized_rule state f p k ≡ None
@@ -336,14 +342,14 @@ call-none state f (pos (suc (suc (suc (suc (suc (suc zero))))))) h = sized-none 
 call-none state f z h = absurd h
 
 at-exit : (k : Kind) → exit_rule k ≡ None → is_num k ≡ true
-at-exit Unset e = cc
+at-exit Unset e = absurd (broken e)
 at-exit (Num s) e = refl
-at-exit (Place r s) e = cc
+at-exit (Place r s) e = absurd (broken e)
 
 exit-none : (k : Kind) → is_num k ≡ true → exit_rule k ≡ None
-exit-none Unset e = cc
+exit-none Unset e = absurd (false≢true e)
 exit-none (Num s) e = refl
-exit-none (Place r s) e = cc
+exit-none (Place r s) e = absurd (false≢true e)
 
 -- ---- instructions
 
@@ -363,10 +369,10 @@ same condition width dst o f a b p q =
     ap (λ x. compares x (operand_kind width o f) condition width dst o f) p ∙ ap (λ y. compares (Num a) y condition width dst o f) q
 
 compared : (condition : Condition) (width : Width) (dst : Reg) (o : Operand) (f : Frame) (x y : Kind) → f dst.number ≡ x → operand_kind width o f ≡ y → (number_rule x ≡ None) × (number_rule y ≡ None) → (a b : Span) × (f dst.number ≡ Num a) × (operand_kind width o f ≡ Num b) × (compares (f dst.number) (operand_kind width o f) condition width dst o f ≡ (way (opposite condition) width dst o f a b, way (Some condition) width dst o f a b))
-compared condition width dst o f Unset y p q h = let e = h.0 in cc
-compared condition width dst o f (Place r s) y p q h = let e = h.0 in cc
-compared condition width dst o f (Num a) Unset p q h = let e = h.1 in cc
-compared condition width dst o f (Num a) (Place r s) p q h = let e = h.1 in cc
+compared condition width dst o f Unset y p q h = absurd (broken h.0)
+compared condition width dst o f (Place r s) y p q h = absurd (broken h.0)
+compared condition width dst o f (Num a) Unset p q h = absurd (broken h.1)
+compared condition width dst o f (Num a) (Place r s) p q h = absurd (broken h.1)
 compared condition width dst o f (Num a) (Num b) p q h = (a, b, p, q, same condition width dst o f a b p q)
 
 pub exact : IsExact

@@ -1,5 +1,5 @@
 -- What `transfer` answers.
-use Rattle.std.specs.Prelude.{◌≡◌, ℕ, Option, None, Some, Result, Ok, Err}
+use Rattle.std.specs.Prelude.{◌≡◌, ℕ, None, Some, Result, Ok, Err}
 use Rattle.std.specs.Option.{option_map}
 use Rattle.decode.specs.declared.insn.Insn.{Insn}
 use Rattle.regtypes.specs.declared.rule.Rule.{Rule}

@@ -5,7 +5,7 @@ ghost use Rattle.span_verifier.specs.Rules.{words_rule};
 ghost use Rattle.spans.specs.Access.{cell_at, is_inside, is_reached, whole_word, wiped};
 ghost use Rattle.spans.specs.Frame.{kind_at};
 
-use crate::distance::{begins_before, begins_inside, ends_behind, ends_inside};
+use crate::distance::{begin, begins_before, begins_inside, ends_behind, ends_inside};
 use crate::results::whole;
 use crate::rules::{lesser, number_rule};
 use decode::Width;
@@ -39,7 +39,7 @@ pub fn whole_word(reach: Reach, offset: i16, bytes: u16) -> Option<usize>
     ensures { result ≡ whole_word reach offset bytes }
 {
     if reach.hi <= reach.lo && bytes == 8 {
-        cell_at(i32::from(reach.lo) + i32::from(offset))
+        cell_at(begin(reach.lo, offset))
     } else {
         None
     }

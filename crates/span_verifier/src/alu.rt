@@ -62,9 +62,8 @@ fn set(width: Width, kind: Kind) -> Kind
     ensures { result ≡ unwrap_or (from_span (low_span width) kind) Kind.Unset }
 {
     match kind {
-        Kind::Unset => Kind::Unset,
         Kind::Num(s) => Kind::Num(low_span(width, s)),
-        Kind::Place(_, _) => Kind::Unset,
+        Kind::Unset | Kind::Place(_, _) => Kind::Unset,
     }
 }
 
@@ -74,13 +73,11 @@ fn computed(op: AluOp, width: Width, a: Kind, b: Kind) -> Kind
     ensures { result ≡ unwrap_or (from_spans (λ s t. result_span op (bits_of width) (low_span width s) (low_span width t)) a b) Kind.Unset }
 {
     match a {
-        Kind::Unset => Kind::Unset,
         Kind::Num(s) => match b {
-            Kind::Unset => Kind::Unset,
             Kind::Num(t) => Kind::Num(result(op, width, low_span(width, s), low_span(width, t))),
-            Kind::Place(_, _) => Kind::Unset,
+            Kind::Unset | Kind::Place(_, _) => Kind::Unset,
         },
-        Kind::Place(_, _) => Kind::Unset,
+        Kind::Unset | Kind::Place(_, _) => Kind::Unset,
     }
 }
 
@@ -132,8 +129,7 @@ pub fn any_number(kind: Kind) -> Kind
     ensures { result ≡ unwrap_or (from_span (λ s. whole_span 64) kind) Kind.Unset }
 {
     match kind {
-        Kind::Unset => Kind::Unset,
         Kind::Num(_) => Kind::Num(whole(Width::W64)),
-        Kind::Place(_, _) => Kind::Unset,
+        Kind::Unset | Kind::Place(_, _) => Kind::Unset,
     }
 }

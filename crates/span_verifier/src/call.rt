@@ -16,8 +16,7 @@ fn payload_rule(state_len: u16, frame: &Cells, place: Kind, bytes: u16) -> Optio
     ensures { result ≡ payload_rule state_len (kind_at frame.now.kinds) place bytes }
 {
     match place {
-        Kind::Unset => Some(Rule::V9),
-        Kind::Num(_) => Some(Rule::V9),
+        Kind::Unset | Kind::Num(_) => Some(Rule::V9),
         Kind::Place(region, reach) => match region {
             Region::Message => unless(is_inside(512, reach, 0, bytes), Rule::V9),
             Region::State => unless(is_inside(state_len, reach, 0, bytes), Rule::V9),
@@ -37,9 +36,8 @@ fn sized_rule(state_len: u16, frame: &Cells, place: Kind, count: Kind) -> Option
     ensures { result ≡ sized_rule state_len (kind_at frame.now.kinds) place count }
 {
     match count {
-        Kind::Unset => Some(Rule::V9),
         Kind::Num(span) => payload_rule(state_len, frame, place, span.hi.min(256) as u16),
-        Kind::Place(_, _) => Some(Rule::V9),
+        Kind::Unset | Kind::Place(_, _) => Some(Rule::V9),
     }
 }
 

@@ -2,18 +2,25 @@
 
 ghost use Rattle.std.specs.Prelude.{◌≡◌, ◌≤ℤ◌, ◌+ℤ◌, int_le, int_lt, pos, negsuc};
 
+/// Where a distance comes to that grows by a number.
+fn further(at: i16, by: u64) -> i128
+    ensures { result ≡ at +ℤ pos by }
+{
+    i128::from(at) + i128::from(by)
+}
+
 /// Whether a distance that grows by a number is not too low.
 pub fn is_above(at: i16, by: u64) -> bool
     ensures { result ≡ int_le (negsuc 32767) (at +ℤ pos by) }
 {
-    -32768 <= i128::from(at) + i128::from(by)
+    -32768 <= further(at, by)
 }
 
 /// Whether a distance that grows by a number is not too high.
 pub fn is_below(at: i16, by: u64) -> bool
     ensures { result ≡ int_le (at +ℤ pos by) (pos 32767) }
 {
-    i128::from(at) + i128::from(by) <= 32767
+    further(at, by) <= 32767
 }
 
 /// A distance that grows by a number.
@@ -21,21 +28,28 @@ pub fn grown(at: i16, by: u64) -> i16
     requires { (at +ℤ pos by) ≤ℤ pos 32767 }
     ensures { result ≡ at +ℤ pos by }
 {
-    (i128::from(at) + i128::from(by)) as i16
+    further(at, by) as i16
+}
+
+/// Where a distance comes to that an immediate changes.
+fn changed(at: i16, by: i64) -> i128
+    ensures { result ≡ at +ℤ by }
+{
+    i128::from(at) + i128::from(by)
 }
 
 /// Whether a distance that an immediate changes is not too low.
 pub fn stays_above(at: i16, by: i64) -> bool
     ensures { result ≡ int_le (negsuc 32767) (at +ℤ by) }
 {
-    -32768 <= i128::from(at) + i128::from(by)
+    -32768 <= changed(at, by)
 }
 
 /// Whether a distance that an immediate changes is not too high.
 pub fn stays_below(at: i16, by: i64) -> bool
     ensures { result ≡ int_le (at +ℤ by) (pos 32767) }
 {
-    i128::from(at) + i128::from(by) <= 32767
+    changed(at, by) <= 32767
 }
 
 /// A distance that an immediate changes.
@@ -44,11 +58,11 @@ pub fn shifted(at: i16, by: i64) -> i16
     requires high { (at +ℤ by) ≤ℤ pos 32767 }
     ensures { result ≡ at +ℤ by }
 {
-    (i128::from(at) + i128::from(by)) as i16
+    changed(at, by) as i16
 }
 
 /// Where bytes begin at an offset from this distance.
-fn begin(at: i16, offset: i16) -> i32
+pub fn begin(at: i16, offset: i16) -> i32
     ensures { result ≡ at +ℤ offset }
 {
     i32::from(at) + i32::from(offset)

@@ -99,11 +99,9 @@ fn compared(
                 next: way(opposite(condition), width, dst, operand, frame, a, b),
                 taken: way(Some(condition), width, dst, operand, frame, a, b),
             },
-            Kind::Unset => NOWHERE,
-            Kind::Place(_, _) => NOWHERE,
+            Kind::Unset | Kind::Place(_, _) => NOWHERE,
         },
-        Kind::Unset => NOWHERE,
-        Kind::Place(_, _) => NOWHERE,
+        Kind::Unset | Kind::Place(_, _) => NOWHERE,
     }
 }
 
@@ -113,7 +111,6 @@ const NOWHERE: Leaving = Leaving {
 };
 
 /// What a store leaves that breaks no rule.
-#[tactic(auto, using(crate::proofs::Stores::stays_inside))]
 fn store(frame: &Cells, state_len: u16, kind: Kind, base: Kind, offset: i16, bytes: u16) -> Leaving
     requires base { IsKind base }
     requires unbroken { store_rule state_len (kind_at frame.now.kinds) kind base offset bytes ≡ None }
@@ -154,8 +151,7 @@ fn leave(insn: &Insn, frame: &Cells, state_len: u16) -> Leaving
             };
             falls(frame.with(dst, Kind::Num(span)))
         }
-        Insn::Jump { .. } => leaps(*frame),
-        Insn::JumpLong { .. } => leaps(*frame),
+        Insn::Jump { .. } | Insn::JumpLong { .. } => leaps(*frame),
         Insn::JumpIf {
             condition,
             width,
@@ -219,11 +215,8 @@ fn frame_rule(insn: &Insn, frame: &Cells, state_len: u16) -> Option<Rule>
             alu_rule(op, width, operand, frame.kind(dst), b)
         }
         Insn::MovSx { src, .. } => number_rule(frame.kind(src)),
-        Insn::Neg { dst, .. } => number_rule(frame.kind(dst)),
-        Insn::End { dst, .. } => number_rule(frame.kind(dst)),
-        Insn::Wide { .. } => None,
-        Insn::Jump { .. } => None,
-        Insn::JumpLong { .. } => None,
+        Insn::Neg { dst, .. } | Insn::End { dst, .. } => number_rule(frame.kind(dst)),
+        Insn::Wide { .. } | Insn::Jump { .. } | Insn::JumpLong { .. } => None,
         Insn::JumpIf {
             width,
             dst,

@@ -95,11 +95,9 @@ pub fn loaded(frame: &Cells, base: Kind, offset: i16, bytes: u16) -> Kind
     ensures { result ≡ loaded_kind (kind_at frame.now.kinds) base offset bytes }
 {
     match base {
-        Kind::Unset => loaded_number(bytes),
-        Kind::Num(_) => loaded_number(bytes),
+        Kind::Unset | Kind::Num(_) => loaded_number(bytes),
         Kind::Place(region, reach) => match region {
-            Region::Message => loaded_number(bytes),
-            Region::State => loaded_number(bytes),
+            Region::Message | Region::State => loaded_number(bytes),
             Region::Stack => read(frame, reach, offset, bytes),
         },
     }
@@ -171,11 +169,9 @@ pub fn stored(frame: &Cells, kind: Kind, base: Kind, offset: i16, bytes: u16) ->
     ensures { kind_at result.kinds ≡ stored_frame (kind_at frame.now.kinds) kind base offset bytes }
 {
     match base {
-        Kind::Unset => *frame,
-        Kind::Num(_) => *frame,
+        Kind::Unset | Kind::Num(_) => *frame,
         Kind::Place(region, reach) => match region {
-            Region::Message => *frame,
-            Region::State => *frame,
+            Region::Message | Region::State => *frame,
             Region::Stack => written(frame, kind, reach, offset, bytes),
         },
     }

@@ -25,11 +25,12 @@ fn merge(
     ensures size { length table.new ≡ length table.old }
     ensures merged { OnOk result (IsMerged (table_of table.old) to (frame_of frame.now) (table_of table.new)) }
 {
-    if let Some(had) = &mut table[to] {
+    let place = &mut table[to];
+    if let Some(had) = place {
         **had = join(had, frame);
         return Ok(());
     }
-    table[to] = Some(Box::new(alloc, *frame)?);
+    *place = Some(Box::new(alloc, *frame)?);
     Ok(())
 }
 

@@ -124,8 +124,7 @@ fn where_met(condition: Condition, width: Width, a: Span, b: Span) -> SpanPair
     ensures { result ≡ where_met condition (bits_of width) a b }
 {
     match condition {
-        Condition::Equal => Some((a, b)),
-        Condition::Set => Some((a, b)),
+        Condition::Equal | Condition::Set => Some((a, b)),
         Condition::NotEqual => where_different(a, b),
         Condition::Less => where_less(a, b),
         Condition::LessEqual => where_at_most(a, b),

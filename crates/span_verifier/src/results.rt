@@ -189,8 +189,8 @@ pub fn result(op: AluOp, width: Width, a: Span, b: Span) -> Span
         AluOp::Sub => difference(width, a, b),
         AluOp::Mul => product(width, a, b),
         AluOp::Div => quotient(width, a, b),
-        AluOp::Sdiv => whole(width),
-        AluOp::Or => Span {
+        AluOp::Sdiv | AluOp::Smod => whole(width),
+        AluOp::Or | AluOp::Xor => Span {
             lo: 0,
             hi: ones(width, a.hi.max(b.hi)),
         },
@@ -201,11 +201,6 @@ pub fn result(op: AluOp, width: Width, a: Span, b: Span) -> Span
         AluOp::Lsh => shifted_left(width, a, b),
         AluOp::Rsh => shifted_right(width, a, b),
         AluOp::Mod => remainder(width, a, b),
-        AluOp::Smod => whole(width),
-        AluOp::Xor => Span {
-            lo: 0,
-            hi: ones(width, a.hi.max(b.hi)),
-        },
         AluOp::Mov => b,
         AluOp::Arsh => shifted_signed(width, a, b),
     }

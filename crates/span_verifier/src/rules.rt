@@ -49,8 +49,7 @@ pub fn value_rule(kind: Kind) -> Option<Rule>
 {
     match kind {
         Kind::Unset => Some(Rule::V3),
-        Kind::Num(_) => None,
-        Kind::Place(_, _) => None,
+        Kind::Num(_) | Kind::Place(_, _) => None,
     }
 }
 
@@ -69,8 +68,7 @@ pub fn exit_rule(kind: Kind) -> Option<Rule>
     ensures { result ≡ exit_rule kind }
 {
     match kind {
-        Kind::Unset => Some(Rule::V10),
         Kind::Num(_) => None,
-        Kind::Place(_, _) => Some(Rule::V10),
+        Kind::Unset | Kind::Place(_, _) => Some(Rule::V10),
     }
 }

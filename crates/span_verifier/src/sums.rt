@@ -100,9 +100,8 @@ pub fn summed(a: Kind, b: Kind) -> Kind
             Kind::Place(region, t) => place_by(region, t, s),
         },
         Kind::Place(region, s) => match b {
-            Kind::Unset => Kind::Unset,
             Kind::Num(t) => place_by(region, s, t),
-            Kind::Place(_, _) => Kind::Unset,
+            Kind::Unset | Kind::Place(_, _) => Kind::Unset,
         },
     }
 }
