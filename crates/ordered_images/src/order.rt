@@ -1,13 +1,13 @@
 //! The order of the blocks of code.
 
-ghost use Rattle.std.specs.Prelude.{◌≡◌, IfOk, IfSome};
-ghost use Rattle.decode.specs.Slots.{insn_at, slots_of};
-ghost use Rattle.ordered_images.specs.Order.{IsLoop, IsMoved, IsOrder};
+ghost use Rattle.std.specs.Prelude.{◌≡◌, ◌<◌, ◌≤◌, IfOk, IfSome, IsTrue, length};
+ghost use Rattle.decode.specs.Slots.{insn_at, slots, slots_of};
+ghost use Rattle.ordered_images.specs.Order.{IsForward, IsLoop, IsMoved, IsOrder};
 
 use crate::insns::is_forward;
 use crate::placement::is_placement;
 use crate::placing::{Placed, place};
-use crate::search::{Found, search_slots};
+use crate::search::search_slots;
 use crate::walk::loop_of;
 use decode::{Insn, slots as slots_in};
 use limits::SLOTS;
@@ -27,30 +27,66 @@ pub enum Order {
     Unknown,
 }
 
+/// Whether all jumps of code go forward, and it has as many slots as code may have.
+fn is_short(insns: &[Insn]) -> bool
+    ensures { IsTrue result → IsForward insns.now × (0 < slots insns.now) × (slots insns.now ≤ SLOTS) }
+{
+    let count = slots_in(insns);
+    count > 0 && count <= SLOTS && is_forward(insns)
+}
+
+/// Whether each instruction of the other code stands there as it has to.
+fn is_moved(
+    alloc: Global,
+    code: &[Insn],
+    slots: &[Option<Insn>],
+    placed: &Placed,
+) -> Result<bool, AllocError>
+    requires { slots.now ≡ slots_of code.now }
+    ensures { IfOk result (λ yes. IsTrue yes → IsMoved code.now placed.now) }
+{
+    let insns = placed.insns.as_slice();
+    if !is_short(insns) {
+        return Ok(false);
+    }
+    match lay_out(alloc, insns) {
+        Ok(other) => is_placement(alloc, slots, other.as_slice(), placed.places.as_slice()),
+        Err(e) => Err(e),
+    }
+}
+
 /// The code as a search has left it, if each instruction stands there as it has to.
 fn moved(
     alloc: Global,
     code: &[Insn],
     slots: &[Option<Insn>],
     finished: &[usize],
-) -> Result<Option<Placed>, AllocError>
-    requires { slots.now ≡ slots_of code.now }
-    ensures { IfOk result (λ moved. IfSome moved (IsMoved code.now)) }
+) -> Result<Order, AllocError>
+    requires slots { slots.now ≡ slots_of code.now }
+    requires back { ¬ IsForward code.now }
+    ensures { IfOk result (IsOrder code.now) }
 {
-    let Some(placed) = place(alloc, slots, finished)? else {
-        return Ok(None);
+    let placed = match place(alloc, slots, finished) {
+        Ok(Some(placed)) => placed,
+        Ok(None) => return Ok(Order::Unknown),
+        Err(e) => return Err(e),
     };
-    let insns = placed.insns.as_slice();
-    let count = slots_in(insns);
-    if count == 0 || count > SLOTS || !is_forward(insns) {
-        return Ok(None);
+    match is_moved(alloc, code, slots, &placed) {
+        Ok(true) => Ok(Order::Moved(placed)),
+        Ok(false) => Ok(Order::Unknown),
+        Err(e) => Err(e),
     }
-    let other = lay_out(alloc, insns)?;
-    if is_placement(alloc, slots, other.as_slice(), placed.places.as_slice())? {
-        Ok(Some(placed))
-    } else {
-        Ok(None)
+}
+
+/// A way from slot 0 and a part of it again.
+fn twice(alloc: Global, way: &[usize], from: usize, to: usize) -> Result<Vec<usize>, AllocError>
+    requires { to ≤ length way.now }
+{
+    let mut walk = Vec::from_slice(alloc, way)?;
+    if from < to {
+        walk.extend_from_slice(&way[from..to])?;
     }
+    Ok(walk)
 }
 
 /// The jump back on a cycle: a way from slot 0, whose last slot leads to the one at this place of it.
@@ -65,14 +101,46 @@ fn jump_back(
     for k in place..open.len() {
         let behind = if k + 1 < open.len() { k + 1 } else { place };
         if behind < open.len() && open[behind] <= open[k] {
-            let mut walk = Vec::from_slice(alloc, open)?;
-            if behind > place {
-                walk.extend_from_slice(&open[place..behind])?;
-            }
+            let walk = twice(alloc, open, place, behind)?;
             return Ok(loop_of(slots, walk.as_slice()));
         }
     }
     Ok(None)
+}
+
+/// The loop that the jump back on a cycle makes.
+fn looped(
+    alloc: Global,
+    code: &[Insn],
+    slots: &[Option<Insn>],
+    open: &[usize],
+    place: usize,
+) -> Result<Order, AllocError>
+    requires slots { slots.now ≡ slots_of code.now }
+    requires back { ¬ IsForward code.now }
+    ensures { IfOk result (IsOrder code.now) }
+{
+    match jump_back(alloc, slots, open, place) {
+        Ok(Some((from, to))) => Ok(Order::Loops { from, to }),
+        Ok(None) => Ok(Order::Unknown),
+        Err(e) => Err(e),
+    }
+}
+
+/// The order of the blocks of code in which a jump goes back.
+fn order_slots(alloc: Global, code: &[Insn], slots: &[Option<Insn>]) -> Result<Order, AllocError>
+    requires slots { slots.now ≡ slots_of code.now }
+    requires back { ¬ IsForward code.now }
+    ensures { IfOk result (IsOrder code.now) }
+{
+    let found = match search_slots(alloc, slots) {
+        Ok(found) => found,
+        Err(e) => return Err(e),
+    };
+    match found.cycle {
+        Some(place) => looped(alloc, code, slots, found.open.as_slice(), place),
+        None => moved(alloc, code, slots, found.finished.as_slice()),
+    }
 }
 
 /// The order of the blocks of code. Where a jump goes back and there is no loop, the answer is another order if one is found:
@@ -83,19 +151,8 @@ pub fn order_blocks(alloc: Global, code: &[Insn]) -> Result<Order, AllocError>
     if is_forward(code) {
         return Ok(Order::Forward);
     }
-    let slots = lay_out(alloc, code)?;
-    match search_slots(alloc, slots.as_slice())? {
-        Found::Finished(finished) => {
-            match moved(alloc, code, slots.as_slice(), finished.as_slice())? {
-                Some(placed) => Ok(Order::Moved(placed)),
-                None => Ok(Order::Unknown),
-            }
-        }
-        Found::Cycle(open, place) => {
-            match jump_back(alloc, slots.as_slice(), open.as_slice(), place)? {
-                Some((from, to)) => Ok(Order::Loops { from, to }),
-                None => Ok(Order::Unknown),
-            }
-        }
+    match lay_out(alloc, code) {
+        Ok(slots) => order_slots(alloc, code, slots.as_slice()),
+        Err(e) => Err(e),
     }
 }

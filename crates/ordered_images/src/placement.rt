@@ -74,15 +74,28 @@ fn ways_arrive(
     }
 }
 
-/// Whether the second instruction is the first but for the distance by which it jumps: their bytes say so.
+/// Whether two instructions are one: their bytes say so.
+fn is_one(alloc: Global, insn: &Insn, other: &Insn) -> Result<bool, AllocError>
+    ensures { IfOk result (λ same. IsTrue same → other.now ≡ insn.now) }
+{
+    let ours = match encode(alloc, &[*insn]) {
+        Ok(ours) => ours,
+        Err(e) => return Err(e),
+    };
+    match encode(alloc, &[*other]) {
+        Ok(theirs) => Ok(ours.as_slice() == theirs.as_slice()),
+        Err(e) => Err(e),
+    }
+}
+
+/// Whether the second instruction is the first but for the distance by which it jumps.
 fn is_same(alloc: Global, insn: &Insn, other: &Insn) -> Result<bool, AllocError>
     ensures { IfOk result (λ same. IsTrue same → other.now ≡ with_distance insn.now (distance other.now)) }
 {
-    let Some(same) = with_distance(insn, distance_of(other)) else {
-        return Ok(false);
-    };
-    let (ours, theirs) = (encode(alloc, &[same])?, encode(alloc, &[*other])?);
-    Ok(ours.as_slice() == theirs.as_slice())
+    match with_distance(insn, distance_of(other)) {
+        Some(same) => is_one(alloc, &same, other),
+        None => Ok(false),
+    }
 }
 
 /// Whether the instruction at a slot stands at this place of the other code, with its ways.
@@ -99,8 +112,9 @@ fn stands(
     let (Some(insn), Some(moved)) = (insn_at(code, slot), insn_at(other, place)) else {
         return Ok(false);
     };
-    if !is_same(alloc, &insn, &moved)? {
-        return Ok(false);
+    match is_same(alloc, &insn, &moved) {
+        Ok(true) => {}
+        refused => return refused,
     }
     let by = distance_of(&moved);
     let flow = flow_from(&insn);
@@ -121,8 +135,9 @@ pub fn is_placement(
     }
     for slot in 0..places.len() {
         if let Some(place) = place_at(places, slot) {
-            if !stands(alloc, code, other, places, slot, place)? {
-                return Ok(false);
+            match stands(alloc, code, other, places, slot, place) {
+                Ok(true) => {}
+                refused => return refused,
             }
         }
     }

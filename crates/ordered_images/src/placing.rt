@@ -1,7 +1,9 @@
 //! Instructions in another order.
 
+ghost use Rattle.std.specs.Prelude.{◌≤◌};
+
 use crate::insns::with_distance;
-use crate::slots::{insn_at, place_at, ways};
+use crate::slots::{insn_at, place_at, ways, ways_at};
 use decode::Insn;
 use limits::SLOTS;
 use std::alloc::{AllocError, Global};
@@ -23,16 +25,23 @@ fn from_end(slots: &[usize], k: usize) -> Option<usize> {
     }
 }
 
-/// The slot behind the k-th one in the code, where another follows it in the order: a jump has to lead there.
-fn parted(code: &[Option<Insn>], finished: &[usize], k: usize) -> Option<usize> {
-    let slot = from_end(finished, k)?;
-    let insn = insn_at(code, slot)?;
-    let (_, next) = ways(&insn, slot);
-    let next = next?;
-    if k < finished.len() && from_end(finished, k + 1) == Some(next) {
-        None
-    } else {
-        Some(next)
+/// The slot behind one in the code, where another follows it in the order: a jump has to lead there.
+fn parted(code: &[Option<Insn>], slot: usize, follower: Option<usize>) -> Option<usize> {
+    let next = ways_at(code, slot).1;
+    if next == follower { None } else { next }
+}
+
+/// How many slots the instruction of a slot takes, with the jump behind it.
+fn room_of(code: &[Option<Insn>], slot: usize, follower: Option<usize>) -> usize
+    ensures { result ≤ 3 }
+{
+    let size = match insn_at(code, slot) {
+        Some(insn) => insn.slots(),
+        None => 1,
+    };
+    match parted(code, slot, follower) {
+        Some(_) => size + 1,
+        None => size,
     }
 }
 
@@ -42,23 +51,13 @@ fn places_of(
     code: &[Option<Insn>],
     finished: &[usize],
 ) -> Result<Vec<Option<usize>>, AllocError> {
-    let mut places = Vec::new(alloc);
-    for _ in code {
-        places.push(None)?;
-    }
+    let mut places = Vec::from_elem(alloc, None, code.len())?;
     let mut place = 0;
     for k in 0..finished.len() {
-        if let Some(slot) = from_end(finished, k) {
-            if slot < places.len() && place <= SLOTS {
-                places[slot] = Some(place);
-                let size = insn_at(code, slot).map_or(1, |insn| insn.slots());
-                let jump = if parted(code, finished, k).is_some() {
-                    1
-                } else {
-                    0
-                };
-                place += size + jump;
-            }
+        let slot = finished[finished.len() - 1 - k];
+        if slot < places.len() && place <= SLOTS {
+            places[slot] = Some(place);
+            place += room_of(code, slot, from_end(finished, k + 1));
         }
     }
     Ok(places)
@@ -73,8 +72,11 @@ fn distance_to(place: usize, to: usize) -> Option<i32> {
     }
 }
 
-/// A jump at a place to a later one.
-fn led_to(insn: &Insn, place: usize, to: usize) -> Option<Insn> {
+/// A jump at a place to a later one, if both are there.
+fn led_to(insn: &Insn, place: Option<usize>, to: Option<usize>) -> Option<Insn> {
+    let (Some(place), Some(to)) = (place, to) else {
+        return None;
+    };
     with_distance(insn, distance_to(place, to)?)
 }
 
@@ -83,7 +85,7 @@ fn moved(code: &[Option<Insn>], places: &[Option<usize>], slot: usize) -> Option
     let insn = insn_at(code, slot)?;
     match ways(&insn, slot).0 {
         None => Some(insn),
-        Some(to) => led_to(&insn, place_at(places, slot)?, place_at(places, to)?),
+        Some(to) => led_to(&insn, place_at(places, slot), place_at(places, to)),
     }
 }
 
@@ -94,37 +96,49 @@ fn jump_to(
     slot: usize,
     to: usize,
 ) -> Option<Insn> {
-    let size = insn_at(code, slot)?.slots();
-    let place = place_at(places, slot)?.checked_add(size)?;
-    let distance = distance_to(place, place_at(places, to)?)?;
-    Some(Insn::Jump {
-        offset: i16::try_from(distance).ok()?,
-    })
+    let behind = place_at(places, slot)?.checked_add(insn_at(code, slot)?.slots());
+    led_to(&Insn::Jump { offset: 0 }, behind, place_at(places, to))
 }
 
-/// Puts the k-th instruction from the end behind those in front of it, and behind it the jump that it may need. Whether there
-/// was room.
+/// Puts an instruction behind the others, if there is one. Whether there was.
+fn put(insns: &mut Vec<Insn>, insn: Option<Insn>) -> Result<bool, AllocError> {
+    let Some(insn) = insn else {
+        return Ok(false);
+    };
+    insns.push(insn)?;
+    Ok(true)
+}
+
+/// Puts the instruction of a slot behind those in front of it, and behind it the jump that it may need. Whether there was room.
 fn append(
     insns: &mut Vec<Insn>,
     code: &[Option<Insn>],
     places: &[Option<usize>],
-    finished: &[usize],
-    k: usize,
+    slot: usize,
+    follower: Option<usize>,
 ) -> Result<bool, AllocError> {
-    let Some(slot) = from_end(finished, k) else {
+    if !put(insns, moved(code, places, slot))? {
         return Ok(false);
-    };
-    let Some(insn) = moved(code, places, slot) else {
-        return Ok(false);
-    };
-    insns.push(insn)?;
-    let Some(to) = parted(code, finished, k) else {
-        return Ok(true);
-    };
-    let Some(jump) = jump_to(code, places, slot, to) else {
-        return Ok(false);
-    };
-    insns.push(jump)?;
+    }
+    match parted(code, slot, follower) {
+        Some(to) => put(insns, jump_to(code, places, slot, to)),
+        None => Ok(true),
+    }
+}
+
+/// Puts all instructions in their order. Whether there was room.
+fn append_all(
+    insns: &mut Vec<Insn>,
+    code: &[Option<Insn>],
+    places: &[Option<usize>],
+    finished: &[usize],
+) -> Result<bool, AllocError> {
+    for k in 0..finished.len() {
+        let slot = finished[finished.len() - 1 - k];
+        if !append(insns, code, places, slot, from_end(finished, k + 1))? {
+            return Ok(false);
+        }
+    }
     Ok(true)
 }
 
@@ -136,10 +150,9 @@ pub(crate) fn place(
 ) -> Result<Option<Placed>, AllocError> {
     let places = places_of(alloc, code, finished)?;
     let mut insns = Vec::new(alloc);
-    for k in 0..finished.len() {
-        if !append(&mut insns, code, places.as_slice(), finished, k)? {
-            return Ok(None);
-        }
+    if append_all(&mut insns, code, places.as_slice(), finished)? {
+        Ok(Some(Placed { insns, places }))
+    } else {
+        Ok(None)
     }
-    Ok(Some(Placed { insns, places }))
 }

@@ -1,6 +1,6 @@
 //! A search for an order. What it finds is judged elsewhere.
 
-use crate::slots::{insn_at, ways};
+use crate::slots::ways_at;
 use decode::Insn;
 use std::alloc::{AllocError, Global};
 
@@ -14,22 +14,16 @@ enum Mark {
     Done,
 }
 
-/// What a search finds.
-#[derive(Drop)]
-pub enum Found {
-    /// The slots that a call can come to, each behind those that it leads to.
-    Finished(Vec<usize>),
-    /// The slots on a way from slot 0, and the place on it to which its last one leads.
-    Cycle(Vec<usize>, usize),
-}
-
 /// A search in depth from slot 0 on.
 #[derive(Drop)]
-struct Search {
+pub struct Search {
     marks: Vec<Mark>,
     /// The slots on the way from slot 0.
-    open: Vec<usize>,
-    finished: Vec<usize>,
+    pub open: Vec<usize>,
+    /// The slots that a call can come to, each behind those that it leads to.
+    pub finished: Vec<usize>,
+    /// The place on the way to which its last slot leads, where the search has ended at a cycle.
+    pub cycle: Option<usize>,
 }
 
 impl Search {
@@ -60,57 +54,74 @@ impl Search {
         self.open.iter().position(|open| *open == slot)
     }
 
-    /// Goes on from the last slot of the way to the first that is new, the jump's first; or back, where none is.
-    /// Answers the place on the way to which the last slot leads, if it does.
-    fn step(&mut self, last: usize, slots: &[Option<Insn>]) -> Result<Option<usize>, AllocError> {
-        let (jump, next) = match insn_at(slots, last) {
-            Some(insn) => ways(&insn, last),
-            None => (None, None),
-        };
-        for way in [jump, next] {
-            let Some(to) = way else {
-                continue;
-            };
-            match self.mark(to) {
-                Mark::New => {
-                    self.enter(to)?;
-                    return Ok(None);
-                }
-                Mark::Open => return Ok(self.place(to)),
-                Mark::Done => {}
-            }
-        }
+    /// Goes back from the last slot of the way.
+    fn leave(&mut self, last: usize) -> Result<(), AllocError> {
         self.open.pop();
         self.set(last, Mark::Done);
         self.finished.push(last)?;
-        Ok(None)
+        Ok(())
+    }
+
+    /// Goes on from the last slot of the way to one to which it leads, if that is new; else back, or to the end at a cycle.
+    fn go(&mut self, last: usize, to: usize) -> Result<(), AllocError> {
+        match self.mark(to) {
+            Mark::New => self.enter(to),
+            Mark::Open => {
+                self.cycle = self.place(to);
+                Ok(())
+            }
+            Mark::Done => self.leave(last),
+        }
+    }
+
+    /// Whether nothing is to be found by a way.
+    fn is_done(&self, way: Option<usize>) -> bool {
+        match way {
+            Some(to) => matches!(self.mark(to), Mark::Done),
+            None => true,
+        }
+    }
+
+    /// Goes on from the last slot of the way to the first that is new, the jump's first; or back, where none is.
+    fn step(&mut self, last: usize, slots: &[Option<Insn>]) -> Result<(), AllocError> {
+        let (jump, next) = ways_at(slots, last);
+        let way = if self.is_done(jump) { next } else { jump };
+        match way {
+            Some(to) => self.go(last, to),
+            None => self.leave(last),
+        }
+    }
+
+    /// The slot to go on from; none at the end.
+    fn last(&self) -> Option<usize> {
+        match (self.open.last(), self.cycle) {
+            (Some(last), None) => Some(*last),
+            _ => None,
+        }
+    }
+
+    /// Goes on from slot 0 until all is found, or a cycle.
+    fn run(&mut self, slots: &[Option<Insn>]) -> Result<(), AllocError> {
+        self.enter(0)?;
+        // Each step enters a slot or leaves one, and none is entered twice.
+        for _ in 0..slots.len().saturating_mul(2) {
+            let Some(last) = self.last() else {
+                break;
+            };
+            self.step(last, slots)?;
+        }
+        Ok(())
     }
 }
 
 /// Searches all that slot 0 leads to, the way that falls through last.
-pub(crate) fn search_slots(alloc: Global, slots: &[Option<Insn>]) -> Result<Found, AllocError> {
+pub(crate) fn search_slots(alloc: Global, slots: &[Option<Insn>]) -> Result<Search, AllocError> {
     let mut search = Search {
-        marks: Vec::new(alloc),
+        marks: Vec::from_elem(alloc, Mark::New, slots.len())?,
         open: Vec::new(alloc),
         finished: Vec::new(alloc),
+        cycle: None,
     };
-    for _ in slots {
-        search.marks.push(Mark::New)?;
-    }
-    search.enter(0)?;
-    // Each step enters a slot or leaves one, and none is entered twice.
-    for _ in 0..slots.len() {
-        for _ in 0..2 {
-            let Some(last) = search.open.last() else {
-                break;
-            };
-            let last = *last;
-            if let Some(place) = search.step(last, slots)? {
-                let Search { open, .. } = search;
-                return Ok(Found::Cycle(open, place));
-            }
-        }
-    }
-    let Search { finished, .. } = search;
-    Ok(Found::Finished(finished))
+    search.run(slots)?;
+    Ok(search)
 }

@@ -49,3 +49,11 @@ pub(crate) fn ways(insn: &Insn, slot: usize) -> (Option<usize>, Option<usize>) {
         Flow::Falls(size) => (None, slot.checked_add(size)),
     }
 }
+
+/// The same of a slot; nowhere, where no instruction begins.
+pub(crate) fn ways_at(slots: &[Option<Insn>], slot: usize) -> (Option<usize>, Option<usize>) {
+    match insn_at(slots, slot) {
+        Some(insn) => ways(&insn, slot),
+        None => (None, None),
+    }
+}

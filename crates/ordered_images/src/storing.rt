@@ -1,16 +1,18 @@
 //! Code to image files, its blocks in another order where that helps.
 
-ghost use Rattle.std.specs.Prelude.{◌≤◌, ◌↔◌, IfErr, IfOk, IsTrue, length};
+ghost use Rattle.std.specs.Prelude.{◌<◌, ◌≤◌, ◌↔◌, IfErr, IfOk, IsTrue, length};
 ghost use Rattle.std.specs.List.{AllByRecursion};
 ghost use Rattle.decode.specs.Encoding.{Fits};
-ghost use Rattle.decode.specs.Slots.{slots_of};
+ghost use Rattle.decode.specs.Slots.{slots, slots_of};
 ghost use Rattle.images.specs.ImageFile.{IsFile};
 ghost use Rattle.images.specs.declared.file_form.FileForm.TheVariants.{Sbi3};
 ghost use Rattle.verifier.specs.ImageFile.{IsUnwritten};
+ghost use Rattle.ordered_images.specs.Order.{IsForward, IsMoved, IsOrder};
 ghost use Rattle.ordered_images.specs.Ordered.{BreaksV1, IsOrdered};
 
 use crate::blocks::Blocks;
 use crate::order::{Order, order_blocks};
+use crate::placing::Placed;
 use decode::Insn;
 use images::{FileForm, file};
 use limits::{SLOTS, STATE_BYTES};
@@ -39,6 +41,55 @@ fn breaks_v1(alloc: Global, code: &[Insn], state_len: u16) -> Result<bool, Alloc
     }
 }
 
+/// The file of form 3 of code in another order.
+fn moved_file(
+    alloc: Global,
+    code: &[Insn],
+    state_len: u16,
+    placed: &Placed,
+) -> Result<Ordered, ImageError>
+    requires state { state_len ≤ STATE_BYTES }
+    requires some { 0 < slots code.now }
+    requires short { slots code.now ≤ SLOTS }
+    requires breaks { BreaksV1 code.now state_len }
+    requires back { ¬ IsForward code.now }
+    requires moved { IsMoved code.now placed.now }
+    ensures written { IfOk result (IsOrdered Sbi3 code.now state_len) }
+    ensures refused { IfErr result (IsUnwritten code.now) }
+{
+    match file(alloc, FileForm::Sbi3, placed.insns.as_slice(), state_len) {
+        Ok(bytes) => Ok(Ordered {
+            bytes,
+            blocks: Blocks::Moved,
+        }),
+        Err(e) => Err(e),
+    }
+}
+
+/// The file of form 3 of code that V1 refuses and whose blocks are in this order.
+fn file_in(
+    alloc: Global,
+    code: &[Insn],
+    state_len: u16,
+    bytes: Vec<u8>,
+    order: Order,
+) -> Result<Ordered, ImageError>
+    requires state { state_len ≤ STATE_BYTES }
+    requires file { IsFile Sbi3 code.now state_len bytes.items }
+    requires breaks { BreaksV1 code.now state_len }
+    requires order { IsOrder code.now order }
+    ensures written { IfOk result (IsOrdered Sbi3 code.now state_len) }
+    ensures refused { IfErr result (IsUnwritten code.now) }
+{
+    let blocks = match order {
+        Order::Forward => Blocks::Kept,
+        Order::Moved(placed) => return moved_file(alloc, code, state_len, &placed),
+        Order::Loops { from, to } => Blocks::Loops { from, to },
+        Order::Unknown => Blocks::Unknown,
+    };
+    Ok(Ordered { bytes, blocks })
+}
+
 /// The file of form 3, where that of the code as it was given has these bytes.
 fn span_file(
     alloc: Global,
@@ -51,40 +102,19 @@ fn span_file(
     ensures written { IfOk result (IsOrdered Sbi3 code.now state_len) }
     ensures refused { IfErr result (IsUnwritten code.now) }
 {
-    let is_refused = match breaks_v1(alloc, code, state_len) {
-        Ok(is_refused) => is_refused,
-        Err(_) => return Err(ImageError::Memory),
-    };
-    if !is_refused {
-        return Ok(Ordered {
-            bytes,
-            blocks: Blocks::Kept,
-        });
-    }
-    let order = match order_blocks(alloc, code) {
-        Ok(order) => order,
-        Err(_) => return Err(ImageError::Memory),
-    };
-    match order {
-        Order::Forward => Ok(Ordered {
-            bytes,
-            blocks: Blocks::Kept,
-        }),
-        Order::Moved(placed) => {
-            let bytes = file(alloc, FileForm::Sbi3, placed.insns.as_slice(), state_len)?;
-            Ok(Ordered {
+    match breaks_v1(alloc, code, state_len) {
+        Ok(true) => {}
+        Ok(false) => {
+            return Ok(Ordered {
                 bytes,
-                blocks: Blocks::Moved,
-            })
+                blocks: Blocks::Kept,
+            });
         }
-        Order::Loops { from, to } => Ok(Ordered {
-            bytes,
-            blocks: Blocks::Loops { from, to },
-        }),
-        Order::Unknown => Ok(Ordered {
-            bytes,
-            blocks: Blocks::Unknown,
-        }),
+        Err(_) => return Err(ImageError::Memory),
+    }
+    match order_blocks(alloc, code) {
+        Ok(order) => file_in(alloc, code, state_len, bytes, order),
+        Err(_) => Err(ImageError::Memory),
     }
 }
 
@@ -100,7 +130,10 @@ pub fn ordered_file(
     ensures written { IfOk result (IsOrdered form code.now state_len) }
     ensures refused { IfErr result (IsUnwritten code.now) }
 {
-    let bytes = file(alloc, form, code, state_len)?;
+    let bytes = match file(alloc, form, code, state_len) {
+        Ok(bytes) => bytes,
+        Err(e) => return Err(e),
+    };
     match form {
         FileForm::Sbi3 => span_file(alloc, code, state_len, bytes),
         _ => Ok(Ordered {
