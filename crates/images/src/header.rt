@@ -5,7 +5,6 @@ ghost use Rattle.images.specs.SpanFile.{IsHeaderFault, magic_3};
 ghost use Rattle.images.specs.Inside.Header.{IsSound};
 ghost use Rattle.verifier.specs.Inside.Header.{HasHeader, header_bytes};
 
-use byteorder::{ByteOrder, LittleEndian};
 use limits::{SLOTS, STATE_BYTES};
 use verifier::{FileHeader, HeaderFault, header_at};
 
@@ -44,8 +43,9 @@ pub fn read_header(bytes: &[u8]) -> Result<(FileHeader, &[u8]), HeaderFault>
 pub fn write_header(state_len: u16, slots: u16) -> [u8; 8]
     ensures { result ≡ header_bytes (record { magic = magic_3; state_len = state_len; slots = slots }) }
 {
-    let mut bytes = [0x53, 0x42, 0x49, 0x33, 0, 0, 0, 0];
-    LittleEndian::write_u16(&mut bytes[4..6], state_len);
-    LittleEndian::write_u16(&mut bytes[6..8], slots);
-    bytes
+    let state = state_len.to_le_bytes();
+    let count = slots.to_le_bytes();
+    [
+        0x53, 0x42, 0x49, 0x33, state[0], state[1], count[0], count[1],
+    ]
 }

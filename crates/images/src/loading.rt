@@ -22,7 +22,7 @@ const MAGIC_3: [u8; 4] = [0x53, 0x42, 0x49, 0x33];
 fn is_form_3(bytes: &[u8]) -> bool
     ensures { IsTrue result ↔ (take 4 bytes.now ≡ magic_3) }
 {
-    bytes.len() >= 4 && bytes[..4] == MAGIC_3[..]
+    bytes.starts_with(&MAGIC_3)
 }
 
 /// The instructions of an image file, the length of its state, and its form. The code is not verified.

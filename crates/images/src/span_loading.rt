@@ -32,6 +32,30 @@ pub fn span_parts(alloc: Global, bytes: &[u8]) -> Result<(Vec<Insn>, u16), Image
     }
 }
 
+/// The image of a file of form 3 of this code, if it is typable.
+fn image_of(
+    alloc: Global,
+    bytes: &[u8],
+    code: Vec<Insn>,
+    state_len: u16,
+) -> Result<SpanImage, ImageError>
+    requires { IsFile code.items state_len bytes.now }
+    ensures found { IfOk result (λ image. IsFile image.code image.len bytes.now) }
+    ensures typable { IfOk result (λ image. IsTypable image.code image.len) }
+    ensures only { (code : List Insn) (len : ℕ) → IsFile code len bytes.now → IsTypable code len → IfOk result (IsImageOf code len) × IfErr result (λ e. e ≡ Memory) }
+    ensures refused { IfErr result (IsRefusal bytes.now) }
+{
+    let (_header, rest) = bytes.split_at(HEADER);
+    let Ok(encoded) = Vec::from_slice(alloc, rest) else {
+        return Err(ImageError::Memory);
+    };
+    match verified(alloc, code, encoded, state_len) {
+        Ok(image) => Ok(image),
+        Err(VerifyError::Memory) => Err(ImageError::Memory),
+        Err(VerifyError::Fault { rule, slot }) => Err(ImageError::Verify { rule, slot }),
+    }
+}
+
 /// The image of a file of form 3 of typable code. The first fault is named, in the order header, code, rules of
 /// the verifier.
 pub fn load_span(alloc: Global, bytes: &[u8]) -> Result<SpanImage, ImageError>
@@ -41,14 +65,8 @@ pub fn load_span(alloc: Global, bytes: &[u8]) -> Result<SpanImage, ImageError>
     ensures only { (code : List Insn) (len : ℕ) → IsFile code len bytes.now → IsTypable code len → IfOk result (IsImageOf code len) × IfErr result (λ e. e ≡ Memory) }
     ensures refused { IfErr result (IsRefusal bytes.now) }
 {
-    let (code, state_len) = span_parts(alloc, bytes)?;
-    let (_header, rest) = bytes.split_at(HEADER);
-    let Ok(encoded) = Vec::from_slice(alloc, rest) else {
-        return Err(ImageError::Memory);
-    };
-    match verified(alloc, code, encoded, state_len) {
-        Ok(image) => Ok(image),
-        Err(VerifyError::Memory) => Err(ImageError::Memory),
-        Err(VerifyError::Fault { rule, slot }) => Err(ImageError::Verify { rule, slot }),
+    match span_parts(alloc, bytes) {
+        Ok((code, state_len)) => image_of(alloc, bytes, code, state_len),
+        Err(error) => Err(error),
     }
 }
