@@ -27,8 +27,8 @@ pub enum Order {
     Unknown,
 }
 
-/// Whether all jumps of code go forward, and it has as many slots as code may have.
-fn is_short(insns: &[Insn]) -> bool
+/// Whether code has 1 to 1,024 slots, and all its jumps go forward.
+fn goes_forward(insns: &[Insn]) -> bool
     ensures { IsTrue result → IsForward insns.now × (0 < slots insns.now) × (slots insns.now ≤ SLOTS) }
 {
     let count = slots_in(insns);
@@ -46,7 +46,7 @@ fn is_moved(
     ensures { IfOk result (λ yes. IsTrue yes → IsMoved code.now placed.now) }
 {
     let insns = placed.insns.as_slice();
-    if !is_short(insns) {
+    if !goes_forward(insns) {
         return Ok(false);
     }
     match lay_out(alloc, insns) {
@@ -133,10 +133,7 @@ fn order_slots(alloc: Global, code: &[Insn], slots: &[Option<Insn>]) -> Result<O
     requires back { ¬ IsForward code.now }
     ensures { IfOk result (IsOrder code.now) }
 {
-    let found = match search_slots(alloc, slots) {
-        Ok(found) => found,
-        Err(e) => return Err(e),
-    };
+    let found = search_slots(alloc, slots)?;
     match found.cycle {
         Some(place) => looped(alloc, code, slots, found.open.as_slice(), place),
         None => moved(alloc, code, slots, found.finished.as_slice()),
@@ -151,8 +148,6 @@ pub fn order_blocks(alloc: Global, code: &[Insn]) -> Result<Order, AllocError>
     if is_forward(code) {
         return Ok(Order::Forward);
     }
-    match lay_out(alloc, code) {
-        Ok(slots) => order_slots(alloc, code, slots.as_slice()),
-        Err(e) => Err(e),
-    }
+    let slots = lay_out(alloc, code)?;
+    order_slots(alloc, code, slots.as_slice())
 }

@@ -130,10 +130,7 @@ pub fn ordered_file(
     ensures written { IfOk result (IsOrdered form code.now state_len) }
     ensures refused { IfErr result (IsUnwritten code.now) }
 {
-    let bytes = match file(alloc, form, code, state_len) {
-        Ok(bytes) => bytes,
-        Err(e) => return Err(e),
-    };
+    let bytes = file(alloc, form, code, state_len)?;
     match form {
         FileForm::Sbi3 => span_file(alloc, code, state_len, bytes),
         _ => Ok(Ordered {

@@ -20,7 +20,7 @@ returns-in-Ok c =
     let same : c.as_slice-insns.result.now ≡ insns = c.as_slice-insns.ensures.value in
     let other : c.as_slice.result.now ≡ slots_of insns = c.as_slice.ensures.value ∙ c.in-Ok.ensures.slots ∙ ap slots_of same in
     let short : IsForward insns × (0 < slots insns) × (slots insns ≤ SLOTS) =
-    subst (λ (x : List Insn). IsForward x × (0 < slots x) × (slots x ≤ SLOTS)) same (c.is_short.ensures c.if-not-is_short.false) in
+    subst (λ (x : List Insn). IsForward x × (0 < slots x) × (slots x ≤ SLOTS)) same (c.goes_forward.ensures c.if-not-goes_forward.false) in
     IfOk-weaker c.is_placement.result _ _
     (λ is found h. record {
       placed = placed_by c.args.code.now insns c.args.slots.now c.as_slice.result.now c.as_slice-in-Ok.result.now c.args.placed.now.places.items
