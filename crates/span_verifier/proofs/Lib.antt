@@ -1,3 +1,4 @@
+pub mod KindLemmas
 pub mod Exact
 pub mod Ones
 pub mod Wiping
@@ -8,3 +9,4 @@ pub mod Passes
 pub mod Forms
 pub mod SpanPasses
 pub mod Slots
+pub mod AluForms

@@ -1,8 +1,6 @@
 -- Cells of an array of kinds.
-use Rattle.std.proofs.Common.{◌≡◌, ℕ, ◌<◌, ◌≤◌, true, false, List, length, Some, ℤ, ◌≤ℤ◌, sym, ap, ◌∙◌, ⊎_elim, arith}
+use Rattle.std.proofs.Common.{◌≡◌, ℕ, ◌<◌, ◌≤◌, true, false, List, length, Some, ℤ, ◌≤ℤ◌, ap, ◌∙◌, arith}
 use Rattle.std.specs.Prelude.{◌==◌, nat_lt, if◌then◌else◌}
-use Rattle.std.proofs.Math.Path.{fun_ext}
-use Rattle.std.proofs.lemmas.Bool.{cases_lt}
 use Rattle.std.proofs.lemmas.Bool.Decides.{nat_tests}
 use Rattle.std.proofs.lemmas.Int.{ints}
 use Rattle.std.proofs.lemmas.List.{get_or_past}
@@ -14,7 +12,7 @@ use Rattle.spans.specs.Frame.{WithinReach, kind_at}
 use Rattle.spans.specs.Access.{is_inside, whole_word}
 use Rattle.spans.specs.Leaving.{behind_helper}
 use Rattle.spans.proofs.Access.{whole_word-is_reached}
-use Rattle.spans.proofs.KindLemmas.{Filled}
+use Rattle.span_verifier.proofs.KindLemmas.{Filled, filled_all}
 use Rattle.span_verifier.proofs.Exact.{reached-within}
 
 -- a whole word of the stack is one of its 64
@@ -25,10 +23,10 @@ word_within s o n c l i e =
 
 -- behind a helper nothing is known past the last cell
 pub answered_all : (k f : List Kind) → length k ≡ 75 → length f ≡ 75 → Filled k (behind_helper (kind_at f)) 75 → kind_at k ≡ behind_helper (kind_at f)
-answered_all k f n m h = fun_ext (λ c. ⊎_elim (h c) (past c) (cases_lt c 75))
+answered_all k f n m h = filled_all (behind_helper (kind_at f)) k n past h
   where
-    past : (c : ℕ) → 75 ≤ c → kind_at k c ≡ (if c == 0 then Num (span 0 15) else if nat_lt c 6 then Unset else kind_at f c)
+    past : (c : ℕ) → 75 ≤ c → behind_helper (kind_at f) c ≡ Unset
     past c l =
         let a : (c == 0) ≡ false = grind (arith, nat_tests) in
         let b : nat_lt c 6 ≡ false = grind (arith, nat_tests) in
-        get_or_past k c Unset (omega (arith, n, l)) ∙ sym (ap (λ t. if t then Num (span 0 15) else if nat_lt c 6 then Unset else kind_at f c) a ∙ ap (λ t. if t then Unset else kind_at f c) b ∙ get_or_past f c Unset (omega (arith, m, l)))
+        ap (λ t. if t then Num (span 0 15) else if nat_lt c 6 then Unset else kind_at f c) a ∙ ap (λ t. if t then Unset else kind_at f c) b ∙ get_or_past f c Unset (omega (arith, m, l))

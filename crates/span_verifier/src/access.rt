@@ -5,7 +5,7 @@ ghost use Rattle.span_verifier.specs.Rules.{words_rule};
 ghost use Rattle.spans.specs.Access.{cell_at, is_inside, is_reached, whole_word, wiped};
 ghost use Rattle.spans.specs.Frame.{kind_at};
 
-use crate::distance::{begin, begins_before, begins_inside, ends_behind, ends_inside};
+use crate::distance::{begin, end};
 use crate::results::whole;
 use crate::rules::{lesser, number_rule};
 use decode::Width;
@@ -16,7 +16,7 @@ use spans::{Cells, Kind, Reach};
 pub fn is_inside(size: u16, reach: Reach, offset: i16, bytes: u16) -> bool
     ensures { result ≡ is_inside size reach offset bytes }
 {
-    begins_inside(reach.lo, offset) && ends_inside(reach.hi, offset, bytes, size)
+    0 <= begin(reach.lo, offset) && end(reach.hi, offset, bytes) <= i32::from(size)
 }
 
 /// The cell of the word that begins at a byte of the stack.
@@ -54,7 +54,8 @@ fn is_reached(reach: Reach, offset: i16, bytes: u16, cell: u16) -> bool
         return false;
     }
     let first = 8 * (cell - 11);
-    ends_behind(reach.hi, offset, bytes, first) && begins_before(reach.lo, offset, first + 8)
+    i32::from(first) < end(reach.hi, offset, bytes)
+        && begin(reach.lo, offset) < i32::from(first + 8)
 }
 
 /// The words of the stack that an access may reach are read as numbers.

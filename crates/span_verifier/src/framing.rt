@@ -8,6 +8,7 @@ ghost use Rattle.span_verifier.specs.Inside.Pass.{IsOpening};
 ghost use Rattle.span_verifier.specs.Typing.{table_of};
 ghost use Rattle.span_verifier.specs.Verdict.{IsJudged};
 
+use crate::frame::entry;
 use crate::judging::judge;
 use crate::layout::lay_out;
 use decode::Insn;
@@ -37,7 +38,7 @@ fn opening(alloc: Global, slots: usize) -> Result<Vec<Option<Box<Cells>>>, Alloc
     ensures only { IfOk result (λ table. IsOpening (table_of table.items)) }
 {
     let mut table = Vec::with_capacity(alloc, slots)?;
-    table.push(Some(Box::new(alloc, Cells::entry())?))?;
+    table.push(Some(Box::new(alloc, entry())?))?;
     'rest: for _ in 1..slots {
         table.push(None)?;
     }

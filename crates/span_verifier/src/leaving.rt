@@ -142,8 +142,9 @@ fn leave(insn: &Insn, frame: &Cells, state_len: u16) -> Leaving
             dst,
             src,
         } => falls(frame.with(dst, extended(extension, frame.kind(src)))),
-        Insn::Neg { dst, .. } => falls(frame.with(dst, any_number(frame.kind(dst)))),
-        Insn::End { dst, .. } => falls(frame.with(dst, any_number(frame.kind(dst)))),
+        Insn::Neg { dst, .. } | Insn::End { dst, .. } => {
+            falls(frame.with(dst, any_number(frame.kind(dst))))
+        }
         Insn::Wide { dst, value } => {
             let span = Span {
                 lo: value,
@@ -214,8 +215,9 @@ fn frame_rule(insn: &Insn, frame: &Cells, state_len: u16) -> Option<Rule>
             let b = operand_kind(width, operand, frame);
             alu_rule(op, width, operand, frame.kind(dst), b)
         }
-        Insn::MovSx { src, .. } => number_rule(frame.kind(src)),
-        Insn::Neg { dst, .. } | Insn::End { dst, .. } => number_rule(frame.kind(dst)),
+        Insn::MovSx { src: reg, .. } | Insn::Neg { dst: reg, .. } | Insn::End { dst: reg, .. } => {
+            number_rule(frame.kind(reg))
+        }
         Insn::Wide { .. } | Insn::Jump { .. } | Insn::JumpLong { .. } => None,
         Insn::JumpIf {
             width,

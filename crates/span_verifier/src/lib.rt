@@ -9,6 +9,8 @@
 //! rule, and the least rule that it breaks; no other slot or rule could have been named
 //! ([`refusals_are_one`]).
 //!
+//! [`entry`] is what is known as a call begins, and [`join`] what two frames say both.
+//!
 //! [`transfer`] is the rule of one instruction: it answers the frames that leave it on its two ways, none
 //! on a way that no number takes, or the least of the rules V3 to V10 that is broken. `specs/Rules` says
 //! which that is and `specs/Leaving` what leaves; [`rules_are_exact`] that both say what the definition of
@@ -30,7 +32,9 @@
 //! leads(&slots, 0, &code[0])?;
 //! // r3 is a number from 0 to 256, and r2 the state's first byte: their sum is a place of the state
 //! let add = Insn::Alu { op: AluOp::Add, width: Width::W64, dst: r2, operand: Operand::Reg(r3) };
-//! let left = transfer(&add, &Cells::entry(), 257);
+//! let left = transfer(&add, &entry(), 257);
+//! // in both frames r3 is a number: from 1 to 4 in one, from 3 to 9 in the other; so in both it is one from 1 to 9
+//! assert!(rt; join(&first, &second).kind(r3) == Kind::Num(Span { lo: 1, hi: 9 }));
 //! ```
 #![tactic(auto)]
 
@@ -40,8 +44,10 @@ mod call;
 mod distance;
 mod exactness;
 mod fault;
+mod frame;
 mod framing;
 mod judging;
+mod kind;
 mod laws;
 mod layout;
 mod leading;
@@ -59,6 +65,7 @@ pub use alu::{alu_kind, alu_rule, any_number, extended, operand_kind};
 pub use call::{answered, call_rule};
 pub use exactness::rules_are_exact;
 pub use fault::VerifyError;
+pub use frame::{entry, join};
 pub use framing::{Frames, frames_of};
 pub use laws::{form_3_keeps_laws, refusals_are_one, typed_calls_are_shown, typings_are_typings};
 pub use layout::lay_out;

@@ -8,10 +8,11 @@ ghost use Rattle.span_verifier.specs.Transfer.{frame_of, frames_of};
 ghost use Rattle.span_verifier.specs.Inside.Pass.{IsMerged, IsSpread, IsWayMerged, IsWayWithin};
 ghost use Rattle.span_verifier.specs.Typing.{table_of};
 
+use crate::frame::join;
 use crate::leaving::Leaving;
 use decode::Insn;
 use limits::SLOTS;
-use spans::{Cells, join};
+use spans::Cells;
 use std::alloc::{AllocError, Global};
 
 /// Joins a frame into what a slot has. Only a slot that had none takes memory.

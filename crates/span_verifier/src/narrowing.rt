@@ -5,6 +5,7 @@ ghost use Rattle.std.specs.Option.{option_map};
 ghost use Rattle.operations.specs.Words.{bits_of};
 ghost use Rattle.spans.specs.Narrowing.{is_one, not_negative, opposite, shown, swapped, unless_empty, where_at_most, where_different, where_less, where_met, where_signed};
 
+use crate::results::greatest;
 use decode::{Condition, Width};
 use spans::Span;
 
@@ -164,10 +165,7 @@ pub fn shown(condition: Option<Condition>, width: Width, a: Span, b: Span) -> Sp
     let Some(condition) = condition else {
         return Some((a, b));
     };
-    let greatest = match width {
-        Width::W32 => u64::from(u32::MAX),
-        Width::W64 => u64::MAX,
-    };
+    let greatest = greatest(width);
     if a.hi <= greatest && b.hi <= greatest {
         where_met(condition, width, a, b)
     } else {

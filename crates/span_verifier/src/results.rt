@@ -9,7 +9,7 @@ use decode::{AluOp, Width};
 use spans::Span;
 
 /// How many bits an operation works on.
-fn bits(width: Width) -> u32
+fn bits(width: Width) -> u64
     ensures { result ≡ bits_of width }
 {
     match width {
@@ -19,7 +19,7 @@ fn bits(width: Width) -> u32
 }
 
 /// The greatest word of this width.
-fn greatest(width: Width) -> u64
+pub fn greatest(width: Width) -> u64
     ensures { result ≡ 2 ^ bits_of width - 1 }
 {
     match width {
@@ -127,7 +127,7 @@ pub fn power(count: u64) -> u64
 fn ones(width: Width, top: u64) -> u64
     ensures { result ≡ ones (bits_of width) top }
 {
-    for count in 0..u64::from(bits(width)) {
+    for count in 0..bits(width) {
         let power = power(count);
         if top < power {
             return power - 1;
@@ -141,7 +141,7 @@ fn shifted_left(width: Width, a: Span, b: Span) -> Span
     requires b { IsSpan (bits_of width) b }
     ensures { result ≡ result_span alu.Lsh (bits_of width) a b }
 {
-    if b.hi >= u64::from(bits(width)) {
+    if b.hi >= bits(width) {
         return whole(width);
     }
     match a.hi.checked_mul(power(b.hi)) {
@@ -155,7 +155,7 @@ fn shifted_right(width: Width, a: Span, b: Span) -> Span
     requires b { IsSpan (bits_of width) b }
     ensures { result ≡ result_span alu.Rsh (bits_of width) a b }
 {
-    if b.hi >= u64::from(bits(width)) {
+    if b.hi >= bits(width) {
         return whole(width);
     }
     Span {

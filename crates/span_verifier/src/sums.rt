@@ -7,7 +7,7 @@ ghost use Rattle.spans.specs.Frame.{IsKind};
 ghost use Rattle.spans.specs.Span.{IsSpan};
 ghost use Rattle.spans.specs.Leaving.{low_span, moved_kind, moved_reach, moved_span, near_place, summed_kind};
 
-use crate::distance::{grown, is_above, is_below, shifted, stays_above, stays_below};
+use crate::distance::{changed, further};
 use crate::results::{bounded, result, whole};
 use crate::rules::unless;
 use decode::{AluOp, Width};
@@ -24,11 +24,31 @@ pub fn low_span(width: Width, span: Span) -> Span
     }
 }
 
+/// What places break of which the distances lie from one number to another.
+fn near_rule(lo: i128, hi: i128) -> Option<Rule>
+    ensures { result ≡ near_rule (record { lo = lo; hi = hi }) }
+{
+    unless(-32768 <= lo && hi <= 32767, Rule::V6)
+}
+
+/// Places of which the distances lie from one number to another; nothing where one may be too far off.
+fn near_place(region: Region, lo: i128, hi: i128) -> Kind
+    requires { lo ≤ℤ hi }
+    ensures { result ≡ unwrap_or (near_place region (record { lo = lo; hi = hi })) Kind.Unset }
+{
+    if -32768 <= lo && hi <= 32767 {
+        let lo = lo as i16;
+        let hi = hi as i16;
+        Kind::Place(region, Reach { lo, hi })
+    } else {
+        Kind::Unset
+    }
+}
+
 fn rule_by(reach: Reach, by: Span) -> Option<Rule>
     ensures { result ≡ near_rule (moved_reach reach (pos by.lo) (pos by.hi)) }
 {
-    let near = is_above(reach.lo, by.lo) && is_below(reach.hi, by.hi);
-    unless(near, Rule::V6)
+    near_rule(further(reach.lo, by.lo), further(reach.hi, by.hi))
 }
 
 /// A place that a number moves; nothing where it may get too far off.
@@ -37,34 +57,7 @@ fn place_by(region: Region, reach: Reach, by: Span) -> Kind
     requires by { by.lo ≤ by.hi }
     ensures { result ≡ unwrap_or (near_place region (moved_reach reach (pos by.lo) (pos by.hi))) Kind.Unset }
 {
-    if is_above(reach.lo, by.lo) && is_below(reach.hi, by.hi) {
-        let lo = grown(reach.lo, by.lo);
-        let hi = grown(reach.hi, by.hi);
-        Kind::Place(region, Reach { lo, hi })
-    } else {
-        Kind::Unset
-    }
-}
-
-fn rule_from(reach: Reach, by: i64) -> Option<Rule>
-    ensures { result ≡ near_rule (moved_reach reach by by) }
-{
-    let near = stays_above(reach.lo, by) && stays_below(reach.hi, by);
-    unless(near, Rule::V6)
-}
-
-/// A place that an immediate moves; nothing where it may get too far off.
-fn place_from(region: Region, reach: Reach, by: i64) -> Kind
-    requires { reach.lo ≤ℤ reach.hi }
-    ensures { result ≡ unwrap_or (near_place region (moved_reach reach by by)) Kind.Unset }
-{
-    if stays_above(reach.lo, by) && stays_below(reach.hi, by) {
-        let lo = shifted(reach.lo, by);
-        let hi = shifted(reach.hi, by);
-        Kind::Place(region, Reach { lo, hi })
-    } else {
-        Kind::Unset
-    }
+    near_place(region, further(reach.lo, by.lo), further(reach.hi, by.hi))
 }
 
 /// What a sum of two registers breaks.
@@ -115,7 +108,7 @@ pub fn move_rule(width: Width, by: i64, kind: Kind) -> Option<Rule>
         Kind::Num(_) => None,
         Kind::Place(_, s) => match width {
             Width::W32 => Some(Rule::V5),
-            Width::W64 => rule_from(s, by),
+            Width::W64 => near_rule(changed(s.lo, by), changed(s.hi, by)),
         },
     }
 }
@@ -153,7 +146,7 @@ pub fn moved(width: Width, by: i64, kind: Kind) -> Kind
         Kind::Num(s) => Kind::Num(moved_span(width, by, low_span(width, s))),
         Kind::Place(region, s) => match width {
             Width::W32 => Kind::Unset,
-            Width::W64 => place_from(region, s, by),
+            Width::W64 => near_place(region, changed(s.lo, by), changed(s.hi, by)),
         },
     }
 }

@@ -9,4 +9,3 @@ pub mod Memory
 pub mod Fitting
 pub mod Closed
 pub mod Entry
-pub mod KindLemmas

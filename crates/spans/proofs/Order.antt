@@ -1,6 +1,7 @@
 -- The order of kinds and of frames, and what two of them both say.
 use Rattle.std.proofs.Common.{◌≡◌, Bool, true, false, ℤ, ◌≤ℤ◌, refl, sym, ◌∙◌, arith}
 use Rattle.std.specs.Prelude.{int_le, if◌then◌else◌}
+use Rattle.std.proofs.Math.Nat.{le-max_left, le-max_right, le-min, max-le, min-le_left, min-le_right}
 use Rattle.std.proofs.lemmas.Int.{ints}
 use Rattle.regtypes.specs.declared.frame.Region.TheVariants.{Message, State, Stack}
 use Rattle.spans.specs.Span.{IsSpan, Span, Within, joined_span}
@@ -55,13 +56,13 @@ joined_span-is : (s t : Span) → IsSpan 64 s → IsSpan 64 t → IsSpan 64 (joi
 joined_span-is s t i j = record { some = omega (arith, i.some, j.some); words = omega (arith, i.words, j.words) }
 
 joined_span-left : (s t : Span) → Within s (joined_span s t)
-joined_span-left s t = (omega arith, omega arith)
+joined_span-left s t = (min-le_left s.lo t.lo, le-max_left s.hi t.hi)
 
 joined_span-right : (s t : Span) → Within t (joined_span s t)
-joined_span-right s t = (omega arith, omega arith)
+joined_span-right s t = (min-le_right s.lo t.lo, le-max_right s.hi t.hi)
 
 joined_span-least : (s t u : Span) → Within s u → Within t u → Within (joined_span s t) u
-joined_span-least s t u l m = (omega (arith, l.0, m.0), omega (arith, l.1, m.1))
+joined_span-least s t u l m = (le-min l.0 m.0, max-le l.1 m.1)
 
 lesser : (x y : ℤ) → ((if int_le x y then x else y) ≤ℤ x) × ((if int_le x y then x else y) ≤ℤ y)
 lesser x y = (grind (arith, ints), grind (arith, ints))

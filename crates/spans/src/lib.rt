@@ -1,6 +1,6 @@
 //! What is known of registers and of the stack's words in form 3 of images, and why a step from what
-//! fits it is no fault. Of its code there are kinds, frames, their order and their join; `span_verifier`
-//! has the rules in code, and goes through a handler by them.
+//! fits it is no fault. Of its code there are the types of kinds and frames alone; `span_verifier` has
+//! their join and the rules in code, and goes through a handler by them.
 //!
 //! A number is known to lie between two others, and a place to have one of the distances between two
 //! others from its region's first byte; each of the stack's 64 words has such a kind too. So a handler
@@ -10,17 +10,15 @@
 //! instruction asks of it and leaves. Beside that stand the configurations of a call and its steps, with
 //! no frame in them: `specs/Configuration`, `specs/Memory` and `specs/Step`.
 //!
-//! [`Cells`] is a frame as an array, [`Cells::entry`] what is known as a call begins, [`leq`] the order of
-//! frames, [`join`] what two of them both say. The functions without a body are there for their laws:
+//! [`Cells`] is a frame as an array. The functions without a body are there for their laws:
 //! [`rules_are_monotone`] and the laws of order and join are what makes the least typing decide;
 //! [`steps_fit`] and [`calls_fit`] say that code with a typing never comes to a fault. No law says that
 //! the rules refuse no more than they have to.
 //!
 //! ```
-//! // in both frames r3 is a number: from 1 to 4 in one, from 3 to 9 in the other
-//! let both = join(&first, &second);
-//! // in both it is one from 1 to 9
-//! assert!(rt; both.kinds[3] == Kind::Num(Span { lo: 1, hi: 9 }));
+//! // in this frame r3 is a number from 1 to 9, and all else as before
+//! let shown = cells.with(r3, Kind::Num(Span { lo: 1, hi: 9 }));
+//! assert!(rt; shown.kind(r3) == Kind::Num(Span { lo: 1, hi: 9 }));
 //! ```
 #![tactic(auto)]
 
@@ -29,10 +27,10 @@ mod kind;
 mod laws;
 mod span;
 
-pub use cells::{Cells, join, leq};
-pub use kind::{Kind, Reach, join_kinds, join_reaches, leq_kind, within_reach};
+pub use cells::Cells;
+pub use kind::{Kind, Reach};
 pub use laws::{
     calls_fit, frames_are_ordered, frames_stay_frames, joins_are_least, rules_are_monotone,
     steps_fit,
 };
-pub use span::{Span, join_spans, within};
+pub use span::Span;

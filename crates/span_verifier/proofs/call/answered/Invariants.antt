@@ -1,7 +1,7 @@
 use Rattle.std.proofs.Common.{◌≡◌, length}
 use Rattle.spans.specs.Frame.{kind_at}
 use Rattle.spans.specs.Leaving.{behind_helper}
-use Rattle.spans.proofs.KindLemmas.{Filled}
+use Rattle.span_verifier.proofs.KindLemmas.{Filled}
 use Rattle.span_verifier.proofs.call.answered.Given as goal
 
 abbrev pub invariant-loop-cell : goal.invariant-loop-cell

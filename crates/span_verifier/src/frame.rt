@@ -1,0 +1,48 @@
+//! The frame of the entry, and what two frames say both.
+
+ghost use Rattle.std.specs.Prelude.{◌≡◌, ℕ};
+ghost use Rattle.spans.specs.Frame.{entry_frame, joined, kind_at};
+
+use crate::kind::join_kinds;
+use regtypes::Region;
+use spans::{Cells, Kind, Reach, Span};
+
+/// What is known of a cell as a call begins.
+fn entry_kind(cell: usize) -> Kind
+    ensures { result ≡ entry_frame cell }
+{
+    match cell {
+        1 => Kind::Place(Region::Message, Reach { lo: 0, hi: 0 }),
+        2 => Kind::Place(Region::State, Reach { lo: 0, hi: 0 }),
+        3 => Kind::Num(Span { lo: 0, hi: 256 }),
+        10 => Kind::Place(Region::Stack, Reach { lo: 512, hi: 512 }),
+        11..=74 => Kind::Num(Span {
+            lo: 0,
+            hi: u64::MAX,
+        }),
+        _ => Kind::Unset,
+    }
+}
+
+/// What is known as a call begins: r1 is the message, r2 the state, r3 how many bytes the message
+/// has, r10 the end of the stack, whose words are numbers.
+pub fn entry() -> Cells
+    ensures { kind_at result.kinds ≡ entry_frame }
+{
+    let mut kinds = [Kind::Unset; 75];
+    for cell in 0..75 {
+        kinds[cell] = entry_kind(cell);
+    }
+    Cells { kinds }
+}
+
+/// What both frames say.
+pub fn join(a: &Cells, b: &Cells) -> Cells
+    ensures { (c : ℕ) → kind_at result.kinds c ≡ joined (kind_at a.now.kinds) (kind_at b.now.kinds) c }
+{
+    let mut kinds = a.kinds;
+    for i in 0..75 {
+        kinds[i] = join_kinds(a.kinds[i], b.kinds[i]);
+    }
+    Cells { kinds }
+}

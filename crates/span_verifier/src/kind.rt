@@ -1,0 +1,53 @@
+//! What two kinds say both.
+
+ghost use Rattle.std.specs.Prelude.{◌≡◌};
+ghost use Rattle.spans.specs.Span.{joined_span};
+ghost use Rattle.spans.specs.Frame.{joined_kind, joined_reach};
+
+use spans::{Kind, Reach, Span};
+
+/// The least span that has the numbers of both.
+fn join_spans(a: Span, b: Span) -> Span
+    ensures { result ≡ joined_span a b }
+{
+    Span {
+        lo: a.lo.min(b.lo),
+        hi: a.hi.max(b.hi),
+    }
+}
+
+/// The least reach that has the distances of both.
+fn join_reaches(s: Reach, t: Reach) -> Reach
+    ensures { result ≡ joined_reach s t }
+{
+    Reach {
+        lo: if s.lo <= t.lo { s.lo } else { t.lo },
+        hi: if s.hi <= t.hi { t.hi } else { s.hi },
+    }
+}
+
+/// What both kinds say.
+#[tactic(auto, using(crate::proofs::KindLemmas::joined_same, crate::proofs::KindLemmas::joined_apart, crate::proofs::KindLemmas::joined_unset, crate::proofs::KindLemmas::joined_num))]
+pub fn join_kinds(a: Kind, b: Kind) -> Kind
+    ensures { result ≡ joined_kind a b }
+{
+    match a {
+        Kind::Unset => Kind::Unset,
+        Kind::Num(s) => match b {
+            Kind::Unset => Kind::Unset,
+            Kind::Num(t) => Kind::Num(join_spans(s, t)),
+            Kind::Place(_, _) => Kind::Unset,
+        },
+        Kind::Place(r, s) => match b {
+            Kind::Unset => Kind::Unset,
+            Kind::Num(_) => Kind::Unset,
+            Kind::Place(q, t) => {
+                if r == q {
+                    Kind::Place(r, join_reaches(s, t))
+                } else {
+                    Kind::Unset
+                }
+            }
+        },
+    }
+}
