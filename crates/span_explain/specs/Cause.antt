@@ -93,9 +93,14 @@ out_by f (Some x) moved = reach_cause x (f x.base.number)
 out_by f None (Some m) = ShiftedBy m.0 m.1
 out_by f None None = Nothing
 
+-- V6: by what a register moves another that it is added to, or else another cause
+abbrev pub moved_or : Insn → Frame → Cause → Cause
+moved_or (Alu alu.Add W64 dst (operand.Reg src)) f other = moved_cause dst src (f dst.number) (f src.number)
+moved_or i f other = other
+
+-- V6: a sum of two registers, or else what is reached, or moved by an immediate
 abbrev pub out_cause : Insn → Frame → Cause
-out_cause (Alu alu.Add W64 dst (operand.Reg src)) f = moved_cause dst src (f dst.number) (f src.number)
-out_cause i f = out_by f (attributes_of i).access (attributes_of i).moved
+out_cause i f = moved_or i f (out_by f (attributes_of i).access (attributes_of i).moved)
 
 -- V7: the base of the access
 abbrev pub message_cause : Option Access → Cause

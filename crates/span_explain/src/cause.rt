@@ -1,15 +1,15 @@
 //! What breaks a rule at a slot.
 
-ghost use Rattle.std.specs.Prelude.{◌≡◌, ◌∷◌, [], ◌+ℤ◌};
+ghost use Rattle.std.specs.Prelude.{◌≡◌, ◌∷◌, []};
 ghost use Rattle.regtypes.specs.Flow.{flow_of};
 ghost use Rattle.regtypes.specs.Rules.{base_of, moved_of};
 ghost use Rattle.spans.specs.Frame.{kind_at};
-ghost use Rattle.span_explain.specs.Cause.{access_cause, by_missing, cause_of, helper_cause, jump_of, message_cause, mixed_by, mixed_cause, mixed_of, moved_cause, out_by, out_cause, part_cause, reach_cause, sum_or, unset_cause};
+ghost use Rattle.span_explain.specs.Cause.{access_cause, by_missing, cause_of, helper_cause, jump_of, message_cause, mixed_by, mixed_cause, mixed_of, moved_cause, moved_or, out_by, out_cause, part_cause, reach_cause, sum_or, unset_cause};
 ghost use Rattle.span_explain.specs.Flaw.{first_flawed};
 ghost use Rattle.span_explain.specs.declared.flaw.Flaw.TheVariants.{Missing, Pointing};
 
 use crate::argument::argument_cause;
-use crate::flaw::{Flaw, flawed_word, is_flawed, reached_word};
+use crate::flaw::{Flaw, distance_at, flawed_word, is_flawed, reached_word};
 use decode::{AluOp, Insn, Operand, Reg, Width};
 use explain::{base, shifted};
 use regtypes::{Access, Attributes, Flow, Region, Rule, attributes_from, flow_from};
@@ -218,13 +218,6 @@ fn moved_cause(dst: Reg, src: Reg, a: Kind, b: Kind) -> Cause
     }
 }
 
-/// A distance that an offset changes.
-fn distance_at(at: i16, offset: i16) -> i64
-    ensures { result ≡ at +ℤ offset }
-{
-    i64::from(at) + i64::from(offset)
-}
-
 fn reach_cause(access: Access, kind: Kind) -> Cause
     ensures { result ≡ reach_cause access kind }
 {
@@ -248,12 +241,10 @@ fn out_by(frame: &Cells, access: Option<Access>, moved: Option<(Reg, i64)>) -> C
     }
 }
 
-/// V6: what is reached outside of a region, or moved too far.
-fn out_cause(insn: &Insn, frame: &Cells) -> Cause
-    ensures { result ≡ out_cause insn.now (kind_at frame.now.kinds) }
+/// By what a register moves another that it is added to, or else another cause.
+fn moved_or(insn: &Insn, frame: &Cells, other: Cause) -> Cause
+    ensures { result ≡ moved_or insn.now (kind_at frame.now.kinds) other }
 {
-    let what = attributes_from(insn);
-    let other = out_by(frame, what.access, what.moved);
     match *insn {
         Insn::Alu {
             op: AluOp::Add,
@@ -263,6 +254,14 @@ fn out_cause(insn: &Insn, frame: &Cells) -> Cause
         } => moved_cause(dst, src, frame.kind(dst), frame.kind(src)),
         _ => other,
     }
+}
+
+/// V6: what is reached outside of a region, or moved too far.
+fn out_cause(insn: &Insn, frame: &Cells) -> Cause
+    ensures { result ≡ out_cause insn.now (kind_at frame.now.kinds) }
+{
+    let what = attributes_from(insn);
+    moved_or(insn, frame, out_by(frame, what.access, what.moved))
 }
 
 /// V7: the base of an access.

@@ -43,11 +43,18 @@ pub fn is_flawed(flaw: Flaw, frame: &Cells, reg: Option<Reg>) -> bool
     }
 }
 
+/// A distance that an offset changes.
+pub fn distance_at(at: i16, offset: i16) -> i64
+    ensures { result ≡ at +ℤ offset }
+{
+    i64::from(at) + i64::from(offset)
+}
+
 /// Where bytes end that begin at an offset from a place.
-fn end(at: i16, offset: i16, bytes: u16) -> i32
+fn end(at: i16, offset: i16, bytes: u16) -> i64
     ensures { result ≡ at +ℤ offset +ℤ pos bytes }
 {
-    i32::from(at) + i32::from(offset) + i32::from(bytes)
+    distance_at(at, offset) + i64::from(bytes)
 }
 
 /// Whether an access may reach a byte of this cell's word.
@@ -58,8 +65,9 @@ fn reaches(reach: Reach, offset: i16, bytes: u16, cell: u16) -> bool
     if bytes == 0 || cell < 11 {
         return false;
     }
-    let first = 8 * i32::from(cell - 11);
-    first < end(reach.hi, offset, bytes) && end(reach.lo, offset, 0) < first + 8
+    let first = 8 * (cell - 11);
+    i64::from(first) < end(reach.hi, offset, bytes)
+        && distance_at(reach.lo, offset) < i64::from(first + 8)
 }
 
 /// The cell, where an access may reach its word and it has the flaw.

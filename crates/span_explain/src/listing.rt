@@ -131,6 +131,5 @@ pub fn explain(alloc: Global, code: &[Insn], state_len: u16) -> Result<String, A
     ensures { IfOk result (λ text. IsListed code.now state_len (string_bytes text)) }
 {
     let study = study_of(alloc, code, state_len)?;
-    let text = listing_of(alloc, &study)?;
-    Ok(text)
+    listing_of(alloc, &study)
 }
