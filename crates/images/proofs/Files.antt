@@ -1,5 +1,5 @@
 -- A file's refusal by its own form is one by all three.
-use Rattle.std.proofs.Common.{◌≡◌, ◌≢◌, ℕ, List, [], ◌∷◌, take, ap, inl, inr}
+use Rattle.std.proofs.Common.{◌≡◌, ◌≢◌, ℕ, List, [], ◌∷◌, get_or, take, refl, sym, ap, ◌∙◌, inl, inr, arith}
 use Rattle.decode.specs.declared.insn.Insn.{Insn}
 use Rattle.decode.specs.First.{IsFirst}
 use Rattle.decode.specs.Slots.{slots_of}
@@ -14,10 +14,11 @@ use Rattle.verifier.specs.declared.fault.ImageError.TheVariants.{Memory, Header,
 use Rattle.verifier.specs.Typed.{Typed}
 use Rattle.verifier.specs.Verdict as flat_verdict
 use Rattle.images.specs.SpanFile as span
+use Rattle.images.specs.Typed as span_typed
 use Rattle.images.specs.AnyImage.{IsImageOf}
 use Rattle.images.specs.FileForm.{file_form_of}
 use Rattle.images.specs.ImageFile.{HasFault, IsFile, IsRefusal, IsTypable, IsUnread}
-use Rattle.images.specs.declared.any_image.AnyImage.TheVariants.{Flat}
+use Rattle.images.specs.declared.any_image.AnyImage.TheVariants.{Flat, Span}
 use Rattle.images.specs.declared.file_form.FileForm.{FileForm}
 use Rattle.images.specs.declared.file_form.FileForm.TheVariants.{Sbi1, Sbi2, Sbi3}
 
@@ -96,6 +97,45 @@ flat_refusal bytes (Verify rule slot) at (two.Sbi2, code, len, file, fault) = (S
 pub begins_3 : (code : List Insn) (len : ℕ) (bytes : List ℕ) → span.IsFile code len bytes → take 4 bytes ≡ span.magic_3
 begins_3 code len bytes f = ap (take 4) f.bytes_are
 
+-- a file of another form doesn't
+other_begins : (form : ImageForm) (code : List Insn) (len : ℕ) (bytes : List ℕ) → flat.IsFile form code len bytes → take 4 bytes ≢ span.magic_3
+other_begins two.Sbi1 code len bytes f at =
+    let fourth : ◌≡◌ {A = ℕ} 0x33 0x31 = ap (λ (l : List ℕ). get_or l 3 0) (sym at ∙ ap (take 4) f.bytes_are) in
+    absurd (omega arith)
+other_begins two.Sbi2 code len bytes f at =
+    let fourth : ◌≡◌ {A = ℕ} 0x33 0x32 = ap (λ (l : List ℕ). get_or l 3 0) (sym at ∙ ap (take 4) f.bytes_are) in
+    absurd (omega arith)
+
+-- ---- what is loaded or read of a file of form 3
+
+pub span_loaded : (bytes : List ℕ) (image : span_typed.Typed) → take 4 bytes ≡ span.magic_3
+    → ((code : List Insn) (len : ℕ) → span.IsFile code len bytes → span_typed.IsTypable code len → span_typed.IsImageOf code len image × Unit {0})
+    → (form : FileForm) (code : List Insn) (len : ℕ) → IsFile form code len bytes → IsTypable form code len → IsImageOf form code len (Span image) × Unit {0}
+span_loaded bytes image at only Sbi1 code len f t = absurd (other_begins two.Sbi1 code len bytes f at)
+span_loaded bytes image at only Sbi2 code len f t = absurd (other_begins two.Sbi2 code len bytes f at)
+span_loaded bytes image at only Sbi3 code len f t = let k = only code len f t in (record { form_is = refl; code_is = k.0.code_is; len_is = k.0.len_is }, tt)
+
+pub span_failed : (bytes : List ℕ) (e : ImageError) → take 4 bytes ≡ span.magic_3
+    → ((code : List Insn) (len : ℕ) → span.IsFile code len bytes → span_typed.IsTypable code len → Unit {0} × (e ≡ Memory))
+    → (form : FileForm) (code : List Insn) (len : ℕ) → IsFile form code len bytes → IsTypable form code len → Unit {0} × (e ≡ Memory)
+span_failed bytes e at only Sbi1 code len f t = absurd (other_begins two.Sbi1 code len bytes f at)
+span_failed bytes e at only Sbi2 code len f t = absurd (other_begins two.Sbi2 code len bytes f at)
+span_failed bytes e at only Sbi3 code len f t = only code len f t
+
+pub span_heard : (bytes : List ℕ) (is : List Insn) (m : ℕ) → take 4 bytes ≡ span.magic_3
+    → ((code : List Insn) (len : ℕ) → span.IsFile code len bytes → ((is ≡ code) × (m ≡ len)) × Unit {0})
+    → (form : FileForm) (code : List Insn) (len : ℕ) → IsFile form code len bytes → ((is ≡ code) × (m ≡ len) × (Sbi3 ≡ form)) × Unit {0}
+span_heard bytes is m at only Sbi1 code len f = absurd (other_begins two.Sbi1 code len bytes f at)
+span_heard bytes is m at only Sbi2 code len f = absurd (other_begins two.Sbi2 code len bytes f at)
+span_heard bytes is m at only Sbi3 code len f = let k = (only code len f).0 in ((k.0, k.1, refl), tt)
+
+pub span_unheard : (bytes : List ℕ) (e : ImageError) → take 4 bytes ≡ span.magic_3
+    → ((code : List Insn) (len : ℕ) → span.IsFile code len bytes → Unit {0} × (e ≡ Memory))
+    → (form : FileForm) (code : List Insn) (len : ℕ) → IsFile form code len bytes → Unit {0} × (e ≡ Memory)
+span_unheard bytes e at only Sbi1 code len f = absurd (other_begins two.Sbi1 code len bytes f at)
+span_unheard bytes e at only Sbi2 code len f = absurd (other_begins two.Sbi2 code len bytes f at)
+span_unheard bytes e at only Sbi3 code len f = only code len f
+
 -- ---- what is loaded or read of a file of form 1 or 2
 
 pub flat_loaded : (bytes : List ℕ) (image : Typed) → take 4 bytes ≢ span.magic_3
@@ -122,3 +162,10 @@ pub flat_unheard : (bytes : List ℕ) (e : ImageError) → take 4 bytes ≢ span
 flat_unheard bytes e n only Sbi1 code len f = only two.Sbi1 code len f
 flat_unheard bytes e n only Sbi2 code len f = only two.Sbi2 code len f
 flat_unheard bytes e n only Sbi3 code len f = absurd (n (begins_3 code len bytes f))
+
+pub flat_heard : (bytes : List ℕ) (is : List Insn) (m : ℕ) (read : ImageForm) (named : FileForm) → named ≡ file_form_of read → take 4 bytes ≢ span.magic_3
+    → ((form : ImageForm) (code : List Insn) (len : ℕ) → flat.IsFile form code len bytes → ((is ≡ code) × (m ≡ len) × (read ≡ form)) × Unit {0})
+    → (form : FileForm) (code : List Insn) (len : ℕ) → IsFile form code len bytes → ((is ≡ code) × (m ≡ len) × (named ≡ form)) × Unit {0}
+flat_heard bytes is m read named e n only Sbi1 code len f = let k = (only two.Sbi1 code len f).0 in ((k.0, k.1, e ∙ ap file_form_of k.2), tt)
+flat_heard bytes is m read named e n only Sbi2 code len f = let k = (only two.Sbi2 code len f).0 in ((k.0, k.1, e ∙ ap file_form_of k.2), tt)
+flat_heard bytes is m read named e n only Sbi3 code len f = absurd (n (begins_3 code len bytes f))

@@ -20,7 +20,7 @@ same_behind : (form : ImageForm) (header rest : List ℕ) → as_form_3 ((flat.m
 same_behind two.Sbi1 header rest = refl
 same_behind two.Sbi2 header rest = refl
 
-flat_file : (form : ImageForm) (code : List Insn) (state : ℕ) (bytes : List ℕ) → flat.IsFile form code state bytes → span.IsFile code state (as_form_3 bytes)
+pub flat_file : (form : ImageForm) (code : List Insn) (state : ℕ) (bytes : List ℕ) → flat.IsFile form code state bytes → span.IsFile code state (as_form_3 bytes)
 flat_file form code state bytes f = record {
   bytes_are = ap as_form_3 f.bytes_are ∙ same_behind form (to_le_bytes w16 state ++ to_le_bytes w16 (slots code)) (encoding code);
   fits = f.fits;

@@ -1,9 +1,9 @@
 //! The header of an image file of form 3.
 
-ghost use Rattle.std.specs.Prelude.{◌≡◌, IfOk, IfErr};
-ghost use Rattle.images.specs.SpanFile.{IsHeaderFault, magic_3};
+ghost use Rattle.std.specs.Prelude.{IfOk, IfErr};
+ghost use Rattle.images.specs.SpanFile.{IsHeaderFault};
 ghost use Rattle.images.specs.Inside.Header.{IsSound};
-ghost use Rattle.verifier.specs.Inside.Header.{HasHeader, header_bytes};
+ghost use Rattle.verifier.specs.Inside.Header.{HasHeader};
 
 use limits::{SLOTS, STATE_BYTES};
 use verifier::{FileHeader, HeaderFault, header_at};
@@ -37,15 +37,4 @@ pub fn read_header(bytes: &[u8]) -> Result<(FileHeader, &[u8]), HeaderFault>
         return Err(HeaderFault::FileLength);
     }
     Ok((header, code))
-}
-
-/// The eight bytes of a header.
-pub fn write_header(state_len: u16, slots: u16) -> [u8; 8]
-    ensures { result ≡ header_bytes (record { magic = magic_3; state_len = state_len; slots = slots }) }
-{
-    let state = state_len.to_le_bytes();
-    let count = slots.to_le_bytes();
-    [
-        0x53, 0x42, 0x49, 0x33, state[0], state[1], count[0], count[1],
-    ]
 }

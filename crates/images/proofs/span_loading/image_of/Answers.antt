@@ -1,4 +1,4 @@
-use Rattle.std.proofs.Common.{ℕ, List, sym, subst, ◌∙◌}
+use Rattle.std.proofs.Common.{ℕ, List, length, refl, sym, ap, subst, ◌∙◌, arith}
 use Rattle.decode.specs.declared.insn.Insn.{Insn}
 use Rattle.span_verifier.specs.declared.fault.VerifyError.{VerifyError}
 use Rattle.span_verifier.specs.Verdict.{IsWhy}
@@ -45,3 +45,39 @@ pub returns-in-Err-Fault-clause-refused : goal.returns-in-Err-Fault-clause-refus
 returns-in-Err-Fault-clause-refused c =
     let why = subst (λ (e : VerifyError). IsWhy c.args.code.items c.args.state_len e) c.in-Err-Fault.field-0-is c.in-Err-Fault.ensures in
     (c.args.code.items, c.args.state_len, c.requires, why)
+
+pub split_at-requires : goal.split_at-requires
+split_at-requires c = let size = ap length c.requires.bytes_are in omega arith
+
+pub returns-in_default-clause-only : goal.returns-in_default-clause-only
+returns-in_default-clause-only c = λ is len f typable. (tt, refl)
+
+pub returns-in-Err-Memory-clause-only : goal.returns-in-Err-Memory-clause-only
+returns-in-Err-Memory-clause-only c = λ is len f typable. (tt, refl)
+
+pub returns-in_default-clause-found : goal.returns-in_default-clause-found
+returns-in_default-clause-found c = tt
+
+pub returns-in_default-clause-typable : goal.returns-in_default-clause-typable
+returns-in_default-clause-typable c = tt
+
+pub returns-in_default-clause-refused : goal.returns-in_default-clause-refused
+returns-in_default-clause-refused c = tt
+
+pub returns-in-Err-Memory-clause-found : goal.returns-in-Err-Memory-clause-found
+returns-in-Err-Memory-clause-found c = tt
+
+pub returns-in-Err-Memory-clause-typable : goal.returns-in-Err-Memory-clause-typable
+returns-in-Err-Memory-clause-typable c = tt
+
+pub returns-in-Err-Memory-clause-refused : goal.returns-in-Err-Memory-clause-refused
+returns-in-Err-Memory-clause-refused c = tt
+
+pub returns-in-Err-Fault-clause-found : goal.returns-in-Err-Fault-clause-found
+returns-in-Err-Fault-clause-found c = tt
+
+pub returns-in-Err-Fault-clause-typable : goal.returns-in-Err-Fault-clause-typable
+returns-in-Err-Fault-clause-typable c = tt
+
+pub returns-in-Ok-verified-clause-refused : goal.returns-in-Ok-verified-clause-refused
+returns-in-Ok-verified-clause-refused c = tt
