@@ -2,6 +2,14 @@
 
 use std::fmt;
 
+/// What is said of code in another order.
+const MOVED: &str =
+    "the blocks stand in another order, in which each jump goes forward; slots are counted in it\n";
+
+/// What is said where no order was found.
+const UNKNOWN: &str =
+    "V1 refuses the code, and no order of its blocks was found in which each jump goes forward\n";
+
 /// How the blocks of an image's code stand. It prints as a line, or as nothing where they are kept.
 #[derive(Clone, Copy, Debug, PartialEq, Eq)]
 pub enum Blocks {
@@ -24,18 +32,12 @@ impl fmt::Display for Blocks {
     fn fmt<W: fmt::Write>(&self, f: &mut fmt::Formatter<W>) -> fmt::Result {
         match self {
             Blocks::Kept => Ok(()),
-            Blocks::Moved => writeln!(
-                f,
-                "the blocks stand in another order, in which each jump goes forward; slots are counted in it"
-            ),
+            Blocks::Moved => f.write_str(MOVED),
             Blocks::Loops { from, to } => writeln!(
                 f,
                 "slot {from} jumps back to slot {to} in a loop, which is refused by V1: give it a known length, and put unrolled above it"
             ),
-            Blocks::Unknown => writeln!(
-                f,
-                "V1 refuses the code, and no order of its blocks was found in which each jump goes forward"
-            ),
+            Blocks::Unknown => f.write_str(UNKNOWN),
         }
     }
 }

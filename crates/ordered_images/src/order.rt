@@ -6,8 +6,8 @@ ghost use Rattle.ordered_images.specs.Order.{IsForward, IsLoop, IsMoved, IsOrder
 
 use crate::insns::is_forward;
 use crate::placement::is_placement;
-use crate::placing::{Placed, place};
-use crate::search::search_slots;
+use crate::placing::{Misplaced, Placed, place};
+use crate::search::{Search, search_slots};
 use crate::walk::loop_of;
 use decode::{Insn, slots as slots_in};
 use limits::SLOTS;
@@ -67,9 +67,9 @@ fn moved(
     ensures { IfOk result (IsOrder code.now) }
 {
     let placed = match place(alloc, slots, finished) {
-        Ok(Some(placed)) => placed,
-        Ok(None) => return Ok(Order::Unknown),
-        Err(e) => return Err(e),
+        Ok(placed) => placed,
+        Err(Misplaced::NoRoom) => return Ok(Order::Unknown),
+        Err(Misplaced::Memory) => return Err(AllocError),
     };
     match is_moved(alloc, code, slots, &placed) {
         Ok(true) => Ok(Order::Moved(placed)),
@@ -80,12 +80,11 @@ fn moved(
 
 /// A way from slot 0 and a part of it again.
 fn twice(alloc: Global, way: &[usize], from: usize, to: usize) -> Result<Vec<usize>, AllocError>
-    requires { to ≤ length way.now }
+    requires from { from ≤ to }
+    requires to { to ≤ length way.now }
 {
     let mut walk = Vec::from_slice(alloc, way)?;
-    if from < to {
-        walk.extend_from_slice(&way[from..to])?;
-    }
+    walk.extend_from_slice(&way[from..to])?;
     Ok(walk)
 }
 
@@ -100,7 +99,7 @@ fn jump_back(
 {
     for k in place..open.len() {
         let behind = if k + 1 < open.len() { k + 1 } else { place };
-        if behind < open.len() && open[behind] <= open[k] {
+        if open[behind] <= open[k] {
             let walk = twice(alloc, open, place, behind)?;
             return Ok(loop_of(slots, walk.as_slice()));
         }
@@ -127,6 +126,23 @@ fn looped(
     }
 }
 
+/// The order of the blocks of code as a search has found it.
+fn order_of(
+    alloc: Global,
+    code: &[Insn],
+    slots: &[Option<Insn>],
+    found: &Search,
+) -> Result<Order, AllocError>
+    requires slots { slots.now ≡ slots_of code.now }
+    requires back { ¬ IsForward code.now }
+    ensures { IfOk result (IsOrder code.now) }
+{
+    match found.cycle {
+        Some(place) => looped(alloc, code, slots, found.open.as_slice(), place),
+        None => moved(alloc, code, slots, found.finished.as_slice()),
+    }
+}
+
 /// The order of the blocks of code in which a jump goes back.
 fn order_slots(alloc: Global, code: &[Insn], slots: &[Option<Insn>]) -> Result<Order, AllocError>
     requires slots { slots.now ≡ slots_of code.now }
@@ -134,10 +150,7 @@ fn order_slots(alloc: Global, code: &[Insn], slots: &[Option<Insn>]) -> Result<O
     ensures { IfOk result (IsOrder code.now) }
 {
     let found = search_slots(alloc, slots)?;
-    match found.cycle {
-        Some(place) => looped(alloc, code, slots, found.open.as_slice(), place),
-        None => moved(alloc, code, slots, found.finished.as_slice()),
-    }
+    order_of(alloc, code, slots, &found)
 }
 
 /// The order of the blocks of code. Where a jump goes back and there is no loop, the answer is another order if one is found:

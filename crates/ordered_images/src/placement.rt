@@ -1,6 +1,6 @@
 //! Whether code is other code, with its instructions at other slots.
 
-ghost use Rattle.std.specs.Prelude.{◌≡◌, IfOk, IsTrue};
+ghost use Rattle.std.specs.Prelude.{◌≡◌, ◌+◌, IfOk, IsTrue};
 ghost use Rattle.decode.specs.Slots.{insn_at};
 ghost use Rattle.span_calls.specs.Typing.{distance};
 ghost use Rattle.ordered_images.specs.Placement.{Arrives, ArrivesBy, IsPlacement, Stands, WaysArrive, place_at, with_distance};
@@ -47,6 +47,22 @@ fn arrives_by(
     }
 }
 
+/// Whether the slot so many behind a place of the other code leads to where that behind a slot stands.
+fn arrives_behind(
+    other: &[Option<Insn>],
+    places: &[Option<usize>],
+    slot: usize,
+    place: usize,
+    size: usize,
+) -> bool
+    ensures { IsTrue result → Arrives (insn_at other.now) (place_at places.now) (place + size) (slot + size) }
+{
+    match (place.checked_add(size), slot.checked_add(size)) {
+        (Some(moved), Some(to)) => arrives(other, places, moved, to),
+        _ => false,
+    }
+}
+
 /// Whether each way out of a slot leads, from its place in the other code, to where it led.
 fn ways_arrive(
     other: &[Option<Insn>],
@@ -63,14 +79,9 @@ fn ways_arrive(
         Flow::Leaps(distance) => arrives_by(other, places, slot, distance, place, by),
         Flow::Forks(distance) => {
             arrives_by(other, places, slot, distance, place, by)
-                && slot < usize::MAX
-                && place < usize::MAX
-                && arrives(other, places, place + 1, slot + 1)
+                && arrives_behind(other, places, slot, place, 1)
         }
-        Flow::Falls(size) => match (place.checked_add(size), slot.checked_add(size)) {
-            (Some(moved), Some(to)) => arrives(other, places, moved, to),
-            _ => false,
-        },
+        Flow::Falls(size) => arrives_behind(other, places, slot, place, size),
     }
 }
 

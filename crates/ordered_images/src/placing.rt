@@ -6,7 +6,7 @@ use crate::insns::with_distance;
 use crate::slots::{insn_at, place_at, ways, ways_at};
 use decode::Insn;
 use limits::SLOTS;
-use std::alloc::{AllocError, Global};
+use std::alloc::Global;
 
 /// Code in another order.
 #[derive(Drop)]
@@ -14,6 +14,14 @@ pub struct Placed {
     pub insns: Vec<Insn>,
     /// For each slot of the code the one at which its instruction stands now; `None` where no call comes.
     pub places: Vec<Option<usize>>,
+}
+
+/// Why code can't be put in another order.
+#[derive(Drop)]
+pub(crate) enum Misplaced {
+    /// An instruction has no room, or the jump behind it.
+    NoRoom,
+    Memory,
 }
 
 /// The k-th slot from the end.
@@ -45,13 +53,8 @@ fn room_of(code: &[Option<Insn>], slot: usize, follower: Option<usize>) -> usize
     }
 }
 
-/// Where the instruction of each slot stands, if all have room.
-fn places_of(
-    alloc: Global,
-    code: &[Option<Insn>],
-    finished: &[usize],
-) -> Result<Vec<Option<usize>>, AllocError> {
-    let mut places = Vec::from_elem(alloc, None, code.len())?;
+/// Sets where the instruction of each slot stands, if all have room.
+fn set_places(places: &mut [Option<usize>], code: &[Option<Insn>], finished: &[usize]) {
     let mut place = 0;
     for k in 0..finished.len() {
         let slot = finished[finished.len() - 1 - k];
@@ -60,24 +63,16 @@ fn places_of(
             place += room_of(code, slot, from_end(finished, k + 1));
         }
     }
-    Ok(places)
-}
-
-/// How far a jump at a place goes to a later one.
-fn distance_to(place: usize, to: usize) -> Option<i32> {
-    if to > place && to - place <= SLOTS {
-        Some((to - place - 1) as i32)
-    } else {
-        None
-    }
 }
 
 /// A jump at a place to a later one, if both are there.
 fn led_to(insn: &Insn, place: Option<usize>, to: Option<usize>) -> Option<Insn> {
-    let (Some(place), Some(to)) = (place, to) else {
-        return None;
-    };
-    with_distance(insn, distance_to(place, to)?)
+    match (place, to) {
+        (Some(place), Some(to)) if to > place && to - place <= SLOTS => {
+            with_distance(insn, (to - place - 1) as i32)
+        }
+        _ => None,
+    }
 }
 
 /// The instruction of a slot as it stands at its place.
@@ -96,63 +91,64 @@ fn jump_to(
     slot: usize,
     to: usize,
 ) -> Option<Insn> {
-    let behind = place_at(places, slot)?.checked_add(insn_at(code, slot)?.slots());
+    let behind = match (place_at(places, slot), insn_at(code, slot)) {
+        (Some(place), Some(insn)) => place.checked_add(insn.slots()),
+        _ => None,
+    };
     led_to(&Insn::Jump { offset: 0 }, behind, place_at(places, to))
 }
 
-/// Puts an instruction behind the others, if there is one. Whether there was.
-fn put(insns: &mut Vec<Insn>, insn: Option<Insn>) -> Result<bool, AllocError> {
-    let Some(insn) = insn else {
-        return Ok(false);
-    };
-    insns.push(insn)?;
-    Ok(true)
+/// Puts an instruction behind the others, if it has room.
+fn put(insns: &mut Vec<Insn>, insn: Option<Insn>) -> Result<(), Misplaced> {
+    match insn {
+        Some(insn) => match insns.push(insn) {
+            Ok(()) => Ok(()),
+            Err(_) => Err(Misplaced::Memory),
+        },
+        None => Err(Misplaced::NoRoom),
+    }
 }
 
-/// Puts the instruction of a slot behind those in front of it, and behind it the jump that it may need. Whether there was room.
+/// Puts the instruction of a slot behind those in front of it, and behind it the jump that it may need.
 fn append(
     insns: &mut Vec<Insn>,
     code: &[Option<Insn>],
     places: &[Option<usize>],
     slot: usize,
     follower: Option<usize>,
-) -> Result<bool, AllocError> {
-    if !put(insns, moved(code, places, slot))? {
-        return Ok(false);
-    }
+) -> Result<(), Misplaced> {
+    put(insns, moved(code, places, slot))?;
     match parted(code, slot, follower) {
         Some(to) => put(insns, jump_to(code, places, slot, to)),
-        None => Ok(true),
+        None => Ok(()),
     }
 }
 
-/// Puts all instructions in their order. Whether there was room.
+/// Puts all instructions in their order.
 fn append_all(
     insns: &mut Vec<Insn>,
     code: &[Option<Insn>],
     places: &[Option<usize>],
     finished: &[usize],
-) -> Result<bool, AllocError> {
+) -> Result<(), Misplaced> {
     for k in 0..finished.len() {
         let slot = finished[finished.len() - 1 - k];
-        if !append(insns, code, places, slot, from_end(finished, k + 1))? {
-            return Ok(false);
-        }
+        append(insns, code, places, slot, from_end(finished, k + 1))?;
     }
-    Ok(true)
+    Ok(())
 }
 
-/// The code in the order in which a search has left it, the last slot first. `None` where an instruction has no room.
+/// The code in the order in which a search has left it, the last slot first.
 pub(crate) fn place(
     alloc: Global,
     code: &[Option<Insn>],
     finished: &[usize],
-) -> Result<Option<Placed>, AllocError> {
-    let places = places_of(alloc, code, finished)?;
+) -> Result<Placed, Misplaced> {
+    let Ok(mut places) = Vec::from_elem(alloc, None, code.len()) else {
+        return Err(Misplaced::Memory);
+    };
+    set_places(&mut places, code, finished);
     let mut insns = Vec::new(alloc);
-    if append_all(&mut insns, code, places.as_slice(), finished)? {
-        Ok(Some(Placed { insns, places }))
-    } else {
-        Ok(None)
-    }
+    append_all(&mut insns, code, places.as_slice(), finished)?;
+    Ok(Placed { insns, places })
 }

@@ -8,8 +8,8 @@ use std::alloc::{AllocError, Global};
 #[derive(Clone, Copy)]
 enum Mark {
     New,
-    /// It lies on the way from slot 0.
-    Open,
+    /// It lies on the way from slot 0, at this place of it.
+    Open(usize),
     /// All that it leads to has been found.
     Done,
 }
@@ -44,14 +44,10 @@ impl Search {
 
     /// Goes on to a slot.
     fn enter(&mut self, slot: usize) -> Result<(), AllocError> {
+        let place = self.open.len();
         self.open.push(slot)?;
-        self.set(slot, Mark::Open);
+        self.set(slot, Mark::Open(place));
         Ok(())
-    }
-
-    /// Where a slot is on the way from slot 0.
-    fn place(&self, slot: usize) -> Option<usize> {
-        self.open.iter().position(|open| *open == slot)
     }
 
     /// Goes back from the last slot of the way.
@@ -66,8 +62,8 @@ impl Search {
     fn go(&mut self, last: usize, to: usize) -> Result<(), AllocError> {
         match self.mark(to) {
             Mark::New => self.enter(to),
-            Mark::Open => {
-                self.cycle = self.place(to);
+            Mark::Open(place) => {
+                self.cycle = Some(place);
                 Ok(())
             }
             Mark::Done => self.leave(last),

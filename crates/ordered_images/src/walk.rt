@@ -16,6 +16,13 @@ fn jumps(from: usize, distance: i32, to: usize) -> bool
     target(from, distance) == Some(to)
 }
 
+/// Whether a slot is so many behind another.
+fn falls(from: usize, size: usize, to: usize) -> bool
+    ensures { IsTrue result → LeadsBy from (Flow.Falls size) to }
+{
+    from.checked_add(size) == Some(to)
+}
+
 /// Whether a slot leads to another.
 fn leads(slots: &[Option<Insn>], from: usize, to: usize) -> bool
     ensures { IsTrue result → Leads (insn_at slots.now) from to }
@@ -26,8 +33,8 @@ fn leads(slots: &[Option<Insn>], from: usize, to: usize) -> bool
     match flow_from(&insn) {
         Flow::Ends => false,
         Flow::Leaps(distance) => jumps(from, distance, to),
-        Flow::Forks(distance) => jumps(from, distance, to) || (to > from && to - from == 1),
-        Flow::Falls(size) => to >= from && to - from == size,
+        Flow::Forks(distance) => jumps(from, distance, to) || falls(from, 1, to),
+        Flow::Falls(size) => falls(from, size, to),
     }
 }
 
