@@ -1,6 +1,6 @@
 //! The bytes of instructions.
 
-ghost use Rattle.std.specs.Prelude.{◌≡◌, ◌<◌, ◌+◌, ◌*◌, ◌/◌, ◌%◌, [], ◌∷◌, ◌++◌, OnOk, if◌then◌else◌};
+ghost use Rattle.std.specs.Prelude.{◌≡◌, ◌<◌, ◌==◌, ◌+◌, ◌*◌, ◌/◌, ◌%◌, [], ◌∷◌, ◌++◌, OnOk, if◌then◌else◌};
 ghost use Rattle.operations.specs.Bytes.{le_bytes};
 ghost use Rattle.x86.specs.Encoding as encoding;
 
@@ -16,22 +16,40 @@ fn put(code: &mut Vec<u8>, byte: u8) -> Result<(), AllocError>
     Ok(())
 }
 
+// Some bytes more.
+fn put_all(code: &mut Vec<u8>, bytes: &[u8]) -> Result<(), AllocError>
+    ensures { OnOk result (code.new.items ≡ code.old.items ++ bytes.now) }
+{
+    code.extend_from_slice(bytes)
+}
+
+// Two of them.
+fn put_pair(code: &mut Vec<u8>, first: u8, second: u8) -> Result<(), AllocError>
+    ensures { OnOk result (code.new.items ≡ code.old.items ++ first ∷ second ∷ []) }
+{
+    put_all(code, &[first, second])
+}
+
 // The low 16 bits of a number.
 fn put_half(code: &mut Vec<u8>, number: u64) -> Result<(), AllocError>
     ensures { OnOk result (code.new.items ≡ code.old.items ++ le_bytes 2 number) }
 {
-    put(code, (number % 256) as u8)?;
-    put(code, (number / 256 % 256) as u8)
+    put_pair(code, (number % 256) as u8, (number / 256 % 256) as u8)
 }
 
 // The low 32 bits of a number.
 fn put_number(code: &mut Vec<u8>, number: u64) -> Result<(), AllocError>
     ensures { OnOk result (code.new.items ≡ code.old.items ++ le_bytes 4 number) }
 {
-    put(code, (number % 256) as u8)?;
-    put(code, (number / 256 % 256) as u8)?;
-    put(code, (number / 256 / 256 % 256) as u8)?;
-    put(code, (number / 256 / 256 / 256 % 256) as u8)
+    put_all(
+        code,
+        &[
+            (number % 256) as u8,
+            (number / 256 % 256) as u8,
+            (number / 256 / 256 % 256) as u8,
+            (number / 256 / 256 / 256 % 256) as u8,
+        ],
+    )
 }
 
 // A number of 64 bits.
@@ -70,13 +88,22 @@ fn put_prefix_by(
     }
 }
 
-fn put_prefix(code: &mut Vec<u8>, width: Width, reg: u8, rm: u8) -> Result<(), AllocError>
-    ensures { OnOk result (code.new.items ≡ code.old.items ++ encoding.prefix width reg rm) }
+// And bytes behind it.
+fn put_rexed(
+    code: &mut Vec<u8>,
+    width: Width,
+    reg: u8,
+    index: u8,
+    rm: u8,
+    bytes: &[u8],
+) -> Result<(), AllocError>
+    ensures { OnOk result (code.new.items ≡ code.old.items ++ encoding.prefix_by width reg index rm ++ bytes.now) }
 {
-    put_prefix_by(code, width, reg, 0, rm)
+    put_prefix_by(code, width, reg, index, rm)?;
+    put_all(code, bytes)
 }
 
-// The same where one of the registers is a byte.
+// A REX where one of the registers is a byte.
 fn put_byte_prefix(code: &mut Vec<u8>, byte: u8, reg: u8, rm: u8) -> Result<(), AllocError>
     ensures { OnOk result (code.new.items ≡ code.old.items ++ encoding.byte_prefix byte reg rm) }
 {
@@ -86,6 +113,20 @@ fn put_byte_prefix(code: &mut Vec<u8>, byte: u8, reg: u8, rm: u8) -> Result<(), 
     } else {
         put(code, rex)
     }
+}
+
+// And bytes behind it.
+fn put_byte_rexed(
+    code: &mut Vec<u8>,
+    byte: u8,
+    reg: u8,
+    rm: u8,
+    bytes: &[u8],
+) -> Result<(), AllocError>
+    ensures { OnOk result (code.new.items ≡ code.old.items ++ encoding.byte_prefix byte reg rm ++ bytes.now) }
+{
+    put_byte_prefix(code, byte, reg, rm)?;
+    put_all(code, bytes)
 }
 
 // ModR/M of two registers.
@@ -160,9 +201,36 @@ fn code_of(condition: Condition) -> u8
 fn put_two(code: &mut Vec<u8>, width: Width, opcode: u8, reg: u8, rm: u8) -> Result<(), AllocError>
     ensures { OnOk result (code.new.items ≡ code.old.items ++ encoding.with_two width opcode reg rm) }
 {
-    put_prefix(code, width, reg, rm)?;
-    put(code, opcode)?;
-    put(code, two(reg, rm))
+    put_rexed(code, width, reg, 0, rm, &[opcode, two(reg, rm)])
+}
+
+// The same with a byte behind it.
+fn put_two_byte(
+    code: &mut Vec<u8>,
+    width: Width,
+    opcode: u8,
+    reg: u8,
+    rm: u8,
+    byte: u8,
+) -> Result<(), AllocError>
+    ensures { OnOk result (code.new.items ≡ code.old.items ++ encoding.with_two width opcode reg rm ++ byte ∷ []) }
+{
+    put_rexed(code, width, reg, 0, rm, &[opcode, two(reg, rm), byte])
+}
+
+// And with 32 bits.
+fn put_two_number(
+    code: &mut Vec<u8>,
+    width: Width,
+    opcode: u8,
+    reg: u8,
+    rm: u8,
+    number: u64,
+) -> Result<(), AllocError>
+    ensures { OnOk result (code.new.items ≡ code.old.items ++ encoding.with_two width opcode reg rm ++ le_bytes 4 number) }
+{
+    put_two(code, width, opcode, reg, rm)?;
+    put_number(code, number)
 }
 
 // An instruction with two registers and an opcode of two bytes.
@@ -175,10 +243,7 @@ fn put_two_0f(
 ) -> Result<(), AllocError>
     ensures { OnOk result (code.new.items ≡ code.old.items ++ encoding.with_two_0f width opcode reg rm) }
 {
-    put_prefix(code, width, reg, rm)?;
-    put(code, 0x0f)?;
-    put(code, opcode)?;
-    put(code, two(reg, rm))
+    put_rexed(code, width, reg, 0, rm, &[0x0f, opcode, two(reg, rm)])
 }
 
 // ModR/M without its mode and r/m.
@@ -189,25 +254,31 @@ fn mode(disp: u64, reg: u8) -> u8
     mode + 8 * (reg % 8)
 }
 
+// ModR/M of memory at a base, with a SIB where it takes one.
+fn put_base(code: &mut Vec<u8>, reg: u8, base: u8, disp: u64) -> Result<(), AllocError>
+    ensures { OnOk result (code.new.items ≡ code.old.items ++ ((if encoding.is_small disp then 64 else 128) + 8 * (reg % 8) + base % 8) ∷ (if base % 8 == 4 then 36 ∷ [] else [])) }
+{
+    let first = mode(disp, reg) + base % 8;
+    if base % 8 == 4 {
+        put_pair(code, first, 36)
+    } else {
+        put(code, first)
+    }
+}
+
 // Where the memory is.
 fn memory(code: &mut Vec<u8>, reg: u8, base: u8, disp: u64) -> Result<(), AllocError>
     ensures { OnOk result (code.new.items ≡ code.old.items ++ encoding.memory reg base disp) }
 {
-    put(code, mode(disp, reg) + base % 8)?;
-    if base % 8 == 4 {
-        put(code, 36)?;
-        put_short(code, disp)
-    } else {
-        put_short(code, disp)
-    }
+    put_base(code, reg, base, disp)?;
+    put_short(code, disp)
 }
 
 // The same with an index.
 fn memory_by(code: &mut Vec<u8>, reg: u8, base: u8, index: u8, disp: u64) -> Result<(), AllocError>
     ensures { OnOk result (code.new.items ≡ code.old.items ++ encoding.memory_by reg base index disp) }
 {
-    put(code, mode(disp, reg) + 4)?;
-    put(code, 8 * (index % 8) + base % 8)?;
+    put_pair(code, mode(disp, reg) + 4, 8 * (index % 8) + base % 8)?;
     put_short(code, disp)
 }
 
@@ -222,9 +293,23 @@ fn put_memory(
 ) -> Result<(), AllocError>
     ensures { OnOk result (code.new.items ≡ code.old.items ++ encoding.with_memory width opcode reg base disp) }
 {
-    put_prefix(code, width, reg, base)?;
-    put(code, opcode)?;
+    put_rexed(code, width, reg, 0, base, &[opcode])?;
     memory(code, reg, base, disp)
+}
+
+// The same with 32 bits behind it.
+fn put_memory_number(
+    code: &mut Vec<u8>,
+    width: Width,
+    opcode: u8,
+    base: u8,
+    disp: u64,
+    number: u64,
+) -> Result<(), AllocError>
+    ensures { OnOk result (code.new.items ≡ code.old.items ++ encoding.with_memory width opcode 0 base disp ++ le_bytes 4 number) }
+{
+    put_memory(code, width, opcode, 0, base, disp)?;
+    put_number(code, number)
 }
 
 // An instruction with memory and an opcode of two bytes.
@@ -238,22 +323,21 @@ fn put_memory_0f(
 ) -> Result<(), AllocError>
     ensures { OnOk result (code.new.items ≡ code.old.items ++ encoding.with_memory_0f width opcode reg base disp) }
 {
-    put_prefix(code, width, reg, base)?;
-    put(code, 0x0f)?;
-    put(code, opcode)?;
+    put_rexed(code, width, reg, 0, base, &[0x0f, opcode])?;
     memory(code, reg, base, disp)
+}
+
+fn put_movsx_byte(code: &mut Vec<u8>, to: u8, from: u8) -> Result<(), AllocError>
+    ensures { OnOk result (code.new.items ≡ code.old.items ++ encoding.movsx Extension.W32From8 to from) }
+{
+    put_byte_rexed(code, from, to, from, &[0x0f, 0xbe, two(to, from)])
 }
 
 fn put_movsx(code: &mut Vec<u8>, extension: Extension, to: u8, from: u8) -> Result<(), AllocError>
     ensures { OnOk result (code.new.items ≡ code.old.items ++ encoding.movsx extension to from) }
 {
     match extension {
-        Extension::W32From8 => {
-            put_byte_prefix(code, from, to, from)?;
-            put(code, 0x0f)?;
-            put(code, 0xbe)?;
-            put(code, two(to, from))
-        }
+        Extension::W32From8 => put_movsx_byte(code, to, from),
         Extension::W32From16 => put_two_0f(code, Width::W32, 0xbf, to, from),
         Extension::W64From8 => put_two_0f(code, Width::W64, 0xbe, to, from),
         Extension::W64From16 => put_two_0f(code, Width::W64, 0xbf, to, from),
@@ -271,11 +355,9 @@ fn put_alu_imm(
     ensures { OnOk result (code.new.items ≡ code.old.items ++ encoding.alu_imm op width to imm) }
 {
     if is_small(imm) {
-        put_two(code, width, 0x83, op_number(op), to)?;
-        put(code, (imm % 256) as u8)
+        put_two_byte(code, width, 0x83, op_number(op), to, (imm % 256) as u8)
     } else {
-        put_two(code, width, 0x81, op_number(op), to)?;
-        put_number(code, imm)
+        put_two_number(code, width, 0x81, op_number(op), to, imm)
     }
 }
 
@@ -284,24 +366,34 @@ fn put_named(code: &mut Vec<u8>, width: Width, opcode: u8, reg: u8) -> Result<()
     requires { opcode < 248 }
     ensures { OnOk result (code.new.items ≡ code.old.items ++ encoding.prefix width 0 reg ++ (opcode + reg % 8) ∷ []) }
 {
-    put_prefix(code, width, 0, reg)?;
-    put(code, opcode + reg % 8)
+    put_rexed(code, width, 0, 0, reg, &[opcode + reg % 8])
+}
+
+fn put_mov_imm(code: &mut Vec<u8>, to: u8, imm: u64) -> Result<(), AllocError>
+    ensures { OnOk result (code.new.items ≡ code.old.items ++ encoding.bytes_of (Instr.MovImm to imm)) }
+{
+    put_named(code, Width::W32, 0xb8, to)?;
+    put_number(code, imm)
+}
+
+fn put_mov_wide(code: &mut Vec<u8>, to: u8, imm: u64) -> Result<(), AllocError>
+    ensures { OnOk result (code.new.items ≡ code.old.items ++ encoding.bytes_of (Instr.MovWide to imm)) }
+{
+    put_named(code, Width::W64, 0xb8, to)?;
+    put_wide(code, imm)
 }
 
 fn put_swap_low(code: &mut Vec<u8>, to: u8) -> Result<(), AllocError>
     ensures { OnOk result (code.new.items ≡ code.old.items ++ encoding.bytes_of (Instr.SwapLow to)) }
 {
     put(code, 0x66)?;
-    put_two(code, Width::W32, 0xc1, 0, to)?;
-    put(code, 8)
+    put_two_byte(code, Width::W32, 0xc1, 0, to, 8)
 }
 
 fn put_swap(code: &mut Vec<u8>, width: Width, to: u8) -> Result<(), AllocError>
     ensures { OnOk result (code.new.items ≡ code.old.items ++ encoding.bytes_of (Instr.Swap width to)) }
 {
-    put_prefix(code, width, 0, to)?;
-    put(code, 0x0f)?;
-    put(code, 0xc8 + to % 8)
+    put_rexed(code, width, 0, 0, to, &[0x0f, 0xc8 + to % 8])
 }
 
 fn put_load(code: &mut Vec<u8>, size: Size, to: u8, base: u8, disp: u64) -> Result<(), AllocError>
@@ -331,6 +423,20 @@ fn put_load_sx(
     }
 }
 
+fn put_store_byte(code: &mut Vec<u8>, base: u8, disp: u64, from: u8) -> Result<(), AllocError>
+    ensures { OnOk result (code.new.items ≡ code.old.items ++ encoding.bytes_of (Instr.Store Size.Byte base disp from)) }
+{
+    put_byte_rexed(code, from, from, base, &[0x88])?;
+    memory(code, from, base, disp)
+}
+
+fn put_store_half(code: &mut Vec<u8>, base: u8, disp: u64, from: u8) -> Result<(), AllocError>
+    ensures { OnOk result (code.new.items ≡ code.old.items ++ encoding.bytes_of (Instr.Store Size.Half base disp from)) }
+{
+    put(code, 0x66)?;
+    put_memory(code, Width::W32, 0x89, from, base, disp)
+}
+
 fn put_store(
     code: &mut Vec<u8>,
     size: Size,
@@ -341,18 +447,26 @@ fn put_store(
     ensures { OnOk result (code.new.items ≡ code.old.items ++ encoding.bytes_of (Instr.Store size base disp from)) }
 {
     match size {
-        Size::Byte => {
-            put_byte_prefix(code, from, from, base)?;
-            put(code, 0x88)?;
-            memory(code, from, base, disp)
-        }
-        Size::Half => {
-            put(code, 0x66)?;
-            put_memory(code, Width::W32, 0x89, from, base, disp)
-        }
+        Size::Byte => put_store_byte(code, base, disp, from),
+        Size::Half => put_store_half(code, base, disp, from),
         Size::Word => put_memory(code, Width::W32, 0x89, from, base, disp),
         Size::Double => put_memory(code, Width::W64, 0x89, from, base, disp),
     }
+}
+
+fn put_byte_imm(code: &mut Vec<u8>, base: u8, disp: u64, imm: u64) -> Result<(), AllocError>
+    ensures { OnOk result (code.new.items ≡ code.old.items ++ encoding.bytes_of (Instr.StoreImm Size.Byte base disp imm)) }
+{
+    put_memory(code, Width::W32, 0xc6, 0, base, disp)?;
+    put(code, (imm % 256) as u8)
+}
+
+fn put_half_imm(code: &mut Vec<u8>, base: u8, disp: u64, imm: u64) -> Result<(), AllocError>
+    ensures { OnOk result (code.new.items ≡ code.old.items ++ encoding.bytes_of (Instr.StoreImm Size.Half base disp imm)) }
+{
+    put(code, 0x66)?;
+    put_memory(code, Width::W32, 0xc7, 0, base, disp)?;
+    put_half(code, imm)
 }
 
 fn put_store_imm(
@@ -365,39 +479,31 @@ fn put_store_imm(
     ensures { OnOk result (code.new.items ≡ code.old.items ++ encoding.bytes_of (Instr.StoreImm size base disp imm)) }
 {
     match size {
-        Size::Byte => {
-            put_memory(code, Width::W32, 0xc6, 0, base, disp)?;
-            put(code, (imm % 256) as u8)
-        }
-        Size::Half => {
-            put(code, 0x66)?;
-            put_memory(code, Width::W32, 0xc7, 0, base, disp)?;
-            put_half(code, imm)
-        }
-        Size::Word => {
-            put_memory(code, Width::W32, 0xc7, 0, base, disp)?;
-            put_number(code, imm)
-        }
-        Size::Double => {
-            put_memory(code, Width::W64, 0xc7, 0, base, disp)?;
-            put_number(code, imm)
-        }
+        Size::Byte => put_byte_imm(code, base, disp, imm),
+        Size::Half => put_half_imm(code, base, disp, imm),
+        Size::Word => put_memory_number(code, Width::W32, 0xc7, base, disp, imm),
+        Size::Double => put_memory_number(code, Width::W64, 0xc7, base, disp, imm),
     }
 }
 
 fn put_lea_by(code: &mut Vec<u8>, to: u8, base: u8, index: u8, disp: u64) -> Result<(), AllocError>
     ensures { OnOk result (code.new.items ≡ code.old.items ++ encoding.bytes_of (Instr.LeaBy to base index disp)) }
 {
-    put_prefix_by(code, Width::W64, to, index, base)?;
-    put(code, 0x8d)?;
+    put_rexed(code, Width::W64, to, index, base, &[0x8d])?;
     memory_by(code, to, base, index, disp)
 }
 
 fn put_jump_if(code: &mut Vec<u8>, condition: Condition, distance: u64) -> Result<(), AllocError>
     ensures { OnOk result (code.new.items ≡ code.old.items ++ encoding.bytes_of (Instr.JumpIf condition distance)) }
 {
-    put(code, 0x0f)?;
-    put(code, 0x80 + code_of(condition))?;
+    put_pair(code, 0x0f, 0x80 + code_of(condition))?;
+    put_number(code, distance)
+}
+
+fn put_jump(code: &mut Vec<u8>, distance: u64) -> Result<(), AllocError>
+    ensures { OnOk result (code.new.items ≡ code.old.items ++ encoding.bytes_of (Instr.Jump distance)) }
+{
+    put(code, 0xe9)?;
     put_number(code, distance)
 }
 
@@ -408,18 +514,9 @@ impl Instr {
     {
         match *self {
             Instr::Mov { width, to, from } => put_two(code, width, 0x89, from, to),
-            Instr::MovImm { to, imm } => {
-                put_named(code, Width::W32, 0xb8, to)?;
-                put_number(code, imm)
-            }
-            Instr::MovSigned { to, imm } => {
-                put_two(code, Width::W64, 0xc7, 0, to)?;
-                put_number(code, imm)
-            }
-            Instr::MovWide { to, imm } => {
-                put_named(code, Width::W64, 0xb8, to)?;
-                put_wide(code, imm)
-            }
+            Instr::MovImm { to, imm } => put_mov_imm(code, to, imm),
+            Instr::MovSigned { to, imm } => put_two_number(code, Width::W64, 0xc7, 0, to, imm),
+            Instr::MovWide { to, imm } => put_mov_wide(code, to, imm),
             Instr::MovSx {
                 extension,
                 to,
@@ -434,39 +531,27 @@ impl Instr {
             } => put_two(code, width, 8 * op_number(op) + 1, from, to),
             Instr::AluImm { op, width, to, imm } => put_alu_imm(code, op, width, to, imm),
             Instr::Test { width, a, b } => put_two(code, width, 0x85, b, a),
-            Instr::TestImm { width, a, imm } => {
-                put_two(code, width, 0xf7, 0, a)?;
-                put_number(code, imm)
-            }
+            Instr::TestImm { width, a, imm } => put_two_number(code, width, 0xf7, 0, a, imm),
             Instr::Mul { width, to, from } => put_two_0f(code, width, 0xaf, to, from),
             Instr::MulImm {
                 width,
                 to,
                 from,
                 imm,
-            } => {
-                put_two(code, width, 0x69, to, from)?;
-                put_number(code, imm)
-            }
+            } => put_two_number(code, width, 0x69, to, from, imm),
             Instr::Neg { width, to } => put_two(code, width, 0xf7, 3, to),
             Instr::Shift {
                 op,
                 width,
                 to,
                 count,
-            } => {
-                put_two(code, width, 0xc1, shift_number(op), to)?;
-                put(code, count)
-            }
+            } => put_two_byte(code, width, 0xc1, shift_number(op), to, count),
             Instr::ShiftBy { op, width, to } => put_two(code, width, 0xd3, shift_number(op), to),
             Instr::SwapLow { to } => put_swap_low(code, to),
             Instr::Swap { width, to } => put_swap(code, width, to),
             Instr::Div { width, by } => put_two(code, width, 0xf7, 6, by),
             Instr::SignedDiv { width, by } => put_two(code, width, 0xf7, 7, by),
-            Instr::Spread { width } => {
-                put_prefix(code, width, 0, 0)?;
-                put(code, 0x99)
-            }
+            Instr::Spread { width } => put_named(code, width, 0x99, 0),
             Instr::Load {
                 size,
                 to,
@@ -500,31 +585,19 @@ impl Instr {
                 index,
                 disp,
             } => put_lea_by(code, to, base, index, disp),
-            Instr::Jump { distance } => {
-                put(code, 0xe9)?;
-                put_number(code, distance)
-            }
+            Instr::Jump { distance } => put_jump(code, distance),
             Instr::JumpIf {
                 condition,
                 distance,
             } => put_jump_if(code, condition, distance),
-            Instr::JumpShort { distance } => {
-                put(code, 0xeb)?;
-                put(code, distance)
-            }
+            Instr::JumpShort { distance } => put_pair(code, 0xeb, distance),
             Instr::JumpIfShort {
                 condition,
                 distance,
-            } => {
-                put(code, 0x70 + code_of(condition))?;
-                put(code, distance)
-            }
+            } => put_pair(code, 0x70 + code_of(condition), distance),
             Instr::Push { reg } => put_named(code, Width::W32, 0x50, reg),
             Instr::Pop { reg } => put_named(code, Width::W32, 0x58, reg),
-            Instr::CopyBytes => {
-                put(code, 0xf3)?;
-                put(code, 0xa4)
-            }
+            Instr::CopyBytes => put_pair(code, 0xf3, 0xa4),
             Instr::Return => put(code, 0xc3),
         }
     }
