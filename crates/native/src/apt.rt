@@ -1,6 +1,6 @@
 //! Which tasks there is code for.
 
-ghost use Rattle.std.specs.Prelude.{◌≡◌};
+ghost use Rattle.std.specs.Prelude.{◌≡◌, ◌&&◌};
 ghost use Rattle.native.specs.Tasks as specs;
 
 use crate::task::Task;
@@ -11,6 +11,13 @@ pub(crate) fn holds_word(reg: Reg) -> bool
     ensures { result ≡ specs.holds_word reg.number }
 {
     reg.number < 10
+}
+
+// Whether both hold.
+fn both(one: bool, other: bool) -> bool
+    ensures { result ≡ one && other }
+{
+    one && other
 }
 
 fn is_word(operand: Operand) -> bool
@@ -41,16 +48,16 @@ pub(crate) fn is_apt(slot: usize, task: &Task) -> bool
             dst,
             operand,
             ..
-        } => holds_word(dst) && is_read(op, operand),
-        Task::Extend { dst, src, .. } => holds_word(dst) && holds_word(src),
+        } => both(holds_word(dst), is_read(op, operand)),
+        Task::Extend { dst, src, .. } => both(holds_word(dst), holds_word(src)),
         Task::Negate { dst, .. } => holds_word(dst),
         Task::Reorder { dst, .. } => holds_word(dst),
         Task::Load { dst, .. } => holds_word(dst),
         Task::LoadSx { dst, .. } => holds_word(dst),
         Task::Store { src, .. } => holds_word(src),
-        Task::LoadBy { dst, base, .. } => holds_word(dst) && holds_word(base),
-        Task::LoadSxBy { dst, base, .. } => holds_word(dst) && holds_word(base),
-        Task::StoreBy { src, base, .. } => holds_word(src) && holds_word(base),
+        Task::LoadBy { dst, base, .. } => both(holds_word(dst), holds_word(base)),
+        Task::LoadSxBy { dst, base, .. } => both(holds_word(dst), holds_word(base)),
+        Task::StoreBy { src, base, .. } => both(holds_word(src), holds_word(base)),
         Task::StoreImmBy { base, .. } => holds_word(base),
         Task::Wide { dst, .. } => holds_word(dst),
         Task::Branch {
@@ -58,7 +65,7 @@ pub(crate) fn is_apt(slot: usize, task: &Task) -> bool
             operand,
             to,
             ..
-        } => holds_word(dst) && (is_word(operand) && slot < to as usize),
+        } => both(holds_word(dst), both(is_word(operand), slot < to as usize)),
         Task::Leap { to } => slot < to as usize,
         Task::Dead => false,
         _ => true,

@@ -131,8 +131,7 @@ fn write_peer_tests(code: &mut Vec<u8>, none: u8, beyond: u8, own: u8) -> Result
 {
     write_least_test(code, none)?;
     write_most_test(code, beyond)?;
-    write_other_test(code, own)?;
-    Ok(())
+    write_other_test(code, own)
 }
 
 // A register holds at most 256.
@@ -156,29 +155,44 @@ fn write_length_test(code: &mut Vec<u8>, len: u8, long: u8) -> Result<(), AllocE
     )
 }
 
+// Those of a message of 64 bytes.
+fn write_send_tests(code: &mut Vec<u8>, size: u8) -> Result<(), AllocError>
+    requires { size ≤ 80 }
+    ensures { OnOk result (code.new.items ≡ code.old.items ++ codes (specs.send_tests size)) }
+{
+    write_peer_tests(code, size + 28, size + 19, size + 10)?;
+    write_room_test(code, 0, size + 7)
+}
+
+// Those of a longer or shorter one.
+fn write_send_sized_tests(code: &mut Vec<u8>, size: u8) -> Result<(), AllocError>
+    requires { size ≤ 80 }
+    ensures { OnOk result (code.new.items ≡ code.old.items ++ codes (specs.send_sized_tests size)) }
+{
+    write_peer_tests(code, size + 44, size + 35, size + 26)?;
+    write_room_test(code, 0, size + 23)?;
+    write_length_test(code, 9, size)
+}
+
+// Those of such an output.
+fn write_output_sized_tests(code: &mut Vec<u8>, size: u8) -> Result<(), AllocError>
+    requires { size ≤ 80 }
+    ensures { OnOk result (code.new.items ≡ code.old.items ++ codes (specs.output_sized_tests size)) }
+{
+    write_room_test(code, 8, size + 16)?;
+    write_length_test(code, 12, size)
+}
+
 /// Its tests, which pass by so many bytes.
 pub(crate) fn write_tests(code: &mut Vec<u8>, helper: Helper, size: u8) -> Result<(), AllocError>
     requires { size ≤ 80 }
     ensures { OnOk result (code.new.items ≡ code.old.items ++ codes (specs.tests_of helper size)) }
 {
     match helper {
-        Helper::Send => {
-            write_peer_tests(code, size + 28, size + 19, size + 10)?;
-            write_room_test(code, 0, size + 7)?;
-            Ok(())
-        }
+        Helper::Send => write_send_tests(code, size),
         Helper::Output => write_room_test(code, 8, size),
-        Helper::SendSized => {
-            write_peer_tests(code, size + 44, size + 35, size + 26)?;
-            write_room_test(code, 0, size + 23)?;
-            write_length_test(code, 9, size)?;
-            Ok(())
-        }
-        Helper::OutputSized => {
-            write_room_test(code, 8, size + 16)?;
-            write_length_test(code, 12, size)?;
-            Ok(())
-        }
+        Helper::SendSized => write_send_sized_tests(code, size),
+        Helper::OutputSized => write_output_sized_tests(code, size),
     }
 }
 
@@ -388,8 +402,7 @@ fn write_send(code: &mut Vec<u8>, at: u64) -> Result<(), AllocError>
     write_place(code, 64)?;
     write_aim(code)?;
     write_copy(code, at)?;
-    write_good_end(code, 0, 12)?;
-    Ok(())
+    write_good_end(code, 0, 12)
 }
 
 fn write_output(code: &mut Vec<u8>, at: u64) -> Result<(), AllocError>
@@ -398,8 +411,7 @@ fn write_output(code: &mut Vec<u8>, at: u64) -> Result<(), AllocError>
 {
     write_place(code, 2240)?;
     write_copy(code, at)?;
-    write_good_end(code, 8, 5)?;
-    Ok(())
+    write_good_end(code, 8, 5)
 }
 
 fn write_send_sized(code: &mut Vec<u8>, at: u64) -> Result<(), AllocError>
@@ -408,8 +420,7 @@ fn write_send_sized(code: &mut Vec<u8>, at: u64) -> Result<(), AllocError>
     write_place(code, 64)?;
     write_aim(code)?;
     write_sized(code, at, 9)?;
-    write_good_end(code, 0, 19)?;
-    Ok(())
+    write_good_end(code, 0, 19)
 }
 
 fn write_output_sized(code: &mut Vec<u8>, at: u64) -> Result<(), AllocError>
@@ -417,8 +428,7 @@ fn write_output_sized(code: &mut Vec<u8>, at: u64) -> Result<(), AllocError>
 {
     write_place(code, 2240)?;
     write_sized(code, at, 12)?;
-    write_good_end(code, 8, 12)?;
-    Ok(())
+    write_good_end(code, 8, 12)
 }
 
 fn write_send_by(code: &mut Vec<u8>) -> Result<(), AllocError>
@@ -427,8 +437,7 @@ fn write_send_by(code: &mut Vec<u8>) -> Result<(), AllocError>
     write_place(code, 64)?;
     write_aim(code)?;
     write_copy_by(code, 12)?;
-    write_good_end(code, 0, 12)?;
-    Ok(())
+    write_good_end(code, 0, 12)
 }
 
 fn write_output_by(code: &mut Vec<u8>) -> Result<(), AllocError>
@@ -436,8 +445,7 @@ fn write_output_by(code: &mut Vec<u8>) -> Result<(), AllocError>
 {
     write_place(code, 2240)?;
     write_copy_by(code, 8)?;
-    write_good_end(code, 8, 5)?;
-    Ok(())
+    write_good_end(code, 8, 5)
 }
 
 fn write_send_sized_by(code: &mut Vec<u8>) -> Result<(), AllocError>
@@ -446,8 +454,7 @@ fn write_send_sized_by(code: &mut Vec<u8>) -> Result<(), AllocError>
     write_place(code, 64)?;
     write_aim(code)?;
     write_sized_by(code, 12, 9)?;
-    write_good_end(code, 0, 19)?;
-    Ok(())
+    write_good_end(code, 0, 19)
 }
 
 fn write_output_sized_by(code: &mut Vec<u8>) -> Result<(), AllocError>
@@ -455,8 +462,7 @@ fn write_output_sized_by(code: &mut Vec<u8>) -> Result<(), AllocError>
 {
     write_place(code, 2240)?;
     write_sized_by(code, 8, 12)?;
-    write_good_end(code, 8, 12)?;
-    Ok(())
+    write_good_end(code, 8, 12)
 }
 
 // What it does from a position where its tests pass.
@@ -498,19 +504,64 @@ pub(crate) fn write_good(
     }
 }
 
+// The destination is no peer, and there is no room.
+fn write_send_end(code: &mut Vec<u8>) -> Result<(), AllocError>
+    ensures { OnOk result (code.new.items ≡ code.old.items ++ codes specs.send_end) }
+{
+    write_all(
+        code,
+        &[
+            Instr::MovImm { to: 0, imm: 1 },
+            Instr::JumpShort { distance: 5 },
+            Instr::MovImm { to: 0, imm: 2 },
+        ],
+    )
+}
+
+// There is no room.
+fn write_output_end(code: &mut Vec<u8>) -> Result<(), AllocError>
+    ensures { OnOk result (code.new.items ≡ code.old.items ++ codes specs.output_end) }
+{
+    write_all(code, &[Instr::MovImm { to: 0, imm: 2 }])
+}
+
+// It is too long; and the rest.
+fn write_send_sized_end(code: &mut Vec<u8>) -> Result<(), AllocError>
+    ensures { OnOk result (code.new.items ≡ code.old.items ++ codes specs.send_sized_end) }
+{
+    write_all(
+        code,
+        &[
+            Instr::MovImm { to: 0, imm: 3 },
+            Instr::JumpShort { distance: 12 },
+            Instr::MovImm { to: 0, imm: 1 },
+            Instr::JumpShort { distance: 5 },
+            Instr::MovImm { to: 0, imm: 2 },
+        ],
+    )
+}
+
+fn write_output_sized_end(code: &mut Vec<u8>) -> Result<(), AllocError>
+    ensures { OnOk result (code.new.items ≡ code.old.items ++ codes specs.output_sized_end) }
+{
+    write_all(
+        code,
+        &[
+            Instr::MovImm { to: 0, imm: 3 },
+            Instr::JumpShort { distance: 5 },
+            Instr::MovImm { to: 0, imm: 2 },
+        ],
+    )
+}
+
 /// Its other answers.
 pub(crate) fn write_end(code: &mut Vec<u8>, helper: Helper) -> Result<(), AllocError>
     ensures { OnOk result (code.new.items ≡ code.old.items ++ codes (specs.end_of helper)) }
 {
-    let long = Instr::MovImm { to: 0, imm: 3 };
-    let no_peer = Instr::MovImm { to: 0, imm: 1 };
-    let no_room = Instr::MovImm { to: 0, imm: 2 };
-    let past_one = Instr::JumpShort { distance: 5 };
-    let past_two = Instr::JumpShort { distance: 12 };
     match helper {
-        Helper::Send => write_all(code, &[no_peer, past_one, no_room]),
-        Helper::Output => write_all(code, &[no_room]),
-        Helper::SendSized => write_all(code, &[long, past_two, no_peer, past_one, no_room]),
-        Helper::OutputSized => write_all(code, &[long, past_one, no_room]),
+        Helper::Send => write_send_end(code),
+        Helper::Output => write_output_end(code),
+        Helper::SendSized => write_send_sized_end(code),
+        Helper::OutputSized => write_output_sized_end(code),
     }
 }

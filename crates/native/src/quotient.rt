@@ -1,6 +1,7 @@
 //! Quotients and remainders.
 
-ghost use Rattle.std.specs.Prelude.{◌≡◌, ◌≤◌, ◌++◌, OnOk};
+ghost use Rattle.std.specs.Prelude.{◌≡◌, ◌≤◌, ◌+◌, ◌-◌, ◌*◌, ◌^◌, [], ◌∷◌, ◌++◌, OnOk};
+ghost use Rattle.x86.specs.declared.instruction.Instr.TheVariants as instr;
 ghost use Rattle.native.specs.Code as specs;
 ghost use Rattle.native.specs.Code.{codes, IsShort};
 
@@ -115,6 +116,14 @@ fn write_division(
     )
 }
 
+// The divisor, and past so many bytes where it is 0.
+fn write_divisor(code: &mut Vec<u8>, first: Instr, width: Width, past: u8) -> Result<(), AllocError>
+    ensures { OnOk result (code.new.items ≡ code.old.items ++ codes (first ∷ specs.divisor_test width 0 past)) }
+{
+    write_all(code, &[first])?;
+    write_divisor_test(code, width, 0, past)
+}
+
 /// A quotient or a remainder.
 pub(crate) fn write_quotient(
     code: &mut Vec<u8>,
@@ -127,8 +136,7 @@ pub(crate) fn write_quotient(
 ) -> Result<(), AllocError>
     ensures { OnOk result (code.new.items ≡ code.old.items ++ codes (specs.quotient_code first width to from none size)) }
 {
-    write_all(code, &[first])?;
-    write_divisor_test(code, width, 0, 20 + width_size(width))?;
+    write_divisor(code, first, width, 20 + width_size(width))?;
     write_division(
         code,
         to,
@@ -136,8 +144,7 @@ pub(crate) fn write_quotient(
         Instr::MovImm { to: 2, imm: 0 },
         Instr::Div { width, by: 1 },
     )?;
-    write_all(code, &[Instr::JumpShort { distance: size }, none])?;
-    Ok(())
+    write_all(code, &[Instr::JumpShort { distance: size }, none])
 }
 
 /// What is done where the divisor is -1, and how long it is, and where it is 0.
@@ -147,6 +154,51 @@ pub(crate) struct Ways {
     pub(crate) minus_size: u8,
     pub(crate) none: Instr,
     pub(crate) none_size: u8,
+}
+
+// The divisor, and past the division where it is 0 or -1.
+fn write_signed_tests(
+    code: &mut Vec<u8>,
+    first: Instr,
+    width: Width,
+    ways: Ways,
+) -> Result<(), AllocError>
+    requires { ways.minus_size ≤ 3 }
+    ensures { OnOk result (code.new.items ≡ code.old.items ++ codes (first ∷ specs.divisor_test width 0 (ways.minus_size + 23 + 3 * specs.width_size width) ++ specs.divisor_test width (2 ^ 64 - 1) (16 + 2 * specs.width_size width))) }
+{
+    let wide = width_size(width);
+    write_all(code, &[first])?;
+    write_divisor_test(code, width, 0, ways.minus_size + 23 + 3 * wide)?;
+    write_divisor_test(code, width, 0xffff_ffff_ffff_ffff, 16 + 2 * wide)?;
+    Ok(())
+}
+
+// The division, and the two other ways.
+fn write_signed_ways(
+    code: &mut Vec<u8>,
+    width: Width,
+    to: u8,
+    from: u8,
+    ways: Ways,
+) -> Result<(), AllocError>
+    requires minus { ways.minus_size ≤ 3 }
+    requires none { ways.none_size ≤ 3 }
+    ensures { OnOk result (code.new.items ≡ code.old.items ++ codes (specs.division_code to from (instr.Spread width) (instr.SignedDiv width 1) ++ instr.JumpShort (ways.minus_size + 2 + ways.none_size) ∷ ways.minus ∷ instr.JumpShort ways.none_size ∷ ways.none ∷ [])) }
+{
+    write_division(
+        code,
+        to,
+        from,
+        Instr::Spread { width },
+        Instr::SignedDiv { width, by: 1 },
+    )?;
+    let past = Instr::JumpShort {
+        distance: ways.minus_size + 2 + ways.none_size,
+    };
+    let past_none = Instr::JumpShort {
+        distance: ways.none_size,
+    };
+    write_all(code, &[past, ways.minus, past_none, ways.none])
 }
 
 /// A signed quotient or remainder.
@@ -162,23 +214,6 @@ pub(crate) fn write_signed(
     requires none { ways.none_size ≤ 3 }
     ensures { OnOk result (code.new.items ≡ code.old.items ++ codes (specs.signed_code first width to from ways.minus ways.minus_size ways.none ways.none_size)) }
 {
-    let wide = width_size(width);
-    write_all(code, &[first])?;
-    write_divisor_test(code, width, 0, ways.minus_size + 23 + 3 * wide)?;
-    write_divisor_test(code, width, 0xffff_ffff_ffff_ffff, 16 + 2 * wide)?;
-    write_division(
-        code,
-        to,
-        from,
-        Instr::Spread { width },
-        Instr::SignedDiv { width, by: 1 },
-    )?;
-    let past = Instr::JumpShort {
-        distance: ways.minus_size + 2 + ways.none_size,
-    };
-    let past_none = Instr::JumpShort {
-        distance: ways.none_size,
-    };
-    write_all(code, &[past, ways.minus, past_none, ways.none])?;
-    Ok(())
+    write_signed_tests(code, first, width, ways)?;
+    write_signed_ways(code, width, to, from, ways)
 }

@@ -132,8 +132,7 @@ pub(crate) fn write_saving(code: &mut Vec<u8>, saved: Saved) -> Result<(), Alloc
     push_if(code, saved.r12, 12)?;
     push_if(code, saved.r13, 13)?;
     push_if(code, saved.r14, 14)?;
-    push_if(code, saved.r15, 15)?;
-    Ok(())
+    push_if(code, saved.r15, 15)
 }
 
 /// Pops it.
@@ -145,6 +144,5 @@ pub(crate) fn write_restoring(code: &mut Vec<u8>, saved: Saved) -> Result<(), Al
     pop_if(code, saved.r13, 13)?;
     pop_if(code, saved.r12, 12)?;
     pop_if(code, saved.rbp, 5)?;
-    pop_if(code, saved.rbx, 3)?;
-    Ok(())
+    pop_if(code, saved.rbx, 3)
 }

@@ -1,6 +1,6 @@
 //! The code of each slot.
 
-ghost use Rattle.std.specs.Prelude.{◌≡◌, ◌<◌, ◌≤◌, ◌+◌, ◌-◌, ◌^◌, true, [], ◌++◌, ℕ, length, slice_index, OnOk};
+ghost use Rattle.std.specs.Prelude.{◌≡◌, ◌<◌, ◌≤◌, ◌+◌, ◌-◌, ◌^◌, true, [], ◌∷◌, ◌++◌, ℕ, length, slice_index, OnOk};
 ghost use Rattle.x86.specs.declared.instruction.Instr as machine;
 ghost use Rattle.native.specs.Code.{Emits, codes, flushed, skipped, leaving, entering, taken, IsBody, IsCall, IsQuotient, IsSigned, IsDone, IsBalanced, IsBehind, Counts, Reaches, Plain, Forks, Jumps, Ends, Serves};
 ghost use Rattle.native.specs.Code as specs;
@@ -105,25 +105,41 @@ fn skip(code: &mut Vec<u8>, distance: u64) -> Result<(), AllocError>
     }
 }
 
+fn write_one(code: &mut Vec<u8>, i: Instr) -> Result<(), AllocError>
+    ensures { OnOk result (code.new.items ≡ code.old.items ++ codes (i ∷ [])) }
+{
+    write_all(code, &[i])
+}
+
+fn write_two(code: &mut Vec<u8>, i: Instr, j: Instr) -> Result<(), AllocError>
+    ensures { OnOk result (code.new.items ≡ code.old.items ++ codes (i ∷ j ∷ [])) }
+{
+    write_all(code, &[i, j])
+}
+
+fn write_three(code: &mut Vec<u8>, i: Instr, j: Instr, k: Instr) -> Result<(), AllocError>
+    ensures { OnOk result (code.new.items ≡ code.old.items ++ codes (i ∷ j ∷ k ∷ [])) }
+{
+    write_all(code, &[i, j, k])
+}
+
 // The instructions of a task without jumps.
 fn emit_body(code: &mut Vec<u8>, body: Body) -> Result<(), AllocError>
     ensures { OnOk result (Emits (IsBody body) code.old.items code.new.items) }
 {
     match body {
         Body::Empty => Ok(()),
-        Body::One(i) => {
-            write_all(code, &[i])?;
-            Ok(())
-        }
-        Body::Two(i, j) => {
-            write_all(code, &[i, j])?;
-            Ok(())
-        }
-        Body::Three(i, j, k) => {
-            write_all(code, &[i, j, k])?;
-            Ok(())
-        }
+        Body::One(i) => write_one(code, i),
+        Body::Two(i, j) => write_two(code, i, j),
+        Body::Three(i, j, k) => write_three(code, i, j, k),
     }
+}
+
+// Those of a task.
+fn emit_body_of(code: &mut Vec<u8>, task: Task) -> Result<(), AllocError>
+    ensures { OnOk result (Emits (IsBody (specs.body_of task)) code.old.items code.new.items) }
+{
+    emit_body(code, body_of(task))
 }
 
 // A helper that emits.
@@ -140,8 +156,7 @@ fn emit_helper(
     let size = good.len() as u8;
     write_tests(code, helper, size)?;
     code.extend_from_slice(good.as_slice())?;
-    write_end(code, helper)?;
-    Ok(())
+    write_end(code, helper)
 }
 
 // A quotient or a remainder.
@@ -157,8 +172,7 @@ fn emit_quotient(
     ensures { OnOk result (Emits (IsQuotient width dst.number operand from none size) code.old.items code.new.items) }
 {
     let first = divisor_code(width, operand);
-    write_quotient(code, first, width, gpr(dst), from, none, size)?;
-    Ok(())
+    write_quotient(code, first, width, gpr(dst), from, none, size)
 }
 
 // A signed one.
@@ -175,8 +189,29 @@ fn emit_signed(
     ensures { OnOk result (Emits (IsSigned width dst.number operand from ways.minus ways.minus_size ways.none ways.none_size) code.old.items code.new.items) }
 {
     let first = divisor_code(width, operand);
-    write_signed(code, first, width, gpr(dst), from, ways)?;
-    Ok(())
+    write_signed(code, first, width, gpr(dst), from, ways)
+}
+
+// An unsigned quotient.
+fn emit_div(code: &mut Vec<u8>, width: Width, dst: Reg, operand: Operand) -> Result<(), AllocError>
+    ensures { OnOk result (Emits (IsDone (Task.Compute AluOp.Div width dst operand)) code.old.items code.new.items) }
+{
+    let to = gpr(dst);
+    let size = two_size(Width::W32, to);
+    emit_quotient(code, width, dst, operand, 0, clear(to), size)
+}
+
+// An unsigned remainder.
+fn emit_mod(code: &mut Vec<u8>, width: Width, dst: Reg, operand: Operand) -> Result<(), AllocError>
+    ensures { OnOk result (Emits (IsDone (Task.Compute AluOp.Mod width dst operand)) code.old.items code.new.items) }
+{
+    let to = gpr(dst);
+    let same = Instr::Mov {
+        width,
+        to,
+        from: to,
+    };
+    emit_quotient(code, width, dst, operand, 2, same, two_size(width, to))
 }
 
 // A signed quotient.
@@ -221,18 +256,9 @@ fn emit_compute(
 ) -> Result<(), AllocError>
     ensures { OnOk result (Emits (IsDone (Task.Compute op width dst operand)) code.old.items code.new.items) }
 {
-    let to = gpr(dst);
-    let zero = clear(to);
-    let zero_size = two_size(Width::W32, to);
-    let same = Instr::Mov {
-        width,
-        to,
-        from: to,
-    };
-    let same_size = two_size(width, to);
     match op {
-        AluOp::Div => emit_quotient(code, width, dst, operand, 0, zero, zero_size),
-        AluOp::Mod => emit_quotient(code, width, dst, operand, 2, same, same_size),
+        AluOp::Div => emit_div(code, width, dst, operand),
+        AluOp::Mod => emit_mod(code, width, dst, operand),
         AluOp::Sdiv => emit_sdiv(code, width, dst, operand),
         AluOp::Smod => emit_smod(code, width, dst, operand),
         _ => {
@@ -242,8 +268,7 @@ fn emit_compute(
                 dst,
                 operand,
             };
-            emit_body(code, body_of(task))?;
-            Ok(())
+            emit_body_of(code, task)
         }
     }
 }
@@ -267,10 +292,7 @@ fn emit_done(alloc: Global, code: &mut Vec<u8>, task: Task) -> Result<(), AllocE
             dst,
             operand,
         } => emit_compute(code, op, width, dst, operand),
-        _ => {
-            emit_body(code, body_of(task))?;
-            Ok(())
-        }
+        _ => emit_body_of(code, task),
     }
 }
 
@@ -307,8 +329,7 @@ fn emit_plain(
     let _short = body_of(task);
     emit_done(alloc, code, task)?;
     flush(code, steps)?;
-    skip(code, past)?;
-    Ok(())
+    skip(code, past)
 }
 
 /// The instruction of a slot and the next.
@@ -333,8 +354,7 @@ fn emit_fused(
     let _short = body_of(second);
     write_all(code, &[instr])?;
     flush(code, steps)?;
-    skip(code, past)?;
-    Ok(())
+    skip(code, past)
 }
 
 /// A conditional jump.
@@ -360,8 +380,7 @@ fn emit_branch(
     let distance = distance(tails, slot, to as usize);
     flush(code, steps)?;
     let jump = jump_if_code(condition_of(condition), distance);
-    write_all(code, &[compare_code(condition, width, dst, operand), jump])?;
-    Ok(())
+    write_all(code, &[compare_code(condition, width, dst, operand), jump])
 }
 
 /// A jump.
@@ -382,8 +401,7 @@ fn emit_leap(
     let steps = count(pends, slot, to as usize);
     let distance = distance(tails, slot, to as usize);
     flush(code, steps)?;
-    write_all(code, &[jump_code(distance)])?;
-    Ok(())
+    write_all(code, &[jump_code(distance)])
 }
 
 /// The end.
@@ -392,8 +410,7 @@ fn emit_exit(code: &mut Vec<u8>, pends: &[u64], saved: Saved, slot: usize) -> Re
     ensures { OnOk result (Emits (Ends pends.now saved slot) code.old.items code.new.items) }
 {
     flush(code, at(pends, slot) + 1)?;
-    emit_leaving(code, saved)?;
-    Ok(())
+    emit_leaving(code, saved)
 }
 
 // Tells the steps, and returns.

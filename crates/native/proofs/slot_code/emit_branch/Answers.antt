@@ -1,6 +1,6 @@
 use Rattle.std.proofs.Common.{[], ◌∷◌, ◌+◌, ◌++◌, refl, ap, ◌∙◌, sym}
 use Rattle.native.specs.Code.{codes, flushed, condition_of, compare_code, jump_if_code}
-use Rattle.native.proofs.Emitted.{some_then}
+use Rattle.native.proofs.Emitted.{where_ok, some_then}
 use Rattle.native.proofs.slot_code.emit_branch.Goals as goal
 
 pub returns : goal.returns
@@ -12,9 +12,9 @@ returns c =
     let i = compare_code a.condition a.width a.dst.number a.operand in
     let j = jump_if_code (condition_of a.condition) d in
     let written =
-    c.in_ok-write_all.ensures
-    ∙ ap (λ i. mid ++ codes (i ∷ c.jump_if_code-jump.result ∷ [])) c.compare_code.ensures.value
-    ∙ ap (λ j. mid ++ codes (i ∷ j ∷ [])) (c.jump_if_code-jump.ensures ∙ ap (λ x. jump_if_code x d) c.condition_of.ensures) in (
+    ap (λ i. mid ++ codes (i ∷ c.jump_if_code-jump.result ∷ [])) c.compare_code.ensures.value
+    ∙ ap (λ j. mid ++ codes (i ∷ j ∷ [])) (c.jump_if_code-jump.ensures ∙ ap (λ x. jump_if_code x d) c.condition_of.ensures) in
+    where_ok c.write_all.result c.write_all.ensures (λ e. (
       flushed k ++ i ∷ j ∷ [],
       record {
         k = k;
@@ -25,5 +25,5 @@ returns c =
         reaches = c.distance-distance.ensures;
         short = c.compare_code.ensures.short;
       },
-      some_then a.code.now.items mid c.write_all.new.code.items (flushed k) (i ∷ j ∷ []) c.in_ok-flush.ensures written,
-    )
+      some_then a.code.now.items mid c.write_all.new.code.items (flushed k) (i ∷ j ∷ []) c.in_ok-flush.ensures (e ∙ written),
+    ))

@@ -1,6 +1,6 @@
 use Rattle.std.proofs.Common.{[], ◌∷◌, ◌+◌, ◌-◌, ◌++◌, refl, arith}
 use Rattle.native.specs.Code.{flushed, skipped}
-use Rattle.native.proofs.Emitted.{three_then}
+use Rattle.native.proofs.Emitted.{where_ok, three_then}
 use Rattle.native.proofs.slot_code.emit_fused.Goals as goal
 
 pub returns : goal.returns
@@ -9,7 +9,8 @@ returns c =
     let k = c.at.result + 2 - c.at-2.result in
     let d = c.distance-past.result in
     let here = c.at.ensures in
-    let there = c.at-2.ensures in (
+    let there = c.at-2.ensures in
+    where_ok c.skip.result c.skip.ensures (λ e. (
       a.instr ∷ (flushed k ++ skipped d),
       record {
         k = k;
@@ -20,5 +21,5 @@ returns c =
         reaches = c.distance-past.ensures;
         short = c.body_of-short.ensures.short;
       },
-      three_then a.code.now.items c.write_all.new.code.items c.flush.new.code.items c.skip.new.code.items (a.instr ∷ []) (flushed k) (skipped d) c.in_ok-write_all.ensures c.in_ok-flush.ensures c.in_ok-skip.ensures,
-    )
+      three_then a.code.now.items c.write_all.new.code.items c.flush.new.code.items c.skip.new.code.items (a.instr ∷ []) (flushed k) (skipped d) c.in_ok-write_all.ensures c.in_ok-flush.ensures e,
+    ))
