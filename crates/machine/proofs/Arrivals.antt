@@ -1,6 +1,7 @@
 -- The steps of arrivals, as steps of each world that the machine stands for
 use Rattle.std.proofs.Common.{◌≡◌, ◌≢◌, ℕ, zero, suc, ◌+◌, ◌-◌, ◌<◌, ◌≤◌, List, [], ◌∷◌, ◌++◌, length, take, max, set, Bool, true, false, true≢false, refl, sym, ap, ◌∙◌, subst, arith}
 use Rattle.std.specs.Prelude.{if◌then◌else◌, ◌==◌, ◌&&◌, nat_lt, nat_le, Option, Some, None, slice_index_or}
+use Rattle.std.proofs.lemmas.Bool.{eqb-true, eqb-false, eq-eqb, ne_eqb, le-leb, lt-leb}
 use Rattle.std.proofs.lemmas.Bool.Decides.{nat_tests}
 use Rattle.std.proofs.Math.ListN.{get_or-eq_default}
 use Rattle.std.proofs.lemmas.List.{get_or-set_same, get_or-set_other, length-set, length-map}
@@ -39,6 +40,11 @@ use Rattle.machine.proofs.Releasing.{run_of-run_to, flags-set, holds-released}
 abbrev pub Stood : TheMachine → World → ℕ → List Message → Phase → (ℕ → Bool) → TheProcess → Type 0
 Stood m w p h phase told z = StandsAt (length m.processes) p z (w.handlers.state p) (w.handlers.sends p) h phase (w.incarnation p) told (w.saved p) (w.saved_trims p)
 
+-- a number that isn't 0
+some-of : (n : ℕ) → n ≢ 0 → 0 < n
+some-of zero other = absurd (other refl)
+some-of (suc n) other = omega arith
+
 -- the answer that a packet gets whose target is up
 module _ (m : TheMachine) (w : World) (s : Stands m w) (room key : ℕ) (accepted : refusal_of w room (Arrive key) ≡ None) (packet : Packet) (found : slice_index_or m.slots key None ≡ Some packet) (up : is_up (w.phase (target_of packet)) ≡ true) where
   pub arrives : (new : TheMachine) (a : Answer) → ReceivesUp w key packet a → Shows new (arrive w key (Some packet) a) → new.images ≡ m.images → Steps m new room (Arrive key) a w
@@ -69,7 +75,7 @@ module _ (m : TheMachine) (w : World) (s : Stands m w) (key calls : ℕ) (slots 
 
   -- another packet lies where the first one was
   replaced : (is : Packet) → Puts m.slots slots key was (Some is) → (j : ℕ) → put (put w.wire key None) key (Some is) j ≡ slice_index_or slots j None
-  replaced is puts j = put-is (put w.wire key None) (λ k. slice_index_or slots k None) key (Some is) puts.now (λ k apart. puts.others k apart ∙ sym (let other : (k == key) ≡ false = grind (arith, nat_tests) in rw other (s.shows.wire k))) j
+  replaced is puts j = put-is (put w.wire key None) (λ k. slice_index_or slots k None) key (Some is) puts.now (λ k apart. puts.others k apart ∙ sym (let other : (k == key) ≡ false = ne_eqb k key apart in rw other (s.shows.wire k))) j
 
   -- and where another takes its key, the world with that one
   pub changed : (is : Packet) → Puts m.slots slots key was (Some is) → Shows (record m { slots = slots; calls = calls }) (record w { wire = put (put w.wire key None) key (Some is) })
@@ -77,7 +83,7 @@ module _ (m : TheMachine) (w : World) (s : Stands m w) (key calls : ℕ) (slots 
 
 -- a key that was vacated is vacant
 vacated : (w : World) (key : ℕ) → put w.wire key None key ≡ None
-vacated w key = let here : (key == key) ≡ true = grind (arith, nat_tests) in rw here refl
+vacated w key = let here : (key == key) ≡ true = eq-eqb key key refl in rw here refl
 
 -- One process changes
 
@@ -88,11 +94,11 @@ module _ (m : TheMachine) (to : ℕ) (y : TheProcess) (positive : 0 < to) (withi
     where
       by_number : (b : Bool) → (p == to) ≡ b → P p b (slice_index_or (set m.processes (to - 1) y) (p - 1) (idle_process 0 0 0))
       by_number true e =
-          let same : to ≡ p = grind (arith, nat_tests) in
+          let same : to ≡ p = sym (eqb-true p to e) in
           let at : y ≡ slice_index_or (set m.processes (to - 1) y) (p - 1) (idle_process 0 0 0) = sym (ap (λ q. slice_index_or (set m.processes (to - 1) y) (q - 1) (idle_process 0 0 0)) (sym same) ∙ get_or-set_same m.processes (to - 1) y (idle_process 0 0 0) (omega arith)) in
           subst (P p true) at (subst (λ q. P q true y) same now)
       by_number false e =
-          let apart : p - 1 ≢ to - 1 = grind (arith, nat_tests) in
+          let apart : p - 1 ≢ to - 1 = λ f. eqb-false p to e (omega (arith, f, h, positive)) in
           subst (P p false) (sym (get_or-set_other m.processes (to - 1) (p - 1) y (idle_process 0 0 0) apart)) (others p h)
 
   -- the logs stay, where that of the process does
@@ -102,7 +108,7 @@ module _ (m : TheMachine) (to : ℕ) (y : TheProcess) (positive : 0 < to) (withi
       by_number : (b : Bool) → (p == 0) ≡ b → (if b then new.outside.log else (process_at new p).outbox.log) ≡ (if b then m.outside.log else (process_at m p).outbox.log)
       by_number true e = outside
       by_number false e =
-          let inside : 0 < p = grind (arith, nat_tests) in
+          let inside : 0 < p = some-of p (eqb-false p 0 e) in
           ap (λ (xs : List TheProcess). (slice_index_or xs (p - 1) (idle_process 0 0 0)).outbox.log) processes
           ∙ at-set (λ q b z. z.outbox.log ≡ (process_at m q).outbox.log) same (λ q h. refl) p inside
 
@@ -127,7 +133,7 @@ module _ (m : TheMachine) (w : World) (s : Stands m w) (room key to calls : ℕ)
     where
       by_number : (b : Bool) → (p == to) ≡ b → payloads w p (take (length_in (w.history p) (w.saved p) (if b then Busy x else w.phase p)) (w.history p)) d ≡ sent w p d
       by_number true e =
-          let same : to ≡ p = grind (arith, nat_tests) in
+          let same : to ≡ p = sym (eqb-true p to e) in
           let live : is_up (w.phase p) ≡ true = ap (λ q. is_up (w.phase q)) (sym same) ∙ up in
           ap (λ n. payloads w p (take n (w.history p)) d) (sym (up-length (w.phase p) live (w.history p) (w.saved p)))
       by_number false e = refl
@@ -176,7 +182,7 @@ module _ (m : TheMachine) (w : World) (s : Stands m w) (room key to calls : ℕ)
           shown = s.shows.shown;
           wire = put-wire w m.slots slots key (Some (Delivery to x)) None s.shows.wire puts;
           started = ap (λ k. k + 1) s.shows.started;
-          outside = let other : (0 == to) ≡ false = grind (arith, nat_tests) in rw other s.shows.outside;
+          outside = let other : (0 == to) ≡ false = ne_eqb 0 to (λ f. absurd (omega (arith, f, positive))) in rw other s.shows.outside;
         })
         refl
       where
@@ -185,7 +191,7 @@ module _ (m : TheMachine) (w : World) (s : Stands m w) (room key to calls : ℕ)
         not-down p = by_number (p == to) refl
           where
             by_number : (b : Bool) → (p == to) ≡ b → is_down (if b then Busy x else w.phase p) ≡ false → is_down (w.phase p) ≡ false
-            by_number true e back = let same : to ≡ p = grind (arith, nat_tests) in up-down (w.phase p) (ap (λ q. is_up (w.phase q)) (sym same) ∙ up)
+            by_number true e back = let same : to ≡ p = sym (eqb-true p to e) in up-down (w.phase p) (ap (λ q. is_up (w.phase q)) (sym same) ∙ up)
             by_number false e back = back
 
         kept : (new : TheMachine) (p d : ℕ) → log_at new p ≡ log_at m p → Keeps (queue_of d (log_at m p)) (w.trims p d) (sent w p d) (w.numbers p d) → Keeps (queue_of d (log_at new p)) (w.trims p d) (sent (begin w key to x) p d) (w.numbers p d)
@@ -199,7 +205,7 @@ module _ (m : TheMachine) (w : World) (s : Stands m w) (room key to calls : ℕ)
             nexted (suc d) h v = by_ssn (x.ssn == suc (count_of x.sender (w.history (suc d)))) refl (nat_lt (count_of x.sender (w.history (suc d))) x.ssn) v
               where
                 by_ssn : (b : Bool) → (x.ssn == suc (count_of x.sender (w.history (suc d)))) ≡ b → (c : Bool) → (if b then Next else (if c then Ahead else Known)) ≡ Next → x.ssn ≡ suc (count_of x.sender (w.history (suc d)))
-                by_ssn true e c f = grind (arith, nat_tests)
+                by_ssn true e c f = eqb-true x.ssn (suc (count_of x.sender (w.history (suc d)))) e
                 by_ssn false e true f = absurd (cc)
                 by_ssn false e false f = absurd (cc)
 
@@ -248,12 +254,12 @@ module _ (q : TheQueue) (dropped : ℕ) (xs : List (List ℕ)) (numbers : ℕ �
 
   number_at : (j : ℕ) → j < length q.payloads → (b : Bool) → (suc (dropped + j) == i) ≡ b → slice_index_or (set q.numbers (i - q.first) (Some k)) j None ≡ (if b then Some k else numbers (suc (dropped + j)))
   number_at j h true e =
-      let at : suc (dropped + j) ≡ i = grind (arith, nat_tests) in
+      let at : suc (dropped + j) ≡ i = eqb-true (suc (dropped + j)) i e in
       let same : j ≡ i - q.first = omega (arith, at, kept.first) in
       let inside = here.1 in
       ap (λ p. slice_index_or (set q.numbers (i - q.first) (Some k)) p None) same ∙ get_or-set_same q.numbers (i - q.first) (Some k) None (omega (arith, inside, kept.as_many))
   number_at j h false e =
-      let away : suc (dropped + j) ≢ i = grind (arith, nat_tests) in
+      let away : suc (dropped + j) ≢ i = eqb-false (suc (dropped + j)) i e in
       let above = here.0 in
       let apart : j ≢ i - q.first = λ f. away (omega (arith, f, kept.first, above)) in
       get_or-set_other q.numbers (i - q.first) j (Some k) None apart ∙ kept.numbers_are j h
@@ -294,7 +300,7 @@ module _ (m : TheMachine) (w : World) (s : Stands m w) (room key r t i k incarna
 
     -- a number of another incarnation is stale
     pub number-past : incarnation ≢ (process_at m r).incarnation → Steps m (record m { slots = slots; calls = calls }) room (Arrive key) Stale w
-    number-past other = let e : (incarnation == (process_at m r).incarnation) ≡ false = grind (arith, nat_tests) in stale _ (rw (present, e) refl) refl
+    number-past other = let e : (incarnation == (process_at m r).incarnation) ≡ false = ne_eqb incarnation (process_at m r).incarnation other in stale _ (rw (present, e) refl) refl
 
     -- and so is one of a message that isn't logged
     pub number-unlogged : is_logged i (queue_of r (log_at m t)) ≡ false → Steps m (record m { slots = slots; calls = calls }) room (Arrive key) Stale w
@@ -311,18 +317,18 @@ module _ (m : TheMachine) (w : World) (s : Stands m w) (room key r t i k incarna
 
     kept-in : (d : ℕ) → d ≤ length m.processes → t ≢ d → (b : Bool) → (d == r) ≡ b → Keeps (queue_of d l) (w.trims t d) (sent w t d) (if b then put (w.numbers t r) i (Some k) else w.numbers t d)
     kept-in d to other true e =
-        let same : d ≡ r = grind (arith, nat_tests) in
+        let same : d ≡ r = eqb-true d r e in
         let is : queue_of r l ≡ recorded i k (queue_of r (log_at m t)) = get_or-set_same (log_at m t).queues r (recorded i k (queue_of r (log_at m t))) no_queue (queue-inside (log_at m t) r i logged) in
         let now : Keeps (queue_of r l) (w.trims t r) (sent w t r) (put (w.numbers t r) i (Some k)) = subst (λ q. Keeps q (w.trims t r) (sent w t r) (put (w.numbers t r) i (Some k))) (sym is) (keeps-recorded (queue_of r (log_at m t)) (w.trims t r) (sent w t r) (w.numbers t r) i k (s.shows.logs t r from within apart (up-down (w.phase t) sender_up)) logged) in
         subst (λ p. Keeps (queue_of p l) (w.trims t p) (sent w t p) (put (w.numbers t r) i (Some k))) (sym same) now
     kept-in d to other false e =
-        let away : d ≢ r = grind (arith, nat_tests) in
+        let away : d ≢ r = eqb-false d r e in
         let is : queue_of d l ≡ queue_of d (log_at m t) = get_or-set_other (log_at m t).queues r d (recorded i k (queue_of r (log_at m t))) no_queue away in
         subst (λ q. Keeps q (w.trims t d) (sent w t d) (w.numbers t d)) (sym is) (s.shows.logs t d from to other (up-down (w.phase t) sender_up))
 
     kept-at : (p d : ℕ) → p ≤ length m.processes → d ≤ length m.processes → p ≢ d → is_down (w.phase p) ≡ false → (b : Bool) → (p == t) ≡ b → Keeps (queue_of d (if b then l else log_at m p)) (w.trims p d) (sent w p d) ((if b then put (w.numbers t) r (put (w.numbers t r) i (Some k)) else w.numbers p) d)
     kept-at p d h to other back true e =
-        let same : t ≡ p = grind (arith, nat_tests) in
+        let same : t ≡ p = sym (eqb-true p t e) in
         let F : ℕ → Type 0 = λ q. q ≢ d → Keeps (queue_of d l) (w.trims q d) (sent w q d) (put (w.numbers t) r (put (w.numbers t r) i (Some k)) d) in
         subst F same (λ a. kept-in d to a (d == r) refl) other
     kept-at p d h to other back false e = s.shows.logs p d h to other back
@@ -331,7 +337,7 @@ module _ (m : TheMachine) (w : World) (s : Stands m w) (room key r t i k incarna
     kept new logs p d h to other back = subst (λ z. Keeps (queue_of d z) (w.trims p d) (sent w p d) (written w t r i k p d)) (sym (logs p)) (kept-at p d h to other back (p == t) refl)
 
     good : ((incarnation == w.incarnation r) && is_entry w t r i) ≡ true
-    good = let e : (incarnation == (process_at m r).incarnation) ≡ true = grind (arith, nat_tests) in rw (present, e, entry, logged) refl
+    good = let e : (incarnation == (process_at m r).incarnation) ≡ true = eq-eqb incarnation (process_at m r).incarnation current in rw (present, e, entry, logged) refl
 
     notes : (new : TheMachine) → Shows new (note w key r t i k incarnation key) → new.images ≡ m.images → Steps m new room (Arrive key) (Numbered key) w
     notes new shows images = arrives m w s room key accepted (Number r t i k incarnation) found sender_up new (Numbered key) (rw good (key, (rw wire-is low, vacated w key), refl)) shows images
@@ -360,8 +366,8 @@ module _ (m : TheMachine) (w : World) (s : Stands m w) (room key r t i k incarna
         refl
       where
         log_is : (p : ℕ) (b : Bool) → (p == 0) ≡ b → (if b then l else (process_at m p).outbox.log) ≡ (if p == t then l else (if b then m.outside.log else (process_at m p).outbox.log))
-        log_is p true e = let f : (p == t) ≡ true = grind (arith, nat_tests) in rw f refl
-        log_is p false e = let f : (p == t) ≡ false = grind (arith, nat_tests) in rw f refl
+        log_is p true e = let f : (p == t) ≡ true = eq-eqb p t (eqb-true p 0 e ∙ sym none) in rw f refl
+        log_is p false e = let f : (p == t) ≡ false = ne_eqb p t (λ g. eqb-false p 0 e (g ∙ none)) in rw f refl
 
     -- a number of a message of a process
     pub noted-inside : 0 < t → Steps m (record m { processes = set m.processes (t - 1) (record (process_at m t) { outbox = record (process_at m t).outbox { log = l } }); slots = slots; calls = calls }) room (Arrive key) (Numbered key) w
@@ -403,16 +409,16 @@ module _ (m : TheMachine) (w : World) (s : Stands m w) (room key r t i k incarna
         refl
       where
         log_is : (p : ℕ) (z : TheProcess) (b : Bool) → (p == 0) ≡ b → (0 < p → z.outbox.log ≡ (if p == t then l else (process_at m p).outbox.log)) → (if b then m.outside.log else z.outbox.log) ≡ (if p == t then l else (if b then m.outside.log else (process_at m p).outbox.log))
-        log_is p z true e is = let f : (p == t) ≡ false = grind (arith, nat_tests) in rw f refl
-        log_is p z false e is = is (grind (arith, nat_tests))
+        log_is p z true e is = let f : (p == t) ≡ false = ne_eqb p t (let z : p ≡ 0 = eqb-true p 0 e in λ g. absurd (omega (arith, z, g, some))) in rw f refl
+        log_is p z false e is = is (some-of p (eqb-false p 0 e))
 
     -- any other is noted in the log, and its acknowledgement takes the key
     pub noted : (v : TheMachine) → Records m v t r i k → Steps m (record v { slots = slots; calls = calls }) room (Arrive key) (Numbered key) w
     noted v records = by_sender (t == 0) refl records
       where
         by_sender : (b : Bool) → (t == 0) ≡ b → v ≡ (if b then record m { outside = record m.outside { log = l } } else record m { processes = set m.processes (t - 1) (record (process_at m t) { outbox = record (process_at m t).outbox { log = l } }) }) → Steps m (record v { slots = slots; calls = calls }) room (Arrive key) (Numbered key) w
-        by_sender true e is = subst (λ u. Steps m (record u { slots = slots; calls = calls }) room (Arrive key) (Numbered key) w) (sym is) (noted-outside (grind (arith, nat_tests)))
-        by_sender false e is = subst (λ u. Steps m (record u { slots = slots; calls = calls }) room (Arrive key) (Numbered key) w) (sym is) (noted-inside (grind (arith, nat_tests)))
+        by_sender true e is = subst (λ u. Steps m (record u { slots = slots; calls = calls }) room (Arrive key) (Numbered key) w) (sym is) (noted-outside (eqb-true t 0 e))
+        by_sender false e is = subst (λ u. Steps m (record u { slots = slots; calls = calls }) room (Arrive key) (Numbered key) w) (sym is) (noted-inside (some-of t (eqb-false t 0 e)))
 
 -- a number that is recorded changes a log alone
 pub records-else : (old new : TheMachine) (t r i k : ℕ) → Records old new t r i k → (new.slots ≡ old.slots) × (new.calls ≡ old.calls) × (length new.processes ≡ length old.processes)
@@ -449,11 +455,11 @@ module _ (m : TheMachine) (w : World) (s : Stands m w) (room key t r k incarnati
 
   -- an acknowledgement of another incarnation is stale
   pub acknowledgement-past : incarnation ≢ (process_at m r).incarnation → Steps m (record m { slots = slots; calls = calls }) room (Arrive key) Stale w
-  acknowledgement-past other = let e : (incarnation == (process_at m r).incarnation) ≡ false = grind (arith, nat_tests) in past _ (rw (receiver.incarnation_is, e) refl) refl
+  acknowledgement-past other = let e : (incarnation == (process_at m r).incarnation) ≡ false = ne_eqb incarnation (process_at m r).incarnation other in past _ (rw (receiver.incarnation_is, e) refl) refl
 
   -- and so is one of a number above what was received
   pub acknowledgement-ahead : received (process_at m r) < k → Steps m (record m { slots = slots; calls = calls }) room (Arrive key) Stale w
-  acknowledgement-ahead above = past _ refl (let e : nat_le k (received (process_at m r)) ≡ false = grind (arith, nat_tests) in rw (in_state, e) (none (incarnation == w.incarnation r)))
+  acknowledgement-ahead above = past _ refl (let e : nat_le k (received (process_at m r)) ≡ false = lt-leb k (received (process_at m r)) above in rw (in_state, e) (none (incarnation == w.incarnation r)))
     where
       none : (b : Bool) → (b && false) ≡ false
       none true = refl
@@ -496,13 +502,13 @@ module _ (m : TheMachine) (w : World) (s : Stands m w) (room key t r k incarnati
 
     holds : (d : ℕ) → d ≤ length m.processes → r ≢ d → Holds d y.outbox.gate (run_to (put (w.acknowledged r) k true) (length (w.history r))) (length (w.history r)) (max (w.released r d) (length (payloads w r (take (run_to (put (w.acknowledged r) k true) (length (w.history r))) (w.history r)) d))) (sent_by w r d)
     holds d to other =
-        let e : (r == 0) ≡ false = grind (arith, nat_tests) in
+        let e : (r == 0) ≡ false = ne_eqb r 0 (λ f. absurd (omega (arith, f, inside))) in
         rw e (holds-released (gate_at m r) y.outbox.gate d (run_of w r) (run_to (put (w.acknowledged r) k true) (length (w.history r))) (length (w.history r)) (w.released r d) (sent_by w r d) (omega (arith, few, to)) more (run_to-is (put (w.acknowledged r) k true) (length (w.history r))).0 (s.shows.gates r d inside within to other running) (subst (λ n. Releases n (gate_at m r) y.outbox.gate) run_is a.releases))
 
     fresh : ((incarnation == w.incarnation r) && nat_le k (length_of w r)) ≡ true
     fresh =
-        let e : (incarnation == (process_at m r).incarnation) ≡ true = grind (arith, nat_tests) in
-        let f : nat_le k (received (process_at m r)) ≡ true = grind (arith, nat_tests) in
+        let e : (incarnation == (process_at m r).incarnation) ≡ true = eq-eqb incarnation (process_at m r).incarnation current in
+        let f : nat_le k (received (process_at m r)) ≡ true = le-leb k (received (process_at m r)) known in
         rw (receiver.incarnation_is, e, in_state, f) refl
 
     -- any other counts, and what may leave then is released

@@ -111,6 +111,15 @@ forgotten-sound m s p k ys is o out =
       keys = s.keys;
     }
 
+-- its checkpoint is that of before
+pub kept-saved : (i : Inside) (m : TheMachine) (p k : ℕ) (was : TheProcess) → 0 < p → p ≤ length m.processes → view_of i ≡ forgotten p k m → was ≡ slice_index_or i.processes.items (p - 1) was
+    → (process_at m p).saved ≡ was.saved
+kept-saved i m p k was positive within forgets here =
+    let inside : p ≤ length i.processes.items = let width : length i.processes.items ≡ length m.processes = ap (λ (v : TheMachine). length v.processes) forgets ∙ forgotten-width m p k in omega (arith, width, within) in
+    let is : was ≡ unnumbered_at p k (process_at m p) =
+    here ∙ get_or_default i.processes.items (p - 1) was (idle_process 0 0 0) (omega (arith, positive, inside)) ∙ ap (λ (v : TheMachine). process_at v p) forgets ∙ forgotten-at m p k p positive within in
+    sym (ap (λ (x : TheProcess). x.saved) is)
+
 -- a process is back in the machine that forgot
 module _ (i : Inside) (m : TheMachine) (p k : ℕ) (plan : ThePlan) (alone : Bool) (was y : TheProcess) (positive : 0 < p) (within : p ≤ length m.processes) (forgets : view_of i ≡ forgotten p k m)
     (here : was ≡ slice_index_or i.processes.items (p - 1) was) (is : y ≡ restored plan alone was) where

@@ -10,9 +10,15 @@ use Rattle.world.specs.declared.refusal.Refusal.TheVariants.{NotDown, JournalFul
 use Rattle.world.specs.World.{World}
 use Rattle.world.specs.Refusals.{refusal_of}
 use Rattle.rsn.specs.Receipts.{run_of}
+use Rattle.checkpoint.specs.declared.form.Form.TheVariants.{Second}
+use Rattle.checkpoint.specs.Saved.{Fits, log_again, receipts_again}
+use Rattle.replay.specs.Plan.{IsPlan, found}
+use Rattle.machine.specs.Fields.{IsLogOf}
+use Rattle.machine.specs.Outbox.{outbox_again}
 use Rattle.machine.specs.Process.{TheProcess, Settles, received, unnumbered_at}
 use Rattle.machine.specs.Simulation.{TheMachine, Stands, process_at, is_up_at}
 use Rattle.machine.specs.declared.mode.Peers.{Peers}
+use Rattle.machine.specs.declared.recovering.Remains.{Remains}
 use Rattle.machine.specs.Mode.{is_lost}
 use Rattle.machine.specs.Sending.{busy}
 
@@ -36,6 +42,17 @@ pub record MayRecover (m : TheMachine) (room p : ℕ) (alone : Bool) : Type 0 wh
   pub down : is_lost (process_at m p).mode ≡ true
   pub accepted : (w : World) → Stands m w → refusal_of w room (recovery_of p alone) ≡ None
   pub calls : m.calls < ENTRIES
+
+-- this is left of p: what its checkpoint has, and a plan of the messages behind it that the logs have
+pub record IsLeftOf (m : TheMachine) (p : ℕ) (r : Remains) : Type 0 where
+  pub state : r.state.items ≡ (process_at m p).saved.state
+  pub receipts : r.receipts ≡ receipts_again (process_at m p).saved
+  pub outbox : r.outbox ≡ outbox_again (process_at m p).saved
+  pub log : IsLogOf (length m.processes) p (log_again (process_at m p).saved)
+  pub fits : Fits Second (process_at m p).saved
+  pub plan : IsPlan (found (logs_of m) p) (process_at m p).saved.senders r.plan.messages
+  pub before : r.plan.before ≡ length (process_at m p).saved.senders
+  pub fresh : r.plan.replayed ≡ 0
 
 -- all senders forget the numbers above k of their messages to p
 abbrev pub forgotten : ℕ → ℕ → TheMachine → TheMachine

@@ -1,11 +1,11 @@
 //! Crashes, and how processes come back.
 
-ghost use Rattle.std.specs.Prelude.{◌≡◌, ◌+◌, ◌<◌, ◌≤◌, length, map, true, false, IfNone, IfOk, OnOk, option_and_then};
+ghost use Rattle.std.specs.Prelude.{◌≡◌, ◌+◌, ◌<◌, ◌≤◌, length, map, true, false, IfNone, IfOk, OnOk, Ok, option_and_then};
 ghost use Rattle.world.specs.World.{World};
 ghost use Rattle.world.specs.Refusals.{refusal_of, cause_of, others_up};
 ghost use Rattle.replay.specs.Plan.{IsPlan, found};
 ghost use Rattle.machine.specs.Simulation.{Stands, Simulates, answering, process_at, is_up_at, IsTold};
-ghost use Rattle.machine.specs.Recovering.{MayRecover, MaySettle, SettlesAt, returning, ArePeersOf, forgotten, logs_of, recovery_of};
+ghost use Rattle.machine.specs.Recovering.{MayRecover, MaySettle, IsLeftOf, SettlesAt, returning, ArePeersOf, forgotten, logs_of, recovery_of};
 ghost use Rattle.machine.specs.Mode.{is_lost};
 
 use crate::machine::Machine;
@@ -16,6 +16,16 @@ use replay::{Plan, collect_from};
 use rsn::Receipts;
 use std::alloc::{AllocError, Global};
 use world::{Answer, Call, Refusal};
+
+/// What is left of a process that crashed: what its checkpoint has, and the messages behind it that the
+/// logs have.
+#[derive(Drop)]
+pub struct Remains {
+    state: Vec<u8>,
+    receipts: Receipts,
+    outbox: Outbox,
+    plan: Plan,
+}
 
 impl Machine {
     /// Why a process would not crash.
@@ -140,20 +150,52 @@ impl Machine {
         ensures step { Simulates self.old self.new room (recovery_of p alone) (answering Answer.Kept result) }
         ensures calls { OnOk result (self.new.calls ≡ self.old.calls + 1) }
     {
+        let Ok(remains) = self.remains_of(p) else {
+            return Err(Refusal::Memory);
+        };
+        Ok(self.put_back(room, p, alone, remains))
+    }
+
+    // What is left of a process that is down.
+    fn remains_of(&self, p: u8) -> Result<Remains, AllocError>
+        requires { (1 ≤ p) × (p ≤ length self.now.processes) }
+        ensures { IfOk result (IsLeftOf self.now p) }
+    {
         let stable = self.process(p).stable();
-        let (receipts, outbox) = stable.restore(self.alloc)?;
         let state = Vec::from_slice(self.alloc, stable.state())?;
+        let (receipts, outbox) = stable.restore(self.alloc)?;
         let plan = self.plan(p, &receipts)?;
-        let kept = receipts.length() + plan.len();
-        let is_whole = plan.is_empty();
+        Ok(Remains {
+            state,
+            receipts,
+            outbox,
+            plan,
+        })
+    }
+
+    // A process is back with what is left of it. Answers how many messages it keeps.
+    fn put_back(&mut self, room: u32, p: u8, alone: bool, remains: Remains) -> u32
+        requires may { MayRecover self.old room p alone }
+        requires left { IsLeftOf self.old p remains }
+        ensures step { Simulates self.old self.new room (recovery_of p alone) (Ok (Answer.Kept result)) }
+        ensures calls { self.new.calls ≡ self.old.calls + 1 }
+    {
+        let kept = remains.receipts.length() + remains.plan.len();
+        let is_whole = remains.plan.is_empty();
         self.forget_after(p, kept);
         let process = &mut self.processes[p as usize - 1];
+        let Remains {
+            state,
+            receipts,
+            outbox,
+            plan,
+        } = remains;
         process.recover(state, receipts, outbox, plan, alone);
         if is_whole {
             self.settle(p, alone);
         }
         self.calls += 1;
-        Ok(kept)
+        kept
     }
 
     // What the process replays after these receipts: the messages to it that any log has under the next

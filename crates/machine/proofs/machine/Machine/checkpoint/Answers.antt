@@ -1,5 +1,4 @@
-use Rattle.std.proofs.Common.{rules, arith, ◌≡◌, ◌≤◌, ◌+◌, ◌-◌, subst, sym, ap, ◌∙◌, slice_index_or, length, map, set, true, false}
-use Rattle.std.proofs.lemmas.Grind.{common_steps}
+use Rattle.std.proofs.Common.{arith, ◌≡◌, ◌≤◌, ◌+◌, ◌-◌, subst, sym, ap, ◌∙◌, slice_index_or, length, map, set, true, false}
 use Rattle.std.proofs.lemmas.List.{length-set, length-map, get_or_default, get_or-set_same}
 use Rattle.limits.specs.declared.TheConstants.{ENTRIES, PROCESSES}
 use Rattle.handlers.specs.Image.{TheImage, image_in}
@@ -83,7 +82,7 @@ invariant_of-self c =
     let positive = c.in_default.ensures.none.0 in
     let within : p ≤ length xs = subst (λ (v : TheMachine). p ≤ length v.processes) (sym c.self.view_is) c.in_default.ensures.none.1 in
     let calls : c.self.inside.calls + c.args.room ≤ ENTRIES = subst (λ (v : TheMachine). v.calls + c.args.room ≤ ENTRIES) (sym c.self.view_is) c.requires in
-    let here : was ≡ slice_index_or xs (p - 1) was = first_of (search rules, grind (arith, common_steps)) in
+    let here : was ≡ slice_index_or xs (p - 1) was = c.index_mut-process.ensures.value in
     let at : was ≡ process_at m p = here ∙ get_or_default xs (p - 1) was (idle_process 0 0 0) (omega (arith, positive, within)) in
     let taken : c.process.result.now ≡ process_at m p = c.process.ensures.value ∙ ap (λ (v : TheMachine). process_at v p) (sym c.self.view_is) in
     let count : c.count.result ≡ length xs = c.count.ensures.value ∙ ap (λ (v : TheMachine). length v.processes) (sym c.self.view_is) in
@@ -117,7 +116,7 @@ returns-clause-step c w s =
     let within = c.in_default.ensures.none.1 in
     let inside : p ≤ length xs = subst (λ (v : TheMachine). p ≤ length v.processes) (sym c.self.view_is) within in
     let few : length m.processes ≤ PROCESSES = subst (λ (v : TheMachine). length v.processes ≤ PROCESSES) c.self.view_is c.self.invariant.few in
-    let here : was ≡ slice_index_or xs (p - 1) was = first_of (search rules, grind (arith, common_steps)) in
+    let here : was ≡ slice_index_or xs (p - 1) was = c.index_mut-process.ensures.value in
     let at : was ≡ process_at m p = here ∙ get_or_default xs (p - 1) was (idle_process 0 0 0) (omega (arith, positive, inside)) ∙ ap (λ (v : TheMachine). process_at v p) c.self.view_is in
     let image : TheImage = some-of (map image_in c.self.inside.images.items) (omega (arith, length-map c.self.inside.images.items image_in, c.self.invariant.images, c.self.invariant.some)) in
     let sound = sound_at c.self.inside c.self.invariant p (idle_process 0 0 0) image positive inside in
