@@ -11,7 +11,7 @@ ghost use Rattle.machine.specs.Mode.{is_lost};
 use crate::machine::Machine;
 use crate::mode::Peers;
 use crate::outbox::Outbox;
-use limits::ENTRIES;
+use limits::{ENTRIES, PARTIES};
 use replay::{Plan, collect_from};
 use rsn::Receipts;
 use std::alloc::{AllocError, Global};
@@ -204,12 +204,11 @@ impl Machine {
         ensures plan { IfOk result (λ plan. IsPlan (found (logs_of self.now) p) receipts.now.senders plan.messages) }
         ensures start { IfOk result (λ plan. (plan.before ≡ length receipts.now.senders) × (plan.replayed ≡ 0)) }
     {
-        let mut logs = Vec::with_capacity(self.alloc, self.processes.len() + 1)?;
-        logs.push(self.outside.log())?;
-        for process in &self.processes {
-            logs.push(process.outbox().log())?;
+        let mut logs = [self.outside.log(); PARTIES];
+        for (place, process) in self.processes.iter().enumerate() {
+            logs[place + 1] = process.outbox().log();
         }
-        collect_from(self.alloc, logs.as_slice(), p, receipts)
+        collect_from(self.alloc, &logs[..self.processes.len() + 1], p, receipts)
     }
 
     // All senders forget the numbers above this one of their messages to p.
