@@ -155,7 +155,7 @@ fn write_length_test(code: &mut Vec<u8>, len: u8, long: u8) -> Result<(), AllocE
     )
 }
 
-// Those of a message of 64 bytes.
+// The tests of a message of 64 bytes.
 fn write_send_tests(code: &mut Vec<u8>, size: u8) -> Result<(), AllocError>
     requires { size ≤ 80 }
     ensures { OnOk result (code.new.items ≡ code.old.items ++ codes (specs.send_tests size)) }
@@ -164,7 +164,7 @@ fn write_send_tests(code: &mut Vec<u8>, size: u8) -> Result<(), AllocError>
     write_room_test(code, 0, size + 7)
 }
 
-// Those of a longer or shorter one.
+// The tests of a message of any length.
 fn write_send_sized_tests(code: &mut Vec<u8>, size: u8) -> Result<(), AllocError>
     requires { size ≤ 80 }
     ensures { OnOk result (code.new.items ≡ code.old.items ++ codes (specs.send_sized_tests size)) }
@@ -174,7 +174,7 @@ fn write_send_sized_tests(code: &mut Vec<u8>, size: u8) -> Result<(), AllocError
     write_length_test(code, 9, size)
 }
 
-// Those of such an output.
+// The tests of an output of any length.
 fn write_output_sized_tests(code: &mut Vec<u8>, size: u8) -> Result<(), AllocError>
     requires { size ≤ 80 }
     ensures { OnOk result (code.new.items ≡ code.old.items ++ codes (specs.output_sized_tests size)) }
@@ -183,7 +183,7 @@ fn write_output_sized_tests(code: &mut Vec<u8>, size: u8) -> Result<(), AllocErr
     write_length_test(code, 12, size)
 }
 
-/// Its tests, which pass by so many bytes.
+/// The tests of a helper, which pass by so many bytes.
 pub(crate) fn write_tests(code: &mut Vec<u8>, helper: Helper, size: u8) -> Result<(), AllocError>
     requires { size ≤ 80 }
     ensures { OnOk result (code.new.items ≡ code.old.items ++ codes (specs.tests_of helper size)) }
@@ -504,7 +504,7 @@ pub(crate) fn write_good(
     }
 }
 
-// The destination is no peer, and there is no room.
+// The answers of a send of 64 bytes: the destination is no peer, there is no room.
 fn write_send_end(code: &mut Vec<u8>) -> Result<(), AllocError>
     ensures { OnOk result (code.new.items ≡ code.old.items ++ codes specs.send_end) }
 {
@@ -518,14 +518,14 @@ fn write_send_end(code: &mut Vec<u8>) -> Result<(), AllocError>
     )
 }
 
-// There is no room.
+// That of an output of 64 bytes: there is no room.
 fn write_output_end(code: &mut Vec<u8>) -> Result<(), AllocError>
     ensures { OnOk result (code.new.items ≡ code.old.items ++ codes specs.output_end) }
 {
     write_all(code, &[Instr::MovImm { to: 0, imm: 2 }])
 }
 
-// It is too long; and the rest.
+// Those of a send of any length: it is too long, the destination is no peer, there is no room.
 fn write_send_sized_end(code: &mut Vec<u8>) -> Result<(), AllocError>
     ensures { OnOk result (code.new.items ≡ code.old.items ++ codes specs.send_sized_end) }
 {
@@ -541,6 +541,7 @@ fn write_send_sized_end(code: &mut Vec<u8>) -> Result<(), AllocError>
     )
 }
 
+// Those of an output of any length: it is too long, there is no room.
 fn write_output_sized_end(code: &mut Vec<u8>) -> Result<(), AllocError>
     ensures { OnOk result (code.new.items ≡ code.old.items ++ codes specs.output_sized_end) }
 {
@@ -554,7 +555,7 @@ fn write_output_sized_end(code: &mut Vec<u8>) -> Result<(), AllocError>
     )
 }
 
-/// Its other answers.
+/// The answers of a helper where a test fails.
 pub(crate) fn write_end(code: &mut Vec<u8>, helper: Helper) -> Result<(), AllocError>
     ensures { OnOk result (code.new.items ≡ code.old.items ++ codes (specs.end_of helper)) }
 {

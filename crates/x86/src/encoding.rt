@@ -23,7 +23,7 @@ fn put_all(code: &mut Vec<u8>, bytes: &[u8]) -> Result<(), AllocError>
     code.extend_from_slice(bytes)
 }
 
-// Two of them.
+// Two bytes more.
 fn put_pair(code: &mut Vec<u8>, first: u8, second: u8) -> Result<(), AllocError>
     ensures { OnOk result (code.new.items ≡ code.old.items ++ first ∷ second ∷ []) }
 {
@@ -88,7 +88,7 @@ fn put_prefix_by(
     }
 }
 
-// And bytes behind it.
+// A REX where it says something, and bytes behind it.
 fn put_rexed(
     code: &mut Vec<u8>,
     width: Width,
@@ -115,7 +115,7 @@ fn put_byte_prefix(code: &mut Vec<u8>, byte: u8, reg: u8, rm: u8) -> Result<(), 
     }
 }
 
-// And bytes behind it.
+// A REX where one of the registers is a byte, and bytes behind it.
 fn put_byte_rexed(
     code: &mut Vec<u8>,
     byte: u8,
@@ -218,7 +218,7 @@ fn put_two_byte(
     put_rexed(code, width, reg, 0, rm, &[opcode, two(reg, rm), byte])
 }
 
-// And with 32 bits.
+// The same with 32 bits behind it.
 fn put_two_number(
     code: &mut Vec<u8>,
     width: Width,
