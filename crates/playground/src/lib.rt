@@ -1,17 +1,39 @@
 //! The program for a page in a browser: a static library that carries out one command line over files in memory,
-//! without threads.
-//!
-//! [`exports`] has the function that the page calls. Words, names and files come as bytes that stand one behind the
-//! other, each as long as its length says. The promise: a code of 0 to 6 is the status that `tracer::sblog_alone`
-//! answers to these words over these files, and what it printed and told, and the file that it wrote, stand in the
-//! caller's buffer, one behind the other; every other file is as it was. Any other code says why nothing is answered: the bytes don't fit their
-//! lengths or are no text (16), memory ran out (17), or the buffer is too short (18), and how long it has to be.
+//! without threads. What its one function answers is what `page_calls::answer_call` does.
 #![tactic(auto)]
 
-mod answer;
-mod calling;
-mod exports;
-mod misfit;
-mod parts;
-mod sheet;
-mod shelf;
+ghost use Rattle.page_calls.specs.Calls.{Answers, the_call};
+
+use page_calls::{Sizes, answer_call};
+use std::alloc::Global;
+
+/// Carries out a command line, given without the program's own name, over files in memory. Words,
+/// names and files stand one behind the other, each as long as its length says. Answers the status of
+/// the program, and writes what went to standard output, to standard error and into a file, one
+/// behind the other. Without room for it (18), `sizes` says how much is wanted.
+#[unsafe(no_mangle)]
+pub extern "C" fn sblog_page(
+    alloc: Global,
+    words: &[u8],
+    word_lengths: &[u32],
+    names: &[u8],
+    name_lengths: &[u32],
+    files: &[u8],
+    file_lengths: &[u32],
+    out: &mut [u8],
+    sizes: &mut Sizes,
+) -> u32
+    ensures { Answers result (the_call words.now word_lengths.now names.now name_lengths.now files.now file_lengths.now) out.old out.new sizes.old sizes.new }
+{
+    answer_call(
+        alloc,
+        words,
+        word_lengths,
+        names,
+        name_lengths,
+        files,
+        file_lengths,
+        out,
+        sizes,
+    )
+}

@@ -1,8 +1,8 @@
 //! What a command line came to.
 
 ghost use Rattle.std.specs.Prelude.{◌≡◌, IfErr, IfOk};
-ghost use Rattle.playground.specs.Calls.{written_bytes, whole_of};
-ghost use Rattle.playground.specs.declared.misfit.Misfit.TheVariants.{Memory};
+ghost use Rattle.page_calls.specs.Calls.{written_bytes, whole_of};
+ghost use Rattle.page_calls.specs.declared.misfit.Misfit.TheVariants.{Memory};
 
 use crate::misfit::Misfit;
 use crate::shelf::Written;

@@ -1,5 +1,5 @@
 use Rattle.std.proofs.Common.{length}
-use Rattle.playground.proofs.parts.+cut_texts.Given as goal
+use Rattle.page_calls.proofs.parts.+cut_texts.Given as goal
 
 abbrev pub decreases-cut_texts : goal.decreases-cut_texts
 decreases-cut_texts l = length l.lengths.now

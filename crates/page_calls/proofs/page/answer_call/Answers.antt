@@ -1,5 +1,5 @@
 use Rattle.std.proofs.Common.{inl, inr}
-use Rattle.playground.proofs.exports.sblog_page.Goals as goal
+use Rattle.page_calls.proofs.page.answer_call.Goals as goal
 
 pub returns-in-Ok-put : goal.returns-in-Ok-put
 returns-in-Ok-put c = inl (c.in-Ok.answer, c.in-Ok.ensures.answered, c.in-Ok.ensures.status, inl (c.from.ensures, c.in-Ok-put.ensures))

@@ -1,8 +1,8 @@
 //! Why a call is not answered.
 
 ghost use Rattle.std.specs.Prelude.{◌≡◌};
-ghost use Rattle.playground.specs.Calls.{code_of};
-ghost use Rattle.playground.specs.declared.misfit.Misfit.TheVariants.{Memory};
+ghost use Rattle.page_calls.specs.Calls.{code_of};
+ghost use Rattle.page_calls.specs.declared.misfit.Misfit.TheVariants.{Memory};
 
 use std::alloc::AllocError;
 

@@ -5,10 +5,10 @@ use Rattle.ordered_images.specs.Blocks.{blocks_text}
 use Rattle.ordered_images.specs.declared.blocks.Blocks.{Blocks}
 use Rattle.ordered_images.specs.declared.blocks.Blocks.TheVariants.{Kept, Moved, Loops, Unknown}
 use Rattle.tracer.specs.Program.{IsDone, IsSaid, IsTold}
-use Rattle.playground.specs.Calls.{IsToldOf}
-use Rattle.playground.specs.Shelf.{content_with}
-use Rattle.playground.specs.declared.sheet.Sheet.{Sheet}
-use Rattle.playground.proofs.calling.carry_out_in.Goals as goal
+use Rattle.page_calls.specs.Calls.{IsToldOf}
+use Rattle.page_calls.specs.Shelf.{content_with}
+use Rattle.page_calls.specs.declared.sheet.Sheet.{Sheet}
+use Rattle.page_calls.proofs.calling.carry_out_in.Goals as goal
 
 -- what was said of blocks on a sheet that was empty
 told_of : (blocks : Blocks) (s s' : Sheet) → string_bytes s.text ≡ [] → IsSaid (λ (x : Sheet). Some (string_bytes x.text)) (λ (x : Sheet). x.failed) blocks s s'

@@ -1,7 +1,7 @@
 -- Files in memory by their names.
 use Rattle.std.specs.Prelude.{ℕ, List, ◌∷◌, Option, None, Some, cond, string_bytes}
 use Rattle.std.specs.Str.{bytes_eq}
-use Rattle.playground.specs.declared.shelf.Written.{Written}
+use Rattle.page_calls.specs.declared.shelf.Written.{Written}
 
 -- the bytes of the first file of this name
 abbrev pub content_of : List (List ℕ) → List (List ℕ) → List ℕ → Option (List ℕ)

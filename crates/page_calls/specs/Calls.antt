@@ -5,13 +5,13 @@ use Rattle.ordered_images.specs.Blocks.{blocks_text}
 use Rattle.ordered_images.specs.declared.blocks.Blocks.{Blocks}
 use Rattle.ordered_images.specs.declared.blocks.Blocks.TheVariants.{Kept}
 use Rattle.tracer.specs.Program.{IsDone, IsTold}
-use Rattle.playground.specs.declared.answer.Answer.{Answer}
-use Rattle.playground.specs.declared.misfit.Misfit.{Misfit}
-use Rattle.playground.specs.declared.misfit.Misfit.TheVariants.{Shape, Memory, Room}
-use Rattle.playground.specs.declared.exports.Sizes.{Sizes}
-use Rattle.playground.specs.declared.shelf.Written.{Written}
-use Rattle.playground.specs.Parts.{parts_of, AreParts, IsMisfit}
-use Rattle.playground.specs.Shelf.{content_with}
+use Rattle.page_calls.specs.declared.answer.Answer.{Answer}
+use Rattle.page_calls.specs.declared.misfit.Misfit.{Misfit}
+use Rattle.page_calls.specs.declared.misfit.Misfit.TheVariants.{Shape, Memory, Room}
+use Rattle.page_calls.specs.declared.page.Sizes.{Sizes}
+use Rattle.page_calls.specs.declared.shelf.Written.{Written}
+use Rattle.page_calls.specs.Parts.{parts_of, AreParts, IsMisfit}
+use Rattle.page_calls.specs.Shelf.{content_with}
 
 -- what is told where a command was carried out: nothing, or what is said of blocks, unless memory ran out while it was written
 abbrev pub IsToldOf : Blocks → Bool → List ℕ → Type 0

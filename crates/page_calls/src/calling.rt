@@ -1,7 +1,7 @@
 //! A command line over files in memory.
 
 ghost use Rattle.std.specs.Prelude.{◌≡◌, ◌≤◌, map, string_bytes};
-ghost use Rattle.playground.specs.Calls.{IsAnswer};
+ghost use Rattle.page_calls.specs.Calls.{IsAnswer};
 
 use crate::answer::Answer;
 use crate::sheet::Sheet;

@@ -1,9 +1,9 @@
 use Rattle.std.proofs.Common.{◌≡◌, ◌∙◌, ◌++◌, List, ap, inl, inr, length, map, rules, string_bytes, subst}
 use Rattle.std.specs.Prelude.{ℕ}
-use Rattle.playground.specs.Calls.{IsAnswer}
-use Rattle.playground.specs.Parts.{parts_of}
-use Rattle.playground.proofs.CallLemmas.{not-call}
-use Rattle.playground.proofs.exports.answer.Goals as goal
+use Rattle.page_calls.specs.Calls.{IsAnswer}
+use Rattle.page_calls.specs.Parts.{parts_of}
+use Rattle.page_calls.proofs.CallLemmas.{not-call}
+use Rattle.page_calls.proofs.page.answer.Goals as goal
 
 pub returns-in-Err-clause-misfit : goal.returns-in-Err-clause-misfit
 returns-in-Err-clause-misfit c = not-call _ c.in-Err.misfit c.in-Err.ensures.fault (λ e. inl (c.in-Err.ensures.misfit e))

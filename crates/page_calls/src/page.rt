@@ -1,7 +1,7 @@
-//! What the page calls.
+//! A call as bytes, and its answer in a buffer.
 
 ghost use Rattle.std.specs.Prelude.{◌≤◌, IfErr, IfOk, MatchResult};
-ghost use Rattle.playground.specs.Calls.{Answers, IsAnswered, IsNotCall, IsPut, IsNotPut, the_call};
+ghost use Rattle.page_calls.specs.Calls.{Answers, IsAnswered, IsNotCall, IsPut, IsNotPut, the_call};
 
 use crate::answer::Answer;
 use crate::calling::carry_out;
@@ -70,8 +70,7 @@ fn put(alloc: Global, answer: &Answer, out: &mut [u8], sizes: &mut Sizes) -> Res
 /// names and files stand one behind the other, each as long as its length says. Answers the status of
 /// the program, and writes what went to standard output, to standard error and into a file, one
 /// behind the other. Without room for it (18), `sizes` says how much is wanted.
-#[unsafe(no_mangle)]
-pub extern "C" fn sblog_page(
+pub fn answer_call(
     alloc: Global,
     words: &[u8],
     word_lengths: &[u32],

@@ -2,8 +2,8 @@
 
 ghost use Rattle.std.specs.Prelude.{◌≡◌, ◌≢◌, ◌++◌, IfErr, OnOk, length, map, string_bytes};
 ghost use Rattle.std.specs.Str.{IsUtf8};
-ghost use Rattle.playground.specs.Parts.{parts_of, AreParts, IsMisfit};
-ghost use Rattle.playground.specs.declared.misfit.Misfit.TheVariants.{Shape, Room};
+ghost use Rattle.page_calls.specs.Parts.{parts_of, AreParts, IsMisfit};
+ghost use Rattle.page_calls.specs.declared.misfit.Misfit.TheVariants.{Shape, Room};
 
 use crate::misfit::Misfit;
 use std::alloc::Global;

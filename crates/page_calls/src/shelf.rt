@@ -4,7 +4,7 @@ ghost use Rattle.std.specs.Prelude.{◌≡◌, IfErr, IfOk, map, option_map, str
 ghost use Rattle.std.specs.Str.{bytes_eq};
 ghost use Rattle.tracer.specs.Files.{up_to};
 ghost use Rattle.tracer.specs.declared.files.Failure.TheVariants.{Memory};
-ghost use Rattle.playground.specs.Shelf.{content_of, content_with};
+ghost use Rattle.page_calls.specs.Shelf.{content_of, content_with};
 
 use std::alloc::Global;
 use std::marker::{Brand, PhantomData};

@@ -1,5 +1,5 @@
 use Rattle.std.proofs.Common.{length}
-use Rattle.playground.proofs.shelf.+find.Given as goal
+use Rattle.page_calls.proofs.shelf.+find.Given as goal
 
 abbrev pub decreases-find : goal.decreases-find
 decreases-find l = length l.names.now
