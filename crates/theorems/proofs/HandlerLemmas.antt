@@ -1,10 +1,8 @@
 -- What handlers of images send
 use Rattle.std.proofs.Common.{◌≡◌, ℕ, List, [], ◌∷◌, ◌++◌, length, Bool, true, false, refl, sym, subst}
 use Rattle.std.specs.Prelude.{Option, Some, None, if◌then◌else◌, ◌==◌}
-use Rattle.handlers.specs.Image.{TheImage}
-use Rattle.interp.specs.HandlerCall.{Handled}
 use Rattle.world.specs.History.{nth}
-use Rattle.world.specs.Fold.{Folded, joined, folded, payloads_to, emitted_to, handlers_of}
+use Rattle.world.specs.Fold.{TheImage, Handled, Folded, joined, folded, payloads_to, emitted_to, handlers_of}
 use Rattle.world.specs.declared.entry.Entry.{Entry}
 use Rattle.world.specs.World.{opening}
 use Rattle.world.specs.Legal.{Legal, all_single}

@@ -1,9 +1,8 @@
 //! What every call keeps.
 
 ghost use Rattle.std.specs.Prelude.{ℕ, List};
-ghost use Rattle.handlers.specs.Image.{TheImage};
 ghost use Rattle.world.specs.declared.entry.Entry.{Entry};
-ghost use Rattle.world.specs.Fold.{handlers_of};
+ghost use Rattle.world.specs.Fold.{TheImage, handlers_of};
 ghost use Rattle.world.specs.Handlers.{Handlers};
 ghost use Rattle.world.specs.Legal.{Legal, world_of};
 ghost use Rattle.theorems.specs.Invariants.Exact.{Exact};

@@ -3,9 +3,8 @@ use Rattle.std.proofs.Common.{◌≡◌, ℕ, List, [], ◌∷◌, ◌++◌, len
 use Rattle.std.specs.Prelude.{Some, if◌then◌else◌, ◌==◌}
 use Rattle.std.proofs.lemmas.List.Sums.{fold-append}
 use Rattle.helpers.specs.declared.effects.Sent.{Sent}
-use Rattle.interp.specs.HandlerCall.{Handled}
 use Rattle.handlers.specs.Image.{TheImage}
-use Rattle.handlers.specs.Answer.{answered}
+use Rattle.handlers.specs.Answer.{Handled, answered}
 use Rattle.world.specs.declared.message.Message.{Message}
 use Rattle.world.specs.History.{nth}
 use Rattle.world.specs.Fold.{Folded, joined, taken_in, folded, unfolded, payloads_to, emitted_to, handlers_of}

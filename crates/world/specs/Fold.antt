@@ -2,12 +2,12 @@
 use Rattle.std.specs.Prelude.{ℕ, List, [], ◌∷◌, ◌++◌, length, replicate, fold, Option, Some, None, ◌==◌, if◌then◌else◌}
 use Rattle.helpers.specs.declared.effects.Sent.{Sent}
 use Rattle.helpers.specs.Effects.{Emitted}
-use Rattle.interp.specs.HandlerCall.{Handled}
-use Rattle.handlers.specs.Image.{TheImage}
 use Rattle.handlers.specs.Answer.{answered}
 use Rattle.world.specs.declared.message.Message.{Message}
 use Rattle.world.specs.History.{Payload, nth}
 use Rattle.world.specs.Handlers.{Handlers}
+pub use Rattle.handlers.specs.Image.{TheImage}
+pub use Rattle.handlers.specs.Answer.{Handled}
 
 -- the state of a process, and all that it sent and put out so far
 pub record Folded : Type 0 where
