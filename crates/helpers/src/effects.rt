@@ -4,6 +4,7 @@ ghost use Rattle.std.specs.Prelude.{◌≡◌, [], length, ◌≤◌, Some};
 ghost use Rattle.helpers.specs.Helpers as rows;
 
 use crate::payload::Payload;
+use crate::refused::Refused;
 use arrayvec::ArrayVec;
 use limits::{EFFECTS, PAYLOAD_BYTES};
 use std::marker::Model;
@@ -31,6 +32,7 @@ pub struct Sent {
 pub struct Effects {
     sends: ArrayVec<Sent, EFFECTS>,
     outputs: ArrayVec<Payload, EFFECTS>,
+    refused: Refused,
 }
 
 impl Model for Effects {
@@ -57,6 +59,7 @@ impl Effects {
         Effects {
             sends: ArrayVec::new(),
             outputs: ArrayVec::new(),
+            refused: Refused::default(),
         }
     }
 
@@ -67,6 +70,7 @@ impl Effects {
     {
         self.sends.clear();
         self.outputs.clear();
+        self.refused = Refused::default();
     }
 
     /// The messages that were sent, at most 8.
@@ -85,6 +89,21 @@ impl Effects {
         self.outputs.as_slice()
     }
 
+    /// How many sends and outputs were refused since these were cleared, by cause. No contract speaks of it: it
+    /// is for people, and only tested.
+    pub fn refused(&self) -> Refused {
+        self.refused
+    }
+
+    // Counts a refusal, and answers its code.
+    fn refuse(&mut self, code: u64) -> u64
+        ensures code { result ≡ code }
+        ensures after { self.new ≡ self.old }
+    {
+        self.refused.count(code);
+        code
+    }
+
     /// Helper 1: sends bytes to another process. The code is 0 where they were appended, 1 where
     /// the destination, as a 64-bit number, isn't another process, else 2: no room is left.
     pub fn send(&mut self, who: Who, dst: u64, payload: &[u8]) -> u64
@@ -93,10 +112,10 @@ impl Effects {
         ensures after { self.new ≡ (rows.send who dst (Some payload.now) self.old).1 }
     {
         if is_no_peer(who, dst) {
-            return 1;
+            return self.refuse(1);
         }
         if self.sends.is_full() {
-            return 2;
+            return self.refuse(2);
         }
         let place = self.sends.len();
         self.sends.push(Sent::default());
@@ -114,7 +133,7 @@ impl Effects {
         ensures after { self.new ≡ (rows.output (Some payload.now) self.old).1 }
     {
         if self.outputs.is_full() {
-            return 2;
+            return self.refuse(2);
         }
         let place = self.outputs.len();
         self.outputs.push(Payload::new());
@@ -132,13 +151,14 @@ impl Effects {
         if len <= PAYLOAD_BYTES as u64 {
             return self.send(who, dst, &bytes[..len as usize]);
         }
-        if is_no_peer(who, dst) {
+        let code = if is_no_peer(who, dst) {
             1
         } else if !self.sends.is_full() {
             3
         } else {
             2
-        }
+        };
+        self.refuse(code)
     }
 
     /// Helper 6: gives as many of 256 bytes as are asked for to the outside. The code is as helper
@@ -150,7 +170,7 @@ impl Effects {
     {
         if len > PAYLOAD_BYTES as u64 {
             let is_full = self.outputs.is_full();
-            return if is_full { 2 } else { 3 };
+            return self.refuse(if is_full { 2 } else { 3 });
         }
         self.output(&bytes[..len as usize])
     }

@@ -5,7 +5,8 @@
 //! [`Who`]. Helpers 5 and 6 send and output as many bytes as the handler says, 0 to 256.
 //! [`Effects`] keeps what one call of a handler emits, without taking memory. Each method's
 //! contract is its helper's row: which code r0 gets, and what was appended, or that nothing was.
-//! What a message says is a [`Payload`], 0 to 256 bytes.
+//! [`Effects::refused`] counts what was refused, by cause. What a message says is a [`Payload`], 0
+//! to 256 bytes.
 //!
 //! ```
 //! let mut effects = Effects::new();
@@ -17,6 +18,8 @@
 
 mod effects;
 mod payload;
+mod refused;
 
 pub use effects::{Effects, Sent, Who};
 pub use payload::Payload;
+pub use refused::Refused;

@@ -4,27 +4,34 @@ ghost use Rattle.std.specs.Prelude.{◌≡◌};
 ghost use Rattle.packets.specs.declared.fault.PacketError.TheVariants.{Memory};
 
 use std::alloc::{AllocError, AllocFailed};
-use std::fmt;
 use thiserror::Error;
 
 /// The first fault of bytes that are no packet, in the order of their numbers.
-#[derive(Clone, Copy, Debug, PartialEq, Eq)]
+#[derive(Clone, Copy, Debug, PartialEq, Eq, Error)]
 pub enum PacketFault {
     /// 1: fewer than 12 bytes.
+    #[error("fewer than 12 bytes")]
     Short,
     /// 2: the first four bytes are not the magic.
+    #[error("no packet")]
     Magic,
     /// 3: the last four bytes are not the checksum of the others.
+    #[error("the checksum is wrong")]
     Checksum,
     /// 4: there is no such kind.
+    #[error("no kind of packet")]
     Kind,
     /// 5: the number of processes is out of its range.
+    #[error("the number of processes is out of range")]
     Count,
     /// 6: it isn't from one node to another one.
+    #[error("not from one node to another one")]
     Ends,
     /// 7: the fields are not those of the kind, or a payload is too long.
+    #[error("the fields do not take just the bytes that are there")]
     Fields,
     /// 8: a field is out of its range.
+    #[error("a field is out of range")]
     Range,
 }
 
@@ -48,23 +55,6 @@ impl PacketFault {
         }
     }
 }
-
-impl fmt::Display for PacketFault {
-    fn fmt<W: fmt::Write>(&self, f: &mut fmt::Formatter<W>) -> fmt::Result {
-        f.write_str(match self {
-            PacketFault::Short => "fewer than 12 bytes",
-            PacketFault::Magic => "no packet",
-            PacketFault::Checksum => "the checksum is wrong",
-            PacketFault::Kind => "no kind of packet",
-            PacketFault::Count => "the number of processes is out of range",
-            PacketFault::Ends => "not from one node to another one",
-            PacketFault::Fields => "the fields do not take just the bytes that are there",
-            PacketFault::Range => "a field is out of range",
-        })
-    }
-}
-
-impl std::error::Error for PacketFault {}
 
 /// Why a packet was not read.
 #[derive(Debug, Drop, PartialEq, Eq, Error)]

@@ -4,27 +4,34 @@ ghost use Rattle.std.specs.Prelude.{◌≡◌};
 ghost use Rattle.packets.specs.declared.kept_fault.KeptError.TheVariants.{Memory};
 
 use std::alloc::{AllocError, AllocFailed};
-use std::fmt;
 use thiserror::Error;
 
 /// The first fault of bytes that are not what is kept of a process, in the order of their numbers.
-#[derive(Clone, Copy, Debug, PartialEq, Eq)]
+#[derive(Clone, Copy, Debug, PartialEq, Eq, Error)]
 pub enum KeptFault {
     /// 1: fewer than 20 bytes.
+    #[error("fewer than 20 bytes")]
     Short,
     /// 2: the first four bytes are not the magic.
+    #[error("nothing that is kept of a process")]
     Magic,
     /// 3: the last four bytes are not the checksum of the others.
+    #[error("the checksum is wrong")]
     Checksum,
     /// 4: the number of processes is out of its range.
+    #[error("the number of processes is out of range")]
     Count,
     /// 5: the process is none of these.
+    #[error("the process is none of these")]
     Own,
     /// 6: the state is too long.
+    #[error("the state is too long")]
     State,
     /// 7: what follows ends early or too late, or a payload is too long.
+    #[error("the fields do not take just the bytes that are there")]
     Fields,
     /// 8: a number is out of its range, or the counts are not those of all that was received.
+    #[error("a field is out of range")]
     Range,
 }
 
@@ -48,23 +55,6 @@ impl KeptFault {
         }
     }
 }
-
-impl fmt::Display for KeptFault {
-    fn fmt<W: fmt::Write>(&self, f: &mut fmt::Formatter<W>) -> fmt::Result {
-        f.write_str(match self {
-            KeptFault::Short => "fewer than 20 bytes",
-            KeptFault::Magic => "nothing that is kept of a process",
-            KeptFault::Checksum => "the checksum is wrong",
-            KeptFault::Count => "the number of processes is out of range",
-            KeptFault::Own => "the process is none of these",
-            KeptFault::State => "the state is too long",
-            KeptFault::Fields => "the fields do not take just the bytes that are there",
-            KeptFault::Range => "a field is out of range",
-        })
-    }
-}
-
-impl std::error::Error for KeptFault {}
 
 /// Why what is kept of a process was not read.
 #[derive(Debug, Drop, PartialEq, Eq, Error)]

@@ -67,6 +67,13 @@ impl Frame {
         self.kinds[reg.number as usize]
     }
 
+    /// How many bytes the message has at least, 0 to 256.
+    pub fn low(&self) -> u16
+        ensures { result ≡ self.now.low }
+    {
+        self.low
+    }
+
     /// The frame with this kind in one register.
     pub fn with(&self, reg: Reg, kind: Kind) -> Frame
         ensures { result ≡ record self.now { kinds = slice_set self.now.kinds reg.number kind } }

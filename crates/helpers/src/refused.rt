@@ -1,0 +1,44 @@
+//! What helpers refused.
+
+ghost use Rattle.std.specs.Prelude.{◌≡◌, ◌+◌, ◌≤◌};
+
+/// How many sends and outputs were refused, by cause. A refused one leaves nothing behind, and its handler goes on.
+#[derive(Clone, Copy, Debug, Default, PartialEq, Eq)]
+pub struct Refused {
+    /// Sends to a number that is no other process: code 1.
+    pub no_peer: u32,
+    /// Sends and outputs beyond the eighth of a call: code 2.
+    pub full: u32,
+    /// Sends and outputs of more than 256 bytes: code 3.
+    pub long: u32,
+}
+
+impl Refused {
+    /// Counts one that was answered with this code. Code 0 refuses nothing.
+    pub(crate) fn count(&mut self, code: u64) {
+        match code {
+            1 => self.no_peer = self.no_peer.saturating_add(1),
+            2 => self.full = self.full.saturating_add(1),
+            3 => self.long = self.long.saturating_add(1),
+            _ => (),
+        }
+    }
+
+    /// Counts all of the other, too.
+    pub fn add(&mut self, other: Refused)
+        ensures no_peer { self.old.no_peer ≤ self.new.no_peer }
+        ensures full { self.old.full ≤ self.new.full }
+        ensures long { self.old.long ≤ self.new.long }
+    {
+        self.no_peer = self.no_peer.saturating_add(other.no_peer);
+        self.full = self.full.saturating_add(other.full);
+        self.long = self.long.saturating_add(other.long);
+    }
+
+    /// How many there are of all causes.
+    pub fn total(&self) -> u64
+        ensures { result ≡ self.now.no_peer + self.now.full + self.now.long }
+    {
+        u64::from(self.no_peer) + u64::from(self.full) + u64::from(self.long)
+    }
+}
