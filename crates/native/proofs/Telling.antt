@@ -12,7 +12,7 @@ use Rattle.native.specs.Worked.{AreWords}
 one_more : (k n : ℕ) → le_value (le_bytes k (n / 256)) ≡ n / 256 → le_value (le_bytes (suc k) n) ≡ n
 one_more k n e = ap (λ q. n % 256 + 256 * q) e ∙ (omega arith)
 
-le_word : (n : ℕ) → n < 2 ^ 64 → le_value (le_bytes 8 n) ≡ n
+pub le_word : (n : ℕ) → n < 2 ^ 64 → le_value (le_bytes 8 n) ≡ n
 le_word n h =
     let a = n / 256 in
     let b = a / 256 in

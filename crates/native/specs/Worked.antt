@@ -1,13 +1,15 @@
 -- A call and a record, written down by the C calling convention and as C lays a struct out, and what a record tells.
-use Rattle.std.specs.Prelude.{◌≡◌, ℕ, ◌-◌, ◌*◌, ◌^◌, ◌<◌, ◌≤◌, Some, slice_get, List, [], ◌∷◌, ◌++◌, length, replicate}
+use Rattle.std.specs.Prelude.{◌≡◌, ℕ, ◌+◌, ◌-◌, ◌*◌, ◌^◌, ◌<◌, ◌≤◌, Option, Some, slice_get, List, [], ◌∷◌, ◌++◌, length, map, replicate}
 use Rattle.limits.specs.declared.TheConstants.{PAYLOAD_BYTES}
+use Rattle.decode.specs.declared.insn.Insn.{Insn}
 use Rattle.helpers.specs.declared.effects.Who.{Who}
 use Rattle.helpers.specs.declared.effects.Sent.{Sent}
 use Rattle.helpers.specs.Effects.{Emitted}
-use Rattle.interp.specs.Words.{AreBytes}
 use Rattle.operations.specs.Bytes.{le_bytes}
-use Rattle.x86.specs.Machine.{State, Word, At, Array, Record, Unknown}
-use Rattle.native.specs.Correct.{IsCalled, Keeps}
+use Rattle.regtypes.specs.declared.image_form.ImageForm.{ImageForm}
+use Rattle.interp.specs.Words.{AreBytes}
+use Rattle.x86.specs.Machine.{State, Flags, Word, At, Array, Record, value}
+use Rattle.native.specs.Correct.{IsCalled, IsReturned, Keeps}
 
 abbrev pub who : Who
 who = record { me = 1; from = 2; count = 3 }
@@ -49,17 +51,37 @@ TellsOne =
     (w v : Who) (e f : Emitted) (bytes : List ℕ) → Keeps w e bytes → Keeps v f bytes → AreWords e → AreWords f
     → (w ≡ v) × (e ≡ f)
 
--- code(array, record, m) in C: rdi, rsi, rdx
-abbrev pub called : ℕ → List ℕ → State
-called m mem = record {
-  regs = Word 1 ∷ Word 2 ∷ Word m ∷ Word 4 ∷ Word 5 ∷ Word 6 ∷ At Record 0 ∷ At Array 0 ∷ replicate 8 (Word 7);
-  long = replicate 16 0;
-  flags = Unknown;
+-- code(array, record, m) in C: rdi, rsi, rdx. The other registers hold any words, xmm0 and the flags anything; of the
+-- record C sets no more than the two counts and who is called: the steps and what comes after `count` are as they were
+abbrev pub called : Who → ℕ → (ℕ → ℕ) → List ℕ → Flags → List ℕ → ℕ → List ℕ → State
+called who m word long flags mem steps rest = record {
+  regs =
+      Word (word 0) ∷ Word (word 1) ∷ Word m ∷ Word (word 3) ∷ Word (word 4) ∷ Word (word 5) ∷ At Record 0 ∷ At Array 0
+      ∷ map (λ r. Word (word r)) (8 ∷ 9 ∷ 10 ∷ 11 ∷ 12 ∷ 13 ∷ 14 ∷ 15 ∷ []);
+  long = long;
+  flags = flags;
   array = mem;
-  record_ = words (0 ∷ 0 ∷ 0 ∷ 1 ∷ 2 ∷ 3 ∷ 0 ∷ 0 ∷ []) ++ replicate (16 * 272) 0;
+  record_ = words (0 ∷ 0 ∷ steps ∷ who.me ∷ who.from ∷ who.count ∷ []) ++ rest;
   pushed = [];
 }
 
--- whatever the array's bytes are, this is a call
+-- whoever is called, and whatever is left open, this is a call
 abbrev pub CanBeCalled : Type 0
-CanBeCalled = (m : ℕ) (mem : List ℕ) → m ≤ PAYLOAD_BYTES → AreBytes mem → IsCalled who m (called m mem)
+CanBeCalled =
+    (who : Who) (m : ℕ) (word : ℕ → ℕ) (long : List ℕ) (flags : Flags) (mem : List ℕ) (steps : ℕ) (rest : List ℕ)
+    → who.me < 2 ^ 8 → who.from < 2 ^ 8 → who.count < 2 ^ 64 → m ≤ PAYLOAD_BYTES → ((r : ℕ) → word r < 2 ^ 64) → AreBytes mem
+    → length rest ≡ 16 + 16 * 272 → IsCalled who m (called who m word long flags mem steps rest)
+
+-- by the C calling convention these registers belong to the caller: rbx, rbp, r12 to r15
+abbrev pub callers : List ℕ
+callers = 3 ∷ 5 ∷ 12 ∷ 13 ∷ 14 ∷ 15 ∷ []
+
+-- each of them is as it was at the call
+abbrev pub KeepsCallers : State → State → Type 0
+KeepsCallers c last = (k r : ℕ) → slice_get callers k ≡ Some r → value last r ≡ value c r
+
+-- so it is after each return
+abbrev pub ReturnsToC : Type 0
+ReturnsToC =
+    (form : ImageForm) (slots : List (Option Insn)) (who : Who) (m len : ℕ) (c last : State)
+    → IsReturned form slots who m len c last → KeepsCallers c last

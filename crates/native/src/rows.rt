@@ -1,11 +1,16 @@
 //! A call and a record that are written down, what a record tells, and that code is one.
 
-ghost use Rattle.native.specs.Worked.{CanBeCalled, IsLaidOut, TellsOne};
+ghost use Rattle.native.specs.Worked.{CanBeCalled, IsLaidOut, ReturnsToC, TellsOne};
 ghost use Rattle.native.specs.Written.{IsOneCode};
 
-/// A call by the C calling convention is what `compile`'s code asks for.
+/// Any call by the C calling convention is what `compile`'s code asks for.
 pub fn calls_can_be_made()
     ensures { CanBeCalled }
+{}
+
+/// After the call the registers that belong to the caller are as they were.
+pub fn callers_registers_are_kept()
+    ensures { ReturnsToC }
 {}
 
 /// A record is laid out as C lays out its struct.

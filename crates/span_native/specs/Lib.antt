@@ -3,3 +3,4 @@ pub mod Correct
 pub mod Written
 pub mod AnyForm
 pub mod Code
+pub mod Callers

@@ -1,6 +1,7 @@
-//! That code is one.
+//! That code is one, and leaves to its caller what is the caller's.
 
 ghost use Rattle.std.specs.Prelude.{◌≡◌};
+ghost use Rattle.span_native.specs.Callers.{ReturnsToC};
 ghost use Rattle.span_native.specs.Code.{IsOneInAnyForm};
 ghost use Rattle.span_native.specs.Written.{IsOneCode};
 
@@ -24,3 +25,8 @@ pub fn codes_are_one<'h, 'k>(one: &Code<'h>, other: &Code<'k>)
     let _mine = one.bytes();
     let _its = other.bytes();
 }
+
+/// After a call of form 3 the registers that belong to the caller are as they were.
+pub fn callers_registers_are_kept()
+    ensures { ReturnsToC }
+{}

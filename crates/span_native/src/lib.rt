@@ -15,4 +15,4 @@ mod slot_tasks;
 pub use any_form::compile_handler;
 pub use code::Code;
 pub use image_code::compile;
-pub use laws::{code_is_one, code_is_one_in_any_form, codes_are_one};
+pub use laws::{callers_registers_are_kept, code_is_one, code_is_one_in_any_form, codes_are_one};
