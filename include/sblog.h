@@ -88,7 +88,10 @@ static inline size_t sblog_report_size(const uint8_t *report) {
 }
 
 /* ---- calls of machine code, where SBLOG_CALLS_CODE is defined before this file is read: on x86-64, with the
-   pages of <sys/mman.h>. These functions are C of the program's own, and nothing of them is proved. */
+   pages of <sys/mman.h>. These functions are C of the program's own, and nothing of them is proved. What is proved of
+   machine code holds of calls whose numbers of processes and whose lengths are in their ranges; of form 3 a call with
+   another one writes outside of its array. So each function here tests them, and makes no such call. Pointers, and that
+   the state is as long as the image says, can't be tested. */
 
 #ifdef SBLOG_CALLS_CODE
 #include <string.h>
@@ -100,7 +103,10 @@ enum {
     SBLOG_SPAN_ARRAY_SIZE = 2048, /* the same of form 3, whose message region is longer */
     SBLOG_SPAN_STATE_AT = 512,
     SBLOG_STACK_SIZE = 512,
-    SBLOG_RECORD_SIZE = 4416
+    SBLOG_RECORD_SIZE = 4416,
+    SBLOG_PROCESS_LIMIT = 15, /* the highest number of a process */
+    SBLOG_STATE_LIMIT = 1024,
+    SBLOG_PAYLOAD_LIMIT = 256 /* bytes of a message; of form 1 there are 64 */
 };
 
 /* Machine code: it is given an array, a record, and the message's length, and answers r0. */
@@ -122,21 +128,48 @@ static inline void sblog_unmap(sblog_native_code code, size_t size) {
     if (code != NULL) munmap((void *)(uintptr_t)code, size);
 }
 
-/* Lays an array and a record out, whose state begins there, and calls machine code. */
+/* As whom a handler is called, by whose message, of how many processes. sblog_who_of makes one. */
+typedef struct {
+    uint8_t me, from, count;
+} sblog_who;
+
+/* Tests the numbers as sblog_run does, SBLOG_WHO, and writes them: of 64 bits, so that none is cut off unseen. */
+static inline uint32_t sblog_who_of(uint64_t me, uint64_t from, uint64_t count, sblog_who *who) {
+    if (me < 1 || me > count || count > SBLOG_PROCESS_LIMIT || from > count || from == me) return SBLOG_WHO;
+    who->me = (uint8_t)me;
+    who->from = (uint8_t)from;
+    who->count = (uint8_t)count;
+    return SBLOG_DONE;
+}
+
+/* Why machine code isn't called by these: no code, SBLOG_HANDLE; SBLOG_WHO, SBLOG_MESSAGE, SBLOG_STATE; else SBLOG_DONE. */
+static inline uint32_t sblog_native_fault(sblog_native_code code, uint64_t me, uint64_t from, uint64_t message_len,
+                                          uint64_t state_len) {
+    if (code == NULL) return SBLOG_HANDLE;
+    if (me > SBLOG_PROCESS_LIMIT || from > SBLOG_PROCESS_LIMIT) return SBLOG_WHO;
+    if (message_len > SBLOG_PAYLOAD_LIMIT) return SBLOG_MESSAGE;
+    return state_len > SBLOG_STATE_LIMIT ? SBLOG_STATE : SBLOG_DONE;
+}
+
+/* Lays an array and a record out, whose state begins there, and calls machine code. Where an argument isn't in its range it
+   calls nothing, leaves the array as it was, and answers a code in place of r0: the record has 0 steps then, as after no call. */
 static inline uint64_t sblog_native_call_at(sblog_native_code code, uint8_t *array, size_t state_at,
                                             size_t state_len, const uint8_t *message,
                                             size_t message_len, uint8_t me, uint8_t from,
                                             uint8_t count, uint8_t *record) {
     const uint64_t front[6] = {0, 0, 0, me, from, count}; /* sends, outputs, steps; who is called */
+    const uint32_t fault = sblog_native_fault(code, me, from, message_len, state_len);
     memcpy(record, front, sizeof front);
+    if (fault != SBLOG_DONE) return fault;
+    if (state_at != SBLOG_STATE_AT && state_at != SBLOG_SPAN_STATE_AT) return SBLOG_FORM;
     memcpy(array, message, message_len);
     memset(array + message_len, 0, state_at - message_len);
     memset(array + state_at + state_len, 0, SBLOG_STACK_SIZE);
     return code(array, record, message_len);
 }
 
-/* Calls machine code by one message, of 64 bytes in form 1 and of at most 256 in form 2, and answers r0. The
-   array was zeros before its first call, and has the state from SBLOG_STATE_AT on, which a call changes in
+/* Calls machine code by one message, of 64 bytes in form 1 and of at most 256 in form 2, and answers r0, or a code as
+   above. The array was zeros before its first call, and has the state from SBLOG_STATE_AT on, which a call changes in
    place. The record has the steps, sends and outputs then. */
 static inline uint64_t sblog_native_call(sblog_native_code code, uint8_t *array, size_t state_len,
                                          const uint8_t *message, size_t message_len, uint8_t me,
@@ -145,13 +178,27 @@ static inline uint64_t sblog_native_call(sblog_native_code code, uint8_t *array,
                                 count, record);
 }
 
-/* The same of an image of form 3, by a message of at most 256 bytes. The array has SBLOG_SPAN_ARRAY_SIZE
-   bytes, and the state from SBLOG_SPAN_STATE_AT on. */
+/* The same of an image of form 3, by a message of at most 256 bytes, as 0 to 15 and from 0 to 15. The array has
+   SBLOG_SPAN_ARRAY_SIZE bytes, and the state from SBLOG_SPAN_STATE_AT on. */
 static inline uint64_t sblog_native_call_span(sblog_native_code code, uint8_t *array, size_t state_len,
                                               const uint8_t *message, size_t message_len, uint8_t me,
                                               uint8_t from, uint8_t count, uint8_t *record) {
     return sblog_native_call_at(code, array, SBLOG_SPAN_STATE_AT, state_len, message, message_len, me,
                                 from, count, record);
+}
+
+/* Calls machine code of an image of this form, 1, 2 or 3: the number at byte 3 of its file. It writes r0, or answers
+   SBLOG_FORM or a code as above, and then calls nothing, and r0 and the array are as they were. */
+static inline uint32_t sblog_native_run(sblog_native_code code, int form, uint8_t *array, size_t state_len,
+                                        const uint8_t *message, size_t message_len, sblog_who who,
+                                        uint8_t *record, uint64_t *r0) {
+    const uint32_t fault = sblog_native_fault(code, who.me, who.from, message_len, state_len);
+    if (fault != SBLOG_DONE) return fault;
+    if (form < 1 || form > 3) return SBLOG_FORM;
+    if (form == 1 && message_len != SBLOG_MESSAGE_SIZE) return SBLOG_MESSAGE;
+    *r0 = sblog_native_call_at(code, array, form == 3 ? SBLOG_SPAN_STATE_AT : SBLOG_STATE_AT, state_len, message,
+                               message_len, who.me, who.from, who.count, record);
+    return SBLOG_DONE;
 }
 #endif
 
@@ -500,12 +547,14 @@ uint32_t sblog_node_standing(sblog_node *node, sblog_standing *out);
 uint32_t sblog_node_state(sblog_node *node, uint8_t *out, size_t out_len, size_t *size);
 
 #ifdef SBLOG_CALLS_CODE
-/* Calls machine code on a job's array, which sblog_node_job wrote, and answers r0: C of the program's own, as above. */
+/* Calls machine code on a job's array, which sblog_node_job wrote, and answers r0, or a code as above: C of the program's
+   own. */
 static inline uint64_t sblog_native_call_job(sblog_native_code code, uint8_t *array, const sblog_job *job,
                                              uint8_t *record) {
     const uint64_t front[6] = {0, 0, 0, job->me, job->from, job->count};
+    const uint32_t fault = sblog_native_fault(code, job->me, job->from, job->message_len, 0);
     memcpy(record, front, sizeof front);
-    return code(array, record, job->message_len);
+    return fault == SBLOG_DONE ? code(array, record, job->message_len) : fault;
 }
 #endif
 
