@@ -8,6 +8,7 @@ mod ordinary_c;
 mod scenarios;
 mod scenes;
 mod streams;
+mod table;
 mod text;
 mod third_form;
 

@@ -1,4 +1,9 @@
-//! What a test of a table ends in.
+//! What a test of a table ends in, and tables that are texts.
+
+pub(crate) mod crashes;
+pub(crate) mod lost_numbers;
+pub(crate) mod packets;
+pub(crate) mod workers;
 
 use std::process::Abort;
 

@@ -36,92 +36,6 @@ fn play_rows<R: Threads + Wait + Sync + Abort + AllocGlobal>(
     Ok(())
 }
 
-/// One worker takes turns alone: it leaves of a message what `run` leaves of it, but that each entry is
-/// its own.
-const SHOWN: [Row; 4] = [
-    (
-        "run s",
-        b"process a adder.sbi\ninput a 5\ndrive 10\n",
-        0,
-        "000001 w0 input 1 1 -> logged 1
-000002 w0 transmit 0 1 1 -> packet 0
-000003 w0 arrive 0 -> started 1
-000004 w0 finish 1 -> committed 1 0
-000005 w0 arrive 0 -> numbered 0
-000006 w0 arrive 0 -> acknowledged
-process a up 1 0500000000000000
-exact
-",
-    ),
-    (
-        "run s",
-        b"process a adder.sbi\ninput a 5\ntransmit outside a 1\narrive 0\n\
-        crash a\nfinish a\nrecover a\ndrive 100",
-        0,
-        "line 6 refused 9
-000001 w0 input 1 1 -> logged 1
-000002 w0 transmit 0 1 1 -> packet 0
-000003 w0 arrive 0 -> started 1
-000004 w0 crash 1 -> crashed 2
-000005 w0 recover 1 -> kept 0
-000006 w0 transmit 0 1 1 -> packet 0
-000007 w0 arrive 0 -> started 2
-000008 w0 finish 1 -> committed 1 0
-000009 w0 arrive 0 -> numbered 0
-000010 w0 arrive 0 -> acknowledged
-process a up 1 0500000000000000
-exact
-",
-    ),
-    (
-        "live s --workers 1 --budget 100",
-        b"process a adder.sbi\ninput a 5\n",
-        0,
-        "000001 w1 input 1 1 -> logged 1
-000002 w1 transmit 0 1 1 -> packet 0
-000003 w1 arrive 0 -> started 1
-000004 w1 finish 1 -> committed 1 0
-000005 w1 arrive 0 -> numbered 0
-000006 w1 arrive 0 -> acknowledged
-process a up 1 0500000000000000
-exact
-",
-    ),
-    (
-        "live s --workers 16 --budget 1000000",
-        b"process a adder.sbi\n",
-        0,
-        "process a up 0 0000000000000000\nexact\n",
-    ),
-];
-
-#[test]
-fn what_is_shown(rt: HostRuntime) -> Result<(), Fail> {
-    play_rows(&rt, &SHOWN)
-}
-
-/// Four workers take a hundred messages. Which of them made which call is open.
-const SHARED: [Scene; 1] = [(
-    &[
-        (
-            "s",
-            Bytes::Repeat(b"process a adder.sbi\n", b"input a 1\n", 100, b""),
-        ),
-        ("adder.sbi", Bytes::Are(&ADDER)),
-    ],
-    &[(
-        "live s --workers 4 --budget 10000",
-        0,
-        Seen::Lines(602, "\nprocess a up 100 6400000000000000\nexact\n"),
-        &[],
-    )],
-)];
-
-#[test]
-fn four_workers(rt: HostRuntime) -> Result<(), Fail> {
-    play(&rt, &SHARED)
-}
-
 const OPENING: &[u8] = b"process a adder.sbi\ninput a 1\ntransmit outside a 1\n";
 
 /// A full wire or journal refuses the next call by its number, and the run goes on.
@@ -166,10 +80,10 @@ fn full_wire_and_journal(rt: HostRuntime) -> Result<(), Fail> {
     play(&rt, &FULL)
 }
 
-/// An image of 1,024 slots, which puts 1,020 times a message's word into its state.
+/// An image of 1,024 slots, which puts 1,020 times a message's word into its state. The scenario's last line has no line feed.
 const LARGEST: [Scene; 1] = [(
     &[
-        ("s", Bytes::Are(b"process a i\ninput a 5\ndrive 10\n")),
+        ("s", Bytes::Are(b"process a i\ninput a 5\ndrive 10")),
         (
             "i",
             Bytes::Repeat(

@@ -36,8 +36,6 @@ pub(crate) enum Seen {
     Tells(&'static str),
     /// A text that begins and ends so.
     Between(&'static str, &'static str),
-    /// A text of so many lines that ends so.
-    Lines(usize, &'static str),
     /// A text on the stream of faults, though the status is 0.
     Noted(&'static str),
 }
@@ -101,7 +99,6 @@ fn is_text(seen: Seen, text: &str) -> bool {
         Seen::Has(parts) => has(text, parts),
         Seen::Tells(part) => text.contains(part),
         Seen::Between(first, last) => text.starts_with(first) && text.ends_with(last),
-        Seen::Lines(count, last) => text.lines().count() == count && text.ends_with(last),
         _ => false,
     }
 }
