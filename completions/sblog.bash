@@ -12,15 +12,13 @@ _sblog_files() {
     [[ ${#COMPREPLY[@]} -gt 0 ]] || mapfile -t COMPREPLY < <(compgen -f -- "$word")
 }
 _sblog() {
-    local word=${COMP_WORDS[COMP_CWORD]} before=${COMP_WORDS[COMP_CWORD - 1]} at=1
-    [[ ${COMP_WORDS[1]} == --unproved ]] && at=2
-    if [[ $COMP_CWORD -eq $at ]]; then
-        local names='run live draw check explain asm pack dis native help --help --unproved --version'
-        [[ $at -eq 2 ]] && names='run draw check explain asm pack dis native'
+    local word=${COMP_WORDS[COMP_CWORD]} before=${COMP_WORDS[COMP_CWORD - 1]}
+    if [[ $COMP_CWORD -eq 1 ]]; then
+        local names='run live draw check explain asm pack dis native help --help --version'
         COMPREPLY=($(compgen -W "$names" -- "$word"))
         return
     fi
-    case ${COMP_WORDS[at]} in
+    case ${COMP_WORDS[1]} in
     run)
         _sblog_words '--help' || _sblog_files 'scenario'
         ;;

@@ -1,6 +1,5 @@
 # Completion of sblog for fish, written by tools/completions: put it into ~/.config/fish/completions
 complete -c sblog -n __fish_use_subcommand -l version -d 'Print the version'
-complete -c sblog -n __fish_use_subcommand -l unproved -d 'Run before any proof'
 complete -c sblog -s h -l help -d 'Print help'
 complete -c sblog -n __fish_use_subcommand -f -a run -d 'Carries out a scenario, and prints its trace and report'
 complete -c sblog -n __fish_use_subcommand -f -a live -d 'Has N workers carry out the inputs of a scenario, each at most about B calls'

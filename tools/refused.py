@@ -1,20 +1,18 @@
-#!/usr/bin/env python3
-"""refused [--live] SCENARIO PROGRAM: says in words, on standard error, what the numbers of refused orders mean (docs/SCENARIOS.md, "Refusals"),
-which handlers send to a process that isn't there or ask for too many bytes, which trims drop nothing, and what the run leaves undone.
+"""What tools/hints says of a run, on standard error: what the numbers of refused orders mean (docs/SCENARIOS.md, "Refusals"), which
+handlers send to a process that isn't there or ask for too many bytes, which trims drop nothing, and what the run leaves undone.
 
-It reads what `sblog run` prints of the scenario on its standard input, and says a line of each `line L refused N` with which that
-begins: the order, and why it was refused. Below these it says a line of each trim that could drop nothing, and of each call in the
+From what `sblog run` prints of the scenario it says a line of each `line L refused N` with which that begins: the order, and why it was refused. Below these it says a line of each trim that could drop nothing, and of each call in the
 image of a process that received a message, which sends to a constant number that no other process has, or whose length is above 256
 by the listing of form 3, or may be where the process gave nothing so. Whether work is left it finds out by a run of the same
 scenario with one more `drive 1`. Nothing here is proved: what counts is the number, and the helper's answer, which the handler
 alone sees."""
+import os
 import re
 import struct
 import subprocess
 import sys
 
-sys.dont_write_bytecode = True
-from orders import ENDLESS, HANDING, MOST_ENTRIES, MOST_TRACED, MOST_TRIED, REFUSED, WHY, Trials, inexact, listed, standing  # noqa: E402
+from orders import ENDLESS, HANDING, MOST_ENTRIES, MOST_TRACED, MOST_TRIED, REFUSED, WHY, Trials, inexact, listed, standing
 
 REPORTED = re.compile(rb"process (\S+) \S+ (\d+) (\S+)\n")
 PUT_OUT = re.compile(rb"output (\S+) ")
@@ -275,14 +273,19 @@ def undone(lines, phases, trials):
             yield f"process {name} has a job that the scenario holds: finish {name} runs it"
 
 
-def main():
-    is_live = sys.argv[1] == "--live"
-    path, program = sys.argv[2:] if is_live else sys.argv[1:]
+def is_readable(path):
+    """Whether a scenario and its images are files that can be read again."""
+    named = [line.split(b" ")[2:3] for line in read(path).split(b"\n") if line.startswith(b"process ")]
+    return all(os.path.isfile(it) for found in named for it in found)
+
+
+def say(path, program, printed):
+    """Says what there is to say of a run that printed this; of one of `live`, which makes its own calls, without it."""
     lines = [line.decode(errors="replace") for line in read(path).split(b"\n")]
-    if is_live:
+    if printed is None:
         say_sends(lines, {line.split(" ")[1] for line in lines if line.split(" ")[0] in HANDING})
     else:
-        say_run(lines, program)
+        say_run(lines, program, printed.splitlines(keepends=True))
 
 
 def say_refused(lines, refused, trials, is_short):
@@ -295,9 +298,9 @@ def say_refused(lines, refused, trials, is_short):
             print(f"line {place}: {order}: {why}", file=sys.stderr)
 
 
-def say_run(lines, program):
-    """Says what there is to say of a run, whose output stands on the standard input."""
-    whole, refused = list(sys.stdin.buffer), []
+def say_run(lines, program, whole):
+    """Says what there is to say of a run by the lines that it printed."""
+    refused = []
     received, given, reported, phases, entries, met = set(), set(), {}, [], 0, set()
     for printed in whole:
         entries += bool(ENTRY.match(printed))
@@ -329,9 +332,3 @@ def say_run(lines, program):
         print(f"the journal is full, with {entries:,} entries: {ENDLESS}", file=sys.stderr)
     for words in told:
         print(words, file=sys.stderr)
-
-
-try:
-    main()
-except (OSError, struct.error):
-    pass
