@@ -40,7 +40,5 @@ mod refusal;
 mod report;
 mod running;
 mod span_array;
-#[cfg(test)]
-mod tests;
 
 pub use running::runs_are_calls;

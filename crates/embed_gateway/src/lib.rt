@@ -27,5 +27,3 @@ mod loose;
 mod opening;
 mod output;
 mod parts;
-#[cfg(test)]
-mod tests;

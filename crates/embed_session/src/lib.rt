@@ -34,7 +34,5 @@ mod parts;
 mod places;
 mod reading;
 mod schedule;
-#[cfg(test)]
-mod tests;
 
 pub use entry::one_entry;
