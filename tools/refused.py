@@ -14,7 +14,7 @@ import sys
 
 from orders import ENDLESS, HANDING, MOST_ENTRIES, MOST_TRACED, MOST_TRIED, REFUSED, WHY, Trials, inexact, listed, standing
 
-REPORTED = re.compile(rb"process (\S+) \S+ (\d+) (\S+)\n")
+RECEIVED = re.compile(rb"process (\S+) \S+ [1-9]\d* \S+\n")
 PUT_OUT = re.compile(rb"output (\S+) ")
 SENT = re.compile(rb"\d+ w\d+ transmit (\d+) ")
 # Entries that drop logged messages, and those that let them.
@@ -22,7 +22,6 @@ TRIMMED = re.compile(rb"\d+ w\d+ trim (\d+) -> trimmed (\d+)\n")
 SAVED = re.compile(rb"\d+ w\d+ checkpoint (\d+) -> saved (\d+)\n")
 SHOWN = re.compile(rb"\d+ w\d+ arrive \d+ -> shown \d+\n")
 STANDING = re.compile(rb"process (\S+) (replaying|resync|down|busy) ")
-COMMITTED = re.compile(rb"\d+ w\d+ finish (\d+) -> committed ")
 ENTRY = re.compile(rb"\d{6} ")
 CARRYING = {"drive", "transmit", "copy"}
 # What is left by the answer of the next entry, if it isn't a message.
@@ -96,9 +95,7 @@ def aim(known, own, count, is_handed):
 
 
 def say_sends(lines, received):
-    """Says which handlers of processes that received a message send to a process that isn't there, or to their own and no other, and
-    answers of which processes it said so."""
-    told = set()
+    """Says which handlers of processes that received a message send to a process that isn't there, or to their own and no other."""
     processes = [line.split(" ")[1:3] for line in lines if line.startswith("process ")]
     named = ", ".join(f"{number} is {name}" for number, (name, _) in enumerate(processes, 1))
     handed = {line.split(" ")[1] for line in lines if line.split(" ")[0] in HANDING and " " in line}
@@ -111,12 +108,10 @@ def say_sends(lines, received):
         for slot, helper, known in found:
             wrong = aim(known, own, len(processes), name in handed)
             if wrong and not (known == own and is_for_all):
-                told.add(name)
                 print(
                     f"process {name}: slot {slot} of its handler sends {wrong} ({named}): helper {helper} answers 1 there, and nothing is sent",
                     file=sys.stderr,
                 )
-    return told
 
 
 def lengths(program, path):
@@ -134,22 +129,19 @@ def lengths(program, path):
 
 def say_lengths(lines, program, received, given):
     """Says which handlers of processes that received a message ask a helper for too many bytes; of those that may do so, where
-    the process has put out or sent nothing. Answers of which processes it said so."""
-    told = set()
+    the process has put out or sent nothing."""
     processes = [line.split(" ")[1:3] for line in lines if line.startswith("process ")]
     for own, (name, path) in enumerate(processes, 1):
         if name not in received:
             continue
         for slot, helper, is_always in lengths(program, path):
             if is_always or (helper, name if helper == "6" else str(own)) not in given:
-                told.add(name)
                 asks = "asks" if is_always else "may ask"
                 print(
                     f"process {name}: slot {slot} of its handler {asks} for more than {MOST_BYTES} bytes, where helper {helper} "
                     f"answers 3 and {LONG[helper][1]}",
                     file=sys.stderr,
                 )
-    return told
 
 
 def say_trims(lines, refused, printed):
@@ -188,61 +180,6 @@ def say_words(lines):
                 f"{int.from_bytes(data, 'big')} is {data[::-1].hex()}",
                 file=sys.stderr,
             )
-
-
-def unreached(lines, reported, phases, met, told):
-    """The processes that received nothing in the whole run, and to which nothing is on its way as far as is known."""
-    handed = {line.split(" ")[1] for line in lines if line.split(" ")[0] in HANDING and " " in line}
-    processes = [line.split(" ")[1:3] for line in lines if line.startswith("process ")]
-    aimed = awaited(processes, {name for name, _ in processes if name in handed or reported.get(name, (0,))[0]})
-    for own, (name, _) in enumerate(processes, 1):
-        is_waiting = own in aimed and told or name in dict(phases)
-        if reported.get(name, (None, ""))[0] == 0 and name not in handed and own not in met and not is_waiting:
-            yield name
-
-
-def awaited(processes, reached):
-    """The numbers to which handlers send of processes that were reached, or to which such ones send."""
-    names, found = [name for name, _ in processes], set()
-    codes = {name: {known for _, _, known in sends(read(path)[HEADER:])} for name, path in processes}
-    todo = list(reached)
-    while todo:
-        for known in codes[todo.pop()] - found:
-            found.add(known)
-            if isinstance(known, int) and 1 <= known <= len(names):
-                todo.append(names[known - 1])
-    return found
-
-
-def say_unreached(lines, idle):
-    """Says of processes that received nothing to which numbers the others send."""
-    processes = [line.split(" ")[1:3] for line in lines if line.startswith("process ")]
-    named = ", ".join(f"{number} is {name}" for number, (name, _) in enumerate(processes, 1))
-    codes = [(name, read(path)[HEADER:]) for name, path in processes]
-    aims = [f"{name} to {known}" for name, code in codes for _, _, known in sends(code) if isinstance(known, int)]
-    if idle and aims:
-        who, them = (f"process {idle[0]}", "it") if len(idle) == 1 else (f"processes {listed(idle)}", "them")
-        print(
-            f"{who} received nothing: no line hands {them} a message, and handlers send to processes by number ({named}): "
-            f"{', '.join(dict.fromkeys(aims))}",
-            file=sys.stderr,
-        )
-
-
-def say_idle(lines, reported, given, told):
-    """Says of a process that received messages and shows nothing of it, if no more was told of it, what a handler may have wanted."""
-    processes = [line.split(" ")[1:3] for line in lines if line.startswith("process ")]
-    handed = {line.split(" ")[1]: line.split(" ")[0] for line in lines if line.split(" ")[0] in HANDING and " " in line}
-    for own, (name, path) in enumerate(processes, 1):
-        count, state = reported.get(name, (None, ""))
-        is_shown = ("6", name) in given or ("5", str(own)) in given or state.strip("0-")
-        if count and name in handed and not is_shown and state != "-" and read(path)[:4] != b"SBI1" and name not in told:
-            why = (
-                f"an input is 64 bytes long, and bytes {name} HEX has as many as it says"
-                if handed[name] == "input"
-                else "the fields of a struct lie at multiples of their sizes, if it isn't packed"
-            )
-            print(f"process {name} received {count}, and shows nothing of it: its state is zeros, and it sent and put out nothing; {why}", file=sys.stderr)
 
 
 def back(down, returning, way):
@@ -301,33 +238,29 @@ def say_refused(lines, refused, trials, is_short):
 def say_run(lines, program, whole):
     """Says what there is to say of a run by the lines that it printed."""
     refused = []
-    received, given, reported, phases, entries, met = set(), set(), {}, [], 0, set()
+    received, given, phases, entries = set(), set(), [], 0
     for printed in whole:
         entries += bool(ENTRY.match(printed))
         for helper, pattern in (("6", PUT_OUT), ("5", SENT)):
             if found := pattern.match(printed):
                 given.add((helper, found[1].decode()))
-        if found := COMMITTED.match(printed):
-            met.add(int(found[1]))
         if found := STANDING.match(printed):
             phases.append((found[1].decode(), found[2].decode()))
-        if found := REPORTED.fullmatch(printed):
-            reported[found[1].decode()] = int(found[2]), found[3].decode()
-            received |= {found[1].decode()} if int(found[2]) else set()
+        if found := RECEIVED.fullmatch(printed):
+            received.add(found[1].decode())
         if found := REFUSED.fullmatch(printed):
             refused.append((int(found[1]), int(found[2])))
     trials = Trials(lines, program, refused)
     say_refused(lines, refused, trials, entries <= MOST_TRACED)
     say_trims(lines, {place for place, _ in refused}, whole)
-    wrong = say_sends(lines, received) | say_lengths(lines, program, received, given)
+    say_sends(lines, received)
+    say_lengths(lines, program, received, given)
     say_words(lines)
     told = list(undone(lines, phases, trials))
     left = trials.run(len(lines), "drive 1").trace[entries:] if not told else []
     if left:
         what = next((what for answer, what in LEFT.items() if answer in left[0]), "a message that waits")
         told.append(f"work is left, as {what}: one more drive N behind the last line carries it on")
-    say_unreached(lines, list(unreached(lines, reported, phases, met, told)))
-    say_idle(lines, reported, given, wrong)
     if entries >= MOST_ENTRIES and all(number != 12 for _, number in refused):
         print(f"the journal is full, with {entries:,} entries: {ENDLESS}", file=sys.stderr)
     for words in told:
