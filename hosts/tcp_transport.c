@@ -12,8 +12,15 @@
 #include <sys/socket.h>
 #include <unistd.h>
 
-/* Microseconds until a connection is tried again; milliseconds after which a silent peer is given up; bytes of a length. */
-enum { AGAIN = 20000, SILENCE = 5000, LENGTH = 4, WAITING = 64 };
+/* Microseconds until a connection is tried again, and that a guest has for a packet; milliseconds after which a peer is given up
+   that doesn't say that it has what was sent; bytes of a length. */
+enum { AGAIN = 20000, PATIENCE = 10000000, SILENCE = 5000, LENGTH = 4, WAITING = 64 };
+
+/* Seconds after which a silent connection is tried, and between tries; how many get no answer before it is over. */
+enum { TRIED_AFTER = 5, TRIED_EVERY = 1, TRIES = 5 };
+
+/* Where a packet says whom it is of and to, and bytes of the shortest (docs/FORMATS.md, "Packet"). */
+enum { FROM = 6, TO = 7, SHORTEST_PACKET = 12 };
 
 /* The addresses of HOST:PORT or [HOST]:PORT, to be freed. */
 static struct addrinfo *resolve(const char *where, int flags) {
@@ -50,31 +57,65 @@ static int tcp_open(struct transport *transport, const struct address *own) {
 static void guest_leaves(struct guest *guest) {
     close(guest->file);
     free(guest->bytes);
-    *guest = (struct guest){.file = -1};
+    *guest = (struct guest){.file = -1, .peer = -1};
 }
 
 static void keep_alive(int file) {
-    int on = 1;
+    int on = 1, after = TRIED_AFTER, every = TRIED_EVERY, tries = TRIES;
     unsigned silence = SILENCE;
     setsockopt(file, IPPROTO_TCP, TCP_NODELAY, &on, sizeof on);
     setsockopt(file, SOL_SOCKET, SO_KEEPALIVE, &on, sizeof on);
+    setsockopt(file, IPPROTO_TCP, TCP_KEEPIDLE, &after, sizeof after);
+    setsockopt(file, IPPROTO_TCP, TCP_KEEPINTVL, &every, sizeof every);
+    setsockopt(file, IPPROTO_TCP, TCP_KEEPCNT, &tries, sizeof tries);
     setsockopt(file, IPPROTO_TCP, TCP_USER_TIMEOUT, &silence, sizeof silence);
 }
 
-/* One more than there is place for is turned away. */
+/* A place that is free, or that of whoever has waited longest without a whole packet: each peer has one place at most, so there is
+   one. */
+static struct guest *place(struct transport *transport) {
+    struct guest *first = NULL;
+    for (struct guest *guest = transport->guests; guest < transport->guests + TCP_GUESTS; guest++) {
+        if (guest->file < 0) return guest;
+        if (guest->peer < 0 && (!first || guest->since < first->since)) first = guest;
+    }
+    if (first) guest_leaves(first);
+    return first;
+}
+
 static void welcome(struct transport *transport) {
     int file;
     while ((file = accept4(transport->file, NULL, NULL, SOCK_NONBLOCK | SOCK_CLOEXEC)) >= 0) {
-        struct guest *guest = transport->guests;
-        while (guest < transport->guests + TCP_GUESTS && guest->file >= 0) guest++;
-        uint8_t *bytes = guest < transport->guests + TCP_GUESTS ? malloc(LENGTH + PACKET_LIMIT) : NULL;
+        struct guest *guest = place(transport);
+        uint8_t *bytes = guest ? malloc(LENGTH + PACKET_LIMIT) : NULL;
         if (!bytes) {
             close(file);
             continue;
         }
         keep_alive(file);
-        *guest = (struct guest){.file = file, .bytes = bytes};
+        *guest = (struct guest){.file = file, .peer = -1, .since = clock_now(), .bytes = bytes};
     }
+}
+
+/* Those go that have sent nothing whole for a while, or are long in the midst of a packet. */
+static void send_away(struct transport *transport) {
+    uint64_t now = clock_now();
+    for (struct guest *guest = transport->guests; guest < transport->guests + TCP_GUESTS; guest++)
+        if (guest->file >= 0 && (guest->peer < 0 || guest->have > 0) && now - guest->since >= PATIENCE) guest_leaves(guest);
+}
+
+/* Who sent it, as the packet says; -1 where it says nobody that is there, or another receiver. */
+static int peer_of(const struct transport *transport, const uint8_t *packet, size_t size) {
+    if (size < SHORTEST_PACKET || packet[FROM] > transport->cluster->count || packet[FROM] == transport->me) return -1;
+    return packet[TO] == transport->me ? packet[FROM] : -1;
+}
+
+/* A peer's new connection takes the place of its old one. */
+static void settle(struct transport *transport, struct guest *guest, int peer) {
+    if (peer < 0 || guest->peer == peer) return;
+    for (struct guest *other = transport->guests; other < transport->guests + TCP_GUESTS; other++)
+        if (other != guest && other->file >= 0 && other->peer == peer) guest_leaves(other);
+    guest->peer = peer;
 }
 
 static size_t length_of(const uint8_t *at) {
@@ -98,6 +139,7 @@ static size_t guest_packet(struct guest *guest, uint8_t *packet) {
             return size;
         } else {
             ssize_t count = recv(guest->file, guest->bytes + guest->have, want - guest->have, 0);
+            if (count > 0 && guest->have == 0) guest->since = clock_now();
             if (count > 0) guest->have += (size_t)count;
             else if (count == 0 || (errno != EAGAIN && errno != EINTR)) guest_leaves(guest);
             else if (errno == EAGAIN) return 0;
@@ -109,10 +151,14 @@ static size_t guest_packet(struct guest *guest, uint8_t *packet) {
 static size_t tcp_receive(struct transport *transport, uint8_t *packet) {
     static int next; /* so that no guest waits for another */
     welcome(transport);
+    send_away(transport);
     for (int i = 0; i < TCP_GUESTS; i++) {
         next = (next + 1) % TCP_GUESTS;
-        size_t size = guest_packet(&transport->guests[next], packet);
-        if (size > 0) return size;
+        struct guest *guest = &transport->guests[next];
+        size_t size = guest_packet(guest, packet);
+        if (size == 0) continue;
+        settle(transport, guest, peer_of(transport, packet, size));
+        return size;
     }
     return 0;
 }

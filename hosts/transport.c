@@ -79,7 +79,7 @@ int transport_open(struct transport *transport, const struct cluster *cluster, i
     transport->file = -1;
     for (int p = 0; p <= cluster->count; p++)
         transport->ways[p] = (struct way){.address = &cluster->processes[p].address, .file = -1};
-    for (int i = 0; i < TCP_GUESTS; i++) transport->guests[i].file = -1;
+    for (int i = 0; i < TCP_GUESTS; i++) transport->guests[i].file = transport->guests[i].peer = -1;
     const struct address *own = &cluster->processes[me].address;
     transport->inlet = INLETS[own->carrier];
     return transport->inlet->open(transport, own);

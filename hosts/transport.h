@@ -50,9 +50,11 @@ struct inlet {
 
 enum { TCP_GUESTS = 64 };
 
-/* A program that has connected by tcp: what came of it, and of its next packet. */
+/* A program that has connected by tcp, and what came of its next packet. */
 struct guest {
-    int file; /* -1: none */
+    int file;       /* -1: none */
+    int peer;       /* who sent its last whole packet; -1: none came yet */
+    uint64_t since; /* when it connected, or its next packet began */
     size_t have;
     uint8_t *bytes;
 };
