@@ -9,7 +9,7 @@
 #include <string.h>
 #include <sys/un.h>
 
-enum { LINE_LIMIT = 4096, WORD_LIMIT = 5 };
+enum { WORD_LIMIT = 5 };
 
 /* What is being read, for sentences about it. */
 struct reading {
@@ -130,7 +130,8 @@ static int judge(const struct reading *at, const struct cluster *cluster) {
 
 int cluster_read(const char *path, struct cluster *cluster) {
     struct reading at = {.path = path};
-    char line[LINE_LIMIT];
+    char *line = NULL;
+    size_t room = 0;
     FILE *file = fopen(path, "r");
     if (!file) {
         report_fault("%s", path);
@@ -139,10 +140,15 @@ int cluster_read(const char *path, struct cluster *cluster) {
     memset(cluster, 0, sizeof *cluster);
     strcpy(cluster->processes[0].name, "gateway");
     int status = STATUS_DONE;
-    while (status == STATUS_DONE && fgets(line, sizeof line, file)) {
+    while (status == STATUS_DONE && getline(&line, &room, file) >= 0) {
         at.line++;
         status = read_line(&at, line, cluster);
     }
+    if (status == STATUS_DONE && !feof(file)) {
+        report_fault("%s", path);
+        status = STATUS_IO;
+    }
+    free(line);
     fclose(file);
     return status == STATUS_DONE ? judge(&at, cluster) : status;
 }

@@ -9,6 +9,11 @@
 
 enum { THOUSAND = 1000, EVERY = 256, EVERY_LIMIT = 65536, TICK = 5, TICK_LIMIT = 10000, ME_LIMIT = 15 };
 
+/* hosts/build names it. */
+#ifndef SBLOG_VERSION
+#define SBLOG_VERSION "of no version"
+#endif
+
 static const char USAGE[] =
     "usage: sblog-node --cluster FILE --me N --store DIR [WORDS]\n"
     "\n"
@@ -23,12 +28,13 @@ static const char USAGE[] =
     "  --listen unix:PATH     the gateway takes lines of programs that connect there\n"
     "  --metrics unix:PATH    figures for Prometheus, by HTTP\n"
     "  --status               a line of figures a second, on standard error\n"
+    "  --version              says which version this is, and ends\n"
     "\n"
     "SIGUSR1 prints that line once. SIGTERM and SIGINT end it, a process behind a checkpoint.\n"
     "Statuses: 0; 2 the command line; 3 a refused image; 4 a refused cluster file; 5 want of memory;\n"
     "6 input and output; 7 a store that isn't this process's, or is in use.\n";
 
-enum { CLUSTER = 1, ME, STORE, CHECKPOINT_EVERY, DURABLE, EVERY_TICK, LISTEN, METRICS, STATUS, HELP };
+enum { CLUSTER = 1, ME, STORE, CHECKPOINT_EVERY, DURABLE, EVERY_TICK, LISTEN, METRICS, STATUS, HELP, VERSION };
 
 static const struct option OPTIONS[] = {
     {"cluster", required_argument, NULL, CLUSTER}, {"me", required_argument, NULL, ME},
@@ -36,7 +42,7 @@ static const struct option OPTIONS[] = {
     {"durable", no_argument, NULL, DURABLE},       {"tick", required_argument, NULL, EVERY_TICK},
     {"listen", required_argument, NULL, LISTEN},   {"metrics", required_argument, NULL, METRICS},
     {"status", no_argument, NULL, STATUS},         {"help", no_argument, NULL, HELP},
-    {NULL, 0, NULL, 0},
+    {"version", no_argument, NULL, VERSION},       {NULL, 0, NULL, 0},
 };
 
 /* A number in its range. */
@@ -85,6 +91,10 @@ int options_read(int argc, char **argv, struct options *options) {
     while ((option = getopt_long(argc, argv, "", OPTIONS, &at)) != -1) {
         if (option == HELP) {
             fputs(USAGE, stdout);
+            exit(STATUS_DONE);
+        }
+        if (option == VERSION) {
+            puts("sblog-node " SBLOG_VERSION);
             exit(STATUS_DONE);
         }
         if (option == '?') return STATUS_COMMAND;
