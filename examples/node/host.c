@@ -55,21 +55,23 @@ static void keep(sblog_node *node, const char *name) {
     check(sblog_node_saved(node) == SBLOG_NODE_DONE, "saved");
 }
 
-/* A new node where nothing is kept; else the node that it was, in the next incarnation, which is durable first. */
+/* A new node where nothing is kept; else the node that it was, in the next incarnation. Either is durable before what is kept in
+   it: so where something is kept, an incarnation is. */
 static void begin(sblog_node *node, uint8_t me, uint8_t n, size_t image_len, const char *name) {
     char life_name[16];
     uint64_t life = 0;
     uint32_t fault = 0;
     snprintf(life_name, sizeof life_name, "life.%u", me);
     size_t size = kept_load(name, kept, sizeof kept);
+    kept_load(life_name, &life, sizeof life);
+    check(size > 0 ? life >= 1 : life <= 1, "what was kept is lost");
+    life = size > 0 ? life + 1 : 1;
+    kept_store(life_name, &life, sizeof life);
     if (size == 0) {
         check(sblog_node_open(image, image_len, me, n, PAGE, TICK, NUMBERS, RECEIPTS, 0, node) == SBLOG_NODE_DONE, "open");
         keep(node, name);
+        return;
     }
-    kept_load(life_name, &life, sizeof life);
-    life++;
-    kept_store(life_name, &life, sizeof life);
-    if (size == 0) return;
     uint32_t code = sblog_node_revive(image, image_len, kept, size, life, PAGE, TICK, NUMBERS, RECEIPTS, 0, node, &fault);
     check(code == SBLOG_NODE_DONE, "revive");
 }

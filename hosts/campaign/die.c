@@ -61,6 +61,11 @@ int renameat(int from, const char *old, int to, const char *new) {
     return ((int (*)(int, const char *, int, const char *))next("renameat"))(from, old, to, new);
 }
 
+int rename(const char *old, const char *new) {
+    if (is_last()) die();
+    return ((int (*)(const char *, const char *))next("rename"))(old, new);
+}
+
 int ftruncate64(int file, off_t size) {
     if (is_last()) die();
     return ((int (*)(int, off_t))next("ftruncate64"))(file, size);
