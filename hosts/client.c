@@ -10,14 +10,16 @@
 #include <string.h>
 #include <unistd.h>
 
-enum { AT_ONCE = 4096, LONGEST_ANSWER = 1024 }; /* bytes that a pipe takes whole once it is free; of one answer */
+/* Bytes that a pipe takes whole once it is free; of the longest answer, which bears a name, two numbers, an id and a sentence;
+   words of the longest line, and one more. */
+enum { AT_ONCE = 4096, LONGEST_ANSWER = 256, WORDS = 5 };
 
 void client_open(struct client *client, int in, int out) {
     client->in = in;
     client->out = out;
     client->takes_outputs = client->is_broken = false;
     client->line = 0;
-    client->from = client->have = client->answers = 0;
+    client->from = client->have = client->answers = client->promised = 0;
 }
 
 void client_close(struct client *client) {
@@ -62,38 +64,67 @@ static const char *read_hex(const char *hex, struct line *line) {
     return NULL;
 }
 
-/* A number below 2^64, as eight bytes, the lowest first. */
-static const char *read_word(const char *word, struct line *line) {
+/* Whether it is a number below 2^64. */
+static bool read_number(const char *word, uint64_t *number) {
     char *end;
     errno = 0;
-    uint64_t number = strtoull(word, &end, 10);
-    if (*word < '0' || *word > '9' || *end || errno) return "WORD is a number below 2^64";
+    *number = strtoull(word, &end, 10);
+    return *word >= '0' && *word <= '9' && !*end && !errno;
+}
+
+/* A number below 2^64, as eight bytes, the lowest first. */
+static const char *read_word(const char *word, struct line *line) {
+    uint64_t number;
+    if (!read_number(word, &number)) return "WORD is a number below 2^64";
     for (line->size = 0; line->size < 8; line->size++) line->payload[line->size] = (uint8_t)(number >> 8 * line->size);
+    return NULL;
+}
+
+/* The words of a line; one more than it may have, where it has more. */
+static int split(char *text, char *words[WORDS]) {
+    char *rest = NULL;
+    int count = 0;
+    for (char *word = strtok_r(text, " \t\r", &rest); word && count < WORDS; word = strtok_r(NULL, " \t\r", &rest))
+        words[count++] = word;
+    return count;
+}
+
+/* The last word may be an id, id=ID. */
+static const char *read_id(char *const words[WORDS], int *count, struct line *line) {
+    const char *last = words[*count - 1];
+    if (*count < 3 || strncmp(last, "id=", 3)) return NULL;
+    if (!last[3] || strlen(last + 3) > ID_LIMIT) return "an id has 1 to 64 bytes";
+    strcpy(line->id, last + 3);
+    --*count;
     return NULL;
 }
 
 /* Why a line isn't taken; null where it is. */
 static const char *read_order(char *text, const struct cluster *cluster, struct line *line) {
-    char *rest = NULL, *word = strtok_r(text, " \t\r", &rest), *name = strtok_r(NULL, " \t\r", &rest);
-    char *last = strtok_r(NULL, " \t\r", &rest);
-    if (!word || *word == '#') return NULL;
-    if (!strcmp(word, "outputs") && !name) {
+    static const char *const what = "a line is: bytes NAME HEX, input NAME WORD, outputs, or: took NAME SSN";
+    char *words[WORDS];
+    int count = split(text, words);
+    if (count == 0 || *words[0] == '#') return NULL;
+    const char *why = read_id(words, &count, line);
+    if (why) return why;
+    if (count == 1 && !strcmp(words[0], "outputs")) {
         line->order = ORDER_OUTPUTS;
         return NULL;
     }
-    bool is_bytes = !strcmp(word, "bytes"), is_input = !strcmp(word, "input");
-    if (!is_bytes && !is_input) return "a line is: bytes NAME HEX, or: input NAME WORD";
-    if (!name || (is_input && !last) || strtok_r(NULL, " \t\r", &rest)) return "a line is: bytes NAME HEX, or: input NAME WORD";
-    line->process = cluster_find(cluster, name);
+    bool is_bytes = !strcmp(words[0], "bytes"), is_input = !strcmp(words[0], "input"), is_took = !strcmp(words[0], "took");
+    if (!is_bytes && !is_input && !is_took) return what;
+    if (count > 3 || count < (is_bytes ? 2 : 3)) return what;
+    line->process = cluster_find(cluster, words[1]);
     if (line->process == 0) return "no process has this name";
-    line->order = ORDER_INPUT;
-    return is_bytes ? read_hex(last ? last : "-", line) : read_word(last, line);
+    line->order = is_took ? ORDER_TOOK : ORDER_INPUT;
+    if (is_took) return read_number(words[2], &line->ssn) ? NULL : "SSN is a number below 2^64";
+    return is_bytes ? read_hex(count == 3 ? words[2] : "-", line) : read_word(words[2], line);
 }
 
 bool client_line(struct client *client, const struct cluster *cluster, struct line *line) {
     char *text = client->text + client->from;
     size_t left = client->have - client->from;
-    if (client->answers + LONGEST_ANSWER > sizeof client->answer) return false;
+    if (client->answers + (client->promised + 1) * LONGEST_ANSWER > sizeof client->answer) return false;
     char *end = memchr(text, '\n', left);
     *line = (struct line){.order = ORDER_NONE};
     if (!end && left < sizeof client->text) return false;
@@ -105,15 +136,18 @@ bool client_line(struct client *client, const struct cluster *cluster, struct li
     else if (strlen(text) != size) line->why = "a line has a zero byte";
     else line->why = read_order(text, cluster, line);
     if (line->why) line->order = ORDER_REFUSED;
+    client->promised++;
     return true;
 }
 
 void client_answer(struct client *client, const char *format, ...) {
+    size_t room = sizeof client->answer - client->answers;
     va_list arguments;
     va_start(arguments, format);
-    if (client->out >= 0 && client->answers + LONGEST_ANSWER <= sizeof client->answer)
-        client->answers += (size_t)vsnprintf(client->answer + client->answers, LONGEST_ANSWER, format, arguments);
+    int size = vsnprintf(client->answer + client->answers, room, format, arguments);
     va_end(arguments);
+    if (size > 0 && (size_t)size < room) client->answers += (size_t)size;
+    else client->is_broken = true;
 }
 
 void client_write(struct client *client) {
@@ -130,9 +164,10 @@ void client_write(struct client *client) {
     }
 }
 
+bool client_is_gone(const struct client *client) { return client->is_broken || is_ready(client->out, 0); }
+
 bool client_is_over(const struct client *client) {
-    if (client->out < 0) return false;
-    return client->is_broken || (client->in < 0 && is_ready(client->out, 0));
+    return client->out >= 0 && (client->is_broken || (client->in < 0 && client_is_gone(client)));
 }
 
 bool client_is_done(const struct client *client) {

@@ -9,7 +9,7 @@
 #include <stddef.h>
 #include <stdint.h>
 
-enum { PAYLOAD_LIMIT = 256, CLIENT_ROOM = 1 << 16, ANSWER_ROOM = 1 << 16 };
+enum { PAYLOAD_LIMIT = 256, ID_LIMIT = 64, CLIENT_ROOM = 1 << 16, ANSWER_ROOM = 1 << 17 };
 
 struct client {
     int in, out; /* -1: closed */
@@ -17,18 +17,21 @@ struct client {
     uint64_t line;
     size_t from, have; /* where the bytes begin that were read and not taken yet, and where they end */
     size_t answers;    /* bytes that are to be written */
+    size_t promised;   /* answers of lines that were taken, which are still to come: there is room for each */
     char text[CLIENT_ROOM], answer[ANSWER_ROOM];
 };
 
 /* What a line asks for. */
-enum order { ORDER_NONE, ORDER_INPUT, ORDER_OUTPUTS, ORDER_REFUSED };
+enum order { ORDER_NONE, ORDER_INPUT, ORDER_OUTPUTS, ORDER_TOOK, ORDER_REFUSED };
 
 struct line {
     enum order order;
     int process;
+    uint64_t ssn; /* of outputs that were taken */
     size_t size;
     uint8_t payload[PAYLOAD_LIMIT];
-    const char *why; /* it is refused */
+    char id[ID_LIMIT + 1]; /* what its answer is to bear; empty where it gave none */
+    const char *why;       /* it is refused */
 };
 
 void client_open(struct client *client, int in, int out);
@@ -37,16 +40,17 @@ void client_close(struct client *client);
 /* Reads what is there. */
 void client_read(struct client *client);
 
-/* The next whole line; false where there is none, or its answer has no place. */
+/* The next whole line; false where there is none, or there is no room for its answer beside those that are promised. */
 bool client_line(struct client *client, const struct cluster *cluster, struct line *line);
 
-/* An answer, which is written when there is room. */
+/* An answer or an output. Its bytes have room: those of a promised answer, or behind client_is_free. */
 void client_answer(struct client *client, const char *format, ...) __attribute__((format(printf, 2, 3)));
 
 /* Writes answers as far as that doesn't block. */
 void client_write(struct client *client);
 
-/* Whether nobody reads what is written any more. */
+/* Whether nobody reads what is written any more; and whether it is over: all that it said was read, too. */
+bool client_is_gone(const struct client *client);
 bool client_is_over(const struct client *client);
 
 /* Whether it has said all that it had to say, was answered, and waits for nothing. */

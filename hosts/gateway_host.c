@@ -1,9 +1,11 @@
 #include "gateway_host.h"
 
+#include "answers.h"
 #include "changes.h"
 #include "client.h"
 #include "figures.h"
 #include "gateway_store.h"
+#include "outputs.h"
 #include "pace.h"
 #include "report.h"
 #include "store.h"
@@ -21,24 +23,9 @@
 /* The limits that a gateway is opened with (docs/CLUSTER.md). */
 enum { PAGE = 60000, TICK = 8 };
 
-/* Packets, lines and outputs of a turn; inputs of a process without a number, from which on no line is read; microseconds of a
+/* Packets and outputs of a turn; inputs of a process without a number, from which on no line is read; microseconds of a
    second; bytes of changes behind which the store is written anew; programs at once. */
 enum { TURN = 256, AHEAD = 1024, SECOND = 1000000, BEHIND = 1 << 20, CLIENTS = 16, ROOM = 1 << 16, WAITING = 16 };
-
-/* An input that is answered once it is durable. */
-struct answer {
-    struct client *client;
-    int process;
-    uint64_t ssn;
-};
-
-/* An output that was taken, and isn't printed yet; and the change that says that it was. */
-struct output {
-    bool is_there;
-    uint8_t process, payload[PAYLOAD_LIMIT], change[8];
-    uint64_t ssn;
-    size_t size, change_size;
-};
 
 struct host {
     const struct options *options;
@@ -52,9 +39,8 @@ struct host {
     struct counts counts;
     int listener;
     struct client clients[CLIENTS]; /* without --listen the first one is standard input and output */
-    struct answer answers[TURN];
-    size_t answer_count;
-    struct output output;
+    struct answers answers;
+    struct outputs waiting;
     uint8_t *bytes;
     size_t room;
     uint64_t next_status, refused, outputs;
@@ -92,9 +78,18 @@ static int write_whole(struct host *host) {
     return code == SBLOG_GATEWAY_DONE ? gateway_store_replace(&host->store, host->bytes, size) : refused("store", code, 0);
 }
 
-static int begin_new(struct host *host, const struct owner *owner) {
+/* Where a first life was killed before the store had its name, the store is the one that begins again; any other one lost its
+   name, and stays. */
+static int begin_new(struct host *host, const struct owner *owner, const struct bytes *whole, const struct bytes *changes) {
+    size_t size;
     uint32_t code = sblog_gateway_open((uint8_t)host->cluster->count, PAGE, TICK, &host->gateway);
     if (code != SBLOG_GATEWAY_DONE) return refused("open", code, 0);
+    if ((code = read_bytes(host, sblog_gateway_store, &size)) != SBLOG_GATEWAY_DONE) return refused("store", code, 0);
+    bool is_new = !whole->at || (whole->size == size && !memcmp(whole->at, host->bytes, size));
+    if (!is_new || changes->at || host->waiting.count > 0) {
+        report("%s: gateway.sqlite holds a store, and the file identity is missing", host->options->store);
+        return STATUS_STORE;
+    }
     int status = write_whole(host);
     return status == STATUS_DONE ? store_claim(&host->folder, owner) : status;
 }
@@ -134,9 +129,9 @@ static int begin(struct host *host) {
     if (status == STATUS_DONE) pace_begin(&host->pace, &host->transport, host->options->tick);
     if (status == STATUS_DONE) status = metrics_open(&host->metrics, host->options->metrics);
     if (status == STATUS_DONE) status = open_clients(host);
-    if (status == STATUS_DONE) status = gateway_store_open(&host->store, host->options->store, &whole, &changes);
+    if (status == STATUS_DONE) status = gateway_store_open(&host->store, host->options->store, &whole, &changes, &host->waiting);
     if (status == STATUS_DONE && !has_room(host, ROOM)) status = refused("open", SBLOG_GATEWAY_MEMORY, 0);
-    if (status == STATUS_DONE) status = is_new ? begin_new(host, &owner) : begin_again(host, &whole, &changes);
+    if (status == STATUS_DONE) status = is_new ? begin_new(host, &owner, &whole, &changes) : begin_again(host, &whole, &changes);
     free(whole.at);
     free(changes.at);
     return status;
@@ -157,31 +152,41 @@ static void welcome(struct host *host) {
 static bool may_read(const struct host *host) {
     for (int p = 1; p <= host->cluster->count; p++)
         if (counts_waiting(&host->counts, p) >= AHEAD) return false;
-    return host->answer_count < TURN;
+    return host->answers.count < ANSWERS_LIMIT;
 }
 
 static void input(struct host *host, struct client *client, const struct line *line) {
-    struct answer *answer = &host->answers[host->answer_count];
     uint8_t process = (uint8_t)line->process;
-    uint32_t code = sblog_gateway_input(&host->gateway, process, line->payload, line->size, &answer->ssn);
-    if (code != SBLOG_GATEWAY_DONE) {
-        client_answer(client, "refused %" PRIu64 " %s\n", client->line, code_words(code));
-        return;
-    }
-    counts_input(&host->counts, line->process, answer->ssn);
-    answer->client = client;
-    answer->process = line->process;
-    host->answer_count++;
+    uint64_t ssn = 0;
+    uint32_t code = sblog_gateway_input(&host->gateway, process, line->payload, line->size, &ssn);
+    struct answer *answer = answers_add(&host->answers, client, line, code == SBLOG_GATEWAY_DONE ? NULL : code_words(code));
+    if (code != SBLOG_GATEWAY_DONE) return;
+    answer->ssn = ssn;
+    counts_input(&host->counts, line->process, ssn);
 }
 
-/* One program alone takes outputs. */
-static void take_outputs(struct host *host, struct client *client) {
+static struct client *consumer(struct host *host) {
     for (int i = 0; i < CLIENTS; i++)
-        if (&host->clients[i] != client && host->clients[i].takes_outputs) {
-            client_answer(client, "refused %" PRIu64 " another program takes the outputs\n", client->line);
-            return;
-        }
+        if (host->clients[i].takes_outputs) return &host->clients[i];
+    return NULL;
+}
+
+/* One program alone takes outputs, while it is there: first those that nobody has taken. */
+static void take_outputs(struct host *host, struct client *client, const struct line *line) {
+    struct client *other = consumer(host);
+    if (other && other != client && client_is_gone(other)) {
+        other->takes_outputs = false;
+        other = NULL;
+    }
+    if (other && other != client) answers_add(&host->answers, client, line, "another program takes the outputs");
+    if (other) return;
     client->takes_outputs = true;
+    host->waiting.printed = 0;
+}
+
+static void took(struct host *host, struct client *client, const struct line *line) {
+    if (!client->takes_outputs) answers_add(&host->answers, client, line, "this program takes no outputs");
+    else if (!outputs_take(&host->waiting, line->process, line->ssn)) answers_add(&host->answers, client, line, "no output has this SSN yet");
 }
 
 static void read_lines(struct host *host, struct client *client) {
@@ -190,10 +195,9 @@ static void read_lines(struct host *host, struct client *client) {
     client_read(client);
     while (may_read(host) && client_line(client, host->cluster, &line)) {
         if (line.order == ORDER_INPUT) input(host, client, &line);
-        if (line.order == ORDER_OUTPUTS) take_outputs(host, client);
-        if (line.order != ORDER_REFUSED) continue;
-        if (host->options->listen) client_answer(client, "refused %" PRIu64 " %s\n", client->line, line.why);
-        else report("line %" PRIu64 ": %s", client->line, line.why);
+        if (line.order == ORDER_OUTPUTS) take_outputs(host, client, &line);
+        if (line.order == ORDER_TOOK) took(host, client, &line);
+        if (line.order == ORDER_REFUSED) answers_add(&host->answers, client, &line, line.why);
     }
 }
 
@@ -210,24 +214,38 @@ static int receive(struct host *host) {
     return count;
 }
 
-/* All that happened in this turn is durable, in one transaction. */
-static int commit(struct host *host) {
-    size_t size;
-    uint32_t code = read_bytes(host, sblog_gateway_changes, &size);
-    if (code != SBLOG_GATEWAY_DONE) return refused("changes", code, 0);
-    if (size == 0) return STATUS_DONE;
-    counts_take(&host->counts, host->bytes, size);
-    int status = gateway_store_append(&host->store, host->bytes, size, true);
-    bool is_long = host->store.behind > BEHIND && host->store.behind > host->store.whole;
-    return status == STATUS_DONE && is_long && !host->output.is_there ? write_whole(host) : status;
+/* Outputs are handed out while a program takes them; whether there may be more. */
+static bool hand_out(struct host *host) {
+    struct outputs *waiting = &host->waiting;
+    for (int count = 0; consumer(host); count++) {
+        if (count == TURN || outputs_are_full(waiting)) return true;
+        struct output *next = outputs_place(waiting);
+        uint32_t code = sblog_gateway_output(&host->gateway, &next->process, &next->ssn, next->payload, sizeof next->payload,
+                                             &next->size);
+        if (code != SBLOG_GATEWAY_DONE) return false;
+        outputs_add(waiting);
+    }
+    return false;
 }
 
-static void answer_inputs(struct host *host) {
-    for (size_t i = 0; i < host->answer_count; i++) {
-        const struct answer *answer = &host->answers[i];
-        client_answer(answer->client, "logged %s %" PRIu64 "\n", host->cluster->processes[answer->process].name, answer->ssn);
-    }
-    host->answer_count = 0;
+/* All that happened in this turn is durable, in one transaction: so an output that was handed out is, before it is printed. */
+static int commit(struct host *host) {
+    size_t size;
+    struct outputs *waiting = &host->waiting;
+    uint32_t code = read_bytes(host, sblog_gateway_changes, &size);
+    if (code != SBLOG_GATEWAY_DONE) return refused("changes", code, 0);
+    if (size == 0 && !outputs_have_taken(waiting)) return STATUS_DONE;
+    counts_take(&host->counts, host->bytes, size);
+    int status = gateway_store_append(&host->store, host->bytes, size, waiting, size > 0);
+    waiting->stored = waiting->count;
+    outputs_forget(waiting);
+    bool is_long = host->store.behind > BEHIND && host->store.behind > host->store.whole;
+    return status == STATUS_DONE && is_long ? write_whole(host) : status;
+}
+
+static void answer_lines(struct host *host) {
+    answers_give(&host->answers, host->cluster, !host->options->listen);
+    for (int i = 0; i < CLIENTS; i++) host->clients[i].promised = 0;
 }
 
 static void put_out(struct host *host) {
@@ -238,25 +256,6 @@ static void put_out(struct host *host) {
         pace_send(&host->pace, to, host->packet, size, now);
 }
 
-static struct client *consumer(struct host *host) {
-    for (int i = 0; i < CLIENTS; i++)
-        if (host->clients[i].takes_outputs) return &host->clients[i];
-    return NULL;
-}
-
-/* Takes the first output that waits, if none is taken yet; false where none waits. That it was taken is noted behind its line. */
-static bool take_output(struct host *host) {
-    struct output *output = &host->output;
-    if (output->is_there) return true;
-    uint32_t code = sblog_gateway_output(&host->gateway, &output->process, &output->ssn, output->payload,
-                                         sizeof output->payload, &output->size);
-    if (code != SBLOG_GATEWAY_DONE) return false;
-    code = sblog_gateway_changes(&host->gateway, output->change, sizeof output->change, &output->change_size);
-    output->is_there = true;
-    if (code != SBLOG_GATEWAY_DONE) output->change_size = 0;
-    return true;
-}
-
 static void print_output(struct client *client, const struct output *output, const char *name) {
     char hex[2 * PAYLOAD_LIMIT + 2] = "-";
     for (size_t i = 0; i < output->size; i++) sprintf(hex + 2 * i, "%02x", output->payload[i]);
@@ -264,22 +263,25 @@ static void print_output(struct client *client, const struct output *output, con
     client_write(client);
 }
 
-/* Outputs are printed, each before the next is taken, and behind each it is noted; a program that is killed in between prints
-   that one line again. */
+/* Outputs are printed that are in the store. On a pipe nobody says what was taken: there a line that was written is taken, before
+   the next is printed; a program that is killed in between prints that one line again. */
 static int print_outputs(struct host *host) {
     struct client *client = consumer(host);
+    struct outputs *waiting = &host->waiting;
+    bool is_pipe = !host->options->listen;
     int status = STATUS_DONE;
-    while (status == STATUS_DONE && client && client_is_free(client) && take_output(host)) {
-        print_output(client, &host->output, host->cluster->processes[host->output.process].name);
-        if (client->answers > 0) break;
-        host->output.is_there = false;
+    while (status == STATUS_DONE && client && client_is_free(client)) {
+        if (is_pipe && outputs_take_printed(waiting)) status = gateway_store_append(&host->store, NULL, 0, waiting, false);
+        if (status != STATUS_DONE || waiting->printed == waiting->stored) break;
+        const struct output *next = &waiting->all[waiting->printed++];
+        print_output(client, next, host->cluster->processes[next->process].name);
         host->outputs++;
-        status = gateway_store_append(&host->store, host->output.change, host->output.change_size, false);
     }
+    outputs_forget(waiting);
     return status;
 }
 
-enum { FIGURES = 8 };
+enum { FIGURES = 9 };
 
 static size_t figures(const struct host *host, struct figure out[FIGURES]) {
     uint64_t logged = 0, waiting = 0, shown = 0, clients = 0;
@@ -294,6 +296,7 @@ static size_t figures(const struct host *host, struct figure out[FIGURES]) {
         {"waiting", waiting, NULL, "inputs that have no number yet"},
         {"shown", shown, NULL, "SSN of the last outputs, of those processes that had one since it began"},
         {"printed", host->outputs, NULL, "outputs that were printed since it began"},
+        {"untaken", host->waiting.count, NULL, "outputs that were handed out, and that nobody has taken"},
         {"programs", clients, NULL, "programs that hand in inputs or take outputs"},
         {"behind", host->store.behind, NULL, "bytes of changes behind the store"},
         {"refused", host->refused, NULL, "times that bytes came that are no packet"},
@@ -345,10 +348,11 @@ static int turn(struct host *host, bool *is_more) {
     welcome(host);
     for (int i = 0; i < CLIENTS && !signal_stop; i++) read_lines(host, &host->clients[i]);
     int received = receive(host);
-    size_t inputs = host->answer_count;
+    size_t lines = host->answers.count;
+    bool is_cut = hand_out(host);
     int status = commit(host);
     if (status != STATUS_DONE) return status;
-    answer_inputs(host);
+    answer_lines(host);
     put_out(host);
     transport_serve(&host->transport);
     status = look_after_clients(host);
@@ -356,7 +360,7 @@ static int turn(struct host *host, bool *is_more) {
     uint64_t now = clock_now();
     tick(host, now);
     show(host, now);
-    *is_more = received == TURN || inputs == TURN;
+    *is_more = received == TURN || lines == ANSWERS_LIMIT || (is_cut && !outputs_are_full(&host->waiting));
     return status;
 }
 
@@ -367,7 +371,9 @@ static void wait(struct host *host, bool is_more) {
     transport_watch(&host->transport, &watch);
     metrics_watch(&host->metrics, &watch);
     watch_file(&watch, host->listener, POLLIN);
-    for (int i = 0; i < CLIENTS; i++) client_watch(&host->clients[i], may_read(host), host->output.is_there, &watch);
+    bool prints = host->waiting.printed < host->waiting.stored;
+    for (int i = 0; i < CLIENTS; i++)
+        client_watch(&host->clients[i], may_read(host), prints && host->clients[i].takes_outputs, &watch);
     watch_wait(&watch);
 }
 

@@ -96,6 +96,19 @@ static int keep(struct host *host) {
     return code == SBLOG_NODE_DONE ? STATUS_DONE : refused("saved", code, 0);
 }
 
+/* Whether nothing is kept, or what a first life keeps that was killed before its store had a name: the bytes of one that begins.
+   Any other store lost its name, and stays. */
+static int judge_new(struct host *host, size_t size) {
+    uint8_t *kept;
+    size_t kept_size;
+    int status = store_read(&host->store, KEPT, &kept, &kept_size);
+    bool is_new = !kept || (kept_size == size && !memcmp(kept, host->bytes, size));
+    free(kept);
+    if (status != STATUS_DONE || is_new) return status;
+    report("%s: the file %s holds messages, and the file identity is missing", host->options->store, KEPT);
+    return STATUS_STORE;
+}
+
 /* The first life: what it begins with is durable, then the incarnation, then whose it is; and then it begins. */
 static int begin_new(struct host *host, const struct owner *owner, uint64_t incarnation) {
     size_t size;
@@ -107,7 +120,8 @@ static int begin_new(struct host *host, const struct owner *owner, uint64_t inca
                                     NUMBERS, RECEIPTS, owner->durable, &host->node);
     if (code != SBLOG_NODE_DONE) return refused("open", code, 0);
     if ((code = freeze(host, &size)) != SBLOG_NODE_DONE) return refused("checkpoint", code, 0);
-    int status = store_write(&host->store, KEPT, host->bytes, size);
+    int status = judge_new(host, size);
+    if (status == STATUS_DONE) status = store_write(&host->store, KEPT, host->bytes, size);
     if (status == STATUS_DONE) status = store_write_incarnation(&host->store, 1);
     if (status == STATUS_DONE) status = store_claim(&host->store, owner);
     if (status != STATUS_DONE) return status;

@@ -1,0 +1,45 @@
+/* Outputs that the gateway handed out and nobody has taken yet, in their order. */
+#ifndef OUTPUTS_H
+#define OUTPUTS_H
+
+#include "client.h"
+#include "cluster.h"
+
+#include <stdbool.h>
+#include <stddef.h>
+#include <stdint.h>
+
+enum { OUTPUTS_LIMIT = 1024 };
+
+struct output {
+    uint8_t process, payload[PAYLOAD_LIMIT];
+    uint64_t ssn;
+    size_t size;
+};
+
+struct outputs {
+    struct output all[OUTPUTS_LIMIT];
+    size_t count, stored, printed;     /* of these are in the store, and were printed for the program that takes outputs now */
+    uint64_t given[PROCESS_LIMIT + 1]; /* SSN of the last output of each process that was handed out in this life, 0 for none */
+    uint64_t taken[PROCESS_LIMIT + 1]; /* up to which SSN those of each process are taken, and still to be forgotten; 0 for none */
+};
+
+bool outputs_are_full(const struct outputs *outputs);
+
+/* The place of the next one, where there is one; and that it was filled. */
+struct output *outputs_place(struct outputs *outputs);
+void outputs_add(struct outputs *outputs);
+
+/* Those of a process are taken up to an SSN; false where none has it that was handed out. */
+bool outputs_take(struct outputs *outputs, int process, uint64_t ssn);
+
+/* The one that was printed last is taken; false where it is already, or none was. */
+bool outputs_take_printed(struct outputs *outputs);
+
+/* Whether some are taken and not forgotten. */
+bool outputs_have_taken(const struct outputs *outputs);
+
+/* Those that are taken go. */
+void outputs_forget(struct outputs *outputs);
+
+#endif

@@ -1,0 +1,31 @@
+"""A program that connects to the gateway."""
+import socket
+
+from lives import Wrong
+
+
+class Talk:
+    def __init__(self, path):
+        self.socket = socket.socket(socket.AF_UNIX, socket.SOCK_STREAM)
+        self.socket.connect(path)
+        self.socket.settimeout(30)
+        self.file, self.pen = self.socket.makefile("r", newline="\n"), self.socket.makefile("w", newline="\n")
+
+    def says(self, *lines):
+        """Lines in one write."""
+        self.pen.write("".join(line + "\n" for line in lines))
+        self.pen.flush()
+
+    def heard(self):
+        return self.file.readline().rstrip("\n")
+
+    def hears(self, *lines):
+        for line in lines:
+            heard = self.heard()
+            if heard != line:
+                raise Wrong(f"{heard!r} in place of {line!r}")
+
+    def goes(self):
+        self.file.close()
+        self.pen.close()
+        self.socket.close()
