@@ -121,10 +121,20 @@ static const char *read_order(char *text, const struct cluster *cluster, struct 
     return is_bytes ? read_hex(count == 3 ? words[2] : "-", line) : read_word(words[2], line);
 }
 
+static bool has_room(const struct client *client) {
+    return client->answers + (client->promised + 1) * LONGEST_ANSWER <= sizeof client->answer;
+}
+
+static bool has_end(const struct client *client) {
+    return memchr(client->text + client->from, '\n', client->have - client->from) != NULL;
+}
+
+bool client_has_line(const struct client *client) { return has_room(client) && has_end(client); }
+
 bool client_line(struct client *client, const struct cluster *cluster, struct line *line) {
     char *text = client->text + client->from;
     size_t left = client->have - client->from;
-    if (client->answers + (client->promised + 1) * LONGEST_ANSWER > sizeof client->answer) return false;
+    if (!has_room(client)) return false;
     char *end = memchr(text, '\n', left);
     *line = (struct line){.order = ORDER_NONE};
     if (!end && left < sizeof client->text) return false;
@@ -171,8 +181,7 @@ bool client_is_over(const struct client *client) {
 }
 
 bool client_is_done(const struct client *client) {
-    bool has_line = memchr(client->text + client->from, '\n', client->have - client->from) != NULL;
-    return client->out >= 0 && client->in < 0 && !has_line && client->answers == 0 && !client->takes_outputs;
+    return client->out >= 0 && client->in < 0 && !has_end(client) && client->answers == 0 && !client->takes_outputs;
 }
 
 bool client_is_free(struct client *client) { return client->answers == 0 && is_ready(client->out, POLLOUT); }

@@ -43,6 +43,9 @@ void client_read(struct client *client);
 /* The next whole line; false where there is none, or there is no room for its answer beside those that are promised. */
 bool client_line(struct client *client, const struct cluster *cluster, struct line *line);
 
+/* Whether there is a next line, whole, with room for its answer. */
+bool client_has_line(const struct client *client);
+
 /* An answer or an output. Its bytes have room: those of a promised answer, or behind client_is_free. */
 void client_answer(struct client *client, const char *format, ...) __attribute__((format(printf, 2, 3)));
 

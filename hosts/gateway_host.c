@@ -12,7 +12,6 @@
 #include "transport.h"
 #include "unix_path.h"
 
-#include <inttypes.h>
 #include <sblog.h>
 #include <stdio.h>
 #include <stdlib.h>
@@ -256,13 +255,6 @@ static void put_out(struct host *host) {
         pace_send(&host->pace, to, host->packet, size, now);
 }
 
-static void print_output(struct client *client, const struct output *output, const char *name) {
-    char hex[2 * PAYLOAD_LIMIT + 2] = "-";
-    for (size_t i = 0; i < output->size; i++) sprintf(hex + 2 * i, "%02x", output->payload[i]);
-    client_answer(client, "output %s %" PRIu64 " %s\n", name, output->ssn, hex);
-    client_write(client);
-}
-
 /* Outputs are printed that are in the store. On a pipe nobody says what was taken: there a line that was written is taken, before
    the next is printed; a program that is killed in between prints that one line again. */
 static int print_outputs(struct host *host) {
@@ -274,7 +266,7 @@ static int print_outputs(struct host *host) {
         if (is_pipe && outputs_take_printed(waiting)) status = gateway_store_append(&host->store, NULL, 0, waiting, false);
         if (status != STATUS_DONE || waiting->printed == waiting->stored) break;
         const struct output *next = &waiting->all[waiting->printed++];
-        print_output(client, next, host->cluster->processes[next->process].name);
+        output_print(next, host->cluster->processes[next->process].name, client);
         host->outputs++;
     }
     outputs_forget(waiting);
@@ -344,11 +336,18 @@ static int look_after_clients(struct host *host) {
     return STATUS_DONE;
 }
 
+/* Whether lines were left that can be taken. */
+static bool has_lines(const struct host *host) {
+    if (!may_read(host)) return false;
+    for (int i = 0; i < CLIENTS; i++)
+        if (client_has_line(&host->clients[i])) return true;
+    return false;
+}
+
 static int turn(struct host *host, bool *is_more) {
     welcome(host);
     for (int i = 0; i < CLIENTS && !signal_stop; i++) read_lines(host, &host->clients[i]);
     int received = receive(host);
-    size_t lines = host->answers.count;
     bool is_cut = hand_out(host);
     int status = commit(host);
     if (status != STATUS_DONE) return status;
@@ -360,7 +359,7 @@ static int turn(struct host *host, bool *is_more) {
     uint64_t now = clock_now();
     tick(host, now);
     show(host, now);
-    *is_more = received == TURN || lines == ANSWERS_LIMIT || (is_cut && !outputs_are_full(&host->waiting));
+    *is_more = received == TURN || has_lines(host) || (is_cut && !outputs_are_full(&host->waiting));
     return status;
 }
 

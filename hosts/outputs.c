@@ -1,5 +1,7 @@
 #include "outputs.h"
 
+#include <inttypes.h>
+#include <stdio.h>
 #include <string.h>
 
 bool outputs_are_full(const struct outputs *outputs) { return outputs->count == OUTPUTS_LIMIT; }
@@ -25,6 +27,13 @@ bool outputs_take_printed(struct outputs *outputs) {
     if (outputs->taken[last->process] >= last->ssn) return false;
     outputs->taken[last->process] = last->ssn;
     return true;
+}
+
+void output_print(const struct output *output, const char *name, struct client *client) {
+    char hex[2 * PAYLOAD_LIMIT + 2] = "-";
+    for (size_t i = 0; i < output->size; i++) sprintf(hex + 2 * i, "%02x", output->payload[i]);
+    client_answer(client, "output %s %" PRIu64 " %s\n", name, output->ssn, hex);
+    client_write(client);
 }
 
 bool outputs_have_taken(const struct outputs *outputs) {

@@ -36,6 +36,9 @@ bool outputs_take(struct outputs *outputs, int process, uint64_t ssn);
 /* The one that was printed last is taken; false where it is already, or none was. */
 bool outputs_take_printed(struct outputs *outputs);
 
+/* One as a line. */
+void output_print(const struct output *output, const char *name, struct client *client);
+
 /* Whether some are taken and not forgotten. */
 bool outputs_have_taken(const struct outputs *outputs);
 
