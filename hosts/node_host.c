@@ -221,9 +221,9 @@ static void tell(struct host *host) {
     host->was_exact = now->exact;
 }
 
-enum { FIGURES = 13 };
+enum { FIGURES = 16, NO_PEER = 1, FULL, LONG }; /* codes of helpers that refuse a send or an output */
 
-static size_t figures(const struct host *host, struct figure out[FIGURES]) {
+static size_t figures(struct host *host, struct figure out[FIGURES]) {
     const sblog_standing *now = &host->standing;
     const struct figure all[FIGURES] = {
         {"length", now->length, NULL, "messages that the state has"},
@@ -237,6 +237,9 @@ static size_t figures(const struct host *host, struct figure out[FIGURES]) {
         {"replays", now->replays, NULL, "messages that are still to be replayed"},
         {"waits", now->waited_for, NULL, "peers waited for, a bit each, 1 the gateway"},
         {"checkpoints", host->checkpoints, NULL, "checkpoints that this life has stored"},
+        {"effects_no_peer", sblog_node_refused(&host->node, NO_PEER), NULL, "sends of the handler that were refused: to no other process"},
+        {"effects_full", sblog_node_refused(&host->node, FULL), NULL, "its sends and outputs that were refused: more than 8 of a call"},
+        {"effects_long", sblog_node_refused(&host->node, LONG), NULL, "its sends and outputs that were refused: above 256 bytes"},
         {"refused", host->refused, NULL, "times that bytes came that are no packet"},
         {"lost", host->transport.lost, NULL, "packets that found no way"},
     };

@@ -544,6 +544,10 @@ uint32_t sblog_node_checkpoint(sblog_node *node, uint8_t *out, size_t out_len, s
 /* They are kept; 22 where it doesn't wait for that. */
 uint32_t sblog_node_saved(sblog_node *node);
 uint32_t sblog_node_standing(sblog_node *node, sblog_standing *out);
+/* How many sends and outputs its helpers refused in this life, by the code that the handler got: 1, to no other process; 2,
+   more than 8 of a call; 3, of more than 256 bytes. 0 for any other code, and of a closed handle. Not counted are those of a
+   replay, and of calls that sblog_node_done takes in, whose record doesn't tell. */
+uint64_t sblog_node_refused(sblog_node *node, uint32_t code);
 uint32_t sblog_node_state(sblog_node *node, uint8_t *out, size_t out_len, size_t *size);
 
 #ifdef SBLOG_CALLS_CODE

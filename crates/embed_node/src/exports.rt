@@ -195,6 +195,16 @@ pub extern "C" fn sblog_node_standing(
     code(standing::standing(alloc, node, out))
 }
 
+/// How many sends and outputs helpers answered with this code in this life of the node, and so did nothing for
+/// its handler: 1 to no other process, 2 more than 8 of a call, 3 of more than 256 bytes. It is 0 for any other
+/// code, and of a closed handle. How many, no contract says.
+#[unsafe(no_mangle)]
+pub extern "C" fn sblog_node_refused(alloc: Global, node: &mut NodeHandle, code: u32) -> u64
+    ensures { node.new.process.value ≡ node.old.process.value }
+{
+    standing::refused(alloc, node, code)
+}
+
 /// Writes the state that its handler left last, and how many bytes it has.
 #[unsafe(no_mangle)]
 pub extern "C" fn sblog_node_state(

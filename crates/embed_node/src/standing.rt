@@ -54,6 +54,23 @@ impl NodeStanding {
     }
 }
 
+/// How many effects of its handler helpers refused by this code.
+pub(crate) fn refused(alloc: Global, handle: &mut NodeHandle, code: u32) -> u64
+    ensures { handle.new.process.value ≡ handle.old.process.value }
+{
+    let Some(process) = handle.take(alloc) else {
+        return 0;
+    };
+    let refused = process.refused();
+    handle.put(process);
+    u64::from(match code {
+        1 => refused.no_peer,
+        2 => refused.full,
+        3 => refused.long,
+        _ => 0,
+    })
+}
+
 /// Writes how it stands.
 pub(crate) fn standing(
     alloc: Global,

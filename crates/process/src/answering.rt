@@ -62,7 +62,7 @@ impl Process {
         }
         let state = Vec::from_slice(alloc, done.next.as_slice())?;
         let given = given(alloc, who, &done.effects)?;
-        self.take_back(alloc, state, &given)?;
+        self.take_back(alloc, state, &given, done.effects.refused())?;
         Ok(())
     }
 
@@ -93,7 +93,7 @@ impl Process {
         }
         let state = Vec::from_slice(alloc, state)?;
         let given = given(alloc, who, effects)?;
-        self.take_back(alloc, state, &given)?;
+        self.take_back(alloc, state, &given, effects.refused())?;
         Ok(())
     }
 

@@ -11,7 +11,7 @@ ghost use Rattle.process.specs.Reviving.{IsOpened, IsRevived, IsUnrevived, IsUnr
 use crate::course::Course;
 use crate::fault::Unrevived;
 use handlers::Handler;
-use helpers::Effects;
+use helpers::{Effects, Refused};
 use node::{Limits, Node};
 use packets::{Kept, KeptError, KeptFault, NUMBER_LIMIT, decode_kept};
 use recovery::{Collecting, comes_back};
@@ -26,6 +26,8 @@ pub struct Process {
     pub(crate) course: Course,
     /// Room for what its handler gives, which is no part of what the process is.
     pub(crate) effects: Effects,
+    /// What helpers refused its handler in this life, which is no part of it either.
+    pub(crate) refused: Refused,
 }
 
 impl Model for Process {
@@ -61,6 +63,7 @@ impl Process {
             image,
             course: Course::Up(node),
             effects: Effects::new(),
+            refused: Refused::default(),
         })
     }
 
@@ -89,6 +92,7 @@ impl Process {
                 image,
                 course: Course::Collecting(process),
                 effects: Effects::new(),
+                refused: Refused::default(),
             }),
             Err(_) => Err(Unrevived::Memory),
         }

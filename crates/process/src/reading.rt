@@ -11,6 +11,7 @@ ghost use Rattle.process.specs.Bounds.{IsBounded, waiting_of};
 use crate::course::Course;
 use crate::process::Process;
 use handlers::Handler;
+use helpers::Refused;
 use limits::PROCESSES;
 use node::{MOST_GIVEN, MOST_KEPT, Stage, Standing};
 use packets::Packet;
@@ -34,6 +35,13 @@ impl Process {
         ensures { image_of result.now ≡ self.now.image }
     {
         &self.image
+    }
+
+    /// How many sends and outputs helpers refused its handler since it was opened or revived, by cause. No contract
+    /// speaks of it: it is for people, and only tested. Of calls that a host made outside it has those of
+    /// [`Process::done`].
+    pub fn refused(&self) -> Refused {
+        self.refused
     }
 
     /// The packet that waits first; none, if there is none.

@@ -9,7 +9,7 @@ ghost use Rattle.process.specs.Working.{job_at, is_other, given_of, sent_by, sho
 
 use crate::course::Course;
 use crate::process::Process;
-use helpers::{Effects, Payload, Sent, Who};
+use helpers::{Effects, Payload, Refused, Sent, Who};
 use node::{Given, OpenJob};
 use std::alloc::{AllocError, Global};
 
@@ -71,7 +71,8 @@ impl Process {
             .image
             .call(state.as_mut_slice(), &job.payload, who, &mut self.effects);
         let given = given(alloc, who, &self.effects)?;
-        self.take_back(alloc, state, &given)?;
+        let refused = self.effects.refused();
+        self.take_back(alloc, state, &given, refused)?;
         Ok(true)
     }
 
@@ -88,19 +89,25 @@ impl Process {
         Some((job, who))
     }
 
-    /// What a call left is taken in. A refusal changes nothing.
+    /// What a call left is taken in. A refusal changes nothing. What helpers refused is counted but in a replay, as
+    /// another life has it already.
     pub(crate) fn take_back(
         &mut self,
         alloc: Global,
         state: Vec<u8>,
         given: &[Given],
+        refused: Refused,
     ) -> Result<(), AllocError>
         requires { MayTakeIn self.old.course given.now }
         ensures ok { OnOk result (TakesBack state.items given.now self.old self.new) }
         ensures few { OnOk result (entries_of self.new ≤ entries_of self.old + MOST_GIVEN) }
         ensures err { OnErr result (self.new ≡ self.old) }
     {
+        let is_live = self.course.is_up();
         self.course.take_in(state, given)?;
+        if is_live {
+            self.refused.add(refused);
+        }
         self.pass(alloc);
         Ok(())
     }
