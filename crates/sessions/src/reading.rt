@@ -1,4 +1,4 @@
-//! What is read of a session.
+//! What is read of a session of one caller.
 
 ghost use Rattle.std.specs.Prelude.{◌≡◌, ◌≤◌, [], true, false, drop, length};
 ghost use Rattle.world.specs.Phases.{name_of, is_down};
@@ -13,7 +13,7 @@ ghost use Rattle.sessions.specs.Logged.{logged};
 
 use crate::service::Service;
 use crate::slip::Slip;
-use helpers::Payload;
+use helpers::{Payload, Refused};
 use limits::{ENTRIES, PROCESSES};
 use world::{Message, PhaseName};
 
@@ -78,14 +78,23 @@ impl Service {
         self.machine.phase(p)
     }
 
-    /// The outputs that the outside was shown, in order, without the first `since`: each once, and
-    /// none that its sender doesn't send, where failures came one at a time.
+    /// The outputs that the outside was shown, in order: each once, and none that its sender doesn't
+    /// send, where failures came one at a time.
+    pub fn shown(&self) -> &[Message]
+        ensures value { result.now ≡ (world_at self.now).shown }
+        ensures no_orphan { IsExact self.now → NoOrphan (world_at self.now) }
+        ensures output_once { IsExact self.now → ShownBegin (world_at self.now) }
+    {
+        self.machine.shown()
+    }
+
+    /// Those that were shown, without the first `since`.
     pub fn shown_since(&self, since: usize) -> &[Message]
         ensures value { result.now ≡ drop since (world_at self.now).shown }
         ensures no_orphan { IsExact self.now → NoOrphan (world_at self.now) }
         ensures output_once { IsExact self.now → ShownBegin (world_at self.now) }
     {
-        let shown = self.machine.shown();
+        let shown = self.shown();
         &shown[since.min(shown.len())..]
     }
 
@@ -116,5 +125,12 @@ impl Service {
         ensures { result ≡ is_exact self.now }
     {
         self.exact
+    }
+
+    /// How many sends and outputs the handler of a process was refused by its helpers, by cause, in
+    /// the calls whose messages it received. A replay makes the same calls again and isn't counted.
+    /// No contract speaks of it: it is only tested.
+    pub fn refused(&self, process: u8) -> Refused {
+        self.refused.of(process)
     }
 }
