@@ -38,8 +38,11 @@ _sblog() {
     explain)
         case $before in
             --source) _sblog_files o; return ;;
+            --state) COMPREPLY=($(compgen -W '' -- "$word")); return ;;
+            --form) COMPREPLY=($(compgen -W '1 2 3' -- "$word")); return ;;
+            --function) COMPREPLY=($(compgen -W '' -- "$word")); return ;;
         esac
-        _sblog_words '--source --help' || _sblog_files 'sbi'
+        _sblog_words '--source --state --form --function --help' || _sblog_files 'sbi'
         ;;
     asm)
         case $before in

@@ -1,7 +1,7 @@
 //! The command line as `clap` is told of it.
 
 ghost use Rattle.std.specs.Prelude.{◌≡◌, IfOk, codes, false, true};
-ghost use Rattle.clap.specs.Words.{app_of, rule_of};
+ghost use Rattle.clap.specs.Words.{App, Rule, app_of, rule_of, with_rule, with_subcommand};
 ghost use Rattle.clap.specs.declared.builder.Command.TheViews.{out-Command as fields_of};
 ghost use Rattle.cli.specs.Program.{asm_app, check_app, dis_app, draw_app, explain_app, flag_rule, live_app, native_app, number_rule, pack_app, required_rule, run_app, sblog_app, top_app, writer_app};
 
@@ -13,20 +13,36 @@ use std::alloc::{AllocError, Global};
 /// The most calls that a worker can be given as its budget.
 pub const BUDGET: u64 = 1_000_000;
 
+/// What is said of a scenario.
+const ORDERS: &str = "Text that declares processes and gives orders";
+
+/// What is said of an image.
+const IMAGE: &str = "Image file";
+
 /// A required argument with one value.
-fn required<'a>(alloc: Global, id: &'a str) -> Arg<'a>
+fn required<'a>(alloc: Global, id: &'a str, help: &'a str) -> Arg<'a>
     ensures rule { rule_of result ≡ required_rule id.entry.now }
     ensures local { result.global ≡ false }
 {
-    Arg::new(alloc, id).required(true).action(ArgAction::Set)
+    Arg::new(alloc, id)
+        .required(true)
+        .action(ArgAction::Set)
+        .help(help)
 }
 
 /// An option whose value is a number from `low` to `high`.
-fn number<'a>(alloc: Global, id: &'a str, name: &'a str, low: u64, high: u64) -> Arg<'a>
+fn number<'a>(
+    alloc: Global,
+    id: &'a str,
+    name: &'a str,
+    low: u64,
+    high: u64,
+    help: &'a str,
+) -> Arg<'a>
     ensures rule { rule_of result ≡ number_rule id.entry.now true low high }
     ensures local { result.global ≡ false }
 {
-    required(alloc, id)
+    required(alloc, id, help)
         .long(id)
         .value_name(name)
         .value_parser(ValueParser::Unsigned(low, high))
@@ -48,9 +64,39 @@ fn form<'a>(alloc: Global) -> Arg<'a>
     ensures rule { rule_of result ≡ number_rule (codes "form") false 1 3 }
     ensures local { result.global ≡ false }
 {
-    number(alloc, "form", "F", 1, 3)
-        .required(false)
-        .help("Form of the image, 1, 2 or 3 [default: 1]")
+    let help = "Form of the image, 1, 2 or 3 [default: 1]";
+    number(alloc, "form", "F", 1, 3, help).required(false)
+}
+
+/// A command with one argument more, unless it failed before.
+fn with<'a>(to: Result<Command<'a>, AllocError>, arg: Arg<'a>) -> Result<Command<'a>, AllocError>
+    ensures shape { (app : App) (rule : Rule) → arg.entry.global ≡ false → rule_of arg.entry ≡ rule
+        → IfOk to.entry (λ c. app_of c ≡ app) → IfOk result (λ c. app_of c ≡ with_rule app rule) }
+    ensures local { arg.entry.global ≡ false → IfOk to.entry (λ c. (fields_of c).has_globals ≡ false)
+        → IfOk result (λ c. (fields_of c).has_globals ≡ false) }
+{
+    match to {
+        Ok(command) => command.arg(arg),
+        Err(e) => Err(e),
+    }
+}
+
+/// A command with another one below it, unless either failed before.
+fn joined<'a>(
+    to: Result<Command<'a>, AllocError>,
+    one: Result<Command<'a>, AllocError>,
+) -> Result<Command<'a>, AllocError>
+    ensures { (app below : App) → IfOk one.entry (λ c. (fields_of c).has_globals ≡ false)
+        → IfOk one.entry (λ c. app_of c ≡ below) → IfOk to.entry (λ c. app_of c ≡ app)
+        → IfOk result (λ c. app_of c ≡ with_subcommand app below.top) }
+{
+    match to {
+        Ok(to) => match one {
+            Ok(one) => to.subcommand(one),
+            Err(e) => Err(e),
+        },
+        Err(e) => Err(e),
+    }
 }
 
 fn run<'a>(alloc: Global) -> Result<Command<'a>, AllocError>
@@ -59,30 +105,38 @@ fn run<'a>(alloc: Global) -> Result<Command<'a>, AllocError>
 {
     Command::new(alloc, "run")
         .about("Carries out a scenario, and prints its trace and report")
-        .arg(required(alloc, "SCENARIO"))
+        .arg(required(alloc, "SCENARIO", ORDERS))
 }
 
 fn live<'a>(alloc: Global) -> Result<Command<'a>, AllocError>
     ensures shape { IfOk result (λ c. app_of c ≡ live_app) }
     ensures local { IfOk result (λ c. (fields_of c).has_globals ≡ false) }
 {
-    let scenario = Command::new(alloc, "live")
-        .about("Has N workers carry out the inputs of a scenario, each at most about B calls")
-        .arg(required(alloc, "SCENARIO"))?;
-    let workers = scenario.arg(number(alloc, "workers", "N", 1, WORKERS as u64))?;
-    workers.arg(number(alloc, "budget", "B", 1, BUDGET))
+    let bare = Ok(Command::new(alloc, "live").about(
+        "Has N workers carry out the inputs of a scenario, each at most about B calls",
+    ));
+    let inputs = "Text that declares processes and hands in inputs";
+    let scenario = with(bare, required(alloc, "SCENARIO", inputs));
+    let count = "Workers, 1 to 16";
+    let workers = with(
+        scenario,
+        number(alloc, "workers", "N", 1, WORKERS as u64, count),
+    );
+    let calls = "Calls of each worker, 1 to 1000000";
+    with(workers, number(alloc, "budget", "B", 1, BUDGET, calls))
 }
 
 fn draw<'a>(alloc: Global) -> Result<Command<'a>, AllocError>
     ensures shape { IfOk result (λ c. app_of c ≡ draw_app) }
     ensures local { IfOk result (λ c. (fields_of c).has_globals ≡ false) }
 {
-    let scenario = Command::new(alloc, "draw")
-        .about("Carries out a scenario, and writes its picture as an SVG file")
-        .arg(required(alloc, "SCENARIO"))?;
-    let picture = scenario.arg(required(alloc, "OUT"))?;
+    let bare = Ok(Command::new(alloc, "draw").about(
+        "Carries out a scenario, and writes its picture as an SVG file",
+    ));
+    let scenario = with(bare, required(alloc, "SCENARIO", ORDERS));
+    let picture = with(scenario, required(alloc, "OUT", "SVG file to write"));
     let help = "Leaves out packets of numbers and acknowledgements, and their columns";
-    picture.arg(flag(alloc, "messages", help))
+    with(picture, flag(alloc, "messages", help))
 }
 
 fn check<'a>(alloc: Global) -> Result<Command<'a>, AllocError>
@@ -91,7 +145,7 @@ fn check<'a>(alloc: Global) -> Result<Command<'a>, AllocError>
 {
     Command::new(alloc, "check")
         .about("Verifies an image and prints how many instructions it has")
-        .arg(required(alloc, "IMAGE"))
+        .arg(required(alloc, "IMAGE", IMAGE))
 }
 
 fn explain<'a>(alloc: Global) -> Result<Command<'a>, AllocError>
@@ -100,7 +154,7 @@ fn explain<'a>(alloc: Global) -> Result<Command<'a>, AllocError>
 {
     Command::new(alloc, "explain")
         .about("Lists an image with what is known of its registers, and why it is refused")
-        .arg(required(alloc, "IMAGE"))
+        .arg(required(alloc, "IMAGE", IMAGE))
 }
 
 /// A command that writes an image of a source.
@@ -109,15 +163,20 @@ fn writer<'a>(
     name: &'a str,
     about: &'a str,
     source: &'a str,
+    help: &'a str,
 ) -> Result<Command<'a>, AllocError>
     ensures shape { IfOk result (λ c. app_of c ≡ writer_app name.entry.now source.entry.now) }
     ensures local { IfOk result (λ c. (fields_of c).has_globals ≡ false) }
 {
-    let named = Command::new(alloc, name).about(about);
-    let with_source = named.arg(required(alloc, source))?;
-    let image = with_source.arg(required(alloc, "OUT"))?;
-    let state = image.arg(number(alloc, "state", "N", 0, STATE_BYTES as u64))?;
-    state.arg(form(alloc))
+    let bare = Ok(Command::new(alloc, name).about(about));
+    let with_source = with(bare, required(alloc, source, help));
+    let image = with(with_source, required(alloc, "OUT", "Image file to write"));
+    let bytes = "Bytes of state, 0 to 1024";
+    let state = with(
+        image,
+        number(alloc, "state", "N", 0, STATE_BYTES as u64, bytes),
+    );
+    with(state, form(alloc))
 }
 
 fn asm<'a>(alloc: Global) -> Result<Command<'a>, AllocError>
@@ -125,7 +184,7 @@ fn asm<'a>(alloc: Global) -> Result<Command<'a>, AllocError>
     ensures local { IfOk result (λ c. (fields_of c).has_globals ≡ false) }
 {
     let about = "Writes the image of an assembler text, with N bytes of state";
-    writer(alloc, "asm", about, "SRC")
+    writer(alloc, "asm", about, "SRC", "Assembler text")
 }
 
 fn pack<'a>(alloc: Global) -> Result<Command<'a>, AllocError>
@@ -133,7 +192,7 @@ fn pack<'a>(alloc: Global) -> Result<Command<'a>, AllocError>
     ensures local { IfOk result (λ c. (fields_of c).has_globals ≡ false) }
 {
     let about = "Writes the image of the bytes of its code, with N bytes of state";
-    writer(alloc, "pack", about, "CODE")
+    writer(alloc, "pack", about, "CODE", "Bytes of the code alone")
 }
 
 fn dis<'a>(alloc: Global) -> Result<Command<'a>, AllocError>
@@ -142,17 +201,21 @@ fn dis<'a>(alloc: Global) -> Result<Command<'a>, AllocError>
 {
     Command::new(alloc, "dis")
         .about("Prints the assembler text of an image")
-        .arg(required(alloc, "IMAGE"))
+        .arg(required(alloc, "IMAGE", IMAGE))
 }
 
 fn native<'a>(alloc: Global) -> Result<Command<'a>, AllocError>
     ensures shape { IfOk result (λ c. app_of c ≡ native_app) }
     ensures local { IfOk result (λ c. (fields_of c).has_globals ≡ false) }
 {
-    let image = Command::new(alloc, "native")
-        .about("Writes the x86-64 machine code of an image")
-        .arg(required(alloc, "IMAGE"))?;
-    image.arg(required(alloc, "OUT"))
+    let bare = Ok(Command::new(alloc, "native").about(
+        "Writes the x86-64 machine code of an image",
+    ));
+    let image = with(bare, required(alloc, "IMAGE", IMAGE));
+    with(
+        image,
+        required(alloc, "OUT", "File to write the machine code to"),
+    )
 }
 
 /// The program without its commands, read without its own name.
@@ -170,14 +233,13 @@ fn program<'a>(alloc: Global) -> Result<Command<'a>, AllocError>
 pub(crate) fn sblog<'a>(alloc: Global) -> Result<Command<'a>, AllocError>
     ensures { IfOk result (λ c. app_of c ≡ sblog_app) }
 {
-    let program = program(alloc)?;
-    let with_run = program.subcommand(run(alloc)?)?;
-    let with_live = with_run.subcommand(live(alloc)?)?;
-    let with_draw = with_live.subcommand(draw(alloc)?)?;
-    let with_check = with_draw.subcommand(check(alloc)?)?;
-    let with_explain = with_check.subcommand(explain(alloc)?)?;
-    let with_asm = with_explain.subcommand(asm(alloc)?)?;
-    let with_pack = with_asm.subcommand(pack(alloc)?)?;
-    let with_dis = with_pack.subcommand(dis(alloc)?)?;
-    with_dis.subcommand(native(alloc)?)
+    let with_run = joined(program(alloc), run(alloc));
+    let with_live = joined(with_run, live(alloc));
+    let with_draw = joined(with_live, draw(alloc));
+    let with_check = joined(with_draw, check(alloc));
+    let with_explain = joined(with_check, explain(alloc));
+    let with_asm = joined(with_explain, asm(alloc));
+    let with_pack = joined(with_asm, pack(alloc));
+    let with_dis = joined(with_pack, dis(alloc));
+    joined(with_dis, native(alloc))
 }

@@ -1,9 +1,7 @@
 -- What a call gives, and what it is answered.
-use Rattle.std.specs.Prelude.{◌≡◌, ◌≢◌, ◌⊎◌, ℕ, ◌<◌, ◌≤◌, Bool, true, List, [], ◌++◌, length, drop, Option, None, Some, string_bytes}
+use Rattle.std.specs.Prelude.{◌≡◌, ◌≢◌, ◌⊎◌, ℕ, ◌<◌, ◌≤◌, Bool, false, List, [], ◌++◌, length, drop, Option, None, Some, string_bytes}
 use Rattle.std.specs.Str.{bytes_eq, IsUtf8}
-use Rattle.ordered_images.specs.Blocks.{blocks_text}
-use Rattle.ordered_images.specs.declared.blocks.Blocks.{Blocks}
-use Rattle.ordered_images.specs.declared.blocks.Blocks.TheVariants.{Kept}
+use Rattle.tracer.specs.Hints.{has_hints}
 use Rattle.tracer.specs.Program.{IsDone, IsTold}
 use Rattle.page_calls.specs.declared.answer.Answer.{Answer}
 use Rattle.page_calls.specs.declared.misfit.Misfit.{Misfit}
@@ -13,19 +11,14 @@ use Rattle.page_calls.specs.declared.shelf.Written.{Written}
 use Rattle.page_calls.specs.Parts.{parts_of, AreParts, IsMisfit}
 use Rattle.page_calls.specs.Shelf.{content_with}
 
--- what is told where a command was carried out: nothing, or what is said of blocks, unless memory ran out while it was written
-abbrev pub IsToldOf : Blocks → Bool → List ℕ → Type 0
-IsToldOf Kept deaf told = told ≡ []
-IsToldOf blocks deaf told = (told ≡ blocks_text blocks) ⊎ (deaf ≡ true)
-
--- with status 0 the words ask for what was printed, nothing is told but of blocks, and the files are those that were given, with the
--- one that was written, if one was, in front of them; with every other status the words come to the fault that is told, and no file
--- has changed
+-- with status 0 the words ask for what was printed, nothing is told but hints, if the words ask for these, and the files are those
+-- that were given, with the one that was written, if one was, in front of them; with every other status the words come to the fault
+-- that is told, and no file has changed
 abbrev pub IsAnswer : List (List ℕ) → List (List ℕ) → List (List ℕ) → Answer → Type 0
 IsAnswer words names files a =
-    (a.status ≡ 0 → (blocks : Blocks) × (deaf : Bool)
-    × IsDone words (content_with None names files) (content_with a.written names files) (Some []) (Some (string_bytes a.printed)) blocks
-    × IsToldOf blocks deaf (string_bytes a.told))
+    (a.status ≡ 0
+    → IsDone words (content_with None names files) (content_with a.written names files) (Some []) (Some (string_bytes a.printed))
+    × (has_hints words ≡ false → string_bytes a.told ≡ []))
     × (a.status ≢ 0 → ((failed deaf : Bool)
     × IsTold words (content_with None names files) bytes_eq failed deaf (Some []) (Some (string_bytes a.told)) a.status)
     × (content_with a.written names files ≡ content_with None names files))

@@ -47,8 +47,8 @@ fault_is_cause words content one failed order (Verify rule slot) asked (inl faul
 fault_is_cause words content one failed order (Verify rule slot) asked (inr own) = absurd own
 fault_is_cause words content one failed order (Assemble rule line) asked (inl fault) = (order, asked, fault)
 fault_is_cause words content one failed order (Assemble rule line) asked (inr own) = absurd own
-fault_is_cause words content one failed order (Scenario line said) asked (inl fault) = (order, asked, fault)
-fault_is_cause words content one failed order (Scenario line said) asked (inr own) = absurd own
+fault_is_cause words content one failed order (Scenario line) asked (inl fault) = (order, asked, fault)
+fault_is_cause words content one failed order (Scenario line) asked (inr own) = absurd own
 fault_is_cause words content one failed order Memory asked fault = tt
 fault_is_cause words content one failed order InputOutput asked (inl fault) = (order, asked, fault)
 fault_is_cause words content one failed order InputOutput asked (inr own) = absurd own
@@ -60,7 +60,7 @@ own_input_of P Q (Header h) step own = absurd own
 own_input_of P Q (Decode rule slot) step own = absurd own
 own_input_of P Q (Verify rule slot) step own = absurd own
 own_input_of P Q (Assemble rule line) step own = absurd own
-own_input_of P Q (Scenario line said) step own = absurd own
+own_input_of P Q (Scenario line) step own = absurd own
 own_input_of P Q Memory step own = tt
 own_input_of P Q InputOutput step own = absurd own
 
@@ -80,7 +80,7 @@ cause_beside words content one failed stream (Header h) cause = cause
 cause_beside words content one failed stream (Decode rule slot) cause = cause
 cause_beside words content one failed stream (Verify rule slot) cause = cause
 cause_beside words content one failed stream (Assemble rule line) cause = cause
-cause_beside words content one failed stream (Scenario line said) cause = cause
+cause_beside words content one failed stream (Scenario line) cause = cause
 cause_beside words content one failed stream Memory cause = tt
 cause_beside words content one failed stream InputOutput (order, asked, inl is) = (order, asked, inl (first failed stream is))
 cause_beside words content one failed stream InputOutput (order, asked, inr why) = (order, asked, inr why)
@@ -133,7 +133,7 @@ reading_fault content failed path refused (Header h) kind why = why
 reading_fault content failed path refused (Decode rule slot) kind why = why
 reading_fault content failed path refused (Verify rule slot) kind why = why
 reading_fault content failed path refused (Assemble rule line) kind why = why
-reading_fault content failed path refused (Scenario line said) kind why = why
+reading_fault content failed path refused (Scenario line) kind why = why
 reading_fault content failed path refused Memory kind why = tt
 reading_fault content failed path refused InputOutput kind why = inr why
 

@@ -149,7 +149,7 @@ pub scenario_fault : (content : Content) (failed : Bool) (allowed : Allowed) (pa
     → ((known : List ℕ) → content path ≡ Some known → bytes ≡ known) → scenario.IsRefusal allowed bytes e → IsFaultOfScenario e f
     → FaultOf content failed path (IsUnloadable content allowed) f
 scenario_fault content failed allowed path bytes e fault.Memory read why is = tt
-scenario_fault content failed allowed path bytes (error.Line line) (fault.Scenario n words) read why is = λ known there.
+scenario_fault content failed allowed path bytes (error.Line line) (fault.Scenario n) read why is = λ known there.
     subst (λ (l : ℕ). scenario.IsRefusal allowed known (error.Line l)) (sym is)
     (subst (λ (b : List ℕ). scenario.IsRefusal allowed b (error.Line line)) (read known there) why)
 scenario_fault content failed allowed path bytes e (fault.Usage _) read why is = elim is [ ]
@@ -157,7 +157,7 @@ scenario_fault content failed allowed path bytes e (fault.Header _) read why is 
 scenario_fault content failed allowed path bytes e (fault.Decode _ _) read why is = elim is [ ]
 scenario_fault content failed allowed path bytes e (fault.Verify _ _) read why is = elim is [ ]
 scenario_fault content failed allowed path bytes e (fault.Assemble _ _) read why is = elim is [ ]
-scenario_fault content failed allowed path bytes error.Memory (fault.Scenario n words) read why is = elim is [ ]
+scenario_fault content failed allowed path bytes error.Memory (fault.Scenario n) read why is = elim is [ ]
 scenario_fault content failed allowed path bytes e fault.InputOutput read why is = elim is [ ]
 
 -- what is loaded, where the bytes of the scenario's file are known

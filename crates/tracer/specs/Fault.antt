@@ -27,11 +27,11 @@ status_of (Header fault) = 3
 status_of (Decode rule slot) = 3
 status_of (Verify rule slot) = 3
 status_of (Assemble rule line) = 3
-status_of (Scenario line words) = 4
+status_of (Scenario line) = 4
 status_of Memory = 5
 status_of InputOutput = 6
 
--- the text on standard error: one line, or the text on usage; of a scenario the line, and below it what is said of it in words
+-- the text on standard error: one line, or the text on usage
 abbrev pub fault_text : Fault → List ℕ
 fault_text (Usage usage) = string_bytes usage.text
 fault_text (Header fault) = codes "load refused " ++ decimal (header_fault_number fault) ++ codes "\n"
@@ -41,7 +41,7 @@ fault_text (Verify rule slot) =
     codes "verify refused V" ++ decimal (rules.rule_number rule) ++ codes " at slot " ++ decimal slot ++ codes "\n"
 fault_text (Assemble rule line) =
     codes "asm refused " ++ decimal (assembling.rule_number rule) ++ codes " at line " ++ decimal line ++ codes "\n"
-fault_text (Scenario line words) = codes "scenario refused at line " ++ decimal line ++ codes "\n" ++ string_bytes words
+fault_text (Scenario line) = codes "scenario refused at line " ++ decimal line ++ codes "\n"
 fault_text Memory = codes "memory\n"
 fault_text InputOutput = codes "input or output\n"
 
@@ -74,8 +74,8 @@ abbrev pub fault_of_text : AsmError → Fault
 fault_of_text text.Memory = Memory
 fault_of_text (text.Fault rule line) = Assemble rule line
 
--- a fault of a scenario: its first faulty line, 0 where it only lacks processes, whatever is said of it; or want of memory
+-- a fault of a scenario: its first faulty line, 0 where it only lacks processes; or want of memory
 abbrev pub IsFaultOfScenario : ScenarioError → Fault → Type 0
 IsFaultOfScenario e Memory = Unit {0}
-IsFaultOfScenario (scenario.Line line) (Scenario n words) = n ≡ line
+IsFaultOfScenario (scenario.Line line) (Scenario n) = n ≡ line
 IsFaultOfScenario e f = ⊥

@@ -14,7 +14,6 @@ use Rattle.scenario.specs.declared.scenario.Scenario.{Scenario}
 use Rattle.tracer.specs.Fault.{fault_of_image, status_of}
 use Rattle.tracer.specs.Files.{Content}
 use Rattle.tracer.specs.Program.{IsFault, IsShort, Sameness, Tells, WritesOver}
-use Rattle.tracer.specs.Said.{IsToldAs}
 use Rattle.tracer.specs.Loading.{AreLoaded, AreRefused}
 use Rattle.tracer.specs.declared.fault.Fault.{Fault}
 use Rattle.tracer.specs.declared.fault.Fault.TheVariants.{Usage, Memory, InputOutput}
@@ -71,13 +70,11 @@ HasFault (Ok done) text failed f = IsStreamFault text failed f
 HasFault (Err own) text failed f = (f ≡ own) ⊎ IsStreamFault text failed f
 
 -- its fault was told, with this status
-pub record IsEnd {T : Type 0} (ended : Result T Fault) (text : List ℕ) (failed deaf : Bool) (err err' : Option (List ℕ)) (status : ℕ)
+pub record IsEnd {T : Type 0} (ended : Result T Fault) (text : List ℕ) (hints failed deaf : Bool) (err err' : Option (List ℕ)) (status : ℕ)
     : Type 0 where
   pub fault : Fault
   pub has : HasFault ended text failed fault
-  pub words : List ℕ
-  pub said : IsToldAs fault words
-  pub told : Tells fault words deaf err err' status
+  pub told : Tells hints fault deaf err err' status
 
 -- it came to a fault of this status, and has a text, which was printed
 pub record IsHalf {T : Type 0} (ended : Result T Fault) (text : List ℕ) (deaf : Bool) (out out' : Option (List ℕ)) (status : ℕ)

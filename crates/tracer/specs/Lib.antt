@@ -5,6 +5,7 @@ pub mod Draw
 pub mod Explain
 pub mod Fault
 pub mod Files
+pub mod Hints
 pub mod Inside
 pub mod Judged
 pub mod Live
@@ -14,4 +15,3 @@ pub mod Pack
 pub mod Program
 pub mod Report
 pub mod Run
-pub mod Said

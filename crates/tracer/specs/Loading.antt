@@ -38,7 +38,7 @@ pub record AreRefused (content : Content) (processes : List (String Global × Pr
 -- why the bytes of a scenario's file can't be carried out: they are no text, or one that is refused at a line; or an image is refused.
 -- Want of memory says nothing
 abbrev pub IsUnloadable : Content → Allowed → List ℕ → Fault → Type 0
-IsUnloadable content allowed bytes (fault.Scenario line words) = scenario.IsRefusal allowed bytes (Line line)
+IsUnloadable content allowed bytes (fault.Scenario line) = scenario.IsRefusal allowed bytes (Line line)
 IsUnloadable content allowed bytes fault.InputOutput = ¬ IsUtf8 bytes
 IsUnloadable content allowed bytes fault.Memory = Unit {0}
 IsUnloadable content allowed bytes (fault.Usage usage) = ⊥

@@ -25,6 +25,6 @@ IsUnpacked code (Header fault) = (fault ≡ SlotCount) × ((length code ≡ 0) �
 IsUnpacked code Memory = Unit {0}
 IsUnpacked code InputOutput = ⊥
 IsUnpacked code (Assemble rule line) = ⊥
-IsUnpacked code (Scenario line words) = ⊥
+IsUnpacked code (Scenario line) = ⊥
 IsUnpacked code (Usage usage) = ⊥
 IsUnpacked code (Verify rule slot) = ⊥

@@ -1,13 +1,11 @@
 -- How the program ends: the words, the files that they name, and whether a file or a stream failed decide it.
-use Rattle.std.specs.Prelude.{◌≡◌, ◌≢◌, ◌⊎◌, ℕ, Bool, true, List, Option, Some, String, slice_get}
+use Rattle.std.specs.Prelude.{◌≡◌, ◌≢◌, ◌⊎◌, ◌++◌, ℕ, Bool, true, false, List, Option, Some, String, slice_get}
 use Rattle.std.specs.declared.alloc.Global.{Global}
 use Rattle.std.specs.Io.KnownBytes.{Appends}
 use Rattle.std.specs.String.{string_bytes}
 use Rattle.cli.specs.Asks.{AsksFor, IsRefusal, own_input_text, Order, Run, Live, Draw, Check, Explain, Asm, Pack, Dis, Native}
 use Rattle.cli.specs.declared.refusal.Refusal.TheVariants as refusal
-use Rattle.ordered_images.specs.Blocks.{blocks_text}
 use Rattle.ordered_images.specs.declared.blocks.Blocks.{Blocks}
-use Rattle.ordered_images.specs.declared.blocks.Blocks.TheVariants.{Kept}
 use Rattle.scenario.specs.Scenario.{IsScenario}
 use Rattle.scenario.specs.declared.order.Allowed.TheVariants.{All, Inputs}
 use Rattle.scenario.specs.declared.process.Process.{Process}
@@ -17,13 +15,13 @@ use Rattle.tracer.specs.Check.{IsUnaccepted}
 use Rattle.tracer.specs.Dis.{IsUnlisted}
 use Rattle.tracer.specs.Explain.{IsUnexplained}
 use Rattle.tracer.specs.Draw.{IsDrawn}
-use Rattle.tracer.specs.Fault.{status_of}
+use Rattle.tracer.specs.Fault.{fault_text, status_of}
 use Rattle.tracer.specs.Files.{Content}
+use Rattle.tracer.specs.Hints.{command_in, has_hints}
 use Rattle.tracer.specs.Native.{IsMachineCode}
 use Rattle.tracer.specs.Pack.{IsPacked, IsUnpacked}
 use Rattle.tracer.specs.Report.{IsReport, path_of}
 use Rattle.tracer.specs.Run.{IsCutText}
-use Rattle.tracer.specs.Said.{IsToldAs}
 use Rattle.tracer.specs.Loading.{IsUnloadable}
 use Rattle.tracer.specs.declared.fault.Fault.{Fault}
 use Rattle.tracer.specs.declared.fault.Fault.TheVariants.{Usage, Memory, InputOutput}
@@ -60,31 +58,18 @@ Leaves order content content' = content' ≡ content
 abbrev pub IsAnswer : Content → Order → List ℕ → Type 0
 IsAnswer content order text = (bytes : List ℕ) → content (path_of order) ≡ Some bytes → IsReport content order bytes text
 
--- the blocks of the file that `pack` writes of its code stand so; of no other order's is anything said
-abbrev pub IsNoted : Order → Blocks → Content → Content → Type 0
-IsNoted (Pack code image state form) blocks content content' =
-    IsWritten code image (λ bytes file. IsPacked bytes state form file blocks) content content'
-    × ((bytes : List ℕ) → content code ≡ Some bytes → (file : List ℕ) × IsPacked bytes state form file blocks)
-IsNoted order blocks content content' = blocks ≡ Kept
-
--- the words ask for an order that prints this text and leaves these files, with these blocks
-pub record IsAnswered (words : List (List ℕ)) (content content' : Content) (text : List ℕ) (blocks : Blocks) : Type 0 where
+-- the command's words ask for an order that prints this text and leaves these files
+pub record IsAnswered (words : List (List ℕ)) (content content' : Content) (text : List ℕ) : Type 0 where
   pub order : Order
   pub asked : AsksFor words order
   pub answer : IsAnswer content order text
   pub left : Leaves order content content'
-  pub noted : IsNoted order blocks content content'
 
--- the same, and the text was printed
-pub record IsDone (words : List (List ℕ)) (content content' : Content) (out out' : Option (List ℕ)) (blocks : Blocks) : Type 0 where
+-- those of the words do, and the text was printed
+pub record IsDone (words : List (List ℕ)) (content content' : Content) (out out' : Option (List ℕ)) : Type 0 where
   pub text : List ℕ
-  pub answered : IsAnswered words content content' text blocks
+  pub answered : IsAnswered (command_in words) content content' text
   pub printed : Appends out out' text
-
--- what is said of blocks stands behind what a stream held, unless it has failed; where nothing is said it is as it was
-abbrev pub IsSaid : {S : Type 0} → (S → Option (List ℕ)) → (S → Bool) → Blocks → S → S → Type 0
-IsSaid contents failed Kept s s' = s' ≡ s
-IsSaid contents failed blocks s s' = Appends (contents s) (contents s') (blocks_text blocks) ⊎ (failed s' ≡ true)
 
 -- ---- one that comes to a fault
 
@@ -126,7 +111,7 @@ WritesOver one content (Draw scenario picture only) = (one scenario picture ≡ 
     → (s : Scenario) × IsScenario All bytes s × (path : List ℕ) × IsImagePath s.processes.entries path × (one path picture ≡ true))
 WritesOver one content order = ⊥
 
--- the words come to the fault: they are refused, or ask for an order that comes to it or whose OUT may be a file that it reads
+-- the command's words come to the fault: they are refused, or ask for an order that comes to it or whose OUT may be a file that it reads
 abbrev pub IsCause : List (List ℕ) → Content → Sameness → Bool → Fault → Type 0
 IsCause words content one failed (Usage usage) = IsRefusal words (refusal.Usage usage)
     ⊎ ((string_bytes usage.text ≡ own_input_text) × (order : Order) × AsksFor words order × WritesOver one content order)
@@ -141,7 +126,7 @@ IsShort content order text = ⊥
 -- the words ask for such a run, and its text was printed
 pub record IsCutShort (words : List (List ℕ)) (content : Content) (out out' : Option (List ℕ)) : Type 0 where
   pub order : Order
-  pub asked : AsksFor words order
+  pub asked : AsksFor (command_in words) order
   pub text : List ℕ
   pub short : IsShort content order text
   pub printed : Appends out out' text
@@ -153,16 +138,19 @@ IsHalfPrinted words content failed deaf out out' status =
     (failed ≡ true) ⊎ (((status ≡ 5) ⊎ (deaf ≡ true)) × IsCutShort words content out out')
 
 -- the fault was told in this text, with its status; or the stream for faults has failed, and left a status of its own
-abbrev pub Tells : Fault → List ℕ → Bool → Option (List ℕ) → Option (List ℕ) → ℕ → Type 0
-Tells f text failed err err' status =
+abbrev pub TellsText : Fault → List ℕ → Bool → Option (List ℕ) → Option (List ℕ) → ℕ → Type 0
+TellsText f text failed err err' status =
     ((status ≡ status_of f) × Appends err err' text) ⊎ ((failed ≡ true) × ((status ≡ 5) ⊎ (status ≡ 6)))
+
+-- the same in its line alone, or if hints are asked for in that line and a text below it
+abbrev pub Tells : Bool → Fault → Bool → Option (List ℕ) → Option (List ℕ) → ℕ → Type 0
+Tells false f failed err err' status = TellsText f (fault_text f) failed err err' status
+Tells true f failed err err' status = (hints : List ℕ) × TellsText f (fault_text f ++ hints) failed err err' status
 
 -- the words come to a fault, which was told; `failed` says whether a file or the stream for reports has failed, `deaf` whether
 -- that for faults has
 pub record IsTold (words : List (List ℕ)) (content : Content) (one : Sameness) (failed deaf : Bool) (err err' : Option (List ℕ)) (status : ℕ)
     : Type 0 where
   pub fault : Fault
-  pub cause : IsCause words content one failed fault
-  pub text : List ℕ
-  pub said : IsToldAs fault text
-  pub told : Tells fault text deaf err err' status
+  pub cause : IsCause (command_in words) content one failed fault
+  pub told : Tells (has_hints words) fault deaf err err' status

@@ -12,12 +12,24 @@ use crate::loading::{Loaded, load_scenario};
 use crate::own_input::{spare, spare_images};
 use crate::site::Site;
 use diagram::{Run, draw};
-use runner::chronicle_of;
+use runner::{Moment, chronicle_of};
 use scenario::Allowed;
-use std::alloc::Global;
+use std::alloc::{AllocError, Global};
+
+/// The lines of the orders that were refused, as `run` prints them.
+fn refused_lines(alloc: Global, moments: &[Moment]) -> Result<String, AllocError> {
+    let mut lines = String::new(alloc);
+    for (line, refused) in moments {
+        if let Some(number) = refused {
+            let told = format!(in alloc; "line {line} refused {number}\n")?;
+            lines.push_str(told.as_str())?;
+        }
+    }
+    Ok(lines)
+}
 
 /// The picture of the run of a scenario, as the text of an SVG file, for a place that is that of none
-/// of its images: of all packets, or of messages alone.
+/// of its images: of all packets, or of messages alone. The site keeps which orders were refused.
 fn picture_of<F: Files>(
     alloc: Global,
     path: &str,
@@ -42,6 +54,7 @@ fn picture_of<F: Files>(
         shown: chronicle.shown.as_slice(),
     };
     let text = draw(alloc, &scenario.processes, &run, only_messages)?;
+    site.note = refused_lines(alloc, run.moments)?;
     Ok(text)
 }
 

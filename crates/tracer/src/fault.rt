@@ -1,14 +1,11 @@
 //! Why a command line was not carried out.
 
-ghost use Rattle.std.specs.Prelude.{◌≡◌, Some};
+ghost use Rattle.std.specs.Prelude.{◌≡◌, ◌++◌, Some};
 ghost use Rattle.tracer.specs.Fault.{fault_of_code, fault_of_failure, fault_of_image, fault_of_refusal, fault_of_text, fault_text, status_of};
-ghost use Rattle.tracer.specs.Program.{Tells};
-ghost use Rattle.tracer.specs.Said.{told_text};
+ghost use Rattle.tracer.specs.Program.{TellsText};
 ghost use Rattle.tracer.specs.declared.fault.Fault.TheVariants.{Memory};
 
 use crate::files::Failure;
-use crate::said::Told;
-use crate::site::Site;
 use crate::stream::Stream;
 use assemble::AsmError;
 use cli::{Refusal, Usage};
@@ -18,7 +15,7 @@ use std::fmt;
 use verifier::{HeaderFault, ImageError};
 
 /// Why a command line was not carried out. It prints as its line on standard error, or as the text
-/// on usage, with the line's end; what is said of the file stands below.
+/// on usage, with the line's end.
 #[derive(Debug, Drop)]
 pub enum Fault {
     /// The words ask for nothing, or for help.
@@ -31,9 +28,8 @@ pub enum Fault {
     Verify { rule: regtypes::Rule, slot: usize },
     /// This line of an assembler text, counted from 1, breaks a rule.
     Assemble { rule: assemble::Rule, line: usize },
-    /// This line of a scenario, counted from 1, is the first faulty one; line 0, where there is no process. What is
-    /// wrong with it stands below, on a line of its own.
-    Scenario { line: usize, words: String },
+    /// This line of a scenario, counted from 1, is the first faulty one; line 0, where there is no process.
+    Scenario { line: usize },
     Memory,
     /// A file or a stream could not be read or written.
     InputOutput,
@@ -56,7 +52,7 @@ impl Fault {
 
     /// Writes the fault to `err` and answers the exit status: of the fault, or of the failed write.
     pub fn tell<E: Stream>(&self, err: &mut E) -> u8
-        ensures { Tells self.now (fault_text self.now) (E.failed err.new) (E.contents err.old) (E.contents err.new) result }
+        ensures { TellsText self.now (fault_text self.now) (E.failed err.new) (E.contents err.old) (E.contents err.new) result }
     {
         match err.print(self) {
             Ok(()) => self.status(),
@@ -64,14 +60,30 @@ impl Fault {
         }
     }
 
-    /// The same of a fault that was found at a file, of which a line below says what is wrong.
-    pub fn tell_at<E: Stream>(&self, site: &Site, err: &mut E) -> u8
-        ensures { Tells self.now (told_text site.now self.now) (E.failed err.new) (E.contents err.old) (E.contents err.new) result }
+    /// The same with hints below the fault.
+    pub fn tell_with<E: Stream>(&self, hints: &str, err: &mut E) -> u8
+        ensures { TellsText self.now (fault_text self.now ++ hints.now) (E.failed err.new) (E.contents err.old) (E.contents err.new) result }
     {
-        match err.print(Told { fault: self, site }) {
+        match err.print(Told { fault: self, hints }) {
             Ok(()) => self.status(),
             Err(e) => Fault::from(e).status(),
         }
+    }
+}
+
+/// A fault with hints below it.
+#[derive(Clone, Copy, Debug)]
+struct Told<'a> {
+    fault: &'a Fault,
+    hints: &'a str,
+}
+
+impl fmt::Display for Told<'_> {
+    ghost output = { λ t. Some (fault_text t.fault.now ++ t.hints.now) };
+
+    fn fmt<W: fmt::Write>(&self, f: &mut fmt::Formatter<W>) -> fmt::Result {
+        let (fault, hints) = (self.fault, self.hints);
+        write!(f, "{fault}{hints}")
     }
 }
 
@@ -97,10 +109,7 @@ impl fmt::Display for Fault {
                 let number = rule.number();
                 writeln!(f, "asm refused {number} at line {line}")
             }
-            Fault::Scenario { line, words } => write!(
-                f,
-                "scenario refused at line {line}\n{words}"
-            ),
+            Fault::Scenario { line } => writeln!(f, "scenario refused at line {line}"),
             Fault::Memory => writeln!(f, "memory"),
             Fault::InputOutput => writeln!(f, "input or output"),
         }

@@ -1,8 +1,5 @@
 //! What a file looks like.
 
-ghost use Rattle.std.specs.Prelude.{◌≡◌};
-ghost use Rattle.tracer.specs.Said.{looks_like};
-
 /// What a file looks like by its first bytes, whatever follows them.
 #[derive(Clone, Copy, Debug, PartialEq, Eq)]
 pub enum Kind {
@@ -18,9 +15,7 @@ pub enum Kind {
 }
 
 /// What a file of these bytes looks like.
-pub fn kind_of(bytes: &[u8]) -> Kind
-    ensures { result ≡ looks_like bytes.now }
-{
+pub fn kind_of(bytes: &[u8]) -> Kind {
     if bytes.starts_with(b"SBI1") {
         Kind::Sbi1
     } else if bytes.starts_with(b"SBI2") {

@@ -2,8 +2,9 @@
 //!
 //! `sblog` carries out one command line and answers the exit status. Its promise: with status 0 the text on
 //! standard output is what the words ask for, by the files that they name, and nothing is on standard error; with
-//! every other status standard error has the fault that the words, or the bytes of the files, come to, standard
-//! output has nothing, and no file has changed. Of a run that memory ended, the lines of the orders that were refused
+//! every other status standard error has the line of the fault that the words, or the bytes of the files, come to,
+//! standard output has nothing, and no file has changed. If the word `--hints` stands before the command, standard
+//! error has hints for people, too, below that line. Of a run that memory ended, the lines of the orders that were refused
 //! until then are printed. `asm`, `pack`, `native` and `draw` write the file that their words name, which is none that they
 //! read, and no other one; no other command writes a file. A status for input or output comes only where a file or a
 //! stream has failed, or a text file is no text. Where a stream has failed, it may have a part of its text. What a
@@ -25,6 +26,7 @@ mod ending;
 mod explaining;
 mod fault;
 mod files;
+mod hints;
 mod judged;
 mod kind;
 mod living;

@@ -46,18 +46,27 @@ fn read<F: Files>(
     };
     match parse(alloc, text, allowed) {
         Ok(scenario) => Ok(scenario),
-        Err(error) => Err(refusal(alloc, text, allowed, error)),
+        Err(error) => Err(refusal(alloc, text, allowed, error, site)),
     }
 }
 
-/// Why a text is no scenario, with what is wrong with the line that is named.
-fn refusal(alloc: Global, text: &str, allowed: Allowed, error: ScenarioError) -> Fault
+/// Why a text is no scenario; the site keeps what is wrong with the line that is named.
+fn refusal(
+    alloc: Global,
+    text: &str,
+    allowed: Allowed,
+    error: ScenarioError,
+    site: &mut Site,
+) -> Fault
     ensures { IsFaultOfScenario error result }
 {
     match error {
         ScenarioError::Memory => Fault::Memory,
         ScenarioError::Line(line) => match said(alloc, text, line, allowed) {
-            Ok(words) => Fault::Scenario { line, words },
+            Ok(words) => {
+                site.words = words;
+                Fault::Scenario { line }
+            }
             Err(_) => Fault::Memory,
         },
     }

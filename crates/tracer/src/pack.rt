@@ -4,7 +4,7 @@ ghost use Rattle.std.specs.Prelude.{◌≡◌, ◌≤◌, ℕ, [], IfErr, IfOk, 
 ghost use Rattle.cli.specs.Asks.{Pack};
 ghost use Rattle.tracer.specs.Pack.{IsPacked, IsUnpacked};
 ghost use Rattle.tracer.specs.Inside.{IsNoUsage, IsWriteFault};
-ghost use Rattle.tracer.specs.Program.{IsAnswer, IsNoted, Leaves};
+ghost use Rattle.tracer.specs.Program.{IsAnswer, Leaves};
 
 use crate::fault::Fault;
 use crate::files::Files;
@@ -13,7 +13,7 @@ use crate::site::Site;
 use decode::decode;
 use images::FileForm;
 use limits::{SLOTS, STATE_BYTES};
-use ordered_images::{Blocks, Ordered, ordered_file};
+use ordered_images::{Ordered, ordered_file};
 use std::alloc::Global;
 use verifier::HeaderFault;
 
@@ -38,8 +38,8 @@ fn pack(alloc: Global, code: &[u8], state: u16, form: FileForm) -> Result<Ordere
     Ok(packed)
 }
 
-/// Writes the image file of this form of the code in a file, with a state of this length, and tells how its blocks
-/// stand.
+/// Writes the image file of this form of the code in a file, with a state of this length. The site keeps how its
+/// blocks stand.
 pub fn write_packed<F: Files>(
     alloc: Global,
     code: &str,
@@ -48,13 +48,10 @@ pub fn write_packed<F: Files>(
     form: FileForm,
     files: &mut F,
     site: &mut Site,
-    blocks: &mut Blocks,
 ) -> Result<(), Fault>
     requires { state ≤ STATE_BYTES }
     ensures report { OnOk result (IsAnswer (F.content files.old) (Pack code.now image.now state form) []) }
     ensures left { OnOk result (Leaves (Pack code.now image.now state form)
-        (F.content files.old) (F.content files.new)) }
-    ensures noted { OnOk result (IsNoted (Pack code.now image.now state form) blocks.new
         (F.content files.old) (F.content files.new)) }
     ensures fault { IfErr result (IsWriteFault F.may_be_one (F.content files.old) (F.failed files.new) (Pack code.now image.now state form)) }
     ensures kept { OnErr result (F.content files.new ≡ F.content files.old) }
@@ -62,7 +59,7 @@ pub fn write_packed<F: Files>(
     spare(alloc, code, image, files)?;
     let words = site.read(alloc, code, Some(CODE_LIMIT), files)?;
     let packed = pack(alloc, words.as_slice(), state, form)?;
+    site.note = packed.blocks.to_string(alloc)?;
     site.write(image, packed.bytes.as_slice(), files)?;
-    *blocks = packed.blocks;
     Ok(())
 }

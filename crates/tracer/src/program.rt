@@ -2,10 +2,9 @@
 
 ghost use Rattle.std.specs.Prelude.{◌≡◌, ◌≢◌, ◌≤◌, ◌⊎◌, ◌||◌, true, [], IfErr, OnErr, OnOk, map, string_bytes};
 ghost use Rattle.cli.specs.Asks.{Asm, IsInRange, Run, order_of};
-ghost use Rattle.ordered_images.specs.declared.blocks.Blocks.{Blocks};
-ghost use Rattle.ordered_images.specs.declared.blocks.Blocks.TheVariants.{Kept};
+ghost use Rattle.tracer.specs.Hints.{AreHints, has_hints};
 ghost use Rattle.tracer.specs.Inside.{EndsShort, IsWriteFault};
-ghost use Rattle.tracer.specs.Program.{IsAnswer, IsAnswered, IsCause, IsDone, IsFault, IsHalfPrinted, IsNoted, IsSaid, IsShort, IsTold, Leaves};
+ghost use Rattle.tracer.specs.Program.{IsAnswer, IsAnswered, IsCause, IsDone, IsFault, IsHalfPrinted, IsShort, IsTold, Leaves};
 ghost use Rattle.tracer.specs.declared.fault.Fault.TheVariants.{Memory};
 
 use crate::asm::{SOURCE_LIMIT, asm_at};
@@ -16,6 +15,7 @@ use crate::ending::print_or_tell;
 use crate::explaining::explain_image;
 use crate::fault::Fault;
 use crate::files::Files;
+use crate::hints::hints_in;
 use crate::living::live_scenario;
 use crate::loading::{Loaded, load_scenario};
 use crate::machine_code::write_machine_code;
@@ -26,7 +26,6 @@ use crate::stream::Stream;
 use cli::{Request, parse_words};
 use images::FileForm;
 use limits::STATE_BYTES;
-use ordered_images::Blocks;
 use runner::run;
 use scenario::Allowed;
 use std::alloc::Global;
@@ -86,15 +85,11 @@ fn answer_alone<F: Files>(
     files: &mut F,
     site: &mut Site,
     text: &mut String,
-    blocks: &mut Blocks,
 ) -> Result<(), Fault>
     requires range { IsInRange (order_of request) }
     requires empty { string_bytes text.old ≡ [] }
-    requires unsaid { blocks.old ≡ Kept }
     ensures report { OnOk result (IsAnswer (F.content files.old) (order_of request.entry) (string_bytes text.new)) }
     ensures left { OnOk result (Leaves (order_of request.entry)
-        (F.content files.old) (F.content files.new)) }
-    ensures noted { OnOk result (IsNoted (order_of request.entry) blocks.new
         (F.content files.old) (F.content files.new)) }
     ensures fault { IfErr result (IsWriteFault F.may_be_one (F.content files.old) (F.failed files.new) (order_of request.entry)) }
     ensures kept { OnErr result (F.content files.new ≡ F.content files.old) }
@@ -131,7 +126,7 @@ fn answer_alone<F: Files>(
             image,
             state,
             form,
-        } => write_packed(alloc, code, image, state, form, files, site, blocks),
+        } => write_packed(alloc, code, image, state, form, files, site),
         Request::Dis { image } => {
             *text = dis(alloc, image, files, site)?;
             Ok(())
@@ -148,15 +143,11 @@ fn answer<R: Threads + Wait + Sync, F: Files>(
     files: &mut F,
     site: &mut Site,
     text: &mut String,
-    blocks: &mut Blocks,
 ) -> Result<(), Fault>
     requires range { IsInRange (order_of request) }
     requires empty { string_bytes text.old ≡ [] }
-    requires unsaid { blocks.old ≡ Kept }
     ensures report { OnOk result (IsAnswer (F.content files.old) (order_of request.entry) (string_bytes text.new)) }
     ensures left { OnOk result (Leaves (order_of request.entry)
-        (F.content files.old) (F.content files.new)) }
-    ensures noted { OnOk result (IsNoted (order_of request.entry) blocks.new
         (F.content files.old) (F.content files.new)) }
     ensures fault { IfErr result (IsWriteFault F.may_be_one (F.content files.old) (F.failed files.new) (order_of request.entry)) }
     ensures kept { OnErr result (F.content files.new ≡ F.content files.old) }
@@ -170,7 +161,7 @@ fn answer<R: Threads + Wait + Sync, F: Files>(
             workers,
             budget,
         } => live_scenario(rt, alloc, scenario, workers, budget, files, site, text),
-        request => answer_alone(alloc, request, files, site, text, blocks),
+        request => answer_alone(alloc, request, files, site, text),
     }
 }
 
@@ -182,12 +173,10 @@ fn run_command_alone<S: AsStr, F: Files>(
     files: &mut F,
     site: &mut Site,
     text: &mut String,
-    blocks: &mut Blocks,
 ) -> Result<(), Fault>
     requires empty { string_bytes text.old ≡ [] }
-    requires unsaid { blocks.old ≡ Kept }
     ensures report { OnOk result (IsAnswered (map S.text words.now)
-        (F.content files.old) (F.content files.new) (string_bytes text.new) blocks.new) }
+        (F.content files.old) (F.content files.new) (string_bytes text.new)) }
     ensures fault { IfErr result (IsCause (map S.text words.now) (F.content files.old) F.may_be_one (F.failed files.new)) }
     ensures kept { OnErr result (F.content files.new ≡ F.content files.old) }
     ensures short { IfErr result (λ f. (string_bytes text.new ≡ [])
@@ -195,7 +184,7 @@ fn run_command_alone<S: AsStr, F: Files>(
     ensures either { (F.content files.new ≡ F.content files.old) ⊎ (string_bytes text.new ≡ []) }
 {
     let request = parse_words(alloc, words)?;
-    answer_alone(alloc, request, files, site, text, blocks)
+    answer_alone(alloc, request, files, site, text)
 }
 
 /// Carries out what the words ask for, and puts what is to be printed into an empty text.
@@ -206,12 +195,10 @@ fn run_command<R: Threads + Wait + Sync, S: AsStr, F: Files>(
     files: &mut F,
     site: &mut Site,
     text: &mut String,
-    blocks: &mut Blocks,
 ) -> Result<(), Fault>
     requires empty { string_bytes text.old ≡ [] }
-    requires unsaid { blocks.old ≡ Kept }
     ensures report { OnOk result (IsAnswered (map S.text words.now)
-        (F.content files.old) (F.content files.new) (string_bytes text.new) blocks.new) }
+        (F.content files.old) (F.content files.new) (string_bytes text.new)) }
     ensures fault { IfErr result (IsCause (map S.text words.now) (F.content files.old) F.may_be_one (F.failed files.new)) }
     ensures kept { OnErr result (F.content files.new ≡ F.content files.old) }
     ensures short { IfErr result (λ f. (string_bytes text.new ≡ [])
@@ -219,14 +206,15 @@ fn run_command<R: Threads + Wait + Sync, S: AsStr, F: Files>(
     ensures either { (F.content files.new ≡ F.content files.old) ⊎ (string_bytes text.new ≡ []) }
 {
     let request = parse_words(alloc, words)?;
-    answer(rt, alloc, request, files, site, text, blocks)
+    answer(rt, alloc, request, files, site, text)
 }
 
 /// Carries out one command line, given without the program's own name, and answers the exit status:
 /// 0; 2 for usage; 3 for an image or a text that is refused; 4 for a scenario that is; 5 for want of
 /// memory; 6 for input or output.
 ///
-/// A report goes to `out`, a fault to `err`, as whole lines: that of the fault, and below it what is said of it.
+/// A report goes to `out`, the line of a fault to `err`. With the word `--hints` before the command hints for people stand
+/// below that line, or alone there, if the command was carried out.
 pub fn sblog<R: Threads + Wait + Sync, S: AsStr, F: Files, O: Stream, E: Stream>(
     rt: &R,
     alloc: Global,
@@ -235,11 +223,12 @@ pub fn sblog<R: Threads + Wait + Sync, S: AsStr, F: Files, O: Stream, E: Stream>
     out: &mut O,
     err: &mut E,
 ) -> u8
-    // With status 0 the words ask for an order that was carried out, and its text was printed; and it was told how the blocks of
-    // the file that `pack` wrote stand, where not as they were given.
-    ensures done { result ≡ 0 → (blocks : Blocks) × IsDone (map S.text words.now) (F.content files.old) (F.content files.new)
-        (O.contents out.old) (O.contents out.new) blocks × IsSaid E.contents E.failed blocks err.old err.new }
-    // With every other status they come to a fault of this status, which was told; unless `err` has failed.
+    // With status 0 the words ask for an order that was carried out, and its text was printed; and nothing was told but hints,
+    // if the words ask for these.
+    ensures done { result ≡ 0 → IsDone (map S.text words.now) (F.content files.old) (F.content files.new)
+        (O.contents out.old) (O.contents out.new) × AreHints E.contents E.failed (has_hints (map S.text words.now)) err.old err.new }
+    // With every other status they come to a fault of this status, which was told, alone or with hints below it; unless `err`
+    // has failed.
     ensures told { result ≢ 0 → IsTold (map S.text words.now) (F.content files.old) F.may_be_one
         (F.failed files.new || O.failed out.new) (E.failed err.new) (E.contents err.old) (E.contents err.new) result }
     // Then no file has changed, and nothing was printed but of a run that memory ended; unless `out` has failed.
@@ -248,10 +237,10 @@ pub fn sblog<R: Threads + Wait + Sync, S: AsStr, F: Files, O: Stream, E: Stream>
         (O.failed out.new) (E.failed err.new) (O.contents out.old) (O.contents out.new) result }
     ensures status { (result ≡ 0) ⊎ ((2 ≤ result) × (result ≤ 6)) }
 {
-    let mut text = String::new(alloc);
-    let (mut site, mut blocks) = (Site::new(alloc), Blocks::Kept);
-    let ended = run_command(rt, alloc, words, files, &mut site, &mut text, &mut blocks);
-    print_or_tell(ended, text.as_str(), &site, blocks, out, err)
+    let (hints, command) = hints_in(words);
+    let (mut text, mut site) = (String::new(alloc), Site::new(alloc));
+    let ended = run_command(rt, alloc, command, files, &mut site, &mut text);
+    print_or_tell(alloc, ended, text.as_str(), hints, &site, out, err)
 }
 
 /// As [`sblog`], where no thread can be started: `live` ends for want of memory.
@@ -262,11 +251,12 @@ pub fn sblog_alone<S: AsStr, F: Files, O: Stream, E: Stream>(
     out: &mut O,
     err: &mut E,
 ) -> u8
-    // With status 0 the words ask for an order that was carried out, and its text was printed; and it was told how the blocks of
-    // the file that `pack` wrote stand, where not as they were given.
-    ensures done { result ≡ 0 → (blocks : Blocks) × IsDone (map S.text words.now) (F.content files.old) (F.content files.new)
-        (O.contents out.old) (O.contents out.new) blocks × IsSaid E.contents E.failed blocks err.old err.new }
-    // With every other status they come to a fault of this status, which was told; unless `err` has failed.
+    // With status 0 the words ask for an order that was carried out, and its text was printed; and nothing was told but hints,
+    // if the words ask for these.
+    ensures done { result ≡ 0 → IsDone (map S.text words.now) (F.content files.old) (F.content files.new)
+        (O.contents out.old) (O.contents out.new) × AreHints E.contents E.failed (has_hints (map S.text words.now)) err.old err.new }
+    // With every other status they come to a fault of this status, which was told, alone or with hints below it; unless `err`
+    // has failed.
     ensures told { result ≢ 0 → IsTold (map S.text words.now) (F.content files.old) F.may_be_one
         (F.failed files.new || O.failed out.new) (E.failed err.new) (E.contents err.old) (E.contents err.new) result }
     // Then no file has changed, and nothing was printed but of a run that memory ended; unless `out` has failed.
@@ -275,8 +265,8 @@ pub fn sblog_alone<S: AsStr, F: Files, O: Stream, E: Stream>(
         (O.failed out.new) (E.failed err.new) (O.contents out.old) (O.contents out.new) result }
     ensures status { (result ≡ 0) ⊎ ((2 ≤ result) × (result ≤ 6)) }
 {
-    let mut text = String::new(alloc);
-    let (mut site, mut blocks) = (Site::new(alloc), Blocks::Kept);
-    let ended = run_command_alone(alloc, words, files, &mut site, &mut text, &mut blocks);
-    print_or_tell(ended, text.as_str(), &site, blocks, out, err)
+    let (hints, command) = hints_in(words);
+    let (mut text, mut site) = (String::new(alloc), Site::new(alloc));
+    let ended = run_command_alone(alloc, command, files, &mut site, &mut text);
+    print_or_tell(alloc, ended, text.as_str(), hints, &site, out, err)
 }

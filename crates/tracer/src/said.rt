@@ -1,19 +1,15 @@
-//! What is said below the line of a fault: the file that it was found in, and what is wrong there.
-
-ghost use Rattle.std.specs.Prelude.{◌≡◌, Some};
-ghost use Rattle.tracer.specs.Said.{code_words, header_words, is_of_form, line_words, magic_words, reason_words, rule_words, text_words, told_text};
+//! Hints: what is said below the line of a fault, of the file that it was found in. They are for people, and no contract
+//! names them.
 
 use crate::fault::Fault;
 use crate::files::Reason;
 use crate::kind::Kind;
 use crate::site::Site;
-use std::fmt;
+use std::alloc::{AllocError, Global};
 use verifier::HeaderFault;
 
 /// What a file is that is taken for no image.
-fn magic_words(kind: Kind) -> &'static str
-    ensures { result.now ≡ magic_words kind }
-{
+fn magic_words(kind: Kind) -> &'static str {
     match kind {
         Kind::Object => "an object file, not an image (./sblog pack writes one of its code)",
         Kind::Sbi1 | Kind::Sbi2 | Kind::Sbi3 | Kind::Other => {
@@ -23,9 +19,7 @@ fn magic_words(kind: Kind) -> &'static str
 }
 
 /// What is wrong with an image's header, or with the length of its file.
-fn header_words(kind: Kind, fault: HeaderFault) -> &'static str
-    ensures { result.now ≡ header_words kind fault }
-{
+fn header_words(kind: Kind, fault: HeaderFault) -> &'static str {
     match fault {
         HeaderFault::TooShort => "fewer than the 8 bytes of a header",
         HeaderFault::Magic => magic_words(kind),
@@ -38,9 +32,7 @@ fn header_words(kind: Kind, fault: HeaderFault) -> &'static str
 }
 
 /// What is wrong with the bytes of a slot.
-fn code_words(rule: decode::Rule) -> &'static str
-    ensures { result.now ≡ code_words rule }
-{
+fn code_words(rule: decode::Rule) -> &'static str {
     match rule {
         decode::Rule::Length => "the code isn't whole slots, of 8 bytes each",
         decode::Rule::Opcode => "no instruction has this opcode",
@@ -54,9 +46,7 @@ fn code_words(rule: decode::Rule) -> &'static str
 
 /// Whether code that was written for another form may break the rule: it finds a register that its form sets, a place that it
 /// keeps, or a helper that it has.
-fn is_of_form(rule: regtypes::Rule) -> bool
-    ensures { result ≡ is_of_form rule }
-{
+fn is_of_form(rule: regtypes::Rule) -> bool {
     match rule {
         regtypes::Rule::V3 | regtypes::Rule::V5 | regtypes::Rule::V6 => true,
         regtypes::Rule::V8 | regtypes::Rule::V9 => true,
@@ -66,9 +56,7 @@ fn is_of_form(rule: regtypes::Rule) -> bool
 }
 
 /// Where the rule of the verifier that a slot breaks is told; and which form the image is of, where that may be why.
-fn rule_words(kind: Kind, rule: regtypes::Rule) -> &'static str
-    ensures { result.now ≡ rule_words kind rule }
-{
+fn rule_words(kind: Kind, rule: regtypes::Rule) -> &'static str {
     if !is_of_form(rule) {
         return "sblog explain shows why";
     }
@@ -84,9 +72,7 @@ fn rule_words(kind: Kind, rule: regtypes::Rule) -> &'static str
 }
 
 /// What is wrong with a line of an assembler text.
-fn line_words(rule: assemble::Rule) -> &'static str
-    ensures { result.now ≡ line_words rule }
-{
+fn line_words(rule: assemble::Rule) -> &'static str {
     match rule {
         assemble::Rule::Word => "no instruction has the line's first word",
         assemble::Rule::Shape => "the operands aren't those of the line's first word",
@@ -96,9 +82,7 @@ fn line_words(rule: assemble::Rule) -> &'static str
 }
 
 /// What a file is that is no text.
-fn text_words(kind: Kind) -> &'static str
-    ensures { result.now ≡ text_words kind }
-{
+fn text_words(kind: Kind) -> &'static str {
     match kind {
         Kind::Sbi1 | Kind::Sbi2 | Kind::Sbi3 => {
             "an image, not a text (sblog check verifies it, sblog dis prints its text)"
@@ -109,9 +93,7 @@ fn text_words(kind: Kind) -> &'static str
 }
 
 /// Why a file was not read or written; what was read and is no text has no such reason.
-fn reason_words(kind: Kind, reason: Option<Reason>) -> &'static str
-    ensures { result.now ≡ reason_words kind reason }
-{
+fn reason_words(kind: Kind, reason: Option<Reason>) -> &'static str {
     match reason {
         None => text_words(kind),
         Some(Reason::Missing) => "no such file or folder",
@@ -122,43 +104,25 @@ fn reason_words(kind: Kind, reason: Option<Reason>) -> &'static str
     }
 }
 
-/// A fault at a file. It prints as the fault does, and below it what is said of it, if that is anything.
-#[derive(Clone, Copy, Debug)]
-pub struct Told<'a> {
-    pub fault: &'a Fault,
-    pub site: &'a Site,
+/// The file and what is wrong with it, as lines of text; or nothing.
+fn lines_of(alloc: Global, fault: &Fault, site: &Site) -> Result<String, AllocError> {
+    let below = site.words.as_str();
+    let (words, below) = match fault {
+        Fault::Usage(_) | Fault::Memory => return Ok(String::new(alloc)),
+        Fault::Scenario { .. } => return String::from_str(alloc, below),
+        Fault::Header(header) => (header_words(site.kind, *header), below),
+        Fault::Decode { rule, .. } => (code_words(*rule), ""),
+        Fault::Verify { rule, .. } => (rule_words(site.kind, *rule), ""),
+        Fault::Assemble { rule, .. } => (line_words(*rule), below),
+        Fault::InputOutput => (reason_words(site.kind, site.reason), below),
+    };
+    format!(in alloc; "{site}: {words}\n{below}")
 }
 
-impl fmt::Display for Told<'_> {
-    ghost output = { λ t. Some (told_text t.site.now t.fault.now) };
-
-    fn fmt<W: fmt::Write>(&self, f: &mut fmt::Formatter<W>) -> fmt::Result {
-        let (fault, site) = (self.fault, self.site);
-        match fault {
-            Fault::Usage(_) | Fault::Scenario { .. } | Fault::Memory => write!(f, "{fault}"),
-            Fault::Header(header) => {
-                let words = header_words(site.kind, *header);
-                let below = site.words.as_str();
-                write!(f, "{fault}{site}: {words}\n{below}")
-            }
-            Fault::Decode { rule, .. } => {
-                let words = code_words(*rule);
-                writeln!(f, "{fault}{site}: {words}")
-            }
-            Fault::Verify { rule, .. } => {
-                let words = rule_words(site.kind, *rule);
-                writeln!(f, "{fault}{site}: {words}")
-            }
-            Fault::Assemble { rule, .. } => {
-                let words = line_words(*rule);
-                let below = site.words.as_str();
-                write!(f, "{fault}{site}: {words}\n{below}")
-            }
-            Fault::InputOutput => {
-                let words = reason_words(site.kind, site.reason);
-                let below = site.words.as_str();
-                write!(f, "{fault}{site}: {words}\n{below}")
-            }
-        }
+/// What is said of a fault at a file, as lines of text; nothing where memory runs out.
+pub fn said_of(alloc: Global, fault: &Fault, site: &Site) -> String {
+    match lines_of(alloc, fault, site) {
+        Ok(lines) => lines,
+        Err(_) => String::new(alloc),
     }
 }

@@ -2,7 +2,6 @@
 
 ghost use Rattle.std.specs.Prelude.{◌≡◌, ◌≢◌, ℕ, true, List, Some, IfErr, IfOk, OnErr, OnOk};
 ghost use Rattle.tracer.specs.Files.{up_to};
-ghost use Rattle.tracer.specs.Said.{place_text};
 ghost use Rattle.tracer.specs.declared.files.Failure.TheVariants.{Memory};
 
 use crate::files::{Failure, Files, Reason};
@@ -24,6 +23,8 @@ pub struct Site {
     /// What is wrong with the line of it that is named, or what it looks like in place of an image, as a line of text; or
     /// nothing.
     pub words: String,
+    /// What is said of an order that was carried out, as lines of text; or nothing.
+    pub note: String,
 }
 
 impl Site {
@@ -35,6 +36,7 @@ impl Site {
             reason: None,
             kind: Kind::Other,
             words: String::new(alloc),
+            note: String::new(alloc),
         }
     }
 
@@ -121,8 +123,6 @@ impl Site {
 }
 
 impl fmt::Display for Site {
-    ghost output = { λ s. Some (place_text s) };
-
     fn fmt<W: fmt::Write>(&self, f: &mut fmt::Formatter<W>) -> fmt::Result {
         let path = self.path.as_str();
         match &self.process {

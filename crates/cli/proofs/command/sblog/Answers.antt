@@ -1,20 +1,4 @@
-use Rattle.std.proofs.Common.{◌≡◌, ◌∙◌, ap, ap₂}
-use Rattle.std.proofs.lemmas.Result.{IfOk-weaker}
-use Rattle.clap.specs.Words.{App, app_of, with_subcommand}
-use Rattle.cli.specs.Program.{run_app, top_app}
 use Rattle.cli.proofs.command.sblog.Goals as goal
 
 pub returns : goal.returns
-returns c =
-    let run : app_of c.in_ok-with_run.with_run ≡ with_subcommand top_app run_app.top =
-    c.in_ok-with_run.ensures.shape c.in_ok-run.ensures.local ∙ ap₂ with_subcommand c.in_ok-program.ensures (ap (λ (a : App). a.top) c.in_ok-run.ensures.shape) in
-    let live = c.in_ok-with_live.ensures.shape c.in_ok-live.ensures.local ∙ ap₂ with_subcommand run (ap (λ (a : App). a.top) c.in_ok-live.ensures.shape) in
-    let draw = c.in_ok-with_draw.ensures.shape c.in_ok-draw.ensures.local ∙ ap₂ with_subcommand live (ap (λ (a : App). a.top) c.in_ok-draw.ensures.shape) in
-    let check = c.in_ok-with_check.ensures.shape c.in_ok-check.ensures.local ∙ ap₂ with_subcommand draw (ap (λ (a : App). a.top) c.in_ok-check.ensures.shape) in
-    let explain = c.in_ok-with_explain.ensures.shape c.in_ok-explain.ensures.local ∙ ap₂ with_subcommand check (ap (λ (a : App). a.top) c.in_ok-explain.ensures.shape) in
-    let asm = c.in_ok-with_asm.ensures.shape c.in_ok-asm.ensures.local ∙ ap₂ with_subcommand explain (ap (λ (a : App). a.top) c.in_ok-asm.ensures.shape) in
-    let pack = c.in_ok-with_pack.ensures.shape c.in_ok-pack.ensures.local ∙ ap₂ with_subcommand asm (ap (λ (a : App). a.top) c.in_ok-pack.ensures.shape) in
-    let dis = c.in_ok-with_dis.ensures.shape c.in_ok-dis.ensures.local ∙ ap₂ with_subcommand pack (ap (λ (a : App). a.top) c.in_ok-dis.ensures.shape) in
-    IfOk-weaker c.subcommand-9.result _ _
-    (λ m h. h.shape c.in_ok-native.ensures.local ∙ ap₂ with_subcommand dis (ap (λ (a : App). a.top) c.in_ok-native.ensures.shape))
-    c.subcommand-9.ensures
+returns c = c.joined.ensures _ _ c.native.ensures.local c.native.ensures.shape (c.joined-with_dis.ensures _ _ c.dis.ensures.local c.dis.ensures.shape (c.joined-with_pack.ensures _ _ c.pack.ensures.local c.pack.ensures.shape (c.joined-with_asm.ensures _ _ c.asm.ensures.local c.asm.ensures.shape (c.joined-with_explain.ensures _ _ c.explain.ensures.local c.explain.ensures.shape (c.joined-with_check.ensures _ _ c.check.ensures.local c.check.ensures.shape (c.joined-with_draw.ensures _ _ c.draw.ensures.local c.draw.ensures.shape (c.joined-with_live.ensures _ _ c.live.ensures.local c.live.ensures.shape (c.joined-with_run.ensures _ _ c.run.ensures.local c.run.ensures.shape c.program.ensures))))))))

@@ -1,25 +1,17 @@
-use Rattle.std.proofs.Common.{◌≡◌, ◌∙◌, ◌++◌, [], None, Some, ap, inl, inr, map, string_bytes, subst, sym}
+use Rattle.std.proofs.Common.{◌≡◌, ◌∙◌, Bool, true, false, [], None, Some, ap, map, string_bytes, subst, sym, true≢false}
 use Rattle.std.specs.Prelude.{◌||◌}
 use Rattle.std.specs.Str.{bytes_eq}
-use Rattle.ordered_images.specs.Blocks.{blocks_text}
-use Rattle.ordered_images.specs.declared.blocks.Blocks.{Blocks}
-use Rattle.ordered_images.specs.declared.blocks.Blocks.TheVariants.{Kept, Moved, Loops, Unknown}
-use Rattle.tracer.specs.Program.{IsDone, IsSaid, IsTold}
-use Rattle.page_calls.specs.Calls.{IsToldOf}
+use Rattle.tracer.specs.Hints.{AreHints, has_hints}
+use Rattle.tracer.specs.Program.{IsDone, IsTold}
 use Rattle.page_calls.specs.Shelf.{content_with}
 use Rattle.page_calls.specs.declared.sheet.Sheet.{Sheet}
 use Rattle.page_calls.proofs.calling.carry_out_in.Goals as goal
 
--- what was said of blocks on a sheet that was empty
-told_of : (blocks : Blocks) (s s' : Sheet) → string_bytes s.text ≡ [] → IsSaid (λ (x : Sheet). Some (string_bytes x.text)) (λ (x : Sheet). x.failed) blocks s s'
-    → IsToldOf blocks s'.failed (string_bytes s'.text)
-told_of Kept s s' empty same = ap (λ (x : Sheet). string_bytes x.text) same ∙ empty
-told_of Moved s s' empty (inl said) = inl (said ∙ ap (λ t. t ++ blocks_text Moved) empty)
-told_of Moved s s' empty (inr failed) = inr failed
-told_of (Loops from to) s s' empty (inl said) = inl (said ∙ ap (λ t. t ++ blocks_text (Loops from to)) empty)
-told_of (Loops from to) s s' empty (inr failed) = inr failed
-told_of Unknown s s' empty (inl said) = inl (said ∙ ap (λ t. t ++ blocks_text Unknown) empty)
-told_of Unknown s s' empty (inr failed) = inr failed
+-- a sheet that was empty is so without hints
+silent : (hints : Bool) (s s' : Sheet) → string_bytes s.text ≡ [] → AreHints (λ (x : Sheet). Some (string_bytes x.text)) (λ (x : Sheet). x.failed) hints s s'
+    → hints ≡ false → string_bytes s'.text ≡ []
+silent false s s' empty same none = ap (λ (x : Sheet). string_bytes x.text) same ∙ empty
+silent true s s' empty said none = absurd (true≢false none)
 
 pub returns-clause-answer : goal.returns-clause-answer
 returns-clause-answer g c =
@@ -35,15 +27,14 @@ returns-clause-answer g c =
     let same : content_with shelf.written (map string_bytes shelf.names.items) (map (λ v. v.items) shelf.files.items) ≡ content_with shelf.written names files =
     ap (λ ns. content_with shelf.written ns (map (λ v. v.items) shelf.files.items)) same_names ∙ ap (λ fs. content_with shelf.written names fs) same_files in (
       (λ zero. let done = c.sblog_alone-status.ensures.done zero in (
-        done.0,
-        err.failed,
-        subst (λ after. IsDone words before after (Some []) (Some (string_bytes out.text)) done.0) same
+        subst (λ after. IsDone words before after (Some []) (Some (string_bytes out.text))) same
             (subst (λ o. IsDone words before (content_with shelf.written (map string_bytes shelf.names.items) (map (λ v. v.items) shelf.files.items))
-            (Some o) (Some (string_bytes out.text)) done.0) c.new-out.ensures.empty
+            (Some o) (Some (string_bytes out.text))) c.new-out.ensures.empty
             (subst (λ ws. IsDone (map string_bytes ws) before (content_with shelf.written (map string_bytes shelf.names.items) (map (λ v. v.items) shelf.files.items))
-            (Some (string_bytes c.new-out.result.text)) (Some (string_bytes out.text)) done.0) c.as_slice.ensures.value
-            done.1)),
-        told_of done.0 c.new-err.result err c.new-err.ensures.empty done.2,
+            (Some (string_bytes c.new-out.result.text)) (Some (string_bytes out.text))) c.as_slice.ensures.value
+            done.0)),
+        silent (has_hints words) c.new-err.result err c.new-err.ensures.empty
+            (subst (λ ws. AreHints (λ (x : Sheet). Some (string_bytes x.text)) (λ (x : Sheet). x.failed) (has_hints (map string_bytes ws)) c.new-err.result err) c.as_slice.ensures.value done.1),
       )),
       (λ other. (
         (

@@ -34,21 +34,3 @@ returns-clause-left g c =
       );
       others = λ other differs. search rules;
     }
-
-pub returns-clause-noted : goal.returns-clause-noted
-returns-clause-noted g c =
-    let packed = c.in_ok-packed.packed in (
-      record {
-        apart = c.in_ok-spare.ensures.apart;
-        file = λ known before there here. (
-          packed.bytes.items,
-          c.in_ok-packed.ensures.written known (c.as_slice.ensures.value ∙ c.in_ok-words.ensures.bytes known there),
-          search rules,
-        );
-        others = λ other differs. search rules;
-      },
-      λ known there. (
-        packed.bytes.items,
-        c.in_ok-packed.ensures.written known (c.as_slice.ensures.value ∙ c.in_ok-words.ensures.bytes known there),
-      ),
-    )

@@ -2,7 +2,7 @@ use Rattle.std.proofs.Common.{ap, inl, subst, sym}
 use Rattle.std.proofs.lemmas.Result.{IfErr-weaker, on_ok_weaker}
 use Rattle.cli.specs.Asks.{order_of}
 use Rattle.tracer.specs.Inside.{IsWriteFault}
-use Rattle.tracer.specs.Program.{IsFault, IsNoted, Leaves}
+use Rattle.tracer.specs.Program.{IsFault, Leaves}
 use Rattle.tracer.proofs.program.answer_alone.Goals as goal
 
 pub returns-in-Asm-clause-left : goal.returns-in-Asm-clause-left
@@ -40,12 +40,6 @@ returns-in-Pack-clause-left g c =
     on_ok_weaker c.write_packed.result
     (λ left. subst (λ o. Leaves o (g.F.Files.content c.args.files.now) (g.F.Files.content c.write_packed.new.files)) (sym (ap order_of c.in-Pack.is)) left)
     c.write_packed.ensures.left
-
-pub returns-in-Pack-clause-noted : goal.returns-in-Pack-clause-noted
-returns-in-Pack-clause-noted g c =
-    on_ok_weaker c.write_packed.result
-    (λ noted. subst (λ o. IsNoted o c.write_packed.new.blocks (g.F.Files.content c.args.files.now) (g.F.Files.content c.write_packed.new.files)) (sym (ap order_of c.in-Pack.is)) noted)
-    c.write_packed.ensures.noted
 
 pub returns-in-Pack-clause-fault : goal.returns-in-Pack-clause-fault
 returns-in-Pack-clause-fault g c =
