@@ -85,7 +85,8 @@ int gateway_store_open(struct gateway_store *store, const char *folder, struct b
     bool is_open = does(store, "PRAGMA journal_mode = WAL") && set_synced(store, true) && does(store, TABLES) &&
                    read_blobs(store, "SELECT bytes FROM store", whole) &&
                    read_blobs(store, "SELECT bytes FROM changes ORDER BY id", changes) &&
-                   read_outputs(store, outputs) && prepares(store, "INSERT INTO changes(bytes) VALUES(?)", &store->append) &&
+                   read_outputs(store, outputs) && prepares(store, "BEGIN IMMEDIATE", &store->begin) && prepares(store, "COMMIT", &store->commit) &&
+                   prepares(store, "INSERT INTO changes(bytes) VALUES(?)", &store->append) &&
                    prepares(store, "INSERT INTO outputs VALUES(?, ?, ?, ?)", &store->hand_out) &&
                    prepares(store, "DELETE FROM outputs WHERE process = ? AND ssn <= ?", &store->forget);
     store->whole = whole->size;
@@ -128,8 +129,8 @@ static bool forgets(struct gateway_store *store, const struct outputs *outputs) 
 
 int gateway_store_append(struct gateway_store *store, const uint8_t *changes, size_t size, const struct outputs *outputs,
                          bool synced) {
-    bool is_stored = set_synced(store, synced) && does(store, "BEGIN IMMEDIATE") && appends(store, changes, size) &&
-                     hands_out(store, outputs) && forgets(store, outputs) && does(store, "COMMIT");
+    bool is_stored = set_synced(store, synced) && carries_out(store->begin) && appends(store, changes, size) &&
+                     hands_out(store, outputs) && forgets(store, outputs) && carries_out(store->commit);
     store->behind += size;
     return is_stored ? STATUS_DONE : failed(store);
 }
@@ -148,6 +149,8 @@ int gateway_store_replace(struct gateway_store *store, const uint8_t *whole, siz
 }
 
 void gateway_store_close(struct gateway_store *store) {
+    sqlite3_finalize(store->begin);
+    sqlite3_finalize(store->commit);
     sqlite3_finalize(store->append);
     sqlite3_finalize(store->hand_out);
     sqlite3_finalize(store->forget);

@@ -11,7 +11,7 @@
 struct gateway_store {
     const char *folder;
     struct sqlite3 *database;
-    struct sqlite3_stmt *append, *hand_out, *forget;
+    struct sqlite3_stmt *begin, *append, *hand_out, *forget, *commit;
     int64_t place;        /* of the last output */
     size_t whole, behind; /* bytes of the store, and of the changes behind it */
     int synced;           /* whether transactions wait for the disk: 1, 0, or -1 where that isn't set yet */

@@ -340,6 +340,10 @@ uint32_t sblog_session_saved(sblog_session *handle, uint8_t process, uint8_t *ou
 uint32_t sblog_session_shown(sblog_session *handle, size_t place, uint8_t *sender, uint32_t *ssn,
                              uint8_t *out, size_t out_len, size_t *size);
 uint32_t sblog_session_exact(sblog_session *handle, uint32_t *exact);
+/* How many sends and outputs its helpers refused a process's handler, by the code that the handler got: 1, to no other
+   process; 2, more than 8 of a call; 3, of more than 256 bytes. 0 for any other code or process, and of a closed handle.
+   A replay counts none again. */
+uint64_t sblog_session_refused(sblog_session *handle, uint8_t process, uint32_t code);
 uint32_t sblog_session_trace(sblog_session *handle, uint8_t *out, size_t out_len, size_t *size);
 
 /* How many places the journal has left; a call takes one, and where it starts a job, two. */

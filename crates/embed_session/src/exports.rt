@@ -256,6 +256,21 @@ pub extern "C" fn sblog_session_shown(
     code(reading::shown(alloc, handle, place, sender, ssn, out, size))
 }
 
+/// How many sends and outputs helpers answered with this code, and so did nothing for the handler of a process:
+/// 1 to no other process, 2 more than 8 of a call, 3 of more than 256 bytes. It is 0 for any other code or
+/// process, and of a closed handle. How many, no contract says.
+#[unsafe(no_mangle)]
+pub extern "C" fn sblog_session_refused(
+    alloc: Global,
+    handle: &mut SessionHandle,
+    process: u8,
+    code: u32,
+) -> u64
+    ensures { handle.new.session.value ≡ handle.old.session.value }
+{
+    reading::refused(alloc, handle, process, code)
+}
+
 /// Writes 1 where failures came one at a time, else 0.
 #[unsafe(no_mangle)]
 pub extern "C" fn sblog_session_exact(
