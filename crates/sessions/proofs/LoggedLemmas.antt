@@ -2,7 +2,7 @@
 use Rattle.std.proofs.Common.{◌≡◌, ◌≢◌, ℕ, ◌≤◌, ◌∙◌, Bool, true, false, length, refl, sym, arith}
 use Rattle.std.specs.Prelude.{Some, None}
 use Rattle.std.proofs.lemmas.Bool.Decides.{nat_tests}
-use Rattle.sender_log.specs.Queue.{is_logged, no_queue, payload_of}
+use Rattle.sender_log.specs.Queue.{is_logged, payload_of}
 use Rattle.sender_log.specs.Log.{TheLog, queue_of}
 use Rattle.world.specs.History.{nth}
 use Rattle.world.specs.Phases.{is_down}

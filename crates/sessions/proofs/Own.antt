@@ -14,8 +14,11 @@ use Rattle.world.specs.Refusals.{refusal_of, cause_of}
 use Rattle.world.specs.Useful.{may_call}
 use Rattle.machine.specs.Simulation.{TheMachine, Stands, Steps}
 use Rattle.machine.specs.Stepping.{Opened}
+use Rattle.machine.specs.Arrival.{IsJobOf}
+use Rattle.machine.specs.declared.arrival.Arrival.{Arrival}
+use Rattle.machine.specs.declared.arrival.Arrival.TheVariants.{Started, Duplicate, Early, Shown, ShownBefore, Numbered, Acknowledged, Stale, Unreachable}
 use Rattle.sessions.specs.Seats.{TheSeat}
-use Rattle.sessions.specs.Journal.{TheSession, entry, answered_more, Adds}
+use Rattle.sessions.specs.Journal.{TheSession, HandsOut, entry, answered_more, Adds}
 use Rattle.sessions.specs.Driving.{Starts}
 use Rattle.sessions.specs.Service.{seat_of, OwesAs, Returns}
 use Rattle.sessions.specs.Fields.{IsSession}
@@ -55,6 +58,18 @@ stays worker old m m' es entries call refusal room r view same kept is cause err
 pub starts : (m : TheMachine) (es : List Entry) (p : Option ℕ) (job : Option TheTask) → Opened m p job → Stands m (here m es) → Starts (service m es) p job
 starts m es p None o s = o
 starts m es p (Some task) o s = (o.0, o.1 (here m es) s)
+
+-- the job that an arrival hands out is open there
+pub handed : (m : TheMachine) (es : List Entry) (a : Arrival) → IsJobOf m a → Stands m (here m es) → HandsOut (service m es) a
+handed m es (Started task) job s = job (here m es) s
+handed m es (Duplicate key) job s = tt
+handed m es Early job s = tt
+handed m es (Shown ssn) job s = tt
+handed m es ShownBefore job s = tt
+handed m es (Numbered key) job s = tt
+handed m es Acknowledged job s = tt
+handed m es Stale job s = tt
+handed m es Unreachable job s = tt
 
 -- what a call owes of a process that comes back
 pub returns : (worker : ℕ) (old new : TheSession) (call : Call) (a : Answer) → new ≡ record old { entries = old.entries ++ entry worker call a ∷ [] } → Returns old new call a

@@ -5,9 +5,11 @@ use Rattle.machine.specs.Task.{TheTask}
 use Rattle.world.specs.declared.call.Call.{Call}
 use Rattle.world.specs.declared.answer.Answer.{Answer}
 use Rattle.world.specs.declared.refusal.Refusal.{Refusal}
+use Rattle.machine.specs.declared.arrival.Arrival.{Arrival}
+use Rattle.machine.specs.declared.arrival.Arrival.TheVariants.{Started, Duplicate, Early, Shown, ShownBefore, Numbered, Acknowledged, Stale, Unreachable}
 use Rattle.machine.specs.declared.arrival.Finished.{Finished}
 use Rattle.sessions.specs.Seats.{TheSeat}
-use Rattle.sessions.specs.Journal.{TheSession, Adds, Takes, answered_more, entry}
+use Rattle.sessions.specs.Journal.{TheSession, Adds, HandsOut, Takes, answered_more, entry}
 use Rattle.sessions.specs.Driving.{Advances, Driven}
 use Rattle.sessions.specs.Service.{seat_of, OwesAs}
 
@@ -24,6 +26,18 @@ accepts seats old new by by' call a adds seat = (adds.0, ap (with_seats seats) a
 pub refuses : (seats : List (Option TheSeat)) (old new : TheSession) (by : TheSeat) (worker : ℕ) (call : Call) (r : Refusal) → OwesAs worker old new call (Err r)
     → Adds (with_seats seats old) (with_seats seats new) by by call (Err r)
 refuses seats old new by worker call r adds = (ap (with_seats seats) adds.0, refl, adds.2)
+
+-- an arrival hands out what it does of the service
+pub hands : (seats : List (Option TheSeat)) (s : TheSession) (a : Arrival) → HandsOut s a → HandsOut (with_seats seats s) a
+hands seats s (Started task) job = job
+hands seats s (Duplicate key) job = tt
+hands seats s Early job = tt
+hands seats s (Shown ssn) job = tt
+hands seats s ShownBefore job = tt
+hands seats s (Numbered key) job = tt
+hands seats s Acknowledged job = tt
+hands seats s Stale job = tt
+hands seats s Unreachable job = tt
 
 -- a result that is taken in, and one that isn't
 pub takes : (seats : List (Option TheSeat)) (old new : TheSession) (by by' : TheSeat) (task : TheTask) (f : Finished) → Takes old new (seat_of by.worker old) (seat_of by.worker new) task (Ok f)

@@ -9,13 +9,16 @@
 //!
 //! ```text
 //! let mut service = Service::open(alloc, images)?;
-//! let reply = service.call(&Call::Input { to: 1, feed: 1, payload })?;
-//! let reply = service.call(&Call::Transmit { from: 0, to: 1, ssn: 1 })?;
-//! if let Some(job) = service.call(&Call::Arrive { key: 0 })?.job {
+//! let ssn = service.input(&Feed { number: 1, dst: 1, payload })?;
+//! let key = service.transmit(0, 1, ssn)?;
+//! if let Arrival::Started(job) = service.arrive(key)? {
 //!     let committed = service.finish(Service::run(job))?;
 //! }
 //! let accepted = service.drive(65_536)?;
 //! ```
+//!
+//! Each call has a method of its name, with an answer of its own. `call` takes any of them as the
+//! journal keeps it.
 //!
 //! A [`Session`] is a service that many threads call. A call is made by a [`Seat`], whose worker the
 //! entry bears and which counts it. The seats hold the parts of a ledger whose book, beside the
@@ -25,21 +28,26 @@
 //! ```text
 //! let mut session = Session::<L>::open(alloc, blank, images)?;
 //! let mut seat = session.sit(0)?;
-//! let reply = session.call(&mut seat, &Call::Input { to: 1, feed: 1, payload })?;
+//! let ssn = session.input(&mut seat, &Feed { number: 1, dst: 1, payload })?;
 //! let accepted = session.drive(&mut seat, 65_536)?;
+//! let incarnation = session.crash(&mut seat, 1)?;
 //! ```
 #![tactic(auto)]
 
 mod driving;
 mod journal;
+mod named_call;
 mod reading;
 mod seat;
+mod seat_call;
 mod service;
 mod session;
 mod share;
 mod slip;
+mod start;
+mod view;
 
-pub use machine::{Done, Finished, Job, Reply};
+pub use machine::{Arrival, Done, Finished, Job, Reply};
 pub use seat::Seat;
 pub use service::Service;
 pub use session::Session;

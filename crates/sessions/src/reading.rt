@@ -1,4 +1,4 @@
-//! What is read of a session.
+//! What is read of a session of one caller.
 
 ghost use Rattle.std.specs.Prelude.{◌≡◌, ◌≤◌, [], true, false, drop, length};
 ghost use Rattle.world.specs.Phases.{name_of, is_down};
@@ -78,14 +78,23 @@ impl Service {
         self.machine.phase(p)
     }
 
-    /// The outputs that the outside was shown, in order, without the first `since`: each once, and
-    /// none that its sender doesn't send, where failures came one at a time.
+    /// The outputs that the outside was shown, in order: each once, and none that its sender doesn't
+    /// send, where failures came one at a time.
+    pub fn shown(&self) -> &[Message]
+        ensures value { result.now ≡ (world_at self.now).shown }
+        ensures no_orphan { IsExact self.now → NoOrphan (world_at self.now) }
+        ensures output_once { IsExact self.now → ShownBegin (world_at self.now) }
+    {
+        self.machine.shown()
+    }
+
+    /// Those that were shown, without the first `since`.
     pub fn shown_since(&self, since: usize) -> &[Message]
         ensures value { result.now ≡ drop since (world_at self.now).shown }
         ensures no_orphan { IsExact self.now → NoOrphan (world_at self.now) }
         ensures output_once { IsExact self.now → ShownBegin (world_at self.now) }
     {
-        let shown = self.machine.shown();
+        let shown = self.shown();
         &shown[since.min(shown.len())..]
     }
 

@@ -6,7 +6,6 @@ ghost use Rattle.world.specs.Useful.{may_call};
 ghost use Rattle.machine.specs.Simulation.{answering};
 ghost use Rattle.machine.specs.Stepping.{TakesNoResult, answer_in};
 ghost use Rattle.machine.specs.Picking.{IsPick, IsMove};
-ghost use Rattle.world.specs.declared.call.Call.TheVariants as call;
 ghost use Rattle.sessions.specs.Driving.{Driven, IsQuiet, Makes, StartsJob};
 ghost use Rattle.sessions.specs.Seats.{AreSeats, IsWhole, answered_by, new_seats, seat_at};
 ghost use Rattle.sessions.specs.Service.{Returns, alone};
@@ -23,14 +22,14 @@ use std::alloc::{AllocError, Global};
 use std::marker::Model;
 use std::sync::Arc;
 use std::sync::ledger::{Blank, Book, Ledger, Share as Part};
-use world::{Answer, Call, Feed, Refusal};
+use world::{Call, Refusal};
 
 /// A service that many may call, the book that counts their accepted calls, and the seats that
 /// nobody took. `L` names the session's ledger, which has a part for each seat.
 #[derive(Drop)]
 pub struct Session<L: Ledger> {
-    service: Service,
-    book: Book<L>,
+    pub(crate) service: Service,
+    pub(crate) book: Book<L>,
     seats: Vec<Option<Seat<L>>>,
 }
 
@@ -129,7 +128,7 @@ impl<L: Ledger> Session<L> {
         let _entries = self.service.journal();
     }
 
-    /// What the callers share: all that can be read of the session is read there.
+    /// What the callers share.
     pub fn service(&self) -> &Service
         ensures { result.now ≡ alone self.now }
     {
@@ -149,7 +148,7 @@ impl<L: Ledger> Session<L> {
         self.service.pick()
     }
 
-    /// Makes a call, as a [`Service`] does.
+    /// Makes a call, as a [`Service`] does: any of those that have a method of their own.
     pub fn call(&mut self, by: &mut Seat<L>, call: &Call) -> Result<Reply, Refusal>
         requires result { TakesNoResult call.now }
         requires may { may_call (world_at self.old) by.old.worker call.now ≡ true }
@@ -161,20 +160,6 @@ impl<L: Ledger> Session<L> {
         let reply = self.service.call_of(by.worker(), call)?;
         by.answer(&mut self.book, 1);
         Ok(reply)
-    }
-
-    /// Logs a message of the outside for a process. Any seat may call it.
-    pub fn input(&mut self, by: &mut Seat<L>, feed: &Feed) -> Result<Answer, Refusal>
-        ensures adds { Adds self.old self.new by.old by.new (call.Input feed.now.dst feed.now.number feed.now.payload) result }
-        ensures worker { by.new.worker ≡ by.old.worker }
-    {
-        let call = Call::Input {
-            to: feed.dst,
-            feed: feed.number,
-            payload: feed.payload,
-        };
-        let reply = self.call(by, &call)?;
-        Ok(reply.answer)
     }
 
     /// Makes a call that was picked, and answers the job that it starts. It refuses want of memory

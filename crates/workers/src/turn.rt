@@ -60,7 +60,7 @@ pub(crate) fn take_turn<L: Ledger>(
 {
     take_feed(session, seat, feed, doubled)?;
     let Some(call) = session.pick() else {
-        return Ok(if session.service().open_jobs() == 0 {
+        return Ok(if session.open_jobs() == 0 {
             Turn::Quiet
         } else {
             Turn::Waiting

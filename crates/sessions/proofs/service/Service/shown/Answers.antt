@@ -4,7 +4,7 @@ use Rattle.theorems.specs.Orphans.{NoOrphan, ShownBegin}
 use Rattle.theorems.proofs.HandlerLemmas.{single-of}
 use Rattle.theorems.proofs.OrphanLemmas.{no-orphan, output-once}
 use Rattle.sessions.specs.Journal.{TheSession, IsExact, world_at}
-use Rattle.sessions.proofs.service.Service.shown_since.Goals as goal
+use Rattle.sessions.proofs.service.Service.shown.Goals as goal
 
 pub returns-clause-no_orphan : goal.returns-clause-no_orphan
 returns-clause-no_orphan c =

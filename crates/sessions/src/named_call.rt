@@ -1,0 +1,198 @@
+//! The calls of a session of one caller, by their names. What each refuses, and in which order,
+//! docs/FORMATS.md says ("Refusals of a session").
+
+ghost use Rattle.std.specs.Prelude.{◌≡◌, IfOk};
+ghost use Rattle.machine.specs.Arrival.{IsJobFor, answer_of};
+ghost use Rattle.machine.specs.Simulation.{answering};
+ghost use Rattle.sessions.specs.Journal.{HandsOut, IsOpenAt, ReturnsTo, world_at};
+ghost use Rattle.sessions.specs.Service.{Owes};
+
+use crate::service::Service;
+use machine::{Arrival, Job};
+use world::{Answer, Call, Feed, Refusal};
+
+impl Service {
+    /// Logs a message of the outside for a process, and answers its SSN. A feed number is taken once.
+    ///
+    /// ```text
+    /// let ssn = service.input(&Feed { number: 1, dst: 1, payload })?;
+    /// ```
+    pub fn input(&mut self, feed: &Feed) -> Result<u32, Refusal>
+        ensures { Owes self.old self.new (Call.Input feed.now.dst feed.now.number feed.now.payload) (answering Answer.Logged result) }
+    {
+        let reply = self.call(&Call::Input {
+            to: feed.dst,
+            feed: feed.number,
+            payload: feed.payload,
+        })?;
+        let Answer::Logged(ssn) = reply.answer else {
+            unreachable!()
+        };
+        Ok(ssn)
+    }
+
+    /// Puts a logged and released message on the wire, and answers the key of its packet. 0 is the
+    /// outside.
+    ///
+    /// ```text
+    /// let key = service.transmit(0, 1, 1)?;
+    /// ```
+    pub fn transmit(&mut self, from: u8, to: u8, ssn: u32) -> Result<usize, Refusal>
+        ensures { Owes self.old self.new (Call.Transmit from to ssn) (answering Answer.Placed result) }
+    {
+        let reply = self.call(&Call::Transmit { from, to, ssn })?;
+        let Answer::Placed(key) = reply.answer else {
+            unreachable!()
+        };
+        Ok(key)
+    }
+
+    /// Puts a packet on the wire a second time, and answers the key of the copy.
+    ///
+    /// ```text
+    /// let copy = service.copy(key)?;
+    /// ```
+    pub fn copy(&mut self, key: usize) -> Result<usize, Refusal>
+        ensures { Owes self.old self.new (Call.Copy key) (answering Answer.Placed result) }
+    {
+        let reply = self.call(&Call::Copy { key })?;
+        let Answer::Placed(copy) = reply.answer else {
+            unreachable!()
+        };
+        Ok(copy)
+    }
+
+    /// Takes a packet from the wire, which reaches nobody.
+    ///
+    /// ```text
+    /// service.lose(copy)?;
+    /// ```
+    pub fn lose(&mut self, key: usize) -> Result<(), Refusal>
+        ensures { Owes self.old self.new (Call.Lose key) (answering (λ _. Answer.Lost) result) }
+    {
+        self.call(&Call::Lose { key })?;
+        Ok(())
+    }
+
+    /// Takes a packet from the wire to whom it is for, and answers what it did there. A message that
+    /// is the next of its sender starts a job at a process.
+    ///
+    /// ```text
+    /// if let Arrival::Started(job) = service.arrive(key)? {
+    ///     let committed = service.finish(Service::run(job))?;
+    /// }
+    /// ```
+    pub fn arrive(&mut self, key: usize) -> Result<Arrival, Refusal>
+        ensures adds { Owes self.old self.new (Call.Arrive key) (answering answer_of result) }
+        ensures job { IfOk result (HandsOut self.new) }
+        ensures target { IfOk result (IsJobFor ((world_at self.old).wire key)) }
+    {
+        self.arrive_of(0, key)
+    }
+
+    /// Saves a process, and answers how many messages its checkpoint covers.
+    ///
+    /// ```text
+    /// let covered = service.checkpoint(1)?;
+    /// ```
+    pub fn checkpoint(&mut self, p: u8) -> Result<u32, Refusal>
+        ensures { Owes self.old self.new (Call.Checkpoint p) (answering Answer.Saved result) }
+    {
+        let reply = self.call(&Call::Checkpoint { process: p })?;
+        let Answer::Saved(length) = reply.answer else {
+            unreachable!()
+        };
+        Ok(length)
+    }
+
+    /// Each sender that is up drops its messages to this one that its checkpoint covers, or for the
+    /// outside (0) those that were shown. Answers how many.
+    ///
+    /// ```text
+    /// let dropped = service.trim(1)?;
+    /// ```
+    pub fn trim(&mut self, to: u8) -> Result<u32, Refusal>
+        ensures { Owes self.old self.new (Call.Trim to) (answering Answer.Trimmed result) }
+    {
+        let reply = self.call(&Call::Trim { to })?;
+        let Answer::Trimmed(count) = reply.answer else {
+            unreachable!()
+        };
+        Ok(count)
+    }
+
+    /// A process loses all but its checkpoint, and answers its new incarnation.
+    ///
+    /// ```text
+    /// let incarnation = service.crash(1)?;
+    /// ```
+    pub fn crash(&mut self, p: u8) -> Result<u32, Refusal>
+        ensures { Owes self.old self.new (Call.Crash p) (answering Answer.Crashed result) }
+    {
+        let reply = self.call(&Call::Crash { process: p })?;
+        let Answer::Crashed(incarnation) = reply.answer else {
+            unreachable!()
+        };
+        Ok(incarnation)
+    }
+
+    /// A process comes back, and answers how many messages it keeps. Every other one has to be up.
+    ///
+    /// ```text
+    /// let kept = service.recover(1)?;
+    /// ```
+    pub fn recover(&mut self, p: u8) -> Result<u32, Refusal>
+        ensures adds { Owes self.old self.new (Call.Recover p) (answering Answer.Kept result) }
+        ensures exactly { IfOk result (ReturnsTo self.old self.new p) }
+    {
+        let reply = self.call(&Call::Recover { process: p })?;
+        let Answer::Kept(kept) = reply.answer else {
+            unreachable!()
+        };
+        Ok(kept)
+    }
+
+    /// As `recover`, whatever the other processes do. Failures don't come one at a time then.
+    ///
+    /// ```text
+    /// let kept = service.recover_alone(1)?;
+    /// ```
+    pub fn recover_alone(&mut self, p: u8) -> Result<u32, Refusal>
+        ensures { Owes self.old self.new (Call.RecoverAlone p) (answering Answer.Kept result) }
+    {
+        let reply = self.call(&Call::RecoverAlone { process: p })?;
+        let Answer::Kept(kept) = reply.answer else {
+            unreachable!()
+        };
+        Ok(kept)
+    }
+
+    /// Starts the next job of a process that is replayed.
+    ///
+    /// ```text
+    /// let job = service.replay_begin(1)?;
+    /// ```
+    pub fn replay_begin(&mut self, p: u8) -> Result<Job, Refusal>
+        ensures adds { Owes self.old self.new (Call.ReplayBegin p) (answering (λ job. Answer.Started job.serial) result) }
+        ensures job { IfOk result (IsOpenAt self.new) }
+        ensures target { IfOk result (λ job. job.who.me ≡ p) }
+    {
+        self.replay_begin_of(0, p)
+    }
+
+    /// Gives the messages that a process sent to a peer the numbers under which the peer received
+    /// them, and answers how many got one.
+    ///
+    /// ```text
+    /// let restored = service.resync(1, 2)?;
+    /// ```
+    pub fn resync(&mut self, p: u8, peer: u8) -> Result<u32, Refusal>
+        ensures { Owes self.old self.new (Call.Resync p peer) (answering Answer.Restored result) }
+    {
+        let reply = self.call(&Call::Resync { process: p, peer })?;
+        let Answer::Restored(count) = reply.answer else {
+            unreachable!()
+        };
+        Ok(count)
+    }
+}
