@@ -9,7 +9,7 @@ use crate::shared::Shared;
 use crate::turn::Turn;
 use crate::turnstile::Turnstile;
 use crossbeam_channel::Receiver;
-use sessions::{End, Job, Seat, Share};
+use sessions::{End, Job, Seat, Service, Share};
 use std::sync::ledger::Ledger;
 use std::sync::{Mutex, Wait};
 use std::{hint, thread};
@@ -144,7 +144,8 @@ fn carry_out<L: Ledger, S: Shared<L>, R: Wait, G: Turnstile>(
     ensures most { seat.new.answered ≤ seat.old.answered + 1 }
 {
     let serial = job.task().serial();
-    let done = turnstile.run(job);
+    turnstile.between(serial);
+    let done = Service::run(job);
     session.lock(rt).take_result(seat, done)?;
     turnstile.committed(serial);
     Ok(())
