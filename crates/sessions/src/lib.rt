@@ -38,6 +38,7 @@ mod driving;
 mod journal;
 mod named_call;
 mod reading;
+mod refused;
 mod seat;
 mod seat_call;
 mod service;

@@ -13,7 +13,7 @@ ghost use Rattle.sessions.specs.Logged.{logged};
 
 use crate::service::Service;
 use crate::slip::Slip;
-use helpers::Payload;
+use helpers::{Payload, Refused};
 use limits::{ENTRIES, PROCESSES};
 use world::{Message, PhaseName};
 
@@ -125,5 +125,12 @@ impl Service {
         ensures { result ≡ is_exact self.now }
     {
         self.exact
+    }
+
+    /// How many sends and outputs the handler of a process was refused by its helpers, by cause, in
+    /// the calls whose messages it received. A replay makes the same calls again and isn't counted.
+    /// No contract speaks of it: it is only tested.
+    pub fn refused(&self, process: u8) -> Refused {
+        self.refused.of(process)
     }
 }

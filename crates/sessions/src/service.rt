@@ -10,6 +10,7 @@ ghost use Rattle.sessions.specs.Driving.{StartsJob};
 ghost use Rattle.sessions.specs.Service.{OpensAlone, Owes, OwesAs, Returns, own_seat, seat_of};
 
 use crate::journal::Journal;
+use crate::refused::RefusedEffects;
 use crate::slip::Brief;
 use handlers::Handler;
 use limits::ENTRIES;
@@ -26,6 +27,7 @@ pub struct Service {
     pub(crate) machine: Machine,
     pub(crate) journal: Journal,
     pub(crate) exact: bool,
+    pub(crate) refused: RefusedEffects,
 }
 
 impl Model for Service {
@@ -53,6 +55,7 @@ impl Service {
             machine,
             journal,
             exact: true,
+            refused: RefusedEffects::new(),
         })
     }
 
@@ -124,8 +127,10 @@ impl Service {
             return Err((Refusal::StaleJob, done));
         }
         let process = Machine::receiver_of(&done);
+        let refused = done.effects().refused();
         // (machine/src/jobs.rt)
         let finished = self.machine.finish(done)?;
+        self.refused.count(process, finished, refused);
         let call = Brief::Finish { process };
         self.journal.append(worker, call, finished.answer());
         Ok(finished)

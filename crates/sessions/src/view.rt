@@ -11,6 +11,7 @@ ghost use Rattle.sessions.specs.Journal.{IsExact, IsLegal, is_exact, world_at};
 
 use crate::session::Session;
 use crate::slip::Slip;
+use helpers::Refused;
 use limits::ENTRIES;
 use std::sync::ledger::Ledger;
 use world::{Message, PhaseName};
@@ -84,5 +85,10 @@ impl<L: Ledger> Session<L> {
         ensures { result ≡ is_exact self.now }
     {
         self.service.exact()
+    }
+
+    /// What the handler of a process was refused by its helpers, as a `Service` tells it.
+    pub fn refused(&self, process: u8) -> Refused {
+        self.service.refused(process)
     }
 }
