@@ -1,5 +1,5 @@
 use Rattle.std.proofs.Common.{rules, ◌≡◌, codes}
-use Rattle.clap.specs.Words.{App, app_of, new_app}
+use Rattle.clap.specs.Words.{app_of, new_app}
 use Rattle.cli.proofs.command.native.Goals as goal
 
 pub returns-clause-shape : goal.returns-clause-shape

@@ -1,5 +1,5 @@
 use Rattle.std.proofs.Common.{◌≡◌, ◌∙◌, List, ℕ, inl, refl, rules, subst, sym}
-use Rattle.tracer.specs.Pack.{IsPacked, IsUnpacked}
+use Rattle.tracer.specs.Pack.{IsUnpacked}
 use Rattle.tracer.specs.Program.{FaultOf}
 use Rattle.tracer.proofs.CauseLemmas.{becomes, reading_fault}
 use Rattle.tracer.proofs.pack.write_packed.Goals as goal
