@@ -10,6 +10,8 @@
 //! report of a legal journal of the images that were given, whose entries are calls that workers may make; as many workers as
 //! were asked for ended, each within its budget, and the journal has as many entries as their calls were accepted; where
 //! memory runs out, nothing is written.
+//!
+//! Both note what helpers refused, process by process, for people: no contract speaks of that.
 #![tactic(auto)]
 
 mod carrying;
@@ -20,6 +22,7 @@ mod held;
 mod living;
 mod opening;
 mod player;
+mod refused;
 mod results;
 mod running;
 mod word;

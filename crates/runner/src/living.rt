@@ -17,6 +17,7 @@ ghost use Rattle.runner.specs.Results.{results_text};
 use crate::ended::{Ended, ends_of};
 use crate::feeds::feeds_of;
 use crate::opening::want_of_memory;
+use crate::refused::refused_lines;
 use crate::results::push_results;
 use handlers::Handler;
 use indexmap::IndexMap;
@@ -108,6 +109,7 @@ fn live_in<L: Ledger + Send + Sync, R: Threads + Wait + Sync>(
     workers: u8,
     budget: u32,
     out: &mut String,
+    note: &mut String,
 ) -> Result<Vec<Ended>, AllocError>
     requires name { blank.name ≡ L.name }
     requires parts { (blank.parts ≡ L.parts) × (blank.parts ≡ SEATS) }
@@ -122,6 +124,9 @@ fn live_in<L: Ledger + Send + Sync, R: Threads + Wait + Sync>(
     let closed = served(rt, alloc, session, feeds.as_slice(), workers, budget)?;
     let ended = ends_of(alloc, closed.shares.as_slice())?;
     push_closed(alloc, out, &scenario.processes, &closed)?;
+    if let Ok(lines) = refused_lines(alloc, &scenario.processes, closed.session.service()) {
+        *note = lines;
+    }
     Ok(ended)
 }
 
@@ -129,7 +134,7 @@ fn live_in<L: Ledger + Send + Sync, R: Threads + Wait + Sync>(
 /// processes. They are fed with the messages of its lines, numbered from 1; each ends where it made as
 /// many calls as the budget, and up to two more. It writes the trace and the report (docs/FORMATS.md)
 /// of the session that they leave, and answers how each ended, in the order of their numbers. Where
-/// memory runs out, also for one of them, nothing is written.
+/// memory runs out, also for one of them, nothing is written. The note is as `run` makes it.
 pub fn live<R: Threads + Wait + Sync>(
     rt: &R,
     alloc: Global,
@@ -138,6 +143,7 @@ pub fn live<R: Threads + Wait + Sync>(
     workers: u8,
     budget: u32,
     out: &mut String,
+    note: &mut String,
 ) -> Result<Vec<Ended>, AllocError>
     requires few { AreFew (map image_in images.items) }
     requires named { length scenario.now.processes.entries ≡ length images.items }
@@ -146,5 +152,7 @@ pub fn live<R: Threads + Wait + Sync>(
     ensures unchanged { OnErr result (string_bytes out.new ≡ string_bytes out.old) }
 {
     let blank = Blank::new(SEATS as u64);
-    live_in::<Brand, R>(rt, alloc, blank, scenario, images, workers, budget, out)
+    live_in::<Brand, R>(
+        rt, alloc, blank, scenario, images, workers, budget, out, note,
+    )
 }

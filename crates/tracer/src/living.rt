@@ -35,6 +35,15 @@ pub fn live_scenario<R: Threads + Wait + Sync, F: Files>(
     ensures none { OnErr result (string_bytes text.new ≡ []) }
 {
     let Loaded { scenario, images } = load_scenario(alloc, path, Allowed::Inputs, files, site)?;
-    live(rt, alloc, &scenario, images, workers, budget, text)?;
+    live(
+        rt,
+        alloc,
+        &scenario,
+        images,
+        workers,
+        budget,
+        text,
+        &mut site.note,
+    )?;
     Ok(())
 }

@@ -50,7 +50,7 @@ fn run_scenario<F: Files>(
         ⊎ ((f ≡ Memory) × IsShort (F.content files.old) (Run path.now) (string_bytes text.new))) }
 {
     let Loaded { scenario, images } = load_scenario(alloc, path, Allowed::All, files, site)?;
-    run(alloc, &scenario, images, text)?;
+    run(alloc, &scenario, images, text, &mut site.note)?;
     Ok(())
 }
 
