@@ -17,7 +17,7 @@ ghost use Rattle.runner.specs.Results.{results_text};
 use crate::ended::{Ended, ends_of};
 use crate::feeds::feeds_of;
 use crate::opening::want_of_memory;
-use crate::refused::refused_lines;
+use crate::refused::note_refused;
 use crate::results::push_results;
 use handlers::Handler;
 use indexmap::IndexMap;
@@ -123,10 +123,8 @@ fn live_in<L: Ledger + Send + Sync, R: Threads + Wait + Sync>(
     let session: Session<L> = opened(alloc, blank, images)?;
     let closed = served(rt, alloc, session, feeds.as_slice(), workers, budget)?;
     let ended = ends_of(alloc, closed.shares.as_slice())?;
+    note_refused(alloc, note, &scenario.processes, closed.session.service());
     push_closed(alloc, out, &scenario.processes, &closed)?;
-    if let Ok(lines) = refused_lines(alloc, &scenario.processes, closed.session.service()) {
-        *note = lines;
-    }
     Ok(ended)
 }
 

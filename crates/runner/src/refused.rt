@@ -37,8 +37,8 @@ fn push_causes(
     Ok(())
 }
 
-/// The lines of all processes, in the order of their numbers. They are hints for people, and no contract names them.
-pub(crate) fn refused_lines(
+/// The lines of all processes, in the order of their numbers.
+fn refused_lines(
     alloc: Global,
     processes: &IndexMap<String, Process>,
     session: &Service,
@@ -54,4 +54,16 @@ pub(crate) fn refused_lines(
         )?;
     }
     Ok(lines)
+}
+
+/// Writes these lines as a note, if there is memory. They are hints for people, and no contract names them.
+pub(crate) fn note_refused(
+    alloc: Global,
+    note: &mut String,
+    processes: &IndexMap<String, Process>,
+    session: &Service,
+) {
+    if let Ok(lines) = refused_lines(alloc, processes, session) {
+        *note = lines;
+    }
 }

@@ -9,7 +9,7 @@ ghost use Rattle.runner.specs.Inside.{ArePlayed, ArePlayedTo, IsPlayed, position
 ghost use Rattle.runner.specs.Run.{IsCut, IsRun, refused_text};
 
 use crate::player::Player;
-use crate::refused::refused_lines;
+use crate::refused::note_refused;
 use crate::results::push_results;
 use handlers::Handler;
 use itoa::Buffer;
@@ -118,8 +118,8 @@ fn played(
 /// as it has processes (docs/FORMATS.md, "Carrying out"). It writes the line of each order that was
 /// refused, and behind them the trace and the report. Where memory runs out, which counts for a
 /// message above 2^32 too, what it wrote are lines of refused orders alone: room for these is made
-/// before the first order, so an order that a number refuses never ends the run. Where helpers refused
-/// sends or outputs, and memory is there, the note gets a line for each process and cause.
+/// before the first order, so an order that a number refuses never ends the run. If helpers refused
+/// sends or outputs, the note gets a line for each process and cause.
 pub fn run(
     alloc: Global,
     scenario: &Scenario,
@@ -135,9 +135,6 @@ pub fn run(
     let player = played(alloc, scenario.steps.as_slice(), images, out)?;
     // The journal is told to be legal.
     let _journal = player.session.journal();
-    push_results(alloc, out, &scenario.processes, &player.session)?;
-    if let Ok(lines) = refused_lines(alloc, &scenario.processes, &player.session) {
-        *note = lines;
-    }
-    Ok(())
+    note_refused(alloc, note, &scenario.processes, &player.session);
+    push_results(alloc, out, &scenario.processes, &player.session)
 }
