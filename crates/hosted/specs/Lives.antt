@@ -109,7 +109,8 @@ abbrev pub HostedBack : Type 0
 HostedBack = (images : ℕ → AnyImage) (n page tick : ℕ) (limits : ℕ → Limits) (processes : ℕ → TheProcess) (bytes : ℕ → List ℕ) (calls more : List HostCall) (p : ℕ) (a b : TheNode) → n ≤ 15 → Opens n images limits processes bytes → IsFirst n p
     → AreCalls images n (new_system n processes bytes page tick) (calls ++ more) → StayExact n (new_system n processes bytes page tick) (calls ++ more)
     → as_process ((after_calls (new_system n processes bytes page tick) calls).processes p) ≡ stages.Up a
-    → as_process ((after_calls (new_system n processes bytes page tick) (calls ++ more)).processes p) ≡ stages.Up b → HasBack (handlers n images) p a b
+    → as_process ((after_calls (new_system n processes bytes page tick) (calls ++ more)).processes p) ≡ stages.Up b
+    → HasBack n (handlers n images) (as_lives (after_calls (new_system n processes bytes page tick) calls)) (as_lives (after_calls (new_system n processes bytes page tick) (calls ++ more))) p a b
 
 -- whatever fails and meets, what is stored of a process only gets more, and where it is up, it has no less
 abbrev pub HostedStays : Type 0
