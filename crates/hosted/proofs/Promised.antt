@@ -49,6 +49,7 @@ opened images n page tick limits processes bytes o =
         lives = λ p l. refl;
         gateway = refl;
         durable = refl;
+        taken = refl;
         given = refl;
       };
       good = λ p l. ((o.opened p l).image_is, (ap is_settled (o.opened p l).course_is, tt));
