@@ -27,3 +27,4 @@ pub mod Durable
 pub mod Keeping
 pub mod Meeting
 pub mod Outputs
+pub mod Messages
