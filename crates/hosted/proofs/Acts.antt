@@ -36,6 +36,7 @@ pub record Only (p : ℕ) (new : Process) (t u : Lived) : Type 0 where
   pub lives : u.lives ≡ t.lives
   pub gateway : u.gateway ≡ t.gateway
   pub durable : u.durable ≡ t.durable
+  pub taken : u.taken ≡ t.taken
   pub given : u.given ≡ t.given
 
 -- so by these calls
@@ -64,7 +65,7 @@ ran f n p first old [] new t is c =
     record {
       are = tt;
       whole = tt;
-      only = record { here = is ∙ sym c; others = λ q o. refl; stored = refl; lives = refl; gateway = refl; durable = refl; given = refl };
+      only = record { here = is ∙ sym c; others = λ q o. refl; stored = refl; lives = refl; gateway = refl; durable = refl; taken = refl; given = refl };
       exact = λ e. (e, tt);
       alone = tt;
       durable = λ q. tt;
@@ -84,6 +85,7 @@ ran f n p first old (next ∷ ps) new t is c =
         lives = rest.only.lives;
         gateway = rest.only.gateway;
         durable = rest.only.durable;
+        taken = rest.only.taken;
         given = rest.only.given;
       };
       exact = λ e. (exact-before n p t old next is c.1.1.0 first (rest.exact e).0, rest.exact e);
@@ -100,6 +102,7 @@ pub record Beside (n p : ℕ) (s : System) (t : Lived) : Type 0 where
   pub lives : (q : ℕ) → IsFirst n q → t.lives q ≡ s.lives q
   pub gateway : t.gateway ≡ s.gateway
   pub durable : t.durable ≡ s.durable
+  pub taken : t.taken ≡ s.taken
   pub given : t.given ≡ s.given
 
 -- so it is where that one changed
@@ -111,6 +114,7 @@ beside-on n p s new t u b o =
       lives = λ q l. ap (λ z. z q) o.lives ∙ b.lives q l;
       gateway = o.gateway ∙ b.gateway;
       durable = o.durable ∙ b.durable;
+      taken = o.taken ∙ b.taken;
       given = o.given ∙ b.given;
     }
 
@@ -123,6 +127,7 @@ ends n p s new t u b o is =
       lives = λ q l. ap (λ z. z q) o.lives ∙ b.lives q l;
       gateway = o.gateway ∙ b.gateway;
       durable = o.durable ∙ b.durable;
+      taken = o.taken ∙ b.taken;
       given = o.given ∙ b.given;
     }
   where

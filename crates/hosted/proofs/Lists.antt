@@ -6,9 +6,9 @@ use Rattle.world.specs.declared.message.Message.{Message}
 use Rattle.node.specs.Runs.{Answering}
 use Rattle.together.specs.Together.{IsFirst}
 use Rattle.lives.specs.Process.{Process, Up, Covered, Collects, Replays, Replayed, Restores, Killed, is_exact}
-use Rattle.lives.specs.System.{System as Lived, Call, Gave, Handed, Worked, Did, Stored, Saved, Died, Revived, GaveOut, HandedOut, DidOut, StoredOut, RevivedOut, Calls, after_call, after_calls, AreExact, StayExact}
+use Rattle.lives.specs.System.{System as Lived, Call, Gave, Handed, Worked, Did, Stored, Saved, Died, Revived, GaveOut, HandedOut, DidOut, StoredOut, StoredBut, RevivedOut, handed_out, Calls, after_call, after_calls, AreExact, StayExact}
 use Rattle.lives.specs.Alone.{OneAtATime}
-use Rattle.lives.specs.Durable.{ReplayWhole, StaysDurable, handed_out, given_by, outputs_of}
+use Rattle.lives.specs.Durable.{ReplayWhole, StaysDurable, given_by, outputs_of}
 use Rattle.lives.specs.Outputs.{OneLife}
 pub use Rattle.lives.proofs.Back.{after-append}
 use Rattle.lives.proofs.Lasting.{IsFor}
@@ -68,6 +68,7 @@ outputs-append t (Revived p life new ∷ xs) ys = outputs-append (after_call t (
 outputs-append t (GaveOut x new ∷ xs) ys = outputs-append (after_call t (GaveOut x new)) xs ys
 outputs-append t (HandedOut x new ∷ xs) ys = outputs-append (after_call t (HandedOut x new)) xs ys
 outputs-append t (StoredOut ∷ xs) ys = outputs-append (after_call t StoredOut) xs ys
+outputs-append t (StoredBut k ∷ xs) ys = outputs-append (after_call t (StoredBut k)) xs ys
 outputs-append t (RevivedOut new ∷ xs) ys = outputs-append (after_call t (RevivedOut new)) xs ys
 outputs-append t (DidOut new ∷ xs) ys =
     let u : Lived = after_call t (DidOut new) in
@@ -91,6 +92,7 @@ given-append p (Revived q life new ∷ xs) ys = given-append p xs ys
 given-append p (GaveOut x new ∷ xs) ys = given-append p xs ys
 given-append p (HandedOut x new ∷ xs) ys = given-append p xs ys
 given-append p (StoredOut ∷ xs) ys = given-append p xs ys
+given-append p (StoredBut k ∷ xs) ys = given-append p xs ys
 given-append p (RevivedOut new ∷ xs) ys = given-append p xs ys
 given-append p (DidOut new ∷ xs) ys = given-append p xs ys
 

@@ -1,5 +1,6 @@
 -- Outputs of hosted processes in order, whatever fails and meets
-use Rattle.std.proofs.Common.{◌≡◌, ◌++◌, sym, ◌∙◌, subst}
+use Rattle.std.proofs.Common.{◌≡◌, ◌++◌, sym, ap, ◌∙◌, subst}
+use Rattle.gateway.specs.Gateway.{TheGateway}
 use Rattle.node.specs.Runs.{Answering}
 use Rattle.lives.specs.System.{System as Lived}
 use Rattle.lives.specs.System as called
@@ -49,11 +50,11 @@ hosted-stay-out images n page tick limits processes bytes calls life more o g on
     let c : Are images n s2 v more = are-go images n s2 v more b.state later.1 in
     let here : after_calls s (calls ++ life) ≡ s2 = after-more s calls life in
     let there : called.after_calls t (a.calls ++ b.calls) ≡ v = after-append t a.calls b.calls in
-    let same : s2.durable ≡ s2.gateway = subst (λ (z : System). z.durable ≡ z.gateway) here lasts in
-    let kept : v.durable ≡ v.gateway = b.state.stand.durable ∙ same ∙ sym b.state.stand.gateway in
+    let same : s2.durable.store ≡ s2.gateway.store = subst (λ (z : System). z.durable.store ≡ z.gateway.store) here lasts in
+    let kept : v.durable.store ≡ v.gateway.store = ap (λ (z : TheGateway). z.store) b.state.stand.durable ∙ same ∙ sym (ap (λ (z : TheGateway). z.store) b.state.stand.gateway) in
     let are : AreBehind (lives_outputs u b.calls) (lives_outputs (called.after_calls t (a.calls ++ b.calls)) c.calls) =
     outputs-stay-out f n page tick limits (len_of images) bytes a.calls b.calls c.calls (calls-append f n t a.calls (b.calls ++ c.calls) a.are (calls-append f n u b.calls c.calls b.are c.are)) (b.life one)
-    (subst (λ (z : Lived). z.durable ≡ z.gateway) (sym there) kept) in
+    (subst (λ (z : Lived). z.durable.store ≡ z.gateway.store) (sym there) kept) in
     let ours : AreBehind (lives_outputs u b.calls) (outputs_of s2 more) = subst (AreBehind (lives_outputs u b.calls)) c.outputs (subst (λ z. AreBehind (lives_outputs u b.calls) (lives_outputs z c.calls)) there are) in
     subst (λ z. AreBehind (outputs_of s1 life) (outputs_of z more)) (sym here) (subst (λ z. AreBehind z (outputs_of s2 more)) b.outputs ours)
 

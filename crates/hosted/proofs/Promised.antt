@@ -9,6 +9,7 @@ use Rattle.stores.specs.declared.change.Output.{Output}
 use Rattle.cluster.specs.Cluster.{Cluster, opening}
 use Rattle.cluster.specs.Rules.{after_run}
 use Rattle.node.specs.declared.limit.Limits.{Limits}
+use Rattle.node.specs.Node.{TheNode}
 use Rattle.node.specs.Runs.{Answering}
 use Rattle.node.specs.Stands.{Each}
 use Rattle.gateway.specs.Gateway.{TheGateway, peer_of}
@@ -18,6 +19,7 @@ use Rattle.lives.specs.Process.{StandsAs}
 use Rattle.lives.specs.Process as stages
 use Rattle.lives.specs.System.{System as Lived, AreStored, AreStoredOf, AllStand, IsRunOf}
 use Rattle.lives.specs.System as called
+use Rattle.lives.specs.Back.{HasBack}
 use Rattle.lives.specs.Durable.{AreAfter, IsSentBy, Stays, Lasts, Keep, given_by as lives_given, outputs_of as lives_outputs}
 use Rattle.lives.proofs.Lives.{lives-run}
 use Rattle.lives.proofs.Back.{nothing-is-lost}
@@ -47,6 +49,7 @@ opened images n page tick limits processes bytes o =
         lives = λ p l. refl;
         gateway = refl;
         durable = refl;
+        taken = refl;
         given = refl;
       };
       good = λ p l. ((o.opened p l).image_is, (ap is_settled (o.opened p l).course_is, tt));
@@ -86,6 +89,28 @@ keep-of n f durable s t xs ys st same k =
       up = λ p l m e. k.up p l m (st.processes p l ∙ e);
       given = subst (Each (λ (x : Packet). durable x.from ≡ true → IsSentBy f x.from (k.messages x.from) x)) st.given k.given;
       shown = subst (Each (λ (o : Output). durable o.process ≡ true → nth (f.sends o.process (k.messages o.process) 0) o.ssn ≡ Some o.payload)) same k.shown;
+    }
+
+back-of : (n : ℕ) (f : Handlers) (p : ℕ) (a b : TheNode) (s s2 : System) (t t2 : Lived) → IsAs n s t → IsAs n s2 t2 → HasBack n f t t2 p a b → HasBack n f (as_lives s) (as_lives s2) p a b
+back-of n f p a b s s2 t t2 st st2 h =
+    record {
+      acts = h.acts;
+      more = h.more;
+      run = h.run;
+      before = all-stand n s t (after_run (opening n f) h.acts) st h.before;
+      after = all-stand n s2 t2 (after_run (opening n f) (h.acts ++ h.more)) st2 h.after;
+      was = h.was;
+      is = h.is;
+      history_was = h.history_was;
+      history_is = h.history_is;
+      many_was = h.many_was;
+      many_is = h.many_is;
+      state_was = h.state_was;
+      state_is = h.state_is;
+      acknowledged = h.acknowledged;
+      within = h.within;
+      same = h.same;
+      back = h.back;
     }
 
 stays-of : (n : ℕ) (f : Handlers) (p : ℕ) (s s2 : System) (t t2 : Lived) → IsFirst n p → IsAs n s t → IsAs n s2 t2 → Stays n f p t t2 → Stays n f p (as_lives s) (as_lives s2)
@@ -159,9 +184,11 @@ hosted-back images n page tick limits processes bytes calls more p was is few o 
     let a : Are images n s t calls = are-go images n s t calls (opened images n page tick limits processes bytes o) made.0 in
     let u : Lived = called.after_calls t a.calls in
     let b : Are images n (after_calls s calls) u more = are-go images n (after_calls s calls) u more a.state made.1 in
-    let last : as_process ((after_calls (after_calls s calls) more).processes p) ≡ stages.Up is = ap (λ (z : System). as_process (z.processes p)) (sym (after-more s calls more)) ∙ new in
-    nothing-is-lost f n page tick limits (len_of images) bytes a.calls b.calls p was is few (are-stored images n limits processes bytes o) l (calls-append f n t a.calls b.calls a.are b.are)
-    (exact-append n t a.calls b.calls (a.exact exact.0) (b.exact exact.1)) (a.state.stand.processes p l ∙ old) (ap (λ (z : Lived). z.processes p) (after-append t a.calls b.calls) ∙ b.state.stand.processes p l ∙ last)
+    let last : IsAs n (after_calls s (calls ++ more)) (called.after_calls t (a.calls ++ b.calls)) =
+    subst (λ z. IsAs n z (called.after_calls t (a.calls ++ b.calls))) (sym (after-more s calls more)) (subst (IsAs n (after_calls (after_calls s calls) more)) (sym (after-append t a.calls b.calls)) b.state.stand) in
+    back-of n (handlers n images) p was is (after_calls s calls) (after_calls s (calls ++ more)) u (called.after_calls t (a.calls ++ b.calls)) a.state.stand last
+    (nothing-is-lost f n page tick limits (len_of images) bytes a.calls b.calls p was is few (are-stored images n limits processes bytes o) l (calls-append f n t a.calls b.calls a.are b.are)
+    (exact-append n t a.calls b.calls (a.exact exact.0) (b.exact exact.1)) (a.state.stand.processes p l ∙ old) (last.processes p l ∙ new))
 
 pub hosted-stays : HostedStays
 hosted-stays images n page tick limits processes bytes calls more p o l g =

@@ -1,5 +1,5 @@
 -- What each call of a host is of `lives`
-use Rattle.std.proofs.Common.{◌≡◌, ◌≢◌, inl, inr, ℕ, ◌<◌, List, [], ◌∷◌, ◌++◌, Bool, true, false, refl, sym, ap, ◌∙◌, subst, append-nil, arith}
+use Rattle.std.proofs.Common.{◌≡◌, ◌≢◌, inl, inr, ℕ, ◌<◌, List, [], ◌∷◌, ◌++◌, drop, Bool, true, false, refl, sym, ap, ◌∙◌, subst, append-nil, arith}
 use Rattle.std.specs.Prelude.{◌⊎◌, Some, ◌==◌, if◌then◌else◌}
 use Rattle.std.proofs.lemmas.Bool.Decides.{nat_tests}
 use Rattle.world.specs.World.{put}
@@ -10,6 +10,7 @@ use Rattle.packets.proofs.WholeLemmas.{one_packet}
 use Rattle.node.specs.declared.limit.Limits.{Limits}
 use Rattle.node.specs.Runs.{Answer, Answering, IsOne}
 use Rattle.recovery.specs.Collecting.{TheCollecting, revived}
+use Rattle.stores.specs.declared.change.Output.{Output}
 use Rattle.gateway.specs.Gateway.{TheGateway}
 use Rattle.gateway.specs.Calls as outside
 use Rattle.gateway.specs.Stands as gateways
@@ -17,12 +18,12 @@ use Rattle.gateway.specs.Since as since
 use Rattle.together.specs.Together.{IsFirst}
 use Rattle.lives.specs.Process.{Process, Gives, Hears, Works, WaitsFor, covered, IsTold, IsKilled, ComesFrom}
 use Rattle.lives.specs.Process as stages
-use Rattle.lives.specs.System.{System as Lived, Call, Deals, AreExact, StayExact}
+use Rattle.lives.specs.System.{System as Lived, Call, handed_out, untaken, Deals, AreExact, StayExact}
 use Rattle.lives.specs.System as called
 use Rattle.lives.specs.Alone as lone
 use Rattle.lives.specs.Alone.{is_up}
 use Rattle.lives.specs.Durable as durables
-use Rattle.lives.specs.Durable.{ReplaysWhole, ReplayWhole, handed_out}
+use Rattle.lives.specs.Durable.{ReplaysWhole, ReplayWhole}
 use Rattle.lives.specs.Outputs as outs
 use Rattle.lives.specs.Outputs.{OneLife}
 use Rattle.lives.proofs.Lives.{at-each}
@@ -119,6 +120,7 @@ module _ (images : ℕ → AnyImage) (n : ℕ) (s : System) (t : Lived) (st : Is
         lives = st.lives;
         gateway = st.gateway;
         durable = st.durable;
+        taken = st.taken;
         given = st.given;
       } in
       record {
@@ -183,7 +185,7 @@ module _ (images : ℕ → AnyImage) (n : ℕ) (s : System) (t : Lived) (st : Is
   on-by p old new w e = ap (goes_on new) e
 
   beside-one : (p : ℕ) (h : Hosted) (to : Process) → Beside n p (record s { processes = put s.processes p h }) (record t { processes = put t.processes p to })
-  beside-one p h to = record { processes = beside-put p h to; stored = st.stored; lives = st.lives; gateway = st.gateway; durable = st.durable; given = st.given }
+  beside-one p h to = record { processes = beside-put p h to; stored = st.stored; lives = st.lives; gateway = st.gateway; durable = st.durable; taken = st.taken; given = st.given }
 
   -- ---- packets
 
@@ -200,6 +202,7 @@ module _ (images : ℕ → AnyImage) (n : ℕ) (s : System) (t : Lived) (st : Is
         lives = st.lives;
         gateway = st.gateway;
         durable = st.durable;
+        taken = st.taken;
         given = ap (λ z. x ∷ z) st.given;
       } in
       by-call k p (Runs new w) (called.Gave p x to) to [] l (l, subst (λ z. Gives x z to) (sym (here p old w l e)) a.1.1) tt (raised-here t.processes p to) refl (subst (λ z. Beside n p z (called.after_call t (called.Gave p x to))) (sym is) b)
@@ -267,6 +270,7 @@ module _ (images : ℕ → AnyImage) (n : ℕ) (s : System) (t : Lived) (st : Is
         lives = st.lives;
         gateway = st.gateway;
         durable = st.durable;
+        taken = st.taken;
         given = st.given;
       } in
       by-call (Stored p bytes) p (Runs old Durable) (called.Stored p bytes) to [] l (l, subst (WaitsFor bytes) (sym is) good.1.1) tt (raised-here t.processes p (covered (t.processes p)) ∙ ap covered is) refl
@@ -301,6 +305,7 @@ module _ (images : ℕ → AnyImage) (n : ℕ) (s : System) (t : Lived) (st : Is
         lives = λ q m. both-put t.lives s.lives p q life (st.lives q m);
         gateway = st.gateway;
         durable = st.durable;
+        taken = st.taken;
         given = st.given;
       } in
       by-call (Revived p limits life new) p (Runs new Absent) (called.Revived p life n2) to [] l (l, (subst IsKilled (sym dead) tt, (subst (λ z. z < life) (sym (st.lives p l)) above, from))) tt (raised-here t.processes p to) is b refl
@@ -311,13 +316,17 @@ module _ (images : ℕ → AnyImage) (n : ℕ) (s : System) (t : Lived) (st : Is
   abbrev by-gateway : Call → Type 0
   by-gateway k = Steps images n s t (Outside k)
 
+  -- what is said of the gateway here is said of it there
+  gateways-are : (P : TheGateway → TheGateway → List Output → Type 0) → P s.gateway s.durable s.taken → P t.gateway t.durable t.taken
+  gateways-are P h = subst (λ z. P z t.durable t.taken) (sym st.gateway) (subst (λ z. P s.gateway z t.taken) (sym st.durable) (subst (P s.gateway s.durable) (sym st.taken) h))
+
   gave-out : (x : Packet) (new : TheGateway) → called.DoesIt f n (as_lives s) (called.GaveOut x new) → by-gateway (called.GaveOut x new)
   gave-out x new g =
       record {
         calls = called.GaveOut x new ∷ [];
-        are = ((st.durable ∙ g.0 ∙ sym st.gateway, subst (λ z. gateways.Takes (Some x) z new) (sym st.gateway) g.1), tt);
+        are = (gateways-are (λ z durable taken. (durable.store ≡ (untaken taken z).store) × gateways.Takes (Some x) z new) g, tt);
         whole = (tt, tt);
-        stand = record { processes = st.processes; stored = st.stored; lives = st.lives; gateway = refl; durable = refl; given = ap (λ z. x ∷ z) st.given };
+        stand = record { processes = st.processes; stored = st.stored; lives = st.lives; gateway = refl; durable = st.durable; taken = st.taken; given = ap (λ z. x ∷ z) st.given };
         good = goods;
         exact = λ e. (e, tt);
         alone = λ a. (tt, tt);
@@ -335,7 +344,7 @@ module _ (images : ℕ → AnyImage) (n : ℕ) (s : System) (t : Lived) (st : Is
         calls = called.HandedOut x new ∷ [];
         are = ((subst (IsOne x) (sym st.given) g.0, subst P (sym st.gateway) g.1), tt);
         whole = (tt, tt);
-        stand = record { processes = st.processes; stored = st.stored; lives = st.lives; gateway = refl; durable = st.durable; given = st.given };
+        stand = record { processes = st.processes; stored = st.stored; lives = st.lives; gateway = refl; durable = st.durable; taken = st.taken; given = st.given };
         good = goods;
         exact = λ e. (e, tt);
         alone = λ a. (tt, tt);
@@ -353,7 +362,7 @@ module _ (images : ℕ → AnyImage) (n : ℕ) (s : System) (t : Lived) (st : Is
         calls = called.DidOut new ∷ [];
         are = (subst P (sym st.gateway) g, tt);
         whole = (tt, tt);
-        stand = record { processes = st.processes; stored = st.stored; lives = st.lives; gateway = refl; durable = st.durable; given = st.given };
+        stand = record { processes = st.processes; stored = st.stored; lives = st.lives; gateway = refl; durable = st.durable; taken = ap (λ z. z ++ handed_out t.gateway new) st.taken ∙ ap (λ z. s.taken ++ handed_out z new) st.gateway; given = st.given };
         good = goods;
         exact = λ e. (e, tt);
         alone = λ a. (tt, tt);
@@ -370,7 +379,32 @@ module _ (images : ℕ → AnyImage) (n : ℕ) (s : System) (t : Lived) (st : Is
         calls = called.StoredOut ∷ [];
         are = (tt, tt);
         whole = (tt, tt);
-        stand = record { processes = st.processes; stored = st.stored; lives = st.lives; gateway = st.gateway; durable = st.gateway; given = st.given };
+        stand = record { processes = st.processes; stored = st.stored; lives = st.lives; gateway = st.gateway; durable = st.gateway; taken = refl; given = st.given };
+        good = goods;
+        exact = λ e. (e, tt);
+        alone = λ a. (tt, tt);
+        durable = λ q d. (tt, tt);
+        life = λ x. (x, tt);
+        outputs = refl;
+        gave = λ q. refl;
+        moment = λ q l from at now w is rec. unmoved q l from at now w is rec;
+      }
+
+  stored-but : (k : ℕ) → by-gateway (called.StoredBut k)
+  stored-but k =
+      record {
+        calls = called.StoredBut k ∷ [];
+        are = (tt, tt);
+        whole = (tt, tt);
+        stand = record {
+          processes = st.processes;
+          stored = st.stored;
+          lives = st.lives;
+          gateway = st.gateway;
+          durable = ap (λ z. untaken (drop k z) t.gateway) st.taken ∙ ap (untaken (drop k s.taken)) st.gateway;
+          taken = ap (drop k) st.taken;
+          given = st.given;
+        };
         good = goods;
         exact = λ e. (e, tt);
         alone = λ a. (tt, tt);
@@ -388,7 +422,7 @@ module _ (images : ℕ → AnyImage) (n : ℕ) (s : System) (t : Lived) (st : Is
         calls = called.RevivedOut new ∷ [];
         are = (subst P (sym st.durable) g, tt);
         whole = (tt, tt);
-        stand = record { processes = st.processes; stored = st.stored; lives = st.lives; gateway = refl; durable = refl; given = st.given };
+        stand = record { processes = st.processes; stored = st.stored; lives = st.lives; gateway = refl; durable = refl; taken = refl; given = st.given };
         good = goods;
         exact = λ e. (e, tt);
         alone = λ a. (tt, tt);
@@ -404,6 +438,7 @@ module _ (images : ℕ → AnyImage) (n : ℕ) (s : System) (t : Lived) (st : Is
   outwards (called.HandedOut x new) i g = handed-out x new g
   outwards (called.DidOut new) i g = did-out new g
   outwards called.StoredOut i g = stored-out
+  outwards (called.StoredBut k) i g = stored-but k
   outwards (called.RevivedOut new) i g = revived-out new g
   outwards (called.Gave p x new) i g = absurd i
   outwards (called.Handed p x new) i g = absurd i

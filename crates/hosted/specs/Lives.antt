@@ -11,10 +11,10 @@ use Rattle.node.specs.Runs.{handlers_of}
 use Rattle.together.specs.Together.{IsFirst}
 use Rattle.lives.specs.Process as stages
 use Rattle.lives.specs.System as called
-use Rattle.lives.specs.System.{Call, DidOut, IsRunOf}
+use Rattle.lives.specs.System.{Call, DidOut, handed_out, IsRunOf}
 use Rattle.lives.specs.Alone.{is_up}
 use Rattle.lives.specs.Back.{HasBack}
-use Rattle.lives.specs.Durable.{ReplayWhole, handed_out, Stays, Lasts, Keep}
+use Rattle.lives.specs.Durable.{ReplayWhole, Stays, Lasts, Keep}
 use Rattle.lives.specs.Outputs as outs
 use Rattle.lives.specs.Outputs.{NoGap, GoOn, AreBehind, SayTheSame}
 use Rattle.process.specs.Process.{TheProcess}
@@ -29,6 +29,7 @@ pub record IsAs (n : ℕ) (s : System) (t : called.System) : Type 0 where
   pub lives : (p : ℕ) → IsFirst n p → t.lives p ≡ s.lives p
   pub gateway : t.gateway ≡ s.gateway
   pub durable : t.durable ≡ s.durable
+  pub taken : t.taken ≡ s.taken
   pub given : t.given ≡ s.given
 
 -- the calls of hosts from s to s2 are calls of `lives` from t on, by which each process that replays does so to the end
@@ -109,7 +110,8 @@ abbrev pub HostedBack : Type 0
 HostedBack = (images : ℕ → AnyImage) (n page tick : ℕ) (limits : ℕ → Limits) (processes : ℕ → TheProcess) (bytes : ℕ → List ℕ) (calls more : List HostCall) (p : ℕ) (a b : TheNode) → n ≤ 15 → Opens n images limits processes bytes → IsFirst n p
     → AreCalls images n (new_system n processes bytes page tick) (calls ++ more) → StayExact n (new_system n processes bytes page tick) (calls ++ more)
     → as_process ((after_calls (new_system n processes bytes page tick) calls).processes p) ≡ stages.Up a
-    → as_process ((after_calls (new_system n processes bytes page tick) (calls ++ more)).processes p) ≡ stages.Up b → HasBack (handlers n images) p a b
+    → as_process ((after_calls (new_system n processes bytes page tick) (calls ++ more)).processes p) ≡ stages.Up b
+    → HasBack n (handlers n images) (as_lives (after_calls (new_system n processes bytes page tick) calls)) (as_lives (after_calls (new_system n processes bytes page tick) (calls ++ more))) p a b
 
 -- whatever fails and meets, what is stored of a process only gets more, and where it is up, it has no less
 abbrev pub HostedStays : Type 0
@@ -165,7 +167,7 @@ HostedWithoutGap = (images : ℕ → AnyImage) (n page tick : ℕ) (limits : ℕ
 abbrev pub HostedStayOut : Type 0
 HostedStayOut = (images : ℕ → AnyImage) (n page tick : ℕ) (limits : ℕ → Limits) (processes : ℕ → TheProcess) (bytes : ℕ → List ℕ) (calls life more : List HostCall) → Opens n images limits processes bytes
     → AreCalls images n (new_system n processes bytes page tick) (calls ++ (life ++ more)) → OneLife life
-    → (after_calls (new_system n processes bytes page tick) (calls ++ life)).durable ≡ (after_calls (new_system n processes bytes page tick) (calls ++ life)).gateway
+    → (after_calls (new_system n processes bytes page tick) (calls ++ life)).durable.store ≡ (after_calls (new_system n processes bytes page tick) (calls ++ life)).gateway.store
     → AreBehind (outputs_of (after_calls (new_system n processes bytes page tick) calls) life) (outputs_of (after_calls (new_system n processes bytes page tick) (calls ++ life)) more)
 
 -- and what it hands out again of durable processes is what it was

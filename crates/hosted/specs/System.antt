@@ -10,10 +10,11 @@ use Rattle.interp.specs.HandlerCall.{Handled}
 use Rattle.node.specs.declared.limit.Limits.{Limits}
 use Rattle.node.specs.declared.job.OpenJob.{OpenJob}
 use Rattle.node.specs.Runs.{IsOne}
+use Rattle.stores.specs.declared.change.Output.{Output}
 use Rattle.gateway.specs.Gateway.{TheGateway, new_gateway}
 use Rattle.together.specs.Together.{IsFirst}
 use Rattle.lives.specs.System as called
-use Rattle.lives.specs.System.{Call, GaveOut, HandedOut, DidOut, StoredOut, RevivedOut}
+use Rattle.lives.specs.System.{Call, GaveOut, HandedOut, DidOut, StoredOut, StoredBut, RevivedOut}
 use Rattle.process.specs.declared.call.Ticket.{Ticket}
 use Rattle.process.specs.Process.{TheProcess, state_of}
 use Rattle.process.specs.Job.{IsAnswered, WorksAs}
@@ -25,14 +26,15 @@ use Rattle.process.specs.Working.{job_at, answer_to, Works}
 use Rattle.hosted.specs.Process.{Absent, Pending, Durable, Hosted, Runs, Killed, Alive, Has, goes_on, keeps, as_process}
 use Rattle.hosted.specs.Answering.{answering}
 
--- the processes by number; of each the bytes that its host has stored durably, and the greatest incarnation; the gateway, and as what it is
--- durable; and the packets that were given
+-- the processes by number; of each the bytes that its host has stored durably, and the greatest incarnation; the gateway, as what it is
+-- durable, and the outputs that it handed out, of which it isn't durable that they were taken; and the packets that were given
 pub record System : Type 0 where
   pub processes : ℕ → Hosted
   pub stored : ℕ → List ℕ
   pub lives : ℕ → ℕ
   pub gateway : TheGateway
   pub durable : TheGateway
+  pub taken : List Output
   pub given : List Packet
 
 -- what a host begins with: each process opened, and what is kept of it stored; and the gateway
@@ -48,6 +50,7 @@ new_system n processes bytes page tick =
       lives = λ _. 1;
       gateway = new_gateway n page tick;
       durable = new_gateway n page tick;
+      taken = [];
       given = [];
     }
 
@@ -88,12 +91,13 @@ IsOutside (GaveOut x new) = Unit {0}
 IsOutside (HandedOut x new) = Unit {0}
 IsOutside (DidOut new) = Unit {0}
 IsOutside StoredOut = Unit {0}
+IsOutside (StoredBut k) = Unit {0}
 IsOutside (RevivedOut new) = Unit {0}
 IsOutside call = ⊥
 
 -- which system of `lives` it is
 abbrev pub as_lives : System → called.System
-as_lives s = record { processes = λ p. as_process (s.processes p); stored = s.stored; lives = s.lives; gateway = s.gateway; durable = s.durable; given = s.given }
+as_lives s = record { processes = λ p. as_process (s.processes p); stored = s.stored; lives = s.lives; gateway = s.gateway; durable = s.durable; taken = s.taken; given = s.given }
 
 -- the handler leaves just this state and gives just this, on the message that is next: so its host knows of machine code
 abbrev pub AnswersSo : List ℕ → Emitted → TheProcess → Type 0
@@ -124,7 +128,7 @@ DoesIt images n s (Outside call) = IsOutside call × called.DoesIt (answering n 
 
 -- what the gateway's call leaves
 abbrev pub after_outside : System → called.System → System
-after_outside s t = record s { gateway = t.gateway; durable = t.durable; given = t.given }
+after_outside s t = record s { gateway = t.gateway; durable = t.durable; taken = t.taken; given = t.given }
 
 abbrev pub after_call : System → HostCall → System
 after_call s (Gave p x new) = record s { processes = put s.processes p (goes_on new (s.processes p)); given = x ∷ s.given }

@@ -27,7 +27,7 @@ use Rattle.restoring.proofs.Fitting.{pages-fit}
 use Rattle.gateway.specs.Gateway.{TheGateway}
 use Rattle.together.specs.Together.{IsFirst}
 use Rattle.lives.specs.Process.{Process, Up, Covered, Collects, Replays, Replayed, Restores, Killed, StandsAs, IsKilled, IsStoredOf, ComesFrom, covered}
-use Rattle.lives.specs.System.{System, new_system, AreStoredOf, Call, Gave, Handed, Worked, Did, Stored, Saved, Died, Revived, GaveOut, HandedOut, DidOut, StoredOut, RevivedOut, DoesIt, after_call, Calls, AreExact, StayExact}
+use Rattle.lives.specs.System.{System, new_system, AreStoredOf, Call, Gave, Handed, Worked, Did, Stored, Saved, Died, Revived, GaveOut, HandedOut, DidOut, StoredOut, StoredBut, RevivedOut, DoesIt, after_call, Calls, AreExact, StayExact}
 use Rattle.lives.specs.Alone.{is_up, FailsAlone, OneAtATime, LoneFailuresStayExact, LoneLivesRun, NothingIsLostAlone, RecoversExactlyAlone}
 use Rattle.lives.proofs.Lives.{WasPut, lives-run}
 use Rattle.lives.proofs.Lives as runs
@@ -176,6 +176,7 @@ module _ (f : Answering) (len : ℕ → ℕ) (n : ℕ) (s : System) (acts : List
       with-out n s.processes s.lives s.given s.gateway.out new.out (k.out h.out) h
   call-alone (DidOut new) m a = let k = gateways.deals s.lives back s.gateway new m.0 in with-out n s.processes s.lives s.given s.gateway.out new.out (k.out h.out) h
   call-alone StoredOut m a = h
+  call-alone (StoredBut k) m a = h
   call-alone (RevivedOut new) m a =
       let P : TheGateway → Type 0 = λ z. AreSound s.lives back z.out in
       let out : AreSound s.lives back new.out = subst P (sym m.0) tt in

@@ -96,7 +96,15 @@ acknowledged-run n c p s =
 
 -- ---- nothing is lost
 
-module _ (f : Handlers) (p : ℕ) (a b : TheNode) (c d : Cluster) (s : Stands a c p) (t : Stands b d p) (same_was : c.handlers ≡ f) (same_is : d.handlers ≡ f) (k : take (run_at a) (d.history p) ≡ take (run_at a) (c.history p)) where
+module _ (n : ℕ) (f : Handlers) (x y : System) (p : ℕ) (a b : TheNode) (acts more : List Act) (run : Run (opening n f) (acts ++ more)) (before : AllStand n x (after_run (opening n f) acts)) (after : AllStand n y (after_run (opening n f) (acts ++ more)))
+    (s : Stands a (after_run (opening n f) acts) p) (t : Stands b (after_run (opening n f) (acts ++ more)) p) (same_was : (after_run (opening n f) acts).handlers ≡ f) (same_is : (after_run (opening n f) (acts ++ more)).handlers ≡ f)
+    (k : take (run_at a) ((after_run (opening n f) (acts ++ more)).history p) ≡ take (run_at a) ((after_run (opening n f) acts).history p)) where
+  abbrev c : Cluster
+  c = after_run (opening n f) acts
+
+  abbrev d : Cluster
+  d = after_run (opening n f) (acts ++ more)
+
   was-long : length (c.history p) ≡ length_of a
   was-long = long a.count a.base a.covered a.receipts (c.history p) (c.acknowledged p) s.received
 
@@ -115,15 +123,23 @@ module _ (f : Handlers) (p : ℕ) (a b : TheNode) (c d : Cluster) (s : Stands a 
       let two : take (run_at a) (c.history p) ≡ c.history p = take_all (run_at a) (c.history p) (omega (arith, all, was-long)) in
       sym state-is ∙ ap (f.state p) (sym one ∙ k ∙ two) ∙ state-was
 
-  has-back : HasBack f p a b
+  has-back : HasBack n f x y p a b
   has-back =
       record {
+        acts = acts;
+        more = more;
+        run = run;
+        before = before;
+        after = after;
         was = c.history p;
         is = d.history p;
+        history_was = refl;
+        history_is = refl;
         many_was = was-long;
         many_is = is-long;
         state_was = state-was;
         state_is = state-is;
+        acknowledged = acknowledged-run a c p s;
         within = (let low : run_at a ≤ length (c.history p) = (acknowledged-run a c p s).0 in omega (arith, low, ap length k, length-take (run_at a) (d.history p), length-take (run_at a) (c.history p), is-long));
         same = k;
         back = comes-back;
@@ -145,7 +161,8 @@ nothing-is-lost f n page tick limits len bytes calls more p a b few stored first
     let d : Cluster = after_run (opening n g) (one.more ++ two.more) in
     let s : Stands a c p = stands-known g n (after_calls o calls) c p (Up a) one.reached.holds first is_a in
     let t : Stands b d p = stands-known g n (after_calls (after_calls o calls) more) d p (Up b) two.reached.holds first (sym (ap (λ (z : System). z.processes p) parts.1.1) ∙ is_b) in
-    has-back g p a b c d s t one.reached.holds.handlers two.reached.holds.handlers
+    has-back n g (after_calls o calls) (after_calls o (calls ++ more)) p a b one.more two.more two.reached.run (all-stand g n (after_calls o calls) c one.reached.holds)
+    (subst (λ z. AllStand n z d) (sym parts.1.1) (all-stand g n (after_calls (after_calls o calls) more) d two.reached.holds)) s t one.reached.holds.handlers two.reached.holds.handlers
     (acknowledged-stay n g one.more two.more p (run_at a) few (grows f len) two.reached.run (acknowledged-run a c p s))
 
 -- ---- what recovers

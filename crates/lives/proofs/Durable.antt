@@ -21,7 +21,7 @@ use Rattle.node.proofs.Lists.{all-more}
 use Rattle.gateway.proofs.Steps.{by-if}
 use Rattle.together.specs.Together.{IsFirst}
 use Rattle.lives.specs.Process.{Process, Up, Collects, Killed, Gives, Hears, Works, Acts, WaitsFor, covered, IsTold, ComesFrom}
-use Rattle.lives.specs.System.{System, new_system, AreStored, Call, Gave, Handed, Worked, Did, Stored, Saved, Died, Revived, GaveOut, HandedOut, DidOut, StoredOut, RevivedOut, DoesIt, after_call, Calls, after_calls}
+use Rattle.lives.specs.System.{System, new_system, AreStored, Call, Gave, Handed, Worked, Did, Stored, Saved, Died, Revived, GaveOut, HandedOut, DidOut, StoredOut, StoredBut, RevivedOut, DoesIt, after_call, Calls, after_calls}
 use Rattle.lives.specs.Durable.{AreAfter, IsSentBy, given_by, ReplaysAll, ReplaysWhole, ReplayWhole, KeepsDurable, StaysDurable, HasAfter, StoredStays, DurableLast}
 use Rattle.lives.proofs.Held.{Holds}
 use Rattle.lives.proofs.HeldNode.{IsGiven, OfNode, keeping, counting-again}
@@ -176,6 +176,7 @@ module _ (f : Answering) (len : ℕ → ℕ) (top p : ℕ) (durable tells : Bool
   step h s (HandedOut x new) now m v w fair = record { to = h; begins = begins-self h; still = λ e. refl; now = record { holds = now.holds; stored = now.stored }; gives = λ ks late b a. a }
   step h s (DidOut new) now m v w fair = record { to = h; begins = begins-self h; still = λ e. refl; now = record { holds = now.holds; stored = now.stored }; gives = λ ks late b a. a }
   step h s StoredOut now m v w fair = record { to = h; begins = begins-self h; still = λ e. refl; now = record { holds = now.holds; stored = now.stored }; gives = λ ks late b a. a }
+  step h s (StoredBut k) now m v w fair = record { to = h; begins = begins-self h; still = λ e. refl; now = record { holds = now.holds; stored = now.stored }; gives = λ ks late b a. a }
   step h s (RevivedOut new) now m v w fair = record { to = h; begins = begins-self h; still = λ e. refl; now = record { holds = now.holds; stored = now.stored }; gives = λ ks late b a. a }
 
   -- call after call, from the second moment on
@@ -231,6 +232,7 @@ all-fair f len top p durable low h (GaveOut x new) = tt
 all-fair f len top p durable low h (HandedOut x new) = tt
 all-fair f len top p durable low h (DidOut new) = tt
 all-fair f len top p durable low h StoredOut = tt
+all-fair f len top p durable low h (StoredBut k) = tt
 all-fair f len top p durable low h (RevivedOut new) = tt
 
 -- ---- the opening

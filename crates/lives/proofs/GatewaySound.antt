@@ -50,7 +50,7 @@ module _ (lives : ℕ → ℕ) (back : ℕ → Type 0) where
   deals g new (inl d) =
       let m : TheGateway = happens (changes.Input d.0 d.1.0) g in
       let goes : On g (puts_in d.0 d.1.0 g) = onward g m (puts_in d.0 d.1.0 g) (record { out = λ o. o }) (delivering d.0 (last_of (peer_of d.0 g) + 1) m) in
-      subst (On g) (sym d.1.1) goes
+      subst (On g) (sym d.1.1.0) goes
   deals g new (inr (inl e)) = subst (On g) (sym e) (by-if (On g) (nat_lt 0 (length g.store.outputs)) (happens (changes.Taken 1) g) g (λ t. record { out = λ o. o }) (λ t. stays g))
   deals g new (inr (inr (inl e))) = subst (On g) (sym e) (ticking (length g.store.peers) g)
   deals g new (inr (inr (inr e))) = let goes : On g (record g { changes = [] }) = record { out = λ o. o } in subst (On g) (sym e) goes

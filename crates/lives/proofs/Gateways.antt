@@ -1,12 +1,15 @@
 -- The gateway, as it is durable and as it is
-use Rattle.std.proofs.Common.{◌++◌, sym, subst}
+use Rattle.std.proofs.Common.{◌≡◌, ◌++◌, length, sym, subst}
+use Rattle.std.specs.List.{AllByRecursion}
+use Rattle.world.specs.History.{count_of}
 use Rattle.cluster.specs.Parcels.{Parcel, In}
 use Rattle.cluster.specs.Cluster.{Cluster}
 use Rattle.cluster.specs.Rules.{after_run}
+use Rattle.stores.specs.Store.{TheStore, peer_at}
 use Rattle.gateway.specs.Deeds.{IsByGateway}
 use Rattle.gateway.specs.Gateway.{TheGateway}
-use Rattle.gateway.specs.Stands.{Stands, Goes, Owes}
-use Rattle.gateway.proofs.Steps.{stays, all-append}
+use Rattle.gateway.specs.Stands.{Stands, PutOut, KeepsOf, EndsWith, Goes, Owes}
+use Rattle.gateway.proofs.Steps.{stays, put-still, all-more, all-append}
 use Rattle.node.proofs.Steps.{run-on}
 use Rattle.node.proofs.Runs.{parcels-stay}
 
@@ -41,3 +44,27 @@ pub ahead-acts : (given : Cluster → Type 0) (durable now new : TheGateway) (c 
 ahead-acts given durable now new c holds owed h d s all =
     let g : Goes now d = h d s all in
     goes-behind now new d g (owed (after_run d g.acts) g.stands (holds (after_run d g.acts) (λ x i. parcels-stay d g.acts x (all x i))))
+
+-- ---- what has the same store
+
+-- what was put out is, where more was
+pub out-more : (g : TheGateway) (c d : Cluster) → c.count ≡ d.count → PutsMore c d → AllByRecursion (PutOut c.count c.parcels) g.out → AllByRecursion (PutOut d.count d.parcels) g.out
+out-more g c d many more out = all-more (PutOut c.count c.parcels) (PutOut d.count d.parcels) g.out (λ x o. put-still d.count c.parcels d.parcels x more (subst (λ k. PutOut k c.parcels x) many o)) out
+
+-- with what was put out, the one stands where the other does
+pub stands-as : (old new : TheGateway) (c : Cluster) → new.store ≡ old.store → AllByRecursion (PutOut c.count c.parcels) new.out → Stands old c → Stands new c
+stands-as old new c e out s =
+    record {
+      count = subst (λ (z : TheStore). length z.peers ≡ c.count) (sym e) s.count;
+      stage = s.stage;
+      greeted = s.greeted;
+      phase = s.phase;
+      life = s.life;
+      history = s.history;
+      logs = λ p i. subst (λ (z : TheStore). KeepsOf (peer_at p z) (c.trims 0 p) (c.inputs p) (c.numbers 0 p)) (sym e) (s.logs p i);
+      shown = λ p i. subst (λ (z : TheStore). (peer_at p z).shown ≡ count_of p c.shown) (sym e) (s.shown p i);
+      outputs = subst (λ (z : TheStore). EndsWith z.outputs c.shown) (sym e) s.outputs;
+      heard = λ p i. subst (λ (z : TheStore). c.heard 0 p ≡ (peer_at p z).heard) (sym e) (s.heard p i);
+      resumed = λ p i. subst (λ (z : TheStore). c.resumed 0 p ≡ (peer_at p z).resumed) (sym e) (s.resumed p i);
+      out = out;
+    }

@@ -12,13 +12,12 @@ use Rattle.stores.specs.declared.change.Change.{Change}
 use Rattle.stores.specs.declared.change.Change.TheVariants as changes
 use Rattle.stores.specs.Peer.{ThePeer, last_of, is_kept, payload_of, appended, recorded, dropped_to, hears, forgets}
 use Rattle.stores.specs.Store.{TheStore, IsOf, peer_at, with_peer, applied}
-use Rattle.gateway.specs.Gateway.{TheGateway, peer_of, packet_of, posts, happens, delivers, puts_in, hands_out, unnumbered, delivers_each, ticked_to}
+use Rattle.gateway.specs.Gateway.{TheGateway, peer_of, packet_of, posts, happens, delivers, puts_in, hands_out, unnumbered, delivers_each, ticked_to, ticked}
 use Rattle.gateway.specs.Calls.{is_for, is_next, says_shown, arrived, recorded_by, dropped_by, told_of, asked, obeyed, restored_of, restores, resumed_by, told, handed}
 use Rattle.gateway.proofs.Steps.{by-if}
 use Rattle.node.specs.Stands.{Each}
 use Rattle.node.proofs.Lists.{all-pushed, all-push}
-use Rattle.lives.specs.Durable.{handed_out}
-use Rattle.lives.specs.System.{Deals}
+use Rattle.lives.specs.System.{handed_out, PutIn, Deals}
 
 -- it gives no numbers of its own
 abbrev pub IsQuiet : bodies.Body → Type 0
@@ -64,10 +63,13 @@ ticked-each (suc k) g =
     sent-each (suc k) (take m.tick (unnumbered (peer_of (suc k) m).dropped (peer_of (suc k) m).entries)) m ∙ ticked-each k g
 
 -- where as many outputs wait as before, none was handed out
-none-out : (g new : TheGateway) → new.store.outputs ≡ g.store.outputs → handed_out g new ≡ []
+pub none-out : (g new : TheGateway) → new.store.outputs ≡ g.store.outputs → handed_out g new ≡ []
 none-out g new e =
     let none : length g.store.outputs - length new.store.outputs ≡ 0 = omega (arith, ap length e) in
     ap (λ k. take k g.store.outputs) none
+
+pub ticked-outputs : (g new : TheGateway) → new ≡ ticked g → new.store.outputs ≡ g.store.outputs
+ticked-outputs g new e = ap (λ (z : TheGateway). z.store.outputs) e ∙ ap (λ (z : TheStore). z.outputs) (ticked-each (length g.store.peers) g)
 
 module _ (Q : TheStore → Type 0) (steady : Steady Q) where
   abbrev On : TheGateway → Type 0
@@ -111,17 +113,26 @@ module _ (Q : TheStore → Type 0) (steady : Steady Q) where
           ap (λ z. take (length g.store.outputs - length z) g.store.outputs) left ∙ ap (λ z. take (length z - length os) z) some in
           inr (o, (os, (some, (is, out ∙ ap (λ k. take k (o ∷ os)) one))))
 
-  pub deals : (g new : TheGateway) → Deals g new → On g → HandsOne Q g new
-  deals g new (inl d) s =
+  -- an input comes
+  pub puts : (g new : TheGateway) → PutIn g new → On g → On new
+  puts g new d s =
       let m : TheGateway = happens (changes.Input d.0 d.1.0) g in
       let goes : On (puts_in d.0 d.1.0 g) = delivering d.0 (last_of (peer_of d.0 g) + 1) m (changing (changes.Input d.0 d.1.0) d.0 (appended d.1.0 (peer_of d.0 g)) g refl refl s) in
-      inl (subst On (sym d.1.1) goes, none-out g new (ap (λ (z : TheGateway). z.store.outputs) d.1.1))
+      subst On (sym d.1.1.0) goes
+
+  -- it sends again what isn't answered
+  pub ticks : (g new : TheGateway) → new ≡ ticked g → On g → On new
+  ticks g new e s = subst On (sym e) (ticking (length g.store.peers) g s)
+
+  -- it tells what happened
+  pub tells : (g new : TheGateway) → new ≡ record g { changes = [] } → On g → On new
+  tells g new e s = let goes : On (record g { changes = [] }) = record { out = s.out; store = s.store } in subst On (sym e) goes
+
+  pub deals : (g new : TheGateway) → Deals g new → On g → HandsOne Q g new
+  deals g new (inl d) s = inl (puts g new d s, none-out g new (ap (λ (z : TheGateway). z.store.outputs) d.1.1.0))
   deals g new (inr (inl e)) s = hands-one g new e s
-  deals g new (inr (inr (inl e))) s =
-      inl (subst On (sym e) (ticking (length g.store.peers) g s), none-out g new (ap (λ (z : TheGateway). z.store.outputs) e ∙ ap (λ (z : TheStore). z.outputs) (ticked-each (length g.store.peers) g)))
-  deals g new (inr (inr (inr e))) s =
-      let goes : On (record g { changes = [] }) = record { out = s.out; store = s.store } in
-      inl (subst On (sym e) goes, none-out g new (ap (λ (z : TheGateway). z.store.outputs) e))
+  deals g new (inr (inr (inl e))) s = inl (ticks g new e s, none-out g new (ticked-outputs g new e))
+  deals g new (inr (inr (inr e))) s = inl (tells g new e s, none-out g new (ap (λ (z : TheGateway). z.store.outputs) e))
 
   -- ---- what a process says
 

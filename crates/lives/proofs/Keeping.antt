@@ -1,5 +1,5 @@
 -- What anyone has of a durable process is what is stored of it to be sent
-use Rattle.std.proofs.Common.{◌≡◌, ◌≢◌, ℕ, ◌≤◌, List, [], ◌∷◌, ◌++◌, length, Bool, true, false, refl, sym, ap, ◌∙◌, subst, arith}
+use Rattle.std.proofs.Common.{◌≡◌, ◌≢◌, ℕ, ◌≤◌, List, [], ◌∷◌, ◌++◌, length, drop, Bool, true, false, refl, sym, ap, ◌∙◌, subst, arith}
 use Rattle.std.specs.Prelude.{Some, ◌==◌, if◌then◌else◌}
 use Rattle.std.proofs.lemmas.Bool.Decides.{nat_tests}
 use Rattle.theorems.specs.Growth.{Begins}
@@ -20,11 +20,12 @@ use Rattle.node.specs.Runs.{Answering, handlers_of}
 use Rattle.node.specs.Stands.{Each}
 use Rattle.node.proofs.Lists.{all-more}
 use Rattle.node.proofs.Runs.{grows, one-was}
+use Rattle.recovery.proofs.Keeping.{each-drop}
 use Rattle.recovery.proofs.Lists.{each-append}
 use Rattle.together.specs.Together.{IsFirst}
 use Rattle.lives.specs.Process.{Process, Up, Gives, WaitsFor, covered}
-use Rattle.lives.specs.System.{System, new_system, Call, Gave, Handed, Worked, Did, Stored, Saved, Died, Revived, GaveOut, HandedOut, DidOut, StoredOut, RevivedOut, DoesIt, after_call, Calls, after_calls}
-use Rattle.lives.specs.Durable.{ReplaysWhole, ReplayWhole, KeepsDurable, StaysDurable, HasAfter, IsSentBy, handed_out, outputs_of, Knows, DurableKeep}
+use Rattle.lives.specs.System.{System, new_system, Call, Gave, Handed, Worked, Did, Stored, Saved, Died, Revived, GaveOut, HandedOut, DidOut, StoredOut, StoredBut, RevivedOut, handed_out, untaken, DoesIt, after_call, Calls, after_calls}
+use Rattle.lives.specs.Durable.{ReplaysWhole, ReplayWhole, KeepsDurable, StaysDurable, HasAfter, IsSentBy, outputs_of, Knows, DurableKeep}
 use Rattle.lives.proofs.Taken.{IsFair, fair-more, fair-of}
 use Rattle.lives.proofs.HeldNode.{grown}
 use Rattle.lives.proofs.HeldGateway.{IsQuiet, OfGateway, EachOutput, each-deals, each-hands}
@@ -53,6 +54,7 @@ pub record All (f : Answering) (len : ℕ → ℕ) (n : ℕ) (D : ℕ → Bool) 
   pub given : Each (IsTrue (handlers_of f len) D H) s.given
   pub gateway : OfGateway (AreShown (handlers_of f len) D H) s.gateway
   pub durable : OfGateway (AreShown (handlers_of f len) D H) s.durable
+  pub taken : Each (IsShown (handlers_of f len) D H) s.taken
 
 -- after a call these or more do; and what it handed out these make their processes show
 pub record Goes (f : Answering) (len : ℕ → ℕ) (n : ℕ) (D : ℕ → Bool) (H : ℕ → List Message) (s : System) (k : Call) : Type 0 where
@@ -109,6 +111,10 @@ module _ (f : Answering) (len : ℕ → ℕ) (n : ℕ) (D : ℕ → Bool) (prope
   quiet-true sent b back (packets.Ask i k) q = tt
   quiet-true sent b back (packets.Resume i k s) q = tt
   quiet-true sent b back (packets.Saved k) q = tt
+
+  -- had these not been taken
+  shown-untaken : (H : ℕ → List Message) (outputs : List Output) (g : TheGateway) → Each (IsShown F D H) outputs → OfGateway (AreShown F D H) g → OfGateway (AreShown F D H) (untaken outputs g)
+  shown-untaken H outputs g a s = record { out = s.out; store = each-append (IsShown F D H) outputs g.store.outputs a s.store }
 
   gave-out : (H : ℕ → List Message) (x : Packet) (g new : TheGateway) → g ≡ record new { out = x ∷ new.out } → OfGateway (AreShown F D H) g → IsTrue F D H x × OfGateway (AreShown F D H) new
   gave-out H x g new e s =
@@ -188,6 +194,7 @@ module _ (f : Answering) (len : ℕ → ℕ) (n : ℕ) (D : ℕ → Bool) (prope
             given = all-more (IsTrue F D H) (IsTrue F D G) s.given (true-more H G later) a.given;
             gateway = gateway-more H G later s.gateway a.gateway;
             durable = gateway-more H G later s.durable a.durable;
+            taken = shown-more H G later s.taken a.taken;
           };
           shows = λ ks K b o. o;
         }
@@ -204,40 +211,43 @@ module _ (f : Answering) (len : ℕ → ℕ) (n : ℕ) (D : ℕ → Bool) (prope
   -- where what was given, and the gateway, are these
   stays : (H : ℕ → List Message) (s : System) (k : Call) → is_store k ≡ false → All f len n D H s → DoesIt f n s k → ReplaysWhole s k → ((p : ℕ) → D p ≡ true → KeepsDurable p s k)
       → ((p : ℕ) (l : IsFirst n p) → IsFairCall f len n p (D p) (D p) D (In H p) l.1 (H p) k) → Each (IsTrue F D H) (after_call s k).given → OfGateway (AreShown F D H) (after_call s k).gateway → OfGateway (AreShown F D H) (after_call s k).durable
-      → ((ks : List Call) (G : ℕ → List Message) → ((q : ℕ) → Begins (H q) (G q)) → Each (IsShown F D G) (outputs_of (after_call s k) ks) → Each (IsShown F D G) (outputs_of s (k ∷ ks))) → Goes f len n D H s k
-  stays H s k e a m v w fair given gateway durable shows =
+      → Each (IsShown F D H) (after_call s k).taken → ((ks : List Call) (G : ℕ → List Message) → ((q : ℕ) → Begins (H q) (G q)) → Each (IsShown F D G) (outputs_of (after_call s k) ks) → Each (IsShown F D G) (outputs_of s (k ∷ ks))) → Goes f len n D H s k
+  stays H s k e a m v w fair given gateway durable taken shows =
       record {
         messages = H;
         later = λ q. begins-self (H q);
-        all = record { each = each-still H s k e a m v w fair; given = given; gateway = gateway; durable = durable };
+        all = record { each = each-still H s k e a m v w fair; given = given; gateway = gateway; durable = durable; taken = taken };
         shows = shows;
       }
 
   pub goes : (H : ℕ → List Message) (s : System) (k : Call) → All f len n D H s → DoesIt f n s k → ReplaysWhole s k → ((p : ℕ) → D p ≡ true → KeepsDurable p s k) → Goes f len n D H s k
-  goes H s (Gave q x new) a m v w = stays H s (Gave q x new) refl a m v w (λ p l. tt) (gave-true H s q x new a m.0 m.1, a.given) a.gateway a.durable (λ ks G b o. o)
+  goes H s (Gave q x new) a m v w = stays H s (Gave q x new) refl a m v w (λ p l. tt) (gave-true H s q x new a m.0 m.1, a.given) a.gateway a.durable a.taken (λ ks G b o. o)
   goes H s (Handed q x new) a m v w =
       let t : IsTrue F D H x = one-was (IsTrue F D H) x s.given a.given m.1.0 in
-      stays H s (Handed q x new) refl a m v w (λ p l e. handed-true H x p t) a.given a.gateway a.durable (λ ks G b o. o)
-  goes H s (Worked q x new) a m v w = stays H s (Worked q x new) refl a m v w (λ p l. tt) a.given a.gateway a.durable (λ ks G b o. o)
-  goes H s (Did q new) a m v w = stays H s (Did q new) refl a m v w (λ p l. tt) a.given a.gateway a.durable (λ ks G b o. o)
+      stays H s (Handed q x new) refl a m v w (λ p l e. handed-true H x p t) a.given a.gateway a.durable a.taken (λ ks G b o. o)
+  goes H s (Worked q x new) a m v w = stays H s (Worked q x new) refl a m v w (λ p l. tt) a.given a.gateway a.durable a.taken (λ ks G b o. o)
+  goes H s (Did q new) a m v w = stays H s (Did q new) refl a m v w (λ p l. tt) a.given a.gateway a.durable a.taken (λ ks G b o. o)
   goes H s (Stored q bytes) a m v w = stores H s q bytes a m.0 m.1
-  goes H s (Saved q new) a m v w = stays H s (Saved q new) refl a m v w (λ p l. tt) a.given a.gateway a.durable (λ ks G b o. o)
-  goes H s (Died q) a m v w = stays H s (Died q) refl a m v w (λ p l. tt) a.given a.gateway a.durable (λ ks G b o. o)
-  goes H s (Revived q life new) a m v w = stays H s (Revived q life new) refl a m v w (λ p l. tt) a.given a.gateway a.durable (λ ks G b o. o)
+  goes H s (Saved q new) a m v w = stays H s (Saved q new) refl a m v w (λ p l. tt) a.given a.gateway a.durable a.taken (λ ks G b o. o)
+  goes H s (Died q) a m v w = stays H s (Died q) refl a m v w (λ p l. tt) a.given a.gateway a.durable a.taken (λ ks G b o. o)
+  goes H s (Revived q life new) a m v w = stays H s (Revived q life new) refl a m v w (λ p l. tt) a.given a.gateway a.durable a.taken (λ ks G b o. o)
   goes H s (GaveOut x new) a m v w =
       let t = gave-out H x s.gateway new m.1.0 a.gateway in
-      stays H s (GaveOut x new) refl a m v w (λ p l. tt) (t.0, a.given) t.1 t.1 (λ ks G b o. o)
+      stays H s (GaveOut x new) refl a m v w (λ p l. tt) (t.0, a.given) t.1 a.durable a.taken (λ ks G b o. o)
   goes H s (HandedOut x new) a m v w =
       let t : IsTrue F D H x = one-was (IsTrue F D H) x s.given a.given m.0 in
-      stays H s (HandedOut x new) refl a m v w (λ p l. tt) a.given (subst (OfGateway (AreShown F D H)) (sym m.1.0) (each-hands (IsShown F D H) x s.gateway (shown-true H x t) a.gateway)) a.durable (λ ks G b o. o)
+      stays H s (HandedOut x new) refl a m v w (λ p l. tt) a.given (subst (OfGateway (AreShown F D H)) (sym m.1.0) (each-hands (IsShown F D H) x s.gateway (shown-true H x t) a.gateway)) a.durable a.taken (λ ks G b o. o)
   goes H s (DidOut new) a m v w =
       let t = each-deals (IsShown F D H) s.gateway new m.0 a.gateway in
-      stays H s (DidOut new) refl a m v w (λ p l. tt) a.given t.0 a.durable
+      stays H s (DidOut new) refl a m v w (λ p l. tt) a.given t.0 a.durable (each-append (IsShown F D H) s.taken (handed_out s.gateway new) a.taken t.1)
       (λ ks G b o. each-append (IsShown F D G) (handed_out s.gateway new) (outputs_of (after_call s (DidOut new)) ks) (shown-more H G b (handed_out s.gateway new) t.1) o)
-  goes H s StoredOut a m v w = stays H s StoredOut refl a m v w (λ p l. tt) a.given a.gateway a.gateway (λ ks G b o. o)
+  goes H s StoredOut a m v w = stays H s StoredOut refl a m v w (λ p l. tt) a.given a.gateway a.gateway tt (λ ks G b o. o)
+  goes H s (StoredBut k) a m v w =
+      let rest : Each (IsShown F D H) (drop k s.taken) = each-drop (IsShown F D H) k s.taken a.taken in
+      stays H s (StoredBut k) refl a m v w (λ p l. tt) a.given a.gateway (shown-untaken H (drop k s.taken) s.gateway rest a.gateway) rest (λ ks G b o. o)
   goes H s (RevivedOut new) a m v w =
       let t : OfGateway (AreShown F D H) new = subst (OfGateway (AreShown F D H)) (sym m.0) (record { out = tt; store = a.durable.store }) in
-      stays H s (RevivedOut new) refl a m v w (λ p l. tt) a.given t t (λ ks G b o. o)
+      stays H s (RevivedOut new) refl a m v w (λ p l. tt) a.given t t tt (λ ks G b o. o)
 
   pub goes-on : (H : ℕ → List Message) (s : System) (ks : List Call) → All f len n D H s → Calls f n s ks → ReplayWhole s ks → ((p : ℕ) → D p ≡ true → StaysDurable p s ks) → Ends f len n D H s ks
   goes-on H s [] a m v w = record { messages = H; later = λ q. begins-self (H q); all = a; shown = tt }
@@ -269,6 +279,7 @@ durable-keep f n page tick limits len bytes calls durable stored lasting m v w =
       given = tt;
       gateway = none;
       durable = none;
+      taken = tt;
     } in
     let t = goes-on f len n durable proper (λ p. []) s calls all m v w in
     let end : System = after_calls s calls in

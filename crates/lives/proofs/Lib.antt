@@ -1,6 +1,8 @@
 pub mod Along
 pub mod Moves
 pub mod Steps
+pub mod HeldGateway
+pub mod Untaken
 pub mod Gateways
 pub mod Lives
 pub mod Back
@@ -22,7 +24,7 @@ pub mod HeldNode
 pub mod HeldOwn
 pub mod Lasting
 pub mod Durable
-pub mod HeldGateway
 pub mod Keeping
 pub mod Meeting
 pub mod Outputs
+pub mod Messages

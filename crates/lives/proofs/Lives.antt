@@ -1,7 +1,8 @@
 -- Calls of processes and of the gateway, one after another
-use Rattle.std.proofs.Common.{◌≡◌, ◌≢◌, ℕ, ◌≤◌, List, [], ◌∷◌, ◌++◌, Bool, true, false, refl, sym, ◌∙◌, subst, arith}
-use Rattle.std.specs.Prelude.{◌==◌, if◌then◌else◌}
+use Rattle.std.proofs.Common.{◌≡◌, ◌≢◌, ℕ, ◌≤◌, List, [], ◌∷◌, ◌++◌, length, take, drop, Bool, true, false, refl, sym, ap, ◌∙◌, subst, arith}
+use Rattle.std.specs.Prelude.{Some, ◌==◌, if◌then◌else◌}
 use Rattle.std.proofs.lemmas.Bool.Decides.{nat_tests}
+use Rattle.std.proofs.lemmas.List.{take-append-drop}
 use Rattle.theorems.proofs.Changes.{at-itself}
 use Rattle.world.specs.Handlers.{Handlers}
 use Rattle.world.specs.World.{put}
@@ -26,18 +27,23 @@ use Rattle.recovery.specs.Stands.{IsSent}
 use Rattle.recovery.proofs.Posting.{sent-still}
 use Rattle.node.proofs.Steps.{run-on}
 use Rattle.node.proofs.Runs.{grows, parcels-stay, one-was}
+use Rattle.stores.specs.declared.change.Output.{Output}
+use Rattle.stores.specs.Store.{TheStore}
 use Rattle.gateway.specs.Gateway.{TheGateway, new_gateway}
 use Rattle.gateway.specs.Calls as outside
 use Rattle.gateway.specs.Stands as gateways
 use Rattle.gateway.proofs.Opening as gateway_opening
+use Rattle.gateway.proofs.Steps.{stays}
+use Rattle.gateway.proofs.Views.{takes-so}
 use Rattle.together.specs.Together.{IsFirst}
 use Rattle.together.proofs.Gateways.{gateway-stands, all-by-gateway}
 use Rattle.lives.specs.Process.{Process, Collects, Killed, StandsAs, is_exact, covered}
-use Rattle.lives.specs.System.{System, new_system, AreStored, Call, Gave, Handed, Worked, Did, Stored, Saved, Died, Revived, GaveOut, HandedOut, DidOut, StoredOut, RevivedOut, DoesIt, after_call, Calls, after_calls, AreStoredOf, AreExact, StayExact, AllStand, LivesRun}
+use Rattle.lives.specs.System.{System, new_system, AreStored, Call, Gave, Handed, Worked, Did, Stored, Saved, Died, Revived, GaveOut, HandedOut, DidOut, StoredOut, StoredBut, RevivedOut, handed_out, untaken, DoesIt, after_call, Calls, after_calls, AreStoredOf, AreExact, StayExact, AllStand, LivesRun}
 use Rattle.lives.proofs.Moves.{Moves, stands-still, stored-still, lives-still}
 use Rattle.lives.proofs.Steps.{giving, hearing, working, acting, storing, telling, dying, reviving}
 use Rattle.lives.proofs.Losses.{loss-is-dropped}
-use Rattle.lives.proofs.Gateways.{Ahead, PutsMore, ahead-none, ahead-still, ahead-acts}
+use Rattle.lives.proofs.Untaken.{goes-fewer, goes-taken-out, dealing, handing}
+use Rattle.lives.proofs.Gateways.{Ahead, PutsMore, ahead-none, ahead-still, ahead-acts, out-more, stands-as}
 
 -- a packet was put out by whoever it says, unless it says that all is lost
 abbrev pub WasPut : Cluster → Packet → Type 0
@@ -52,7 +58,7 @@ pub record Holds (f : Handlers) (n : ℕ) (s : System) (c : Cluster) : Type 0 wh
   pub stored : (p : ℕ) → IsFirst n p → AreStoredOf (s.stored p) (s.processes p) c p
   pub lives : (p : ℕ) → IsFirst n p → c.stored p ≤ s.lives p
   pub durable : gateways.Stands s.durable c
-  pub ahead : Ahead s.durable s.gateway c
+  pub ahead : Ahead s.durable (untaken s.taken s.gateway) c
   pub given : Each (WasPut c) s.given
   pub handlers : c.handlers ≡ f
 
@@ -99,7 +105,7 @@ module _ (f : Handlers) (n : ℕ) (s : System) (c : Cluster) (h : Holds f n s c)
           lives = λ q l. at-each (λ k z. (after_run c m.acts).stored k ≤ lives k) s.processes p q new
               (λ o. subst (λ life. (after_run c m.acts).stored q ≤ life) (sym (same_lives q o)) (lives-still (s.lives q) q p m.acts c (λ e. o (sym e)) m.by (h.lives q l))) m.lives;
           durable = gateway-stands s.durable c p m.acts first.0 m.by h.durable;
-          ahead = ahead-still s.durable s.gateway c (after_run c m.acts) (parcels-stay c m.acts) h.ahead;
+          ahead = ahead-still s.durable (untaken s.taken s.gateway) c (after_run c m.acts) (parcels-stay c m.acts) h.ahead;
           given = given-still c m.acts s.given h.given;
           handlers = worlds.run-handlers c m.acts ∙ h.handlers;
         };
@@ -109,9 +115,9 @@ module _ (f : Handlers) (n : ℕ) (s : System) (c : Cluster) (h : Holds f n s c)
   process-acts : (p : ℕ) (new : Process) → IsFirst n p → Moves p new (s.stored p) (s.lives p) c → Onward f n c (record s { processes = put s.processes p new })
   process-acts p new first m = process-goes p new s.stored s.lives (λ q o. refl) (λ q o. refl) first m
 
-  -- the gateway goes on, and is durable so
-  gateway-goes : (new : TheGateway) → gateways.Goes new c → Onward f n c (record s { gateway = new; durable = new })
-  gateway-goes new g =
+  -- the gateway goes on to where it is durable so, and goes on from there
+  gateway-moves : (new durable : TheGateway) (taken : List Output) → (g : gateways.Goes durable c) → Ahead durable (untaken taken new) (after_run c g.acts) → Onward f n c (record s { gateway = new; durable = durable; taken = taken })
+  gateway-moves new durable taken g ahead =
       let by : Each (λ (a : Act). actor a ≡ 0) g.acts = all-by-gateway g.acts g.by in
       record {
         acts = g.acts;
@@ -124,24 +130,28 @@ module _ (f : Handlers) (n : ℕ) (s : System) (c : Cluster) (h : Holds f n s c)
           stored = λ q l. stored-still (s.stored q) (s.processes q) q 0 g.acts c (λ e. absurd (omega (arith, l.0, e))) by (h.stored q l);
           lives = λ q l. lives-still (s.lives q) q 0 g.acts c (λ e. absurd (omega (arith, l.0, e))) by (h.lives q l);
           durable = g.stands;
-          ahead = ahead-none new (after_run c g.acts);
+          ahead = ahead;
           given = given-still c g.acts s.given h.given;
           handlers = worlds.run-handlers c g.acts ∙ h.handlers;
         };
       }
 
+  -- and is durable as it is, but that these outputs were taken
+  gateway-goes : (new : TheGateway) (taken : List Output) → gateways.Goes (untaken taken new) c → Onward f n c (record s { gateway = new; durable = untaken taken new; taken = taken })
+  gateway-goes new taken g = gateway-moves new (untaken taken new) taken g (ahead-none (untaken taken new) (after_run c g.acts))
+
   -- it goes on, and isn't durable yet
-  gateway-waits : (new : TheGateway) → Ahead s.durable new c → Onward f n c (record s { gateway = new })
-  gateway-waits new a =
+  gateway-waits : (new : TheGateway) (taken : List Output) → Ahead s.durable (untaken taken new) c → Onward f n c (record s { gateway = new; taken = taken })
+  gateway-waits new taken a =
       record {
         acts = [];
         run = tt;
         holds = record { count = h.count; few = h.few; believed = h.believed; processes = h.processes; stored = h.stored; lives = h.lives; durable = h.durable; ahead = a; given = h.given; handlers = h.handlers };
       }
 
--- a packet more was given
-given-more : (f : Handlers) (n : ℕ) (c : Cluster) (s : System) (x : Packet) → WasPut c x → Onward f n c s → Onward f n c (record s { given = x ∷ s.given })
-given-more f n c s x o w =
+-- a packet more was given, where it was put out
+given-there : (f : Handlers) (n : ℕ) (c : Cluster) (s : System) (x : Packet) → (w : Onward f n c s) → WasPut (after_run c w.acts) x → Onward f n c (record s { given = x ∷ s.given })
+given-there f n c s x w o =
     let h = w.holds in
     record {
       acts = w.acts;
@@ -155,10 +165,14 @@ given-more f n c s x o w =
         lives = h.lives;
         durable = h.durable;
         ahead = h.ahead;
-        given = ((given-still c w.acts (x ∷ []) (o, tt)).0, h.given);
+        given = (o, h.given);
         handlers = h.handlers;
       };
     }
+
+-- or had been before
+given-more : (f : Handlers) (n : ℕ) (c : Cluster) (s : System) (x : Packet) → WasPut c x → Onward f n c s → Onward f n c (record s { given = x ∷ s.given })
+given-more f n c s x o w = given-there f n c s x w (given-still c w.acts (x ∷ []) (o, tt)).0
 
 -- what a packet of a process says, as one of its own number
 from-own : (c : Cluster) (p : ℕ) (x : Packet) → IsSent c.count c.parcels p x → WasPut c x
@@ -173,10 +187,32 @@ to-gateway : (c d : Cluster) (x : Packet) → PutsMore c d → PutOut c.count c.
 to-gateway c d x more o = record { body = o.said.0; says = o.said.1; among = more (parcel x.from x.to o.said.0) o.said.2 }
 
 -- a packet comes to the gateway: it drops one that says that all is lost
-handing-out : (s : System) (c : Cluster) (x : Packet) (new : TheGateway) (loss : Bool) → is_loss x.body ≡ loss → WasPut c x → (new ≡ outside.handed x s.gateway) × gateways.IsHanded x s.gateway new → Ahead s.durable s.gateway c
-    → Ahead s.durable new c
-handing-out s c x new true e o g a = subst (λ z. Ahead s.durable z c) (sym (g.0 ∙ loss-is-dropped.1 x s.gateway e)) a
-handing-out s c x new false e o g a = ahead-acts (λ d. gateways.WasSaid d.parcels x.from x) s.durable s.gateway new c (λ d more. to-gateway c d x more (o e)) g.1 a
+handing-out : (s : System) (c : Cluster) (x : Packet) (new : TheGateway) (loss : Bool) → is_loss x.body ≡ loss → WasPut c x → new ≡ outside.handed x s.gateway → Ahead s.durable (untaken s.taken s.gateway) c
+    → Ahead s.durable (untaken s.taken new) c
+handing-out s c x new true e o g a = subst (λ z. Ahead s.durable (untaken s.taken z) c) (sym (g ∙ loss-is-dropped.1 x s.gateway e)) a
+handing-out s c x new false e o g a =
+    ahead-acts (λ d. gateways.WasSaid d.parcels x.from x) s.durable (untaken s.taken s.gateway) (untaken s.taken new) c (λ d more. to-gateway c d x more (o e)) (handing s.taken x s.gateway new g) a
+
+-- the gateway gives a packet: its store is durable, but which outputs were taken, and so is where it was put out
+giving-out : (f : Handlers) (n : ℕ) (s : System) (c : Cluster) (x : Packet) (new : TheGateway) → Holds f n s c → s.durable.store ≡ (untaken s.taken s.gateway).store → gateways.Takes (Some x) s.gateway new
+    → Onward f n c (record s { gateway = new; given = x ∷ s.given })
+unfolding gateway-moves
+giving-out f n s c x new h lasts m =
+    let old : TheGateway = untaken s.taken s.gateway in
+    let next : TheGateway = untaken s.taken new in
+    let g : gateways.Goes old c = h.ahead c h.durable (λ y i. i) in
+    let d : Cluster = after_run c g.acts in
+    let out : old.out ≡ x ∷ new.out = ap (λ (z : TheGateway). z.out) m.0 in
+    let took = (takes-so (Some x) old new.out out).1 d g.stands in
+    let is : record old { out = new.out } ≡ next = ap (λ (z : TheGateway). record (untaken s.taken z) { out = new.out }) m.0 in
+    let here : gateways.Stands next d = subst (λ z. gateways.Stands z d) is took.1 in
+    let store : s.durable.store ≡ next.store = lasts ∙ ap (λ (z : TheGateway). (untaken s.taken z).store) m.0 in
+    let kept : gateways.Stands s.durable d = stands-as next s.durable d store (out-more s.durable c d (sym (count-after c g.acts)) (parcels-stay c g.acts) h.durable.out) here in
+    let ahead : Ahead s.durable next d = λ b stands more.
+    let many : d.count ≡ b.count = sym here.count ∙ sym (ap (λ (z : TheStore). length z.peers) store) ∙ stands.count in
+    stays next b (stands-as s.durable next b (sym store) (out-more next d b many more here.out) stands) in
+    let onward = gateway-moves f n s c h new s.durable s.taken (record { acts = g.acts; run = g.run; by = g.by; stands = kept }) ahead in
+    given-there f n c (record s { gateway = new }) x onward (from-gateway d x took.0)
 
 -- what is changed at p alone
 elsewhere : {X : Type 0} (f : ℕ → X) (p q : ℕ) (x : X) → q ≢ p → put f p x q ≡ f q
@@ -205,17 +241,19 @@ call-goes f len n s c (Revived p life new) h m exact =
     let P : ℕ → Type 0 = λ l. Moves p (Collects new) (s.stored p) l c in
     process-goes (handlers_of f len) n s c h p (Collects new) s.stored (put s.lives p life) (λ q o. refl) (λ q o. elsewhere s.lives p q life o) m.0
     (at-itself p (λ b. P (if b then life else s.lives p)) (reviving c p (s.stored p) (s.processes p) (s.lives p) life new m.1.0 (h.lives p m.0) m.1.1.0 m.1.1.1 (h.processes p m.0) (h.stored p m.0)))
-call-goes f len n s c (GaveOut x new) h m exact =
-    let took = m.1.1 c (subst (λ g. gateways.Stands g c) m.0 h.durable) in
-    given-more (handlers_of f len) n c (record s { gateway = new; durable = new }) x (from-gateway c x took.0)
-    (gateway-goes (handlers_of f len) n s c h new (record { acts = []; run = tt; by = tt; stands = took.1 }))
+call-goes f len n s c (GaveOut x new) h m exact = giving-out (handlers_of f len) n s c x new h m.0 m.1
 call-goes f len n s c (HandedOut x new) h m exact =
     let o : WasPut c x = one-was (WasPut c) x s.given h.given m.0 in
-    gateway-waits (handlers_of f len) n s c h new (handing-out s c x new (is_loss x.body) refl o m.1 h.ahead)
-call-goes f len n s c (DidOut new) h m exact = gateway-waits (handlers_of f len) n s c h new (ahead-acts (λ d. Unit {0}) s.durable s.gateway new c (λ d more. tt) m.1 h.ahead)
-call-goes f len n s c StoredOut h m exact = gateway-goes (handlers_of f len) n s c h s.gateway (h.ahead c h.durable (λ x i. i))
+    gateway-waits (handlers_of f len) n s c h new s.taken (handing-out s c x new (is_loss x.body) refl o m.1.0 h.ahead)
+call-goes f len n s c (DidOut new) h m exact =
+    let more : List Output = s.taken ++ handed_out s.gateway new in
+    gateway-waits (handlers_of f len) n s c h new more (ahead-acts (λ d. Unit {0}) s.durable (untaken s.taken s.gateway) (untaken more new) c (λ d more. tt) (dealing s.taken s.gateway new m.0) h.ahead)
+call-goes f len n s c StoredOut h m exact = gateway-goes (handlers_of f len) n s c h s.gateway [] (goes-taken-out s.taken s.gateway c (h.ahead c h.durable (λ x i. i)))
+call-goes f len n s c (StoredBut k) h m exact =
+    let all : gateways.Goes (untaken (take k s.taken ++ drop k s.taken) s.gateway) c = subst (λ z. gateways.Goes (untaken z s.gateway) c) (sym (take-append-drop k s.taken)) (h.ahead c h.durable (λ x i. i)) in
+    gateway-goes (handlers_of f len) n s c h s.gateway (drop k s.taken) (goes-fewer (take k s.taken) (drop k s.taken) s.gateway c all)
 call-goes f len n s c (RevivedOut new) h m exact =
-    gateway-goes (handlers_of f len) n s c h new (record { acts = []; run = tt; by = tt; stands = (m.1 s.durable refl).0 c h.durable })
+    gateway-goes (handlers_of f len) n s c h new [] (record { acts = []; run = tt; by = tt; stands = (m.1 s.durable refl).0 c h.durable })
 
 pub calls-go : (f : Answering) (len : ℕ → ℕ) (n : ℕ) (s : System) (c : Cluster) (ks : List Call) → Holds (handlers_of f len) n s c → Calls f n s ks → StayExact n s ks → Onward (handlers_of f len) n c (after_calls s ks)
 calls-go f len n s c [] h m exact = record { acts = []; run = tt; holds = h }
@@ -259,7 +297,7 @@ all-stand f n s c h =
       stored = h.stored;
       lives = h.lives;
       durable = h.durable;
-      gateway = h.ahead c h.durable (λ x i. i);
+      gateway = goes-taken-out s.taken s.gateway c (h.ahead c h.durable (λ x i. i));
       shown = λ p first. h.durable.shown p (first.0, subst (λ k. p ≤ k) (sym h.count) first.1);
     }
 

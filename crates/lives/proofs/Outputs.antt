@@ -1,8 +1,8 @@
 -- Outputs in order, whatever fails and meets
-use Rattle.std.proofs.Common.{◌≡◌, ◌≢◌, inl, inr, ℕ, zero, suc, ◌+◌, ◌-◌, ◌<◌, ◌≤◌, List, [], ◌∷◌, ◌++◌, map, drop, Bool, true, false, refl, sym, ap, ◌∙◌, subst, arith, append_assoc, append-nil}
+use Rattle.std.proofs.Common.{◌≡◌, ◌≢◌, inl, inr, ℕ, zero, suc, ◌+◌, ◌-◌, ◌<◌, ◌≤◌, List, [], ◌∷◌, ◌++◌, map, take, drop, Bool, true, false, refl, sym, ap, ◌∙◌, subst, arith, append_assoc, append-nil}
 use Rattle.std.specs.Prelude.{◌⊎◌, Some, slice_index_or, slice_set, replicate, nat_le, ◌==◌, if◌then◌else◌}
 use Rattle.std.proofs.lemmas.Bool.Decides.{nat_tests}
-use Rattle.std.proofs.lemmas.List.{map-append}
+use Rattle.std.proofs.lemmas.List.{map-append, take-append-drop}
 use Rattle.theorems.proofs.Changes.{at-itself}
 use Rattle.world.specs.declared.message.Message.{Message}
 use Rattle.world.specs.History.{count_of, nth}
@@ -16,24 +16,33 @@ use Rattle.stores.specs.Store.{TheStore, IsOf, peer_at, applied}
 use Rattle.stores.proofs.Peers.{each-peer}
 use Rattle.gateway.specs.Gateway.{TheGateway, new_gateway, happens}
 use Rattle.gateway.specs.Calls.{is_next}
+use Rattle.gateway.specs.Calls as outside
 use Rattle.gateway.specs.Stands.{shown_as}
+use Rattle.node.specs.declared.limit.Limits.{Limits}
 use Rattle.node.specs.Runs.{Answering, handlers_of}
 use Rattle.node.specs.Stands.{Each, InOrderFrom}
 use Rattle.node.proofs.Lists.{all-more, count-append}
 use Rattle.node.proofs.Numbers.{InOrderFrom-push}
-use Rattle.lives.specs.System.{System, new_system, Call, Gave, Handed, Worked, Did, Stored, Saved, Died, Revived, GaveOut, HandedOut, DidOut, StoredOut, RevivedOut, DoesIt, after_call, Calls, after_calls}
-use Rattle.lives.specs.Durable.{handed_out, outputs_of, Keep}
+use Rattle.recovery.proofs.Lists.{each-append}
+use Rattle.lives.specs.System.{System, new_system, Call, Gave, Handed, Worked, Did, Stored, Saved, Died, Revived, GaveOut, HandedOut, DidOut, StoredOut, StoredBut, RevivedOut, handed_out, untaken, DoesIt, after_call, Calls, after_calls}
+use Rattle.lives.specs.Durable.{outputs_of, Keep}
 use Rattle.lives.specs.Outputs.{LivesOn, OneLife, IsOut, AllOut, LeavesNoGap, AreBehind, SayTheSame, OutputsInOrder, OutputsWithoutGap, OutputsStayOut, OutputsAgree}
 use Rattle.lives.proofs.Back.{after-append, calls-parts}
 use Rattle.lives.proofs.Keeping.{IsShown, durable-keep}
-use Rattle.lives.proofs.HeldGateway.{OfGateway, Steady, output, HandsOne, deals, hands}
+use Rattle.lives.proofs.HeldGateway.{OfGateway, Steady, output, hands, puts, ticks, tells}
+use Rattle.lives.proofs.Untaken.{IsQuietDeal, DealsSo, deals-so, deals-alike, handed-alike, handing-so}
 
 -- ---- the store
+
+-- it is of a process
+abbrev pub IsOfSome : Output → Type 0
+IsOfSome o = 0 < o.process
 
 -- of each process the outputs that wait are those behind these, up to the last that was shown
 pub record InTurn (c : ℕ → ℕ) (s : TheStore) : Type 0 where
   pub shown : (p : ℕ) → 0 < p → (peer_at p s).shown ≡ c p + count_of p (map shown_as s.outputs)
   pub ordered : InOrderFrom c (map shown_as s.outputs)
+  pub some : Each IsOfSome s.outputs
 
 -- these with one more of x
 abbrev pub past : (ℕ → ℕ) → ℕ → ℕ → ℕ
@@ -48,7 +57,7 @@ shown-still (x ∷ xs) (suc i) zero new e = refl
 shown-still (x ∷ xs) (suc i) (suc k) new e = shown-still xs i k new e
 
 steady : (c : ℕ → ℕ) → Steady (InTurn c)
-steady c p new s e t = record { shown = λ q l. shown-still s.peers (p - 1) (q - 1) new e ∙ t.shown q l; ordered = t.ordered }
+steady c p new s e t = record { shown = λ q l. shown-still s.peers (p - 1) (q - 1) new e ∙ t.shown q l; ordered = t.ordered; some = t.some }
 
 -- whether one is of a process, as a number
 abbrev tally : Bool → ℕ
@@ -64,6 +73,7 @@ shown-turn c o s of next t =
     record {
       shown = shown;
       ordered = subst (InOrderFrom c) (sym (map-append shown_as s.outputs (o ∷ []))) (InOrderFrom-push c (map shown_as s.outputs) (shown_as o) t.ordered (next ∙ ap suc was));
+      some = each-append IsOfSome s.outputs (o ∷ []) t.some (of.some, tt);
     }
   where
     here : o.ssn ≡ c o.process + count_of o.process (map shown_as (s.outputs ++ o ∷ []))
@@ -107,8 +117,49 @@ taken-turn c o os s e t =
       record {
         shown = λ q l. t.shown q l ∙ ap (λ z. c q + count_of q (map shown_as z)) e ∙ past-one c o.process q (count_of q (map shown_as os)) ∙ ap (λ z. past c o.process q + count_of q (map shown_as z)) (sym rest);
         ordered = subst (λ z. InOrderFrom (past c o.process) (map shown_as z)) (sym rest) ordered.1;
+        some = subst (Each IsOfSome) (sym rest) (subst (Each IsOfSome) e t.some).1;
       },
     )
+
+-- these with more of each process, as these outputs are of it
+abbrev pub passed : (ℕ → ℕ) → List Output → ℕ → ℕ
+passed c [] = c
+passed c (o ∷ os) = passed (past c o.process) os
+
+passed-append : (c : ℕ → ℕ) (xs ys : List Output) → passed c (xs ++ ys) ≡ passed (passed c xs) ys
+passed-append c [] ys = refl
+passed-append c (x ∷ xs) ys = passed-append (past c x.process) xs ys
+
+-- so many of them, and then the others
+passed-rest : (c : ℕ → ℕ) (k : ℕ) (outputs : List Output) → passed (passed c (take k outputs)) (drop k outputs) ≡ passed c outputs
+passed-rest c k outputs = sym (passed-append c (take k outputs) (drop k outputs)) ∙ ap (passed c) (take-append-drop k outputs)
+
+past-grows : (c : ℕ → ℕ) (x p : ℕ) → c p ≤ past c x p
+past-grows c x p = split (p == x) refl
+  where
+    split : (b : Bool) → (p == x) ≡ b → c p ≤ (if b then suc (c x) else c p)
+    split true e = let at : c p ≡ c x = ap c (let same : p ≡ x = grind (arith, nat_tests) in same) in omega (arith, at)
+    split false e = omega arith
+
+passed-grows : (c : ℕ → ℕ) (os : List Output) (p : ℕ) → c p ≤ passed c os p
+passed-grows c [] p = omega arith
+passed-grows c (o ∷ os) p =
+    let one : c p ≤ past c o.process p = past-grows c o.process p in
+    let rest : past c o.process p ≤ passed (past c o.process) os p = passed-grows (past c o.process) os p in
+    omega (arith, one, rest)
+
+-- as they are alike, so are these
+past-alike : (c d : ℕ → ℕ) (x p : ℕ) → ((q : ℕ) → c q ≡ d q) → past c x p ≡ past d x p
+past-alike c d x p e = split (p == x)
+  where
+    split : (b : Bool) → (if b then suc (c x) else c p) ≡ (if b then suc (d x) else d p)
+    split true = ap suc (e x)
+    split false = e p
+
+-- the first that wait are taken
+taken-all : (c : ℕ → ℕ) (xs : List Output) (s : TheStore) (rest : List Output) → InTurn c (record s { outputs = xs ++ rest }) → InTurn (passed c xs) (record s { outputs = rest })
+taken-all c [] s rest t = t
+taken-all c (o ∷ xs) s rest t = taken-all (past c o.process) xs s rest (taken-turn c o (xs ++ rest) (record s { outputs = o ∷ (xs ++ rest) }) refl t).1
 
 -- ---- a call
 
@@ -134,90 +185,150 @@ outputs-first s (GaveOut x new) ks = refl
 outputs-first s (HandedOut x new) ks = refl
 outputs-first s (DidOut new) ks = refl
 outputs-first s StoredOut ks = refl
+outputs-first s (StoredBut k) ks = refl
 outputs-first s (RevivedOut new) ks = refl
 
--- the gateway has handed out up to c, and where it is revived, it is as if up to d; after a call these are others
+-- of each process no less than the one, and no more than the other
+abbrev pub Between : (ℕ → ℕ) → (ℕ → ℕ) → (ℕ → ℕ) → Type 0
+Between d kept c = (p : ℕ) → (d p ≤ kept p) × (kept p ≤ c p)
+
+-- the gateway has handed out up to c; where it is revived, it is as if up to d, and what was handed out from there on isn't durably taken
+pub record UpTo (c d : ℕ → ℕ) (s : System) : Type 0 where
+  pub gateway : OfGateway (InTurn c) s.gateway
+  pub durable : OfGateway (InTurn d) s.durable
+  pub shadow : OfGateway (InTurn d) (untaken s.taken s.gateway)
+  pub leads : (p : ℕ) → c p ≡ passed d s.taken p
+
+-- after a call these are others
 pub record Turns (c d : ℕ → ℕ) (s : System) (k : Call) : Type 0 where
   pub from : ℕ → ℕ
   pub kept : ℕ → ℕ
-  pub gateway : OfGateway (InTurn from) (after_call s k).gateway
-  pub durable : OfGateway (InTurn kept) (after_call s k).durable
+  pub up : UpTo from kept (after_call s k)
   pub leads : Leads c (shown_by s k) from ⊎ Leads d (shown_by s k) from
   pub on : LivesOn k → Leads c (shown_by s k) from
-  pub kept_is : (kept ≡ d) ⊎ (kept ≡ from)
+  pub kept_is : (kept ≡ d) ⊎ Between d kept from
 
-module _ (c d : ℕ → ℕ) (s : System) (a : OfGateway (InTurn c) s.gateway) (b : OfGateway (InTurn d) s.durable) where
+module _ (c d : ℕ → ℕ) (s : System) (a : UpTo c d s) where
   -- nothing of it changes
-  rests : (k : Call) → (after_call s k).gateway ≡ s.gateway → (after_call s k).durable ≡ s.durable → shown_by s k ≡ [] → Turns c d s k
-  rests k e o n =
-      record {
-        from = c;
-        kept = d;
-        gateway = subst (OfGateway (InTurn c)) (sym e) a;
-        durable = subst (OfGateway (InTurn d)) (sym o) b;
-        leads = inl (inl (n, refl));
-        on = λ l. inl (n, refl);
-        kept_is = inl refl;
-      }
+  rests : (k : Call) → UpTo c d (after_call s k) → shown_by s k ≡ [] → Turns c d s k
+  rests k u n = record { from = c; kept = d; up = u; leads = inl (inl (n, refl)); on = λ l. inl (n, refl); kept_is = inl refl }
 
   gives-out : (x : Packet) (new : TheGateway) → s.gateway ≡ record new { out = x ∷ new.out } → Turns c d s (GaveOut x new)
   gives-out x new e =
-      let was : OfGateway (InTurn c) (record new { out = x ∷ new.out }) = subst (OfGateway (InTurn c)) e a in
-      let goes : OfGateway (InTurn c) new = record { out = was.out.1; store = was.store } in
-      record { from = c; kept = c; gateway = goes; durable = goes; leads = inl (inl (refl, refl)); on = λ l. inl (refl, refl); kept_is = inr refl }
+      let was : OfGateway (InTurn c) (record new { out = x ∷ new.out }) = subst (OfGateway (InTurn c)) e a.gateway in
+      let old : OfGateway (InTurn d) (untaken s.taken (record new { out = x ∷ new.out })) = subst (λ z. OfGateway (InTurn d) (untaken s.taken z)) e a.shadow in
+      let goes : OfGateway (InTurn d) (untaken s.taken new) = record { out = old.out.1; store = old.store } in
+      rests (GaveOut x new) (record { gateway = record { out = was.out.1; store = was.store }; durable = a.durable; shadow = goes; leads = a.leads }) refl
 
   -- a packet comes
-  hears-out : (f : Answering) (n : ℕ) (x : Packet) (new : TheGateway) → DoesIt f n s (HandedOut x new) → Turns c d s (HandedOut x new)
-  hears-out f n x new m =
-      let goes = hands (InTurn c) (steady c) x s.gateway (λ to of i ssn y is next t. shown-turn c (output x.from ssn y) s.gateway.store of (numbered ssn y next) t) a in
-      record {
-        from = c;
-        kept = d;
-        gateway = subst (OfGateway (InTurn c)) (sym m.1.0) goes;
-        durable = b;
-        leads = inl (inl (refl, refl));
-        on = λ l. inl (refl, refl);
-        kept_is = inl refl;
-      }
+  hears : (e : ℕ → ℕ) (x : Packet) (g : TheGateway) → OfGateway (InTurn e) g → OfGateway (InTurn e) (outside.handed x g)
+  hears e x g o = hands (InTurn e) (steady e) x g (λ to of i ssn y is next t. shown-turn e (output x.from ssn y) g.store of (numbered ssn y next) t) o
     where
-      numbered : (ssn : ℕ) (y : List ℕ) → is_next (output x.from ssn y) s.gateway ≡ true → ssn ≡ suc (peer_at x.from s.gateway.store).shown
-      numbered ssn y next = let e : (ssn == (peer_at x.from s.gateway.store).shown + 1) ≡ true = next in grind (arith, nat_tests)
+      numbered : (ssn : ℕ) (y : List ℕ) → is_next (output x.from ssn y) g ≡ true → ssn ≡ suc (peer_at x.from g.store).shown
+      numbered ssn y next = let h : (ssn == (peer_at x.from g.store).shown + 1) ≡ true = next in grind (arith, nat_tests)
+
+  hears-out : (x : Packet) (new : TheGateway) → new ≡ outside.handed x s.gateway → Turns c d s (HandedOut x new)
+  hears-out x new e =
+      let alike : outside.handed x (untaken s.taken s.gateway) ≡ untaken s.taken new = handed-alike s.taken x s.gateway ∙ ap (untaken s.taken) (sym e) in
+      rests (HandedOut x new) (record {
+        gateway = subst (OfGateway (InTurn c)) (sym e) (hears c x s.gateway a.gateway);
+        durable = a.durable;
+        shadow = subst (OfGateway (InTurn d)) alike (hears d x (untaken s.taken s.gateway) a.shadow);
+        leads = a.leads;
+      }) refl
 
   -- its host lets it do something
-  does-out : (new : TheGateway) → HandsOne (InTurn c) s.gateway new → Turns c d s (DidOut new)
+  quiet : (e : ℕ → ℕ) (g new : TheGateway) → (new ≡ g) ⊎ IsQuietDeal g new → OfGateway (InTurn e) g → OfGateway (InTurn e) new
+  quiet e g new (inl same) o = subst (OfGateway (InTurn e)) (sym same) o
+  quiet e g new (inr (inl put)) o = puts (InTurn e) (steady e) g new put o
+  quiet e g new (inr (inr (inl is))) o = ticks (InTurn e) (steady e) g new is o
+  quiet e g new (inr (inr (inr is))) o = tells (InTurn e) (steady e) g new is o
+
+  quiet-alike : (new : TheGateway) → (new ≡ s.gateway) ⊎ IsQuietDeal s.gateway new → (untaken s.taken new ≡ untaken s.taken s.gateway) ⊎ IsQuietDeal (untaken s.taken s.gateway) (untaken s.taken new)
+  quiet-alike new (inl same) = inl (ap (untaken s.taken) same)
+  quiet-alike new (inr q) = inr (deals-alike s.taken s.gateway new q)
+
+  does-out : (new : TheGateway) → DealsSo s.gateway new → Turns c d s (DidOut new)
+  does-out new (inr q) =
+      let none : handed_out s.gateway new ≡ [] = q.0 in
+      let same : s.taken ++ handed_out s.gateway new ≡ s.taken = ap (λ z. s.taken ++ z) none ∙ append-nil s.taken in
+      rests (DidOut new) (record {
+        gateway = quiet c s.gateway new q.1 a.gateway;
+        durable = a.durable;
+        shadow = subst (λ z. OfGateway (InTurn d) (untaken z new)) (sym same) (quiet d (untaken s.taken s.gateway) (untaken s.taken new) (quiet-alike new q.1) a.shadow);
+        leads = λ p. a.leads p ∙ ap (λ z. passed d z p) (sym same);
+      }) none
   does-out new (inl h) =
-      record { from = c; kept = d; gateway = h.0; durable = b; leads = inl (inl (h.1, refl)); on = λ l. inl (h.1, refl); kept_is = inl refl }
-  does-out new (inr h) =
-      let o : Output = h.0 in
-      let t = taken-turn c o h.1.0 s.gateway.store h.1.1.0 a.store in
-      let goes : OfGateway (InTurn (past c o.process)) (happens (changes.Taken 1) s.gateway) = record { out = a.out; store = t.1 } in
-      let one : Leads c (handed_out s.gateway new) (past c o.process) = inr (o, (h.1.1.1.1, (t.0, refl))) in
+      let o : Output = h.output in
+      let t = taken-turn c o h.rest s.gateway.store h.waited a.gateway.store in
+      let goes : OfGateway (InTurn (past c o.process)) (happens (changes.Taken 1) s.gateway) = record { out = a.gateway.out; store = t.1 } in
+      let one : Leads c (handed_out s.gateway new) (past c o.process) = inr (o, (h.handed, (t.0, refl))) in
+      let told = handing-so s.taken s.gateway new h in
+      let all : OfGateway (InTurn d) (record (untaken s.taken s.gateway) { changes = told.0 }) = record { out = a.shadow.out; store = a.shadow.store } in
+      let more : passed d (s.taken ++ handed_out s.gateway new) ≡ past (passed d s.taken) o.process =
+      ap (λ z. passed d (s.taken ++ z)) h.handed ∙ passed-append d s.taken (o ∷ []) in
       record {
         from = past c o.process;
         kept = d;
-        gateway = subst (OfGateway (InTurn (past c o.process))) (sym h.1.1.1.0) goes;
-        durable = b;
+        up = record {
+          gateway = subst (OfGateway (InTurn (past c o.process))) (sym h.is) goes;
+          durable = a.durable;
+          shadow = subst (OfGateway (InTurn d)) (sym told.1) all;
+          leads = λ p. past-alike c (passed d s.taken) o.process p a.leads ∙ sym (ap (λ z. z p) more);
+        };
         leads = inl one;
         on = λ l. one;
         kept_is = inl refl;
       }
 
+  -- all is stored
+  stores-out : Turns c d s StoredOut
+  stores-out =
+      record {
+        from = c;
+        kept = c;
+        up = record { gateway = a.gateway; durable = a.gateway; shadow = a.gateway; leads = λ p. refl };
+        leads = inl (inl (refl, refl));
+        on = λ l. inl (refl, refl);
+        kept_is = inr (λ p. (subst (λ z. d p ≤ z) (sym (a.leads p)) (passed-grows d s.taken p), omega arith));
+      }
+
+  -- all is, but that more were taken than so many
+  stores-but : (k : ℕ) → Turns c d s (StoredBut k)
+  stores-but k =
+      let first : List Output = take k s.taken in
+      let rest : List Output = drop k s.taken in
+      let parts : s.taken ++ s.gateway.store.outputs ≡ first ++ (rest ++ s.gateway.store.outputs) =
+      ap (λ z. z ++ s.gateway.store.outputs) (sym (take-append-drop k s.taken)) ∙ append_assoc first rest s.gateway.store.outputs in
+      let all : InTurn d (record s.gateway.store { outputs = first ++ (rest ++ s.gateway.store.outputs) }) = subst (λ z. InTurn d (record s.gateway.store { outputs = z })) parts a.shadow.store in
+      let goes : OfGateway (InTurn (passed d first)) (untaken rest s.gateway) = record { out = a.gateway.out; store = taken-all d first s.gateway.store (rest ++ s.gateway.store.outputs) all } in
+      let on : (p : ℕ) → c p ≡ passed (passed d first) rest p = λ p. a.leads p ∙ sym (ap (λ z. z p) (passed-rest d k s.taken)) in
+      record {
+        from = c;
+        kept = passed d first;
+        up = record { gateway = a.gateway; durable = goes; shadow = goes; leads = on };
+        leads = inl (inl (refl, refl));
+        on = λ l. inl (refl, refl);
+        kept_is = inr (λ p. (passed-grows d first p, subst (λ z. passed d first p ≤ z) (sym (on p)) (passed-grows (passed d first) rest p)));
+      }
+
   turns : (f : Answering) (n : ℕ) (k : Call) → DoesIt f n s k → Turns c d s k
-  turns f n (Gave p x new) m = rests (Gave p x new) refl refl refl
-  turns f n (Handed p x new) m = rests (Handed p x new) refl refl refl
-  turns f n (Worked p w new) m = rests (Worked p w new) refl refl refl
-  turns f n (Did p new) m = rests (Did p new) refl refl refl
-  turns f n (Stored p bytes) m = rests (Stored p bytes) refl refl refl
-  turns f n (Saved p new) m = rests (Saved p new) refl refl refl
-  turns f n (Died p) m = rests (Died p) refl refl refl
-  turns f n (Revived p life new) m = rests (Revived p life new) refl refl refl
+  turns f n (Gave p x new) m = rests (Gave p x new) (record { gateway = a.gateway; durable = a.durable; shadow = a.shadow; leads = a.leads }) refl
+  turns f n (Handed p x new) m = rests (Handed p x new) (record { gateway = a.gateway; durable = a.durable; shadow = a.shadow; leads = a.leads }) refl
+  turns f n (Worked p w new) m = rests (Worked p w new) (record { gateway = a.gateway; durable = a.durable; shadow = a.shadow; leads = a.leads }) refl
+  turns f n (Did p new) m = rests (Did p new) (record { gateway = a.gateway; durable = a.durable; shadow = a.shadow; leads = a.leads }) refl
+  turns f n (Stored p bytes) m = rests (Stored p bytes) (record { gateway = a.gateway; durable = a.durable; shadow = a.shadow; leads = a.leads }) refl
+  turns f n (Saved p new) m = rests (Saved p new) (record { gateway = a.gateway; durable = a.durable; shadow = a.shadow; leads = a.leads }) refl
+  turns f n (Died p) m = rests (Died p) (record { gateway = a.gateway; durable = a.durable; shadow = a.shadow; leads = a.leads }) refl
+  turns f n (Revived p life new) m = rests (Revived p life new) (record { gateway = a.gateway; durable = a.durable; shadow = a.shadow; leads = a.leads }) refl
   turns f n (GaveOut x new) m = gives-out x new m.1.0
-  turns f n (HandedOut x new) m = hears-out f n x new m
-  turns f n (DidOut new) m = does-out new (deals (InTurn c) (steady c) s.gateway new m.0 a)
-  turns f n StoredOut m = record { from = c; kept = c; gateway = a; durable = a; leads = inl (inl (refl, refl)); on = λ l. inl (refl, refl); kept_is = inr refl }
+  turns f n (HandedOut x new) m = hears-out x new m.1.0
+  turns f n (DidOut new) m = does-out new (deals-so s.gateway new m.0)
+  turns f n StoredOut m = stores-out
+  turns f n (StoredBut k) m = stores-but k
   turns f n (RevivedOut new) m =
-      let goes : OfGateway (InTurn d) new = subst (OfGateway (InTurn d)) (sym m.0) (record { out = tt; store = b.store }) in
-      record { from = d; kept = d; gateway = goes; durable = goes; leads = inr (inl (refl, refl)); on = λ l. absurd l; kept_is = inl refl }
+      let goes : OfGateway (InTurn d) new = subst (OfGateway (InTurn d)) (sym m.0) (record { out = tt; store = a.durable.store }) in
+      record { from = d; kept = d; up = record { gateway = goes; durable = goes; shadow = goes; leads = λ p. refl }; leads = inr (inl (refl, refl)); on = λ l. absurd l; kept_is = inl refl }
 
 -- ---- what was out before
 
@@ -285,9 +396,14 @@ leads-either : (least : ℕ → ℕ) (before outputs : List Output) (c d to : �
 leads-either least before outputs c d to w v (inl h) = leads-on least before outputs c to w h
 leads-either least before outputs c d to w v (inr h) = leads-on least before outputs d to v h
 
-kept-within : (least : ℕ → ℕ) (before outputs : List Output) (d from kept : ℕ → ℕ) → Within least before d → Within least (before ++ outputs) from → (kept ≡ d) ⊎ (kept ≡ from) → Within least (before ++ outputs) kept
+kept-within : (least : ℕ → ℕ) (before outputs : List Output) (d from kept : ℕ → ℕ) → Within least before d → Within least (before ++ outputs) from → (kept ≡ d) ⊎ Between d kept from → Within least (before ++ outputs) kept
 kept-within least before outputs d from kept w v (inl e) = subst (Within least (before ++ outputs)) (sym e) (within-more least before outputs d w)
-kept-within least before outputs d from kept w v (inr e) = subst (Within least (before ++ outputs)) (sym e) v
+kept-within least before outputs d from kept w v (inr b) =
+    λ p.
+    let low : least p ≤ d p = (w p).0 in
+    let more : d p ≤ kept p = (b p).0 in
+    let few : kept p ≤ from p = (b p).1 in
+    (omega (arith, low, more), λ ssn some under. (v p).1 ssn some (omega (arith, under, few)))
 
 -- ---- in one life
 
@@ -296,13 +412,6 @@ pub record InLife (c to : ℕ → ℕ) (outputs : List Output) : Type 0 where
   pub grows : (p : ℕ) → c p ≤ to p
   pub ordered : InOrderFrom c (map shown_as outputs)
   pub low : Each (λ (o : Output). o.ssn ≤ to o.process) outputs
-
-past-grows : (c : ℕ → ℕ) (x p : ℕ) → c p ≤ past c x p
-past-grows c x p = split (p == x) refl
-  where
-    split : (b : Bool) → (p == x) ≡ b → c p ≤ (if b then suc (c x) else c p)
-    split true e = let at : c p ≡ c x = ap c (let same : p ≡ x = grind (arith, nat_tests) in same) in omega (arith, at)
-    split false e = omega arith
 
 life-joined : (c from to : ℕ → ℕ) (xs ys : List Output) → Leads c xs from → InLife from to ys → InLife c to (xs ++ ys)
 life-joined c from to xs ys (inl h) l = subst (λ z. InLife c to (z ++ ys)) (sym h.0) (subst (λ z. InLife z to ys) h.1 l)
@@ -324,39 +433,36 @@ life-joined c from to xs ys (inr h) l =
 pub record Ends (least c : ℕ → ℕ) (before : List Output) (s : System) (ks : List Call) : Type 0 where
   pub from : ℕ → ℕ
   pub kept : ℕ → ℕ
-  pub gateway : OfGateway (InTurn from) (after_calls s ks).gateway
-  pub durable : OfGateway (InTurn kept) (after_calls s ks).durable
+  pub up : UpTo from kept (after_calls s ks)
   pub from_within : Within least (before ++ outputs_of s ks) from
   pub kept_within : Within least (before ++ outputs_of s ks) kept
   pub behind : Behind least before (outputs_of s ks)
   pub in_life : OneLife ks → InLife c from (outputs_of s ks)
 
-ends : (f : Answering) (n : ℕ) (least c d : ℕ → ℕ) (before : List Output) (s : System) (ks : List Call) → OfGateway (InTurn c) s.gateway → OfGateway (InTurn d) s.durable → Within least before c → Within least before d → Calls f n s ks → Ends least c before s ks
-ends f n least c d before s [] a b w v m =
+ends : (f : Answering) (n : ℕ) (least c d : ℕ → ℕ) (before : List Output) (s : System) (ks : List Call) → UpTo c d s → Within least before c → Within least before d → Calls f n s ks → Ends least c before s ks
+ends f n least c d before s [] a w v m =
     record {
       from = c;
       kept = d;
-      gateway = a;
-      durable = b;
+      up = a;
       from_within = within-more least before [] c w;
       kept_within = within-more least before [] d v;
       behind = tt;
       in_life = λ l. record { grows = λ p. omega arith; ordered = tt; low = tt };
     }
-ends f n least c d before s (k ∷ ks) a b w v m =
-    let one : Turns c d s k = turns c d s a b f n k m.0 in
+ends f n least c d before s (k ∷ ks) a w v m =
+    let one : Turns c d s k = turns c d s a f n k m.0 in
     let xs : List Output = shown_by s k in
     let ys : List Output = outputs_of (after_call s k) ks in
     let moved : Within least (before ++ xs) one.from × Behind least before xs = leads-either least before xs c d one.from w v one.leads in
     let stays : Within least (before ++ xs) one.kept = kept-within least before xs d one.from one.kept v moved.0 one.kept_is in
-    let rest : Ends least one.from (before ++ xs) (after_call s k) ks = ends f n least one.from one.kept (before ++ xs) (after_call s k) ks one.gateway one.durable moved.0 stays m.1 in
+    let rest : Ends least one.from (before ++ xs) (after_call s k) ks = ends f n least one.from one.kept (before ++ xs) (after_call s k) ks one.up moved.0 stays m.1 in
     let first : xs ++ ys ≡ outputs_of s (k ∷ ks) = sym (outputs-first s k ks) in
     let all : (before ++ xs) ++ ys ≡ before ++ outputs_of s (k ∷ ks) = append_assoc before xs ys ∙ ap (λ z. before ++ z) first in
     record {
       from = rest.from;
       kept = rest.kept;
-      gateway = rest.gateway;
-      durable = rest.durable;
+      up = rest.up;
       from_within = subst (λ z. Within least z rest.from) all rest.from_within;
       kept_within = subst (λ z. Within least z rest.kept) all rest.kept_within;
       behind = subst (Behind least before) first (behind-append least before xs ys moved.1 rest.behind);
@@ -375,21 +481,22 @@ shown-none (suc n) zero = refl
 shown-none (suc n) (suc k) = shown-none n k
 
 opened : (n page tick : ℕ) → OfGateway (InTurn none) (new_gateway n page tick)
-opened n page tick = record { out = tt; store = record { shown = λ p l. shown-none n (p - 1); ordered = tt } }
+opened n page tick = record { out = tt; store = record { shown = λ p l. shown-none n (p - 1); ordered = tt; some = tt } }
 
 within-none : Within none [] none
 within-none p = (omega arith, λ ssn some low. absurd (omega arith))
 
-from-opening : (f : Answering) (n : ℕ) (s : System) (page tick : ℕ) (ks : List Call) → s.gateway ≡ new_gateway n page tick → s.durable ≡ new_gateway n page tick → Calls f n s ks → Ends none none [] s ks
-from-opening f n s page tick ks e o m =
-    ends f n none none none [] s ks (subst (OfGateway (InTurn none)) (sym e) (opened n page tick)) (subst (OfGateway (InTurn none)) (sym o) (opened n page tick)) within-none within-none m
+from-opening : (f : Answering) (n page tick : ℕ) (limits : ℕ → Limits) (len : ℕ → ℕ) (bytes : ℕ → List ℕ) (ks : List Call) → Calls f n (new_system n limits len bytes page tick) ks → Ends none none [] (new_system n limits len bytes page tick) ks
+from-opening f n page tick limits len bytes ks m =
+    let begins : UpTo none none (new_system n limits len bytes page tick) = record { gateway = opened n page tick; durable = opened n page tick; shadow = opened n page tick; leads = λ p. refl } in
+    ends f n none none none [] (new_system n limits len bytes page tick) ks begins within-none within-none m
 
 pub outputs-in-order : OutputsInOrder
 outputs-in-order f n page tick limits len bytes calls life m one =
     let s : System = new_system n limits len bytes page tick in
     let parts = calls-parts f n s calls life m in
-    let a : Ends none none [] s calls = from-opening f n s page tick calls refl refl parts.0 in
-    let b = ends f n none a.from a.kept (outputs_of s calls) (after_calls s calls) life a.gateway a.durable a.from_within a.kept_within parts.1.0 in
+    let a : Ends none none [] s calls = from-opening f n page tick limits len bytes calls parts.0 in
+    let b = ends f n none a.from a.kept (outputs_of s calls) (after_calls s calls) life a.up a.from_within a.kept_within parts.1.0 in
     record { from = a.from; out = λ p. (a.from_within p).1; ordered = (b.in_life one).ordered }
 
 no-gap : (least : ℕ → ℕ) (first before after : List Output) (o : Output) → Behind least first (before ++ o ∷ after) → LeavesNoGap (first ++ before) o
@@ -399,7 +506,7 @@ no-gap least first (x ∷ before) after o h = subst (λ z. LeavesNoGap z o) (app
 pub outputs-without-gap : OutputsWithoutGap
 outputs-without-gap f n page tick limits len bytes calls m before after o e =
     let s : System = new_system n limits len bytes page tick in
-    let a : Ends none none [] s calls = from-opening f n s page tick calls refl refl m in
+    let a : Ends none none [] s calls = from-opening f n page tick limits len bytes calls m in
     no-gap none [] before after o (subst (Behind none []) (sym e) a.behind)
 
 -- those that are past the others
@@ -411,6 +518,23 @@ are-behind least first before (o ∷ os) low h = (
   are-behind least (first ++ o ∷ []) before os low h.1.1,
 )
 
+-- where it is durable as it is, all that it handed out is durably taken
+up-alike : (c d : ℕ → ℕ) (s : System) → UpTo c d s → s.durable.store ≡ s.gateway.store → (p : ℕ) → c p ≡ d p
+up-alike c d s a lasts p = split s.taken refl
+  where
+    split : (outputs : List Output) → s.taken ≡ outputs → c p ≡ d p
+    split [] e = a.leads p ∙ ap (λ z. passed d z p) e
+    split (o ∷ os) e =
+        let q : ℕ = o.process in
+        let here : InTurn d s.gateway.store = subst (InTurn d) lasts a.durable.store in
+        let some : 0 < q = (subst (λ z. Each IsOfSome (z ++ s.gateway.store.outputs)) e a.shadow.store.some).0 in
+        let one = a.gateway.store.shown q some in
+        let two = here.shown q some in
+        let led : c q ≡ passed (past d q) os q = a.leads q ∙ ap (λ z. passed d z q) e in
+        let more : past d q q ≤ passed (past d q) os q = passed-grows (past d q) os q in
+        let next : past d q q ≡ suc (d q) = at-itself q (λ b. (if b then suc (d q) else d q) ≡ suc (d q)) refl in
+        absurd (omega (arith, one, two, led, more, next))
+
 pub outputs-stay-out : OutputsStayOut
 outputs-stay-out f n page tick limits len bytes calls life more m one lasts =
     let s : System = new_system n limits len bytes page tick in
@@ -418,13 +542,15 @@ outputs-stay-out f n page tick limits len bytes calls life more m one lasts =
     let v : System = after_calls u life in
     let parts = calls-parts f n s calls (life ++ more) m in
     let later = calls-parts f n u life more parts.1.0 in
-    let a : Ends none none [] s calls = from-opening f n s page tick calls refl refl parts.0 in
+    let a : Ends none none [] s calls = from-opening f n page tick limits len bytes calls parts.0 in
     let seen : List Output = outputs_of s calls ++ outputs_of u life in
-    let b : Ends none a.from (outputs_of s calls) u life = ends f n none a.from a.kept (outputs_of s calls) u life a.gateway a.durable a.from_within a.kept_within later.0 in
-    let here : Within b.from seen b.from = λ p. (omega arith, (b.from_within p).1) in
+    let b : Ends none a.from (outputs_of s calls) u life = ends f n none a.from a.kept (outputs_of s calls) u life a.up a.from_within a.kept_within later.0 in
     let is : after_calls s (calls ++ life) ≡ v = after-append s calls life in
-    let same : v.durable ≡ v.gateway = subst (λ (z : System). z.durable ≡ z.gateway) is lasts in
-    let t : Ends b.from b.from seen v more = ends f n b.from b.from b.from seen v more b.gateway (subst (OfGateway (InTurn b.from)) (sym same) b.gateway) here here later.1.0 in
+    let same : v.durable.store ≡ v.gateway.store = subst (λ (z : System). z.durable.store ≡ z.gateway.store) is lasts in
+    let alike : (p : ℕ) → b.from p ≡ b.kept p = up-alike b.from b.kept v b.up same in
+    let here : Within b.from seen b.from = λ p. (omega arith, (b.from_within p).1) in
+    let kept : Within b.from seen b.kept = λ p. ((let e : b.from p ≡ b.kept p = alike p in omega (arith, e)), (b.kept_within p).1) in
+    let t : Ends b.from b.from seen v more = ends f n b.from b.from b.kept seen v more b.up here kept later.1.0 in
     subst (λ z. AreBehind (outputs_of u life) (outputs_of z more)) (sym is) (are-behind b.from seen (outputs_of u life) (outputs_of v more) (b.in_life one).low t.behind)
 
 -- by their SSN they are what is stored to be sent

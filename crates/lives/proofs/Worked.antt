@@ -24,11 +24,11 @@ use Rattle.lives.specs.System.{System, new_system, Call, after_call, StayExact}
 use Rattle.lives.specs.Worked.{ask, told, resume, restored, sent, asked, resumed, comes, asks, has_all, replays, begins, resumes, has_answer, worked, ComesBackUp}
 
 -- the only process is the first
-abbrev FirstExact : System → List Call → Type 0
+abbrev pub FirstExact : System → List Call → Type 0
 FirstExact s [] = Unit {0}
 FirstExact s (k ∷ ks) = (is_exact ((after_call s k).processes 1) ≡ true) × FirstExact (after_call s k) ks
 
-stays-exact : (s : System) (ks : List Call) → FirstExact s ks → StayExact 1 s ks
+pub stays-exact : (s : System) (ks : List Call) → FirstExact s ks → StayExact 1 s ks
 stays-exact s [] e = tt
 stays-exact s (k ∷ ks) e =
     ((λ p first. let one : 1 ≡ p = omega (arith, first.0, first.1) in let P : ℕ → Type 0 = λ q. is_exact ((after_call s k).processes q) ≡ true in subst P one e.0), stays-exact (after_call s k) ks e.1)
@@ -47,7 +47,7 @@ unfolding entries_in_range
 is-restoring len = record { wide = refl; answered_wide = refl; heard_wide = refl; logs_wide = refl; alone = refl }
 
 -- the process is the first
-first : IsFirst 1 1
+pub first : IsFirst 1 1
 first = (omega arith, omega arith)
 
 pub comes-back-up : ComesBackUp

@@ -42,7 +42,8 @@ abbrev pub NothingIsLostAlone : Type 0
 NothingIsLostAlone = (f : Answering) (n page tick : ℕ) (limits : ℕ → Limits) (len : ℕ → ℕ) (bytes : ℕ → List ℕ) (calls more : List Call) (p : ℕ) (a b : TheNode) → n ≤ 15 → AreStored n len bytes → IsFirst n p
     → Calls f n (new_system n limits len bytes page tick) (calls ++ more) → OneAtATime n (new_system n limits len bytes page tick) (calls ++ more)
     → (after_calls (new_system n limits len bytes page tick) calls).processes p ≡ Up a
-    → (after_calls (new_system n limits len bytes page tick) (calls ++ more)).processes p ≡ Up b → HasBack (handlers_of f len) p a b
+    → (after_calls (new_system n limits len bytes page tick) (calls ++ more)).processes p ≡ Up b
+    → HasBack n (handlers_of f len) (after_calls (new_system n limits len bytes page tick) calls) (after_calls (new_system n limits len bytes page tick) (calls ++ more)) p a b
 
 -- and what recovers keeps what it had
 abbrev pub RecoversExactlyAlone : Type 0

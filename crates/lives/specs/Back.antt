@@ -4,6 +4,7 @@ use Rattle.world.specs.declared.message.Message.{Message}
 use Rattle.world.specs.Handlers.{Handlers}
 use Rattle.cluster.specs.Cluster.{opening}
 use Rattle.cluster.specs.Rules.{Act, Run, after_run}
+use Rattle.cluster.specs.Promises.{AllAcknowledged}
 use Rattle.node.specs.declared.limit.Limits.{Limits}
 use Rattle.node.specs.Node.{TheNode}
 use Rattle.node.specs.Sending.{run_at}
@@ -19,15 +20,24 @@ use Rattle.lives.specs.System.{System, new_system, AreStored, Call, Did, Calls, 
 abbrev pub length_of : TheNode → ℕ
 length_of n = n.base + length n.receipts.senders
 
--- the process p is up as the node a, and later as b: the state of each is the one after its messages, and up to the number up to which all
--- are acknowledged at a they are the same. So where all are, and b has no more, it has the state that was
-pub record HasBack (f : Handlers) (p : ℕ) (a b : TheNode) : Type 0 where
+-- the process p is up as the node a in the system s, which goes on to t, and is up there as b. All stand in s and in t, so what p received is
+-- its history of then, and the state is the one after that. Up to the number up to which all are acknowledged at a the two histories are the
+-- same. So where all are, and b has no more, it has the state that was
+pub record HasBack (n : ℕ) (f : Handlers) (s t : System) (p : ℕ) (a b : TheNode) : Type 0 where
+  pub acts : List Act
+  pub more : List Act
+  pub run : Run (opening n f) (acts ++ more)
+  pub before : AllStand n s (after_run (opening n f) acts)
+  pub after : AllStand n t (after_run (opening n f) (acts ++ more))
   pub was : List Message
   pub is : List Message
+  pub history_was : was ≡ (after_run (opening n f) acts).history p
+  pub history_is : is ≡ (after_run (opening n f) (acts ++ more)).history p
   pub many_was : length was ≡ length_of a
   pub many_is : length is ≡ length_of b
   pub state_was : f.state p was ≡ a.state
   pub state_is : f.state p is ≡ b.state
+  pub acknowledged : AllAcknowledged (after_run (opening n f) acts) p (run_at a)
   pub within : run_at a ≤ length_of b
   pub same : take (run_at a) is ≡ take (run_at a) was
   pub back : run_at a ≡ length_of a → length_of b ≡ length_of a → b.state ≡ a.state
@@ -37,7 +47,8 @@ abbrev pub NothingIsLost : Type 0
 NothingIsLost = (f : Answering) (n page tick : ℕ) (limits : ℕ → Limits) (len : ℕ → ℕ) (bytes : ℕ → List ℕ) (calls more : List Call) (p : ℕ) (a b : TheNode) → n ≤ 15 → AreStored n len bytes → IsFirst n p
     → Calls f n (new_system n limits len bytes page tick) (calls ++ more) → StayExact n (new_system n limits len bytes page tick) (calls ++ more)
     → (after_calls (new_system n limits len bytes page tick) calls).processes p ≡ Up a
-    → (after_calls (new_system n limits len bytes page tick) (calls ++ more)).processes p ≡ Up b → HasBack (handlers_of f len) p a b
+    → (after_calls (new_system n limits len bytes page tick) (calls ++ more)).processes p ≡ Up b
+    → HasBack n (handlers_of f len) (after_calls (new_system n limits len bytes page tick) calls) (after_calls (new_system n limits len bytes page tick) (calls ++ more)) p a b
 
 -- how many messages it keeps that recovers
 abbrev pub kept_of : TheCollecting → TheReplaying → ℕ

@@ -1,5 +1,5 @@
 -- Durable processes, whatever fails and meets
-use Rattle.std.specs.Prelude.{◌≡◌, ◌≢◌, ℕ, ◌-◌, ◌≤◌, List, [], ◌∷◌, ◌++◌, length, map, take, drop, Some, Bool, true, ◌==◌, if◌then◌else◌}
+use Rattle.std.specs.Prelude.{◌≡◌, ◌≢◌, ℕ, ◌≤◌, List, [], ◌∷◌, ◌++◌, length, map, drop, Some, Bool, true, ◌==◌, if◌then◌else◌}
 use Rattle.world.specs.declared.message.Message.{Message}
 use Rattle.world.specs.History.{Payload, nth}
 use Rattle.world.specs.Handlers.{Handlers}
@@ -16,11 +16,10 @@ use Rattle.node.specs.Runs.{Answering, handlers_of}
 use Rattle.node.specs.Stands.{Each, InOrderFrom}
 use Rattle.recovery.specs.Replaying.{is_over}
 use Rattle.stores.specs.declared.change.Output.{Output}
-use Rattle.gateway.specs.Gateway.{TheGateway}
 use Rattle.together.specs.Together.{IsFirst}
 use Rattle.lives.specs.Back.{length_of}
 use Rattle.lives.specs.Process.{Process, Up, Replays, Replayed}
-use Rattle.lives.specs.System.{System, new_system, AreStored, Call, Gave, Did, Revived, DidOut, Calls, after_call, after_calls}
+use Rattle.lives.specs.System.{System, new_system, AreStored, Call, Gave, Did, Revived, DidOut, handed_out, Calls, after_call, after_calls}
 
 -- ---- what is stored
 
@@ -58,10 +57,6 @@ abbrev pub given_by : ℕ → List Call → List Packet
 given_by p [] = []
 given_by p (Gave q x new ∷ ks) = if q == p then x ∷ given_by p ks else given_by p ks
 given_by p (k ∷ ks) = given_by p ks
-
--- the outputs that the gateway hands out by a call
-abbrev pub handed_out : TheGateway → TheGateway → List Output
-handed_out old new = take (length old.store.outputs - length new.store.outputs) old.store.outputs
 
 -- all that it handed out
 abbrev pub outputs_of : System → List Call → List Output

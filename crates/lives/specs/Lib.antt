@@ -5,5 +5,6 @@ pub mod Worked
 pub mod Beside
 pub mod Alone
 pub mod Durable
+pub mod Messages
 pub mod Meeting
 pub mod Outputs

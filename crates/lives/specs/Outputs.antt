@@ -69,7 +69,7 @@ OutputsWithoutGap = (f : Answering) (n page tick : ℕ) (limits : ℕ → Limits
 -- what it handed out in a life it hands out in none again, from when it is durable as it is in that life on
 abbrev pub OutputsStayOut : Type 0
 OutputsStayOut = (f : Answering) (n page tick : ℕ) (limits : ℕ → Limits) (len : ℕ → ℕ) (bytes : ℕ → List ℕ) (calls life more : List Call) → Calls f n (new_system n limits len bytes page tick) (calls ++ (life ++ more)) → OneLife life
-    → (after_calls (new_system n limits len bytes page tick) (calls ++ life)).durable ≡ (after_calls (new_system n limits len bytes page tick) (calls ++ life)).gateway
+    → (after_calls (new_system n limits len bytes page tick) (calls ++ life)).durable.store ≡ (after_calls (new_system n limits len bytes page tick) (calls ++ life)).gateway.store
     → AreBehind (outputs_of (after_calls (new_system n limits len bytes page tick) calls) life) (outputs_of (after_calls (new_system n limits len bytes page tick) (calls ++ life)) more)
 
 -- what it hands out again of durable processes is what it was

@@ -1,5 +1,5 @@
 -- Calls of processes in any stage, and of the gateway, one after another
-use Rattle.std.specs.Prelude.{◌≡◌, ◌⊎◌, ℕ, ◌<◌, ◌≤◌, List, [], ◌∷◌, Some, true}
+use Rattle.std.specs.Prelude.{◌≡◌, ◌⊎◌, ℕ, ◌-◌, ◌<◌, ◌≤◌, List, [], ◌∷◌, ◌++◌, length, take, drop, Some, true}
 use Rattle.world.specs.History.{count_of}
 use Rattle.world.specs.Handlers.{Handlers}
 use Rattle.world.specs.World.{put}
@@ -17,6 +17,8 @@ use Rattle.node.specs.Kept.{kept_of}
 use Rattle.node.specs.Runs.{Answer, Answering, handlers_of, IsOne}
 use Rattle.recovery.specs.Meeting.{is_loss}
 use Rattle.recovery.specs.Collecting.{TheCollecting}
+use Rattle.stores.specs.declared.change.Output.{Output}
+use Rattle.stores.specs.Store.{IsOf}
 use Rattle.gateway.specs.Gateway.{TheGateway, new_gateway, peer_of, puts_in, hands_out, ticked}
 use Rattle.gateway.specs.Calls as outside
 use Rattle.gateway.specs.Stands as gateways
@@ -24,14 +26,15 @@ use Rattle.gateway.specs.Since.{revived, StandsFor}
 use Rattle.together.specs.Together.{IsFirst}
 use Rattle.lives.specs.Process.{Process, Up, Collects, Killed, StandsAs, IsStoredOf, is_exact, Gives, Hears, Works, Acts, WaitsFor, covered, IsTold, IsKilled, ComesFrom}
 
--- the processes by number; of each the bytes that are stored durably, and the greatest incarnation; the gateway, and as what it is durable;
--- and the packets that were given
+-- the processes by number; of each the bytes that are stored durably, and the greatest incarnation; the gateway, as what it is durable, and
+-- the outputs that it handed out, of which it isn't durable that they were taken; and the packets that were given
 pub record System : Type 0 where
   pub processes : ℕ → Process
   pub stored : ℕ → List ℕ
   pub lives : ℕ → ℕ
   pub gateway : TheGateway
   pub durable : TheGateway
+  pub taken : List Output
   pub given : List Packet
 
 -- n new processes, each with its limits, and their gateway
@@ -43,6 +46,7 @@ new_system n limits len bytes page tick =
       lives = λ _. 1;
       gateway = new_gateway n page tick;
       durable = new_gateway n page tick;
+      taken = [];
       given = [];
     }
 
@@ -76,16 +80,30 @@ pub data Call : Type 0 where
   DidOut : TheGateway → Call
   -- all that happened to it is stored durably
   StoredOut : Call
+  -- all is, but of the outputs that it handed out no more than the first so many are as taken
+  StoredBut : ℕ → Call
   -- it was killed, and came back from what is
   RevivedOut : TheGateway → Call
 
+-- the outputs that the gateway hands out by a call
+abbrev pub handed_out : TheGateway → TheGateway → List Output
+handed_out old new = take (length old.store.outputs - length new.store.outputs) old.store.outputs
+
+-- the gateway, had these outputs, which it handed out, not been taken
+abbrev pub untaken : List Output → TheGateway → TheGateway
+untaken outputs g = record g { store = record g.store { outputs = outputs ++ g.store.outputs } }
+
+-- an input for one of its processes came
+abbrev pub PutIn : TheGateway → TheGateway → Type 0
+PutIn g new = (p : ℕ) × ((x : List ℕ) × ((new ≡ puts_in p x g) × IsOf p g.store))
+
 -- the gateway took an input, gave an output, sent again what isn't answered, or told what happened
 abbrev pub Deals : TheGateway → TheGateway → Type 0
-Deals g new = ((p : ℕ) × ((x : List ℕ) × (new ≡ puts_in p x g))) ⊎ ((new ≡ hands_out g) ⊎ ((new ≡ ticked g) ⊎ (new ≡ record g { changes = [] })))
+Deals g new = PutIn g new ⊎ ((new ≡ hands_out g) ⊎ ((new ≡ ticked g) ⊎ (new ≡ record g { changes = [] })))
 
 -- each call does what the contract of its function says. What is handed over was given, whenever, or is handed over again. What comes back
 -- does so from the bytes that are stored, in an incarnation above all that were. What the gateway gives is sent once all that happened to
--- it is durable
+-- its store is durable, but which outputs were taken
 abbrev pub DoesIt : Answering → ℕ → System → Call → Type 0
 DoesIt f n s (Gave p x new) = IsFirst n p × Gives x (s.processes p) new
 DoesIt f n s (Handed p x new) = IsFirst n p × (IsOne x s.given × Hears x (s.processes p) new)
@@ -95,10 +113,11 @@ DoesIt f n s (Stored p bytes) = IsFirst n p × WaitsFor bytes (s.processes p)
 DoesIt f n s (Saved p new) = IsFirst n p × IsTold (s.processes p) new
 DoesIt f n s (Died p) = IsFirst n p
 DoesIt f n s (Revived p life new) = IsFirst n p × (IsKilled (s.processes p) × ((s.lives p < life) × ComesFrom (s.stored p) life new))
-DoesIt f n s (GaveOut x new) = (s.durable ≡ s.gateway) × gateways.Takes (Some x) s.gateway new
+DoesIt f n s (GaveOut x new) = (s.durable.store ≡ (untaken s.taken s.gateway).store) × gateways.Takes (Some x) s.gateway new
 DoesIt f n s (HandedOut x new) = IsOne x s.given × ((new ≡ outside.handed x s.gateway) × gateways.IsHanded x s.gateway new)
 DoesIt f n s (DidOut new) = Deals s.gateway new × gateways.Acts s.gateway new
 DoesIt f n s StoredOut = Unit {0}
+DoesIt f n s (StoredBut k) = Unit {0}
 DoesIt f n s (RevivedOut new) = (new ≡ revived new.page new.tick s.durable.store) × StandsFor s.durable.store new
 
 abbrev pub after_call : System → Call → System
@@ -110,11 +129,12 @@ after_call s (Stored p bytes) = record s { processes = put s.processes p (covere
 after_call s (Saved p new) = record s { processes = put s.processes p new }
 after_call s (Died p) = record s { processes = put s.processes p Killed }
 after_call s (Revived p life new) = record s { processes = put s.processes p (Collects new); lives = put s.lives p life }
-after_call s (GaveOut x new) = record s { gateway = new; durable = new; given = x ∷ s.given }
+after_call s (GaveOut x new) = record s { gateway = new; given = x ∷ s.given }
 after_call s (HandedOut x new) = record s { gateway = new }
-after_call s (DidOut new) = record s { gateway = new }
-after_call s StoredOut = record s { durable = s.gateway }
-after_call s (RevivedOut new) = record s { gateway = new; durable = new }
+after_call s (DidOut new) = record s { gateway = new; taken = s.taken ++ handed_out s.gateway new }
+after_call s StoredOut = record s { durable = s.gateway; taken = [] }
+after_call s (StoredBut k) = record s { durable = untaken (drop k s.taken) s.gateway; taken = drop k s.taken }
+after_call s (RevivedOut new) = record s { gateway = new; durable = new; taken = [] }
 
 -- nodes that are up and the gateway drop a packet that says that all is lost, as their functions say
 abbrev pub LossIsDropped : Type 0

@@ -5,6 +5,7 @@ ghost use Rattle.lives.specs.Back.{NothingIsLost, RecoversExactly};
 ghost use Rattle.lives.specs.Beside.{ComesBackBeside};
 ghost use Rattle.lives.specs.Durable.{DurableKeep, DurableLast, StoredStays};
 ghost use Rattle.lives.specs.Meeting.{DurableMeet};
+ghost use Rattle.lives.specs.Messages.{ReplaysTwo};
 ghost use Rattle.lives.specs.Outputs.{OutputsAgree, OutputsInOrder, OutputsStayOut, OutputsWithoutGap};
 ghost use Rattle.lives.specs.System.{LivesRun, LossIsDropped};
 ghost use Rattle.lives.specs.Worked.{ComesBackUp};
@@ -68,6 +69,14 @@ pub fn comes_back_up()
 /// told by the other and the gateway what they have, recovers, and is up: it fails alone.
 pub fn comes_back_beside()
     ensures { ComesBackBeside }
+{}
+
+/// The only process of a cluster receives three messages, its checkpoint covers the first, and two are
+/// acknowledged when it is killed; it comes back from its checkpoint, replays two that the gateway tells
+/// it, and is up with all three, in the state that it had: these are such calls, where it fails alone, and
+/// it stays exact.
+pub fn replays_two()
+    ensures { ReplaysTwo }
 {}
 
 /// Whatever fails, all at once too, and whoever meets while they come back: what is stored of a process,

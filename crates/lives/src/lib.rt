@@ -20,5 +20,5 @@ pub use laws::{
     comes_back_beside, comes_back_up, durable_keep, durable_last, durable_meet, lives_run,
     lone_failures_stay_exact, lone_lives_run, loss_is_dropped, nothing_is_lost,
     nothing_is_lost_alone, outputs_agree, outputs_in_order, outputs_stay_out, outputs_without_gap,
-    recovers_exactly, recovers_exactly_alone, stored_stays,
+    recovers_exactly, recovers_exactly_alone, replays_two, stored_stays,
 };

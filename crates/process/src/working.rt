@@ -103,17 +103,24 @@ impl Process {
         ensures few { OnOk result (entries_of self.new ≤ entries_of self.old + MOST_GIVEN) }
         ensures err { OnErr result (self.new ≡ self.old) }
     {
-        let is_live = self.course.is_up();
+        let refused = self.course.counted(self.refused, refused);
         self.course.take_in(state, given)?;
-        if is_live {
-            self.refused.add(refused);
-        }
+        self.refused = refused;
         self.pass(alloc);
         Ok(())
     }
 }
 
 impl Course {
+    /// What was refused before, and in a call that isn't a replay this too.
+    fn counted(&self, before: Refused, refused: Refused) -> Refused {
+        let mut all = before;
+        if self.is_up() {
+            all.add(refused);
+        }
+        all
+    }
+
     /// The handler left this state, and gave this. A refusal changes nothing.
     fn take_in(&mut self, state: Vec<u8>, given: &[Given]) -> Result<(), AllocError>
         requires { MayTakeIn self.old given.now }
