@@ -1,6 +1,6 @@
 //! What helpers refused.
 
-ghost use Rattle.std.specs.Prelude.{◌≡◌, ◌+◌, ◌≤◌};
+ghost use Rattle.std.specs.Prelude.{◌≡◌, ◌+◌, min};
 
 /// How many sends and outputs were refused, by cause. A refused one leaves nothing behind, and its handler goes on.
 #[derive(Clone, Copy, Debug, Default, PartialEq, Eq)]
@@ -24,11 +24,11 @@ impl Refused {
         }
     }
 
-    /// Counts all of the other, too.
+    /// Counts all of the other, too. No count goes above `u32::MAX`.
     pub fn add(&mut self, other: Refused)
-        ensures no_peer { self.old.no_peer ≤ self.new.no_peer }
-        ensures full { self.old.full ≤ self.new.full }
-        ensures long { self.old.long ≤ self.new.long }
+        ensures no_peer { self.new.no_peer ≡ min (self.old.no_peer + other.no_peer) 4294967295 }
+        ensures full { self.new.full ≡ min (self.old.full + other.full) 4294967295 }
+        ensures long { self.new.long ≡ min (self.old.long + other.long) 4294967295 }
     {
         self.no_peer = self.no_peer.saturating_add(other.no_peer);
         self.full = self.full.saturating_add(other.full);
