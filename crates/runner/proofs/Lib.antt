@@ -2,5 +2,3 @@ mod Beginnings
 mod Carried
 mod Played
 mod ResultsLemmas
-mod FeedsLemmas
-mod LiveLemmas

@@ -1,22 +1,14 @@
 -- What the functions of this crate say to one another of a run.
-use Rattle.std.specs.Prelude.{◌≡◌, ◌≢◌, ◌+◌, ◌++◌, ℕ, List, [], ◌∷◌, flat_map, length, slice_get, take, Option, Some, None, Result, Ok, Err}
-use Rattle.world.specs.declared.message.Feed.{Feed}
+use Rattle.std.specs.Prelude.{◌≡◌, ◌++◌, ℕ, List, flat_map, slice_get, take, Option, Some, None, Result, Ok, Err}
 use Rattle.world.specs.declared.refusal.Refusal.{Refusal}
 use Rattle.world.specs.declared.refusal.Refusal.TheVariants.{Memory}
 use Rattle.world.specs.History.{Payload}
 use Rattle.world.specs.Refusals.{cause_of}
-use Rattle.sessions.specs.Seats.{TheSeat}
-use Rattle.sessions.specs.declared.share.Share.{Share}
-use Rattle.sessions.specs.declared.share.End.TheVariants.{Refused}
-use Rattle.scenario.specs.declared.order.Order.{Order}
-use Rattle.scenario.specs.declared.order.Order.TheVariants.{Input, Bytes}
 use Rattle.scenario.specs.declared.scenario.Step.{Step}
 use Rattle.runner.specs.declared.chronicle.Notes.{Notes}
-use Rattle.runner.specs.declared.ended.Ended.{Ended}
 use Rattle.runner.specs.declared.player.Player.{Player}
 use Rattle.runner.specs.Orders.{CarriesOut, FindsNoMemory, Position}
 use Rattle.runner.specs.Run.{Passage, RunsThrough, moments_of, passage, refused_lines, refused_text}
-use Rattle.runner.specs.Word.{message_word}
 
 -- where a player stands
 abbrev pub position_of : Player → Position
@@ -72,38 +64,3 @@ pub record ArePlayedTo (steps : List Step) (here : Position) (old new : List ℕ
   pub step : Step
   pub next : slice_get steps count ≡ Some step
   pub finds : FindsNoMemory end step.order
-
--- ---- workers
-
--- memory didn't run out for a worker
-abbrev pub HasMemory : {L : Type 0} → Share L → Type 0
-HasMemory share = share.end ≢ Refused Memory
-
--- how the worker of a share ended
-abbrev pub ended_of : {L : Type 0} → Share L → Ended
-ended_of share = record { worker = share.seat.worker; answered = share.seat.answered; end = share.end }
-
--- these seats weren't answered yet, and the first has this worker and each other one the next
-abbrev pub AreFresh : ℕ → List TheSeat → Type 0
-AreFresh worker [] = Unit {0}
-AreFresh worker (s ∷ ss) = (s ≡ record { worker = worker; answered = 0 }) × AreFresh (worker + 1) ss
-
--- the message that an order hands in, with this number
-abbrev pub feed_of : ℕ → Order → Option Feed
-feed_of number (Input to word) = Some (record { number = number; dst = to; payload = message_word word })
-feed_of number (Bytes to payload) = Some (record { number = number; dst = to; payload = payload })
-feed_of number order = None
-
--- the message of a line behind those of the lines before it
-abbrev pub with_feed : List Feed → Option Feed → List Feed
-with_feed feeds None = feeds
-with_feed feeds (Some feed) = feeds ++ feed ∷ []
-
--- the messages of these steps behind those of the steps before them, each with the next number
-abbrev pub feeds_after : List Feed → List Step → List Feed
-feeds_after feeds [] = feeds
-feeds_after feeds (x ∷ xs) = feeds_after (with_feed feeds (feed_of (length feeds + 1) x.order)) xs
-
--- the messages of all steps, numbered from 1
-abbrev pub feeds_of : List Step → List Feed
-feeds_of steps = feeds_after [] steps

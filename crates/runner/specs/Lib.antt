@@ -2,5 +2,4 @@ pub mod Results
 pub mod Word
 pub mod Orders
 pub mod Run
-pub mod Live
 pub mod Inside

@@ -57,7 +57,7 @@ fn refused_lines(
 }
 
 /// Writes these lines as a note, if there is memory. They are hints for people, and no contract names them.
-pub(crate) fn note_refused(
+pub fn note_refused(
     alloc: Global,
     note: &mut String,
     processes: &IndexMap<String, Process>,

@@ -1,8 +1,8 @@
 -- The command `live` (docs/FORMATS.md, "Commands").
 use Rattle.std.specs.Prelude.{ℕ, List, []}
 use Rattle.handlers.specs.Image.{TheImage}
-use Rattle.runner.specs.Live.{IsLive}
-use Rattle.runner.specs.declared.ended.Ended.{Ended}
+use Rattle.live.specs.Live.{IsLive}
+use Rattle.live.specs.declared.ended.Ended.{Ended}
 use Rattle.scenario.specs.Process.{names_of}
 use Rattle.scenario.specs.declared.order.Allowed.TheVariants.{Inputs}
 use Rattle.scenario.specs.declared.scenario.Scenario.{Scenario}

@@ -9,7 +9,7 @@ use crate::files::Files;
 use crate::loading::{Loaded, load_scenario};
 use crate::site::Site;
 use limits::WORKERS;
-use runner::live;
+use live::live;
 use scenario::Allowed;
 use std::alloc::Global;
 use std::sync::Wait;

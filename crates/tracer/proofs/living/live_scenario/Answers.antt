@@ -2,7 +2,7 @@ use Rattle.std.proofs.Common.{◌≡◌, ◌∙◌, List, ℕ, length, map, rule
 use Rattle.std.proofs.lemmas.List.{length-map}
 use Rattle.handlers.specs.Image.{image_in}
 use Rattle.machine.specs.Opening.{AreFew}
-use Rattle.runner.specs.Live.{IsLive}
+use Rattle.live.specs.Live.{IsLive}
 use Rattle.scenario.specs.Process.{names_of}
 use Rattle.scenario.specs.declared.order.Allowed.TheVariants.{Inputs}
 use Rattle.tracer.proofs.LoadLemmas.{are_few, as_many, loaded_scenario}

@@ -7,7 +7,7 @@ use Rattle.world.specs.Fold.{handlers_of}
 use Rattle.world.specs.Legal.{Legal, world_of}
 use Rattle.sessions.specs.declared.share.End.TheVariants.{Budget, Refused}
 use Rattle.workers.specs.Continues.{are_allowed}
-use Rattle.runner.specs.declared.ended.Ended.{Ended}
+use Rattle.live.specs.declared.ended.Ended.{Ended}
 use Rattle.runner.specs.Results.{results_text}
 
 -- so ends the worker of this number that was given this budget: by the budget only where as many of its calls were accepted, with at

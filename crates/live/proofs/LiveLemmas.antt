@@ -17,9 +17,9 @@ use Rattle.sessions.specs.declared.share.Share.{Share}
 use Rattle.workers.specs.Continues.{Continues, are_allowed}
 use Rattle.workers.specs.Running.{manned}
 use Rattle.workers.specs.Shares.{AreServed}
-use Rattle.runner.specs.declared.ended.Ended.{Ended}
-use Rattle.runner.specs.Inside.{AreFresh, HasMemory, ended_of}
-use Rattle.runner.specs.Live.{EndFrom, IsLive, answers_of}
+use Rattle.live.specs.declared.ended.Ended.{Ended}
+use Rattle.live.specs.Inside.{AreFresh, HasMemory, ended_of}
+use Rattle.live.specs.Live.{EndFrom, IsLive, answers_of}
 use Rattle.runner.specs.Results.{results_text}
 
 -- ---- seats

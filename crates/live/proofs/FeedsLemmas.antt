@@ -2,7 +2,7 @@
 use Rattle.std.proofs.Common.{◌≡◌, ◌∙◌, ℕ, ◌+◌, ◌<◌, suc, List, ◌∷◌, length, drop, get_or, sym, ap, arith, drop-cons}
 use Rattle.world.specs.declared.message.Feed.{Feed}
 use Rattle.scenario.specs.declared.scenario.Step.{Step}
-use Rattle.runner.specs.Inside.{feed_of, feeds_after, feeds_of, with_feed}
+use Rattle.live.specs.Inside.{feed_of, feeds_after, feeds_of, with_feed}
 
 -- the messages of the lines that are left stand behind those of the lines before them
 pub feeds_more : (steps : List Step) (i : ℕ) (d x : Step) (feeds new : List Feed) → i < length steps → x ≡ get_or steps i d

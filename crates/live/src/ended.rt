@@ -1,7 +1,7 @@
 //! How workers ended.
 
 ghost use Rattle.std.specs.Prelude.{◌≡◌, IfOk, map};
-ghost use Rattle.runner.specs.Inside.{ended_of};
+ghost use Rattle.live.specs.Inside.{ended_of};
 
 use sessions::{End, Share};
 use std::alloc::{AllocError, Global};

@@ -1,4 +1,4 @@
-use Rattle.runner.proofs.living.live.Given as goal
+use Rattle.live.proofs.run.live.Given as goal
 
 abbrev pub ghosts-live_in : goal.ghosts-live_in
 ghosts-live_in g a = record { name = a.blank.name; parts = a.blank.parts }

@@ -1,9 +1,9 @@
 //! Messages of the outside, as lines hand them in.
 
 ghost use Rattle.std.specs.Prelude.{◌≡◌, ◌+◌, IfOk, OnOk, length};
-ghost use Rattle.runner.specs.Inside.{feed_of, feeds_of, with_feed};
+ghost use Rattle.live.specs.Inside.{feed_of, feeds_of, with_feed};
 
-use crate::word::payload_of;
+use runner::payload_of;
 use scenario::{Order, Step};
 use std::alloc::{AllocError, Global};
 use world::Feed;

@@ -6,9 +6,9 @@ use Rattle.sessions.specs.Journal.{TheSession}
 use Rattle.sessions.specs.Seats.{IsWhole}
 use Rattle.scenario.specs.Process.{names_of}
 use Rattle.workers.specs.Running.{CanRun}
-use Rattle.runner.specs.Inside.{ended_of}
-use Rattle.runner.proofs.LiveLemmas.{Leave, live_by, whole_new}
-use Rattle.runner.proofs.living.live_in.Goals as goal
+use Rattle.live.specs.Inside.{ended_of}
+use Rattle.live.proofs.LiveLemmas.{Leave, live_by, whole_new}
+use Rattle.live.proofs.run.live_in.Goals as goal
 
 pub served-requires-clause-can : goal.served-requires-clause-can
 served-requires-clause-can g c =

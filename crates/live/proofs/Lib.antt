@@ -1,0 +1,2 @@
+mod FeedsLemmas
+mod LiveLemmas
