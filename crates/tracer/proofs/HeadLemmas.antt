@@ -5,9 +5,9 @@ use Rattle.decode.specs.declared.insn.Insn.{Insn}
 use Rattle.decode.specs.Encoding.{encoding}
 use Rattle.decode.specs.First.{IsFirst}
 use Rattle.decode.proofs.SlotLemmas.{length_encoding}
-use Rattle.explain.specs.Listing as flat
-use Rattle.span_explain.specs.Listing as listed
-use Rattle.span_explain.specs.FileListing.{IsFileExplained}
+use Rattle.listing.specs.Listing as flat
+use Rattle.listing.specs.SpanListing as listed
+use Rattle.listing.specs.FileListing.{IsFileExplained}
 use Rattle.regtypes.specs.declared.image_form.ImageForm.{ImageForm}
 use Rattle.regtypes.specs.declared.image_form.ImageForm.TheVariants.{Sbi1, Sbi2}
 use Rattle.verifier.specs.ImageFile.{HasFault, IsFile, field_at, magic}

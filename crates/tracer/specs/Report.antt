@@ -1,7 +1,7 @@
 -- What a command prints, by the file that it reads.
 use Rattle.std.specs.Prelude.{◌≡◌, ℕ, List, []}
 use Rattle.cli.specs.Asks.{Order, Run, Live, Draw, Check, Explain, Asm, Pack, Dis, Native}
-use Rattle.span_explain.specs.FileListing.{IsFileExplained}
+use Rattle.listing.specs.FileListing.{IsFileExplained}
 use Rattle.ordered_images.specs.declared.blocks.Blocks.{Blocks}
 use Rattle.tracer.specs.Asm.{IsAssembled}
 use Rattle.tracer.specs.Check.{IsAccepted, accepted_text}

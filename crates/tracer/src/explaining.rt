@@ -1,7 +1,7 @@
 //! The command `explain`.
 
 ghost use Rattle.std.specs.Prelude.{◌≡◌, ℕ, List, IfErr, IfOk, Some, string_bytes};
-ghost use Rattle.span_explain.specs.FileListing.{IsFileExplained};
+ghost use Rattle.listing.specs.FileListing.{IsFileExplained};
 ghost use Rattle.tracer.specs.Explain.{IsUnexplained};
 ghost use Rattle.tracer.specs.Program.{FaultOf};
 
@@ -9,7 +9,7 @@ use crate::check::IMAGE_LIMIT;
 use crate::fault::Fault;
 use crate::files::Files;
 use crate::site::Site;
-use span_explain::explain_file;
+use listing::explain_file;
 use std::alloc::Global;
 
 /// The listing of the image of a file, whether or not its code is accepted.

@@ -1,6 +1,6 @@
 use Rattle.std.proofs.Common.{◌≡◌, ◌∙◌, subst, string_bytes}
 use Rattle.images.specs.ImageFile.{IsUnread}
-use Rattle.span_explain.specs.FileListing.{IsFileExplained}
+use Rattle.listing.specs.FileListing.{IsFileExplained}
 use Rattle.tracer.proofs.CauseLemmas.{becomes, read_fault}
 use Rattle.tracer.proofs.HeadLemmas.{any_explained, any_unread}
 use Rattle.tracer.proofs.explaining.explain_image.Goals as goal

@@ -1,5 +1,0 @@
-mod Reasons
-mod Studies
-pub mod Texts
-mod Together
-mod Ways

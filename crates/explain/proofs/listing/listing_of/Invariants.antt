@@ -1,7 +1,0 @@
-use Rattle.std.proofs.Common.{◌≡◌, ◌++◌, string_bytes}
-use Rattle.explain.specs.Listing.{slot_text, texts_below}
-use Rattle.explain.proofs.listing.listing_of.Given as goal
-
-abbrev pub invariant-loop-slot : goal.invariant-loop-slot
-invariant-loop-slot l =
-    string_bytes l.out ≡ string_bytes l.initial.out ++ texts_below (slot_text l.study l.whys) l.slot

@@ -1,9 +1,0 @@
-use Rattle.std.proofs.Common.{ℕ, List}
-use Rattle.explain.specs.Why.{StaysUnset}
-use Rattle.explain.proofs.why.why_of.Given as goal
-
-abbrev pub invariant-loop-at : goal.invariant-loop-at
-invariant-loop-at l = (way : List ℕ) × StaysUnset l.study l.reg.number l.at way l.slot
-
-abbrev pub decreases-loop-at : goal.decreases-loop-at
-decreases-loop-at l = l.at

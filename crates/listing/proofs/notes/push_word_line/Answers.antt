@@ -1,0 +1,19 @@
+use Rattle.std.proofs.Common.{◌≡◌, ◌∙◌, ◌++◌, ◌-◌, ◌*◌, List, ℕ, codes, string_bytes, refl, ap}
+use Rattle.std.specs.Fmt.{decimal}
+use Rattle.listing.proofs.Texts.{joined}
+use Rattle.listing.specs.SpanKinds.{kind_text}
+use Rattle.listing.proofs.Written.{behind, when_ok}
+use Rattle.listing.proofs.notes.push_word_line.Goals as goal
+
+pub returns : goal.returns
+returns c =
+    let old = string_bytes c.args.out.now in
+    let one = string_bytes c.push_with.new.out in
+    let two = string_bytes c.push_kind.new.out in
+    let new = string_bytes c.push_str.new.self in
+    let a : List ℕ = codes "    stack-" ++ (decimal (600 - 8 * c.args.cell) ++ codes " ") in
+    let b = kind_text c.args.state_len c.args.kind in
+    let e : List ℕ = codes "\n" in
+    let first : one ≡ old ++ a = c.in_ok-push_with.ensures ∙ ap (λ k. old ++ (codes "    stack-" ++ (decimal k ++ codes " "))) c.distance_of.ensures in
+    let second : two ≡ old ++ (a ++ b) = joined old a one b two (a ++ b) first c.in_ok-push_kind.ensures refl in
+    behind c.push_str.result old (a ++ b) two e new _ second refl (when_ok c.push_str.result new (two ++ e) two c.push_str.ensures.bytes)

@@ -1,0 +1,14 @@
+pub mod Study
+pub mod Reads
+pub mod Why
+pub mod Kinds
+pub mod Cause
+pub mod Listing
+pub mod Inside
+pub mod Flaw
+pub mod SpanKinds
+pub mod SpanCause
+pub mod Sentence
+pub mod SpanStudy
+pub mod SpanListing
+pub mod FileListing

@@ -1,0 +1,81 @@
+//! What is wrong with the arguments of a helper.
+
+ghost use Rattle.std.specs.Prelude.{◌≡◌, ◌<◌};
+ghost use Rattle.spans.specs.Frame.{kind_at};
+ghost use Rattle.listing.specs.SpanCause.{argument_cause, given_cause, payload_cause, payload_word, send_cause, sized_cause};
+
+use crate::flaw::{Flaw, flawed_word};
+use crate::span_cause::{Cause, WordFault};
+use decode::Insn;
+use regtypes::Region;
+use span_verifier::is_inside;
+use spans::{Cells, Kind};
+
+/// A word of a payload that is no number.
+fn payload_word(word: Option<usize>) -> Cause
+    ensures { result ≡ payload_word word }
+{
+    match word {
+        None => Cause::Nothing,
+        Some(cell) => Cause::OfWord(cell, WordFault::NoNumber),
+    }
+}
+
+/// A place with bytes behind it.
+fn payload_cause(frame: &Cells, reg: u8, bytes: u16, kind: Kind) -> Cause
+    ensures { result ≡ payload_cause (kind_at frame.now.kinds) reg bytes kind }
+{
+    match kind {
+        Kind::Place(Region::Stack, reach) if is_inside(512, reach, 0, bytes) => {
+            payload_word(flawed_word(Flaw::NotNumber, frame, kind, 0, bytes))
+        }
+        _ => Cause::NoPayload(reg, bytes),
+    }
+}
+
+/// A place with as many bytes behind it as a number says.
+fn sized_cause(frame: &Cells, reg: u8, count_reg: u8, count: Kind) -> Cause
+    requires { reg < 11 }
+    ensures { result ≡ sized_cause (kind_at frame.now.kinds) reg count_reg count }
+{
+    match count {
+        Kind::Num(span) => {
+            let bytes = span.hi.min(256) as u16;
+            payload_cause(frame, reg, bytes, frame.kinds[reg as usize])
+        }
+        Kind::Unset | Kind::Place(_, _) => Cause::NoCount(count_reg),
+    }
+}
+
+/// The process that is sent to, or else the payload.
+fn send_cause(frame: &Cells, other: Cause) -> Cause
+    ensures { result ≡ send_cause (kind_at frame.now.kinds) other }
+{
+    match frame.kinds[1] {
+        Kind::Num(_) => other,
+        Kind::Unset | Kind::Place(_, _) => Cause::NoCount(1),
+    }
+}
+
+fn given_cause(frame: &Cells, helper: i32) -> Cause
+    ensures { result ≡ given_cause (kind_at frame.now.kinds) helper }
+{
+    let kinds = &frame.kinds;
+    match helper {
+        1 => send_cause(frame, payload_cause(frame, 2, 64, kinds[2])),
+        2 => payload_cause(frame, 1, 64, kinds[1]),
+        5 => send_cause(frame, sized_cause(frame, 2, 3, kinds[3])),
+        6 => sized_cause(frame, 1, 2, kinds[2]),
+        _ => Cause::Nothing,
+    }
+}
+
+/// V9: what a helper is given.
+pub fn argument_cause(insn: &Insn, frame: &Cells) -> Cause
+    ensures { result ≡ argument_cause insn.now (kind_at frame.now.kinds) }
+{
+    match *insn {
+        Insn::Call { helper } => given_cause(frame, helper),
+        _ => Cause::Nothing,
+    }
+}

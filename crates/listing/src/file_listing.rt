@@ -1,0 +1,26 @@
+//! The listing of an image file of any form.
+
+ghost use Rattle.std.specs.Prelude.{IfErr, IfOk, string_bytes};
+ghost use Rattle.images.specs.ImageFile.{IsUnread};
+ghost use Rattle.listing.specs.FileListing.{IsFileExplained};
+
+use crate::{listing, span_listing};
+use images::{FileForm, parts};
+use std::alloc::Global;
+use verifier::ImageError;
+
+/// The listing of an image file, of code that the verifier accepts and of code that it refuses, by the rules of the
+/// file's form. A file that can't be read is refused with its first fault in the order header, code.
+pub fn explain_file(alloc: Global, bytes: &[u8]) -> Result<String, ImageError>
+    ensures listing { IfOk result (λ text. IsFileExplained bytes.now (string_bytes text)) }
+    ensures refused { IfErr result (IsUnread bytes.now) }
+{
+    let (code, state_len, form) = parts(alloc, bytes)?;
+    match form {
+        FileForm::Sbi1 | FileForm::Sbi2 => listing::explain(alloc, bytes),
+        FileForm::Sbi3 => match span_listing::explain(alloc, &code, state_len) {
+            Ok(text) => Ok(text),
+            Err(_) => Err(ImageError::Memory),
+        },
+    }
+}

@@ -1,0 +1,201 @@
+//! What is said under an instruction: what is known of what it reads, and which of its ways nothing takes.
+
+ghost use Rattle.std.specs.Prelude.{◌≡◌, ◌<◌, ◌≤◌, ◌++◌, Some, OnOk, string_bytes};
+ghost use Rattle.std.specs.Option.{option_map};
+ghost use Rattle.span_verifier.specs.Transfer.{frame_of};
+ghost use Rattle.spans.specs.Frame.{kind_at};
+ghost use Rattle.listing.specs.SpanListing.{dead_text, kept_text, known_text, read_text, register_text, stack_text, ways_known, ways_text, word_at, word_line};
+
+use crate::kinds::push_with;
+use crate::reads::is_read;
+use crate::span_kinds::{distance_of, push_kind};
+use decode::{Insn, Reg};
+use limits::REGISTERS;
+use regtypes::{ImageForm, Region, bytes_in};
+use span_verifier::{is_inside, operand_kind, opposite, shown, whole_word};
+use spans::{Cells, Kind, Span};
+use std::alloc::AllocError;
+
+/// Writes a register and what is known of it, if the instruction reads it.
+fn push_register(
+    out: &mut String,
+    state_len: u16,
+    insn: &Insn,
+    frame: &Cells,
+    number: u8,
+) -> Result<(), AllocError>
+    requires { number < REGISTERS }
+    ensures { OnOk result (string_bytes out.new ≡ string_bytes out.old ++ register_text state_len insn.now (kind_at frame.now.kinds) number) }
+{
+    if !is_read(ImageForm::Sbi2, insn, number) {
+        return Ok(());
+    }
+    push_with(out, "    r", number.into(), " ")?;
+    push_kind(out, frame.kinds[number as usize], state_len)?;
+    out.push_str("\n")
+}
+
+/// What is known of a cell; nothing behind the last.
+fn kind_in(frame: &Cells, cell: usize) -> Kind
+    ensures { result ≡ kind_at frame.now.kinds cell }
+{
+    if cell < 75 {
+        frame.kinds[cell]
+    } else {
+        Kind::Unset
+    }
+}
+
+/// The cell of a word of the stack that an access takes as a whole.
+fn word_at(base: Kind, offset: i16, bytes: u8) -> Option<usize>
+    ensures { result ≡ word_at base offset bytes }
+{
+    match base {
+        Kind::Place(Region::Stack, reach) if is_inside(512, reach, offset, bytes.into()) => {
+            whole_word(reach, offset, bytes.into())
+        }
+        _ => None,
+    }
+}
+
+/// Writes a word of the stack with a kind.
+fn push_word_line(
+    out: &mut String,
+    state_len: u16,
+    cell: usize,
+    kind: Kind,
+) -> Result<(), AllocError>
+    ensures { OnOk result (string_bytes out.new ≡ string_bytes out.old ++ word_line state_len cell kind) }
+{
+    push_with(out, "    stack-", distance_of(cell), " ")?;
+    push_kind(out, kind, state_len)?;
+    out.push_str("\n")
+}
+
+/// Writes the word that is read.
+fn push_read(
+    out: &mut String,
+    state_len: u16,
+    frame: &Cells,
+    word: Option<usize>,
+) -> Result<(), AllocError>
+    ensures { OnOk result (string_bytes out.new ≡ string_bytes out.old ++ read_text state_len (kind_at frame.now.kinds) word) }
+{
+    match word {
+        None => Ok(()),
+        Some(cell) => push_word_line(out, state_len, cell, kind_in(frame, cell)),
+    }
+}
+
+/// Writes the word in which a place is kept.
+fn push_kept(
+    out: &mut String,
+    state_len: u16,
+    word: Option<usize>,
+    kind: Kind,
+) -> Result<(), AllocError>
+    ensures { OnOk result (string_bytes out.new ≡ string_bytes out.old ++ kept_text state_len word kind) }
+{
+    match (word, kind) {
+        (Some(cell), Kind::Place(_, _)) => push_word_line(out, state_len, cell, kind),
+        _ => Ok(()),
+    }
+}
+
+/// Writes the word of the stack that a load reads, or that keeps the place that is stored.
+fn push_stack(
+    out: &mut String,
+    state_len: u16,
+    insn: &Insn,
+    frame: &Cells,
+) -> Result<(), AllocError>
+    ensures { OnOk result (string_bytes out.new ≡ string_bytes out.old ++ stack_text state_len insn.now (kind_at frame.now.kinds)) }
+{
+    match *insn {
+        Insn::Load {
+            size,
+            src,
+            offset,
+            ..
+        } => {
+            let word = word_at(frame.kind(src), offset, bytes_in(size));
+            push_read(out, state_len, frame, word)
+        }
+        Insn::StoreReg {
+            size,
+            dst,
+            src,
+            offset,
+        } => {
+            let word = word_at(frame.kind(dst), offset, bytes_in(size));
+            push_kept(out, state_len, word, frame.kind(src))
+        }
+        _ => Ok(()),
+    }
+}
+
+/// Writes what is known of what an instruction reads.
+pub fn push_known(
+    out: &mut String,
+    state_len: u16,
+    insn: &Insn,
+    frame: &Option<Cells>,
+) -> Result<(), AllocError>
+    ensures { OnOk result (string_bytes out.new ≡ string_bytes out.old ++ known_text state_len insn.now (option_map frame_of frame.now)) }
+{
+    let Some(frame) = frame else {
+        return out.push_str("    no way leads here\n");
+    };
+    for number in 0..REGISTERS as u8 {
+        push_register(out, state_len, insn, frame, number)?;
+    }
+    push_stack(out, state_len, insn, frame)
+}
+
+/// Writes which way of a jump nothing takes.
+fn push_dead(
+    out: &mut String,
+    next: Option<(Span, Span)>,
+    taken: Option<(Span, Span)>,
+) -> Result<(), AllocError>
+    ensures { OnOk result (string_bytes out.new ≡ string_bytes out.old ++ ways_text next taken) }
+{
+    match (next, taken) {
+        (None, _) => out.push_str("    every number takes this jump\n"),
+        (Some(_), None) => out.push_str("    no number takes this jump\n"),
+        (Some(_), Some(_)) => Ok(()),
+    }
+}
+
+/// Writes whether all numbers take a conditional jump, or none.
+fn push_jump(out: &mut String, insn: &Insn, frame: &Cells) -> Result<(), AllocError>
+    ensures { OnOk result (string_bytes out.new ≡ string_bytes out.old ++ dead_text insn.now (kind_at frame.now.kinds)) }
+{
+    let Insn::JumpIf {
+        condition,
+        width,
+        dst,
+        operand,
+        ..
+    } = *insn
+    else {
+        return Ok(());
+    };
+    match (frame.kind(dst), operand_kind(width, operand, frame)) {
+        (Kind::Num(a), Kind::Num(b)) => {
+            let next = shown(opposite(condition), width, a, b);
+            push_dead(out, next, shown(Some(condition), width, a, b))
+        }
+        _ => Ok(()),
+    }
+}
+
+/// The same at a slot, if a way leads there.
+pub fn push_ways(out: &mut String, insn: &Insn, frame: &Option<Cells>) -> Result<(), AllocError>
+    ensures { OnOk result (string_bytes out.new ≡ string_bytes out.old ++ ways_known insn.now (option_map frame_of frame.now)) }
+{
+    match frame {
+        None => Ok(()),
+        Some(frame) => push_jump(out, insn, frame),
+    }
+}

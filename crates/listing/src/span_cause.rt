@@ -1,0 +1,303 @@
+//! What breaks a rule at a slot.
+
+ghost use Rattle.std.specs.Prelude.{◌≡◌, ◌∷◌, []};
+ghost use Rattle.regtypes.specs.Flow.{flow_of};
+ghost use Rattle.regtypes.specs.Rules.{base_of, moved_of};
+ghost use Rattle.spans.specs.Frame.{kind_at};
+ghost use Rattle.listing.specs.SpanCause.{access_cause, by_missing, cause_of, helper_cause, jump_of, message_cause, mixed_by, mixed_cause, mixed_of, moved_cause, moved_or, out_by, out_cause, part_cause, reach_cause, sum_or, unset_cause};
+ghost use Rattle.listing.specs.Flaw.{first_flawed};
+ghost use Rattle.listing.specs.declared.flaw.Flaw.TheVariants.{Missing, Pointing};
+
+use crate::argument::argument_cause;
+use crate::flaw::{Flaw, distance_at, flawed_word, is_flawed, reached_word};
+use crate::reads::{base, shifted};
+use decode::{AluOp, Insn, Operand, Reg, Width};
+use regtypes::{Access, Attributes, Flow, Region, Rule, attributes_from, flow_from};
+use spans::{Cells, Kind, Span};
+
+/// What is the matter with a register.
+#[derive(Clone, Copy)]
+pub enum RegisterFault {
+    /// It is read and isn't set.
+    Unset,
+    /// It is read as a number and holds a place.
+    PlaceAsNumber,
+    /// It is the base of a load or store and holds a number.
+    NumberAsBase,
+    /// It holds a place, and is stored where none can be kept.
+    PlaceStored,
+    /// It is a place of the message, and is stored to.
+    Message,
+}
+
+/// What is the matter with a word of the stack.
+#[derive(Clone, Copy)]
+pub enum WordFault {
+    /// It is read and isn't set.
+    Unset,
+    /// It is no number, and a helper is given it.
+    NoNumber,
+    /// It holds a place, of which so many bytes are read.
+    Read(u8),
+    /// It holds a place, of which so many bytes are written.
+    Written(u8),
+}
+
+/// What breaks a rule.
+#[derive(Clone, Copy)]
+pub enum Cause {
+    /// Nothing that is known.
+    Nothing,
+    /// A jump by so many slots.
+    Jump(i32),
+    /// There is no instruction behind.
+    NothingFollows,
+    /// r10 is written.
+    FramePointer,
+    /// r0 is no number at the end.
+    NoAnswer,
+    OfRegister(Reg, RegisterFault),
+    /// A word of the stack, by its cell.
+    OfWord(usize, WordFault),
+    /// Two registers are added that hold places.
+    SumOfPlaces(Reg, Reg),
+    /// So many bytes are reached in a region, from one of these distances to the other.
+    Outside(u8, Region, i64, i64),
+    /// A place is moved by such a number, too far.
+    MovedBy(Reg, Span),
+    /// A place is moved by an immediate, too far.
+    ShiftedBy(Reg, i64),
+    /// There is no helper of this number.
+    NoHelper(i32),
+    /// A helper's argument in this register is to be a number.
+    NoCount(u8),
+    /// One in this register is to be a place with so many bytes.
+    NoPayload(u8, u16),
+}
+
+/// V1: where an instruction jumps to.
+fn jump_of(flow: Flow) -> Cause
+    ensures { result ≡ jump_of flow }
+{
+    match flow {
+        Flow::Leaps(distance) => Cause::Jump(distance),
+        Flow::Forks(distance) => Cause::Jump(distance),
+        Flow::Ends | Flow::Falls(_) => Cause::Nothing,
+    }
+}
+
+/// The first register that is read and isn't set.
+fn first_unset(frame: &Cells, what: &Attributes) -> Option<Reg>
+    ensures { result ≡ first_flawed Missing (kind_at frame.now.kinds) (what.now.number ∷ what.now.operand ∷ what.now.copied ∷ base_of what.now.access ∷ moved_of what.now.moved ∷ []) }
+{
+    if is_flawed(Flaw::Missing, frame, what.number) {
+        return what.number;
+    }
+    if is_flawed(Flaw::Missing, frame, what.operand) {
+        return what.operand;
+    }
+    if is_flawed(Flaw::Missing, frame, what.copied) {
+        return what.copied;
+    }
+    if is_flawed(Flaw::Missing, frame, base(what.access)) {
+        return base(what.access);
+    }
+    if is_flawed(Flaw::Missing, frame, shifted(what.moved)) {
+        return shifted(what.moved);
+    }
+    None
+}
+
+fn by_missing(reg: Option<Reg>, word: Option<usize>) -> Cause
+    ensures { result ≡ by_missing reg word }
+{
+    match (reg, word) {
+        (Some(reg), _) => Cause::OfRegister(reg, RegisterFault::Unset),
+        (None, Some(cell)) => Cause::OfWord(cell, WordFault::Unset),
+        (None, None) => Cause::Nothing,
+    }
+}
+
+/// V3: what is read and isn't set.
+fn unset_cause(frame: &Cells, what: &Attributes) -> Cause
+    ensures { result ≡ unset_cause (kind_at frame.now.kinds) what.now }
+{
+    let word = reached_word(Flaw::Missing, frame, what.access);
+    by_missing(first_unset(frame, what), word)
+}
+
+/// The first register that is read as a number and holds a place.
+fn first_place(frame: &Cells, what: &Attributes) -> Option<Reg>
+    ensures { result ≡ first_flawed Pointing (kind_at frame.now.kinds) (what.now.number ∷ what.now.operand ∷ []) }
+{
+    if is_flawed(Flaw::Pointing, frame, what.number) {
+        return what.number;
+    }
+    if is_flawed(Flaw::Pointing, frame, what.operand) {
+        return what.operand;
+    }
+    None
+}
+
+fn part_cause(access: Access, word: Option<usize>) -> Cause
+    ensures { result ≡ part_cause access word }
+{
+    match word {
+        None => Cause::Nothing,
+        Some(cell) => {
+            if access.stores {
+                Cause::OfWord(cell, WordFault::Written(access.bytes))
+            } else {
+                Cause::OfWord(cell, WordFault::Read(access.bytes))
+            }
+        }
+    }
+}
+
+fn access_cause(frame: &Cells, access: Access, stored: Option<Reg>, kind: Kind) -> Cause
+    ensures { result ≡ access_cause (kind_at frame.now.kinds) access stored kind }
+{
+    match (kind, stored) {
+        (Kind::Unset, _) => Cause::Nothing,
+        (Kind::Num(_), _) => Cause::OfRegister(access.base, RegisterFault::NumberAsBase),
+        (Kind::Place(_, _), Some(reg)) => Cause::OfRegister(reg, RegisterFault::PlaceStored),
+        (Kind::Place(_, _), None) => {
+            let bytes = access.bytes.into();
+            let word = flawed_word(Flaw::Pointing, frame, kind, access.offset, bytes);
+            part_cause(access, word)
+        }
+    }
+}
+
+fn mixed_by(frame: &Cells, access: Option<Access>, reg: Option<Reg>) -> Cause
+    ensures { result ≡ mixed_by (kind_at frame.now.kinds) access reg }
+{
+    match (access, reg) {
+        (None, None) => Cause::Nothing,
+        (None, Some(reg)) => Cause::OfRegister(reg, RegisterFault::PlaceAsNumber),
+        (Some(access), stored) => access_cause(frame, access, stored, frame.kind(access.base)),
+    }
+}
+
+fn mixed_of(frame: &Cells, what: &Attributes) -> Cause
+    ensures { result ≡ mixed_of (kind_at frame.now.kinds) what.now }
+{
+    mixed_by(frame, what.access, first_place(frame, what))
+}
+
+/// Two registers that are added, or else another cause.
+fn sum_or(insn: &Insn, other: Cause) -> Cause
+    ensures { result ≡ sum_or insn.now other }
+{
+    match *insn {
+        Insn::Alu {
+            op: AluOp::Add,
+            width: Width::W64,
+            dst,
+            operand: Operand::Reg(src),
+        } => Cause::SumOfPlaces(dst, src),
+        _ => other,
+    }
+}
+
+/// V5: what is taken for what it isn't.
+fn mixed_cause(insn: &Insn, frame: &Cells) -> Cause
+    ensures { result ≡ mixed_cause insn.now (kind_at frame.now.kinds) }
+{
+    let what = attributes_from(insn);
+    sum_or(insn, mixed_of(frame, &what))
+}
+
+fn moved_cause(dst: Reg, src: Reg, a: Kind, b: Kind) -> Cause
+    ensures { result ≡ moved_cause dst src a b }
+{
+    match (a, b) {
+        (Kind::Place(_, _), Kind::Num(span)) => Cause::MovedBy(dst, span),
+        (Kind::Num(span), Kind::Place(_, _)) => Cause::MovedBy(src, span),
+        _ => Cause::Nothing,
+    }
+}
+
+fn reach_cause(access: Access, kind: Kind) -> Cause
+    ensures { result ≡ reach_cause access kind }
+{
+    match kind {
+        Kind::Place(region, reach) => {
+            let lo = distance_at(reach.lo, access.offset);
+            let hi = distance_at(reach.hi, access.offset);
+            Cause::Outside(access.bytes, region, lo, hi)
+        }
+        Kind::Unset | Kind::Num(_) => Cause::Nothing,
+    }
+}
+
+fn out_by(frame: &Cells, access: Option<Access>, moved: Option<(Reg, i64)>) -> Cause
+    ensures { result ≡ out_by (kind_at frame.now.kinds) access moved }
+{
+    match (access, moved) {
+        (Some(access), _) => reach_cause(access, frame.kind(access.base)),
+        (None, Some((reg, by))) => Cause::ShiftedBy(reg, by),
+        (None, None) => Cause::Nothing,
+    }
+}
+
+/// By what a register moves another that it is added to, or else another cause.
+fn moved_or(insn: &Insn, frame: &Cells, other: Cause) -> Cause
+    ensures { result ≡ moved_or insn.now (kind_at frame.now.kinds) other }
+{
+    match *insn {
+        Insn::Alu {
+            op: AluOp::Add,
+            width: Width::W64,
+            dst,
+            operand: Operand::Reg(src),
+        } => moved_cause(dst, src, frame.kind(dst), frame.kind(src)),
+        _ => other,
+    }
+}
+
+/// V6: what is reached outside of a region, or moved too far.
+fn out_cause(insn: &Insn, frame: &Cells) -> Cause
+    ensures { result ≡ out_cause insn.now (kind_at frame.now.kinds) }
+{
+    let what = attributes_from(insn);
+    moved_or(insn, frame, out_by(frame, what.access, what.moved))
+}
+
+/// V7: the base of an access.
+fn message_cause(access: Option<Access>) -> Cause
+    ensures { result ≡ message_cause access }
+{
+    match access {
+        None => Cause::Nothing,
+        Some(access) => Cause::OfRegister(access.base, RegisterFault::Message),
+    }
+}
+
+/// V8: the number of a helper.
+fn helper_cause(insn: &Insn) -> Cause
+    ensures { result ≡ helper_cause insn.now }
+{
+    match *insn {
+        Insn::Call { helper } => Cause::NoHelper(helper),
+        _ => Cause::Nothing,
+    }
+}
+
+/// What breaks a rule at a slot, under its frame.
+pub fn cause_of(insn: &Insn, frame: &Cells, rule: Rule) -> Cause
+    ensures { result ≡ cause_of insn.now (kind_at frame.now.kinds) rule }
+{
+    match rule {
+        Rule::V1 => jump_of(flow_from(insn)),
+        Rule::V2 => Cause::NothingFollows,
+        Rule::V3 => unset_cause(frame, &attributes_from(insn)),
+        Rule::V4 => Cause::FramePointer,
+        Rule::V5 => mixed_cause(insn, frame),
+        Rule::V6 => out_cause(insn, frame),
+        Rule::V7 => message_cause(attributes_from(insn).access),
+        Rule::V8 => helper_cause(insn),
+        Rule::V9 => argument_cause(insn, frame),
+        Rule::V10 => Cause::NoAnswer,
+    }
+}

@@ -1,4 +1,0 @@
-mod Words
-mod Frames
-mod Written
-mod Forms

@@ -1,7 +1,0 @@
-use Rattle.std.proofs.Common.{◌≡◌}
-use Rattle.spans.specs.Frame.{kind_at}
-use Rattle.span_explain.specs.Flaw.{first_word}
-use Rattle.span_explain.proofs.flaw.first_word.Given as goal
-
-abbrev pub invariant-loop-word : goal.invariant-loop-word
-invariant-loop-word l = l.found ≡ first_word l.word l.flaw (kind_at l.frame.kinds) l.reach l.fn.offset l.bytes

@@ -1,8 +1,0 @@
--- The listing of an image file of any form.
-use Rattle.std.specs.Prelude.{◌⊎◌, ℕ, List}
-use Rattle.explain.specs.Listing as flat
-use Rattle.span_explain.specs.Listing as span
-
--- the text is the listing of the file, which is of form 1 or 2 or of form 3
-abbrev pub IsFileExplained : List ℕ → List ℕ → Type 0
-IsFileExplained bytes text = flat.IsExplained bytes text ⊎ span.IsExplained bytes text
