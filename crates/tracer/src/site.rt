@@ -7,6 +7,7 @@ ghost use Rattle.tracer.specs.declared.files.Failure.TheVariants.{Memory};
 use crate::files::{Failure, Files, Reason};
 use crate::kind::{Kind, kind_of};
 use crate::look::{look_of, lost_words};
+use hints::length_words;
 use std::alloc::{AllocError, Global};
 use std::fmt;
 
@@ -38,6 +39,11 @@ impl Site {
             words: String::new(alloc),
             note: String::new(alloc),
         }
+    }
+
+    /// Keeps what the command line may be meant for, until a file is read or written.
+    pub fn expect(&mut self, words: &str) {
+        let _kept = self.words.push_str(words);
     }
 
     /// From here on the image of this process is read.
@@ -82,6 +88,8 @@ impl Site {
                 self.kind = kind_of(bytes.as_slice());
                 if self.kind == Kind::Other {
                     self.words.push_str(look_of(bytes.as_slice()))?;
+                } else {
+                    self.words = length_words(alloc, bytes.as_slice())?;
                 }
                 Ok(bytes)
             }
