@@ -28,4 +28,4 @@ pub use rest::{Rest, rest_of};
 pub use run::note_run;
 pub use scenario_line::scenario_words;
 pub use told::{Told, keep_told};
-pub use why::{Why, why};
+pub use why::{Act, Why, why};

@@ -2,8 +2,7 @@
 
 use crate::rest::{Rest, rest_of};
 use crate::told::Told;
-use crate::why::Why;
-use helpers::Payload;
+use crate::why::{Act, Why, named_in};
 use indexmap::IndexMap;
 use scenario::{Order, Process, Scenario, Step};
 use sessions::Service;
@@ -12,257 +11,162 @@ use std::fmt;
 use trace::name_at;
 use world::{Call, PhaseName, Refusal};
 
-/// What stops a run that doesn't end by itself.
-const ENDLESS: &str =
-    "if each message makes another one, as of two handlers that answer each other, there is no end: a drive of fewer calls stops before";
+const FULL: &str =
+    "the journal is full: if each message makes another one, a drive of fewer calls ends before";
 
-/// A refused order among the processes of its run. It prints as a sentence, without a line's end.
+const WAITS: &str = "it waits for acknowledgements: drive N above this line sends it";
+
+const DOWN: &str =
+    "$a is down, and what is sent to it waits: recover $a, drive N bring it back (alone $a if another one is down)";
+
+const SENDS: &str = "work is left, as message $n of $a to $b: one more drive N carries it on";
+
+/// A sentence with marks: for the names of two processes `$a` and `$b`, for numbers `$n` and `$m`.
 #[derive(Clone, Copy)]
-struct Cause<'a> {
-    processes: &'a IndexMap<String, Process>,
-    told: &'a Told,
+struct Sentence<'a> {
+    words: &'static str,
+    a: &'a str,
+    b: &'a str,
+    n: u64,
+    m: u64,
 }
 
-impl Cause<'_> {
-    fn name(&self, process: u8) -> &str {
-        party_name(self.processes, process)
-    }
-
-    /// Of an order whose process is in a phase that doesn't allow it.
-    fn phase<W: fmt::Write>(
-        &self,
-        f: &mut fmt::Formatter<W>,
-        process: u8,
-        phase: PhaseName,
-    ) -> fmt::Result {
-        let name = self.name(process);
-        match (self.told.refusal, phase) {
-            (Refusal::NotUp, PhaseName::Down) if matches!(&self.told.order, Order::Crash { .. }) =>
-                { write!(f, "{name} is down already") }
-            (Refusal::NotUp, PhaseName::Down) => write!(
-                f,
-                "{name} is down: recover {name} above this line, and then drive N, brings it up"
-            ),
-            (Refusal::NotDown, PhaseName::Up | PhaseName::Busy) => {
-                write!(f, "{name} is up: crash {name} comes before recover {name}")
-            }
-            (Refusal::WrongPhase, PhaseName::Replaying) => write!(
-                f,
-                "{name} replays first: drive N, or replay {name} and finish {name}, come before resync"
-            ),
-            (Refusal::WrongPhase, _) => write!(
-                f,
-                "{name} has nothing of that to do: replay comes between recover {name} and its last message, resync after that, once for each other process"
-            ),
-            (Refusal::Busy, _) => write!(
-                f,
-                "{name} works on a message: finish {name} above this line ends that"
-            ),
-            _ => write!(
-                f,
-                "{name} is on its way back: drive N above this line brings it up, after finish {name} if a job of it is held"
-            ),
-        }
-    }
-
-    /// Of an order that asks for another process.
-    fn peer<W: fmt::Write>(
-        &self,
-        f: &mut fmt::Formatter<W>,
-        process: u8,
-        phase: PhaseName,
-    ) -> fmt::Result {
-        let peer = self.name(process);
-        if let Order::Recover { process } = self.told.order {
-            let name = self.name(process);
-            if phase == PhaseName::Down {
-                return write!(
-                    f,
-                    "{peer} is down, and recover asks that all others are up: alone {name}, drive N, recover {peer}, drive N bring both back, and the run isn't exact"
-                );
-            }
-        }
-        write!(
-            f,
-            "{peer} is on its way back, and has to be up: drive N above this line brings it up"
-        )
-    }
-
-    /// Of a message that its sender's log doesn't have.
-    fn unlogged<W: fmt::Write>(
-        &self,
-        f: &mut fmt::Formatter<W>,
-        from: u8,
-        to: u8,
-        numbers: (u32, u32),
-    ) -> fmt::Result {
-        let (from, to) = (self.name(from), self.name(to));
-        let (ssn, last) = numbers;
-        match self.told.refusal {
-            Refusal::NotLogged if ssn == 0 => f.write_str("messages are numbered from 1"),
-            Refusal::NotLogged => write!(f, "message {ssn} of {from} to {to} was trimmed"),
-            _ if last == 0 => write!(
-                f,
-                "{from} has sent {to} no message {ssn}, and none before it: drive N above this line makes the calls that send"
-            ),
-            _ => write!(
-                f,
-                "{from} has sent {to} no message {ssn}: the last one is {last}, as each receiver's are numbered from 1"
-            ),
-        }
-    }
-
-    /// Of an order of which the number says all.
-    fn number<W: fmt::Write>(&self, f: &mut fmt::Formatter<W>) -> fmt::Result {
-        match self.told.refusal {
-            Refusal::Busy => f.write_str(
-                "the process that the packet is for works on a message: finish, with its name, above this line ends that",
-            ),
-            Refusal::SameProcess => f.write_str(
-                "both names are the same, and only others get messages",
-            ),
-            Refusal::JournalFull => write!(
-                f,
-                "the journal is full, with 65,536 entries: {ENDLESS}"
-            ),
-            Refusal::WireFull => {
-                f.write_str(
-                    "the wire is full, with 4,096 packets: arrive and lose take some from it",
-                )
-            }
-            refusal => write!(f, "{refusal}"),
-        }
-    }
-}
-
-impl fmt::Display for Cause<'_> {
+impl fmt::Display for Sentence<'_> {
     fn fmt<W: fmt::Write>(&self, f: &mut fmt::Formatter<W>) -> fmt::Result {
-        match self.told.why {
-            Why::Phase { process, phase } => self.phase(f, process, phase),
-            Why::Peer { process, phase } => self.peer(f, process, phase),
-            Why::Logged { from, to, .. } => {
-                let (from, to) = (self.name(from), self.name(to));
-                write!(
-                    f,
-                    "the message of {from} to {to} waits until the numbers of what {from} received before are acknowledged: drive N above this line does that, and sends it"
-                )
+        let (a, b, n, m) = (self.a, self.b, self.n, self.m);
+        for (place, part) in self.words.split('$').enumerate() {
+            let (mark, rest) = match part.split_at_checked(1) {
+                Some(parts) if place > 0 => parts,
+                _ => ("", part),
+            };
+            match mark {
+                "a" => write!(f, "{a}{rest}")?,
+                "b" => write!(f, "{b}{rest}")?,
+                "n" => write!(f, "{n}{rest}")?,
+                "m" => write!(f, "{m}{rest}")?,
+                _ => write!(f, "{mark}{rest}")?,
             }
-            Why::Unlogged {
-                from,
-                to,
-                ssn,
-                last,
-            } => self.unlogged(f, from, to, (ssn, last)),
-            Why::Taken { key, entry } => {
-                let number = entry.saturating_add(1);
-                write!(
-                    f,
-                    "no packet has key {key} any more: it arrived or was lost by the call {number:06} of the trace"
-                )
-            }
-            Why::Untaken { key } => write!(
-                f,
-                "no packet has key {key}: transmit and copy put one on the wire, and the trace tells its key, as in -> packet 0"
-            ),
-            Why::Ended { process, entry } => {
-                let (name, number) = (self.name(process), entry.saturating_add(1));
-                write!(
-                    f,
-                    "no job of {name} is held: the last one ended by the call {number:06} of the trace, as drive finishes what it starts"
-                )
-            }
-            Why::Unstarted { process } => {
-                let name = self.name(process);
-                write!(
-                    f,
-                    "no job of {name} is held: a message that arrives starts one, and none has"
-                )
-            }
-            Why::Number => self.number(f),
         }
+        Ok(())
+    }
+}
+
+/// Of an order of process `$a`, or of one that asks for `$b`, which is in a phase that doesn't allow it.
+fn phase_words(told: &Told, phase: PhaseName) -> &'static str {
+    match (told.refusal, phase) {
+        (Refusal::NotUp, PhaseName::Down) if matches!(&told.order, Order::Crash { .. }) => {
+            "$a is down already"
+        }
+        (Refusal::NotUp, PhaseName::Down) => {
+            "$a is down: recover $a and drive N above this line bring it up"
+        }
+        (Refusal::PeerNotUp, PhaseName::Down) => {
+            "$b is down: alone $a, drive N, recover $b, drive N bring both back"
+        }
+        (Refusal::PeerNotUp, _) => "$b is on its way back: drive N above this line brings it up",
+        (Refusal::NotDown, PhaseName::Up | PhaseName::Busy) => {
+            "$a is up: crash $a comes before recover $a"
+        }
+        (Refusal::WrongPhase, _) => "$a has no such call to make: drive N makes those that it has",
+        (Refusal::Busy, _) => "$a works on a message: finish $a above this line ends that",
+        _ => "$a is on its way back: drive N above this line brings it up",
+    }
+}
+
+/// Of a message that its sender's log doesn't have.
+fn message_words(told: &Told, ssn: u32, last: u32) -> &'static str {
+    match told.refusal {
+        Refusal::NotLogged if ssn == 0 => "messages are numbered from 1",
+        Refusal::NotLogged => "message $n of $a to $b was trimmed",
+        _ if last == 0 => "$a has sent $b no message $n: drive N above this line makes it work",
+        _ => "$a has sent $b no message $n: the last one is $m",
+    }
+}
+
+/// Of an order of which nothing more is found.
+fn number_words(refusal: Refusal) -> &'static str {
+    match refusal {
+        Refusal::Busy => "its process works on a message: finish above this line ends that",
+        Refusal::NoPacket => {
+            "no packet has key $n: transmit puts one on the wire, and the trace tells the key, as in -> packet 0"
+        }
+        Refusal::SameProcess => "both names are the same",
+        Refusal::StaleJob =>
+            "no job of $a is held: a message that arrives starts one, and none has",
+        Refusal::JournalFull => FULL,
+        Refusal::WireFull => "the wire is full: arrive and lose take packets from it",
+        _ => "it isn't allowed here",
+    }
+}
+
+/// Of an order that comes after a call of entry `$m` of the trace.
+fn done_words(act: Act) -> &'static str {
+    match act {
+        Act::Takes(_) => "key $n has no packet any more: entry $m of the trace took it",
+        Act::Ends(_) => "no job of $a is held: entry $m of the trace ended the last one",
+    }
+}
+
+/// Why an order was refused: a sentence, the other process that it names, and its numbers.
+fn cause(told: &Told, key: u32) -> (&'static str, u8, u64, u64) {
+    let key = u64::from(key);
+    match told.why {
+        Why::Phase { process, phase } => (phase_words(told, phase), process, 0, 0),
+        Why::Logged { to, .. } => (WAITS, to, 0, 0),
+        Why::Unlogged { to, ssn, last, .. } => {
+            let words = message_words(told, ssn, last);
+            (words, to, u64::from(ssn), u64::from(last))
+        }
+        Why::Done { act, entry } => (done_words(act), 0, key, entry.saturating_add(1) as u64),
+        Why::Number => (number_words(told.refusal), 0, key, 0),
+    }
+}
+
+/// What is left to do: a sentence, the processes that it names, and a number.
+fn left(rest: Rest) -> (&'static str, u8, u8, u64) {
+    match rest {
+        Rest::Down { process } => (DOWN, process, 0, 0),
+        Rest::Held { process } => ("a job of $a is held: finish $a runs it", process, 0, 0),
+        Rest::Full { .. } => (FULL, 0, 0, 0),
+        Rest::Next {
+            call: Call::Transmit { from, to, ssn },
+        } => (SENDS, from, to, u64::from(ssn)),
+        Rest::Next {
+            call: Call::ReplayBegin { process } | Call::Resync { process, .. },
+        } => (
+            "$a is on its way back: one more drive N brings it up",
+            process,
+            0,
+            0,
+        ),
+        Rest::Next { .. } => (
+            "a packet is on the wire: one more drive N carries it on",
+            0,
+            0,
+            0,
+        ),
+        Rest::Nothing => ("", 0, 0, 0),
     }
 }
 
 /// The name of a process, or of the outside.
-fn party_name(processes: &IndexMap<String, Process>, process: u8) -> &str {
+fn name_of(processes: &IndexMap<String, Process>, process: u8) -> &str {
     if process == 0 {
         return "outside";
     }
     name_at(processes, process)
 }
 
-/// What is left to do, among the processes of its run. It prints as a sentence, without a line's end.
-#[derive(Clone, Copy)]
-struct Left<'a> {
-    processes: &'a IndexMap<String, Process>,
-    rest: Rest,
-}
-
-impl Left<'_> {
-    /// What a call carries on.
-    fn call<W: fmt::Write>(&self, f: &mut fmt::Formatter<W>, call: Call) -> fmt::Result {
-        match call {
-            Call::Transmit { from, to, .. } => {
-                let (from, to) = (
-                    party_name(self.processes, from),
-                    party_name(self.processes, to),
-                );
-                write!(f, "a message of {from} to {to} waits")
-            }
-            Call::ReplayBegin { process } => {
-                let name = party_name(self.processes, process);
-                write!(f, "{name} still replays")
-            }
-            Call::Resync { process, .. } => {
-                let name = party_name(self.processes, process);
-                write!(f, "{name} restores numbers")
-            }
-            Call::Arrive { key } => write!(f, "packet {key} is on the wire"),
-            _ => f.write_str("a call can be made"),
-        }
-    }
-}
-
-impl fmt::Display for Left<'_> {
-    fn fmt<W: fmt::Write>(&self, f: &mut fmt::Formatter<W>) -> fmt::Result {
-        match self.rest {
-            Rest::Down { process } => {
-                let name = party_name(self.processes, process);
-                write!(
-                    f,
-                    "{name} is down, and what is sent to it waits: recover {name}, and then drive N, brings it back (alone {name} if another one is down, too)"
-                )
-            }
-            Rest::Held { process } => {
-                let name = party_name(self.processes, process);
-                write!(
-                    f,
-                    "{name} has a job that the scenario holds: finish {name} runs it"
-                )
-            }
-            Rest::Next { call } => {
-                f.write_str("work is left, as ")?;
-                self.call(f, call)?;
-                f.write_str(": one more drive N after the last line carries it on")
-            }
-            Rest::Full { .. } => write!(f, "the journal is full, with 65,536 entries: {ENDLESS}"),
-            Rest::Nothing => Ok(()),
-        }
-    }
-}
-
-/// Whether a message looks like a number whose highest byte stands first.
-fn is_reversed(payload: &Payload) -> bool {
-    matches!(payload.as_slice(), [0, _, _, _, _, _, _, low] if *low > 0)
-}
-
 /// What is said of a line of a scenario that does less than it seems to.
 fn step_words(step: &Step) -> &'static str {
     match &step.order {
         Order::Drive { budget: 0 } => "drive 0 makes no call: drive N makes at most N",
-        Order::Bytes { payload, .. } if is_reversed(payload) => {
-            "the lowest byte of a number stands first: 5 is 0500000000000000"
-        }
+        Order::Bytes { payload, .. } => match payload.as_slice() {
+            [0, _, _, _, _, _, _, low] if *low > 0 => {
+                "the lowest byte of a number stands first: 5 is 0500000000000000"
+            }
+            _ => "",
+        },
         _ => "",
     }
 }
@@ -277,28 +181,32 @@ fn run_lines(
     let mut lines = String::new(alloc);
     let processes = &scenario.processes;
     for one in told {
-        let (line, cause) = (
-            one.line,
-            Cause {
-                processes,
-                told: one,
-            },
-        );
-        let words = format!(in alloc; "line {line}: {cause}\n")?;
-        lines.push_str(words.as_str())?;
+        let (process, key) = named_in(&one.order);
+        let (words, other, n, m) = cause(one, key);
+        let (a, b) = (name_of(processes, process), name_of(processes, other));
+        let (line, said) = (one.line, Sentence { words, a, b, n, m });
+        let line = format!(in alloc; "line {line}: {said}\n")?;
+        lines.push_str(line.as_str())?;
     }
     for step in &scenario.steps {
-        let (line, said) = (step.line, step_words(step));
-        if !said.is_empty() {
-            let words = format!(in alloc; "line {line}: {said}\n")?;
-            lines.push_str(words.as_str())?;
+        let (line, words) = (step.line, step_words(step));
+        if !words.is_empty() {
+            let line = format!(in alloc; "line {line}: {words}\n")?;
+            lines.push_str(line.as_str())?;
         }
     }
-    let rest = rest_of(session);
-    if rest != Rest::Nothing {
-        let left = Left { processes, rest };
-        let words = format!(in alloc; "{left}\n")?;
-        lines.push_str(words.as_str())?;
+    let (words, process, other, n) = left(rest_of(session));
+    if !words.is_empty() {
+        let (a, b) = (name_of(processes, process), name_of(processes, other));
+        let said = Sentence {
+            words,
+            a,
+            b,
+            n,
+            m: 0,
+        };
+        let line = format!(in alloc; "{said}\n")?;
+        lines.push_str(line.as_str())?;
     }
     Ok(lines)
 }

@@ -1,156 +1,105 @@
 //! What is said of the line of a scenario that is refused.
 
-use crate::shown::{Shown, hexadecimal_of, meant};
+use crate::shown::{hexadecimal_of, line_at, meant};
 use scenario::{Allowed, Mistake, mistake_of};
 use std::alloc::{AllocError, Global};
 
-/// Words that begin no line, and those that they may be meant for.
-const MEANT: [(&str, &str); 23] = [
-    ("send", "transmit"),
-    ("deliver", "arrive"),
-    ("receive", "arrive"),
-    ("recv", "arrive"),
-    ("drop", "lose"),
-    ("loss", "lose"),
-    ("duplicate", "copy"),
-    ("dup", "copy"),
-    ("kill", "crash"),
-    ("stop", "crash"),
-    ("fail", "crash"),
-    ("restart", "recover"),
-    ("revive", "recover"),
-    ("restore", "recover"),
-    ("save", "checkpoint"),
-    ("snapshot", "checkpoint"),
-    ("run", "drive"),
-    ("step", "drive"),
-    ("start", "drive"),
-    ("wait", "drive"),
-    ("node", "process"),
-    ("proc", "process"),
-    ("message", "input"),
+/// Words that begin no line, and the one that they may be meant for.
+const MEANT: [(&str, &str); 9] = [
+    ("send sent msg message", "transmit"),
+    ("deliver receive recv", "arrive"),
+    ("drop loss", "lose"),
+    ("duplicate dup", "copy"),
+    ("kill stop fail", "crash"),
+    ("restart revive restore", "recover"),
+    ("save snapshot", "checkpoint"),
+    ("run step start wait", "drive"),
+    ("node proc", "process"),
 ];
+
+const EMPTY: &str =
+    "the file is empty: a shell empties the file after > before the command reads it\n";
+
+const PRINTED: &str =
+    "run prints such a line, and a scenario has none: diff compares what run prints with a stored text";
+
+const INPUTS: &str =
+    "live takes input and bytes lines, as its workers make the other calls: sblog run carries all out";
+
+const KEYS: &str = "a packet is named by its key, which the trace tells, as in -> packet 0";
 
 /// Whether `run` prints such a line, which a scenario has none of.
 fn is_printed(line: &str) -> bool {
-    if line == "exact" || line == "not exact" || line.starts_with("output ") {
-        return true;
+    let mut words = line.split(' ');
+    match (words.next(), words.nth(1)) {
+        (Some("exact" | "output" | "not"), _) => true,
+        (Some("process"), Some("up" | "busy" | "down" | "replaying" | "resync")) => true,
+        (Some("line"), Some("refused")) => true,
+        (Some(first), _) => first.len() == 6 && first.bytes().all(|it| it.is_ascii_digit()),
+        _ => false,
     }
-    let is_refused = line.starts_with("line ") && line.contains(" refused ");
-    let is_entry = line.len() > 7 && line.bytes().take(6).all(|it| it.is_ascii_digit());
-    is_refused || is_entry || is_report(line)
 }
 
-/// Whether a line is a report of a process.
-fn is_report(line: &str) -> bool {
-    line.starts_with("process ")
-        && line.split(' ').nth(2).is_some_and(|phase| {
-            matches!(phase, "up" | "busy" | "down" | "replaying" | "resync")
-        })
-        && line.split(' ').count() > 3
-}
-
-/// What is meant by a line that is no bytes of a message: how these are written.
-fn bytes_words(alloc: Global, name: &str, said: &str) -> Result<Option<String>, AllocError> {
+/// How bytes are written that are none, of the process of this name; nothing if that isn't known.
+fn bytes_words(alloc: Global, name: &str, said: &str) -> Result<String, AllocError> {
     let digits = said.strip_prefix("0x").unwrap_or(said);
+    let letters = said.trim_matches('"').trim_matches('\'');
     let mut right = String::new(alloc);
-    let mut are_digits = true;
-    for letter in digits.chars() {
-        are_digits = are_digits && (letter.is_ascii_hexdigit() || letter == ' ');
-        if letter.is_ascii_hexdigit() {
+    if digits.chars().all(|it| it == ' ' || it.is_ascii_hexdigit()) {
+        for letter in digits.chars().filter(|it| *it != ' ') {
             right.push(letter.to_ascii_lowercase())?;
         }
+    } else {
+        for letter in letters.bytes() {
+            let pair = format!(in alloc; "{letter:02x}")?;
+            right.push_str(pair.as_str())?;
+        }
     }
-    if are_digits && right.len() % 2 == 0 && !right.is_empty() {
-        let right = Shown(right.as_str());
-        let words = format!(in alloc;
-            "bytes are pairs of 0 to 9 and a to f, without spaces, 0x and capital letters: bytes {name} {right}"
-        )?;
-        return Ok(Some(words));
+    if right.is_empty() || right.len() % 2 == 1 {
+        return Ok(String::new(alloc));
     }
-    if are_digits {
-        return Ok(None);
-    }
-    letter_words(alloc, name, said)
+    format!(in alloc; "bytes are pairs of 0 to 9 and a to f alone: bytes {name} {right}")
 }
 
-/// The bytes of letters.
-fn letter_words(alloc: Global, name: &str, said: &str) -> Result<Option<String>, AllocError> {
-    let letters = said.trim_matches('"').trim_matches('\'');
-    if !letters.bytes().all(|it| it.is_ascii_graphic()) || letters.len() > 16 {
-        return Ok(None);
-    }
-    let mut right = String::new(alloc);
-    for letter in letters.bytes() {
-        let pair = format!(in alloc; "{letter:02x}")?;
-        right.push_str(pair.as_str())?;
-    }
-    let words = format!(in alloc;
-        "the letters {letters} are the bytes {right}: bytes {name} {right}"
-    )?;
-    Ok(Some(words))
-}
-
-/// What the words of a line may be meant for, that stand as others than the order has; nothing if that isn't known.
-fn operand_words(
-    alloc: Global,
-    line: &str,
-    mistake: &Mistake<'_>,
-) -> Result<Option<String>, AllocError> {
-    let (verb, rest) = line.split_once(' ').unwrap_or((line, ""));
+/// How a line is written whose operands aren't those of its order; nothing if that isn't known.
+fn operand_words(alloc: Global, line: &str, mistake: &Mistake<'_>) -> Result<String, AllocError> {
     if let Some((before, after)) = line.split_once(" -> ") {
-        let (before, after) = (Shown(before), Shown(after));
-        return Ok(Some(format!(in alloc; "names stand without an arrow: {before} {after}")?));
+        return format!(in alloc; "names stand without an arrow: {before} {after}");
     }
+    let (verb, rest) = line.split_once(' ').unwrap_or((line, ""));
     if verb == "bytes" {
         return match rest.split_once(' ') {
             Some((name, said)) => bytes_words(alloc, name, said),
-            None => Ok(Some(format!(in alloc; "a message without bytes is bytes {rest} -")?)),
+            None => format!(in alloc; "a message without bytes is bytes {rest} -"),
         };
     }
     let Mistake::Number { word, .. } = *mistake else {
-        return Ok(None);
+        return Ok(String::new(alloc));
     };
-    if let (Some(number), Some((before, _))) = (hexadecimal_of(word), line.split_once(word)) {
-        let before = Shown(before);
-        return Ok(Some(format!(in alloc; "numbers are decimal: {before}{number}")?));
+    if let (Some(number), Some((before, _))) = (hexadecimal_of(word), line.rsplit_once(word)) {
+        return format!(in alloc; "numbers are decimal: {before}{number}");
     }
     if matches!(verb, "arrive" | "copy" | "lose") {
-        let words =
-            "a packet is named by its key, which the trace tells where it is put on the wire, as in -> packet 0";
-        return Ok(Some(String::from_str(alloc, words)?));
+        return String::from_str(alloc, KEYS);
     }
-    Ok(None)
+    Ok(String::new(alloc))
 }
 
 /// What a line may be meant for; nothing if that isn't known.
-fn meant_words(
-    alloc: Global,
-    line: &str,
-    mistake: &Mistake<'_>,
-) -> Result<Option<String>, AllocError> {
+fn meant_words(alloc: Global, line: &str, mistake: &Mistake<'_>) -> Result<String, AllocError> {
+    if is_printed(line) {
+        return String::from_str(alloc, PRINTED);
+    }
     match mistake {
-        Mistake::Verb { .. } | Mistake::Late | Mistake::Words("process", _) | Mistake::Path
-            if is_printed(line) => {
-            let words =
-                "run prints such a line, and a scenario has none: diff compares what run prints with a file that says what is expected";
-            Ok(Some(String::from_str(alloc, words)?))
-        }
         Mistake::Verb { word } => match meant(&MEANT, word) {
-            Some(right) => Ok(Some(format!(in alloc;
-                "no line begins with {word}: {right} is meant?"
-            )?)),
-            None => Ok(None),
+            Some(right) => format!(in alloc; "no line begins with {word}: {right} is meant?"),
+            None => Ok(String::new(alloc)),
         },
-        Mistake::InputsAlone => {
-            let words =
-                "only input and bytes lines can stand here, as the workers of live make the other calls: sblog run carries all out";
-            Ok(Some(String::from_str(alloc, words)?))
+        Mistake::InputsAlone => String::from_str(alloc, INPUTS),
+        Mistake::Words(..) | Mistake::Number { .. } | Mistake::Digit { .. } => {
+            operand_words(alloc, line, mistake)
         }
-        Mistake::Words(..) | Mistake::Number { .. } | Mistake::Digit { .. } => operand_words(
-            alloc, line, mistake,
-        ),
-        _ => Ok(None),
+        _ => Ok(String::new(alloc)),
     }
 }
 
@@ -162,17 +111,15 @@ pub fn scenario_words(
     allowed: Allowed,
 ) -> Result<String, AllocError> {
     if text.is_empty() {
-        return String::from_str(
-            alloc,
-            "the file is empty: a shell empties the file after > before the command that reads it begins\n",
-        );
+        return String::from_str(alloc, EMPTY);
     }
     let Some(mistake) = mistake_of(text, number, allowed) else {
         return Ok(String::new(alloc));
     };
-    let line = text.split('\n').nth(number.saturating_sub(1)).unwrap_or("");
-    match meant_words(alloc, line, &mistake)? {
-        Some(words) => format!(in alloc; "line {number}: {words}\n"),
-        None => format!(in alloc; "line {number}: {mistake}\n"),
+    let line = line_at(text, number);
+    let words = meant_words(alloc, line, &mistake)?;
+    if words.is_empty() {
+        return format!(in alloc; "line {number}: {mistake}\n");
     }
+    format!(in alloc; "line {number}: {words}\n")
 }

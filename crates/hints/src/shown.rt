@@ -1,33 +1,19 @@
-//! Words and numbers as they are shown.
+//! Lines and words, and what they may be meant for.
 
-use std::fmt;
+/// How long a line is at most of which it is said how it is written right.
+const LINE: usize = 600;
 
-/// The most letters of a word that are shown.
-const SHOWN: usize = 40;
-
-/// A part of a text on a terminal: no letter that could move its cursor, and not too long.
-#[derive(Clone, Copy)]
-pub(crate) struct Shown<'a>(pub(crate) &'a str);
-
-impl fmt::Display for Shown<'_> {
-    fn fmt<W: fmt::Write>(&self, f: &mut fmt::Formatter<W>) -> fmt::Result {
-        for letter in self.0.chars().take(SHOWN) {
-            f.write_char(if letter == ' ' || letter.is_ascii_graphic() {
-                letter
-            } else {
-                '?'
-            })?;
-        }
-        if self.0.chars().count() > SHOWN {
-            f.write_str("..")?;
-        }
-        Ok(())
+/// The line of this number, from 1; of a line that is too long to be shown nothing.
+pub(crate) fn line_at(text: &str, number: usize) -> &str {
+    match text.split('\n').nth(number.saturating_sub(1)) {
+        Some(line) if line.len() <= LINE => line,
+        _ => "",
     }
 }
 
 /// The number of a word in hexadecimal, as 0x10.
 pub(crate) fn hexadecimal_of(word: &str) -> Option<u64> {
-    let digits = word.strip_prefix("0x").or_else(|| word.strip_prefix("0X"))?;
+    let digits = word.strip_prefix("0x")?;
     if digits.is_empty() {
         return None;
     }
@@ -44,10 +30,10 @@ pub(crate) fn hexadecimal_of(word: &str) -> Option<u64> {
     Some(number)
 }
 
-/// The word that may be meant by another one.
-pub(crate) fn meant(words: &[(&'static str, &'static str)], word: &str) -> Option<&'static str> {
-    for (said, right) in words {
-        if *said == word {
+/// What may be meant by a word, of rows of words and what these mean.
+pub(crate) fn meant(rows: &[(&'static str, &'static str)], word: &str) -> Option<&'static str> {
+    for (said, right) in rows {
+        if said.split(' ').any(|it| it == word) {
             return Some(*right);
         }
     }

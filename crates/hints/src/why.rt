@@ -1,7 +1,7 @@
 //! Why a session refused an order.
 
-ghost use Rattle.std.specs.Prelude.{◌≡◌, IfSome, true};
-ghost use Rattle.hints.specs.Why.{Holds, IsAct, IsAt};
+ghost use Rattle.std.specs.Prelude.{◌≡◌, true};
+ghost use Rattle.hints.specs.Why.{Holds, IsAct};
 
 use scenario::Order;
 use sessions::Service;
@@ -10,16 +10,20 @@ use world::{Call, PhaseName, Refusal};
 /// How many numbers are tried for the last message that was sent.
 const TRIED: u32 = 4096;
 
-/// Why an order was refused, beside the number of the refusal. Entries are counted from 0.
+/// What a call may have done.
+#[derive(Clone, Copy, PartialEq, Eq, Debug)]
+pub enum Act {
+    /// It took the packet of this key from the wire.
+    Takes(usize),
+    /// It ended a job of this process.
+    Ends(u8),
+}
+
+/// Why an order was refused, beside the number of the refusal.
 #[derive(Clone, Copy, PartialEq, Eq, Debug)]
 pub enum Why {
-    /// The process of the order is in this phase.
+    /// The process, of the order or another one that it asks for, is in this phase.
     Phase {
-        process: u8,
-        phase: PhaseName,
-    },
-    /// Another process, which the order asks for, is in this phase.
-    Peer {
         process: u8,
         phase: PhaseName,
     },
@@ -36,25 +40,12 @@ pub enum Why {
         ssn: u32,
         last: u32,
     },
-    /// The call of this entry took the packet of this key from the wire.
-    Taken {
-        key: u32,
+    /// The call of this entry, counted from 0, did this.
+    Done {
+        act: Act,
         entry: usize,
     },
-    /// No call did so.
-    Untaken {
-        key: u32,
-    },
-    /// The call of this entry ended the last job of the process.
-    Ended {
-        process: u8,
-        entry: usize,
-    },
-    /// No call did so.
-    Unstarted {
-        process: u8,
-    },
-    /// The number says it.
+    /// Nothing is found, or the number says it.
     Number,
 }
 
@@ -62,31 +53,33 @@ pub enum Why {
 pub fn why(session: &Service, order: &Order, refusal: Refusal) -> Why
     ensures { Holds session.now result }
 {
+    let (process, key) = named_in(order);
     match refusal {
-        Refusal::NotUp | Refusal::Busy => phase_of(session, subject_of(order)),
-        Refusal::NotDown | Refusal::WrongPhase => phase_of(session, subject_of(order)),
-        Refusal::NoPacket => packet_of(session, order),
+        Refusal::NotUp | Refusal::Busy => phase_of(session, process),
+        Refusal::NotDown | Refusal::WrongPhase => phase_of(session, process),
+        Refusal::NoPacket => last_act(session, Act::Takes(key as usize)),
         Refusal::NotReleased | Refusal::NotLogged => message_of(session, order),
         Refusal::PeerNotUp => peer_of(session, order),
-        Refusal::StaleJob => job_of(session, subject_of(order)),
+        Refusal::StaleJob => last_act(session, Act::Ends(process)),
         _ => Why::Number,
     }
 }
 
-/// The process that an order is about, 0 if there is none.
-fn subject_of(order: &Order) -> u8 {
+/// The process that an order is about, 0 if there is none, and the key of its packet.
+pub(crate) fn named_in(order: &Order) -> (u8, u32) {
     match *order {
-        Order::Transmit { from, .. } => from,
-        Order::Finish { process } | Order::Checkpoint { process } => process,
-        Order::Crash { process } | Order::Recover { process } => process,
-        Order::RecoverAlone { process } | Order::ReplayBegin { process } => process,
-        Order::Resync { process, .. } => process,
-        Order::Input { to, .. } | Order::Bytes { to, .. } | Order::Trim { to } => to,
-        Order::Copy { .. } | Order::Lose { .. } | Order::Arrive { .. } | Order::Drive { .. } => 0,
+        Order::Transmit { from, .. } => (from, 0),
+        Order::Finish { process } | Order::Checkpoint { process } => (process, 0),
+        Order::Crash { process } | Order::Recover { process } => (process, 0),
+        Order::RecoverAlone { process } | Order::ReplayBegin { process } => (process, 0),
+        Order::Resync { process, .. } => (process, 0),
+        Order::Input { to, .. } | Order::Bytes { to, .. } | Order::Trim { to } => (to, 0),
+        Order::Copy { key } | Order::Lose { key } | Order::Arrive { key } => (0, key),
+        Order::Drive { .. } => (0, 0),
     }
 }
 
-/// The phase of a process.
+/// The phase of a process, if there is one.
 fn phase_of(session: &Service, process: u8) -> Why
     ensures { Holds session.now result }
 {
@@ -97,40 +90,18 @@ fn phase_of(session: &Service, process: u8) -> Why
     Why::Phase { process, phase }
 }
 
-/// Whether messages reach a process in this phase.
-pub(crate) fn is_up(phase: PhaseName) -> bool {
-    matches!(phase, PhaseName::Up | PhaseName::Busy)
-}
-
 /// The process that isn't up, which the order asks for.
 fn peer_of(session: &Service, order: &Order) -> Why
     ensures { Holds session.now result }
 {
-    match *order {
-        Order::Resync { peer, .. } => named_peer(session, peer),
-        _ => other_of(session, subject_of(order)),
+    if let Order::Resync { peer, .. } = *order {
+        return phase_of(session, peer);
     }
-}
-
-/// The phase of another process.
-fn named_peer(session: &Service, process: u8) -> Why
-    ensures { Holds session.now result }
-{
-    if process == 0 || process > session.count() {
-        return Why::Number;
-    }
-    let phase = session.phase(process);
-    Why::Peer { process, phase }
-}
-
-/// The first process but this one that isn't up.
-fn other_of(session: &Service, but: u8) -> Why
-    ensures { Holds session.now result }
-{
+    let (but, _) = named_in(order);
     for process in 1..session.count() + 1 {
         let phase = session.phase(process);
-        if process != but && !is_up(phase) {
-            return Why::Peer { process, phase };
+        if process != but && !matches!(phase, PhaseName::Up | PhaseName::Busy) {
+            return Why::Phase { process, phase };
         }
     }
     Why::Number
@@ -143,17 +114,15 @@ fn message_of(session: &Service, order: &Order) -> Why
     let Order::Transmit { from, to, ssn } = *order else {
         return Why::Number;
     };
-    match session.logged(from, to, ssn) {
-        Some(_) => Why::Logged { from, to, ssn },
-        None => {
-            let last = last_of(session, from, to, ssn);
-            Why::Unlogged {
-                from,
-                to,
-                ssn,
-                last,
-            }
-        }
+    if session.logged(from, to, ssn).is_some() {
+        return Why::Logged { from, to, ssn };
+    }
+    let last = last_of(session, from, to, ssn);
+    Why::Unlogged {
+        from,
+        to,
+        ssn,
+        last,
     }
 }
 
@@ -161,45 +130,11 @@ fn message_of(session: &Service, order: &Order) -> Why
 fn last_of(session: &Service, from: u8, to: u8, ssn: u32) -> u32 {
     let end = ssn.min(TRIED);
     for back in 1..end {
-        let number = end - back;
-        if session.logged(from, to, number).is_some() {
-            return number;
+        if session.logged(from, to, end - back).is_some() {
+            return end - back;
         }
     }
     0
-}
-
-/// What became of the packet of an order.
-fn packet_of(session: &Service, order: &Order) -> Why
-    ensures { Holds session.now result }
-{
-    let key = match *order {
-        Order::Copy { key } | Order::Lose { key } | Order::Arrive { key } => key,
-        _ => return Why::Number,
-    };
-    match last_act(session, Act::Takes(key)) {
-        Some(entry) => Why::Taken { key, entry },
-        None => Why::Untaken { key },
-    }
-}
-
-/// What became of the last job of a process.
-fn job_of(session: &Service, process: u8) -> Why
-    ensures { Holds session.now result }
-{
-    match last_act(session, Act::Ends(process)) {
-        Some(entry) => Why::Ended { process, entry },
-        None => Why::Unstarted { process },
-    }
-}
-
-/// What a call may have done.
-#[derive(Clone, Copy)]
-enum Act {
-    /// It took the packet of this key from the wire.
-    Takes(u32),
-    /// It ended a job of this process.
-    Ends(u8),
 }
 
 /// Whether a call did this.
@@ -207,28 +142,25 @@ fn is_act(act: Act, call: &Call) -> bool
     ensures { result ≡ true → IsAct act call.now }
 {
     match (act, *call) {
-        (Act::Takes(key), Call::Arrive { key: taken } | Call::Lose { key: taken }) => {
-            taken == key as usize
-        }
+        (Act::Takes(key), Call::Arrive { key: taken } | Call::Lose { key: taken }) => taken == key,
         (Act::Ends(of), Call::Finish { process } | Call::Crash { process }) => process == of,
         _ => false,
     }
 }
 
 /// The last entry whose call did this.
-fn last_act(session: &Service, act: Act) -> Option<usize>
-    ensures { IfSome result (IsAt session.now (IsAct act)) }
+fn last_act(session: &Service, act: Act) -> Why
+    ensures { Holds session.now result }
 {
     let journal = session.journal();
     for back in 0..journal.len() {
-        let place = journal.len() - 1 - back;
-        let Some(slip) = journal.get(place) else {
+        let entry = journal.len() - 1 - back;
+        let Some(slip) = journal.get(entry) else {
             continue;
         };
-        let entry = slip.entry();
-        if is_act(act, &entry.call) {
-            return Some(place);
+        if is_act(act, &slip.entry().call) {
+            return Why::Done { act, entry };
         }
     }
-    None
+    Why::Number
 }
