@@ -171,12 +171,13 @@ fn step_words(step: &Step) -> &'static str {
     }
 }
 
-/// What is said of a run, as lines of text.
+/// What is said of a run, as lines of text: of work that is left only if nothing went wrong.
 fn run_lines(
     alloc: Global,
     scenario: &Scenario,
     session: &Service,
     told: &[Told],
+    has_note: bool,
 ) -> Result<String, AllocError> {
     let mut lines = String::new(alloc);
     let processes = &scenario.processes;
@@ -196,7 +197,7 @@ fn run_lines(
         }
     }
     let (words, process, other, n) = left(rest_of(session));
-    if !words.is_empty() {
+    if !has_note && told.is_empty() && !words.is_empty() {
         let (a, b) = (name_of(processes, process), name_of(processes, other));
         let said = Sentence {
             words,
@@ -219,7 +220,8 @@ pub fn note_run(
     session: &Service,
     told: &[Told],
 ) {
-    if let Ok(lines) = run_lines(alloc, scenario, session, told) {
+    let has_note = !note.is_empty();
+    if let Ok(lines) = run_lines(alloc, scenario, session, told, has_note) {
         let _noted = note.push_str(lines.as_str());
     }
 }

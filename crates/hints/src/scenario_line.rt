@@ -17,14 +17,8 @@ const MEANT: [(&str, &str); 9] = [
     ("node proc", "process"),
 ];
 
-const EMPTY: &str =
-    "the file is empty: a shell empties the file after > before the command reads it\n";
-
 const PRINTED: &str =
     "run prints such a line, and a scenario has none: diff compares what run prints with a stored text";
-
-const INPUTS: &str =
-    "live takes input and bytes lines, as its workers make the other calls: sblog run carries all out";
 
 const KEYS: &str = "a packet is named by its key, which the trace tells, as in -> packet 0";
 
@@ -95,7 +89,6 @@ fn meant_words(alloc: Global, line: &str, mistake: &Mistake<'_>) -> Result<Strin
             Some(right) => format!(in alloc; "no line begins with {word}: {right} is meant?"),
             None => Ok(String::new(alloc)),
         },
-        Mistake::InputsAlone => String::from_str(alloc, INPUTS),
         Mistake::Words(..) | Mistake::Number { .. } | Mistake::Digit { .. } => {
             operand_words(alloc, line, mistake)
         }
@@ -110,9 +103,6 @@ pub fn scenario_words(
     number: usize,
     allowed: Allowed,
 ) -> Result<String, AllocError> {
-    if text.is_empty() {
-        return String::from_str(alloc, EMPTY);
-    }
     let Some(mistake) = mistake_of(text, number, allowed) else {
         return Ok(String::new(alloc));
     };

@@ -1,6 +1,6 @@
 //! Orders that were refused, as they are kept until the run is told.
 
-use crate::why::{Why, why};
+use crate::why::{Why, why_of};
 use scenario::{Order, Step};
 use sessions::Service;
 use world::Refusal;
@@ -26,6 +26,6 @@ pub fn keep_told(told: &mut Vec<Told>, session: &Service, step: &Step, refusal: 
         line: step.line,
         order: step.order,
         refusal,
-        why: why(session, &step.order, refusal),
+        why: why_of(session, &step.order, refusal),
     });
 }

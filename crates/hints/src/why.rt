@@ -50,7 +50,7 @@ pub enum Why {
 }
 
 /// Why a session refused an order with this number.
-pub fn why(session: &Service, order: &Order, refusal: Refusal) -> Why
+pub fn why_of(session: &Service, order: &Order, refusal: Refusal) -> Why
     ensures { Holds session.now result }
 {
     let (process, key) = named_in(order);

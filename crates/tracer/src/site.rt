@@ -7,7 +7,6 @@ ghost use Rattle.tracer.specs.declared.files.Failure.TheVariants.{Memory};
 use crate::files::{Failure, Files, Reason};
 use crate::kind::{Kind, kind_of};
 use crate::look::{look_of, lost_words};
-use hints::length_words;
 use std::alloc::{AllocError, Global};
 use std::fmt;
 
@@ -88,8 +87,6 @@ impl Site {
                 self.kind = kind_of(bytes.as_slice());
                 if self.kind == Kind::Other {
                     self.words.push_str(look_of(bytes.as_slice()))?;
-                } else {
-                    self.words = length_words(alloc, bytes.as_slice())?;
                 }
                 Ok(bytes)
             }
