@@ -19,34 +19,15 @@ fn meant_words(word: &str) -> &'static str {
     }
 }
 
-/// What is said of a command's help.
-fn help_words(command: &str) -> &'static str {
-    match command {
-        "pack" => {
-            "An object file is taken too: ./sblog pack [OPTIONS] --state <N> <FILE.o> <OUT>, with --function <NAME> if it has several\n"
-        }
-        "explain" => {
-            "An object file is listed with its lines of C: ./sblog explain --source [OPTIONS] --state <N> <FILE.o>\n"
-        }
-        _ => "",
-    }
-}
-
 /// What a command line that is refused may be meant for, as a line of text; or nothing.
 pub fn command_words<S: AsStr>(words: &[S]) -> &'static str {
     let Some((first, rest)) = words.split_first() else {
         return "";
     };
-    let command = first.as_str();
     for word in rest {
-        match word.as_str() {
-            "-o" | "--output" | "--out" => {
-                return "OUT stands after the file that is read, without -o\n";
-            }
-            "-h" | "--help" => return help_words(command),
-            asked if command == "help" => return help_words(asked),
-            _ => {}
+        if matches!(word.as_str(), "-o" | "--output" | "--out") {
+            return "OUT stands after the file that is read, without -o\n";
         }
     }
-    meant_words(command)
+    meant_words(first.as_str())
 }

@@ -19,6 +19,10 @@ const WAITS: &str = "it waits for acknowledgements: drive N above this line send
 const DOWN: &str =
     "$a is down, and what is sent to it waits: recover $a, drive N bring it back (alone $a if another one is down)";
 
+const BACK: &str = "$a is on its way back: one more drive N brings it up";
+
+const WIRE: &str = "work is left, as a packet on the wire: one more drive N carries it on";
+
 const SENDS: &str = "work is left, as message $n of $a to $b: one more drive N carries it on";
 
 /// A sentence with marks: for the names of two processes `$a` and `$b`, for numbers `$n` and `$m`.
@@ -61,7 +65,7 @@ fn phase_words(told: &Told, phase: PhaseName) -> &'static str {
             "$a is down: recover $a and drive N above this line bring it up"
         }
         (Refusal::PeerNotUp, PhaseName::Down) => {
-            "$b is down: alone $a, drive N, recover $b, drive N bring both back"
+            "$b is down: recover $b comes first; if $a is down too, alone $a, drive N, recover $b"
         }
         (Refusal::PeerNotUp, _) => "$b is on its way back: drive N above this line brings it up",
         (Refusal::NotDown, PhaseName::Up | PhaseName::Busy) => {
@@ -133,18 +137,8 @@ fn left(rest: Rest) -> (&'static str, u8, u8, u64) {
         } => (SENDS, from, to, u64::from(ssn)),
         Rest::Next {
             call: Call::ReplayBegin { process } | Call::Resync { process, .. },
-        } => (
-            "$a is on its way back: one more drive N brings it up",
-            process,
-            0,
-            0,
-        ),
-        Rest::Next { .. } => (
-            "a packet is on the wire: one more drive N carries it on",
-            0,
-            0,
-            0,
-        ),
+        } => (BACK, process, 0, 0),
+        Rest::Next { .. } => (WIRE, 0, 0, 0),
         Rest::Nothing => ("", 0, 0, 0),
     }
 }
@@ -171,48 +165,68 @@ fn step_words(step: &Step) -> &'static str {
     }
 }
 
-/// What is said of a run, as lines of text: of work that is left only if nothing went wrong.
-fn run_lines(
+/// Adds why orders were refused.
+fn push_told(
     alloc: Global,
-    scenario: &Scenario,
-    session: &Service,
+    note: &mut String,
+    processes: &IndexMap<String, Process>,
     told: &[Told],
-    has_note: bool,
-) -> Result<String, AllocError> {
-    let mut lines = String::new(alloc);
-    let processes = &scenario.processes;
+) -> Result<(), AllocError> {
     for one in told {
         let (process, key) = named_in(&one.order);
         let (words, other, n, m) = cause(one, key);
         let (a, b) = (name_of(processes, process), name_of(processes, other));
         let (line, said) = (one.line, Sentence { words, a, b, n, m });
         let line = format!(in alloc; "line {line}: {said}\n")?;
-        lines.push_str(line.as_str())?;
+        note.push_str(line.as_str())?;
     }
-    for step in &scenario.steps {
+    Ok(())
+}
+
+/// Adds which lines do less than they seem to.
+fn push_steps(alloc: Global, note: &mut String, steps: &[Step]) -> Result<(), AllocError> {
+    for step in steps {
         let (line, words) = (step.line, step_words(step));
         if !words.is_empty() {
             let line = format!(in alloc; "line {line}: {words}\n")?;
-            lines.push_str(line.as_str())?;
+            note.push_str(line.as_str())?;
         }
     }
-    let (words, process, other, n) = left(rest_of(session));
-    if !has_note && told.is_empty() && !words.is_empty() {
-        let (a, b) = (name_of(processes, process), name_of(processes, other));
-        let said = Sentence {
-            words,
-            a,
-            b,
-            n,
-            m: 0,
-        };
-        let line = format!(in alloc; "{said}\n")?;
-        lines.push_str(line.as_str())?;
-    }
-    Ok(lines)
+    Ok(())
 }
 
-/// Adds to a note what is said of a run, if there is memory.
+/// Adds what is left to do.
+fn push_left(
+    alloc: Global,
+    note: &mut String,
+    processes: &IndexMap<String, Process>,
+    rest: Rest,
+) -> Result<(), AllocError> {
+    let (words, process, other, n) = left(rest);
+    let (a, b, m) = (name_of(processes, process), name_of(processes, other), 0);
+    let said = Sentence { words, a, b, n, m };
+    let line = format!(in alloc; "{said}\n")?;
+    note.push_str(line.as_str())
+}
+
+/// Adds to a note what is said of a run: of work that is left only if nothing else is said.
+fn push_run(
+    alloc: Global,
+    note: &mut String,
+    scenario: &Scenario,
+    session: &Service,
+    told: &[Told],
+) -> Result<(), AllocError> {
+    push_told(alloc, note, &scenario.processes, told)?;
+    push_steps(alloc, note, scenario.steps.as_slice())?;
+    let rest = rest_of(session);
+    if note.is_empty() && rest != Rest::Nothing {
+        push_left(alloc, note, &scenario.processes, rest)?;
+    }
+    Ok(())
+}
+
+/// The same, as far as there is memory.
 pub fn note_run(
     alloc: Global,
     note: &mut String,
@@ -220,8 +234,5 @@ pub fn note_run(
     session: &Service,
     told: &[Told],
 ) {
-    let has_note = !note.is_empty();
-    if let Ok(lines) = run_lines(alloc, scenario, session, told, has_note) {
-        let _noted = note.push_str(lines.as_str());
-    }
+    let _noted = push_run(alloc, note, scenario, session, told);
 }
