@@ -37,11 +37,6 @@ fn is_number(word: &str) -> bool {
     !digits.is_empty() && digits.bytes().all(|it| it.is_ascii_digit())
 }
 
-/// Whether a word is a name.
-fn is_name(word: &str) -> bool {
-    word.starts_with(|letter: char| letter.is_ascii_alphabetic() || letter == '_' || letter == '.')
-}
-
 /// How an instruction is written that stores or loads, and has its operands in the other order, or a number in place of a
 /// register; nothing of any other.
 fn memory_words(alloc: Global, line: &str) -> Result<String, AllocError> {
@@ -82,12 +77,10 @@ fn shape_words(
         return format!(in alloc; "numbers are decimal: {before}{number}{after}");
     }
     if matches!(wanted, Wanted::Offset | Wanted::Distance) {
-        if is_name(word) {
-            return String::from_str(alloc, LABELS);
-        }
         if is_number(word) {
             return format!(in alloc; "a distance has a sign: {before}+{word}{after}");
         }
+        return String::from_str(alloc, LABELS);
     }
     if let (Wanted::Value, Some(digits)) = (wanted, word.strip_prefix('-')) {
         if let Ok(number) = digits.parse::<u64>() {
@@ -114,14 +107,12 @@ fn range_words(alloc: Global, line: &str, word: &str) -> Result<String, AllocErr
     }
     match before.strip_prefix("mov ") {
         Some(register) => format!(in alloc; "lddw takes a greater number: lddw {register}{word}"),
-        None if matches!(verb, "stb" | "sth" | "ja" | "jal" | "call") => Ok(String::new(alloc)),
-        None => {
-            let before = before.strip_prefix("stdw ").unwrap_or(before);
-            let verb = if verb == "stdw" { "stxdw " } else { "" };
-            format!(in alloc;
-                "lddw takes a greater number into a register rN that is free: lddw rN, {word} above {verb}{before}rN{after}"
-            )
-        }
+        None if matches!(verb, "stb" | "sth" | "stdw" | "ja" | "jal" | "call") => Ok(String::new(
+            alloc,
+        )),
+        None => format!(in alloc;
+            "lddw rN, {word} takes it into a free register rN, and then {before}rN{after}"
+        ),
     }
 }
 

@@ -16,13 +16,11 @@ mod rest;
 mod run;
 mod scenario_line;
 mod shown;
-mod told;
 mod why;
 
 pub use assembler_line::assembler_words;
 pub use command_line::command_words;
 pub use rest::{Rest, rest_of};
-pub use run::note_run;
+pub use run::{Told, keep_told, note_run};
 pub use scenario_line::scenario_words;
-pub use told::{Told, keep_told};
 pub use why::{Act, Why, why_of};

@@ -1,8 +1,7 @@
 //! What is said of a run: why orders were refused, and what is left to do.
 
 use crate::rest::{Rest, rest_of};
-use crate::told::Told;
-use crate::why::{Act, Why, named_in};
+use crate::why::{Act, Why, named_in, why_of};
 use indexmap::IndexMap;
 use scenario::{Order, Process, Scenario, Step};
 use sessions::Service;
@@ -10,6 +9,9 @@ use std::alloc::{AllocError, Global};
 use std::fmt;
 use trace::name_at;
 use world::{Call, PhaseName, Refusal};
+
+/// Of how many refused orders it is said why.
+const TOLD: usize = 16;
 
 const FULL: &str =
     "the journal is full: if each message makes another one, a drive of fewer calls ends before";
@@ -24,6 +26,28 @@ const BACK: &str = "$a is on its way back: one more drive N brings it up";
 const WIRE: &str = "work is left, as a packet on the wire: one more drive N carries it on";
 
 const SENDS: &str = "work is left, as message $n of $a to $b: one more drive N carries it on";
+
+/// A refused order, with its line, its number and the cause.
+#[derive(Clone, Copy, PartialEq, Eq, Debug)]
+pub struct Told {
+    pub line: usize,
+    pub order: Order,
+    pub refusal: Refusal,
+    pub why: Why,
+}
+
+/// Keeps why a session refused the order of a step, of the first ones, if there is memory.
+pub fn keep_told(told: &mut Vec<Told>, session: &Service, step: &Step, refusal: Refusal) {
+    if told.len() >= TOLD {
+        return;
+    }
+    let _kept = told.push(Told {
+        line: step.line,
+        order: step.order,
+        refusal,
+        why: why_of(session, &step.order, refusal),
+    });
+}
 
 /// A sentence with marks: for the names of two processes `$a` and `$b`, for numbers `$n` and `$m`.
 #[derive(Clone, Copy)]
