@@ -1,9 +1,10 @@
 //! Hints: what is wrong with a text, a file, a command line or an order that was refused, in words, and what cures it.
 //!
 //! The program says them after the line of a fault if it is asked to. [`scenario_words`] and [`assembler_words`] say what is
-//! wrong with the line of a text that was refused, [`command_words`] what a command line may be meant for. [`why_of`] finds out
-//! in a session why it refused an order, and [`rest_of`] what a session leaves undone; its promise: each process, message and entry that they name is in the session as they say, and a
-//! call that they name can be made next. The words are free, and tested.
+//! wrong with the line of a text that was refused, [`command_words`] what a command line may be meant for, [`note_run`] why
+//! orders were refused and what is left to do. [`why_of`] finds out in a session why it refused an order, and [`rest_of`] what
+//! it leaves undone. Their promise: each process, message and entry that they name is in the session as they say, and a call
+//! that they name can be made next. The words are free, and tested.
 //!
 //! ```text
 //! let why = why_of(&session, &order, refusal); // Why::Phase { process: 1, phase: PhaseName::Down }

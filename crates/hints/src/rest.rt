@@ -26,13 +26,13 @@ pub enum Rest {
 pub fn rest_of(session: &Service) -> Rest
     ensures { Leaves session.now result }
 {
-    if let Some(process) = process_in(session, PhaseName::Down) {
+    if let Some(process) = first_in(session, PhaseName::Down) {
         return Rest::Down { process };
     }
     if let Some(call) = session.pick() {
         return Rest::Next { call };
     }
-    if let Some(process) = process_in(session, PhaseName::Busy) {
+    if let Some(process) = first_in(session, PhaseName::Busy) {
         return Rest::Held { process };
     }
     match session.outstanding() {
@@ -42,7 +42,7 @@ pub fn rest_of(session: &Service) -> Rest
 }
 
 /// The first process in a phase.
-fn process_in(session: &Service, phase: PhaseName) -> Option<u8>
+fn first_in(session: &Service, phase: PhaseName) -> Option<u8>
     ensures { IfSome result (λ p. name_of ((world_at session.now).phase p) ≡ phase) }
 {
     for process in 1..session.count() + 1 {

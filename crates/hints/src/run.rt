@@ -256,7 +256,7 @@ pub fn note_run(
     note: &mut String,
     scenario: &Scenario,
     session: &Service,
-    told: &[Told],
+    told: &Vec<Told>,
 ) {
-    let _noted = push_run(alloc, note, scenario, session, told);
+    let _noted = push_run(alloc, note, scenario, session, told.as_slice());
 }

@@ -151,6 +151,6 @@ pub fn run(
     // The journal is told to be legal.
     let _journal = player.session.journal();
     note_refused(alloc, note, &scenario.processes, &player.session);
-    note_run(alloc, note, scenario, &player.session, told.as_slice());
+    note_run(alloc, note, scenario, &player.session, &told);
     push_results(alloc, out, &scenario.processes, &player.session)
 }
