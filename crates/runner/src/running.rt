@@ -12,6 +12,7 @@ use crate::player::Player;
 use crate::refused::note_refused;
 use crate::results::push_results;
 use handlers::Handler;
+use hints::{Told, keep_told, note_run};
 use itoa::Buffer;
 use scenario::{Scenario, Step};
 use std::alloc::{AllocError, Global};
@@ -64,7 +65,12 @@ fn push_refused(out: &mut String, line: usize, number: u8)
 impl Player {
     // Carries out the order of a step, and writes its line where it is refused. It ends the run
     // where the order finds no memory, and then writes nothing.
-    fn obey(&mut self, step: &Step, out: &mut String) -> Result<(), AllocError>
+    fn obey(
+        &mut self,
+        step: &Step,
+        out: &mut String,
+        told: &mut Vec<Told>,
+    ) -> Result<(), AllocError>
         requires { string_len out.old + LINE_BYTES ≤ string_capacity out.old }
         ensures done { OnOk result (IsPlayed step.now (position_of self.old) (position_of self.new) (string_bytes out.old) (string_bytes out.new)) }
         ensures memory { OnErr result (FindsNoMemory (position_of self.old) step.now.order) }
@@ -79,19 +85,25 @@ impl Player {
             Refusal::Memory => Err(AllocError),
             other => {
                 push_refused(out, step.line, other.number());
+                keep_told(told, &self.session, step, other);
                 Ok(())
             }
         }
     }
 
     // Carries out the orders of all steps, one after the other.
-    fn play(&mut self, steps: &[Step], out: &mut String) -> Result<(), AllocError>
+    fn play(
+        &mut self,
+        steps: &[Step],
+        out: &mut String,
+        told: &mut Vec<Told>,
+    ) -> Result<(), AllocError>
         requires { string_len out.old + LINE_BYTES * length steps.now ≤ string_capacity out.old }
         ensures done { OnOk result (ArePlayed steps.now (position_of self.old) (position_of self.new) (string_bytes out.old) (string_bytes out.new)) }
         ensures short { OnErr result (ArePlayedTo steps.now (position_of self.old) (string_bytes out.old) (string_bytes out.new)) }
     {
         for step in steps {
-            self.obey(step, out)?;
+            self.obey(step, out, told)?;
         }
         Ok(())
     }
@@ -103,6 +115,7 @@ fn played(
     steps: &[Step],
     images: Vec<Arc<Handler>>,
     out: &mut String,
+    told: &mut Vec<Told>,
 ) -> Result<Player, AllocError>
     requires { AreFew (map image_in images.items) }
     ensures done { IfOk result (λ player. ArePlayed steps.now (beginning (map image_in images.items)) (position_of player) (string_bytes out.old) (string_bytes out.new)) }
@@ -110,7 +123,7 @@ fn played(
 {
     let mut player = Player::open(alloc, images)?;
     make_room(out, steps.len())?;
-    player.play(steps, out)?;
+    player.play(steps, out, told)?;
     Ok(player)
 }
 
@@ -119,7 +132,8 @@ fn played(
 /// refused, and behind them the trace and the report. Where memory runs out, which counts for a
 /// message above 2^32 too, what it wrote are lines of refused orders alone: room for these is made
 /// before the first order, so an order that a number refuses never ends the run. If helpers refused
-/// sends or outputs, the note gets a line for each process and cause.
+/// sends or outputs, the note gets a line for each process and cause; then why orders were refused, and
+/// what is left to do.
 pub fn run(
     alloc: Global,
     scenario: &Scenario,
@@ -132,9 +146,11 @@ pub fn run(
     ensures done { OnOk result (IsRun (names_of scenario.now.processes) (map image_in images.items) scenario.now.steps.items (string_bytes out.old) (string_bytes out.new)) }
     ensures short { OnErr result (IsCut (map image_in images.items) scenario.now.steps.items (string_bytes out.old) (string_bytes out.new)) }
 {
-    let player = played(alloc, scenario.steps.as_slice(), images, out)?;
+    let mut told = Vec::new(alloc);
+    let player = played(alloc, scenario.steps.as_slice(), images, out, &mut told)?;
     // The journal is told to be legal.
     let _journal = player.session.journal();
     note_refused(alloc, note, &scenario.processes, &player.session);
+    note_run(alloc, note, scenario, &player.session, &told);
     push_results(alloc, out, &scenario.processes, &player.session)
 }

@@ -9,7 +9,8 @@ use crate::judged::{TEXT_LIMIT, judged};
 use crate::kind::Kind;
 use crate::look::broken_line;
 use crate::site::Site;
-use assemble::{assemble, mistake_of};
+use assemble::assemble;
+use hints::assembler_words;
 use images::{FileForm, file};
 use limits::STATE_BYTES;
 use std::alloc::{AllocError, Global};
@@ -78,8 +79,5 @@ fn said(alloc: Global, source: &[u8], fault: &Fault, kind: Kind) -> Result<Strin
     let Ok(text) = str::from_utf8(judged(source)) else {
         return Ok(String::new(alloc));
     };
-    match mistake_of(text, line) {
-        Some(mistake) => format!(in alloc; "line {line}: {mistake}\n"),
-        None => Ok(String::new(alloc)),
-    }
+    assembler_words(alloc, text, line)
 }

@@ -14,9 +14,10 @@ use crate::files::Files;
 use crate::look::broken_line;
 use crate::site::Site;
 use handlers::Handler;
+use hints::scenario_words;
 use indexmap::IndexMap;
-use scenario::{Allowed, Process, Scenario, ScenarioError, mistake_of, parse};
-use std::alloc::{AllocError, Global};
+use scenario::{Allowed, Process, Scenario, ScenarioError, parse};
+use std::alloc::Global;
 use std::sync::Arc;
 
 /// A scenario, and the handlers of its processes, in their order.
@@ -62,21 +63,13 @@ fn refusal(
 {
     match error {
         ScenarioError::Memory => Fault::Memory,
-        ScenarioError::Line(line) => match said(alloc, text, line, allowed) {
+        ScenarioError::Line(line) => match scenario_words(alloc, text, line, allowed) {
             Ok(words) => {
                 site.words = words;
                 Fault::Scenario { line }
             }
             Err(_) => Fault::Memory,
         },
-    }
-}
-
-/// What is wrong with a line, as a line of text.
-fn said(alloc: Global, text: &str, line: usize, allowed: Allowed) -> Result<String, AllocError> {
-    match mistake_of(text, line, allowed) {
-        Some(mistake) => format!(in alloc; "line {line}: {mistake}\n"),
-        None => Ok(String::new(alloc)),
     }
 }
 

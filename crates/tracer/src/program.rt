@@ -24,6 +24,7 @@ use crate::pack::write_packed;
 use crate::site::Site;
 use crate::stream::Stream;
 use cli::{Request, parse_words};
+use hints::command_words;
 use images::FileForm;
 use limits::STATE_BYTES;
 use runner::run;
@@ -239,6 +240,7 @@ pub fn sblog<R: Threads + Wait + Sync, S: AsStr, F: Files, O: Stream, E: Stream>
 {
     let (hints, command) = hints_in(words);
     let (mut text, mut site) = (String::new(alloc), Site::new(alloc));
+    site.expect(command_words(command));
     let ended = run_command(rt, alloc, command, files, &mut site, &mut text);
     print_or_tell(alloc, ended, text.as_str(), hints, &site, out, err)
 }
@@ -267,6 +269,7 @@ pub fn sblog_alone<S: AsStr, F: Files, O: Stream, E: Stream>(
 {
     let (hints, command) = hints_in(words);
     let (mut text, mut site) = (String::new(alloc), Site::new(alloc));
+    site.expect(command_words(command));
     let ended = run_command_alone(alloc, command, files, &mut site, &mut text);
     print_or_tell(alloc, ended, text.as_str(), hints, &site, out, err)
 }

@@ -108,8 +108,8 @@ fn reason_words(kind: Kind, reason: Option<Reason>) -> &'static str {
 fn lines_of(alloc: Global, fault: &Fault, site: &Site) -> Result<String, AllocError> {
     let below = site.words.as_str();
     let (words, below) = match fault {
-        Fault::Usage(_) | Fault::Memory => return Ok(String::new(alloc)),
-        Fault::Scenario { .. } => return String::from_str(alloc, below),
+        Fault::Memory => return Ok(String::new(alloc)),
+        Fault::Usage(_) | Fault::Scenario { .. } => return String::from_str(alloc, below),
         Fault::Header(header) => (header_words(site.kind, *header), below),
         Fault::Decode { rule, .. } => (code_words(*rule), ""),
         Fault::Verify { rule, .. } => (rule_words(site.kind, *rule), ""),

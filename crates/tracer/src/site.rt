@@ -40,6 +40,11 @@ impl Site {
         }
     }
 
+    /// Keeps what the command line may be meant for, until a file is read or written.
+    pub fn expect(&mut self, words: &str) {
+        let _kept = self.words.push_str(words);
+    }
+
     /// From here on the image of this process is read.
     pub fn enter(&mut self, alloc: Global, process: &str) -> Result<(), AllocError> {
         self.process = Some(String::from_str(alloc, process)?);

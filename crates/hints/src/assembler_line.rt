@@ -1,0 +1,149 @@
+//! What is said of the line of an assembler text that is refused.
+
+use crate::shown::{hexadecimal_of, line_at, meant};
+use assemble::{Mistake, Wanted, mistake_of};
+use std::alloc::{AllocError, Global};
+
+/// Words that no instruction has, and the one that they may be meant for.
+const MEANT: [(&str, &str); 12] = [
+    ("ret return end halt", "exit"),
+    ("jmp b br jump", "ja +2"),
+    ("jz je beq", "jeq r1, 0, +2"),
+    ("jnz bne", "jne r1, 0, +2"),
+    ("load ld ldr ldx lw", "ldxdw r1, [r2+0]"),
+    ("store str stx sw", "stxdw [r1+0], r2"),
+    ("st", "stdw [r1+0], 5"),
+    ("inc addi", "add r1, 1"),
+    ("dec subi", "sub r1, 1"),
+    ("not", "xor r1, -1"),
+    ("shl sll", "lsh r1, 5"),
+    ("li movi set", "mov r1, 5"),
+];
+
+const MEMORY: &str =
+    "no instruction computes with memory: a load stands before it, as ldxdw r5, [r2+0]";
+
+const LABELS: &str =
+    "there are no labels: a jump has the number of slots that it passes over, as +1 (lddw has two)";
+
+/// Whether a word is an operand in brackets.
+fn is_place(word: &str) -> bool {
+    word.starts_with('[')
+}
+
+/// Whether a word is a decimal number, with or without a sign.
+fn is_number(word: &str) -> bool {
+    let digits = word.strip_prefix('-').unwrap_or(word);
+    !digits.is_empty() && digits.bytes().all(|it| it.is_ascii_digit())
+}
+
+/// How an instruction is written that stores or loads, and has its operands in the other order, or a number in place of a
+/// register; nothing of any other.
+fn memory_words(alloc: Global, line: &str) -> Result<String, AllocError> {
+    let (verb, operands) = line.split_once(' ').unwrap_or((line, ""));
+    let Some((first, second)) = operands.split_once(", ") else {
+        return Ok(String::new(alloc));
+    };
+    if let (Some(width), true) = (
+        verb.strip_prefix("stx"),
+        is_place(first) && is_number(second),
+    ) {
+        return format!(in alloc; "of a number it is st{width} {first}, {second}");
+    }
+    let is_store = verb.starts_with("st") && is_place(second) && !is_place(first);
+    let is_load = verb.starts_with("ldx") && is_place(first) && !is_place(second);
+    if is_store || is_load {
+        return format!(in alloc; "what is written stands first: {verb} {second}, {first}");
+    }
+    if is_place(second) && !verb.starts_with("ld") {
+        return String::from_str(alloc, MEMORY);
+    }
+    Ok(String::new(alloc))
+}
+
+/// How an operand is written that is none of the kind that stands at its place.
+fn shape_words(
+    alloc: Global,
+    line: &str,
+    word: &str,
+    wanted: Wanted,
+) -> Result<String, AllocError> {
+    let memory = memory_words(alloc, line)?;
+    if !memory.is_empty() {
+        return Ok(memory);
+    }
+    let (before, after) = line.rsplit_once(word).unwrap_or((line, ""));
+    if let Some(number) = hexadecimal_of(word) {
+        return format!(in alloc; "numbers are decimal: {before}{number}{after}");
+    }
+    if matches!(wanted, Wanted::Offset | Wanted::Distance) {
+        if is_number(word) {
+            return format!(in alloc; "a distance has a sign: {before}+{word}{after}");
+        }
+        return String::from_str(alloc, LABELS);
+    }
+    if let (Wanted::Value, Some(digits)) = (wanted, word.strip_prefix('-')) {
+        if let Ok(number) = digits.parse::<u64>() {
+            let right = 0u64.wrapping_sub(number);
+            return format!(in alloc; "lddw has no sign: {before}{right} is that number");
+        }
+    }
+    Ok(String::new(alloc))
+}
+
+/// How a number is written that is too great for its place.
+fn range_words(alloc: Global, line: &str, word: &str) -> Result<String, AllocError> {
+    let (verb, _) = line.split_once(' ').unwrap_or((line, ""));
+    let Ok(number) = word.parse::<u64>() else {
+        return Ok(String::new(alloc));
+    };
+    let (before, after) = line.rsplit_once(word).unwrap_or((line, ""));
+    if verb.ends_with("32") || verb == "stw" {
+        if number > 0xffff_ffff {
+            return Ok(String::new(alloc));
+        }
+        let less = 0x1_0000_0000 - number;
+        return format!(in alloc; "of 32 bits this is {before}-{less}{after}");
+    }
+    match before.strip_prefix("mov ") {
+        Some(register) => format!(in alloc; "lddw takes a greater number: lddw {register}{word}"),
+        None if matches!(verb, "stb" | "sth" | "stdw" | "ja" | "jal" | "call") => Ok(String::new(
+            alloc,
+        )),
+        None => format!(in alloc;
+            "lddw rN, {word} takes it into a free register rN, and then {before}rN{after}"
+        ),
+    }
+}
+
+/// What a line may be meant for; nothing if that isn't known.
+fn meant_words(alloc: Global, line: &str, mistake: &Mistake<'_>) -> Result<String, AllocError> {
+    match *mistake {
+        Mistake::Word { word } => match meant(&MEANT, word) {
+            Some(right) => format!(in alloc;
+                "no instruction has the word {word}: {right} is meant?"
+            ),
+            None => Ok(String::new(alloc)),
+        },
+        Mistake::Shape { word, wanted } => shape_words(alloc, line, word, wanted),
+        Mistake::Range {
+            word,
+            wanted: Wanted::Source | Wanted::Number,
+        } => range_words(alloc, line, word),
+        _ => Ok(String::new(alloc)),
+    }
+}
+
+/// What is wrong with the line of this number, the first faulty one of a text, as a line of text; nothing of a line that isn't
+/// faulty by itself.
+pub fn assembler_words(alloc: Global, text: &str, number: usize) -> Result<String, AllocError> {
+    let Some(mistake) = mistake_of(text, number) else {
+        return Ok(String::new(alloc));
+    };
+    let line = line_at(text, number);
+    let words = meant_words(alloc, line, &mistake)?;
+    if words.is_empty() {
+        return format!(in alloc; "line {number}: {mistake}\n");
+    }
+    format!(in alloc; "line {number}: {words}\n")
+}

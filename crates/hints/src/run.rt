@@ -1,0 +1,262 @@
+//! What is said of a run: why orders were refused, and what is left to do.
+
+use crate::rest::{Rest, rest_of};
+use crate::why::{Act, Why, named_in, why_of};
+use indexmap::IndexMap;
+use scenario::{Order, Process, Scenario, Step};
+use sessions::Service;
+use std::alloc::{AllocError, Global};
+use std::fmt;
+use trace::name_at;
+use world::{Call, PhaseName, Refusal};
+
+/// Of how many refused orders it is said why.
+const TOLD: usize = 16;
+
+const FULL: &str =
+    "the journal is full: if each message makes another one, a drive of fewer calls ends before";
+
+const WAITS: &str = "it waits for acknowledgements: drive N above this line sends it";
+
+const DOWN: &str =
+    "$a is down, and what is sent to it waits: recover $a, drive N bring it back (alone $a if another one is down)";
+
+const BACK: &str = "$a is on its way back: one more drive N brings it up";
+
+const WIRE: &str = "work is left, as a packet on the wire: one more drive N carries it on";
+
+const SENDS: &str = "work is left, as message $n of $a to $b: one more drive N carries it on";
+
+/// A refused order, with its line, its number and the cause.
+#[derive(Clone, Copy, PartialEq, Eq, Debug)]
+pub struct Told {
+    pub line: usize,
+    pub order: Order,
+    pub refusal: Refusal,
+    pub why: Why,
+}
+
+/// Keeps why a session refused the order of a step, of the first ones, if there is memory.
+pub fn keep_told(told: &mut Vec<Told>, session: &Service, step: &Step, refusal: Refusal) {
+    if told.len() >= TOLD {
+        return;
+    }
+    let _kept = told.push(Told {
+        line: step.line,
+        order: step.order,
+        refusal,
+        why: why_of(session, &step.order, refusal),
+    });
+}
+
+/// A sentence with marks: for the names of two processes `$a` and `$b`, for numbers `$n` and `$m`.
+#[derive(Clone, Copy)]
+struct Sentence<'a> {
+    words: &'static str,
+    a: &'a str,
+    b: &'a str,
+    n: u64,
+    m: u64,
+}
+
+impl fmt::Display for Sentence<'_> {
+    fn fmt<W: fmt::Write>(&self, f: &mut fmt::Formatter<W>) -> fmt::Result {
+        let (a, b, n, m) = (self.a, self.b, self.n, self.m);
+        for (place, part) in self.words.split('$').enumerate() {
+            let (mark, rest) = match part.split_at_checked(1) {
+                Some(parts) if place > 0 => parts,
+                _ => ("", part),
+            };
+            match mark {
+                "a" => write!(f, "{a}{rest}")?,
+                "b" => write!(f, "{b}{rest}")?,
+                "n" => write!(f, "{n}{rest}")?,
+                "m" => write!(f, "{m}{rest}")?,
+                _ => write!(f, "{mark}{rest}")?,
+            }
+        }
+        Ok(())
+    }
+}
+
+/// Of an order of process `$a`, or of one that asks for `$b`, which is in a phase that doesn't allow it.
+fn phase_words(told: &Told, phase: PhaseName) -> &'static str {
+    match (told.refusal, phase) {
+        (Refusal::NotUp, PhaseName::Down) if matches!(&told.order, Order::Crash { .. }) => {
+            "$a is down already"
+        }
+        (Refusal::NotUp, PhaseName::Down) => {
+            "$a is down: recover $a and drive N above this line bring it up"
+        }
+        (Refusal::PeerNotUp, PhaseName::Down) => {
+            "$b is down: recover $b comes first; if $a is down too, alone $a, drive N, recover $b"
+        }
+        (Refusal::PeerNotUp, _) => "$b is on its way back: drive N above this line brings it up",
+        (Refusal::NotDown, PhaseName::Up | PhaseName::Busy) => {
+            "$a is up: crash $a comes before recover $a"
+        }
+        (Refusal::WrongPhase, _) => "$a has no such call to make: drive N makes those that it has",
+        (Refusal::Busy, _) => "$a works on a message: finish $a above this line ends that",
+        _ => "$a is on its way back: drive N above this line brings it up",
+    }
+}
+
+/// Of a message that its sender's log doesn't have.
+fn message_words(told: &Told, ssn: u32, last: u32) -> &'static str {
+    match told.refusal {
+        Refusal::NotLogged if ssn == 0 => "messages are numbered from 1",
+        Refusal::NotLogged => "message $n of $a to $b was trimmed",
+        _ if last == 0 => "$a has sent $b no message $n: drive N above this line makes it work",
+        _ => "$a has sent $b no message $n: the last one is $m",
+    }
+}
+
+/// Of an order of which nothing more is found.
+fn number_words(refusal: Refusal) -> &'static str {
+    match refusal {
+        Refusal::Busy => "its process works on a message: finish above this line ends that",
+        Refusal::NoPacket => {
+            "no packet has key $n: transmit puts one on the wire, and the trace tells the key, as in -> packet 0"
+        }
+        Refusal::SameProcess => "both names are the same",
+        Refusal::StaleJob =>
+            "no job of $a is held: a message that arrives starts one, and none has",
+        Refusal::JournalFull => FULL,
+        Refusal::WireFull => "the wire is full: arrive and lose take packets from it",
+        _ => "it isn't allowed here",
+    }
+}
+
+/// Of an order that comes after a call of entry `$m` of the trace.
+fn done_words(act: Act) -> &'static str {
+    match act {
+        Act::Takes(_) => "key $n has no packet any more: entry $m of the trace took it",
+        Act::Ends(_) => "no job of $a is held: entry $m of the trace ended the last one",
+    }
+}
+
+/// Why an order was refused: a sentence, the other process that it names, and its numbers.
+fn cause(told: &Told, key: u32) -> (&'static str, u8, u64, u64) {
+    let key = u64::from(key);
+    match told.why {
+        Why::Phase { process, phase } => (phase_words(told, phase), process, 0, 0),
+        Why::Logged { to, .. } => (WAITS, to, 0, 0),
+        Why::Unlogged { to, ssn, last, .. } => {
+            let words = message_words(told, ssn, last);
+            (words, to, u64::from(ssn), u64::from(last))
+        }
+        Why::Done { act, entry } => (done_words(act), 0, key, entry.saturating_add(1) as u64),
+        Why::Number => (number_words(told.refusal), 0, key, 0),
+    }
+}
+
+/// What is left to do: a sentence, the processes that it names, and a number.
+fn left(rest: Rest) -> (&'static str, u8, u8, u64) {
+    match rest {
+        Rest::Down { process } => (DOWN, process, 0, 0),
+        Rest::Held { process } => ("a job of $a is held: finish $a runs it", process, 0, 0),
+        Rest::Full { .. } => (FULL, 0, 0, 0),
+        Rest::Next {
+            call: Call::Transmit { from, to, ssn },
+        } => (SENDS, from, to, u64::from(ssn)),
+        Rest::Next {
+            call: Call::ReplayBegin { process } | Call::Resync { process, .. },
+        } => (BACK, process, 0, 0),
+        Rest::Next { .. } => (WIRE, 0, 0, 0),
+        Rest::Nothing => ("", 0, 0, 0),
+    }
+}
+
+/// The name of a process, or of the outside.
+fn name_of(processes: &IndexMap<String, Process>, process: u8) -> &str {
+    if process == 0 {
+        return "outside";
+    }
+    name_at(processes, process)
+}
+
+/// What is said of a line of a scenario that does less than it seems to.
+fn step_words(step: &Step) -> &'static str {
+    match &step.order {
+        Order::Drive { budget: 0 } => "drive 0 makes no call: drive N makes at most N",
+        Order::Bytes { payload, .. } => match payload.as_slice() {
+            [0, _, _, _, _, _, _, low] if *low > 0 => {
+                "the lowest byte of a number stands first: 5 is 0500000000000000"
+            }
+            _ => "",
+        },
+        _ => "",
+    }
+}
+
+/// Adds why orders were refused.
+fn push_told(
+    alloc: Global,
+    note: &mut String,
+    processes: &IndexMap<String, Process>,
+    told: &[Told],
+) -> Result<(), AllocError> {
+    for one in told {
+        let (process, key) = named_in(&one.order);
+        let (words, other, n, m) = cause(one, key);
+        let (a, b) = (name_of(processes, process), name_of(processes, other));
+        let (line, said) = (one.line, Sentence { words, a, b, n, m });
+        let line = format!(in alloc; "line {line}: {said}\n")?;
+        note.push_str(line.as_str())?;
+    }
+    Ok(())
+}
+
+/// Adds which lines do less than they seem to.
+fn push_steps(alloc: Global, note: &mut String, steps: &[Step]) -> Result<(), AllocError> {
+    for step in steps {
+        let (line, words) = (step.line, step_words(step));
+        if !words.is_empty() {
+            let line = format!(in alloc; "line {line}: {words}\n")?;
+            note.push_str(line.as_str())?;
+        }
+    }
+    Ok(())
+}
+
+/// Adds what is left to do.
+fn push_left(
+    alloc: Global,
+    note: &mut String,
+    processes: &IndexMap<String, Process>,
+    rest: Rest,
+) -> Result<(), AllocError> {
+    let (words, process, other, n) = left(rest);
+    let (a, b, m) = (name_of(processes, process), name_of(processes, other), 0);
+    let said = Sentence { words, a, b, n, m };
+    let line = format!(in alloc; "{said}\n")?;
+    note.push_str(line.as_str())
+}
+
+/// Adds to a note what is said of a run: of work that is left only if nothing else is said.
+fn push_run(
+    alloc: Global,
+    note: &mut String,
+    scenario: &Scenario,
+    session: &Service,
+    told: &[Told],
+) -> Result<(), AllocError> {
+    push_told(alloc, note, &scenario.processes, told)?;
+    push_steps(alloc, note, scenario.steps.as_slice())?;
+    let rest = rest_of(session);
+    if note.is_empty() && rest != Rest::Nothing {
+        push_left(alloc, note, &scenario.processes, rest)?;
+    }
+    Ok(())
+}
+
+/// The same, as far as there is memory.
+pub fn note_run(
+    alloc: Global,
+    note: &mut String,
+    scenario: &Scenario,
+    session: &Service,
+    told: &Vec<Told>,
+) {
+    let _noted = push_run(alloc, note, scenario, session, told.as_slice());
+}
