@@ -3,4 +3,5 @@ pub mod Word
 pub mod Orders
 pub mod Run
 pub mod Live
+pub mod Telling
 pub mod Inside

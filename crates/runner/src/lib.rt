@@ -11,7 +11,9 @@
 //! were asked for ended, each within its budget, and the journal has as many entries as their calls were accepted; where
 //! memory runs out, nothing is written.
 //!
-//! Both note what helpers refused, process by process, for people: no contract speaks of that.
+//! [`tell`] is [`run`] in another style: with names in place of numbers, or as lines of JSON.
+//!
+//! [`run`] and [`live`] note what helpers refused, process by process, for people: no contract speaks of that.
 #![tactic(auto)]
 
 mod carrying;
@@ -25,6 +27,7 @@ mod player;
 mod refused;
 mod results;
 mod running;
+mod telling;
 mod word;
 
 pub use chronicle::{Chronicle, Moment, chronicle_of};
@@ -32,4 +35,5 @@ pub use ended::Ended;
 pub use living::live;
 pub use results::push_results;
 pub use running::run;
+pub use telling::tell;
 pub use word::payload_of;
