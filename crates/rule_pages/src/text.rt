@@ -127,7 +127,7 @@ V6: an access may leave the message, the state or the stack.
 
 Each load and store has to lie in its region, whatever the numbers are: in the message, of 512 bytes with the zeros
 after it, in the state, as long as its image says, or in the stack, of 512 bytes. So an index is compared before it is
-used, itself and without a sign. A place moves by 32,768 bytes at most. Is the index right, the state may be too short.
+used, itself and without a sign. A place moves by 32,768 bytes at most. If the index is right, the state may be too short.
 
 Broken:  if (at + 8 > length)
              return 1;
@@ -143,13 +143,13 @@ Mended:  u8 kind = m[0];
          if (kind < 16)
              s[kind]++;
 
-Broken:  if (m[4] < '0' || m[4] > '9' || m[5] < '0' || m[5] > '9')
-             return 1;
-         u64 key = (m[4] - '0') * 10 + m[5] - '0';
-         s[key]++;
-Mended:  u64 key = (m[4] - '0') * 10 + m[5] - '0';
-         within(key, 99);
-         s[key]++;
+Broken:  int at = m[0];
+         if (at < 0 || at >= 6)
+             at = 0;
+         s[at]++;
+Mended:  u64 at = m[0] % 6;
+         within(at, 5);
+         s[at]++;
 ";
 
 pub const V7: &str = "\
