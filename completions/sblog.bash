@@ -14,13 +14,13 @@ _sblog_files() {
 _sblog() {
     local word=${COMP_WORDS[COMP_CWORD]} before=${COMP_WORDS[COMP_CWORD - 1]}
     if [[ $COMP_CWORD -eq 1 ]]; then
-        local names='run live draw check explain asm pack dis native help --help --version'
+        local names='run live draw check explain asm pack dis native test build help --help --version'
         COMPREPLY=($(compgen -W "$names" -- "$word"))
         return
     fi
     case ${COMP_WORDS[1]} in
     run)
-        _sblog_words '--help' || _sblog_files 'scenario'
+        _sblog_words '--json --names --help' || _sblog_files 'scenario'
         ;;
     live)
         case $before in
@@ -42,7 +42,7 @@ _sblog() {
             --form) COMPREPLY=($(compgen -W '1 2 3' -- "$word")); return ;;
             --function) COMPREPLY=($(compgen -W '' -- "$word")); return ;;
         esac
-        _sblog_words '--source --state --form --function --help' || _sblog_files 'sbi'
+        _sblog_words '--why --source --state --form --function --help' || _sblog_files 'sbi'
         ;;
     asm)
         case $before in
@@ -65,8 +65,19 @@ _sblog() {
     native)
         _sblog_words '--help' || _sblog_files 'sbi'
         ;;
+    test)
+        _sblog_words '--write --help' || _sblog_files 'scenario'
+        ;;
+    build)
+        case $before in
+            --state) COMPREPLY=($(compgen -W '' -- "$word")); return ;;
+            --form) COMPREPLY=($(compgen -W '1 2 3' -- "$word")); return ;;
+            --function) COMPREPLY=($(compgen -W '' -- "$word")); return ;;
+        esac
+        _sblog_words '--state --form --function --help' || _sblog_files 'c'
+        ;;
     help)
-        COMPREPLY=($(compgen -W 'run live draw check explain asm pack dis native' -- "$word"))
+        COMPREPLY=($(compgen -W 'run live draw check explain asm pack dis native test build' -- "$word"))
         ;;
     esac
 }

@@ -75,7 +75,9 @@ pub asked_in_range : (used : Option (Text × List Row)) (o : Order) → AsksBy u
 asked_in_range None o asks = absurd asks
 asked_in_range (Some used) (order.Check image) asks = tt
 asked_in_range (Some used) (order.Explain image) asks = tt
+asked_in_range (Some used) (order.Why rule) asks = tt
 asked_in_range (Some used) (order.Run scenario) asks = tt
+asked_in_range (Some used) (order.Tell scenario json names) asks = tt
 asked_in_range (Some used) (order.Live scenario workers budget) asks = (asks.2.2.least, asks.2.2.most, asks.3.2.least, asks.3.2.most)
 asked_in_range (Some used) (order.Draw scenario picture only) asks = tt
 asked_in_range (Some used) (order.Asm source image state form) asks = asks.3.2.most
@@ -91,10 +93,12 @@ unlike name other differ same = differ (ap (λ (t : Text). slice_index t 0) same
 pub no_asm : (rows : List Row) → ((n : ℕ) (form : FileForm) → HasState rows n → HasForm rows form → ⊥)
     → (o : Order) → AsksIn (codes "asm") rows o → ⊥
 no_asm rows none (order.Run scenario) h = unlike (codes "asm") (codes "run") (λ (e : ◌≡◌ {A = ℕ} 97 114). omega arith) h.0
+no_asm rows none (order.Tell scenario json names) h = unlike (codes "asm") (codes "run") (λ (e : ◌≡◌ {A = ℕ} 97 114). omega arith) h.0
 no_asm rows none (order.Live scenario workers budget) h = unlike (codes "asm") (codes "live") (λ (e : ◌≡◌ {A = ℕ} 97 108). omega arith) h.0
 no_asm rows none (order.Draw scenario picture only) h = unlike (codes "asm") (codes "draw") (λ (e : ◌≡◌ {A = ℕ} 97 100). omega arith) h.0
 no_asm rows none (order.Check image) h = unlike (codes "asm") (codes "check") (λ (e : ◌≡◌ {A = ℕ} 97 99). omega arith) h.0
 no_asm rows none (order.Explain image) h = unlike (codes "asm") (codes "explain") (λ (e : ◌≡◌ {A = ℕ} 97 101). omega arith) h.0
+no_asm rows none (order.Why rule) h = unlike (codes "asm") (codes "explain") (λ (e : ◌≡◌ {A = ℕ} 97 101). omega arith) h.0
 no_asm rows none (order.Asm source image state form) h = none state form h.3 h.4
 no_asm rows none (order.Pack code image state form) h = unlike (codes "asm") (codes "pack") (λ (e : ◌≡◌ {A = ℕ} 97 112). omega arith) h.0
 no_asm rows none (order.Dis image) h = unlike (codes "asm") (codes "dis") (λ (e : ◌≡◌ {A = ℕ} 97 100). omega arith) h.0
@@ -104,10 +108,12 @@ no_asm rows none (order.Native image code) h = unlike (codes "asm") (codes "nati
 pub no_pack : (rows : List Row) → ((n : ℕ) (form : FileForm) → HasState rows n → HasForm rows form → ⊥)
     → (o : Order) → AsksIn (codes "pack") rows o → ⊥
 no_pack rows none (order.Run scenario) h = unlike (codes "pack") (codes "run") (λ (e : ◌≡◌ {A = ℕ} 112 114). omega arith) h.0
+no_pack rows none (order.Tell scenario json names) h = unlike (codes "pack") (codes "run") (λ (e : ◌≡◌ {A = ℕ} 112 114). omega arith) h.0
 no_pack rows none (order.Live scenario workers budget) h = unlike (codes "pack") (codes "live") (λ (e : ◌≡◌ {A = ℕ} 112 108). omega arith) h.0
 no_pack rows none (order.Draw scenario picture only) h = unlike (codes "pack") (codes "draw") (λ (e : ◌≡◌ {A = ℕ} 112 100). omega arith) h.0
 no_pack rows none (order.Check image) h = unlike (codes "pack") (codes "check") (λ (e : ◌≡◌ {A = ℕ} 112 99). omega arith) h.0
 no_pack rows none (order.Explain image) h = unlike (codes "pack") (codes "explain") (λ (e : ◌≡◌ {A = ℕ} 112 101). omega arith) h.0
+no_pack rows none (order.Why rule) h = unlike (codes "pack") (codes "explain") (λ (e : ◌≡◌ {A = ℕ} 112 101). omega arith) h.0
 no_pack rows none (order.Asm source image state form) h = unlike (codes "pack") (codes "asm") (λ (e : ◌≡◌ {A = ℕ} 112 97). omega arith) h.0
 no_pack rows none (order.Pack code image state form) h = none state form h.3 h.4
 no_pack rows none (order.Dis image) h = unlike (codes "pack") (codes "dis") (λ (e : ◌≡◌ {A = ℕ} 112 100). omega arith) h.0
@@ -117,10 +123,12 @@ no_pack rows none (order.Native image code) h = unlike (codes "pack") (codes "na
 pub no_live : (rows : List Row) → ((workers budget : ℕ) → HasWorkers rows workers → HasBudget rows budget → ⊥)
     → (o : Order) → AsksIn (codes "live") rows o → ⊥
 no_live rows none (order.Run scenario) h = unlike (codes "live") (codes "run") (λ (e : ◌≡◌ {A = ℕ} 108 114). omega arith) h.0
+no_live rows none (order.Tell scenario json names) h = unlike (codes "live") (codes "run") (λ (e : ◌≡◌ {A = ℕ} 108 114). omega arith) h.0
 no_live rows none (order.Live scenario workers budget) h = none workers budget h.2 h.3
 no_live rows none (order.Draw scenario picture only) h = unlike (codes "live") (codes "draw") (λ (e : ◌≡◌ {A = ℕ} 108 100). omega arith) h.0
 no_live rows none (order.Check image) h = unlike (codes "live") (codes "check") (λ (e : ◌≡◌ {A = ℕ} 108 99). omega arith) h.0
 no_live rows none (order.Explain image) h = unlike (codes "live") (codes "explain") (λ (e : ◌≡◌ {A = ℕ} 108 101). omega arith) h.0
+no_live rows none (order.Why rule) h = unlike (codes "live") (codes "explain") (λ (e : ◌≡◌ {A = ℕ} 108 101). omega arith) h.0
 no_live rows none (order.Asm source image state form) h = unlike (codes "live") (codes "asm") (λ (e : ◌≡◌ {A = ℕ} 108 97). omega arith) h.0
 no_live rows none (order.Pack code image state form) h = unlike (codes "live") (codes "pack") (λ (e : ◌≡◌ {A = ℕ} 108 112). omega arith) h.0
 no_live rows none (order.Dis image) h = unlike (codes "live") (codes "dis") (λ (e : ◌≡◌ {A = ℕ} 108 100). omega arith) h.0

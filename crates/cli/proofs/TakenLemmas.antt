@@ -21,7 +21,7 @@ use Rattle.clap.specs.declared.error.ErrorKind.TheVariants.{ArgumentConflict, In
 use Rattle.clap.specs.declared.parser.matches.ValueSource.{ValueSource}
 use Rattle.clap.specs.declared.parser.matches.ValueSource.TheVariants.{CommandLine, DefaultValue}
 use Rattle.clap.proofs.ValueTestLemmas.{accepts-Accepts}
-use Rattle.cli.specs.Asks.{AsksBy, AsksFor, HasBudget, HasForm, HasImage, HasNumber, HasPath, HasScenario, HasState, HasWorkers, Order, is_set}
+use Rattle.cli.specs.Asks.{AsksBy, AsksFor, AsksIn, HasBudget, HasForm, HasImage, HasNumber, HasPath, HasScenario, HasState, HasWorkers, Order, is_set}
 use Rattle.cli.specs.Asks as order
 use Rattle.images.specs.declared.file_form.FileForm.{FileForm}
 use Rattle.images.specs.declared.file_form.FileForm.TheVariants.{Sbi1, Sbi2, Sbi3}
@@ -246,9 +246,6 @@ help_keeps values rows none all = absurd (some_kind _ _ (second_none (range_kind
 check_keeps : AllByRecursion (Keeps IsSound false) check_leaf.rules
 check_keeps = (set_keeps IsSound (rule_in check_leaf 0) (λ v fits. path_sound (rule_in check_leaf 0) refl refl refl refl v), (help_keeps, tt))
 
-run_keeps : AllByRecursion (Keeps IsSound false) run_leaf.rules
-run_keeps = (set_keeps IsSound (rule_in run_leaf 0) (λ v fits. path_sound (rule_in run_leaf 0) refl refl refl refl v), (help_keeps, tt))
-
 live_keeps : AllByRecursion (Keeps IsSound false) live_leaf.rules
 live_keeps = (
   set_keeps IsSound (rule_in live_leaf 0) (λ v fits. path_sound (rule_in live_leaf 0) refl refl refl refl v),
@@ -258,36 +255,53 @@ live_keeps = (
   ),
 )
 
-messages_sound : (source : ValueSource) (v : Text) → IsSound (row_from source (rule_in draw_leaf 2) v)
-messages_sound source v = path_sound (rule_in draw_leaf 2) refl refl refl refl {source = source} v
+-- ---- an option without a value
 
--- the word `true` stands for a use of an option without a value
-messages_keeps : Keeps IsSound false (rule_in draw_leaf 2)
-messages_keeps [] rows none all =
-    value_kept IsSound (rule_in draw_leaf 2) (codes "true") rows (messages_sound CommandLine (codes "true"))
-    (first_none (repeat_fault false (codes "messages") rows) (values_fault (rule_in draw_leaf 2) (codes "true" ∷ [])) none) all
-messages_keeps (v ∷ rest) rows none all =
+-- it is not one of those that have a number
+abbrev IsFlagName : Text → Type 0
+IsFlagName id =
+    (bytes_eq id (codes "state") ≡ false) × (bytes_eq id (codes "form") ≡ false) × (bytes_eq id (codes "workers") ≡ false) × (bytes_eq id (codes "budget") ≡ false)
+
+-- as `build` makes it
+abbrev flag_in : Text → Rule
+flag_in id = record (rule_in draw_leaf 2) { id = id; long = Some id }
+
+flag_sound : (id : Text) → IsFlagName id → (source : ValueSource) (v : Text) → IsSound (row_from source (flag_in id) v)
+flag_sound id other source v = path_sound (flag_in id) other.0 other.1 other.2 other.3 {source = source} v
+
+-- the word `true` stands for a use of it
+flag_keeps : (id : Text) → IsFlagName id → Keeps IsSound false (flag_in id)
+flag_keeps id other [] rows none all =
+    value_kept IsSound (flag_in id) (codes "true") rows (flag_sound id other CommandLine (codes "true"))
+    (first_none (repeat_fault false id rows) (values_fault (flag_in id) (codes "true" ∷ [])) none) all
+flag_keeps id other (v ∷ rest) rows none all =
     let no : length (v ∷ rest) ≡ 0 = no_value (length (v ∷ rest)) (first_none (range_kinds 0 0 (length (v ∷ rest))) _ none) in
     absurd (omega arith)
 
 -- and the word `false` for none
-messages_fills : Fills IsSound (rule_in draw_leaf 2)
-messages_fills rows all = go (has_row (codes "messages") rows) refl
+flag_fills : (id : Text) → IsFlagName id → Fills IsSound (flag_in id)
+flag_fills id other rows all = go (has_row id rows) refl
   where
     no_row : Row
-    no_row = row_from DefaultValue (rule_in draw_leaf 2) (codes "false")
+    no_row = row_from DefaultValue (flag_in id) (codes "false")
 
-    go : (b : Bool) → has_row (codes "messages") rows ≡ b
-        → AllByRecursion IsSound (cond b rows (with_values (codes "messages") (reading_by (rule_in draw_leaf 2)) DefaultValue (codes "false" ∷ []) rows))
+    go : (b : Bool) → has_row id rows ≡ b
+        → AllByRecursion IsSound (cond b rows (with_values id (reading_by (flag_in id)) DefaultValue (codes "false" ∷ []) rows))
     go true is = all
     go false is =
-        subst (AllByRecursion IsSound) (sym (at_no_row (codes "messages") (more_values DefaultValue (codes "false" ∷ [])) (no_row ∷ []) rows is))
-        (all-append IsSound rows no_row all (messages_sound DefaultValue (codes "false")))
+        subst (AllByRecursion IsSound) (sym (at_no_row id (more_values DefaultValue (codes "false" ∷ [])) (no_row ∷ []) rows is))
+        (all-append IsSound rows no_row all (flag_sound id other DefaultValue (codes "false")))
+
+run_keeps : AllByRecursion (Keeps IsSound false) run_leaf.rules
+run_keeps = (
+  set_keeps IsSound (rule_in run_leaf 0) (λ v fits. path_sound (rule_in run_leaf 0) refl refl refl refl v),
+  (flag_keeps (codes "json") (refl, refl, refl, refl), (flag_keeps (codes "names") (refl, refl, refl, refl), (help_keeps, tt))),
+)
 
 draw_keeps : AllByRecursion (Keeps IsSound false) draw_leaf.rules
 draw_keeps = (
   set_keeps IsSound (rule_in draw_leaf 0) (λ v fits. path_sound (rule_in draw_leaf 0) refl refl refl refl v),
-  (set_keeps IsSound (rule_in draw_leaf 1) (λ v fits. path_sound (rule_in draw_leaf 1) refl refl refl refl v), (messages_keeps, (help_keeps, tt))),
+  (set_keeps IsSound (rule_in draw_leaf 1) (λ v fits. path_sound (rule_in draw_leaf 1) refl refl refl refl v), (flag_keeps (codes "messages") (refl, refl, refl, refl), (help_keeps, tt))),
 )
 
 asm_keeps : AllByRecursion (Keeps IsSound false) asm_leaf.rules
@@ -303,7 +317,10 @@ asm_keeps = (
 )
 
 explain_keeps : AllByRecursion (Keeps IsSound false) explain_leaf.rules
-explain_keeps = (set_keeps IsSound (rule_in explain_leaf 0) (λ v fits. path_sound (rule_in explain_leaf 0) refl refl refl refl v), (help_keeps, tt))
+explain_keeps = (
+  set_keeps IsSound (rule_in explain_leaf 0) (λ v fits. path_sound (rule_in explain_leaf 0) refl refl refl refl v),
+  (flag_keeps (codes "why") (refl, refl, refl, refl), (help_keeps, tt)),
+)
 
 pack_keeps : AllByRecursion (Keeps IsSound false) pack_leaf.rules
 pack_keeps = (
@@ -403,7 +420,9 @@ check_given words none =
 
 run_given : (words : List Text) → level_fault run_leaf [] nothing_held words false [] ≡ [] → (path : Text) × HasScenario (rows_after run_leaf.rules [] words) path
 run_given words none =
-    let fine = level_fine IsSound run_leaf (λ p a is. find_all (Keeps IsSound false) p run_leaf.rules a run_keeps is) [] words false [] (refl, (refl, tt)) none in
+    let none_by = no_default IsSound run_leaf (λ p a is. find_all (Keeps IsSound false) p run_leaf.rules a run_keeps is) in
+    let fine = level_filled IsSound run_leaf (λ p a is. find_all (Keeps IsSound false) p run_leaf.rules a run_keeps is) [] words false []
+    (none_by (rule_in run_leaf 0) refl, (flag_fills (codes "json") (refl, refl, refl, refl), (flag_fills (codes "names") (refl, refl, refl, refl), (none_by (rule_in run_leaf 3) refl, tt)))) none in
     let rows = rows_after run_leaf.rules [] words in
     path_given (codes "SCENARIO") rows fine.0 (one_required (is_given (codes "SCENARIO") rows) fine.3)
 
@@ -422,14 +441,16 @@ draw_given : (words : List Text) → level_fault draw_leaf [] nothing_held words
 draw_given words none =
     let none_by = no_default IsSound draw_leaf (λ p a is. find_all (Keeps IsSound false) p draw_leaf.rules a draw_keeps is) in
     let fine = level_filled IsSound draw_leaf (λ p a is. find_all (Keeps IsSound false) p draw_leaf.rules a draw_keeps is) [] words false []
-    (none_by (rule_in draw_leaf 0) refl, (none_by (rule_in draw_leaf 1) refl, (messages_fills, (none_by (rule_in draw_leaf 3) refl, tt)))) none in
+    (none_by (rule_in draw_leaf 0) refl, (none_by (rule_in draw_leaf 1) refl, (flag_fills (codes "messages") (refl, refl, refl, refl), (none_by (rule_in draw_leaf 3) refl, tt)))) none in
     let rows = rows_after draw_leaf.rules [] words in
     let all = two_required (is_given (codes "SCENARIO") rows) (is_given (codes "OUT") rows) fine.3 in
     (path_given (codes "SCENARIO") rows fine.0 all.0, path_given (codes "OUT") rows fine.0 all.1)
 
 explain_given : (words : List Text) → level_fault explain_leaf [] nothing_held words false [] ≡ [] → (path : Text) × HasImage (rows_after explain_leaf.rules [] words) path
 explain_given words none =
-    let fine = level_fine IsSound explain_leaf (λ p a is. find_all (Keeps IsSound false) p explain_leaf.rules a explain_keeps is) [] words false [] (refl, (refl, tt)) none in
+    let none_by = no_default IsSound explain_leaf (λ p a is. find_all (Keeps IsSound false) p explain_leaf.rules a explain_keeps is) in
+    let fine = level_filled IsSound explain_leaf (λ p a is. find_all (Keeps IsSound false) p explain_leaf.rules a explain_keeps is) [] words false []
+    (none_by (rule_in explain_leaf 0) refl, (flag_fills (codes "why") (refl, refl, refl, refl), (none_by (rule_in explain_leaf 2) refl, tt))) none in
     let rows = rows_after explain_leaf.rules [] words in
     path_given (codes "IMAGE") rows fine.0 (one_required (is_given (codes "IMAGE") rows) fine.3)
 
@@ -468,6 +489,18 @@ native_given words none =
     let all = two_required (is_given (codes "IMAGE") rows) (is_given (codes "OUT") rows) fine.3 in
     (path_given (codes "IMAGE") rows fine.0 all.0, path_given (codes "OUT") rows fine.0 all.1)
 
+-- `run` in the style that its options ask for
+run_asked : (rows : List Row) (path : Text) → HasScenario rows path → (json names : Bool) → json ≡ is_set (codes "json") rows → names ≡ is_set (codes "names") rows
+    → (o : Order) × AsksIn (codes "run") rows o
+run_asked rows path given true names json_is names_is = (order.Tell path true names, (refl, given, json_is, names_is, refl))
+run_asked rows path given false true json_is names_is = (order.Tell path false true, (refl, given, json_is, names_is, refl))
+run_asked rows path given false false json_is names_is = (order.Run path, (refl, given, sym json_is, sym names_is))
+
+-- `explain` of an image, or of a rule
+explain_asked : (rows : List Row) (path : Text) → HasImage rows path → (why : Bool) → why ≡ is_set (codes "why") rows → (o : Order) × AsksIn (codes "explain") rows o
+explain_asked rows path given true is = (order.Why path, (refl, given, sym is))
+explain_asked rows path given false is = (order.Explain path, (refl, given, sym is))
+
 -- the command that the words name
 abbrev named : Bool → Bool → Bool → Bool → Bool → Bool → Bool → Bool → Bool → Bool → Option Shape
 named run live draw check explain asm pack dis native help =
@@ -480,7 +513,7 @@ order_by : (run live draw check explain asm pack dis native help : Bool) (words 
     → (o : Order) × AsksBy (option_map (λ s. rows_at s words) (named run live draw check explain asm pack dis native help)) o
 order_by true live draw check explain asm pack dis native help words no_help none has =
     let given = run_given words none in
-    (order.Run given.0, (refl, given.1))
+    run_asked (rows_after run_leaf.rules [] words) given.0 given.1 _ _ refl refl
 order_by false true draw check explain asm pack dis native help words no_help none has =
     let given = live_given words none in
     (order.Live given.0.0 given.1.0 given.2.0, (refl, given.0.1, given.1.1, given.2.1))
@@ -492,7 +525,7 @@ order_by false false false true explain asm pack dis native help words no_help n
     (order.Check given.0, (refl, given.1))
 order_by false false false false true asm pack dis native help words no_help none has =
     let given = explain_given words none in
-    (order.Explain given.0, (refl, given.1))
+    explain_asked (rows_after explain_leaf.rules [] words) given.0 given.1 _ refl
 order_by false false false false false true pack dis native help words no_help none has =
     let given = asm_given words none in
     (order.Asm given.0.0 given.1.0 given.2.0 given.3.0, (refl, given.0.1, given.1.1, given.2.1, given.3.1))

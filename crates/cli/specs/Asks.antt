@@ -1,5 +1,5 @@
 -- What a command line asks for: the words decide it, by the rules of `clap` for `sblog_app`.
-use Rattle.std.specs.Prelude.{◌≡◌, ◌≢◌, ◌≤◌, ◌⊎◌, ℕ, Bool, false, List, [], Option, Some, None, codes}
+use Rattle.std.specs.Prelude.{◌≡◌, ◌≢◌, ◌≤◌, ◌⊎◌, ◌||◌, ℕ, Bool, false, true, List, [], Option, Some, None, codes}
 use Rattle.std.specs.Option.{option_map_or}
 use Rattle.std.specs.Str.{bytes_eq}
 use Rattle.std.specs.Str.Parse.{IsNumeral, digits_value, without_leading_plus}
@@ -64,10 +64,12 @@ is_set id rows = option_map_or (λ word. bytes_eq word (codes "true")) (first_of
 -- what a command line can ask for, apart from where its texts lie
 pub data Order : Type 0 where
   Run : Text → Order
+  Tell : Text → Bool → Bool → Order
   Live : Text → ℕ → ℕ → Order
   Draw : Text → Text → Bool → Order
   Check : Text → Order
   Explain : Text → Order
+  Why : Text → Order
   Asm : Text → Text → ℕ → FileForm → Order
   Pack : Text → Text → ℕ → FileForm → Order
   Dis : Text → Order
@@ -76,10 +78,12 @@ pub data Order : Type 0 where
 -- a request with its paths as plain texts, wherever these lie in memory
 abbrev pub order_of : Request → Order
 order_of (request.Run scenario) = Run scenario.now
+order_of (request.Tell scenario json names) = Tell scenario.now json names
 order_of (request.Live scenario workers budget) = Live scenario.now workers budget
 order_of (request.Draw scenario picture only) = Draw scenario.now picture.now only
 order_of (request.Check image) = Check image.now
 order_of (request.Explain image) = Explain image.now
+order_of (request.Why rule) = Why rule.now
 order_of (request.Asm source image state form) = Asm source.now image.now state form
 order_of (request.Pack code image state form) = Pack code.now image.now state form
 order_of (request.Dis image) = Dis image.now
@@ -94,13 +98,17 @@ IsInRange order = Unit {0}
 
 -- the command of this name asks for it, with what its arguments were given
 abbrev pub AsksIn : Text → List Row → Order → Type 0
-AsksIn name rows (Run scenario) = (name ≡ codes "run") × HasScenario rows scenario
+AsksIn name rows (Run scenario) = (name ≡ codes "run")
+    × HasScenario rows scenario × (is_set (codes "json") rows ≡ false) × (is_set (codes "names") rows ≡ false)
+AsksIn name rows (Tell scenario json names) = (name ≡ codes "run")
+    × HasScenario rows scenario × (json ≡ is_set (codes "json") rows) × (names ≡ is_set (codes "names") rows) × ((json || names) ≡ true)
 AsksIn name rows (Live scenario workers budget) = (name ≡ codes "live")
     × HasScenario rows scenario × HasWorkers rows workers × HasBudget rows budget
 AsksIn name rows (Draw scenario picture only) = (name ≡ codes "draw")
     × HasScenario rows scenario × HasPath (codes "OUT") rows picture × (only ≡ is_set (codes "messages") rows)
 AsksIn name rows (Check image) = (name ≡ codes "check") × HasImage rows image
-AsksIn name rows (Explain image) = (name ≡ codes "explain") × HasImage rows image
+AsksIn name rows (Explain image) = (name ≡ codes "explain") × HasImage rows image × (is_set (codes "why") rows ≡ false)
+AsksIn name rows (Why rule) = (name ≡ codes "explain") × HasImage rows rule × (is_set (codes "why") rows ≡ true)
 AsksIn name rows (Asm source image state form) = (name ≡ codes "asm")
     × HasPath (codes "SRC") rows source × HasPath (codes "OUT") rows image × HasState rows state × HasForm rows form
 AsksIn name rows (Pack code image state form) = (name ≡ codes "pack")

@@ -25,9 +25,10 @@ number_rule id required low high = record (new_rule id) {
 abbrev pub flag_rule : Text → Rule
 flag_rule id = record (new_rule id) { long = Some id; action = Some SetTrue }
 
--- `run SCENARIO`
+-- `run [--json] [--names] SCENARIO`
 abbrev pub run_app : App
-run_app = with_rule (new_app (codes "run")) (required_rule (codes "SCENARIO"))
+run_app = with_rule (with_rule (with_rule (new_app (codes "run")) (required_rule (codes "SCENARIO"))) (flag_rule (codes "json")))
+    (flag_rule (codes "names"))
 
 -- `live SCENARIO --workers N --budget B`
 abbrev pub live_app : App
@@ -43,9 +44,9 @@ draw_app = with_rule (with_rule (with_rule (new_app (codes "draw")) (required_ru
 abbrev pub check_app : App
 check_app = with_rule (new_app (codes "check")) (required_rule (codes "IMAGE"))
 
--- `explain IMAGE`
+-- `explain [--why] IMAGE`
 abbrev pub explain_app : App
-explain_app = with_rule (new_app (codes "explain")) (required_rule (codes "IMAGE"))
+explain_app = with_rule (with_rule (new_app (codes "explain")) (required_rule (codes "IMAGE"))) (flag_rule (codes "why"))
 
 -- `NAME SOURCE OUT --state N [--form F]`
 abbrev pub writer_app : Text → Text → App

@@ -103,9 +103,13 @@ fn run<'a>(alloc: Global) -> Result<Command<'a>, AllocError>
     ensures shape { IfOk result (λ c. app_of c ≡ run_app) }
     ensures local { IfOk result (λ c. (fields_of c).has_globals ≡ false) }
 {
-    Command::new(alloc, "run")
-        .about("Carries out a scenario, and prints its trace and report")
-        .arg(required(alloc, "SCENARIO", ORDERS))
+    let bare = Ok(Command::new(alloc, "run").about(
+        "Carries out a scenario, and prints its trace and report",
+    ));
+    let scenario = with(bare, required(alloc, "SCENARIO", ORDERS));
+    let json = with(scenario, flag(alloc, "json", "Prints lines of JSON"));
+    let help = "Prints the names of processes in place of their numbers";
+    with(json, flag(alloc, "names", help))
 }
 
 fn live<'a>(alloc: Global) -> Result<Command<'a>, AllocError>
@@ -152,9 +156,13 @@ fn explain<'a>(alloc: Global) -> Result<Command<'a>, AllocError>
     ensures shape { IfOk result (λ c. app_of c ≡ explain_app) }
     ensures local { IfOk result (λ c. (fields_of c).has_globals ≡ false) }
 {
-    Command::new(alloc, "explain")
-        .about("Lists an image with what is known of its registers, and why it is refused")
-        .arg(required(alloc, "IMAGE", IMAGE))
+    let bare = Ok(Command::new(alloc, "explain").about(
+        "Lists an image with what is known of its registers, and why it is refused",
+    ));
+    let help = "Image file; with --why a rule, V1 to V10";
+    let image = with(bare, required(alloc, "IMAGE", help));
+    let help = "Prints what a rule means, and C that breaks it with the lines that mend that";
+    with(image, flag(alloc, "why", help))
 }
 
 /// A command that writes an image of a source.

@@ -20,6 +20,12 @@ pub enum Request<'a> {
     Run {
         scenario: &'a str,
     },
+    /// `run [--json] [--names] SCENARIO`, with one of both at least.
+    Tell {
+        scenario: &'a str,
+        json: bool,
+        names: bool,
+    },
     /// `live SCENARIO --workers N --budget B`, with N from 1 to 16 and B from 1 to 1,000,000.
     Live {
         scenario: &'a str,
@@ -39,6 +45,10 @@ pub enum Request<'a> {
     /// `explain IMAGE`.
     Explain {
         image: &'a str,
+    },
+    /// `explain --why RULE`.
+    Why {
+        rule: &'a str,
     },
     /// `asm SRC OUT --state N --form F`, with N at most 1,024; form 1 where no form is given.
     Asm {
@@ -118,7 +128,17 @@ fn run_in<'a>(matches: &ArgMatches<'a>) -> Option<Request<'a>>
     ensures { GivesOrder (AsksIn (codes "run") (rows_of (found_of matches.now))) result }
 {
     let scenario = path_in(matches, "SCENARIO")?;
-    Some(Request::Run { scenario })
+    let json = is_set(matches, "json");
+    let names = is_set(matches, "names");
+    if json || names {
+        Some(Request::Tell {
+            scenario,
+            json,
+            names,
+        })
+    } else {
+        Some(Request::Run { scenario })
+    }
 }
 
 fn live_in<'a>(matches: &ArgMatches<'a>) -> Option<Request<'a>>
@@ -158,7 +178,11 @@ fn explain_in<'a>(matches: &ArgMatches<'a>) -> Option<Request<'a>>
     ensures { GivesOrder (AsksIn (codes "explain") (rows_of (found_of matches.now))) result }
 {
     let image = path_in(matches, "IMAGE")?;
-    Some(Request::Explain { image })
+    if is_set(matches, "why") {
+        Some(Request::Why { rule: image })
+    } else {
+        Some(Request::Explain { image })
+    }
 }
 
 fn asm_in<'a>(matches: &ArgMatches<'a>) -> Option<Request<'a>>
@@ -274,6 +298,8 @@ fn option_words<S: AsStr>(words: &[S]) -> &'static str {
                 return "live takes --workers and --budget\n";
             }
             "--messages" if command != "draw" => return "draw takes --messages\n",
+            "--json" | "--names" if command != "run" => return "run takes --json and --names\n",
+            "--why" if command != "explain" => return "explain takes --why\n",
             _ => {}
         }
     }

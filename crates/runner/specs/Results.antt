@@ -21,14 +21,14 @@ shown_state w p = if is_down (w.phase p) then [] else state_of w p
 abbrev pub process_text_of : World → ℕ → List ℕ → List ℕ
 process_text_of w p name = process_line name (name_of (w.phase p)) (length_of w p) (shown_state w p)
 
--- a line a process, where the first has this number
-abbrev pub processes_from : World → ℕ → List (List ℕ) → List ℕ
-processes_from w p [] = []
-processes_from w p (name ∷ names) = process_text_of w p name ++ processes_from w (p + 1) names
+-- a line a process by its number and name, where the first has this number
+abbrev pub numbered : (ℕ → List ℕ → List ℕ) → ℕ → List (List ℕ) → List ℕ
+numbered line p [] = []
+numbered line p (name ∷ names) = line p name ++ numbered line (p + 1) names
 
--- the same, from process 1 on
+-- the lines of all processes, from process 1 on
 abbrev pub processes_text : World → List (List ℕ) → List ℕ
-processes_text w names = processes_from w 1 names
+processes_text w names = numbered (process_text_of w) 1 names
 
 -- a line an output, with the name of who sent it
 abbrev pub outputs_text : List (List ℕ) → List Message → List ℕ

@@ -35,9 +35,9 @@ pub struct Chronicle {
 
 /// What is noted of the orders so far.
 #[derive(Drop)]
-struct Notes {
-    moments: Vec<Moment>,
-    sent: Vec<Option<Payload>>,
+pub(crate) struct Notes {
+    pub(crate) moments: Vec<Moment>,
+    pub(crate) sent: Vec<Option<Payload>>,
 }
 
 // Notes so many accepted calls of a line.
@@ -120,7 +120,7 @@ impl Player {
     }
 
     // Carries out the orders of all steps, one after the other, and answers what they came to.
-    fn tell_all(&mut self, alloc: Global, steps: &[Step]) -> Result<Notes, AllocError>
+    pub(crate) fn tell_all(&mut self, alloc: Global, steps: &[Step]) -> Result<Notes, AllocError>
         ensures { IfOk result (λ notes. AreNoted steps.now (position_of self.old) (position_of self.new) (notes_of notes)) }
     {
         let mut notes = Notes {

@@ -6,6 +6,8 @@
 //! lines alone were written. [`chronicle_of`] gives the accepted calls of such a run, and which line made each and which were refused. [`push_results`] writes what a session came to, its trace and its report: the text of
 //! `specs/Results.antt`, which follows from the names, the images and the journal alone.
 //!
+//! [`tell`] is [`run`] in another style: with names in place of numbers, or as lines of JSON.
+//!
 //! A run notes what helpers refused, process by process, for people: no contract speaks of that.
 #![tactic(auto)]
 
@@ -17,6 +19,7 @@ mod player;
 mod refused;
 mod results;
 mod running;
+mod telling;
 mod word;
 
 pub use chronicle::{Chronicle, Moment, chronicle_of};
@@ -24,4 +27,5 @@ pub use opening::want_of_memory;
 pub use refused::note_refused;
 pub use results::push_results;
 pub use running::run;
+pub use telling::tell;
 pub use word::payload_of;

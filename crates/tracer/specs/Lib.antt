@@ -15,3 +15,4 @@ pub mod Pack
 pub mod Program
 pub mod Report
 pub mod Run
+pub mod Tell

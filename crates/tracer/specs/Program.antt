@@ -3,9 +3,10 @@ use Rattle.std.specs.Prelude.{◌≡◌, ◌≢◌, ◌⊎◌, ◌++◌, ℕ, Bo
 use Rattle.std.specs.declared.alloc.Global.{Global}
 use Rattle.std.specs.Io.KnownBytes.{Appends}
 use Rattle.std.specs.String.{string_bytes}
-use Rattle.cli.specs.Asks.{AsksFor, IsRefusal, own_input_text, Order, Run, Live, Draw, Check, Explain, Asm, Pack, Dis, Native}
+use Rattle.cli.specs.Asks.{AsksFor, IsRefusal, own_input_text, Order, Run, Tell, Live, Draw, Check, Explain, Why, Asm, Pack, Dis, Native}
 use Rattle.cli.specs.declared.refusal.Refusal.TheVariants as refusal
 use Rattle.ordered_images.specs.declared.blocks.Blocks.{Blocks}
+use Rattle.rule_pages.specs.Page.{page_text}
 use Rattle.scenario.specs.Scenario.{IsScenario}
 use Rattle.scenario.specs.declared.order.Allowed.TheVariants.{All, Inputs}
 use Rattle.scenario.specs.declared.process.Process.{Process}
@@ -54,8 +55,9 @@ Leaves (Draw scenario picture only) content content' = IsWritten scenario pictur
     × SparesImages content scenario picture
 Leaves order content content' = content' ≡ content
 
--- the order prints this text, by its file
+-- the order prints this text, by its file; `explain --why` the page of its rule, whatever the files are
 abbrev pub IsAnswer : Content → Order → List ℕ → Type 0
+IsAnswer content (Why rule) text = text ≡ page_text rule
 IsAnswer content order text = (bytes : List ℕ) → content (path_of order) ≡ Some bytes → IsReport content order bytes text
 
 -- the command's words ask for an order that prints this text and leaves these files
@@ -76,11 +78,13 @@ pub record IsDone (words : List (List ℕ)) (content content' : Content) (out ou
 -- the fault is the reason why the order's file, with these bytes, is refused; or an image that a scenario names
 abbrev pub IsRefused : Content → Order → List ℕ → Fault → Type 0
 IsRefused content (Run scenario) bytes f = IsUnloadable content All bytes f
+IsRefused content (Tell scenario json named) bytes f = IsUnloadable content All bytes f
 IsRefused content (Live scenario workers budget) bytes f = IsUnloadable content Inputs bytes f
 IsRefused content (Draw scenario picture only) bytes f = IsUnloadable content All bytes f
 IsRefused content (Check image) bytes f = IsUnaccepted bytes f
 IsRefused content (Asm source image state form) bytes f = IsUnassembled bytes f
 IsRefused content (Explain image) bytes f = IsUnexplained bytes f
+IsRefused content (Why rule) bytes f = ⊥
 IsRefused content (Pack code image state form) bytes f = IsUnpacked bytes f
 IsRefused content (Dis image) bytes f = IsUnlisted bytes f
 IsRefused content (Native image code) bytes f = IsUnaccepted bytes f

@@ -1,8 +1,9 @@
 -- What a command prints, by the file that it reads.
 use Rattle.std.specs.Prelude.{◌≡◌, ℕ, List, []}
-use Rattle.cli.specs.Asks.{Order, Run, Live, Draw, Check, Explain, Asm, Pack, Dis, Native}
+use Rattle.cli.specs.Asks.{Order, Run, Tell, Live, Draw, Check, Explain, Why, Asm, Pack, Dis, Native}
 use Rattle.listing.specs.FileListing.{IsFileExplained}
 use Rattle.ordered_images.specs.declared.blocks.Blocks.{Blocks}
+use Rattle.rule_pages.specs.Page.{page_text}
 use Rattle.tracer.specs.Asm.{IsAssembled}
 use Rattle.tracer.specs.Check.{IsAccepted, accepted_text}
 use Rattle.tracer.specs.Dis.{IsListing}
@@ -12,15 +13,18 @@ use Rattle.tracer.specs.Live.{IsLiveText}
 use Rattle.tracer.specs.Native.{IsMachineCode}
 use Rattle.tracer.specs.Pack.{IsPacked}
 use Rattle.tracer.specs.Run.{IsRunText}
+use Rattle.tracer.specs.Tell.{IsToldText}
 
--- the path of the file that an order reads first
+-- the path of the file that an order reads first; `explain --why` reads none
 abbrev pub path_of : Order → List ℕ
 path_of (Run scenario) = scenario
+path_of (Tell scenario json named) = scenario
 path_of (Live scenario workers budget) = scenario
 path_of (Draw scenario picture only) = scenario
 path_of (Check image) = image
 path_of (Asm source image state form) = source
 path_of (Explain image) = image
+path_of (Why rule) = rule
 path_of (Pack code image state form) = code
 path_of (Dis image) = image
 path_of (Native image code) = image
@@ -28,11 +32,13 @@ path_of (Native image code) = image
 -- the order prints this text where that file has these bytes
 abbrev pub IsReport : Content → Order → List ℕ → List ℕ → Type 0
 IsReport content (Run scenario) bytes text = IsRunText content bytes text
+IsReport content (Tell scenario json named) bytes text = IsToldText content json named bytes text
 IsReport content (Live scenario workers budget) bytes text = IsLiveText content workers budget bytes text
 IsReport content (Draw scenario picture only) bytes text = ((file : List ℕ) × IsDrawn content bytes only file) × (text ≡ [])
 IsReport content (Check image) bytes text = (count : ℕ) × IsAccepted bytes count × (text ≡ accepted_text count)
 IsReport content (Asm source image state form) bytes text = ((file : List ℕ) × IsAssembled bytes state form file) × (text ≡ [])
 IsReport content (Explain image) bytes text = IsFileExplained bytes text
+IsReport content (Why rule) bytes text = text ≡ page_text rule
 IsReport content (Pack code image state form) bytes text = ((file : List ℕ) × (blocks : Blocks) × IsPacked bytes state form file blocks) × (text ≡ [])
 IsReport content (Dis image) bytes text = IsListing bytes text
 IsReport content (Native image code) bytes text = ((file : List ℕ) × IsMachineCode bytes file) × (text ≡ [])

@@ -39,6 +39,7 @@ mod program;
 mod said;
 mod site;
 mod stream;
+mod telling;
 
 pub use check::Accepted;
 pub use cli::Usage;

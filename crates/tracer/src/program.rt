@@ -23,10 +23,12 @@ use crate::own_input::spare;
 use crate::pack::write_packed;
 use crate::site::Site;
 use crate::stream::Stream;
+use crate::telling::tell_scenario;
 use cli::{Request, parse_words};
 use hints::command_words;
 use images::FileForm;
 use limits::STATE_BYTES;
+use rule_pages::page_of;
 use runner::run;
 use scenario::Allowed;
 use std::alloc::Global;
@@ -100,6 +102,14 @@ fn answer_alone<F: Files>(
 {
     match request {
         Request::Run { scenario } => run_scenario(alloc, scenario, files, site, text),
+        Request::Tell {
+            scenario,
+            json,
+            names,
+        } => {
+            *text = tell_scenario(alloc, scenario, json, names, files, site)?;
+            Ok(())
+        }
         // No thread can be started.
         Request::Live { .. } => Err(Fault::Memory),
         Request::Draw {
@@ -120,6 +130,10 @@ fn answer_alone<F: Files>(
         } => write_image(alloc, source, image, state, form, files, site),
         Request::Explain { image } => {
             *text = explain_image(alloc, image, files, site)?;
+            Ok(())
+        }
+        Request::Why { rule } => {
+            *text = String::from_str(alloc, page_of(rule))?;
             Ok(())
         }
         Request::Pack {

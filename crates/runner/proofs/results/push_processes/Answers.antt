@@ -17,4 +17,4 @@ loop-index-preserved c =
     let named : c.name_at.result.now ≡ get_or names i [] = c.name_at.ensures ∙ ap (λ k. get_or names k []) place in
     let written : string_bytes c.push_state.new.out ≡ string_bytes c.loop-index.out ++ process_text_of w (i + 1) (get_or names i []) =
     c.in_ok-push_state.ensures ∙ ap (λ n. string_bytes c.loop-index.out ++ process_text_of w (i + 1) n) named in
-    process_more w names i (string_bytes c.args.out.now) (string_bytes c.loop-index.out) (string_bytes c.push_state.new.out) within c.loop-index.invariant written
+    process_more (process_text_of w) names i (string_bytes c.args.out.now) (string_bytes c.loop-index.out) (string_bytes c.push_state.new.out) within c.loop-index.invariant written

@@ -1,0 +1,9 @@
+use Rattle.std.proofs.Common.{rules, ◌≡◌, codes}
+use Rattle.clap.specs.Words.{app_of, new_app}
+use Rattle.cli.proofs.command.explain.Goals as goal
+
+pub returns-clause-shape : goal.returns-clause-shape
+returns-clause-shape c =
+    let bare : app_of c.about.result ≡ new_app (codes "explain") = search rules in
+    c.with.ensures.shape _ _ c.flag.ensures.local c.flag.ensures.rule
+    (c.with-image.ensures.shape _ _ c.required.ensures.local c.required.ensures.rule bare)

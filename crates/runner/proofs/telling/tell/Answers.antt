@@ -1,0 +1,22 @@
+use Rattle.std.proofs.Common.{◌≡◌, ◌∙◌, ap, List, length, map, subst, sym}
+use Rattle.std.proofs.lemmas.List.{length-map}
+use Rattle.std.proofs.lemmas.Result.{IfOk-weaker}
+use Rattle.std.specs.Prelude.{string_bytes}
+use Rattle.handlers.specs.Image.{TheImage, image_in}
+use Rattle.scenario.specs.Process.{names_of}
+use Rattle.scenario.specs.declared.scenario.Step.{Step}
+use Rattle.runner.specs.Inside.{AreNoted, notes_of, position_of}
+use Rattle.runner.specs.Orders.{Position, beginning}
+use Rattle.runner.proofs.Played.{runs-images, told-run}
+use Rattle.runner.proofs.telling.tell.Goals as goal
+
+pub told-requires : goal.told-requires
+told-requires c =
+    let images = map image_in c.args.images.items in
+    let steps = c.args.scenario.now.steps.items in
+    let end = position_of c.tell_all.new.self in
+    let notes = notes_of c.in_ok-moments.field-0 in
+    let opened = subst (λ (xs : List Step). AreNoted xs (position_of c.in_ok-player.player) end notes) c.as_slice.ensures.value c.in_ok-moments.ensures in
+    let noted = subst (λ (p : Position). AreNoted steps p end notes) c.in_ok-player.ensures opened in
+    let same : end.images ≡ images = runs-images (beginning images) steps noted.0 end noted.1 in
+    c.requires.named ∙ sym (length-map c.args.images.items image_in) ∙ sym (ap length same)

@@ -1,0 +1,4 @@
+pub mod Deeds
+pub mod Fields
+pub mod Lines
+pub mod Style

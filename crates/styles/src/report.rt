@@ -1,0 +1,95 @@
+//! The lines of a report, and of refused orders.
+
+ghost use Rattle.std.specs.Prelude.{◌≡◌, ◌++◌, OnOk, string_bytes};
+ghost use Rattle.trace.specs.Report.{phase_text};
+ghost use Rattle.styles.specs.Lines.{exact_text, output_text, process_text, refused_text};
+ghost use Rattle.styles.specs.Style.{style_of};
+
+use crate::style::Style;
+use std::alloc::AllocError;
+use trace::Hex;
+use world::PhaseName;
+
+/// The word of a phase.
+fn phase_word(phase: PhaseName) -> &'static str
+    ensures { result.now ≡ phase_text phase }
+{
+    match phase {
+        PhaseName::Up => "up",
+        PhaseName::Busy => "busy",
+        PhaseName::Down => "down",
+        PhaseName::Replaying => "replaying",
+        PhaseName::Resync => "resync",
+    }
+}
+
+impl Style<'_> {
+    /// Writes that the order of a line was refused, with the refusal's number, if it was.
+    pub fn push_refused(
+        self,
+        out: &mut String,
+        line: usize,
+        refused: Option<u8>,
+    ) -> Result<(), AllocError>
+        ensures { OnOk result (string_bytes out.new ≡ string_bytes out.old ++ refused_text (style_of self.entry) line refused) }
+    {
+        let Some(number) = refused else {
+            return Ok(());
+        };
+        if self.json {
+            writeln!(out, "{{\"line\":{line},\"refused\":{number}}}")
+        } else {
+            writeln!(out, "line {line} refused {number}")
+        }
+    }
+
+    /// Writes the line of a process: its name and phase, how many messages are in its state, and the state.
+    pub fn push_process(
+        self,
+        out: &mut String,
+        name: &str,
+        phase: PhaseName,
+        length: u32,
+        state: &[u8],
+    ) -> Result<(), AllocError>
+        ensures { OnOk result (string_bytes out.new ≡ string_bytes out.old ++ process_text (style_of self.entry) name.now phase length state.now) }
+    {
+        if !self.json {
+            return trace::push_process(out, name, phase, length, state);
+        }
+        let word = phase_word(phase);
+        let hex = Hex(state);
+        write!(out, "{{\"process\":\"{name}\",\"phase\":\"{word}\",")?;
+        writeln!(out, "\"messages\":{length},\"state\":\"{hex}\"}}")
+    }
+
+    /// Writes the line of an output: the name of the process that gave it, its SSN to the outside, and its bytes.
+    pub fn push_output(
+        self,
+        out: &mut String,
+        name: &str,
+        ssn: u32,
+        payload: &[u8],
+    ) -> Result<(), AllocError>
+        ensures { OnOk result (string_bytes out.new ≡ string_bytes out.old ++ output_text (style_of self.entry) name.now ssn payload.now) }
+    {
+        if !self.json {
+            return trace::push_output(out, name, ssn, payload);
+        }
+        let hex = Hex(payload);
+        writeln!(
+            out,
+            "{{\"output\":\"{name}\",\"ssn\":{ssn},\"bytes\":\"{hex}\"}}"
+        )
+    }
+
+    /// Writes whether failures came one at a time.
+    pub fn push_exact(self, out: &mut String, exact: bool) -> Result<(), AllocError>
+        ensures { OnOk result (string_bytes out.new ≡ string_bytes out.old ++ exact_text (style_of self.entry) exact) }
+    {
+        if !self.json {
+            return trace::push_exact(out, exact);
+        }
+        writeln!(out, "{{\"exact\":{exact}}}")
+    }
+}
