@@ -1,4 +1,4 @@
-/* What handlers in C need of sblog (docs/FORMS.md). */
+/* What handlers in C need of sblog (docs/HANDLERS.md). */
 typedef unsigned char u8;
 typedef unsigned long long u64;
 
