@@ -1,5 +1,5 @@
-"""What is said of the first faulty line of a scenario and of an assembler text: the first mistake that holds, from above down
-(docs/FORMATS.md, "What is said of a line")."""
+"""What is said of the first faulty line of a scenario and of an assembler text, as docs/FORMATS.md says ("What is said of a line",
+"What is said of a line of assembler text")."""
 
 import re
 import unicodedata
