@@ -5,6 +5,8 @@
 #include "client.h"
 #include "figures.h"
 #include "gateway_store.h"
+#include "limits.h"
+#include "membership.h"
 #include "outputs.h"
 #include "pace.h"
 #include "report.h"
@@ -19,9 +21,6 @@
 #include <sys/socket.h>
 #include <unistd.h>
 
-/* The limits that a gateway is opened with (docs/CLUSTER.md). */
-enum { PAGE = 60000, TICK = 8 };
-
 /* Packets and outputs of a turn; inputs of a process without a number, from which on no line is read; microseconds of a
    second; bytes of changes behind which the store is written anew; programs at once. */
 enum { TURN = 256, AHEAD = 1024, SECOND = 1000000, BEHIND = 1 << 20, CLIENTS = 16, ROOM = 1 << 16, WAITING = 16 };
@@ -30,6 +29,7 @@ struct host {
     const struct options *options;
     const struct cluster *cluster;
     struct store folder;
+    struct ids ids;
     struct gateway_store store;
     struct transport transport;
     struct pace pace;
@@ -90,7 +90,8 @@ static int begin_new(struct host *host, const struct owner *owner, const struct 
         return STATUS_STORE;
     }
     int status = write_whole(host);
-    return status == STATUS_DONE ? store_claim(&host->folder, owner) : status;
+    if (status == STATUS_DONE) status = id_draw(&host->ids.cluster);
+    return status == STATUS_DONE ? store_claim(&host->folder, owner, &host->ids) : status;
 }
 
 static int begin_again(struct host *host, const struct bytes *whole, const struct bytes *changes) {
@@ -119,11 +120,15 @@ static int open_clients(struct host *host) {
     return host->listener >= 0 && listen(host->listener, WAITING) == 0 ? STATUS_DONE : STATUS_IO;
 }
 
+static struct owner owner_of(const struct host *host) {
+    return (struct owner){.cluster = host->cluster, .me = 0, .durable = true};
+}
+
 static int begin(struct host *host) {
     bool is_new;
     struct bytes whole = {0}, changes = {0};
-    struct owner owner = {.cluster = host->cluster, .me = 0, .durable = true};
-    int status = store_open(&host->folder, host->options->store, &owner, &is_new);
+    const struct owner owner = owner_of(host);
+    int status = store_open(&host->folder, host->options->store, &owner, &host->ids, &is_new);
     if (status == STATUS_DONE) status = transport_open(&host->transport, host->cluster, 0);
     if (status == STATUS_DONE) pace_begin(&host->pace, &host->transport, host->options->tick);
     if (status == STATUS_DONE) status = metrics_open(&host->metrics, host->options->metrics);
@@ -133,6 +138,7 @@ static int begin(struct host *host) {
     if (status == STATUS_DONE) status = is_new ? begin_new(host, &owner, &whole, &changes) : begin_again(host, &whole, &changes);
     free(whole.at);
     free(changes.at);
+    transport_belongs(&host->transport, &host->ids.cluster);
     return status;
 }
 
@@ -203,9 +209,10 @@ static void read_lines(struct host *host, struct client *client) {
 static int receive(struct host *host) {
     int count = 0;
     size_t size;
-    while (count < TURN && (size = transport_receive(&host->transport, host->packet)) > 0) {
-        uint32_t fault = 0, code = sblog_gateway_receive(&host->gateway, host->packet, size, &fault);
-        if (code == SBLOG_GATEWAY_DONE) pace_hear(&host->pace, host->packet, size, clock_now());
+    const uint8_t *packet;
+    while (count < TURN && (size = transport_receive(&host->transport, &packet)) > 0) {
+        uint32_t fault = 0, code = sblog_gateway_receive(&host->gateway, packet, size, &fault);
+        if (code == SBLOG_GATEWAY_DONE) pace_hear(&host->pace, packet, size, clock_now());
         if (code == SBLOG_GATEWAY_BYTES && host->refused++ == 0)
             report("bytes came that are no packet: fault %u; more are counted", fault);
         count++;
@@ -273,7 +280,7 @@ static int print_outputs(struct host *host) {
     return status;
 }
 
-enum { FIGURES = 9 };
+enum { FIGURES = 11 };
 
 static size_t figures(const struct host *host, struct figure out[FIGURES]) {
     uint64_t logged = 0, waiting = 0, shown = 0, clients = 0;
@@ -292,6 +299,8 @@ static size_t figures(const struct host *host, struct figure out[FIGURES]) {
         {"programs", clients, NULL, "programs that hand in inputs or take outputs"},
         {"behind", host->store.behind, NULL, "bytes of changes behind the store"},
         {"refused", host->refused, NULL, "times that bytes came that are no packet"},
+        {"broken", host->transport.broken, NULL, "times that something came that is no bundle"},
+        {"foreign", host->transport.foreign, NULL, "times that a bundle of another cluster came"},
         {"lost", host->transport.lost, NULL, "packets that found no way"},
     };
     memcpy(out, all, sizeof all);
@@ -348,16 +357,18 @@ static int turn(struct host *host, bool *is_more) {
     welcome(host);
     for (int i = 0; i < CLIENTS && !signal_stop; i++) read_lines(host, &host->clients[i]);
     int received = receive(host);
+    const struct owner owner = owner_of(host);
+    int status = membership_welcome(&owner, &host->folder, &host->ids, &host->transport);
     bool is_cut = hand_out(host);
-    int status = commit(host);
+    if (status == STATUS_DONE) status = commit(host);
     if (status != STATUS_DONE) return status;
     answer_lines(host);
     put_out(host);
+    uint64_t now = clock_now();
+    tick(host, now);
     transport_serve(&host->transport);
     status = look_after_clients(host);
     if (status == STATUS_DONE) status = print_outputs(host);
-    uint64_t now = clock_now();
-    tick(host, now);
     show(host, now);
     *is_more = received == TURN || has_lines(host) || (is_cut && !outputs_are_full(&host->waiting));
     return status;

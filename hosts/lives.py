@@ -17,6 +17,30 @@ class Wrong(Exception):
     """What a cluster is not to do."""
 
 
+def bundle(cluster, sender, receiver, *packets):
+    """Packets as they go between programs of a cluster of this id (docs/FORMATS.md)."""
+    head = b"SBB1" + bytes([sender, receiver]) + struct.pack("<H", len(packets)) + cluster
+    return head + b"".join(struct.pack("<H", len(packet)) + packet for packet in packets)
+
+
+def crc32c(data):
+    rest = 0xFFFFFFFF
+    for byte in data:
+        rest ^= byte
+        for _ in range(8):
+            rest = rest >> 1 ^ (0x82F63B78 if rest & 1 else 0)
+    return rest ^ 0xFFFFFFFF
+
+
+HELLO, OFFER, JOIN, WELCOME, REFUSAL = range(1, 6)
+
+
+def greeting(word, process, cluster, store):
+    """What a process with a new store and the gateway say to each other."""
+    text = b"SBH1" + bytes([word, process, 0, 0]) + cluster + store
+    return text + struct.pack("<I", crc32c(text))
+
+
 running = set()
 
 
@@ -114,6 +138,12 @@ class Program:
         while not self.is_up.wait(0.2):
             if self.child.poll() is not None or time.monotonic() > until:
                 raise Wrong(f"{self.name} isn't up: {self.said[-3:]}, status {self.child.poll()}")
+
+    def id(self, line="cluster-id"):
+        """The id of its cluster, or of a store, as its store has it; none while it has none."""
+        with open(os.path.join(self.store, "identity")) as file:
+            found = re.search(rf"(?m)^{line} ([0-9a-f]{{32}})$", file.read())
+        return bytes.fromhex(found[1]) if found else None
 
     def kept(self):
         """State and number of messages of the stored checkpoint (docs/FORMATS.md)."""

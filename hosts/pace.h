@@ -5,6 +5,12 @@
 
 #include "transport.h"
 
+/* Packets that wait, each once. */
+struct queue {
+    struct waiting *first, **end;
+    size_t count;
+};
+
 /* The messages to one peer, and the numbers that it was told. */
 struct flow {
     uint64_t sent, answered;     /* the last SSN that was sent, and that the peer has */
