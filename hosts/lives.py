@@ -32,6 +32,23 @@ def crc32c(data):
     return rest ^ 0xFFFFFFFF
 
 
+def slot(number, data, room=1 << 16):
+    """One of the two that the file `kept` has."""
+    head = struct.pack("<QQ", number, len(data))
+    return (b"SBS1" + struct.pack("<I", crc32c(head + data)) + head + data).ljust(room, b"\0")
+
+
+def last_of(kept):
+    """The bytes of the last whole slot."""
+    found = {}
+    for at in (0, len(kept) // 2):
+        number, size = struct.unpack_from("<QQ", kept, at + 8)
+        data = kept[at + 24:at + 24 + size]
+        if slot(number, data, 0) == kept[at:at + 24 + size]:
+            found[number] = data
+    return found[max(found)]
+
+
 HELLO, OFFER, JOIN, WELCOME, REFUSAL = range(1, 6)
 
 
@@ -148,7 +165,7 @@ class Program:
     def kept(self):
         """State and number of messages of the stored checkpoint (docs/FORMATS.md)."""
         with open(os.path.join(self.store, "kept"), "rb") as file:
-            data = file.read()
+            data = last_of(file.read())
         count, size = data[5], struct.unpack_from("<H", data, 6)[0]
         at = 16 + 8 * count
         return data[at:at + size], struct.unpack_from("<Q", data, 8)[0]

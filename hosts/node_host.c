@@ -6,6 +6,7 @@
 #include "membership.h"
 #include "pace.h"
 #include "report.h"
+#include "slots.h"
 #include "store.h"
 #include "transport.h"
 
@@ -28,6 +29,7 @@ struct host {
     const struct cluster *cluster;
     struct store store;
     struct ids ids;
+    struct slots slots;
     struct transport transport;
     struct pace pace;
     struct metrics metrics;
@@ -89,7 +91,7 @@ static int keep(struct host *host) {
     uint32_t code = freeze(host, &size);
     if (code == SBLOG_NODE_UNREADY || code == SBLOG_NODE_MEMORY) return STATUS_DONE;
     if (code != SBLOG_NODE_DONE) return refused("checkpoint", code, 0);
-    int status = store_write(&host->store, KEPT, host->bytes, size);
+    int status = slots_write(&host->slots, host->bytes, size);
     if (status != STATUS_DONE) return status;
     host->checkpoints++;
     code = sblog_node_saved(&host->node);
@@ -101,7 +103,7 @@ static int keep(struct host *host) {
 static int judge_new(struct host *host, size_t size) {
     uint8_t *kept;
     size_t kept_size;
-    int status = store_read(&host->store, KEPT, &kept, &kept_size);
+    int status = slots_open(&host->slots, &host->store, &kept, &kept_size);
     bool is_new = !kept || (kept_size == size && !memcmp(kept, host->bytes, size));
     free(kept);
     if (status != STATUS_DONE || is_new) return status;
@@ -122,7 +124,7 @@ static int begin_new(struct host *host, const struct owner *owner, uint64_t inca
     if (code != SBLOG_NODE_DONE) return refused("open", code, 0);
     if ((code = freeze(host, &size)) != SBLOG_NODE_DONE) return refused("checkpoint", code, 0);
     int status = judge_new(host, size);
-    if (status == STATUS_DONE) status = store_write(&host->store, KEPT, host->bytes, size);
+    if (status == STATUS_DONE) status = slots_write(&host->slots, host->bytes, size);
     if (status == STATUS_DONE) status = store_write_incarnation(&host->store, 1);
     if (status == STATUS_DONE) status = id_draw(&host->ids.stores[owner->me]);
     if (status == STATUS_DONE) status = store_claim(&host->store, owner, &host->ids);
@@ -136,7 +138,7 @@ static int begin_again(struct host *host, const struct owner *owner, uint64_t in
     uint8_t *kept;
     size_t size;
     uint32_t fault = 0;
-    int status = store_read(&host->store, KEPT, &kept, &size);
+    int status = slots_open(&host->slots, &host->store, &kept, &size);
     if (status != STATUS_DONE) return status;
     if (!kept || incarnation == 0) {
         report("%s: the file %s is missing", host->options->store, kept ? "incarnation" : KEPT);
