@@ -61,7 +61,7 @@ static bool is_whole(struct unread unread, uint64_t count) {
 enum kind bundle_judge(const uint8_t *frame, size_t size, const struct id *cluster, const struct cluster *processes, int me,
                        struct unread *unread, int *from) {
     if (size <= PACKETS || memcmp(frame, BUNDLE, MAGIC) != 0) return KIND_BROKEN;
-    if (id_is_none(cluster) || memcmp(frame + CLUSTER, cluster->bytes, ID_BYTES) != 0) return KIND_FOREIGN;
+    if (memcmp(frame + CLUSTER, cluster->bytes, ID_BYTES) != 0) return KIND_FOREIGN;
     const struct unread packets = {frame + PACKETS, size - PACKETS};
     bool is_ours = frame[FROM] <= processes->count && frame[FROM] != me && frame[TO] == me;
     if (!is_ours || !is_whole(packets, number_at(frame + COUNT, LENGTH))) return KIND_BROKEN;

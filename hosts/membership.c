@@ -25,7 +25,7 @@ static int hear(const struct owner *owner, const struct store *store, struct ids
     return STATUS_DONE;
 }
 
-/* Packets that come meanwhile are of others, and dropped: this process isn't of their cluster yet. */
+/* Bundles that come meanwhile are dropped: this process isn't of their cluster yet. */
 static void wait(struct transport *transport, uint64_t until) {
     struct watch watch;
     const uint8_t *packet;

@@ -109,6 +109,10 @@ static void send_held(struct pace *pace, int to, uint64_t now) {
     }
 }
 
+bool pace_learns(const uint8_t *packet) {
+    return packet[KIND] == NUMBER || packet[KIND] == SAVED || packet[KIND] == ACKNOWLEDGEMENT || packet[KIND] == RESUME;
+}
+
 void pace_hear(struct pace *pace, const uint8_t *packet, size_t size, uint64_t now) {
     int from = packet[FROM], kind = packet[KIND];
     if (from > pace->transport->cluster->count) return;
@@ -117,7 +121,7 @@ void pace_hear(struct pace *pace, const uint8_t *packet, size_t size, uint64_t n
     if (kind == ACKNOWLEDGEMENT && number > flow->acknowledged) flow->acknowledged = number;
     if (kind == NUMBER || kind == SAVED) is_answered(flow, number, now);
     if (kind == RESUME) flow->is_back = true;
-    if (kind != NUMBER && kind != SAVED && kind != ACKNOWLEDGEMENT) return;
+    if (kind == RESUME || !pace_learns(packet)) return;
     flow->since = now;
     flow->tries = 0;
     send_held(pace, from, now);
@@ -132,6 +136,7 @@ void pace_tick_begins(struct pace *pace, uint64_t now) {
         flow->since = now;
         flow->refill = 0;
         flow->is_back = false;
+        flow->has_held = flow->held.count > 0;
     }
 }
 
@@ -142,6 +147,7 @@ void pace_tick_sends(struct pace *pace, int to, const uint8_t *packet, size_t si
         if (place == 0) flow->answered = ssn - 1; /* it is the first one that has no number */
         if (place == TICK - 1) flow->refill = ssn;
         flow->is_known = true;
+        if (flow->has_held && ssn > flow->answered + pace->window) return; /* it waits already */
     }
     pace_send(pace, to, packet, size, now);
 }

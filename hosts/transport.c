@@ -129,6 +129,7 @@ static void take_frame(struct transport *transport, const uint8_t *frame, size_t
         take_greeting(transport, &greeting);
         return;
     }
+    if (id_is_none(&transport->id)) return;
     switch (bundle_judge(frame, size, &transport->id, transport->cluster, transport->me, &transport->unread, &from)) {
     case KIND_BUNDLE:
         if (transport->inlet->settle) transport->inlet->settle(transport, from);

@@ -48,7 +48,7 @@ struct guest {
 
 struct transport {
     const struct cluster *cluster;
-    struct id id; /* none: each bundle is of another cluster */
+    struct id id; /* none: no bundle is taken or sent yet */
     int me;
     struct way ways[PROCESS_LIMIT + 1];
     const struct inlet *inlet;
