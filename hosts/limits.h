@@ -4,6 +4,6 @@
 
 /* Bytes of a packet; messages that a tick or a release sends to one peer; numbers that a node may have open; messages that it
    takes after its checkpoint. */
-enum { PAGE = 60000, TICK = 8, NUMBERS = 256, RECEIPTS = 65536 };
+enum { PAGE = 60000, TICK = 256, NUMBERS = 256, RECEIPTS = 65536 };
 
 #endif

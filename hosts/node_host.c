@@ -18,7 +18,7 @@
 #include <string.h>
 
 /* Messages of a turn; microseconds of a second; the longest pause between ticks, in ticks; what a checkpoint takes at first. */
-enum { TURN = 64, REPLAYS = 1024, SECOND = 1000000, PAUSE = 32, ROOM = 4096 };
+enum { TURN = 512, REPLAYS = 1024, SECOND = 1000000, PAUSE = 32, ROOM = 4096 };
 
 static const char *const STAGES[] = {"up", "busy", "frozen", "collecting", "replaying", "resuming"};
 
@@ -192,6 +192,7 @@ static uint32_t work(struct host *host, int most) {
 static int receive(struct host *host) {
     int count = 0;
     size_t size;
+    uint64_t now = clock_now();
     const uint8_t *packet;
     while (count < TURN && (size = transport_receive(&host->transport, &packet)) > 0) {
         uint32_t fault = 0, code = sblog_node_receive(&host->node, packet, size, &fault);
@@ -199,7 +200,7 @@ static int receive(struct host *host) {
         if (code == SBLOG_NODE_BYTES && host->refused++ == 0)
             report("bytes came that are no packet: fault %u; more are counted", fault);
         if (code == SBLOG_NODE_DONE) {
-            pace_hear(&host->pace, packet, size, clock_now());
+            pace_hear(&host->pace, packet, size, now);
             work(host, 1);
         }
         count++;
@@ -300,6 +301,8 @@ static int turn(struct host *host, bool *is_more) {
     *is_more = work(host, REPLAYS) == SBLOG_NODE_DONE || received == TURN;
     sblog_node_standing(&host->node, &host->standing);
     if (is_time_to_keep(host)) {
+        put_out(host); /* what doesn't wait for it */
+        transport_serve(&host->transport);
         status = keep(host);
         sblog_node_standing(&host->node, &host->standing);
     }
