@@ -1,4 +1,4 @@
-/* The answers of a turn's lines, in the order of the lines: of an input once it is durable. */
+/* The answers of lines, in the order of the lines: of an input once it is durable. */
 #ifndef ANSWERS_H
 #define ANSWERS_H
 
@@ -9,11 +9,11 @@
 #include <stddef.h>
 #include <stdint.h>
 
-enum { ANSWERS_LIMIT = 256 };
+enum { ANSWERS_LIMIT = 1024 }; /* of a turn */
 
 struct answer {
     struct client *client;
-    uint64_t line, ssn;
+    uint64_t serial, line, ssn;
     int process;
     char id[ID_LIMIT + 1];
     const char *why; /* the line is refused */
@@ -27,7 +27,8 @@ struct answers {
 /* The answer of the line that a program wrote last, behind the others; there has to be room. Its SSN is still to be told. */
 struct answer *answers_add(struct answers *answers, struct client *client, const struct line *line, const char *why);
 
-/* All are given. What is refused is told the program that wrote it, or where that is standard input, on standard error. */
-void answers_give(struct answers *answers, const struct cluster *cluster, bool is_pipe);
+/* It is given, if the program is still there. What is refused is told the program that wrote it, or where that is standard input, on
+   standard error. */
+void answer_give(const struct answer *answer, const struct cluster *cluster, bool is_pipe);
 
 #endif

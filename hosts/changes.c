@@ -1,17 +1,15 @@
 #include "changes.h"
 
-enum kind { INPUT = 1, NUMBERED, DROPPED, HEARD, FORGOTTEN, SHOWN, TAKEN };
+#include "bytes.h"
+
+enum { WORD = 8 };
+
+enum change { INPUT = 1, NUMBERED, DROPPED, HEARD, FORGOTTEN, SHOWN, TAKEN };
 
 /* Bytes of kind and fields, without those of a payload, whose length stands last. */
 static const size_t SIZES[] = {
     [INPUT] = 4, [NUMBERED] = 18, [DROPPED] = 10, [HEARD] = 11, [FORGOTTEN] = 10, [SHOWN] = 12, [TAKEN] = 5,
 };
-
-static uint64_t number_at(const uint8_t *at) {
-    uint64_t number = 0;
-    for (int i = 7; i >= 0; i--) number = number << 8 | at[i];
-    return number;
-}
 
 /* How many bytes the change has; 0 for none. */
 static size_t size_of(const uint8_t *change, size_t left) {
@@ -30,9 +28,9 @@ static void take_one(struct counts *counts, const uint8_t *change) {
     int process = change[1];
     switch (change[0]) {
     case NUMBERED:
-    case DROPPED: raise_to(&counts->numbered[process], number_at(change + 2)); break;
-    case HEARD: raise_to(&counts->incarnation[process], number_at(change + 2)); break;
-    case SHOWN: raise_to(&counts->shown[process], number_at(change + 2)); break;
+    case DROPPED: raise_to(&counts->numbered[process], number_at(change + 2, WORD)); break;
+    case HEARD: raise_to(&counts->incarnation[process], number_at(change + 2, WORD)); break;
+    case SHOWN: raise_to(&counts->shown[process], number_at(change + 2, WORD)); break;
     }
 }
 

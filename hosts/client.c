@@ -8,18 +8,22 @@
 #include <stdio.h>
 #include <stdlib.h>
 #include <string.h>
+#include <sys/socket.h>
 #include <unistd.h>
 
-/* Bytes that a pipe takes whole once it is free; of the longest answer, which bears a name, two numbers, an id and a sentence;
-   words of the longest line, and one more. */
-enum { AT_ONCE = 4096, LONGEST_ANSWER = 256, WORDS = 5 };
+/* Bytes that a pipe takes whole once it is free; of the longest answer, which bears a name, two numbers, an id and a sentence; of
+   the longest output; of a line; words of the longest line, and one more. */
+enum { AT_ONCE = 4096, LONGEST_ANSWER = 256, LONGEST_OUTPUT = 640, LINE_LIMIT = 1 << 16, WORDS = 5 };
 
 void client_open(struct client *client, int in, int out) {
+    static uint64_t serial;
+    client->serial = ++serial;
     client->in = in;
     client->out = out;
+    client->is_connection = in >= 0 && in == out;
     client->takes_outputs = client->is_broken = false;
     client->line = 0;
-    client->from = client->have = client->answers = client->promised = 0;
+    client->from = client->have = client->written = client->answers = client->promised = 0;
 }
 
 void client_close(struct client *client) {
@@ -35,7 +39,7 @@ static bool is_ready(int file, short events) {
 
 void client_read(struct client *client) {
     client->have -= client->from;
-    memmove(client->text, client->text + client->from, client->have);
+    if (client->from > 0) memmove(client->text, client->text + client->from, client->have);
     client->from = 0;
     size_t room = sizeof client->text - client->have;
     if (room == 0 || !is_ready(client->in, POLLIN)) return;
@@ -45,11 +49,12 @@ void client_read(struct client *client) {
     client->in = -1; /* no more inputs; outputs may still come */
 }
 
-static int digit(char of) {
-    if (of >= '0' && of <= '9') return of - '0';
-    if (of >= 'a' && of <= 'f') return of - 'a' + 10;
-    return of >= 'A' && of <= 'F' ? of - 'A' + 10 : -1;
-}
+/* What a digit counts, and one more; 0 for what is none. */
+static const uint8_t DIGITS[256] = {
+    ['0'] = 1, ['1'] = 2, ['2'] = 3, ['3'] = 4, ['4'] = 5, ['5'] = 6, ['6'] = 7, ['7'] = 8, ['8'] = 9, ['9'] = 10,
+    ['a'] = 11, ['b'] = 12, ['c'] = 13, ['d'] = 14, ['e'] = 15, ['f'] = 16,
+    ['A'] = 11, ['B'] = 12, ['C'] = 13, ['D'] = 14, ['E'] = 15, ['F'] = 16,
+};
 
 /* Pairs of digits, or - for none. */
 static const char *read_hex(const char *hex, struct line *line) {
@@ -57,9 +62,9 @@ static const char *read_hex(const char *hex, struct line *line) {
     if (digits % 2) return "HEX has two digits a byte";
     if (digits / 2 > PAYLOAD_LIMIT) return "a message has at most 256 bytes";
     for (line->size = 0; line->size < digits / 2; line->size++) {
-        int high = digit(hex[2 * line->size]), low = digit(hex[2 * line->size + 1]);
-        if (high < 0 || low < 0) return "HEX has the digits 0 to 9 and a to f";
-        line->payload[line->size] = (uint8_t)(high << 4 | low);
+        int high = DIGITS[(uint8_t)hex[2 * line->size]], low = DIGITS[(uint8_t)hex[2 * line->size + 1]];
+        if (high == 0 || low == 0) return "HEX has the digits 0 to 9 and a to f";
+        line->payload[line->size] = (uint8_t)((high - 1) << 4 | (low - 1));
     }
     return NULL;
 }
@@ -121,28 +126,34 @@ static const char *read_order(char *text, const struct cluster *cluster, struct 
     return is_bytes ? read_hex(count == 3 ? words[2] : "-", line) : read_word(words[2], line);
 }
 
-static bool has_room(const struct client *client) {
-    return client->answers + (client->promised + 1) * LONGEST_ANSWER <= sizeof client->answer;
+/* Whether there is room for so many bytes beside the answers that are promised. */
+static bool has_room(const struct client *client, size_t size) {
+    return client->answers - client->written + client->promised * LONGEST_ANSWER + size <= sizeof client->answer;
 }
+
+bool client_has_room(const struct client *client) { return has_room(client, LONGEST_OUTPUT); }
 
 static bool has_end(const struct client *client) {
     return memchr(client->text + client->from, '\n', client->have - client->from) != NULL;
 }
 
-bool client_has_line(const struct client *client) { return has_room(client) && has_end(client); }
+bool client_has_line(const struct client *client) { return has_room(client, LONGEST_ANSWER) && has_end(client); }
 
 bool client_line(struct client *client, const struct cluster *cluster, struct line *line) {
     char *text = client->text + client->from;
     size_t left = client->have - client->from;
-    if (!has_room(client)) return false;
+    if (!has_room(client, LONGEST_ANSWER)) return false;
     char *end = memchr(text, '\n', left);
-    *line = (struct line){.order = ORDER_NONE};
-    if (!end && left < sizeof client->text) return false;
+    line->order = ORDER_NONE;
+    line->process = 0;
+    line->why = NULL;
+    *line->id = 0;
+    if (!end && left < LINE_LIMIT) return false;
     size_t size = end ? (size_t)(end - text) : left;
     client->from += end ? size + 1 : size;
     client->line++;
     if (end) *end = 0;
-    if (!end) line->why = "a line is too long";
+    if (size >= LINE_LIMIT) line->why = "a line is too long";
     else if (strlen(text) != size) line->why = "a line has a zero byte";
     else line->why = read_order(text, cluster, line);
     if (line->why) line->order = ORDER_REFUSED;
@@ -150,28 +161,48 @@ bool client_line(struct client *client, const struct cluster *cluster, struct li
     return true;
 }
 
+/* What is written goes from the front. */
+static void make_room(struct client *client) {
+    client->answers -= client->written;
+    memmove(client->answer, client->answer + client->written, client->answers);
+    client->written = 0;
+}
+
 void client_answer(struct client *client, const char *format, ...) {
-    size_t room = sizeof client->answer - client->answers;
     va_list arguments;
-    va_start(arguments, format);
-    int size = vsnprintf(client->answer + client->answers, room, format, arguments);
-    va_end(arguments);
-    if (size > 0 && (size_t)size < room) client->answers += (size_t)size;
-    else client->is_broken = true;
+    bool fits = false;
+    for (int tries = 0; !fits && tries < 2; tries++) {
+        if (tries > 0) make_room(client);
+        size_t room = sizeof client->answer - client->answers;
+        va_start(arguments, format);
+        int size = vsnprintf(client->answer + client->answers, room, format, arguments);
+        va_end(arguments);
+        fits = size > 0 && (size_t)size < room;
+        if (fits) client->answers += (size_t)size;
+    }
+    if (!fits) client->is_broken = true;
+}
+
+/* A connection doesn't block; of another file so many bytes don't, once it is ready. */
+static ssize_t write_some(const struct client *client) {
+    const char *from = client->answer + client->written;
+    size_t size = client->answers - client->written;
+    if (client->is_connection) return send(client->out, from, size, MSG_DONTWAIT | MSG_NOSIGNAL);
+    errno = EAGAIN;
+    return is_ready(client->out, POLLOUT) ? write(client->out, from, size < AT_ONCE ? size : AT_ONCE) : -1;
 }
 
 void client_write(struct client *client) {
-    while (client->answers > 0 && is_ready(client->out, POLLOUT)) {
-        size_t some = client->answers < AT_ONCE ? client->answers : AT_ONCE;
-        ssize_t size = write(client->out, client->answer, some);
+    while (client->written < client->answers) {
+        ssize_t size = write_some(client);
         if (size < 0 && (errno == EINTR || errno == EAGAIN)) return;
         if (size < 0) {
             client->is_broken = true;
             return;
         }
-        client->answers -= (size_t)size;
-        memmove(client->answer, client->answer + size, client->answers);
+        client->written += (size_t)size;
     }
+    client->written = client->answers = 0;
 }
 
 bool client_is_gone(const struct client *client) { return client->is_broken || is_ready(client->out, 0); }
@@ -181,7 +212,8 @@ bool client_is_over(const struct client *client) {
 }
 
 bool client_is_done(const struct client *client) {
-    return client->out >= 0 && client->in < 0 && !has_end(client) && client->answers == 0 && !client->takes_outputs;
+    return client->out >= 0 && client->in < 0 && !has_end(client) && client->answers == 0 && client->promised == 0 &&
+           !client->takes_outputs;
 }
 
 bool client_is_free(struct client *client) { return client->answers == 0 && is_ready(client->out, POLLOUT); }

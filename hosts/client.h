@@ -9,15 +9,16 @@
 #include <stddef.h>
 #include <stdint.h>
 
-enum { PAYLOAD_LIMIT = 256, ID_LIMIT = 64, CLIENT_ROOM = 1 << 16, ANSWER_ROOM = 1 << 17 };
+enum { PAYLOAD_LIMIT = 256, ID_LIMIT = 64, CLIENT_ROOM = 1 << 18, ANSWER_ROOM = 1 << 20 };
 
 struct client {
     int in, out; /* -1: closed */
-    bool takes_outputs, is_broken;
+    bool is_connection, takes_outputs, is_broken;
+    uint64_t serial; /* which connection it is */
     uint64_t line;
-    size_t from, have; /* where the bytes begin that were read and not taken yet, and where they end */
-    size_t answers;    /* bytes that are to be written */
-    size_t promised;   /* answers of lines that were taken, which are still to come: there is room for each */
+    size_t from, have;       /* where the bytes begin that were read and not taken yet, and where they end */
+    size_t written, answers; /* where the bytes begin that are to be written, and where they end */
+    size_t promised;         /* answers of lines that were taken, which are still to come: there is room for each */
     char text[CLIENT_ROOM], answer[ANSWER_ROOM];
 };
 
@@ -46,7 +47,10 @@ bool client_line(struct client *client, const struct cluster *cluster, struct li
 /* Whether there is a next line, whole, with room for its answer. */
 bool client_has_line(const struct client *client);
 
-/* An answer or an output. Its bytes have room: those of a promised answer, or behind client_is_free. */
+/* Whether there is room for an output beside the answers that are promised. */
+bool client_has_room(const struct client *client);
+
+/* An answer or an output. Its bytes have room: those of a promised answer, or behind client_has_room. */
 void client_answer(struct client *client, const char *format, ...) __attribute__((format(printf, 2, 3)));
 
 /* Writes answers as far as that doesn't block. */

@@ -2,44 +2,44 @@
 
 #include "answers.h"
 #include "changes.h"
-#include "client.h"
+#include "clients.h"
 #include "figures.h"
 #include "gateway_store.h"
+#include "limits.h"
+#include "membership.h"
 #include "outputs.h"
 #include "pace.h"
 #include "report.h"
 #include "store.h"
 #include "transport.h"
-#include "unix_path.h"
+#include "turns.h"
 
 #include <sblog.h>
 #include <stdio.h>
 #include <stdlib.h>
 #include <string.h>
-#include <sys/socket.h>
-#include <unistd.h>
-
-/* The limits that a gateway is opened with (docs/CLUSTER.md). */
-enum { PAGE = 60000, TICK = 8 };
 
 /* Packets and outputs of a turn; inputs of a process without a number, from which on no line is read; microseconds of a
-   second; bytes of changes behind which the store is written anew; programs at once. */
-enum { TURN = 256, AHEAD = 1024, SECOND = 1000000, BEHIND = 1 << 20, CLIENTS = 16, ROOM = 1 << 16, WAITING = 16 };
+   second; bytes of changes behind which the store is written anew. */
+enum { TURN = 1024, AHEAD = 1024, SECOND = 1000000, BEHIND = 1 << 24, ROOM = 1 << 16 };
 
 struct host {
     const struct options *options;
     const struct cluster *cluster;
     struct store folder;
+    struct ids ids;
     struct gateway_store store;
     struct transport transport;
     struct pace pace;
     struct metrics metrics;
     sblog_gateway gateway;
     struct counts counts;
-    int listener;
-    struct client clients[CLIENTS]; /* without --listen the first one is standard input and output */
+    struct clients clients;
     struct answers answers;
     struct outputs waiting;
+    struct bytes heard; /* packets of this turn that the pace learns from */
+    struct turns turns;
+    bool has_tick; /* whether the packets of one wait */
     uint8_t *bytes;
     size_t room;
     uint64_t next_status, refused, outputs;
@@ -74,7 +74,8 @@ static int write_whole(struct host *host) {
     size_t size;
     uint32_t code = read_bytes(host, sblog_gateway_changes, &size);
     if (code == SBLOG_GATEWAY_DONE) code = read_bytes(host, sblog_gateway_store, &size);
-    return code == SBLOG_GATEWAY_DONE ? gateway_store_replace(&host->store, host->bytes, size) : refused("store", code, 0);
+    return code == SBLOG_GATEWAY_DONE ? gateway_store_replace(&host->store, host->bytes, size, &host->waiting)
+                                     : refused("store", code, 0);
 }
 
 /* Where a first life was killed before the store had its name, the store is the one that begins again; any other one lost its
@@ -86,72 +87,54 @@ static int begin_new(struct host *host, const struct owner *owner, const struct 
     if ((code = read_bytes(host, sblog_gateway_store, &size)) != SBLOG_GATEWAY_DONE) return refused("store", code, 0);
     bool is_new = !whole->at || (whole->size == size && !memcmp(whole->at, host->bytes, size));
     if (!is_new || changes->at || host->waiting.count > 0) {
-        report("%s: gateway.sqlite holds a store, and the file identity is missing", host->options->store);
+        report("%s: a gateway's store is there, and the file identity is missing", host->options->store);
         return STATUS_STORE;
     }
     int status = write_whole(host);
-    return status == STATUS_DONE ? store_claim(&host->folder, owner) : status;
+    if (status == STATUS_DONE) status = id_draw(&host->ids.cluster);
+    return status == STATUS_DONE ? store_claim(&host->folder, owner, &host->ids) : status;
 }
 
 static int begin_again(struct host *host, const struct bytes *whole, const struct bytes *changes) {
     uint32_t fault = 0, code;
     if (!whole->at) {
-        report("%s/gateway.sqlite holds no store", host->options->store);
+        report("%s: neither gateway.0 nor gateway.1 holds a whole store", host->options->store);
         return STATUS_STORE;
     }
     code = sblog_gateway_revive(whole->at, whole->size, PAGE, TICK, &host->gateway, &fault);
     if (code != SBLOG_GATEWAY_DONE) return refused("the store", code, fault);
-    if (changes->size == 0) return STATUS_DONE;
-    code = sblog_gateway_apply(&host->gateway, changes->at, changes->size, &fault);
+    if (changes->size > 0) code = sblog_gateway_apply(&host->gateway, changes->at, changes->size, &fault);
     if (code != SBLOG_GATEWAY_DONE) return refused("the changes behind the store", code, fault);
     return write_whole(host);
 }
 
-static int open_clients(struct host *host) {
-    for (int i = 0; i < CLIENTS; i++) client_open(&host->clients[i], -1, -1);
-    host->listener = -1;
-    if (!host->options->listen) {
-        client_open(&host->clients[0], STDIN_FILENO, STDOUT_FILENO);
-        host->clients[0].takes_outputs = true;
-        return STATUS_DONE;
-    }
-    host->listener = unix_path_take(SOCK_STREAM, host->options->listen);
-    return host->listener >= 0 && listen(host->listener, WAITING) == 0 ? STATUS_DONE : STATUS_IO;
+static struct owner owner_of(const struct host *host) {
+    return (struct owner){.cluster = host->cluster, .me = 0, .durable = true};
 }
 
 static int begin(struct host *host) {
     bool is_new;
     struct bytes whole = {0}, changes = {0};
-    struct owner owner = {.cluster = host->cluster, .me = 0, .durable = true};
-    int status = store_open(&host->folder, host->options->store, &owner, &is_new);
+    const struct owner owner = owner_of(host);
+    int status = store_open(&host->folder, host->options->store, &owner, &host->ids, &is_new);
     if (status == STATUS_DONE) status = transport_open(&host->transport, host->cluster, 0);
     if (status == STATUS_DONE) pace_begin(&host->pace, &host->transport, host->options->tick);
     if (status == STATUS_DONE) status = metrics_open(&host->metrics, host->options->metrics);
-    if (status == STATUS_DONE) status = open_clients(host);
-    if (status == STATUS_DONE) status = gateway_store_open(&host->store, host->options->store, &whole, &changes, &host->waiting);
+    if (status == STATUS_DONE) status = clients_open(&host->clients, host->options->listen);
+    if (status == STATUS_DONE) status = gateway_store_open(&host->store, &host->folder, &whole, &changes, &host->waiting);
     if (status == STATUS_DONE && !has_room(host, ROOM)) status = refused("open", SBLOG_GATEWAY_MEMORY, 0);
     if (status == STATUS_DONE) status = is_new ? begin_new(host, &owner, &whole, &changes) : begin_again(host, &whole, &changes);
-    free(whole.at);
-    free(changes.at);
+    bytes_end(&whole);
+    bytes_end(&changes);
+    transport_belongs(&host->transport, &host->ids.cluster);
     return status;
-}
-
-static void welcome(struct host *host) {
-    if (host->listener < 0) return;
-    for (int i = 0; i < CLIENTS; i++) {
-        struct client *client = &host->clients[i];
-        if (client->out >= 0) continue;
-        int file = accept4(host->listener, NULL, NULL, SOCK_NONBLOCK | SOCK_CLOEXEC);
-        if (file < 0) return;
-        client_open(client, file, file);
-    }
 }
 
 /* Whether inputs may be handed in: so many may run ahead of the processes. */
 static bool may_read(const struct host *host) {
     for (int p = 1; p <= host->cluster->count; p++)
         if (counts_waiting(&host->counts, p) >= AHEAD) return false;
-    return host->answers.count < ANSWERS_LIMIT;
+    return host->answers.count < ANSWERS_LIMIT && host->turns.count < TURNS_LIMIT;
 }
 
 static void input(struct host *host, struct client *client, const struct line *line) {
@@ -164,15 +147,9 @@ static void input(struct host *host, struct client *client, const struct line *l
     counts_input(&host->counts, line->process, ssn);
 }
 
-static struct client *consumer(struct host *host) {
-    for (int i = 0; i < CLIENTS; i++)
-        if (host->clients[i].takes_outputs) return &host->clients[i];
-    return NULL;
-}
-
 /* One program alone takes outputs, while it is there: first those that nobody has taken. */
 static void take_outputs(struct host *host, struct client *client, const struct line *line) {
-    struct client *other = consumer(host);
+    struct client *other = clients_consumer(&host->clients);
     if (other && other != client && client_is_gone(other)) {
         other->takes_outputs = false;
         other = NULL;
@@ -193,19 +170,22 @@ static void read_lines(struct host *host, struct client *client) {
     if (!may_read(host)) return;
     client_read(client);
     while (may_read(host) && client_line(client, host->cluster, &line)) {
+        size_t answers = host->answers.count;
         if (line.order == ORDER_INPUT) input(host, client, &line);
         if (line.order == ORDER_OUTPUTS) take_outputs(host, client, &line);
         if (line.order == ORDER_TOOK) took(host, client, &line);
         if (line.order == ORDER_REFUSED) answers_add(&host->answers, client, &line, line.why);
+        if (host->answers.count == answers) client->promised--; /* it has no answer */
     }
 }
 
 static int receive(struct host *host) {
-    int count = 0;
+    int count = 0, most = host->turns.count < TURNS_LIMIT ? TURN : 0;
     size_t size;
-    while (count < TURN && (size = transport_receive(&host->transport, host->packet)) > 0) {
-        uint32_t fault = 0, code = sblog_gateway_receive(&host->gateway, host->packet, size, &fault);
-        if (code == SBLOG_GATEWAY_DONE) pace_hear(&host->pace, host->packet, size, clock_now());
+    const uint8_t *packet;
+    while (count < most && (size = transport_receive(&host->transport, &packet)) > 0) {
+        uint32_t fault = 0, code = sblog_gateway_receive(&host->gateway, packet, size, &fault);
+        if (code == SBLOG_GATEWAY_DONE) turn_hears(&host->heard, packet, size);
         if (code == SBLOG_GATEWAY_BYTES && host->refused++ == 0)
             report("bytes came that are no packet: fault %u; more are counted", fault);
         count++;
@@ -216,7 +196,7 @@ static int receive(struct host *host) {
 /* Outputs are handed out while a program takes them; whether there may be more. */
 static bool hand_out(struct host *host) {
     struct outputs *waiting = &host->waiting;
-    for (int count = 0; consumer(host); count++) {
+    for (int count = 0; clients_consumer(&host->clients); count++) {
         if (count == TURN || outputs_are_full(waiting)) return true;
         struct output *next = outputs_place(waiting);
         uint32_t code = sblog_gateway_output(&host->gateway, &next->process, &next->ssn, next->payload, sizeof next->payload,
@@ -227,53 +207,86 @@ static bool hand_out(struct host *host) {
     return false;
 }
 
-/* All that happened in this turn is durable, in one transaction: so an output that was handed out is, before it is printed. */
+/* Packets that may go when the turn is durable. One that has no memory is lost. */
+static void take_packets(struct host *host, struct turn *turn) {
+    size_t size;
+    uint8_t to;
+    while (sblog_gateway_take(&host->gateway, host->packet, sizeof host->packet, &size, &to) == SBLOG_GATEWAY_DONE)
+        if (!turn_sends(turn, to, host->packet, size)) host->transport.lost++;
+}
+
+/* What depends on this turn waits until that is durable. */
+static int wait_for_disk(struct host *host) {
+    struct answers *answers = &host->answers;
+    struct turn *turn = turn_new(host->store.asked);
+    if (!turn || !bytes_add(&turn->answers, answers->all, answers->count * sizeof *answers->all)) return refused("turn", SBLOG_GATEWAY_MEMORY, 0);
+    answers->count = 0;
+    turn->heard = host->heard;
+    host->heard = (struct bytes){0};
+    turn->outputs = host->waiting.count - host->waiting.written;
+    host->waiting.written = host->waiting.count;
+    take_packets(host, turn);
+    if (turn_is_empty(turn)) turn_end(turn);
+    else turns_put(&host->turns, turn);
+    return STATUS_DONE;
+}
+
+/* All that happened in this turn is one record: so an output that was handed out is durable before it is printed. */
 static int commit(struct host *host) {
     size_t size;
-    struct outputs *waiting = &host->waiting;
     uint32_t code = read_bytes(host, sblog_gateway_changes, &size);
     if (code != SBLOG_GATEWAY_DONE) return refused("changes", code, 0);
-    if (size == 0 && !outputs_have_taken(waiting)) return STATUS_DONE;
     counts_take(&host->counts, host->bytes, size);
-    int status = gateway_store_append(&host->store, host->bytes, size, waiting, size > 0);
-    waiting->stored = waiting->count;
-    outputs_forget(waiting);
+    int status = gateway_store_append(&host->store, host->bytes, size, &host->waiting, size > 0);
+    if (status == STATUS_DONE) status = wait_for_disk(host);
+    outputs_forget(&host->waiting);
     bool is_long = host->store.behind > BEHIND && host->store.behind > host->store.whole;
     return status == STATUS_DONE && is_long ? write_whole(host) : status;
 }
 
-static void answer_lines(struct host *host) {
-    answers_give(&host->answers, host->cluster, !host->options->listen);
-    for (int i = 0; i < CLIENTS; i++) host->clients[i].promised = 0;
-}
-
-static void put_out(struct host *host) {
-    size_t size;
-    uint8_t to;
-    uint64_t now = clock_now();
-    while (sblog_gateway_take(&host->gateway, host->packet, sizeof host->packet, &size, &to) == SBLOG_GATEWAY_DONE)
-        pace_send(&host->pace, to, host->packet, size, now);
-}
-
-/* Outputs are printed that are in the store. On a pipe nobody says what was taken: there a line that was written is taken, before
-   the next is printed; a program that is killed in between prints that one line again. */
-static int print_outputs(struct host *host) {
-    struct client *client = consumer(host);
-    struct outputs *waiting = &host->waiting;
-    bool is_pipe = !host->options->listen;
-    int status = STATUS_DONE;
-    while (status == STATUS_DONE && client && client_is_free(client)) {
-        if (is_pipe && outputs_take_printed(waiting)) status = gateway_store_append(&host->store, NULL, 0, waiting, false);
-        if (status != STATUS_DONE || waiting->printed == waiting->stored) break;
-        const struct output *next = &waiting->all[waiting->printed++];
-        output_print(next, host->cluster->processes[next->process].name, client);
-        host->outputs++;
+/* What is durable goes out, in its order. */
+static int go_on(struct host *host) {
+    uint64_t synced, now = clock_now();
+    int status = gateway_store_synced(&host->store, &synced);
+    struct turn *turn;
+    while (status == STATUS_DONE && (turn = turns_take(&host->turns, synced))) {
+        turn_answers(turn, host->cluster, !host->options->listen);
+        turn_goes(turn, &host->pace, now);
+        outputs_are_stored(&host->waiting, turn->outputs);
+        if (turn->is_tick) host->has_tick = false;
+        turn_end(turn);
     }
-    outputs_forget(waiting);
     return status;
 }
 
-enum { FIGURES = 9 };
+/* On a pipe nobody says what was taken: there a line that was written is taken, before the next is printed; a program that is killed
+   in between prints that one line again. */
+static int note_printed(struct host *host) {
+    if (!outputs_take_printed(&host->waiting)) return STATUS_DONE;
+    int status = gateway_store_append(&host->store, NULL, 0, &host->waiting, false);
+    outputs_forget(&host->waiting);
+    return status;
+}
+
+/* Outputs are printed that are durable. */
+static int print_outputs(struct host *host) {
+    struct client *client = clients_consumer(&host->clients);
+    struct outputs *waiting = &host->waiting;
+    bool is_pipe = !host->options->listen;
+    int status = STATUS_DONE;
+    while (client && (is_pipe ? client_is_free(client) : client_has_room(client))) {
+        if (is_pipe) status = note_printed(host);
+        if (status != STATUS_DONE || waiting->printed == waiting->stored) break;
+        const struct output *next = &waiting->all[waiting->printed++];
+        output_print(next, host->cluster->processes[next->process].name, client);
+        if (is_pipe) client_write(client);
+        host->outputs++;
+    }
+    if (client) client_write(client);
+    return status;
+}
+
+enum { FIGURES = 11 };
 
 static size_t figures(const struct host *host, struct figure out[FIGURES]) {
     uint64_t logged = 0, waiting = 0, shown = 0, clients = 0;
@@ -282,7 +295,7 @@ static size_t figures(const struct host *host, struct figure out[FIGURES]) {
         waiting += counts_waiting(&host->counts, p);
         shown += host->counts.shown[p];
     }
-    for (int i = 0; i < CLIENTS; i++) clients += host->clients[i].out >= 0;
+    for (int i = 0; i < CLIENTS_LIMIT; i++) clients += host->clients.all[i].out >= 0;
     const struct figure all[FIGURES] = {
         {"logged", logged, NULL, "SSN of the last inputs, of those processes that had one since it began"},
         {"waiting", waiting, NULL, "inputs that have no number yet"},
@@ -292,6 +305,8 @@ static size_t figures(const struct host *host, struct figure out[FIGURES]) {
         {"programs", clients, NULL, "programs that hand in inputs or take outputs"},
         {"behind", host->store.behind, NULL, "bytes of changes behind the store"},
         {"refused", host->refused, NULL, "times that bytes came that are no packet"},
+        {"broken", host->transport.broken, NULL, "times that something came that is no bundle"},
+        {"foreign", host->transport.foreign, NULL, "times that a bundle of another cluster came"},
         {"lost", host->transport.lost, NULL, "packets that found no way"},
     };
     memcpy(out, all, sizeof all);
@@ -309,70 +324,49 @@ static void show(struct host *host, uint64_t now) {
     figures_line("gateway", all, count);
 }
 
-/* What isn't answered goes again. */
+/* What isn't answered goes again: inputs among it that may not be durable yet. */
 static void tick(struct host *host, uint64_t now) {
-    size_t size;
-    uint8_t to;
-    int places[PROCESS_LIMIT + 1] = {0};
-    if (now < pace_due(&host->pace)) return;
-    pace_tick_begins(&host->pace, now);
+    struct turn *turn = host->has_tick || now < pace_due(&host->pace) ? NULL : turn_new(host->store.asked);
+    if (!turn) return;
+    turn->is_tick = host->has_tick = true;
     sblog_gateway_tick(&host->gateway);
-    while (sblog_gateway_take(&host->gateway, host->packet, sizeof host->packet, &size, &to) == SBLOG_GATEWAY_DONE)
-        pace_tick_sends(&host->pace, to, host->packet, size, places[to]++, now);
+    take_packets(host, turn);
+    turns_put(&host->turns, turn);
 }
 
-/* Programs whose connection is over go; the loss of standard output ends this one. */
-static int look_after_clients(struct host *host) {
-    for (int i = 0; i < CLIENTS; i++) {
-        struct client *client = &host->clients[i];
-        client_write(client);
-        if (host->options->listen) {
-            if (client_is_over(client) || client_is_done(client)) client_close(client);
-        } else if (client_is_over(client)) {
-            report("standard output is closed");
-            return STATUS_IO;
-        }
-    }
-    return STATUS_DONE;
-}
-
-/* Whether lines were left that can be taken. */
-static bool has_lines(const struct host *host) {
-    if (!may_read(host)) return false;
-    for (int i = 0; i < CLIENTS; i++)
-        if (client_has_line(&host->clients[i])) return true;
-    return false;
+/* What depends on what is durable now. */
+static int give_out(struct host *host) {
+    int status = go_on(host);
+    transport_serve(&host->transport);
+    if (status == STATUS_DONE) status = clients_serve(&host->clients);
+    return status == STATUS_DONE ? print_outputs(host) : status;
 }
 
 static int turn(struct host *host, bool *is_more) {
-    welcome(host);
-    for (int i = 0; i < CLIENTS && !signal_stop; i++) read_lines(host, &host->clients[i]);
+    const struct owner owner = owner_of(host);
+    clients_welcome(&host->clients);
+    for (int i = 0; i < CLIENTS_LIMIT && !signal_stop; i++) read_lines(host, &host->clients.all[i]);
     int received = receive(host);
+    int status = membership_welcome(&owner, &host->folder, &host->ids, &host->transport);
     bool is_cut = hand_out(host);
-    int status = commit(host);
+    if (status == STATUS_DONE) status = commit(host);
     if (status != STATUS_DONE) return status;
-    answer_lines(host);
-    put_out(host);
-    transport_serve(&host->transport);
-    status = look_after_clients(host);
-    if (status == STATUS_DONE) status = print_outputs(host);
     uint64_t now = clock_now();
     tick(host, now);
+    status = give_out(host);
     show(host, now);
-    *is_more = received == TURN || has_lines(host) || (is_cut && !outputs_are_full(&host->waiting));
+    *is_more = received == TURN || (may_read(host) && clients_have_lines(&host->clients)) || (is_cut && !outputs_are_full(&host->waiting));
     return status;
 }
 
 static void wait(struct host *host, bool is_more) {
     struct watch watch;
-    watch_begin(&watch, is_more ? 0 : pace_due(&host->pace));
+    watch_begin(&watch, is_more ? 0 : host->has_tick ? UINT64_MAX : pace_due(&host->pace));
+    watch_file(&watch, host->store.syncer.event, POLLIN);
     if (host->options->status) watch_time(&watch, host->next_status);
-    transport_watch(&host->transport, &watch);
+    if (host->turns.count < TURNS_LIMIT) transport_watch(&host->transport, &watch);
     metrics_watch(&host->metrics, &watch);
-    watch_file(&watch, host->listener, POLLIN);
-    bool prints = host->waiting.printed < host->waiting.stored;
-    for (int i = 0; i < CLIENTS; i++)
-        client_watch(&host->clients[i], may_read(host), prints && host->clients[i].takes_outputs, &watch);
+    clients_watch(&host->clients, may_read(host), host->waiting.printed < host->waiting.stored, &watch);
     watch_wait(&watch);
 }
 
@@ -387,9 +381,11 @@ int gateway_run(const struct options *options, const struct cluster *cluster) {
         status = turn(&host, &is_more);
         if (status == STATUS_DONE && !signal_stop) wait(&host, is_more);
     }
+    gateway_store_rest(&host.store);
+    if (status == STATUS_DONE) status = give_out(&host);
     transport_close(&host.transport);
     metrics_close(&host.metrics);
     gateway_store_close(&host.store);
-    if (host.listener >= 0 && options->listen) unlink(options->listen);
+    clients_close(&host.clients);
     return status;
 }

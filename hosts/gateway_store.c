@@ -1,158 +1,268 @@
 #include "gateway_store.h"
 
+#include "checksum.h"
 #include "report.h"
 
-#include <sqlite3.h>
-#include <stdio.h>
+#include <errno.h>
+#include <fcntl.h>
 #include <stdlib.h>
 #include <string.h>
+#include <unistd.h>
 
-enum { PATH_LIMIT = 4096, PATIENCE = 2000 }; /* milliseconds for one that reads the database */
+/* Where the store begins; bytes that are written before they are used, at once. */
+enum { BLOCK = 4096, AHEAD = 1 << 20 };
 
-static const char TABLES[] =
-    "CREATE TABLE IF NOT EXISTS store(id INTEGER PRIMARY KEY CHECK(id = 1), bytes BLOB NOT NULL);"
-    "CREATE TABLE IF NOT EXISTS changes(id INTEGER PRIMARY KEY, bytes BLOB NOT NULL);"
-    "CREATE TABLE IF NOT EXISTS outputs(process INTEGER, ssn INTEGER, place INTEGER NOT NULL, bytes BLOB NOT NULL,"
-    " PRIMARY KEY(process, ssn)) WITHOUT ROWID;";
+static const char *const NAMES[2] = {"gateway.0", "gateway.1"}, *const BEFORE = "gateway.sqlite", MAGIC[] = "SBL1";
 
-static int failed(const struct gateway_store *store) {
-    report("%s/gateway.sqlite: %s", store->folder, store->database ? sqlite3_errmsg(store->database) : "there is no memory");
+/* A head: MAGIC, the checksum of all after it and of what it is the head of, the generation, bytes of the store, bytes of the items
+   behind it. */
+enum { CHECKSUM = 4, GENERATION = 8, STORE = 16, ITEMS = 24, HEAD = 32, WORD = 8, HALF = 4 };
+
+/* A record: bytes of its items, the checksum of generation, place, that length and the items. */
+enum { RECORD = 8 };
+
+/* Items: changes after their length; an output, which was handed out; that those of a process are taken up to an SSN. */
+enum item { CHANGES = 1, OUTPUT, TAKEN };
+enum { CHANGES_HEAD = 5, OUTPUT_HEAD = 12, TAKEN_SIZE = 10, OUTPUT_SIZE = 2 };
+
+static int failed(const struct gateway_store *store, int which) {
+    report_fault("%s/%s", store->folder->path, NAMES[which]);
     return STATUS_IO;
 }
 
-static bool does(struct gateway_store *store, const char *order) {
-    return sqlite3_exec(store->database, order, NULL, NULL, NULL) == SQLITE_OK;
+static int lacks_memory(const struct gateway_store *store) {
+    report("%s: there is no memory", store->folder->path);
+    return STATUS_MEMORY;
 }
 
-static bool prepares(struct gateway_store *store, const char *order, sqlite3_stmt **statement) {
-    return sqlite3_prepare_v2(store->database, order, -1, statement, NULL) == SQLITE_OK;
-}
-
-/* The blobs of a query, one behind the other. */
-static bool read_blobs(struct gateway_store *store, const char *query, struct bytes *all) {
-    sqlite3_stmt *rows = NULL;
-    bool is_there = prepares(store, query, &rows);
-    int step = SQLITE_DONE;
-    while (is_there && (step = sqlite3_step(rows)) == SQLITE_ROW) {
-        size_t size = (size_t)sqlite3_column_bytes(rows, 0);
-        uint8_t *more = realloc(all->at, all->size + size + 1);
-        is_there = more != NULL;
-        if (!more) break;
-        all->at = more;
-        if (size > 0) memcpy(more + all->size, sqlite3_column_blob(rows, 0), size);
-        all->size += size;
+static bool write_at(int file, const uint8_t *bytes, size_t size, uint64_t at) {
+    while (size > 0) {
+        errno = 0; /* a write of nothing tells none */
+        ssize_t count = pwrite(file, bytes, size, (off_t)at);
+        if (count < 0 && errno == EINTR) continue;
+        if (count <= 0) return false;
+        bytes += count;
+        at += (uint64_t)count;
+        size -= (size_t)count;
     }
-    sqlite3_finalize(rows);
-    return is_there && step == SQLITE_DONE;
+    return true;
 }
 
-/* The outputs that nobody has taken, in the order in which they were handed out. */
-static bool read_outputs(struct gateway_store *store, struct outputs *outputs) {
-    sqlite3_stmt *rows = NULL;
-    bool is_there = prepares(store, "SELECT process, ssn, place, bytes FROM outputs ORDER BY place", &rows);
-    int step = SQLITE_DONE;
-    while (is_there && (step = sqlite3_step(rows)) == SQLITE_ROW && !outputs_are_full(outputs)) {
-        struct output *output = outputs_place(outputs);
-        output->process = (uint8_t)sqlite3_column_int(rows, 0);
-        output->ssn = (uint64_t)sqlite3_column_int64(rows, 1);
-        store->place = sqlite3_column_int64(rows, 2);
-        output->size = (size_t)sqlite3_column_bytes(rows, 3);
-        is_there = output->process >= 1 && output->process <= PROCESS_LIMIT && output->size <= PAYLOAD_LIMIT;
-        if (!is_there) break;
-        if (output->size > 0) memcpy(output->payload, sqlite3_column_blob(rows, 3), output->size);
-        outputs_add(outputs);
+static bool has_room(struct gateway_store *store, int which, uint64_t end) {
+    static const uint8_t zeros[AHEAD];
+    while (store->room[which] < end) {
+        if (!write_at(store->files[which], zeros, sizeof zeros, store->room[which])) return false;
+        store->room[which] += sizeof zeros;
     }
-    outputs->stored = outputs->count;
-    sqlite3_finalize(rows);
-    return is_there && step == SQLITE_DONE;
+    return true;
 }
 
-static bool set_synced(struct gateway_store *store, bool synced) {
-    if (store->synced == (int)synced) return true;
-    store->synced = synced;
-    return does(store, synced ? "PRAGMA synchronous = FULL" : "PRAGMA synchronous = NORMAL");
+static bool add_changes(struct bytes *items, const uint8_t *changes, size_t size) {
+    uint8_t head[CHANGES_HEAD] = {CHANGES};
+    if (size == 0) return true;
+    number_put(head + 1, size, HALF);
+    return bytes_add(items, head, sizeof head) && bytes_add(items, changes, size);
 }
 
-int gateway_store_open(struct gateway_store *store, const char *folder, struct bytes *whole, struct bytes *changes,
-                       struct outputs *outputs) {
-    char path[PATH_LIMIT];
-    *store = (struct gateway_store){.folder = folder, .synced = -1};
-    *whole = *changes = (struct bytes){0};
-    snprintf(path, sizeof path, "%s/gateway.sqlite", folder);
-    int ways = SQLITE_OPEN_READWRITE | SQLITE_OPEN_CREATE;
-    if (sqlite3_open_v2(path, &store->database, ways, NULL) != SQLITE_OK) return failed(store);
-    sqlite3_busy_timeout(store->database, PATIENCE);
-    bool is_open = does(store, "PRAGMA journal_mode = WAL") && set_synced(store, true) && does(store, TABLES) &&
-                   read_blobs(store, "SELECT bytes FROM store", whole) &&
-                   read_blobs(store, "SELECT bytes FROM changes ORDER BY id", changes) &&
-                   read_outputs(store, outputs) && prepares(store, "BEGIN IMMEDIATE", &store->begin) && prepares(store, "COMMIT", &store->commit) &&
-                   prepares(store, "INSERT INTO changes(bytes) VALUES(?)", &store->append) &&
-                   prepares(store, "INSERT INTO outputs VALUES(?, ?, ?, ?)", &store->hand_out) &&
-                   prepares(store, "DELETE FROM outputs WHERE process = ? AND ssn <= ?", &store->forget);
-    store->whole = whole->size;
-    store->behind = changes->size;
-    return is_open ? STATUS_DONE : failed(store);
-}
-
-/* A statement is carried out, and may be bound anew. */
-static bool carries_out(sqlite3_stmt *statement) {
-    bool is_done = sqlite3_step(statement) == SQLITE_DONE;
-    return sqlite3_reset(statement) == SQLITE_OK && is_done;
-}
-
-static bool appends(struct gateway_store *store, const uint8_t *changes, size_t size) {
-    return size == 0 || (sqlite3_bind_blob64(store->append, 1, changes, size, SQLITE_STATIC) == SQLITE_OK && carries_out(store->append));
-}
-
-static bool hands_out(struct gateway_store *store, const struct outputs *outputs) {
-    sqlite3_stmt *put = store->hand_out;
-    for (size_t i = outputs->stored; i < outputs->count; i++) {
+static bool add_outputs(struct bytes *items, const struct outputs *outputs, size_t from) {
+    for (size_t i = from; i < outputs->count; i++) {
         const struct output *output = &outputs->all[i];
-        bool is_bound = sqlite3_bind_int(put, 1, output->process) == SQLITE_OK &&
-                        sqlite3_bind_int64(put, 2, (int64_t)output->ssn) == SQLITE_OK &&
-                        sqlite3_bind_int64(put, 3, ++store->place) == SQLITE_OK &&
-                        sqlite3_bind_blob64(put, 4, output->payload, output->size, SQLITE_STATIC) == SQLITE_OK;
-        if (!is_bound || !carries_out(put)) return false;
+        uint8_t head[OUTPUT_HEAD] = {OUTPUT, output->process};
+        number_put(head + 2, output->ssn, WORD);
+        number_put(head + OUTPUT_HEAD - OUTPUT_SIZE, output->size, OUTPUT_SIZE);
+        if (!bytes_add(items, head, sizeof head) || !bytes_add(items, output->payload, output->size)) return false;
     }
     return true;
 }
 
-static bool forgets(struct gateway_store *store, const struct outputs *outputs) {
+static bool add_taken(struct bytes *items, const struct outputs *outputs) {
     for (int p = 1; p <= PROCESS_LIMIT; p++) {
-        if (outputs->taken[p] == 0) continue;
-        bool is_bound = sqlite3_bind_int(store->forget, 1, p) == SQLITE_OK &&
-                        sqlite3_bind_int64(store->forget, 2, (int64_t)outputs->taken[p]) == SQLITE_OK;
-        if (!is_bound || !carries_out(store->forget)) return false;
+        uint8_t item[TAKEN_SIZE] = {TAKEN, (uint8_t)p};
+        number_put(item + 2, outputs->taken[p], WORD);
+        if (outputs->taken[p] > 0 && !bytes_add(items, item, sizeof item)) return false;
     }
     return true;
 }
 
-int gateway_store_append(struct gateway_store *store, const uint8_t *changes, size_t size, const struct outputs *outputs,
-                         bool synced) {
-    bool is_stored = set_synced(store, synced) && carries_out(store->begin) && appends(store, changes, size) &&
-                     hands_out(store, outputs) && forgets(store, outputs) && carries_out(store->commit);
-    store->behind += size;
-    return is_stored ? STATUS_DONE : failed(store);
+/* Of items whose front says so: generation, place and length of a record. */
+static uint32_t record_checksum(uint64_t generation, uint64_t at, const uint8_t *items, size_t size) {
+    uint8_t front[2 * WORD + HALF];
+    number_put(front, generation, WORD);
+    number_put(front + WORD, at, WORD);
+    number_put(front + 2 * WORD, size, HALF);
+    return checksum(checksum(0, front, sizeof front), items, size);
 }
 
-int gateway_store_replace(struct gateway_store *store, const uint8_t *whole, size_t size) {
-    sqlite3_stmt *put = NULL;
-    bool is_stored = set_synced(store, true) && does(store, "BEGIN IMMEDIATE") &&
-                     prepares(store, "REPLACE INTO store(id, bytes) VALUES(1, ?)", &put) &&
-                     sqlite3_bind_blob64(put, 1, whole, size, SQLITE_STATIC) == SQLITE_OK && sqlite3_step(put) == SQLITE_DONE &&
-                     does(store, "DELETE FROM changes");
-    sqlite3_finalize(put);
-    is_stored = is_stored && does(store, "COMMIT");
+int gateway_store_append(struct gateway_store *store, const uint8_t *changes, size_t size, const struct outputs *outputs, bool synced) {
+    static const uint8_t zeros[RECORD];
+    int which = (int)(store->generation % 2);
+    struct bytes *record = &store->record;
+    record->size = 0;
+    bool is_there = bytes_add(record, zeros, RECORD) && add_changes(record, changes, size) &&
+                    add_outputs(record, outputs, outputs->written) && add_taken(record, outputs);
+    if (!is_there) return lacks_memory(store);
+    if (record->size == RECORD) return STATUS_DONE;
+    size_t items = record->size - RECORD;
+    number_put(record->at, items, HALF);
+    number_put(record->at + HALF, record_checksum(store->generation, store->at, record->at + RECORD, items), HALF);
+    uint64_t end = store->at + record->size;
+    if (!has_room(store, which, end) || !write_at(store->files[which], record->at, record->size, store->at)) return failed(store, which);
+    store->at = end;
+    store->behind += size;
+    if (synced) store->asked = syncer_ask(&store->syncer);
+    return STATUS_DONE;
+}
+
+static uint32_t head_checksum(const uint8_t *head, const uint8_t *body, size_t size) {
+    return checksum(checksum(0, head + GENERATION, HEAD - GENERATION), body, size);
+}
+
+/* Body, then head, each durable before what follows. */
+static bool write_file(struct gateway_store *store, int which, const uint8_t *head, const struct bytes *body) {
+    bool is_new = store->files[which] < 0;
+    if (is_new) store->files[which] = openat(store->folder->folder, NAMES[which], O_RDWR | O_CREAT | O_TRUNC | O_CLOEXEC, 0600);
+    int file = store->files[which];
+    return file >= 0 && has_room(store, which, BLOCK + body->size) && write_at(file, body->at, body->size, BLOCK) &&
+           fdatasync(file) == 0 && write_at(file, head, HEAD, 0) && fdatasync(file) == 0 &&
+           (!is_new || fsync(store->folder->folder) == 0);
+}
+
+int gateway_store_replace(struct gateway_store *store, const uint8_t *whole, size_t size, const struct outputs *outputs) {
+    uint64_t generation = store->generation + 1;
+    int which = (int)(generation % 2);
+    uint8_t head[HEAD];
+    struct bytes *body = &store->record;
+    body->size = 0;
+    if (!bytes_add(body, whole, size) || !add_outputs(body, outputs, 0)) return lacks_memory(store);
+    memcpy(head, MAGIC, CHECKSUM);
+    number_put(head + GENERATION, generation, WORD);
+    number_put(head + STORE, size, WORD);
+    number_put(head + ITEMS, body->size - size, WORD);
+    number_put(head + CHECKSUM, head_checksum(head, body->at, body->size), HALF);
+    if (!write_file(store, which, head, body)) return failed(store, which);
+    store->generation = generation;
+    store->at = BLOCK + body->size;
     store->whole = size;
     store->behind = 0;
-    return is_stored ? STATUS_DONE : failed(store);
+    syncer_turns_to(&store->syncer, store->files[which]);
+    return STATUS_DONE;
 }
 
+/* Takes in one item; how many bytes it has, 0 for what is none. */
+static size_t read_item(const uint8_t *item, size_t left, struct bytes *changes, struct outputs *outputs) {
+    size_t size = left < CHANGES_HEAD ? 0 : number_at(item + 1, HALF);
+    if (item[0] == CHANGES && size > 0 && size <= left - CHANGES_HEAD)
+        return bytes_add(changes, item + CHANGES_HEAD, size) ? CHANGES_HEAD + size : 0;
+    if (left < TAKEN_SIZE || item[1] < 1 || item[1] > PROCESS_LIMIT) return 0;
+    uint64_t ssn = number_at(item + 2, WORD);
+    if (item[0] == TAKEN) {
+        outputs->taken[item[1]] = ssn;
+        outputs_forget(outputs);
+        return TAKEN_SIZE;
+    }
+    if (item[0] != OUTPUT || left < OUTPUT_HEAD || outputs_are_full(outputs)) return 0;
+    size = number_at(item + OUTPUT_HEAD - OUTPUT_SIZE, OUTPUT_SIZE);
+    if (size > PAYLOAD_LIMIT || size > left - OUTPUT_HEAD) return 0;
+    struct output *output = outputs_place(outputs);
+    *output = (struct output){.process = item[1], .ssn = ssn, .size = size};
+    memcpy(output->payload, item + OUTPUT_HEAD, size);
+    outputs_add(outputs);
+    return OUTPUT_HEAD + size;
+}
+
+static bool read_items(const uint8_t *items, size_t size, struct bytes *changes, struct outputs *outputs) {
+    size_t one = 1;
+    while (size > 0 && (one = read_item(items, size, changes, outputs)) > 0) {
+        items += one;
+        size -= one;
+    }
+    return one > 0;
+}
+
+/* The records behind a store, as far as they are whole. */
+static bool read_records(const struct gateway_store *store, const uint8_t *all, size_t length, struct bytes *changes,
+                         struct outputs *outputs) {
+    uint64_t at = store->at;
+    while (at + RECORD <= length) {
+        size_t size = number_at(all + at, HALF);
+        const uint8_t *items = all + at + RECORD;
+        if (size == 0 || size > length - at - RECORD) return true;
+        if (number_at(all + at + HALF, HALF) != record_checksum(store->generation, at, items, size)) return true;
+        if (!read_items(items, size, changes, outputs)) return false;
+        at += RECORD + size;
+    }
+    return true;
+}
+
+/* The generation of a file that was written whole; 0 of another one. */
+static uint64_t generation_of(const uint8_t *all, size_t length) {
+    if (!all || length < BLOCK || memcmp(all, MAGIC, CHECKSUM) != 0) return 0;
+    uint64_t size = number_at(all + STORE, WORD), items = number_at(all + ITEMS, WORD), most = length - BLOCK;
+    if (size > most || items > most - size) return 0;
+    return number_at(all + CHECKSUM, HALF) == head_checksum(all, all + BLOCK, size + items) ? number_at(all + GENERATION, WORD) : 0;
+}
+
+/* The last file that is whole; a status. */
+static int read_last(struct gateway_store *store, uint8_t *const all[2], const size_t lengths[2], struct bytes *whole,
+                     struct bytes *changes, struct outputs *outputs) {
+    uint64_t generations[2] = {generation_of(all[0], lengths[0]), generation_of(all[1], lengths[1])};
+    int last = generations[1] > generations[0];
+    if (generations[last] == 0) return STATUS_DONE;
+    const uint8_t *file = all[last];
+    size_t size = number_at(file + STORE, WORD), items = number_at(file + ITEMS, WORD);
+    store->generation = generations[last];
+    store->at = BLOCK + size + items;
+    bool is_read = bytes_add(whole, file + BLOCK, size) && read_items(file + BLOCK + size, items, changes, outputs) &&
+                   read_records(store, file, lengths[last], changes, outputs);
+    outputs->written = outputs->count;
+    outputs_are_stored(outputs, outputs->count);
+    if (is_read) return STATUS_DONE;
+    report("%s/%s holds what no gateway wrote", store->folder->path, NAMES[last]);
+    return STATUS_STORE;
+}
+
+static int open_files(struct gateway_store *store, uint8_t *all[2], size_t lengths[2]) {
+    if (faccessat(store->folder->folder, BEFORE, F_OK, 0) == 0) {
+        report("%s/%s is of another version of this program", store->folder->path, BEFORE);
+        return STATUS_STORE;
+    }
+    for (int i = 0; i < 2; i++) {
+        int status = store_read(store->folder, NAMES[i], &all[i], &lengths[i]);
+        if (status != STATUS_DONE) return status;
+        if (!all[i]) continue;
+        store->files[i] = openat(store->folder->folder, NAMES[i], O_RDWR | O_CLOEXEC);
+        store->room[i] = lengths[i];
+        if (store->files[i] < 0) return failed(store, i);
+    }
+    return STATUS_DONE;
+}
+
+int gateway_store_open(struct gateway_store *store, const struct store *folder, struct bytes *whole, struct bytes *changes,
+                       struct outputs *outputs) {
+    uint8_t *all[2] = {NULL, NULL};
+    size_t lengths[2] = {0, 0};
+    *store = (struct gateway_store){.folder = folder, .files = {-1, -1}};
+    int status = open_files(store, all, lengths);
+    if (status == STATUS_DONE) status = read_last(store, all, lengths, whole, changes, outputs);
+    free(all[0]);
+    free(all[1]);
+    if (status != STATUS_DONE || syncer_begin(&store->syncer)) return status;
+    report_fault("%s: there is no thread", folder->path);
+    return STATUS_MEMORY;
+}
+
+int gateway_store_synced(struct gateway_store *store, uint64_t *synced) {
+    int fault;
+    *synced = syncer_synced(&store->syncer, &fault);
+    if (!fault) return STATUS_DONE;
+    errno = fault;
+    return failed(store, (int)(store->generation % 2));
+}
+
+void gateway_store_rest(struct gateway_store *store) { syncer_end(&store->syncer); }
+
 void gateway_store_close(struct gateway_store *store) {
-    sqlite3_finalize(store->begin);
-    sqlite3_finalize(store->commit);
-    sqlite3_finalize(store->append);
-    sqlite3_finalize(store->hand_out);
-    sqlite3_finalize(store->forget);
-    sqlite3_close(store->database);
+    bytes_end(&store->record);
+    for (int i = 0; i < 2; i++)
+        if (store->files[i] >= 0) close(store->files[i]);
 }

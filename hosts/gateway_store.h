@@ -1,40 +1,47 @@
-/* What the gateway keeps: a store, behind it the changes since, and the outputs that nobody has taken, in an SQLite database. */
+/* What the gateway keeps: a store, behind it the changes since, and the outputs that nobody has taken. Two files of its folder, which
+   are written in turn: a head, the store, and behind them a record for each turn (docs/FORMATS.md, "Log of the gateway"). What was
+   written outlives a kill of the program, and a loss of power once it is synced, which a thread waits for. */
 #ifndef GATEWAY_STORE_H
 #define GATEWAY_STORE_H
 
+#include "bytes.h"
 #include "outputs.h"
+#include "store.h"
+#include "syncer.h"
 
 #include <stdbool.h>
 #include <stddef.h>
 #include <stdint.h>
 
 struct gateway_store {
-    const char *folder;
-    struct sqlite3 *database;
-    struct sqlite3_stmt *begin, *append, *hand_out, *forget, *commit;
-    int64_t place;        /* of the last output */
+    const struct store *folder;
+    int files[2]; /* -1: none */
+    uint64_t room[2];     /* bytes of each file that were written once, so that a sync has no more to write than what changed */
+    uint64_t generation;  /* of the file that is written now, which is file generation % 2 */
+    uint64_t at;          /* where its next record goes */
     size_t whole, behind; /* bytes of the store, and of the changes behind it */
-    int synced;           /* whether transactions wait for the disk: 1, 0, or -1 where that isn't set yet */
+    uint64_t asked;       /* the last sync that was asked for */
+    struct syncer syncer;
+    struct bytes record;
 };
 
-/* Bytes in memory of their own. */
-struct bytes {
-    uint8_t *at;
-    size_t size;
-};
-
-/* Opens the database, and makes it where there is none; a status, and why is reported. No store is null. */
-int gateway_store_open(struct gateway_store *store, const char *folder, struct bytes *whole, struct bytes *changes,
+/* Reads what there is; a status, and why is reported. No store is null. */
+int gateway_store_open(struct gateway_store *store, const struct store *folder, struct bytes *whole, struct bytes *changes,
                        struct outputs *outputs);
 
-/* One transaction: changes are behind the others, outputs that aren't stored yet are, and those that are taken go. Where it is
-   synced, that outlives a loss of power, else a kill of the program. */
-int gateway_store_append(struct gateway_store *store, const uint8_t *changes, size_t size, const struct outputs *outputs,
-                         bool synced);
+/* One record: changes are behind the others, outputs that have none yet are in it, and those that are taken go. Where it is to be
+   synced, store->asked tells when it is; without changes it may be lost with the power. */
+int gateway_store_append(struct gateway_store *store, const uint8_t *changes, size_t size, const struct outputs *outputs, bool synced);
 
-/* One transaction, synced: a whole store, and no changes. Outputs stay. */
-int gateway_store_replace(struct gateway_store *store, const uint8_t *whole, size_t size);
+/* A whole store and the outputs that nobody has taken, in place of all before. It is durable when this answers, and so is all that
+   was appended. */
+int gateway_store_replace(struct gateway_store *store, const uint8_t *whole, size_t size, const struct outputs *outputs);
 
+/* Up to which sync all is durable; a status. */
+int gateway_store_synced(struct gateway_store *store, uint64_t *synced);
+
+/* Waits until all is durable that was asked for; nothing is asked for from then on. */
+void gateway_store_rest(struct gateway_store *store);
 void gateway_store_close(struct gateway_store *store);
 
 #endif

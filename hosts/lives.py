@@ -17,6 +17,47 @@ class Wrong(Exception):
     """What a cluster is not to do."""
 
 
+def bundle(cluster, sender, receiver, *packets):
+    """Packets as they go between programs of a cluster of this id (docs/FORMATS.md)."""
+    head = b"SBB1" + bytes([sender, receiver]) + struct.pack("<H", len(packets)) + cluster
+    return head + b"".join(struct.pack("<H", len(packet)) + packet for packet in packets)
+
+
+def crc32c(data):
+    rest = 0xFFFFFFFF
+    for byte in data:
+        rest ^= byte
+        for _ in range(8):
+            rest = rest >> 1 ^ (0x82F63B78 if rest & 1 else 0)
+    return rest ^ 0xFFFFFFFF
+
+
+def slot(number, data, room=1 << 16):
+    """One of the two that the file `kept` has."""
+    head = struct.pack("<QQ", number, len(data))
+    return (b"SBS1" + struct.pack("<I", crc32c(head + data)) + head + data).ljust(room, b"\0")
+
+
+def last_of(kept):
+    """The bytes of the last whole slot."""
+    found = {}
+    for at in (0, len(kept) // 2):
+        number, size = struct.unpack_from("<QQ", kept, at + 8)
+        data = kept[at + 24:at + 24 + size]
+        if slot(number, data, 0) == kept[at:at + 24 + size]:
+            found[number] = data
+    return found[max(found)]
+
+
+HELLO, OFFER, JOIN, WELCOME, REFUSAL = range(1, 6)
+
+
+def greeting(word, process, cluster, store):
+    """What a process with a new store and the gateway say to each other."""
+    text = b"SBH1" + bytes([word, process, 0, 0]) + cluster + store
+    return text + struct.pack("<I", crc32c(text))
+
+
 running = set()
 
 
@@ -115,10 +156,16 @@ class Program:
             if self.child.poll() is not None or time.monotonic() > until:
                 raise Wrong(f"{self.name} isn't up: {self.said[-3:]}, status {self.child.poll()}")
 
+    def id(self, line="cluster-id"):
+        """The id of its cluster, or of a store, as its store has it; none while it has none."""
+        with open(os.path.join(self.store, "identity")) as file:
+            found = re.search(rf"(?m)^{line} ([0-9a-f]{{32}})$", file.read())
+        return bytes.fromhex(found[1]) if found else None
+
     def kept(self):
         """State and number of messages of the stored checkpoint (docs/FORMATS.md)."""
         with open(os.path.join(self.store, "kept"), "rb") as file:
-            data = file.read()
+            data = last_of(file.read())
         count, size = data[5], struct.unpack_from("<H", data, 6)[0]
         at = 16 + 8 * count
         return data[at:at + size], struct.unpack_from("<Q", data, 8)[0]

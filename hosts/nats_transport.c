@@ -1,5 +1,5 @@
 /* Subjects of a NATS server, which does routing, reconnection and TLS. A thread of the client's library hands what comes to a
-   pair of datagram sockets, from which it is taken like any other packet. */
+   pair of sockets, from which it is taken like any other frame. */
 #include "report.h"
 #include "transport.h"
 
@@ -12,7 +12,7 @@
 #include <string.h>
 #include <sys/socket.h>
 
-enum { SUBJECT_LIMIT = 2 * NAME_LIMIT, AGAIN = 100, STASH = 1 << 20 }; /* milliseconds; bytes */
+enum { SUBJECT_LIMIT = 2 * NAME_LIMIT, AGAIN = 100, STASH = 1 << 20, BUFFER = 1 << 21 }; /* milliseconds; bytes */
 
 /* One connection for each server that is named. */
 struct nats_link {
@@ -67,9 +67,18 @@ static struct nats_link *link_to(struct transport *transport, const char *url) {
 static void arrived(natsConnection *connection, natsSubscription *subscription, natsMsg *message, void *socket) {
     (void)connection, (void)subscription;
     int size = natsMsg_GetDataLength(message);
-    if (size > 0 && size <= PACKET_LIMIT)
+    if (size > 0 && size <= FRAME_LIMIT)
         send((int)(intptr_t)socket, natsMsg_GetData(message), (size_t)size, MSG_NOSIGNAL);
     natsMsg_Destroy(message);
+}
+
+/* The end to read from, and through other that to write to; -1. */
+static int pair_open(int *other) {
+    int pair[2], size = BUFFER;
+    if (socketpair(AF_UNIX, SOCK_SEQPACKET | SOCK_CLOEXEC, 0, pair) != 0) return -1;
+    setsockopt(pair[1], SOL_SOCKET, SO_SNDBUF, &size, sizeof size);
+    *other = pair[1];
+    return pair[0];
 }
 
 static int nats_open(struct transport *transport, const struct address *own) {
@@ -98,12 +107,13 @@ void nats_serve(struct transport *transport, struct way *way) {
     char subject[SUBJECT_LIMIT];
     if (!way->link) way->link = link_to(transport, way->address->where);
     snprintf(subject, sizeof subject, "sblog.%s.%d", transport->cluster->name, (int)(way - transport->ways));
-    while (way->queue.count > 0) {
-        const struct waiting *first = way->queue.first;
+    while (way->first) {
+        size_t size;
+        const uint8_t *frame = way_first(way, &size);
         natsStatus status = NATS_NO_SERVER;
-        if (way->link) status = natsConnection_Publish(way->link->connection, subject, first->bytes, (int)first->size);
-        if (status != NATS_OK) transport->lost++;
-        queue_drop(&way->queue);
+        if (way->link) status = natsConnection_Publish(way->link->connection, subject, frame, (int)size);
+        if (status != NATS_OK) transport->lost += (uint64_t)way->first->count;
+        way_drop(way);
     }
 }
 
@@ -116,10 +126,10 @@ static int nats_open(struct transport *transport, const struct address *own) {
 }
 
 void nats_serve(struct transport *transport, struct way *way) {
-    transport->lost += way->queue.count;
-    queue_clear(&way->queue);
+    transport->lost += way->count;
+    while (way->first) way_drop(way);
 }
 
 #endif
 
-const struct inlet nats_inlet = {nats_open, pair_receive, pair_watch};
+const struct inlet nats_inlet = {nats_open, datagram_receive, datagram_watch, NULL};

@@ -2,8 +2,11 @@
 
 #include "figures.h"
 #include "hash.h"
+#include "limits.h"
+#include "membership.h"
 #include "pace.h"
 #include "report.h"
+#include "slots.h"
 #include "store.h"
 #include "transport.h"
 
@@ -14,11 +17,8 @@
 #include <stdlib.h>
 #include <string.h>
 
-/* The limits that a node is opened with (docs/CLUSTER.md). */
-enum { PAGE = 60000, TICK = 8, NUMBERS = 256, RECEIPTS = 65536 };
-
 /* Messages of a turn; microseconds of a second; the longest pause between ticks, in ticks; what a checkpoint takes at first. */
-enum { TURN = 64, REPLAYS = 1024, SECOND = 1000000, PAUSE = 32, ROOM = 4096 };
+enum { TURN = 512, REPLAYS = 1024, SECOND = 1000000, PAUSE = 32, ROOM = 4096 };
 
 static const char *const STAGES[] = {"up", "busy", "frozen", "collecting", "replaying", "resuming"};
 
@@ -28,6 +28,8 @@ struct host {
     const struct options *options;
     const struct cluster *cluster;
     struct store store;
+    struct ids ids;
+    struct slots slots;
     struct transport transport;
     struct pace pace;
     struct metrics metrics;
@@ -89,7 +91,7 @@ static int keep(struct host *host) {
     uint32_t code = freeze(host, &size);
     if (code == SBLOG_NODE_UNREADY || code == SBLOG_NODE_MEMORY) return STATUS_DONE;
     if (code != SBLOG_NODE_DONE) return refused("checkpoint", code, 0);
-    int status = store_write(&host->store, KEPT, host->bytes, size);
+    int status = slots_write(&host->slots, host->bytes, size);
     if (status != STATUS_DONE) return status;
     host->checkpoints++;
     code = sblog_node_saved(&host->node);
@@ -101,7 +103,7 @@ static int keep(struct host *host) {
 static int judge_new(struct host *host, size_t size) {
     uint8_t *kept;
     size_t kept_size;
-    int status = store_read(&host->store, KEPT, &kept, &kept_size);
+    int status = slots_open(&host->slots, &host->store, &kept, &kept_size);
     bool is_new = !kept || (kept_size == size && !memcmp(kept, host->bytes, size));
     free(kept);
     if (status != STATUS_DONE || is_new) return status;
@@ -109,7 +111,8 @@ static int judge_new(struct host *host, size_t size) {
     return STATUS_STORE;
 }
 
-/* The first life: what it begins with is durable, then the incarnation, then whose it is; and then it begins. */
+/* The first life: what it begins with is durable, then the incarnation, then whose it is, and the id of the store; and then it
+   begins. */
 static int begin_new(struct host *host, const struct owner *owner, uint64_t incarnation) {
     size_t size;
     if (incarnation > 1) {
@@ -121,9 +124,10 @@ static int begin_new(struct host *host, const struct owner *owner, uint64_t inca
     if (code != SBLOG_NODE_DONE) return refused("open", code, 0);
     if ((code = freeze(host, &size)) != SBLOG_NODE_DONE) return refused("checkpoint", code, 0);
     int status = judge_new(host, size);
-    if (status == STATUS_DONE) status = store_write(&host->store, KEPT, host->bytes, size);
+    if (status == STATUS_DONE) status = slots_write(&host->slots, host->bytes, size);
     if (status == STATUS_DONE) status = store_write_incarnation(&host->store, 1);
-    if (status == STATUS_DONE) status = store_claim(&host->store, owner);
+    if (status == STATUS_DONE) status = id_draw(&host->ids.stores[owner->me]);
+    if (status == STATUS_DONE) status = store_claim(&host->store, owner, &host->ids);
     if (status != STATUS_DONE) return status;
     code = sblog_node_saved(&host->node);
     return code == SBLOG_NODE_DONE ? STATUS_DONE : refused("saved", code, 0);
@@ -134,7 +138,7 @@ static int begin_again(struct host *host, const struct owner *owner, uint64_t in
     uint8_t *kept;
     size_t size;
     uint32_t fault = 0;
-    int status = store_read(&host->store, KEPT, &kept, &size);
+    int status = slots_open(&host->slots, &host->store, &kept, &size);
     if (status != STATUS_DONE) return status;
     if (!kept || incarnation == 0) {
         report("%s: the file %s is missing", host->options->store, kept ? "incarnation" : KEPT);
@@ -158,14 +162,15 @@ static int begin(struct host *host) {
     int status = read_image(host);
     if (status != STATUS_DONE) return status;
     hash_text(host->image, host->image_size, hash);
-    status = store_open(&host->store, options->store, &owner, &is_new);
+    status = store_open(&host->store, options->store, &owner, &host->ids, &is_new);
     if (status == STATUS_DONE) status = transport_open(&host->transport, host->cluster, options->me);
     if (status == STATUS_DONE) pace_begin(&host->pace, &host->transport, options->tick);
     if (status == STATUS_DONE) status = metrics_open(&host->metrics, options->metrics);
     if (status == STATUS_DONE) status = store_read_incarnation(&host->store, &incarnation);
     if (status != STATUS_DONE) return status;
     if (!has_room(host, ROOM)) return refused("open", SBLOG_NODE_MEMORY, 0);
-    return is_new ? begin_new(host, &owner, incarnation) : begin_again(host, &owner, incarnation);
+    status = is_new ? begin_new(host, &owner, incarnation) : begin_again(host, &owner, incarnation);
+    return status == STATUS_DONE ? membership_join(options, &owner, &host->store, &host->ids, &host->transport) : status;
 }
 
 /* A call that wants memory that isn't there is made again later, or its packet is lost; that is said once. */
@@ -187,13 +192,15 @@ static uint32_t work(struct host *host, int most) {
 static int receive(struct host *host) {
     int count = 0;
     size_t size;
-    while (count < TURN && (size = transport_receive(&host->transport, host->packet)) > 0) {
-        uint32_t fault = 0, code = sblog_node_receive(&host->node, host->packet, size, &fault);
+    uint64_t now = clock_now();
+    const uint8_t *packet;
+    while (count < TURN && (size = transport_receive(&host->transport, &packet)) > 0) {
+        uint32_t fault = 0, code = sblog_node_receive(&host->node, packet, size, &fault);
         lacks(host, code);
         if (code == SBLOG_NODE_BYTES && host->refused++ == 0)
             report("bytes came that are no packet: fault %u; more are counted", fault);
         if (code == SBLOG_NODE_DONE) {
-            pace_hear(&host->pace, host->packet, size, clock_now());
+            pace_hear(&host->pace, packet, size, now);
             work(host, 1);
         }
         count++;
@@ -221,7 +228,7 @@ static void tell(struct host *host) {
     host->was_exact = now->exact;
 }
 
-enum { FIGURES = 16, NO_PEER = 1, FULL, LONG }; /* codes of helpers that refuse a send or an output */
+enum { FIGURES = 18, NO_PEER = 1, FULL, LONG }; /* codes of helpers that refuse a send or an output */
 
 static size_t figures(struct host *host, struct figure out[FIGURES]) {
     const sblog_standing *now = &host->standing;
@@ -241,6 +248,8 @@ static size_t figures(struct host *host, struct figure out[FIGURES]) {
         {"effects_full", sblog_node_refused(&host->node, FULL), NULL, "its sends and outputs that were refused: more than 8 of a call"},
         {"effects_long", sblog_node_refused(&host->node, LONG), NULL, "its sends and outputs that were refused: above 256 bytes"},
         {"refused", host->refused, NULL, "times that bytes came that are no packet"},
+        {"broken", host->transport.broken, NULL, "times that something came that is no bundle"},
+        {"foreign", host->transport.foreign, NULL, "times that a bundle of another cluster came"},
         {"lost", host->transport.lost, NULL, "packets that found no way"},
     };
     memcpy(out, all, sizeof all);
@@ -292,14 +301,16 @@ static int turn(struct host *host, bool *is_more) {
     *is_more = work(host, REPLAYS) == SBLOG_NODE_DONE || received == TURN;
     sblog_node_standing(&host->node, &host->standing);
     if (is_time_to_keep(host)) {
+        put_out(host); /* what doesn't wait for it */
+        transport_serve(&host->transport);
         status = keep(host);
         sblog_node_standing(&host->node, &host->standing);
     }
     if (status != STATUS_DONE) return status;
     put_out(host);
-    transport_serve(&host->transport);
     uint64_t now = clock_now();
     tick(host, now, received);
+    transport_serve(&host->transport);
     tell(host);
     show(host, now);
     return STATUS_DONE;

@@ -1,16 +1,19 @@
 #include "outputs.h"
 
 #include <inttypes.h>
-#include <stdio.h>
 #include <string.h>
 
 bool outputs_are_full(const struct outputs *outputs) { return outputs->count == OUTPUTS_LIMIT; }
 
 struct output *outputs_place(struct outputs *outputs) { return &outputs->all[outputs->count]; }
 
-void outputs_add(struct outputs *outputs) {
-    const struct output *last = &outputs->all[outputs->count++];
-    outputs->given[last->process] = last->ssn;
+void outputs_add(struct outputs *outputs) { outputs->count++; }
+
+void outputs_are_stored(struct outputs *outputs, size_t count) {
+    for (; count > 0; count--) {
+        const struct output *output = &outputs->all[outputs->stored++];
+        outputs->given[output->process] = output->ssn;
+    }
 }
 
 bool outputs_take(struct outputs *outputs, int process, uint64_t ssn) {
@@ -30,10 +33,14 @@ bool outputs_take_printed(struct outputs *outputs) {
 }
 
 void output_print(const struct output *output, const char *name, struct client *client) {
+    static const char digits[] = "0123456789abcdef";
     char hex[2 * PAYLOAD_LIMIT + 2] = "-";
-    for (size_t i = 0; i < output->size; i++) sprintf(hex + 2 * i, "%02x", output->payload[i]);
+    for (size_t i = 0; i < output->size; i++) {
+        hex[2 * i] = digits[output->payload[i] >> 4];
+        hex[2 * i + 1] = digits[output->payload[i] & 15];
+    }
+    if (output->size > 0) hex[2 * output->size] = 0;
     client_answer(client, "output %s %" PRIu64 " %s\n", name, output->ssn, hex);
-    client_write(client);
 }
 
 bool outputs_have_taken(const struct outputs *outputs) {
@@ -43,17 +50,19 @@ bool outputs_have_taken(const struct outputs *outputs) {
 }
 
 void outputs_forget(struct outputs *outputs) {
-    size_t left = 0, stored = 0, printed = 0;
+    size_t left = 0, written = 0, stored = 0, printed = 0;
     if (!outputs_have_taken(outputs)) return;
     for (size_t i = 0; i < outputs->count; i++) {
         const struct output *output = &outputs->all[i];
         if (output->ssn <= outputs->taken[output->process]) continue;
+        written += i < outputs->written;
         stored += i < outputs->stored;
         printed += i < outputs->printed;
         if (left < i) outputs->all[left] = *output;
         left++;
     }
     outputs->count = left;
+    outputs->written = written;
     outputs->stored = stored;
     outputs->printed = printed;
     memset(outputs->taken, 0, sizeof outputs->taken);

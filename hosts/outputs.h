@@ -19,8 +19,8 @@ struct output {
 
 struct outputs {
     struct output all[OUTPUTS_LIMIT];
-    size_t count, stored, printed;     /* of these are in the store, and were printed for the program that takes outputs now */
-    uint64_t given[PROCESS_LIMIT + 1]; /* SSN of the last output of each process that was handed out in this life, 0 for none */
+    size_t count, written, stored, printed; /* of these are in the log, are durable, and were printed for the program that takes them */
+    uint64_t given[PROCESS_LIMIT + 1]; /* SSN of the last output of each process that is durable in this life, 0 for none */
     uint64_t taken[PROCESS_LIMIT + 1]; /* up to which SSN those of each process are taken, and still to be forgotten; 0 for none */
 };
 
@@ -30,13 +30,16 @@ bool outputs_are_full(const struct outputs *outputs);
 struct output *outputs_place(struct outputs *outputs);
 void outputs_add(struct outputs *outputs);
 
-/* Those of a process are taken up to an SSN; false where none has it that was handed out. */
+/* So many more are durable. */
+void outputs_are_stored(struct outputs *outputs, size_t count);
+
+/* Those of a process are taken up to an SSN; false where none that is durable has it. */
 bool outputs_take(struct outputs *outputs, int process, uint64_t ssn);
 
 /* The one that was printed last is taken; false where it is already, or none was. */
 bool outputs_take_printed(struct outputs *outputs);
 
-/* One as a line. */
+/* One as a line, for which there is room. */
 void output_print(const struct output *output, const char *name, struct client *client);
 
 /* Whether some are taken and not forgotten. */

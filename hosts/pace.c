@@ -1,30 +1,56 @@
 #include "pace.h"
 
+#include "bytes.h"
+#include "limits.h"
+
+#include <stdlib.h>
 #include <string.h>
 
 /* Kinds of packets, and where their fields begin (docs/FORMATS.md, "Packet"). */
 enum { DELIVERY = 1, NUMBER = 2, ACKNOWLEDGEMENT = 3, RESUME = 6, SAVED = 8 };
 enum { KIND = 4, FROM = 6, FIELDS = 8, WORD = 8, SHORTEST_PACKET = 12 };
 
-/* Numbers that a node may have open, of which a quarter is left for those on their way; messages of a tick; the longest pause,
-   in shortest ones; how often the pause is doubled. */
-enum { NUMBERS = 256, OF_TICK = 8, LEAST_WINDOW = 8, PAUSE = 32, DOUBLES = 5, SOON = 1000 };
+/* The least window; the longest pause, in shortest ones; how often the pause is doubled; microseconds; packets that wait. */
+enum { LEAST_WINDOW = 8, PAUSE = 32, DOUBLES = 5, SOON = 1000, QUEUE_LIMIT = 2048 };
+
+struct waiting {
+    struct waiting *next;
+    size_t size;
+    uint8_t bytes[];
+};
+
+/* Puts a copy at the end; a full queue, and one without memory, loses it. */
+static void queue_put(struct queue *queue, const uint8_t *bytes, size_t size) {
+    struct waiting *last = queue->count < QUEUE_LIMIT ? malloc(sizeof *last + size) : NULL;
+    if (!last) return;
+    if (!queue->first) queue->end = &queue->first;
+    last->next = NULL;
+    last->size = size;
+    memcpy(last->bytes, bytes, size);
+    *queue->end = last;
+    queue->end = &last->next;
+    queue->count++;
+}
+
+static void queue_drop(struct queue *queue) {
+    struct waiting *first = queue->first;
+    queue->first = first->next;
+    queue->count--;
+    free(first);
+}
 
 void pace_begin(struct pace *pace, struct transport *transport, uint64_t shortest) {
     memset(pace, 0, sizeof *pace);
     pace->transport = transport;
     pace->shortest = shortest;
     pace->longest = PAUSE * shortest;
-    pace->window = (uint64_t)(NUMBERS * 3 / 4 / transport->cluster->count);
+    pace->window = (uint64_t)(NUMBERS * 3 / 4 / transport->cluster->count); /* a quarter is for those on their way */
     if (pace->window < LEAST_WINDOW) pace->window = LEAST_WINDOW;
 }
 
 /* A field by its place; 0 where the packet has none there. */
 static uint64_t field(const uint8_t *packet, size_t size, size_t place) {
-    uint64_t number = 0;
-    if (size < SHORTEST_PACKET + WORD * (place + 1)) return 0;
-    for (int i = WORD - 1; i >= 0; i--) number = number << 8 | packet[FIELDS + WORD * place + (size_t)i];
-    return number;
+    return size < SHORTEST_PACKET + WORD * (place + 1) ? 0 : number_at(packet + FIELDS + WORD * place, WORD);
 }
 
 static bool is_open(const struct flow *flow) { return flow->sent > flow->answered || flow->told > flow->acknowledged; }
@@ -83,6 +109,10 @@ static void send_held(struct pace *pace, int to, uint64_t now) {
     }
 }
 
+bool pace_learns(const uint8_t *packet) {
+    return packet[KIND] == NUMBER || packet[KIND] == SAVED || packet[KIND] == ACKNOWLEDGEMENT || packet[KIND] == RESUME;
+}
+
 void pace_hear(struct pace *pace, const uint8_t *packet, size_t size, uint64_t now) {
     int from = packet[FROM], kind = packet[KIND];
     if (from > pace->transport->cluster->count) return;
@@ -91,7 +121,7 @@ void pace_hear(struct pace *pace, const uint8_t *packet, size_t size, uint64_t n
     if (kind == ACKNOWLEDGEMENT && number > flow->acknowledged) flow->acknowledged = number;
     if (kind == NUMBER || kind == SAVED) is_answered(flow, number, now);
     if (kind == RESUME) flow->is_back = true;
-    if (kind != NUMBER && kind != SAVED && kind != ACKNOWLEDGEMENT) return;
+    if (kind == RESUME || !pace_learns(packet)) return;
     flow->since = now;
     flow->tries = 0;
     send_held(pace, from, now);
@@ -106,6 +136,7 @@ void pace_tick_begins(struct pace *pace, uint64_t now) {
         flow->since = now;
         flow->refill = 0;
         flow->is_back = false;
+        flow->has_held = flow->held.count > 0;
     }
 }
 
@@ -114,8 +145,9 @@ void pace_tick_sends(struct pace *pace, int to, const uint8_t *packet, size_t si
     if (packet[KIND] == DELIVERY) {
         uint64_t ssn = field(packet, size, 1);
         if (place == 0) flow->answered = ssn - 1; /* it is the first one that has no number */
-        if (place == OF_TICK - 1) flow->refill = ssn;
+        if (place == TICK - 1) flow->refill = ssn;
         flow->is_known = true;
+        if (flow->has_held && ssn > flow->answered + pace->window) return; /* it waits already */
     }
     pace_send(pace, to, packet, size, now);
 }

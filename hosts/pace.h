@@ -5,6 +5,12 @@
 
 #include "transport.h"
 
+/* Packets that wait, each once. */
+struct queue {
+    struct waiting *first, **end;
+    size_t count;
+};
+
 /* The messages to one peer, and the numbers that it was told. */
 struct flow {
     uint64_t sent, answered;     /* the last SSN that was sent, and that the peer has */
@@ -16,6 +22,7 @@ struct flow {
     int tries;                   /* ticks since it answered */
     bool is_known;               /* whether answered is */
     bool is_back;                /* it came back: it may have forgotten what it had, and takes it again */
+    bool has_held;               /* whether some waited when it ticked */
     struct queue held;
 };
 
@@ -31,6 +38,9 @@ void pace_begin(struct pace *pace, struct transport *transport, uint64_t shortes
 
 /* Sends a packet that the library put out, or keeps it until its time has come. */
 void pace_send(struct pace *pace, int to, const uint8_t *packet, size_t size, uint64_t now);
+
+/* Whether it learns something from such a packet. */
+bool pace_learns(const uint8_t *packet);
 
 /* Learns from a packet that the library took, and sends what may go now. */
 void pace_hear(struct pace *pace, const uint8_t *packet, size_t size, uint64_t now);

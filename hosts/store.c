@@ -15,8 +15,9 @@
 enum { IDENTITY_LIMIT = 1024, NUMBER_TEXT = 32, MODE = 0600 };
 
 static const char *const IDENTITY = "identity", *const INCARNATION = "incarnation";
+static const char *const CLUSTER_ID = "cluster-id", *const STORE_ID = "store-id";
 
-/* The lines of the file `identity`, in their order, and what another one means. */
+/* The first lines of the file `identity`, in their order, and what another one means. The ids are after them. */
 static const struct {
     const char *word, *otherwise;
 } LINES[] = {
@@ -31,7 +32,7 @@ enum { LINE_COUNT = sizeof LINES / sizeof *LINES };
 
 static void identity_of(const struct owner *owner, char text[LINE_COUNT][IDENTITY_LIMIT]) {
     const struct cluster *cluster = owner->cluster;
-    strcpy(text[0], "1");
+    strcpy(text[0], "2");
     strcpy(text[1], cluster->name);
     snprintf(text[2], IDENTITY_LIMIT, "%d %s", owner->me, cluster->processes[owner->me].name);
     *text[3] = 0;
@@ -45,11 +46,11 @@ static void identity_of(const struct owner *owner, char text[LINE_COUNT][IDENTIT
 }
 
 /* Compares the stored lines with those that they have to be, and reports the first that is another one. */
-static int compare(const struct store *store, const struct owner *owner, char *stored) {
+static int compare(const struct store *store, const struct owner *owner, char *stored, char **rest) {
     static char wanted[LINE_COUNT][IDENTITY_LIMIT];
-    char *rest = NULL, *line = strtok_r(stored, "\n", &rest);
     identity_of(owner, wanted);
-    for (int i = 0; i < LINE_COUNT; i++, line = strtok_r(NULL, "\n", &rest)) {
+    for (int i = 0; i < LINE_COUNT; i++) {
+        const char *line = strtok_r(i == 0 ? stored : NULL, "\n", rest);
         size_t size = strlen(LINES[i].word);
         bool is_line = line && !strncmp(line, LINES[i].word, size) && line[size] == ' ';
         if (is_line && !strcmp(line + size + 1, wanted[i])) continue;
@@ -60,11 +61,46 @@ static int compare(const struct store *store, const struct owner *owner, char *s
     return STATUS_DONE;
 }
 
-int store_claim(const struct store *store, const struct owner *owner) {
-    static char lines[LINE_COUNT][IDENTITY_LIMIT], text[LINE_COUNT * IDENTITY_LIMIT];
+/* A line of an id; false for another one. */
+static bool read_id_line(char *line, struct ids *ids) {
+    char text[ID_TEXT], word[ID_TEXT];
+    int process;
+    if (sscanf(line, "cluster-id %32s", text) == 1) return !strcmp(text, "none") || id_read(text, &ids->cluster);
+    if (sscanf(line, "store-id %d %32s", &process, word) != 2 || process < 1 || process > PROCESS_LIMIT) return false;
+    return id_read(word, &ids->stores[process]);
+}
+
+/* A process has the id of its store, and the gateway that of its cluster. */
+static int read_ids(const struct store *store, int me, char **rest, struct ids *ids) {
+    memset(ids, 0, sizeof *ids);
+    for (char *line; (line = strtok_r(NULL, "\n", rest));) {
+        if (read_id_line(line, ids)) continue;
+        report("%s/%s: the line isn't one of this program: %s", store->path, IDENTITY, line);
+        return STATUS_STORE;
+    }
+    if (!id_is_none(me == 0 ? &ids->cluster : &ids->stores[me])) return STATUS_DONE;
+    report("%s/%s: the line is missing: %s", store->path, IDENTITY, me == 0 ? CLUSTER_ID : STORE_ID);
+    return STATUS_STORE;
+}
+
+static char *write_ids(char *at, const struct ids *ids) {
+    char text[ID_TEXT];
+    id_text(&ids->cluster, text);
+    at += sprintf(at, "%s %s\n", CLUSTER_ID, id_is_none(&ids->cluster) ? "none" : text);
+    for (int p = 1; p <= PROCESS_LIMIT; p++) {
+        if (id_is_none(&ids->stores[p])) continue;
+        id_text(&ids->stores[p], text);
+        at += sprintf(at, "%s %d %s\n", STORE_ID, p, text);
+    }
+    return at;
+}
+
+int store_claim(const struct store *store, const struct owner *owner, const struct ids *ids) {
+    static char lines[LINE_COUNT][IDENTITY_LIMIT], text[2 * LINE_COUNT * IDENTITY_LIMIT];
     identity_of(owner, lines);
     char *at = text;
     for (int i = 0; i < LINE_COUNT; i++) at += sprintf(at, "%s %s\n", LINES[i].word, lines[i]);
+    at = write_ids(at, ids);
     return store_write(store, IDENTITY, text, (size_t)(at - text));
 }
 
@@ -99,8 +135,9 @@ static int take_lock(struct store *store) {
     return STATUS_IO;
 }
 
-int store_open(struct store *store, const char *path, const struct owner *owner, bool *is_new) {
+int store_open(struct store *store, const char *path, const struct owner *owner, struct ids *ids, bool *is_new) {
     uint8_t *stored = NULL;
+    char *rest = NULL;
     size_t size;
     *store = (struct store){.path = path, .folder = -1, .lock = -1};
     int status = make_folder(path);
@@ -113,7 +150,8 @@ int store_open(struct store *store, const char *path, const struct owner *owner,
     status = take_lock(store);
     if (status == STATUS_DONE) status = store_read(store, IDENTITY, &stored, &size);
     *is_new = !stored;
-    if (status == STATUS_DONE && stored) status = compare(store, owner, (char *)stored);
+    if (status == STATUS_DONE && stored) status = compare(store, owner, (char *)stored, &rest);
+    if (status == STATUS_DONE && stored) status = read_ids(store, owner->me, &rest, ids);
     free(stored);
     return status;
 }

@@ -3,6 +3,7 @@
 #define STORE_H
 
 #include "cluster.h"
+#include "id.h"
 
 #include <stdbool.h>
 #include <stddef.h>
@@ -22,11 +23,11 @@ struct owner {
 };
 
 /* Makes the folder where there is none, takes its lock, and compares whose it is; a status, and why is reported. Where nobody's
-   name stands in it yet, is_new is true. */
-int store_open(struct store *store, const char *path, const struct owner *owner, bool *is_new);
+   name is in it yet, is_new is true; else its ids are read. */
+int store_open(struct store *store, const char *path, const struct owner *owner, struct ids *ids, bool *is_new);
 
-/* Writes down whose the store is. */
-int store_claim(const struct store *store, const struct owner *owner);
+/* Writes down whose the store is, with its ids. */
+int store_claim(const struct store *store, const struct owner *owner, const struct ids *ids);
 
 /* Replaces a file: written beside, synced, renamed, and the folder synced. */
 int store_write(const struct store *store, const char *name, const void *bytes, size_t size);

@@ -17,7 +17,10 @@ class Talk:
         self.pen.flush()
 
     def heard(self):
-        return self.file.readline().rstrip("\n")
+        try:
+            return self.file.readline().rstrip("\n")
+        except TimeoutError as over:
+            raise Wrong("nothing was heard for 30 s") from over
 
     def hears(self, *lines):
         for line in lines:

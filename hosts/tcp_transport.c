@@ -1,4 +1,5 @@
-/* Streams: who sends connects, and each packet stands behind its length. */
+/* Streams: who sends connects, and each frame comes after its length. */
+#include "bytes.h"
 #include "report.h"
 #include "transport.h"
 
@@ -12,15 +13,12 @@
 #include <sys/socket.h>
 #include <unistd.h>
 
-/* Microseconds until a connection is tried again, and that a guest has for a packet; milliseconds after which a peer is given up
-   that doesn't say that it has what was sent; bytes of a length. */
-enum { AGAIN = 20000, PATIENCE = 10000000, SILENCE = 5000, LENGTH = 4, WAITING = 64 };
+/* Microseconds until a connection is tried again, and that a guest has for a frame; milliseconds after which a peer is given up
+   that doesn't say that it has what was sent; bytes that a guest may be ahead; frames of one call. */
+enum { AGAIN = 20000, PATIENCE = 10000000, SILENCE = 5000, WAITING = 64, ROOM = 2 * (FRAME_LENGTH + FRAME_LIMIT), PARTS = 16 };
 
 /* Seconds after which a silent connection is tried, and between tries; how many get no answer before it is over. */
 enum { TRIED_AFTER = 5, TRIED_EVERY = 1, TRIES = 5 };
-
-/* Where a packet says whom it is of and to, and bytes of the shortest (docs/FORMATS.md, "Packet"). */
-enum { FROM = 6, TO = 7, SHORTEST_PACKET = 12 };
 
 /* The addresses of HOST:PORT or [HOST]:PORT, to be freed. */
 static struct addrinfo *resolve(const char *where, int flags) {
@@ -87,7 +85,7 @@ static void welcome(struct transport *transport) {
     int file;
     while ((file = accept4(transport->file, NULL, NULL, SOCK_NONBLOCK | SOCK_CLOEXEC)) >= 0) {
         struct guest *guest = place(transport);
-        uint8_t *bytes = guest ? malloc(LENGTH + PACKET_LIMIT) : NULL;
+        uint8_t *bytes = guest ? malloc(ROOM) : NULL;
         if (!bytes) {
             close(file);
             continue;
@@ -97,78 +95,82 @@ static void welcome(struct transport *transport) {
     }
 }
 
-/* Those go that have sent nothing whole for a while, or are long in the midst of a packet. */
+/* Those go that have sent no bundle for a while, or are long in the midst of a frame. */
 static void send_away(struct transport *transport) {
     uint64_t now = clock_now();
-    for (struct guest *guest = transport->guests; guest < transport->guests + TCP_GUESTS; guest++)
-        if (guest->file >= 0 && (guest->peer < 0 || guest->have > 0) && now - guest->since >= PATIENCE) guest_leaves(guest);
-}
-
-/* Who sent it, as the packet says; -1 where it says nobody that is there, or another receiver. */
-static int peer_of(const struct transport *transport, const uint8_t *packet, size_t size) {
-    if (size < SHORTEST_PACKET || packet[FROM] > transport->cluster->count || packet[FROM] == transport->me) return -1;
-    return packet[TO] == transport->me ? packet[FROM] : -1;
+    for (struct guest *guest = transport->guests; guest < transport->guests + TCP_GUESTS; guest++) {
+        bool is_waited_for = guest->file >= 0 && (guest->peer < 0 || guest->have > guest->from);
+        if (is_waited_for && now - guest->since >= PATIENCE) guest_leaves(guest);
+    }
 }
 
 /* A peer's new connection takes the place of its old one. */
-static void settle(struct transport *transport, struct guest *guest, int peer) {
-    if (peer < 0 || guest->peer == peer) return;
+static void tcp_settle(struct transport *transport, int peer) {
+    struct guest *guest = &transport->guests[transport->guest];
+    if (guest->peer == peer) return;
     for (struct guest *other = transport->guests; other < transport->guests + TCP_GUESTS; other++)
         if (other != guest && other->file >= 0 && other->peer == peer) guest_leaves(other);
     guest->peer = peer;
 }
 
-static size_t length_of(const uint8_t *at) {
-    return at[0] | (size_t)at[1] << 8 | (size_t)at[2] << 16 | (size_t)at[3] << 24;
+/* Reads what there is; false where there is no more for now. */
+static bool guest_reads(struct guest *guest) {
+    if (guest->is_dry) return false;
+    guest->have -= guest->from;
+    if (guest->from > 0) memmove(guest->bytes, guest->bytes + guest->from, guest->have);
+    guest->from = 0;
+    size_t room = ROOM - guest->have;
+    ssize_t count = recv(guest->file, guest->bytes + guest->have, room, 0);
+    if (count > 0 && guest->have == 0) guest->since = clock_now();
+    if (count > 0) guest->have += (size_t)count;
+    if (count == 0 || (count < 0 && errno != EAGAIN && errno != EINTR)) guest_leaves(guest);
+    else guest->is_dry = count < (ssize_t)room;
+    return count > 0;
 }
 
-/* How many bytes the guest's next packet has with its length, as far as that is known. */
-static size_t wanted(const struct guest *guest) {
-    return guest->have < LENGTH ? LENGTH : LENGTH + length_of(guest->bytes);
-}
-
-/* The guest's next packet, if it is there whole. One whose length is none is sent away. */
-static size_t guest_packet(struct guest *guest, uint8_t *packet) {
+/* The guest's next frame, if it is there whole. One whose length is none is sent away. */
+static size_t guest_frame(struct guest *guest, const uint8_t **frame) {
     while (guest->file >= 0) {
-        size_t want = wanted(guest), size = want - LENGTH;
-        if (guest->have >= LENGTH && (size == 0 || size > PACKET_LIMIT)) {
+        const uint8_t *at = guest->bytes + guest->from;
+        size_t have = guest->have - guest->from, size = have < FRAME_LENGTH ? 1 : number_at(at, FRAME_LENGTH);
+        if (size == 0 || size > FRAME_LIMIT) {
             guest_leaves(guest);
-        } else if (guest->have >= LENGTH && guest->have == want) {
-            memcpy(packet, guest->bytes + LENGTH, size);
-            guest->have = 0;
+        } else if (have >= FRAME_LENGTH + size) {
+            *frame = at + FRAME_LENGTH;
+            guest->from += FRAME_LENGTH + size;
+            if (guest->from < guest->have) guest->since = clock_now();
             return size;
-        } else {
-            ssize_t count = recv(guest->file, guest->bytes + guest->have, want - guest->have, 0);
-            if (count > 0 && guest->have == 0) guest->since = clock_now();
-            if (count > 0) guest->have += (size_t)count;
-            else if (count == 0 || (errno != EAGAIN && errno != EINTR)) guest_leaves(guest);
-            else if (errno == EAGAIN) return 0;
+        } else if (!guest_reads(guest)) {
+            return 0;
         }
     }
     return 0;
 }
 
-static size_t tcp_receive(struct transport *transport, uint8_t *packet) {
-    static int next; /* so that no guest waits for another */
-    welcome(transport);
-    send_away(transport);
+/* Each guest in its turn, all that came of it. */
+static size_t tcp_receive(struct transport *transport, const uint8_t **frame) {
+    if (!transport->has_welcomed) welcome(transport);
+    transport->has_welcomed = true;
     for (int i = 0; i < TCP_GUESTS; i++) {
-        next = (next + 1) % TCP_GUESTS;
-        struct guest *guest = &transport->guests[next];
-        size_t size = guest_packet(guest, packet);
-        if (size == 0) continue;
-        settle(transport, guest, peer_of(transport, packet, size));
-        return size;
+        size_t size = guest_frame(&transport->guests[transport->guest], frame);
+        if (size > 0) return size;
+        transport->guest = (transport->guest + 1) % TCP_GUESTS;
     }
+    send_away(transport);
     return 0;
 }
 
+/* When the program has waited, more may be there. */
 static void tcp_watch(struct transport *transport, struct watch *watch) {
+    transport->has_welcomed = false;
     watch_file(watch, transport->file, POLLIN);
-    for (int i = 0; i < TCP_GUESTS; i++) watch_file(watch, transport->guests[i].file, POLLIN);
+    for (int i = 0; i < TCP_GUESTS; i++) {
+        transport->guests[i].is_dry = false;
+        watch_file(watch, transport->guests[i].file, POLLIN);
+    }
 }
 
-const struct inlet tcp_inlet = {tcp_open, tcp_receive, tcp_watch};
+const struct inlet tcp_inlet = {tcp_open, tcp_receive, tcp_watch, tcp_settle};
 
 /* Begins a connection, or looks how the one that was begun goes on; false where the peer is away. */
 static bool connects(struct way *way) {
@@ -198,35 +200,39 @@ static bool is_over(const struct way *way) {
     return count == 0 || (count < 0 && errno != EAGAIN && errno != EINTR);
 }
 
-/* The first packet that waits and its length, from where it was cut off; false where the way is over. */
-static bool send_first(struct way *way) {
-    const struct waiting *first = way->queue.first;
-    size_t size = first->size, at = way->sent;
-    uint8_t length[LENGTH] = {(uint8_t)size, (uint8_t)(size >> 8), (uint8_t)(size >> 16), (uint8_t)(size >> 24)};
-    struct iovec parts[2] = {
-        {.iov_base = length + (at < LENGTH ? at : LENGTH), .iov_len = at < LENGTH ? LENGTH - at : 0},
-        {.iov_base = (uint8_t *)first->bytes + (at < LENGTH ? 0 : at - LENGTH), .iov_len = at < LENGTH ? size : LENGTH + size - at},
-    };
-    struct msghdr message = {.msg_iov = parts, .msg_iovlen = 2};
-    ssize_t count = sendmsg(way->file, &message, MSG_NOSIGNAL);
-    if (count < 0) return errno == EAGAIN || errno == EINTR;
-    way->sent += (size_t)count;
+/* The frames that went whole go from the queue; the next one was cut off after so many bytes. */
+static void went(struct way *way, size_t count) {
+    count += way->sent;
+    while (way->first && count >= way->first->size) {
+        count -= way->first->size;
+        way_drop(way);
+    }
+    way->sent = count;
+}
+
+/* Sends the frames that wait, from where the first was cut off, as many as one call takes; false where the way is over. */
+static bool send_some(struct way *way, bool *is_busy) {
+    struct iovec parts[PARTS];
+    size_t count = 0, all = 0;
+    for (struct frame *frame = way->first; frame && count < PARTS; frame = frame->next, count++) {
+        size_t from = frame == way->first ? way->sent : 0;
+        parts[count] = (struct iovec){.iov_base = frame->bytes + from, .iov_len = frame->size - from};
+        all += frame->size - from;
+    }
+    struct msghdr message = {.msg_iov = parts, .msg_iovlen = count};
+    ssize_t sent = sendmsg(way->file, &message, MSG_NOSIGNAL);
+    *is_busy = sent < (ssize_t)all;
+    if (sent < 0) return errno == EAGAIN || errno == EINTR;
+    went(way, (size_t)sent);
     return true;
 }
 
 void tcp_serve(struct transport *transport, struct way *way) {
+    bool is_busy = false;
     if (way_waits(transport, way)) return;
-    while (way->queue.count > 0) {
-        bool is_there = connects(way);
-        if (is_there && way->connecting) return;
-        size_t before = way->sent;
-        if (!is_there || (before == 0 && is_over(way)) || !send_first(way)) {
-            way_ends(transport, way, AGAIN);
-            return;
-        }
-        if (way->sent == before) return;
-        if (way->sent < LENGTH + way->queue.first->size) continue;
-        queue_drop(&way->queue);
-        way->sent = 0;
-    }
+    bool is_there = connects(way);
+    if (is_there && way->connecting) return;
+    is_there = is_there && (way->sent > 0 || !is_over(way));
+    while (is_there && way->first && !is_busy) is_there = send_some(way, &is_busy);
+    if (!is_there) way_ends(transport, way, AGAIN);
 }

@@ -7,52 +7,40 @@
 #include <sys/socket.h>
 #include <unistd.h>
 
-enum { CLOSING = 200000, BUFFER = 1 << 21 }; /* microseconds for what still waits; bytes */
+/* Microseconds for what still waits at the end; packets that wait for one peer. */
+enum { CLOSING = 200000, WAITING_LIMIT = 4096 };
 
 static const struct inlet *const INLETS[] = {&unix_inlet, &tcp_inlet, &nats_inlet};
 static void (*const SERVES[])(struct transport *, struct way *) = {unix_serve, tcp_serve, nats_serve};
 
-void queue_put(struct queue *queue, const uint8_t *bytes, size_t size) {
-    struct waiting *last = queue->count < QUEUE_LIMIT ? malloc(sizeof *last + size) : NULL;
-    if (!last) return;
-    if (!queue->first) queue->end = &queue->first;
-    last->next = NULL;
-    last->size = size;
-    memcpy(last->bytes, bytes, size);
-    *queue->end = last;
-    queue->end = &last->next;
-    queue->count++;
-}
-
-void queue_drop(struct queue *queue) {
-    struct waiting *first = queue->first;
-    if (!first) return;
-    queue->first = first->next;
-    queue->count--;
-    free(first);
-}
-
-void queue_clear(struct queue *queue) {
-    while (queue->first) queue_drop(queue);
-}
-
-int pair_open(int *other) {
-    int pair[2], size = BUFFER;
-    if (socketpair(AF_UNIX, SOCK_SEQPACKET | SOCK_CLOEXEC, 0, pair) != 0) return -1;
-    setsockopt(pair[1], SOL_SOCKET, SO_SNDBUF, &size, sizeof size);
-    *other = pair[1];
-    return pair[0];
-}
-
-size_t pair_receive(struct transport *transport, uint8_t *packet) {
-    ssize_t size = recv(transport->file, packet, PACKET_LIMIT, MSG_DONTWAIT);
+size_t datagram_receive(struct transport *transport, const uint8_t **frame) {
+    ssize_t size = recv(transport->file, transport->bytes, sizeof transport->bytes, MSG_DONTWAIT);
+    *frame = transport->bytes;
     return size < 0 ? 0 : (size_t)size;
 }
 
-void pair_watch(struct transport *transport, struct watch *watch) { watch_file(watch, transport->file, POLLIN); }
+void datagram_watch(struct transport *transport, struct watch *watch) { watch_file(watch, transport->file, POLLIN); }
 
 static void serve_way(struct transport *transport, struct way *way) {
-    if (way->queue.count > 0) SERVES[way->address->carrier](transport, way);
+    if (way->first) SERVES[way->address->carrier](transport, way);
+}
+
+const uint8_t *way_first(const struct way *way, size_t *size) {
+    *size = way->first->size - FRAME_LENGTH;
+    return way->first->bytes + FRAME_LENGTH;
+}
+
+void way_drop(struct way *way) {
+    struct frame *first = way->first;
+    way->first = first->next;
+    if (!way->first) way->last = NULL;
+    way->count -= (size_t)first->count;
+    free(first);
+}
+
+static void lose_all(struct transport *transport, struct way *way) {
+    transport->lost += way->count;
+    while (way->first) way_drop(way);
 }
 
 void way_ends(struct transport *transport, struct way *way, uint64_t again) {
@@ -61,14 +49,12 @@ void way_ends(struct transport *transport, struct way *way, uint64_t again) {
     way->connecting = false;
     way->sent = 0;
     way->not_before = clock_now() + again;
-    transport->lost += way->queue.count;
-    queue_clear(&way->queue);
+    lose_all(transport, way);
 }
 
 bool way_waits(struct transport *transport, struct way *way) {
     if (way->file >= 0 || clock_now() >= way->not_before) return false;
-    transport->lost += way->queue.count;
-    queue_clear(&way->queue);
+    lose_all(transport, way);
     return true;
 }
 
@@ -85,24 +71,99 @@ int transport_open(struct transport *transport, const struct cluster *cluster, i
     return transport->inlet->open(transport, own);
 }
 
-void transport_send(struct transport *transport, int to, const uint8_t *packet, size_t size) {
-    if (to < 0 || to > transport->cluster->count || to == transport->me) return;
-    struct way *way = &transport->ways[to];
-    queue_put(&way->queue, packet, size);
-    serve_way(transport, way);
+void transport_belongs(struct transport *transport, const struct id *cluster) { transport->id = *cluster; }
+
+/* The way to another process that is there. */
+static struct way *way_to(struct transport *transport, int to) {
+    return to < 0 || to > transport->cluster->count || to == transport->me ? NULL : &transport->ways[to];
 }
 
-size_t transport_receive(struct transport *transport, uint8_t *packet) {
-    return transport->inlet->receive(transport, packet);
+static void way_put(struct way *way, struct frame *frame) {
+    if (way->last) way->last->next = frame;
+    else way->first = frame;
+    way->last = frame;
+}
+
+/* Puts a packet into the last bundle that waits, if that is one, has room and isn't under way. */
+static bool joins_last(struct way *way, const uint8_t *packet, size_t size) {
+    struct frame *last = way->last;
+    return last && last->count > 0 && !(last == way->first && way->sent > 0) && bundle_add(last, packet, size);
+}
+
+void transport_send(struct transport *transport, int to, const uint8_t *packet, size_t size) {
+    struct way *way = way_to(transport, to);
+    if (!way || size > PACKET_LIMIT) return;
+    bool is_full = way->count >= WAITING_LIMIT || id_is_none(&transport->id);
+    if (!is_full && !joins_last(way, packet, size)) {
+        struct frame *bundle = bundle_new(&transport->id, transport->me, to, size);
+        is_full = !bundle;
+        if (bundle && bundle_add(bundle, packet, size)) way_put(way, bundle);
+    }
+    if (is_full) transport->lost++;
+    else way->count++;
+}
+
+void transport_greet(struct transport *transport, int to, const struct greeting *greeting) {
+    struct way *way = way_to(transport, to);
+    struct frame *frame = way ? greeting_new(greeting) : NULL;
+    if (frame) way_put(way, frame);
+}
+
+static void drop(uint64_t *count, const char *what) {
+    if ((*count)++ == 0) report("%s came, and was dropped; more are counted", what);
+}
+
+/* A greeting is of the process that joins, and goes to the gateway, or comes from it. */
+static void take_greeting(struct transport *transport, const struct greeting *greeting) {
+    bool is_to_gateway = greeting->word == WORD_HELLO || greeting->word == WORD_JOIN;
+    int process = greeting->process;
+    bool is_ours = transport->me == 0 ? is_to_gateway && process >= 1 && process <= transport->cluster->count
+                                      : !is_to_gateway && process == transport->me;
+    if (is_ours) transport->greetings[process] = *greeting;
+}
+
+static void take_frame(struct transport *transport, const uint8_t *frame, size_t size) {
+    struct greeting greeting;
+    int from;
+    if (greeting_read(frame, size, &greeting)) {
+        take_greeting(transport, &greeting);
+        return;
+    }
+    if (id_is_none(&transport->id)) return;
+    switch (bundle_judge(frame, size, &transport->id, transport->cluster, transport->me, &transport->unread, &from)) {
+    case KIND_BUNDLE:
+        if (transport->inlet->settle) transport->inlet->settle(transport, from);
+        return;
+    case KIND_FOREIGN: drop(&transport->foreign, "a bundle of another cluster"); break;
+    default: drop(&transport->broken, "what is no bundle"); break;
+    }
+}
+
+size_t transport_receive(struct transport *transport, const uint8_t **packet) {
+    size_t size;
+    while ((size = bundle_next(&transport->unread, packet)) == 0) {
+        const uint8_t *frame;
+        transport->unread = (struct unread){0};
+        if ((size = transport->inlet->receive(transport, &frame)) == 0) return 0;
+        take_frame(transport, frame, size);
+    }
+    return size;
+}
+
+bool transport_greeted(struct transport *transport, struct greeting *greeting) {
+    for (int p = 0; p <= transport->cluster->count; p++) {
+        if (!transport->greetings[p].word) continue;
+        *greeting = transport->greetings[p];
+        transport->greetings[p].word = 0;
+        return true;
+    }
+    return false;
 }
 
 void transport_watch(struct transport *transport, struct watch *watch) {
     transport->inlet->watch(transport, watch);
-    for (int p = 0; p <= transport->cluster->count; p++) {
-        struct way *way = &transport->ways[p];
-        if (way->queue.count == 0) continue;
-        watch_file(watch, way->file, POLLOUT);
-    }
+    for (int p = 0; p <= transport->cluster->count; p++)
+        if (transport->ways[p].first) watch_file(watch, transport->ways[p].file, POLLOUT);
 }
 
 void transport_serve(struct transport *transport) {
@@ -111,17 +172,18 @@ void transport_serve(struct transport *transport) {
 
 static bool is_waiting(const struct transport *transport) {
     for (int p = 0; p <= transport->cluster->count; p++)
-        if (transport->ways[p].queue.count > 0 && transport->ways[p].file >= 0) return true;
+        if (transport->ways[p].first && transport->ways[p].file >= 0) return true;
     return false;
 }
 
 void transport_close(struct transport *transport) {
     uint64_t until = clock_now() + CLOSING;
+    transport_serve(transport);
     while (is_waiting(transport) && clock_now() < until) {
         struct watch watch;
         watch_begin(&watch, until);
         for (int p = 0; p <= transport->cluster->count; p++)
-            if (transport->ways[p].queue.count > 0) watch_file(&watch, transport->ways[p].file, POLLOUT);
+            if (transport->ways[p].first) watch_file(&watch, transport->ways[p].file, POLLOUT);
         watch_wait(&watch);
         transport_serve(transport);
     }

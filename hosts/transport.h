@@ -1,82 +1,84 @@
-/* Packets between processes, by the carrier of each one's address. What can't be sent soon is lost, as any packet may be. */
+/* Packets between processes, as bundles, by the carrier of each one's address. What can't be sent soon is lost, as any packet may
+   be; a bundle of another cluster is dropped, and so is one that isn't whole. */
 #ifndef TRANSPORT_H
 #define TRANSPORT_H
 
 #include "cluster.h"
+#include "frame.h"
+#include "id.h"
 #include "watch.h"
 
 #include <stdbool.h>
 #include <stddef.h>
 #include <stdint.h>
 
-enum { PACKET_LIMIT = 65536, QUEUE_LIMIT = 2048 };
-
-/* Packets that wait for their way to be free, each once. */
-struct queue {
-    struct waiting *first, **end;
-    size_t count;
-};
-
-struct waiting {
-    struct waiting *next;
-    size_t size;
-    uint8_t bytes[];
-};
-
-/* Puts a copy at the end; a full queue, and one without memory, loses it. */
-void queue_put(struct queue *queue, const uint8_t *bytes, size_t size);
-void queue_drop(struct queue *queue);
-void queue_clear(struct queue *queue);
-
-/* The way to one peer. */
+/* The way to one peer, and the frames that wait for it. */
 struct way {
     const struct address *address;
     int file;            /* a socket, or -1 */
     uint64_t not_before; /* when a connection is tried again */
-    struct queue queue;
-    size_t sent;     /* of the first packet in the queue, by tcp */
+    struct frame *first, *last;
+    size_t count;    /* packets that wait */
+    size_t sent;     /* bytes of the first frame, by tcp */
     bool connecting; /* by tcp */
     struct nats_link *link;
 };
 
 struct transport;
 
-/* Where one's own packets come in, for each carrier. */
+/* Where one's own frames come in, for each carrier. A frame is there until the next one is asked for. */
 struct inlet {
     int (*open)(struct transport *transport, const struct address *own);
-    size_t (*receive)(struct transport *transport, uint8_t *packet);
+    size_t (*receive)(struct transport *transport, const uint8_t **frame);
     void (*watch)(struct transport *transport, struct watch *watch);
+    void (*settle)(struct transport *transport, int peer); /* the last frame was of this peer; none where that tells nothing */
 };
 
 enum { TCP_GUESTS = 64 };
 
-/* A program that has connected by tcp, and what came of its next packet. */
+/* A program that has connected by tcp, and what came of it and wasn't taken yet. */
 struct guest {
     int file;       /* -1: none */
-    int peer;       /* who sent its last whole packet; -1: none came yet */
-    uint64_t since; /* when it connected, or its next packet began */
-    size_t have;
+    int peer;       /* who sent its last bundle; -1: none came yet */
+    bool is_dry;    /* no more is there for now */
+    uint64_t since; /* when it connected, or its next frame began */
+    size_t from, have;
     uint8_t *bytes;
 };
 
 struct transport {
     const struct cluster *cluster;
+    struct id id; /* none: no bundle is taken or sent yet */
     int me;
     struct way ways[PROCESS_LIMIT + 1];
     const struct inlet *inlet;
-    int file; /* that packets come from, or connections */
+    int file; /* that frames come from, or connections */
     struct guest guests[TCP_GUESTS];
+    bool has_welcomed; /* by tcp */
+    int guest;         /* whose turn it is */
     struct nats_link *links;
-    uint64_t lost; /* packets that weren't sent */
+    struct unread unread;
+    struct greeting greetings[PROCESS_LIMIT + 1]; /* the last one that came of each process, without a word where none did */
+    uint64_t lost;                                /* packets that weren't sent */
+    uint64_t broken, foreign;                     /* frames that aren't whole, and those of another cluster */
+    uint8_t bytes[FRAME_LIMIT];
 };
 
 /* Takes one's own address; a status, and why is reported. */
 int transport_open(struct transport *transport, const struct cluster *cluster, int me);
 
-void transport_send(struct transport *transport, int to, const uint8_t *packet, size_t size);
+/* Which cluster this process is of: no packet is sent or taken before. */
+void transport_belongs(struct transport *transport, const struct id *cluster);
 
-/* The next packet that came, of at most PACKET_LIMIT bytes; 0 for none. */
-size_t transport_receive(struct transport *transport, uint8_t *packet);
+/* Each goes when the transport is served. */
+void transport_send(struct transport *transport, int to, const uint8_t *packet, size_t size);
+void transport_greet(struct transport *transport, int to, const struct greeting *greeting);
+
+/* The next packet that came, which is there until this is asked again; 0 for none. */
+size_t transport_receive(struct transport *transport, const uint8_t **packet);
+
+/* Takes a greeting that came while packets were received; false where there is none. */
+bool transport_greeted(struct transport *transport, struct greeting *greeting);
 
 /* What is to be waited for, and what is to be done then. */
 void transport_watch(struct transport *transport, struct watch *watch);
@@ -85,10 +87,9 @@ void transport_serve(struct transport *transport);
 /* Sends what it can of what waits, for at most so long. */
 void transport_close(struct transport *transport);
 
-/* A thread hands packets to the main one over a pair of sockets: the end to read from, and through other that to write to; -1. */
-int pair_open(int *other);
-size_t pair_receive(struct transport *transport, uint8_t *packet);
-void pair_watch(struct transport *transport, struct watch *watch);
+/* The next datagram of the transport's file. */
+size_t datagram_receive(struct transport *transport, const uint8_t **frame);
+void datagram_watch(struct transport *transport, struct watch *watch);
 
 /* The peer is away: what waits for it is lost, and it is tried again after so many microseconds. */
 void way_ends(struct transport *transport, struct way *way, uint64_t again);
@@ -96,7 +97,11 @@ void way_ends(struct transport *transport, struct way *way, uint64_t again);
 /* Whether that time isn't over yet: what waits is lost then. */
 bool way_waits(struct transport *transport, struct way *way);
 
-/* Of each carrier: a packet is at the end of the queue, and what can be sent is sent. */
+/* The first frame of a way, without its length; and that it was sent, or is lost. */
+const uint8_t *way_first(const struct way *way, size_t *size);
+void way_drop(struct way *way);
+
+/* Of each carrier: what can be sent is sent. */
 void unix_serve(struct transport *transport, struct way *way);
 void tcp_serve(struct transport *transport, struct way *way);
 void nats_serve(struct transport *transport, struct way *way);

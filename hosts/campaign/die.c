@@ -5,6 +5,7 @@
 #include <stdlib.h>
 #include <sys/stat.h>
 #include <sys/types.h>
+#include <sys/uio.h>
 #include <unistd.h>
 
 static long calls;
@@ -45,6 +46,24 @@ ssize_t pwrite64(int file, const void *bytes, size_t size, off_t at) {
     }
     return real(file, bytes, size, at);
 }
+
+ssize_t pwrite(int file, const void *bytes, size_t size, off_t at) { return pwrite64(file, bytes, size, at); }
+
+/* It is cut in the midst of its last part. */
+ssize_t pwritev64(int file, const struct iovec *parts, int count, off_t at) {
+    ssize_t (*real)(int, const struct iovec *, int, off_t) = next("pwritev64");
+    if (is_last()) {
+        if (calls % 2 == 0) {
+            real(file, parts, count - 1, at);
+            for (int i = 0; i < count - 1; i++) at += (off_t)parts[i].iov_len;
+            pwrite(file, parts[count - 1].iov_base, parts[count - 1].iov_len / 2, at);
+        }
+        die();
+    }
+    return real(file, parts, count, at);
+}
+
+ssize_t pwritev(int file, const struct iovec *parts, int count, off_t at) { return pwritev64(file, parts, count, at); }
 
 int fsync(int file) {
     if (is_last()) die();

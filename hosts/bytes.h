@@ -1,0 +1,23 @@
+/* Numbers as bytes, the lowest first, and bytes in memory of their own. */
+#ifndef BYTES_H
+#define BYTES_H
+
+#include <stdbool.h>
+#include <stddef.h>
+#include <stdint.h>
+
+uint64_t number_at(const uint8_t *at, int size);
+void number_put(uint8_t *at, uint64_t number, int size);
+
+struct bytes {
+    uint8_t *at;
+    size_t size, room;
+};
+
+/* Puts more at the end; false without memory, and nothing changes. */
+bool bytes_add(struct bytes *bytes, const void *more, size_t size);
+
+/* Gives the memory back. */
+void bytes_end(struct bytes *bytes);
+
+#endif

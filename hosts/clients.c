@@ -1,0 +1,69 @@
+#include "clients.h"
+
+#include "report.h"
+#include "unix_path.h"
+
+#include <sys/socket.h>
+#include <unistd.h>
+
+enum { WAITING = 16 };
+
+int clients_open(struct clients *clients, const char *path) {
+    clients->path = path;
+    clients->listener = -1;
+    for (int i = 0; i < CLIENTS_LIMIT; i++) client_open(&clients->all[i], -1, -1);
+    if (!path) {
+        client_open(&clients->all[0], STDIN_FILENO, STDOUT_FILENO);
+        clients->all[0].takes_outputs = true;
+        return STATUS_DONE;
+    }
+    clients->listener = unix_path_take(SOCK_STREAM, path);
+    return clients->listener >= 0 && listen(clients->listener, WAITING) == 0 ? STATUS_DONE : STATUS_IO;
+}
+
+void clients_welcome(struct clients *clients) {
+    if (clients->listener < 0) return;
+    for (int i = 0; i < CLIENTS_LIMIT; i++) {
+        struct client *client = &clients->all[i];
+        if (client->out >= 0) continue;
+        int file = accept4(clients->listener, NULL, NULL, SOCK_NONBLOCK | SOCK_CLOEXEC);
+        if (file < 0) return;
+        client_open(client, file, file);
+    }
+}
+
+struct client *clients_consumer(struct clients *clients) {
+    for (int i = 0; i < CLIENTS_LIMIT; i++)
+        if (clients->all[i].takes_outputs) return &clients->all[i];
+    return NULL;
+}
+
+int clients_serve(struct clients *clients) {
+    for (int i = 0; i < CLIENTS_LIMIT; i++) {
+        struct client *client = &clients->all[i];
+        client_write(client);
+        if (clients->path) {
+            if (client_is_over(client) || client_is_done(client)) client_close(client);
+        } else if (client_is_over(client)) {
+            report("standard output is closed");
+            return STATUS_IO;
+        }
+    }
+    return STATUS_DONE;
+}
+
+void clients_watch(const struct clients *clients, bool reads, bool prints, struct watch *watch) {
+    watch_file(watch, clients->listener, POLLIN);
+    for (int i = 0; i < CLIENTS_LIMIT; i++)
+        client_watch(&clients->all[i], reads, prints && clients->all[i].takes_outputs, watch);
+}
+
+bool clients_have_lines(const struct clients *clients) {
+    for (int i = 0; i < CLIENTS_LIMIT; i++)
+        if (client_has_line(&clients->all[i])) return true;
+    return false;
+}
+
+void clients_close(struct clients *clients) {
+    if (clients->listener >= 0) unlink(clients->path);
+}

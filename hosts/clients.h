@@ -1,0 +1,38 @@
+/* The programs that hand in inputs and take outputs: those that connect, or the one of standard input and output. */
+#ifndef CLIENTS_H
+#define CLIENTS_H
+
+#include "client.h"
+#include "watch.h"
+
+#include <stdbool.h>
+
+enum { CLIENTS_LIMIT = 16 };
+
+struct clients {
+    const char *path; /* where they connect; null for standard input and output, which is the first one then */
+    int listener;
+    struct client all[CLIENTS_LIMIT];
+};
+
+/* Takes the path; a status, and why is reported. */
+int clients_open(struct clients *clients, const char *path);
+
+/* Takes in those that connect. */
+void clients_welcome(struct clients *clients);
+
+/* The one that takes outputs; null where there is none. */
+struct client *clients_consumer(struct clients *clients);
+
+/* Writes what waits; those whose connection is over go. The loss of standard output ends the gateway: a status. */
+int clients_serve(struct clients *clients);
+
+/* What is to be waited for: lines, if they may be read, and a consumer that can take more. */
+void clients_watch(const struct clients *clients, bool reads, bool prints, struct watch *watch);
+
+/* Whether lines were left that can be taken. */
+bool clients_have_lines(const struct clients *clients);
+
+void clients_close(struct clients *clients);
+
+#endif

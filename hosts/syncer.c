@@ -1,0 +1,74 @@
+#include "syncer.h"
+
+#include <errno.h>
+#include <signal.h>
+#include <sys/eventfd.h>
+#include <unistd.h>
+
+/* All that was asked for meanwhile is one sync. */
+static void *sync_on(void *of) {
+    struct syncer *syncer = of;
+    pthread_mutex_lock(&syncer->lock);
+    for (;;) {
+        while (syncer->synced >= syncer->asked && !syncer->is_over) pthread_cond_wait(&syncer->wanted, &syncer->lock);
+        if (syncer->synced >= syncer->asked || syncer->fault) break;
+        uint64_t asked = syncer->asked;
+        int file = syncer->file;
+        pthread_mutex_unlock(&syncer->lock);
+        int fault = fdatasync(file) == 0 ? 0 : errno;
+        pthread_mutex_lock(&syncer->lock);
+        if (fault) syncer->fault = fault;
+        else if (syncer->synced < asked) syncer->synced = asked;
+        eventfd_write(syncer->event, 1);
+    }
+    pthread_mutex_unlock(&syncer->lock);
+    return NULL;
+}
+
+bool syncer_begin(struct syncer *syncer) {
+    sigset_t all, before; /* signals are for the main thread */
+    *syncer = (struct syncer){.file = -1};
+    pthread_mutex_init(&syncer->lock, NULL);
+    pthread_cond_init(&syncer->wanted, NULL);
+    syncer->event = eventfd(0, EFD_NONBLOCK | EFD_CLOEXEC);
+    sigfillset(&all);
+    pthread_sigmask(SIG_SETMASK, &all, &before);
+    syncer->has_thread = syncer->event >= 0 && pthread_create(&syncer->thread, NULL, sync_on, syncer) == 0;
+    pthread_sigmask(SIG_SETMASK, &before, NULL);
+    return syncer->has_thread;
+}
+
+void syncer_turns_to(struct syncer *syncer, int file) {
+    pthread_mutex_lock(&syncer->lock);
+    syncer->file = file;
+    syncer->synced = syncer->asked;
+    pthread_mutex_unlock(&syncer->lock);
+}
+
+uint64_t syncer_ask(struct syncer *syncer) {
+    pthread_mutex_lock(&syncer->lock);
+    uint64_t asked = ++syncer->asked;
+    pthread_cond_signal(&syncer->wanted);
+    pthread_mutex_unlock(&syncer->lock);
+    return asked;
+}
+
+uint64_t syncer_synced(struct syncer *syncer, int *fault) {
+    eventfd_t count;
+    eventfd_read(syncer->event, &count);
+    pthread_mutex_lock(&syncer->lock);
+    uint64_t synced = syncer->synced;
+    *fault = syncer->fault;
+    pthread_mutex_unlock(&syncer->lock);
+    return synced;
+}
+
+void syncer_end(struct syncer *syncer) {
+    if (!syncer->has_thread) return;
+    pthread_mutex_lock(&syncer->lock);
+    syncer->is_over = true;
+    pthread_cond_signal(&syncer->wanted);
+    pthread_mutex_unlock(&syncer->lock);
+    pthread_join(syncer->thread, NULL);
+    syncer->has_thread = false;
+}

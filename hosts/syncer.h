@@ -1,0 +1,35 @@
+/* A thread that waits for the disk, so that the program goes on meanwhile. */
+#ifndef SYNCER_H
+#define SYNCER_H
+
+#include <pthread.h>
+#include <stdbool.h>
+#include <stdint.h>
+
+struct syncer {
+    pthread_t thread;
+    pthread_mutex_t lock;
+    pthread_cond_t wanted;
+    int file;               /* what is synced */
+    uint64_t asked, synced; /* how often that was asked for, and up to where it is done */
+    int fault;              /* of the first sync that failed, as errno has it; 0 for none */
+    bool has_thread, is_over;
+    int event; /* can be read when more is synced */
+};
+
+/* False where there is no thread for it. */
+bool syncer_begin(struct syncer *syncer);
+
+/* Another file is synced from now on; all that was asked for before is durable. */
+void syncer_turns_to(struct syncer *syncer, int file);
+
+/* What was written up to now is to be durable: once so much is synced. */
+uint64_t syncer_ask(struct syncer *syncer);
+
+/* Up to where it is done; and the fault, if there is one. */
+uint64_t syncer_synced(struct syncer *syncer, int *fault);
+
+/* Ends the thread, behind all that was asked for. */
+void syncer_end(struct syncer *syncer);
+
+#endif
