@@ -1,4 +1,5 @@
-# The C library in a prefix: make install PREFIX=/usr/local, where DESTDIR is put before it, and make uninstall with the same.
+# The C library in a prefix: make install PREFIX=/usr/local, with DESTDIR before it if that is set,
+# and make uninstall with the same.
 # tools/dist makes what is copied. CONTRIBUTING.md names the commands for everything else.
 PREFIX = /usr/local
 at = $(DESTDIR)$(PREFIX)

@@ -1,6 +1,6 @@
 #!/usr/bin/env python3
 """The worked rows that the tests of both bindings drive: `rows.py` prints a line for each, `TABLE CALL ARGUMENTS = CODE NUMBERS BYTES`,
-with bytes in hexadecimal behind an x.
+with bytes in hexadecimal after an x.
 
 Those of sessions and gateways are the tables of tests/embed_session and tests/embed_gateway, whose values a model worked out. Those
 of nodes are what the model in model/calls answers to a list of calls. Left out is what bindings leave no way to ask for: a buffer

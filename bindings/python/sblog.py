@@ -48,7 +48,7 @@ Answer = enum.IntEnum(
 
 # By which rule a file is refused, and at which slot; slot 0 of a header.
 Fault = NamedTuple("Fault", [("rule", int), ("slot", int)])
-# What one call of a handler answered: of a longer message or output the first 64 bytes, and zeros behind a shorter one.
+# What one call of a handler answered: of a longer message or output the first 64 bytes; a shorter one is filled up with zeros.
 Report = NamedTuple("Report", [("r0", int), ("steps", int), ("sends", "list[tuple[int, bytes]]"), ("outputs", "list[bytes]")])
 # How many calls a drive accepted, and whether the journal's end stopped it.
 Drive = NamedTuple("Drive", [("accepted", int), ("is_stopped", bool)])
@@ -61,7 +61,7 @@ Output = NamedTuple("Output", [("process", int), ("ssn", int), ("payload", bytes
 # An entry of the journal: a call and its answer, each with numbers in the order of the entry's line in the trace.
 _NUMBERS = ("call_numbers", "tuple[int, ...]"), ("answer_numbers", "tuple[int, ...]")
 Entry = NamedTuple("Entry", [("worker", int), ("call", Call), _NUMBERS[0], ("answer", Answer), _NUMBERS[1], ("payload", bytes)])
-# How a node stands: the fields of sblog_standing.
+# The fields of sblog_standing.
 _STANDING = ("length", int), ("base", int), ("incarnation", int), ("stage", Stage), ("exact", bool)
 _COUNTS = [(name, int) for name in ("receipts", "entries", "packets", "replays", "waited_for")]
 Standing = NamedTuple("Standing", [*_STANDING, *_COUNTS])
@@ -106,7 +106,7 @@ def version() -> str:
 
 
 class Error(Exception):
-    """A refusal: `code` is the library's, `text` what the library says of it, and `fault` what was written beside it, if anything."""
+    """A refusal: `code` is the library's, `text` what the library says of it, and `fault` what was written with it, if anything."""
 
     _kind = ""
 
@@ -159,17 +159,17 @@ class _Held:
             raise self._error(code, fault.value if fault is not None and code == self._bytes_refused else None)
 
     def _told(self, name: str, *arguments: Any, kind: Any = c_uint32) -> int:
-        """The number that a call writes last: where it is refused, the fault."""
+        """The number that a call writes last; of a refused call the fault."""
         number = kind()
         self._done(self._call(name, *arguments, byref(number)), number)
         return number.value
 
-    def _bytes(self, name: str, *before: Any, behind: Sequence[Any] = ()) -> bytes | None:
-        """The bytes that a call writes, if it has any to write. Where its room was too short, it says how many it takes, and is made again."""
+    def _bytes(self, name: str, *before: Any, after: Sequence[Any] = ()) -> bytes | None:
+        """The bytes that a call writes, if it has any to write. If its room was too short, it says how many it takes, and is made again."""
         size, code = c_size_t(1024), self._room
         while code == self._room:
             out = ctypes.create_string_buffer(size.value)
-            code = self._call(name, *before, out, c_size_t(len(out)), byref(size), *behind)
+            code = self._call(name, *before, out, c_size_t(len(out)), byref(size), *after)
         if code != self._absent:
             self._done(code)
             return out.raw[: size.value]
@@ -339,7 +339,7 @@ class _Party(_Held):
 
     def take(self) -> Packet | None:
         to = c_uint8()
-        data = self._bytes("take", behind=[byref(to)])
+        data = self._bytes("take", after=[byref(to)])
         return None if data is None else Packet(to.value, data)
 
 
@@ -347,7 +347,7 @@ class Gateway(_Party):
     """The way into a cluster of `n` processes and out of it, node 0. What its calls put out may be sent once their changes are durable.
 
     revive   one that comes back with a store
-    apply    brings the store up to date by the changes that were kept behind it, before any other call
+    apply    brings the store up to date by the changes that were kept after it, before any other call
     input    logs a message of 0 to 256 bytes for a process; its number among those
     receive  takes the bytes of a packet that came
     take     the next packet that is to be sent, if one waits
@@ -357,7 +357,7 @@ class Gateway(_Party):
     changes  what happened to the store since this was asked; no bytes if nothing did
 
     gateway = Gateway(2)
-    store = gateway.store()  # to be kept, and behind it all changes
+    store = gateway.store()  # to be kept, and after it all changes
     gateway.input(1, b"hello")
     changes = gateway.changes()  # to be durable before gateway.take() is sent
     again = Gateway.revive(store)  # after a kill
@@ -398,7 +398,7 @@ class Node(_Party):
     tick        sends again what isn't answered
     checkpoint  the bytes that are to be kept; it drops what comes until `saved`
     saved       they are kept: what waited for that goes out
-    standing    how it stands
+    standing    its numbers, and what it does
     refused     how many sends and outputs helpers refused in this life, by the code that the handler got, 1 to 3
     state       the state that its handler left last
 
@@ -432,7 +432,7 @@ class Node(_Party):
 
     def job(self) -> Job | None:
         words = (c_uint64 * 6)()
-        array = self._bytes("job", behind=[words])
+        array = self._bytes("job", after=[words])
         return None if array is None else Job(*words, bytearray(array))
 
     def done(self, job: Job, record: bytes) -> None:

@@ -24,7 +24,7 @@ macro_rules! numbers {
 }
 
 /// Makes an enum of why calls are refused: its codes, and in words what the library's function for texts says. A variant may
-/// have what was written beside the code.
+/// have what was written with the code.
 macro_rules! errors {
     ($(#[$doc:meta])* $name:ident by $text:ident: $($variant:ident $(($field:ty))? = $code:literal),*) => {
         $(#[$doc])*

@@ -24,7 +24,7 @@ type Done<T> = Result<T, GatewayError>;
 ///
 /// ```no_run
 /// let mut gateway = sblog::Gateway::open(2, 60_000, 8)?;
-/// let store = gateway.store()?; // to be kept, and behind it all changes
+/// let store = gateway.store()?; // to be kept, and after it all changes
 /// gateway.input(1, b"hello")?;
 /// let changes = gateway.changes()?; // to be durable before this packet is sent
 /// let packet = gateway.take()?.unwrap();
@@ -51,7 +51,7 @@ impl Gateway {
         Ok(Gateway(Held::opened(sblog_gateway_close, open)?))
     }
 
-    /// Brings the store up to date by the changes that were kept behind it, before any other call.
+    /// Brings the store up to date by the changes that were kept after it, before any other call.
     pub fn apply(&mut self, changes: &[u8]) -> Done<()> {
         self.0.told(|it, fault| unsafe { sblog_gateway_apply(it, changes.as_ptr(), changes.len(), fault) })?;
         Ok(())

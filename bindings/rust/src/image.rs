@@ -41,7 +41,7 @@ pub struct Who {
 }
 
 /// What one call of a handler answered: what it returned, how many instructions were executed, to whom it sent which messages,
-/// and its outputs. Of a longer message or output the first 64 bytes are here, and zeros behind a shorter one.
+/// and its outputs. Of a longer message or output the first 64 bytes are here; a shorter one is filled up with zeros.
 #[allow(missing_docs)]
 #[derive(Clone, Debug, PartialEq, Eq)]
 pub struct Report {
@@ -55,7 +55,7 @@ impl Report {
     /// A report has at most so many bytes.
     const LIMIT: usize = 1064;
 
-    /// The report at the front of these bytes, and what lies behind it.
+    /// The report at the front of these bytes, and what comes after it.
     fn split(bytes: &[u8]) -> (Report, &[u8]) {
         let [r0, steps, sends, outputs] = [0, 8, 16, 24].map(|at| u64::from_le_bytes(*bytes[at..].first_chunk().unwrap()));
         let (sent, rest) = bytes[32..].split_at(65 * sends as usize);
@@ -110,8 +110,8 @@ impl Image {
         done(unsafe { sblog_run(self.0, state, state_len, sent.as_ptr(), sent.len(), me, from, count, out, len) }, 0)?;
         let mut rest = &reports[..];
         let next = |_| {
-            let (report, behind) = Report::split(rest);
-            rest = behind;
+            let (report, after) = Report::split(rest);
+            rest = after;
             report
         };
         Ok(messages.iter().map(next).collect())

@@ -16,7 +16,7 @@ numbers! {
 }
 
 /// A call that was accepted, and what it was answered. Call and answer have numbers, in the order of the entry's line in the
-/// trace, and zeros behind them.
+/// trace, and zeros after them.
 #[repr(C)]
 #[derive(Clone, Copy, Debug, PartialEq, Eq)]
 pub struct Entry {

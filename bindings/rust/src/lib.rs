@@ -18,8 +18,8 @@
 //! is_sent(sblog::Gateway::open(1, 60_000, 8).unwrap());
 //! ```
 //!
-//! A refused call changes nothing, unless its page here says so. Where memory runs out in the library, a call is refused; where
-//! it runs out in this crate, the program ends, as everywhere in Rust. A session of the example's adder:
+//! A refused call changes nothing, unless its page here says so. If memory runs out in the library, a call is refused; if it
+//! runs out in this crate, the program ends, as everywhere in Rust. A session of the example's adder:
 //!
 //! ```no_run
 //! let adder = std::fs::read("examples/adder.sbi")?;

@@ -22,7 +22,7 @@ pub struct Limits {
     pub tick: u32,
     /// With so many numbers that aren't acknowledged it takes no message, 1 to 256.
     pub numbers: u32,
-    /// Nor with so many messages behind its checkpoint, 1 to 65,536.
+    /// Nor with so many messages after its checkpoint, 1 to 65,536.
     pub receipts: u32,
     /// Whether what it sends waits until a checkpoint that covers it is durable.
     pub is_durable: bool,
@@ -42,7 +42,7 @@ pub struct Packet {
     pub bytes: Vec<u8>,
 }
 
-/// How a node stands: the fields of `sblog_standing`.
+/// The numbers of a node, and what it does: the fields of `sblog_standing`.
 #[allow(missing_docs)]
 #[derive(Clone, Copy, Debug, PartialEq, Eq)]
 pub struct Standing {
@@ -160,7 +160,7 @@ impl Node {
         Ok(done(unsafe { sblog_node_saved(self.0.at()) }, 0)?)
     }
 
-    /// How it stands.
+    /// Its numbers, and what it does.
     pub fn standing(&self) -> Done<Standing> {
         let mut words = [0; 10];
         done(unsafe { sblog_node_standing(self.0.at(), &mut words) }, 0)?;

@@ -101,7 +101,7 @@ pub fn done(code: u32, fault: u32) -> Result<(), Refused> {
     if code == 0 { Ok(()) } else { Err(Refused(code, fault)) }
 }
 
-/// The bytes that a call writes. Where it answers `room` it says how many it takes, and is made again.
+/// The bytes that a call writes. If it answers `room` it says how many it takes, and is made again.
 pub fn written(room: u32, mut call: impl FnMut(Out, usize, Size) -> u32) -> Result<Vec<u8>, Refused> {
     let (mut out, mut size) = (vec![0; 1024], 0);
     loop {
@@ -129,7 +129,7 @@ impl Held {
         self.handle.get()
     }
 
-    /// The number that a call writes: where it is refused, the fault.
+    /// The number that a call writes; of a refused call the fault.
     pub fn told(&self, call: impl FnOnce(At, Number) -> u32) -> Result<u32, Refused> {
         let mut number = 0;
         let code = call(self.at(), &mut number);

@@ -62,7 +62,7 @@ fn drive<T>(kind: &str, mut call: impl FnMut(&mut Option<T>, &Row) -> Told) {
     assert!(driven > 10);
 }
 
-/// What a refusal tells; 20 where it says that there is none, which the crate tells by `None` and false.
+/// What a refusal tells; 20 if there is none, which the crate tells by `None` and false.
 fn refusal(error: &(dyn Error + 'static)) -> Answer {
     let told = |code, fault: Option<u32>| (code, fault.into_iter().map(u64::from).collect(), vec![]);
     if let Some(error) = error.downcast_ref::<SessionError>() {
@@ -88,7 +88,7 @@ fn given(bytes: Vec<u8>) -> Told {
     Ok((0, vec![], bytes))
 }
 
-/// A packet or an output with its numbers, where there is one.
+/// A packet or an output with its numbers, if there is one.
 fn sent(given: Option<(Vec<u64>, Vec<u8>)>) -> Told {
     given.map(|(numbers, bytes)| (0, numbers, bytes)).ok_or("there is none".into())
 }
