@@ -19,6 +19,10 @@ extern "C" {
 
 /* Every slice is a pointer, which is never null, and a length. One that is written overlaps no other. */
 
+/* The version of the library that the program runs with, as 0.1.0. This function, and those that put a code in words, are
+   C that tools/dist writes of this header: nothing of them is proved. */
+const char *sblog_version(void);
+
 /* ---- handlers */
 
 enum sblog_code {
@@ -35,6 +39,9 @@ enum sblog_code {
     SBLOG_HANDLE = 10, /* the handle is null */
     SBLOG_RECORD = 12  /* no call of form 1 leaves such a record */
 };
+
+/* A code in words, for logs; "no such code" of any other number. */
+const char *sblog_code_text(uint32_t code);
 
 /* A message has 64 bytes; to a handler of form 3 r3 is 64, and zeros lie behind it. A report shows 64 bytes of each
    payload: of a longer one the first, and zeros behind a shorter one. */
@@ -202,23 +209,38 @@ static inline uint32_t sblog_native_run(sblog_native_code code, int form, uint8_
 }
 #endif
 
-/* ---- sessions. The name below keeps this part and a copy of the header that sessions had before apart. */
+/* ---- sessions */
 
+/* This name keeps this part and a copy of the header that sessions had before apart. */
 #ifndef SBLOG_SESSION_H
 #define SBLOG_SESSION_H
 
 /* 1 to 15 are the refusals of a session, by number (docs/FORMATS.md) */
 enum sblog_session_code {
     SBLOG_SESSION_DONE = 0,
-    SBLOG_SESSION_NO_PROCESS = 1, /* there is no such process; to open one, 1 to 15 files */
-    SBLOG_SESSION_FULL = 12,      /* the journal is full; of drive, its end stopped it */
-    SBLOG_SESSION_MEMORY = 15,    /* memory ran out */
-    SBLOG_SESSION_HANDLE = 16,    /* the handle is closed; to open one, it is open */
-    SBLOG_SESSION_FILE = 17,      /* a file is none of an image, or the lengths don't fit */
-    SBLOG_SESSION_PAYLOAD = 18,   /* a payload has more than 256 bytes */
-    SBLOG_SESSION_ROOM = 19,      /* the buffer is too short; the size says what it takes */
-    SBLOG_SESSION_ABSENT = 20     /* there is none of this number */
+    SBLOG_SESSION_NO_PROCESS = 1,   /* there is no such process; to open one, 1 to 15 files */
+    SBLOG_SESSION_NOT_UP = 2,       /* the process is not up */
+    SBLOG_SESSION_OPEN_JOB = 3,     /* the process has an open job */
+    SBLOG_SESSION_NO_PACKET = 4,    /* no packet has this key */
+    SBLOG_SESSION_SAME_PROCESS = 5, /* a process is no peer of its own */
+    SBLOG_SESSION_NOT_RELEASED = 6, /* the message isn't released yet */
+    SBLOG_SESSION_NOT_LOGGED = 7,   /* the message isn't in its sender's log */
+    SBLOG_SESSION_PEER_NOT_UP = 8,  /* another process is not up */
+    SBLOG_SESSION_STALE_JOB = 9,    /* the result isn't that of the open job */
+    SBLOG_SESSION_NOT_DOWN = 10,    /* the process is not down */
+    SBLOG_SESSION_WRONG_PHASE = 11, /* the process is in another phase */
+    SBLOG_SESSION_FULL = 12,        /* the journal is full; of drive, its end stopped it */
+    SBLOG_SESSION_WIRE_FULL = 13,   /* the wire is full */
+    SBLOG_SESSION_FEED_TAKEN = 14,  /* the feed number is taken */
+    SBLOG_SESSION_MEMORY = 15,      /* memory ran out */
+    SBLOG_SESSION_HANDLE = 16,      /* the handle is closed; to open one, it is open */
+    SBLOG_SESSION_FILE = 17,        /* a file is none of an image, or the lengths don't fit */
+    SBLOG_SESSION_PAYLOAD = 18,     /* a payload has more than 256 bytes */
+    SBLOG_SESSION_ROOM = 19,        /* the buffer is too short; the size says what it takes */
+    SBLOG_SESSION_ABSENT = 20       /* there is none of this number */
 };
+
+const char *sblog_session_code_text(uint32_t code);
 
 enum sblog_session_phase {
     SBLOG_SESSION_UP = 0,
@@ -355,7 +377,7 @@ uint32_t sblog_session_entries(sblog_session *handle, size_t from, sblog_entry *
 
 #endif
 
-/* ---- the gateway of a cluster whose processes are programs of their own: its way in and out, node 0. The
+/* ---- the gateway of a cluster, whose processes are programs of their own: its way in and out, node 0. The
    bytes of packets, store and changes: docs/FORMATS.md. */
 
 #ifndef SBLOG_GATEWAY_H
@@ -372,6 +394,8 @@ enum sblog_gateway_code {
     SBLOG_GATEWAY_EARLY = 22,   /* not now: something waits to be sent or to be made durable */
     SBLOG_GATEWAY_RANGE = 23    /* a limit or a number of a process is out of range */
 };
+
+const char *sblog_gateway_code_text(uint32_t code);
 
 /* Why changes are refused (21). */
 enum sblog_gateway_fault {
@@ -445,6 +469,8 @@ enum sblog_node_code {
     SBLOG_NODE_LIMIT = 23,  /* a limit, me, n or an incarnation is out of its range */
     SBLOG_NODE_LEFT = 24    /* no call of the handler leaves this array and record */
 };
+
+const char *sblog_node_code_text(uint32_t code);
 
 enum sblog_node_stage {
     SBLOG_NODE_UP = 0,

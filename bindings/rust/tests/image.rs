@@ -1,0 +1,69 @@
+//! Images: what a call leaves, worked out by hand, why files and calls are refused, and texts.
+
+use sblog::*;
+
+const ALONE: Who = Who { me: 1, from: 0, count: 1 };
+
+fn file(name: &str) -> Vec<u8> {
+    std::fs::read(format!("{}/../../examples/{name}", env!("CARGO_MANIFEST_DIR"))).unwrap()
+}
+
+fn message(word: u8) -> [u8; 64] {
+    std::array::from_fn(|at| if at == 0 { word } else { 0 })
+}
+
+#[test]
+fn an_adder_adds() {
+    let mut adder = Image::open(&file("adder.sbi")).unwrap();
+    let mut state = vec![0; adder.state_len()];
+    let reports = adder.run(&mut state, &[message(5), message(7)], ALONE).unwrap();
+    assert_eq!(state, 12u64.to_le_bytes());
+    assert_eq!(reports, vec![Report { r0: 0, steps: 6, sends: vec![], outputs: vec![] }; 2]);
+    assert_eq!(adder.compile().unwrap(), file("native/adder.bin"));
+}
+
+#[test]
+fn a_relay_sends_and_an_echo_gives() {
+    let run = |name, who| Image::open(&file(name)).unwrap().run(&mut [], &[message(9)], who).unwrap().remove(0);
+    let sent = run("relay.sbi", Who { count: 2, ..ALONE });
+    assert_eq!((sent.sends, sent.outputs), (vec![(2, message(9))], vec![]));
+    let given = run("echo.sbi", ALONE);
+    assert_eq!((given.sends, given.outputs), (vec![], vec![message(9)]));
+}
+
+#[test]
+fn files_and_calls_are_refused() {
+    let fault = |rule, slot| Fault { rule, slot };
+    let mut adder = file("adder.sbi");
+    adder[48] = 0xb7; // the last instruction is a move
+    let error = Image::open(&adder).unwrap_err();
+    assert_eq!((error, error.code()), (ImageError::Rules(fault(2, 5)), 4));
+    assert_eq!(error.to_string(), "a rule of the verifier, V1 to V10 (rule 2, slot 5)");
+    adder[8] = 0xff; // no opcode
+    assert_eq!(Image::open(&adder).unwrap_err(), ImageError::Code(fault(2, 0)));
+    adder[3] = b'4';
+    assert_eq!(Image::open(&adder).unwrap_err(), ImageError::Header(fault(2, 0)));
+    let mut adder = Image::open(&file("adder.sbi")).unwrap();
+    assert_eq!(adder.run(&mut [0; 9], &[], ALONE).unwrap_err(), ImageError::State);
+    assert_eq!(adder.run(&mut [0; 8], &[], Who { from: 1, ..ALONE }).unwrap_err(), ImageError::Who);
+    let mut sized = Image::open(&file("c/sized.sbi")).unwrap();
+    assert_eq!(sized.run(&mut [0; 8], &[], ALONE).unwrap_err(), ImageError::Form);
+}
+
+#[test]
+fn a_session_tells_what_happened() {
+    let mut session = Session::open(&[file("adder.sbi")]).unwrap();
+    session.input(1, 9, &[7, 7]).unwrap();
+    assert_eq!(session.trace().unwrap(), "000001 w0 input 1 9 -> logged 1\n");
+    let entry = session.entries(0).unwrap()[0];
+    assert_eq!((entry.call(), entry.call_numbers, entry.payload()), (Call::Input, [1, 9, 0], &[7, 7][..]));
+    assert_eq!((entry.answer(), entry.answer_numbers), (Answer::Logged, [1, 0]));
+    assert_eq!(session.refused(1, 1), 0);
+    let error = Session::open(&vec![file("adder.sbi"); 16]).err().unwrap();
+    assert_eq!(error.to_string(), "there is no such process; to open one, 1 to 15 files");
+}
+
+#[test]
+fn versions_are_the_same() {
+    assert_eq!(version(), env!("CARGO_PKG_VERSION"));
+}
