@@ -556,7 +556,7 @@ uint32_t sblog_node_revive(const uint8_t *image, size_t image_len, const uint8_t
                            uint32_t receipts, uint32_t durable, sblog_node *node, uint32_t *fault);
 uint32_t sblog_node_close(sblog_node *node);
 uint32_t sblog_node_receive(sblog_node *node, const uint8_t *packet, size_t packet_len, uint32_t *fault);
-/* A packet to be sent, and to whom (0: the gateway); 20, if there is none. */
+/* A packet to be sent, and to whom (0: the gateway); 20, if none waits. */
 uint32_t sblog_node_take(sblog_node *node, uint8_t *out, size_t out_len, size_t *size, uint8_t *to);
 /* The handler runs; 20, if there is nothing to work on. */
 uint32_t sblog_node_work(sblog_node *node);
@@ -568,6 +568,8 @@ uint32_t sblog_node_job(sblog_node *node, uint8_t *array, size_t array_len, size
    are more than 8 messages or outputs, one is longer than 256 bytes or to no other process, or it was called as another. */
 uint32_t sblog_node_done(sblog_node *node, uint64_t incarnation, uint64_t received, const uint8_t *array,
                          size_t array_len, const uint8_t *record, size_t record_len);
+/* What isn't answered is sent again. 15 or 23 where it was, and the node should have passed on to its next stage and
+   can't: memory was refused, and the next tick tries again; or it would keep more messages than a node takes. */
 uint32_t sblog_node_tick(sblog_node *node);
 /* Bytes to be kept durably; 22 where it isn't up, works on a message, or waits for another checkpoint. */
 uint32_t sblog_node_checkpoint(sblog_node *node, uint8_t *out, size_t out_len, size_t *size);

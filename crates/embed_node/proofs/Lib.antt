@@ -1,4 +1,4 @@
 mod AsBox
-mod Fronts
+mod Exports
 mod Opened
 mod Outcomes

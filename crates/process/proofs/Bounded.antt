@@ -373,7 +373,7 @@ recovered n r is few b =
     let none = is.none in
     (subst (λ k. OwnHolds r.own k) (sym is.none) (subst (λ o. OwnHolds o 0) (sym is.own) b), (omega arith, few))
 
-recovers : (old new : Course) → Recovers old new → Holds old → Holds new
+pub recovers : (old new : Course) → Recovers old new → Holds old → Holds new
 recovers (Collecting n) (Replaying r) h b = recovered n r h.1 h.3 b
 recovers old new h b = subst Holds (sym h) b
 
@@ -386,12 +386,12 @@ ended n over b =
     let few = b.1.1 in
     (record { allowed = b.0.allowed; logs = omega arith; packets = b.0.packets }, record { few = omega arith; flags = flags.0 ∙ sym many; none = flags.1 })
 
-finishes : (old new : Course) → Finishes old new → Holds old → Holds new
+pub finishes : (old new : Course) → Finishes old new → Holds old → Holds new
 finishes (Replaying n) (Replayed r) h b = subst (λ m. Holds (Replayed m)) (sym h.1) (ended n h.0 b)
 finishes (Replaying n) new h b = subst Holds (sym h.1) b
 finishes old new h b = subst Holds (sym h) b
 
-begins : (old new : Course) → Begun old new → Holds old → Holds new
+pub begins : (old new : Course) → Begun old new → Holds old → Holds new
 begins (Replayed r) (Restoring n) h b =
     let first = restoring.begins r in
     subst (λ (m : TheRestoring). Holds (Restoring m)) (sym h.0) (back-holds first (restoring.asked first) (restoring_asked first) (logs.same first.own.logs (restoring.asked first).own.logs (logs.restoring_asked first)) b)

@@ -1,7 +1,6 @@
 -- A packet without entries that is in its range has room
-use Rattle.std.proofs.Common.{◌≡◌, ◌<◌, ◌^◌, ℕ, List, [], ◌∷◌, length, Bool, true, false, refl, sym, arith}
+use Rattle.std.proofs.Common.{◌≡◌, ◌<◌, ◌^◌, ℕ, List, [], ◌∷◌, length, Bool, true, false, refl, arith}
 use Rattle.std.specs.Prelude.{not, ◌&&◌, ◌==◌, nat_lt, nat_le}
-use Rattle.std.specs.Bool.{OnTrue}
 use Rattle.std.specs.List.{list_all}
 use Rattle.std.proofs.lemmas.Bool.Decides.{nat_tests}
 use Rattle.theorems.proofs.Tests.{both}
@@ -73,7 +72,3 @@ written-fits x e =
       room = brief-room x.body b.1 a.1;
       range = a.1;
     }
-
-pub fits-on : (b : Bool) (x : Packet) → b ≡ is_written x → OnTrue b (Fits x)
-fits-on true x e = written-fits x (sym e)
-fits-on false x e = tt
