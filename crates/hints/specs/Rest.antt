@@ -1,5 +1,5 @@
 -- What a session leaves undone.
-use Rattle.std.specs.Prelude.{◌≡◌, Unit}
+use Rattle.std.specs.Prelude.{◌≡◌}
 use Rattle.limits.specs.declared.TheConstants.{ENTRIES}
 use Rattle.world.specs.declared.phase.PhaseName.TheVariants as names
 use Rattle.world.specs.Phases.{name_of}

@@ -44,11 +44,17 @@ fn memory_words(alloc: Global, line: &str) -> Result<String, AllocError> {
     let Some((first, second)) = operands.split_once(", ") else {
         return Ok(String::new(alloc));
     };
-    if let (Some(width), true) = (
-        verb.strip_prefix("stx"),
-        is_place(first) && is_number(second),
-    ) {
-        return format!(in alloc; "of a number it is st{width} {first}, {second}");
+    if is_place(first) {
+        match verb.strip_prefix("stx") {
+            Some(width) if is_number(second) => {
+                return format!(in alloc; "of a number it is st{width} {first}, {second}");
+            }
+            None if verb.starts_with("st") && second.starts_with('r') => {
+                let width = verb.strip_prefix("st").unwrap_or("");
+                return format!(in alloc; "of a register it is stx{width} {first}, {second}");
+            }
+            _ => {}
+        }
     }
     let is_store = verb.starts_with("st") && is_place(second) && !is_place(first);
     let is_load = verb.starts_with("ldx") && is_place(first) && !is_place(second);

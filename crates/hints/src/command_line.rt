@@ -15,6 +15,7 @@ fn meant_words(word: &str) -> &'static str {
         "verify" | "validate" => "sblog check verifies an image\n",
         "start" | "exec" | "play" | "simulate" => "sblog run carries out a scenario\n",
         "render" | "picture" | "diagram" => "sblog draw writes the picture of a run\n",
+        path if path.ends_with(".scenario") => "sblog run carries out a scenario\n",
         _ => "",
     }
 }
