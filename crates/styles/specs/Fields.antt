@@ -29,6 +29,6 @@ abbrev pub fields_text : TheStyle → List (List ℕ × Value) → List ℕ
 fields_text style fields = flat_map (field_text style) fields
 
 -- a call or an answer: its word, and its fields; in JSON an object with a name
-abbrev pub deed_text : TheStyle → List ℕ → List (List ℕ × Value) → List ℕ
+unfoldable pub deed_text : TheStyle → List ℕ → List (List ℕ × Value) → List ℕ
 deed_text style word fields =
     if style.json then codes "{\"name\":\"" ++ word ++ codes "\"" ++ fields_text style fields ++ codes "}" else word ++ fields_text style fields

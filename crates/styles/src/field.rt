@@ -105,6 +105,7 @@ impl Style<'_> {
     }
 
     /// Writes a call or an answer: its word, and its fields.
+    #[tactic(auto, unfolding(crate::specs::Fields::deed_text))]
     pub(crate) fn say(
         self,
         out: &mut String,

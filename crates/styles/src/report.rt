@@ -1,8 +1,9 @@
 //! The lines of a report, and of refused orders.
 
 ghost use Rattle.std.specs.Prelude.{◌≡◌, ◌++◌, OnOk, string_bytes};
+ghost use Rattle.scenario.specs.Hex.{hex_text};
 ghost use Rattle.trace.specs.Report.{phase_text};
-ghost use Rattle.styles.specs.Lines.{exact_text, output_text, process_text, refused_text};
+ghost use Rattle.styles.specs.Lines.{exact_text, output_text, process_text, quoted, counted, refused_text};
 ghost use Rattle.styles.specs.Style.{style_of};
 
 use crate::style::Style;
@@ -21,6 +22,31 @@ fn phase_word(phase: PhaseName) -> &'static str
         PhaseName::Replaying => "replaying",
         PhaseName::Resync => "resync",
     }
+}
+
+/// Writes a text in JSON after this: its key, and the text in quotes.
+#[tactic(auto, unfolding(crate::specs::Lines::quoted))]
+fn push_quoted(out: &mut String, before: &str, key: &str, text: &str) -> Result<(), AllocError>
+    ensures { OnOk result (string_bytes out.new ≡ string_bytes out.old ++ quoted before.now key.now text.now) }
+{
+    write!(out, "{before}\"{key}\":\"{text}\"")
+}
+
+/// Writes bytes in JSON.
+#[tactic(auto, unfolding(crate::specs::Lines::quoted))]
+fn push_bytes(out: &mut String, before: &str, key: &str, bytes: &[u8]) -> Result<(), AllocError>
+    ensures { OnOk result (string_bytes out.new ≡ string_bytes out.old ++ quoted before.now key.now (hex_text bytes.now)) }
+{
+    let hex = Hex(bytes);
+    write!(out, "{before}\"{key}\":\"{hex}\"")
+}
+
+/// Writes a number in JSON.
+#[tactic(auto, unfolding(crate::specs::Lines::counted))]
+fn push_counted(out: &mut String, key: &str, count: u32) -> Result<(), AllocError>
+    ensures { OnOk result (string_bytes out.new ≡ string_bytes out.old ++ counted key.now count) }
+{
+    write!(out, ",\"{key}\":{count}")
 }
 
 impl Style<'_> {
@@ -57,10 +83,11 @@ impl Style<'_> {
         if !self.json {
             return trace::push_process(out, name, phase, length, state);
         }
-        let word = phase_word(phase);
-        let hex = Hex(state);
-        write!(out, "{{\"process\":\"{name}\",\"phase\":\"{word}\",")?;
-        writeln!(out, "\"messages\":{length},\"state\":\"{hex}\"}}")
+        push_quoted(out, "{", "process", name)?;
+        push_quoted(out, ",", "phase", phase_word(phase))?;
+        push_counted(out, "messages", length)?;
+        push_bytes(out, ",", "state", state)?;
+        out.push_str("}\n")
     }
 
     /// Writes the line of an output: the name of the process that gave it, its SSN to the outside, and its bytes.
@@ -76,11 +103,10 @@ impl Style<'_> {
         if !self.json {
             return trace::push_output(out, name, ssn, payload);
         }
-        let hex = Hex(payload);
-        writeln!(
-            out,
-            "{{\"output\":\"{name}\",\"ssn\":{ssn},\"bytes\":\"{hex}\"}}"
-        )
+        push_quoted(out, "{", "output", name)?;
+        push_counted(out, "ssn", ssn)?;
+        push_bytes(out, ",", "bytes", payload)?;
+        out.push_str("}\n")
     }
 
     /// Writes whether failures came one at a time.
