@@ -161,8 +161,9 @@ static void take_outputs(struct host *host, struct client *client, const struct 
 }
 
 static void took(struct host *host, struct client *client, const struct line *line) {
-    if (!client->takes_outputs) answers_add(&host->answers, client, line, "this program takes no outputs");
-    else if (!outputs_take(&host->waiting, line->process, line->ssn)) answers_add(&host->answers, client, line, "no output has this SSN yet");
+    const char *why = !client->takes_outputs ? "this program takes no outputs" : NULL;
+    if (!why && !outputs_take(&host->waiting, line->process, line->ssn)) why = "no output has this SSN yet";
+    if (why) answers_add(&host->answers, client, line, why);
 }
 
 static void read_lines(struct host *host, struct client *client) {
@@ -219,7 +220,8 @@ static void take_packets(struct host *host, struct turn *turn) {
 static int wait_for_disk(struct host *host) {
     struct answers *answers = &host->answers;
     struct turn *turn = turn_new(host->store.asked);
-    if (!turn || !bytes_add(&turn->answers, answers->all, answers->count * sizeof *answers->all)) return refused("turn", SBLOG_GATEWAY_MEMORY, 0);
+    if (!turn || !bytes_add(&turn->answers, answers->all, answers->count * sizeof *answers->all))
+        return refused("turn", SBLOG_GATEWAY_MEMORY, 0);
     answers->count = 0;
     turn->heard = host->heard;
     host->heard = (struct bytes){0};
