@@ -20,7 +20,7 @@
 #include <string.h>
 
 /* Packets and outputs of a turn; inputs of a process without a number, from which on no line is read; microseconds of a
-   second; bytes of changes behind which the store is written anew. */
+   second; bytes of records after which the store is written anew. */
 enum { TURN = 1024, AHEAD = 1024, SECOND = 1000000, BEHIND = 1 << 24, ROOM = 1 << 16 };
 
 struct host {
@@ -305,7 +305,7 @@ static size_t figures(const struct host *host, struct figure out[FIGURES]) {
         {"printed", host->outputs, NULL, "outputs that were printed since it began"},
         {"untaken", host->waiting.count, NULL, "outputs that were handed out, and that nobody has taken"},
         {"programs", clients, NULL, "programs that hand in inputs or take outputs"},
-        {"behind", host->store.behind, NULL, "bytes of changes behind the store"},
+        {"behind", host->store.behind, NULL, "bytes of records behind the store"},
         {"refused", host->refused, NULL, "times that bytes came that are no packet"},
         {"broken", host->transport.broken, NULL, "times that something came that is no bundle"},
         {"foreign", host->transport.foreign, NULL, "times that a bundle of another cluster came"},
