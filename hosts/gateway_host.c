@@ -20,7 +20,7 @@
 #include <string.h>
 
 /* Packets and outputs of a turn; inputs of a process without a number, from which on no line is read; microseconds of a
-   second; bytes of changes behind which the store is written anew. */
+   second; bytes of records after which the store is written anew. */
 enum { TURN = 1024, AHEAD = 1024, SECOND = 1000000, BEHIND = 1 << 24, ROOM = 1 << 16 };
 
 struct host {
@@ -161,8 +161,9 @@ static void take_outputs(struct host *host, struct client *client, const struct 
 }
 
 static void took(struct host *host, struct client *client, const struct line *line) {
-    if (!client->takes_outputs) answers_add(&host->answers, client, line, "this program takes no outputs");
-    else if (!outputs_take(&host->waiting, line->process, line->ssn)) answers_add(&host->answers, client, line, "no output has this SSN yet");
+    const char *why = !client->takes_outputs ? "this program takes no outputs" : NULL;
+    if (!why && !outputs_take(&host->waiting, line->process, line->ssn)) why = "no output has this SSN yet";
+    if (why) answers_add(&host->answers, client, line, why);
 }
 
 static void read_lines(struct host *host, struct client *client) {
@@ -219,7 +220,8 @@ static void take_packets(struct host *host, struct turn *turn) {
 static int wait_for_disk(struct host *host) {
     struct answers *answers = &host->answers;
     struct turn *turn = turn_new(host->store.asked);
-    if (!turn || !bytes_add(&turn->answers, answers->all, answers->count * sizeof *answers->all)) return refused("turn", SBLOG_GATEWAY_MEMORY, 0);
+    if (!turn || !bytes_add(&turn->answers, answers->all, answers->count * sizeof *answers->all))
+        return refused("turn", SBLOG_GATEWAY_MEMORY, 0);
     answers->count = 0;
     turn->heard = host->heard;
     host->heard = (struct bytes){0};
@@ -303,7 +305,7 @@ static size_t figures(const struct host *host, struct figure out[FIGURES]) {
         {"printed", host->outputs, NULL, "outputs that were printed since it began"},
         {"untaken", host->waiting.count, NULL, "outputs that were handed out, and that nobody has taken"},
         {"programs", clients, NULL, "programs that hand in inputs or take outputs"},
-        {"behind", host->store.behind, NULL, "bytes of changes behind the store"},
+        {"behind", host->store.behind, NULL, "bytes of records behind the store"},
         {"refused", host->refused, NULL, "times that bytes came that are no packet"},
         {"broken", host->transport.broken, NULL, "times that something came that is no bundle"},
         {"foreign", host->transport.foreign, NULL, "times that a bundle of another cluster came"},

@@ -108,7 +108,7 @@ int gateway_store_append(struct gateway_store *store, const uint8_t *changes, si
     uint64_t end = store->at + record->size;
     if (!has_room(store, which, end) || !write_at(store->files[which], record->at, record->size, store->at)) return failed(store, which);
     store->at = end;
-    store->behind += size;
+    store->behind += record->size;
     if (synced) store->asked = syncer_ask(&store->syncer);
     return STATUS_DONE;
 }

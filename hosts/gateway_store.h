@@ -19,7 +19,7 @@ struct gateway_store {
     uint64_t room[2];     /* bytes of each file that were written once, so that a sync has no more to write than what changed */
     uint64_t generation;  /* of the file that is written now, which is file generation % 2 */
     uint64_t at;          /* where its next record goes */
-    size_t whole, behind; /* bytes of the store, and of the changes behind it */
+    size_t whole, behind; /* bytes of the store, and of the records behind it */
     uint64_t asked;       /* the last sync that was asked for */
     struct syncer syncer;
     struct bytes record;

@@ -32,7 +32,7 @@ static const char USAGE[] =
     "\n"
     "SIGUSR1 prints that line once. SIGTERM and SIGINT end it, a process behind a checkpoint.\n"
     "Statuses: 0; 2 the command line; 3 a refused image; 4 a refused cluster file; 5 want of memory;\n"
-    "6 input and output; 7 a store that isn't this process's, or is in use.\n";
+    "6 input and output; 7 a store that isn't this process's or its cluster's, or is in use.\n";
 
 enum { CLUSTER = 1, ME, STORE, CHECKPOINT_EVERY, DURABLE, EVERY_TICK, LISTEN, METRICS, STATUS, HELP, VERSION };
 

@@ -1,6 +1,7 @@
 /* Kills its program before the n-th call that changes a file: write, sync, rename, truncate, unlink. It is loaded in front of the
-   C library, and DIE_AT is n. A write of an even n is cut in half first. */
+   C library, and DIE_AT is n. A write of an even n is cut in half first. Where FAIL is set, that call fails once instead: EIO. */
 #include <dlfcn.h>
+#include <errno.h>
 #include <signal.h>
 #include <stdlib.h>
 #include <sys/stat.h>
@@ -17,7 +18,9 @@ static int is_last(void) {
     return at > 0 && ++calls == at;
 }
 
-static void die(void) {
+static int die(void) {
+    errno = EIO;
+    if (getenv("FAIL")) return -1;
     kill(getpid(), SIGKILL);
     for (;;) pause();
 }
@@ -33,7 +36,7 @@ ssize_t write(int file, const void *bytes, size_t size) {
     ssize_t (*real)(int, const void *, size_t) = next("write");
     if (is_file(file) && is_last()) {
         if (calls % 2 == 0) real(file, bytes, size / 2);
-        die();
+        return die();
     }
     return real(file, bytes, size);
 }
@@ -42,7 +45,7 @@ ssize_t pwrite64(int file, const void *bytes, size_t size, off_t at) {
     ssize_t (*real)(int, const void *, size_t, off_t) = next("pwrite64");
     if (is_last()) {
         if (calls % 2 == 0) real(file, bytes, size / 2, at);
-        die();
+        return die();
     }
     return real(file, bytes, size, at);
 }
@@ -58,7 +61,7 @@ ssize_t pwritev64(int file, const struct iovec *parts, int count, off_t at) {
             for (int i = 0; i < count - 1; i++) at += (off_t)parts[i].iov_len;
             pwrite(file, parts[count - 1].iov_base, parts[count - 1].iov_len / 2, at);
         }
-        die();
+        return die();
     }
     return real(file, parts, count, at);
 }
@@ -66,31 +69,31 @@ ssize_t pwritev64(int file, const struct iovec *parts, int count, off_t at) {
 ssize_t pwritev(int file, const struct iovec *parts, int count, off_t at) { return pwritev64(file, parts, count, at); }
 
 int fsync(int file) {
-    if (is_last()) die();
+    if (is_last()) return die();
     return ((int (*)(int))next("fsync"))(file);
 }
 
 int fdatasync(int file) {
-    if (is_last()) die();
+    if (is_last()) return die();
     return ((int (*)(int))next("fdatasync"))(file);
 }
 
 int renameat(int from, const char *old, int to, const char *new) {
-    if (is_last()) die();
+    if (is_last()) return die();
     return ((int (*)(int, const char *, int, const char *))next("renameat"))(from, old, to, new);
 }
 
 int rename(const char *old, const char *new) {
-    if (is_last()) die();
+    if (is_last()) return die();
     return ((int (*)(const char *, const char *))next("rename"))(old, new);
 }
 
 int ftruncate64(int file, off_t size) {
-    if (is_last()) die();
+    if (is_last()) return die();
     return ((int (*)(int, off_t))next("ftruncate64"))(file, size);
 }
 
 int unlink(const char *path) {
-    if (is_last()) die();
+    if (is_last()) return die();
     return ((int (*)(const char *))next("unlink"))(path);
 }
