@@ -60,8 +60,8 @@ impl Report {
         let [r0, steps, sends, outputs] = [0, 8, 16, 24].map(|at| u64::from_le_bytes(*bytes[at..].first_chunk().unwrap()));
         let (sent, rest) = bytes[32..].split_at(65 * sends as usize);
         let (given, rest) = rest.split_at(64 * outputs as usize);
-        let sends = sent.as_chunks::<65>().0.iter().map(|it| (it[0], *it.last_chunk().unwrap())).collect();
-        (Report { r0, steps, sends, outputs: given.as_chunks().0.to_vec() }, rest)
+        let sends = sent.chunks_exact(65).map(|it| (it[0], *it.last_chunk().unwrap())).collect();
+        (Report { r0, steps, sends, outputs: given.chunks_exact(64).map(|it| *it.first_chunk().unwrap()).collect() }, rest)
     }
 }
 
