@@ -161,6 +161,22 @@ class Handles(unittest.TestCase):
         with self.assertRaisesRegex(sblog.SessionError, "code 1: there is no such process; to open one, 1 to 15 files"):
             sblog.Session([ADDER] * 16)
 
+    def test_a_host_makes_the_call_of_a_node(self):
+        """The counter's call by the word 5, made by hand: it adds 5 to its state, and gives the sum as an output."""
+        gateway, node = sblog.Gateway(1), sblog.Node((EXAMPLES / "node/counter.sbi").read_bytes(), 1, 1)
+        gateway.input(1, bytes([5]))
+        node.receive(gateway.take().data)
+        job, record = node.job(), bytearray(4416)
+        self.assertEqual((*job[:2], *job[3:6], job.array[0]), (1, 0, 1, 0, 1, 5))
+        for at, word in {8: 1, 16: 9, 24: 1, 40: 1, 2248: 64, 2256: 5}.items():
+            record[at] = word
+        job.array[256] = 5
+        node.done(job, record)
+        self.assertEqual(node.state(), (5).to_bytes(8, "little"))
+        with self.assertRaises(sblog.NodeError) as caught:
+            node.done(job, record)
+        self.assertEqual(caught.exception.code, 20)
+
 
 if __name__ == "__main__":
     unittest.main()

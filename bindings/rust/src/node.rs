@@ -5,7 +5,7 @@ use crate::raw::*;
 
 errors! {
     /// Why a node refuses a call; of refused bytes also by which fault.
-    NodeError by sblog_node_code_text: Memory = 15, Image = 17, Bytes(u32) = 21, Unready = 22, Limit = 23, Left = 24
+    NodeError by sblog_node_code_text: Memory = 15, Image = 17, Absent = 20, Bytes(u32) = 21, Unready = 22, Limit = 23, Left = 24
 }
 
 numbers! {
