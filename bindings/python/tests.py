@@ -142,6 +142,14 @@ class Images(unittest.TestCase):
         self.assertEqual(self.refusal(adder.run, bytearray(8), alone).code, 10)
 
 
+class Numbers(unittest.TestCase):
+    def test_names_are_those_of_the_header(self):
+        header = (rows.TOP / "include/sblog.h").read_text()
+        for kind, begin in (sblog.Phase, "SESSION"), (sblog.Stage, "NODE"), (sblog.Call, "CALL"), (sblog.Answer, "ANSWER"):
+            for it in kind:
+                self.assertRegex(header, rf"\bSBLOG_{begin}_{it.name} = {it.value}\b")
+
+
 class Handles(unittest.TestCase):
     def test_handles(self):
         with sblog.Session([ADDER]) as session:
