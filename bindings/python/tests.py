@@ -157,6 +157,11 @@ class Handles(unittest.TestCase):
             self.assertEqual(session.trace(), "000001 w0 input 1 9 -> logged 1\n")
             entry = sblog.Entry(0, sblog.Call.INPUT, (1, 9, 0), sblog.Answer.LOGGED, (1, 0), bytes([7, 7]))
             self.assertEqual(session.entries(), [entry])
+            for _ in range(2):
+                session.drive(100)
+                self.assertEqual(session.state(1), (0x707).to_bytes(8, "little"))
+                session.crash(1)
+                session.recover(1)
             self.assertRaises(OverflowError, session.crash, 257)
             self.assertRaises(TypeError, copy.deepcopy, session)
             told = []
@@ -164,6 +169,10 @@ class Handles(unittest.TestCase):
             thread.start()
             thread.join()
             self.assertEqual(told, [None])
+        with sblog.Session([(EXAMPLES / name).read_bytes() for name in ("relay.sbi", "echo.sbi")]) as pair:
+            pair.input(1, 1, bytes([7]))
+            pair.drive(100)
+            self.assertEqual(pair.shown(0), sblog.Shown(2, 1, message(7)))
         with self.assertRaisesRegex(sblog.SessionError, "code 16: the handle is closed; to open one, it is open"):
             session.room()
         with self.assertRaisesRegex(sblog.SessionError, "code 1: there is no such process; to open one, 1 to 15 files"):

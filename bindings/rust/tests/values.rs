@@ -58,7 +58,17 @@ fn a_session_tells_what_happened() {
     let entry = session.entries(0).unwrap()[0];
     assert_eq!((entry.call(), entry.call_numbers, entry.payload()), (Call::Input, [1, 9, 0], &[7, 7][..]));
     assert_eq!((entry.answer(), entry.answer_numbers), (Answer::Logged, [1, 0]));
+    for _ in 0..2 {
+        session.drive(100).unwrap();
+        assert_eq!(session.state(1).unwrap(), 0x707u64.to_le_bytes());
+        session.crash(1).unwrap();
+        session.recover(1).unwrap();
+    }
     assert_eq!(session.refused(1, 1), 0);
+    let mut session = Session::open(&[file("relay.sbi"), file("echo.sbi")]).unwrap();
+    session.input(1, 1, &[7]).unwrap();
+    session.drive(100).unwrap();
+    assert_eq!(session.shown(0).unwrap(), Some(Shown { sender: 2, ssn: 1, payload: message(7).to_vec() }));
     let error = Session::open(&vec![file("adder.sbi"); 16]).err().unwrap();
     assert_eq!(error.to_string(), "there is no such process; to open one, 1 to 15 files");
 }
