@@ -80,15 +80,11 @@ class Party:
 
     def told(self, call, *arguments):
         """Makes a call: its code, numbers and bytes, which become a row."""
-        at = self.node
-        match call:
-            case "receive": code, *numbers = at.receive(*arguments)
-            case "take": code, _, *numbers, data = at.take(1 << 16)
-            case "checkpoint" | "state": code, _, data = getattr(at, call)(1 << 16)
-            case "standing": code, *numbers = 0, *at.standing()
-            case _: code = getattr(at, call)()
-        names = locals()
-        return self.row(call, arguments, code, names.get("numbers", []), names.get("data"))
+        writes = call in ("take", "checkpoint", "state")
+        answer = (0, *self.node.standing()) if call == "standing" else getattr(self.node, call)(*arguments, *[1 << 16] * writes)
+        code, *numbers = answer if isinstance(answer, tuple) else (answer,)
+        data = numbers.pop() if writes else None
+        return self.row(call, arguments, code, numbers[1:] if writes else numbers, data)
 
     def row(self, call, arguments, code, numbers=(), data=None):
         numbers = [it for it in numbers if it is not None] if code in (0, 21) else []
