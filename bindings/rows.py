@@ -19,6 +19,8 @@ import node as model_node  # noqa: E402
 
 NOTHING, SHORT, TWICE = 99, 19, 16
 OPENING = ("open", "revive", "close")
+# Calls of a gateway that give bytes, and how many numbers with them.
+GIVING = {"take": 1, "output": 2, "store": 0, "changes": 0}
 
 
 def constants(file):
@@ -64,11 +66,9 @@ def gateway_rows(file, *tables):
     for table in tables:
         for (call, arguments), code, number, data in known[table]:
             numbers = [number] if number != NOTHING else []
-            if call in ("take", "output", "store", "changes"):
-                arguments, size = (), numbers and number % 1_000
-                numbers = [number // 100_000, number // 1_000 % 100][: {"take": 1, "output": 2}.get(call, 0)] if numbers else []
-                if code == SHORT:
-                    numbers = [size]
+            if call in GIVING:
+                arguments, both = (), [number // 100_000, number // 1_000 % 100]
+                numbers = both[: GIVING[call]] if numbers else []
             yield f"gateway.{table}", call, [as_bytes(it) for it in arguments], code, numbers, bytes(data)
 
 
