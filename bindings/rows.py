@@ -19,6 +19,8 @@ import node as model_node  # noqa: E402
 
 NOTHING, SHORT, TWICE = 99, 19, 16
 OPENING = ("open", "revive", "close")
+# Calls of a gateway that give bytes, and how many numbers with them.
+GIVING = {"take": 1, "output": 2, "store": 0, "changes": 0}
 
 
 def constants(file):
@@ -64,11 +66,9 @@ def gateway_rows(file, *tables):
     for table in tables:
         for (call, arguments), code, number, data in known[table]:
             numbers = [number] if number != NOTHING else []
-            if call in ("take", "output", "store", "changes"):
-                arguments, size = (), numbers and number % 1_000
-                numbers = [number // 100_000, number // 1_000 % 100][: {"take": 1, "output": 2}.get(call, 0)] if numbers else []
-                if code == SHORT:
-                    numbers = [size]
+            if call in GIVING:
+                arguments, both = (), [number // 100_000, number // 1_000 % 100]
+                numbers = both[: GIVING[call]] if numbers else []
             yield f"gateway.{table}", call, [as_bytes(it) for it in arguments], code, numbers, bytes(data)
 
 
@@ -80,15 +80,11 @@ class Party:
 
     def told(self, call, *arguments):
         """Makes a call: its code, numbers and bytes, which become a row."""
-        at = self.node
-        match call:
-            case "receive": code, *numbers = at.receive(*arguments)
-            case "take": code, _, *numbers, data = at.take(1 << 16)
-            case "checkpoint" | "state": code, _, data = getattr(at, call)(1 << 16)
-            case "standing": code, *numbers = 0, *at.standing()
-            case _: code = getattr(at, call)()
-        names = locals()
-        return self.row(call, arguments, code, names.get("numbers", []), names.get("data"))
+        writes = call in ("take", "checkpoint", "state")
+        answer = (0, *self.node.standing()) if call == "standing" else getattr(self.node, call)(*arguments, *[1 << 16] * writes)
+        code, *numbers = answer if isinstance(answer, tuple) else (answer,)
+        data = numbers.pop() if writes else None
+        return self.row(call, arguments, code, numbers[1:] if writes else numbers, data)
 
     def row(self, call, arguments, code, numbers=(), data=None):
         numbers = [it for it in numbers if it is not None] if code in (0, 21) else []

@@ -142,6 +142,14 @@ class Images(unittest.TestCase):
         self.assertEqual(self.refusal(adder.run, bytearray(8), alone).code, 10)
 
 
+class Numbers(unittest.TestCase):
+    def test_names_are_those_of_the_header(self):
+        header = (rows.TOP / "include/sblog.h").read_text()
+        for kind, begin in (sblog.Phase, "SESSION"), (sblog.Stage, "NODE"), (sblog.Call, "CALL"), (sblog.Answer, "ANSWER"):
+            for it in kind:
+                self.assertRegex(header, rf"\bSBLOG_{begin}_{it.name} = {it.value}\b")
+
+
 class Handles(unittest.TestCase):
     def test_handles(self):
         with sblog.Session([ADDER]) as session:
@@ -149,6 +157,11 @@ class Handles(unittest.TestCase):
             self.assertEqual(session.trace(), "000001 w0 input 1 9 -> logged 1\n")
             entry = sblog.Entry(0, sblog.Call.INPUT, (1, 9, 0), sblog.Answer.LOGGED, (1, 0), bytes([7, 7]))
             self.assertEqual(session.entries(), [entry])
+            for _ in range(2):
+                session.drive(100)
+                self.assertEqual(session.state(1), (0x707).to_bytes(8, "little"))
+                session.crash(1)
+                session.recover(1)
             self.assertRaises(OverflowError, session.crash, 257)
             self.assertRaises(TypeError, copy.deepcopy, session)
             told = []
@@ -156,10 +169,30 @@ class Handles(unittest.TestCase):
             thread.start()
             thread.join()
             self.assertEqual(told, [None])
+        with sblog.Session([(EXAMPLES / name).read_bytes() for name in ("relay.sbi", "echo.sbi")]) as pair:
+            pair.input(1, 1, bytes([7]))
+            pair.drive(100)
+            self.assertEqual(pair.shown(0), sblog.Shown(2, 1, message(7)))
         with self.assertRaisesRegex(sblog.SessionError, "code 16: the handle is closed; to open one, it is open"):
             session.room()
         with self.assertRaisesRegex(sblog.SessionError, "code 1: there is no such process; to open one, 1 to 15 files"):
             sblog.Session([ADDER] * 16)
+
+    def test_a_host_makes_the_call_of_a_node(self):
+        """The counter's call by the word 5, made by hand: it adds 5 to its state, and gives the sum as an output."""
+        gateway, node = sblog.Gateway(1), sblog.Node((EXAMPLES / "node/counter.sbi").read_bytes(), 1, 1)
+        gateway.input(1, bytes([5]))
+        node.receive(gateway.take().data)
+        job, record = node.job(), bytearray(4416)
+        self.assertEqual((*job[:2], *job[3:6], job.array[0]), (1, 0, 1, 0, 1, 5))
+        for at, word in {8: 1, 16: 9, 24: 1, 40: 1, 2248: 64, 2256: 5}.items():
+            record[at] = word
+        job.array[256] = 5
+        node.done(job, record)
+        self.assertEqual(node.state(), (5).to_bytes(8, "little"))
+        with self.assertRaises(sblog.NodeError) as caught:
+            node.done(job, record)
+        self.assertEqual(caught.exception.code, 20)
 
 
 if __name__ == "__main__":

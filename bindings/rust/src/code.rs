@@ -11,9 +11,8 @@ macro_rules! numbers {
             $(#[doc = concat!("Number ", $number, ".")] $variant = $number),*
         }
 
-        impl From<u32> for $name {
-            /// Panics of a number that is none of these.
-            fn from(number: u32) -> $name {
+        impl $name {
+            pub(crate) fn of(number: u32) -> $name {
                 match number {
                     $($number => $name::$variant,)*
                     _ => panic!("number {number} of the library is none of {}", stringify!($name)),
@@ -40,6 +39,7 @@ macro_rules! errors {
             }
         }
 
+        #[doc(hidden)]
         impl From<$crate::raw::Refused> for $name {
             fn from($crate::raw::Refused(code, fault): $crate::raw::Refused) -> $name {
                 let _ = fault;

@@ -60,7 +60,7 @@ impl Gateway {
     /// Logs a message of 0 to 256 bytes for a process, and answers its number among those.
     pub fn input(&mut self, process: u8, payload: &[u8]) -> Done<u64> {
         let mut ssn = 0;
-        done(unsafe { sblog_gateway_input(self.0.at(), process, payload.as_ptr(), payload.len(), &mut ssn) }, 0)?;
+        done(unsafe { sblog_gateway_input(self.0.at(), process, payload.as_ptr(), payload.len(), &mut ssn) })?;
         Ok(ssn)
     }
 
@@ -79,7 +79,7 @@ impl Gateway {
 
     /// Sends again what isn't answered.
     pub fn tick(&mut self) -> Done<()> {
-        Ok(done(unsafe { sblog_gateway_tick(self.0.at()) }, 0)?)
+        Ok(done(unsafe { sblog_gateway_tick(self.0.at()) })?)
     }
 
     /// The next output, if there is one.

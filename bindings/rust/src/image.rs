@@ -14,9 +14,10 @@ pub struct Fault {
     pub slot: u32,
 }
 
-impl From<u32> for Fault {
-    fn from(rule: u32) -> Fault {
-        Fault { rule, slot: 0 }
+impl From<Fault> for u32 {
+    /// The number of the rule.
+    fn from(fault: Fault) -> u32 {
+        fault.rule
     }
 }
 
@@ -60,8 +61,8 @@ impl Report {
         let [r0, steps, sends, outputs] = [0, 8, 16, 24].map(|at| u64::from_le_bytes(*bytes[at..].first_chunk().unwrap()));
         let (sent, rest) = bytes[32..].split_at(65 * sends as usize);
         let (given, rest) = rest.split_at(64 * outputs as usize);
-        let sends = sent.as_chunks::<65>().0.iter().map(|it| (it[0], *it.last_chunk().unwrap())).collect();
-        (Report { r0, steps, sends, outputs: given.as_chunks().0.to_vec() }, rest)
+        let sends = sent.chunks_exact(65).map(|it| (it[0], *it.last_chunk().unwrap())).collect();
+        (Report { r0, steps, sends, outputs: given.chunks_exact(64).map(|it| *it.first_chunk().unwrap()).collect() }, rest)
     }
 }
 
@@ -83,17 +84,13 @@ impl Image {
     /// Checks the bytes of an image file, of form 1, 2 or 3.
     pub fn open(file: &[u8]) -> Result<Image, ImageError> {
         let (at, len, mut handle, mut fault) = (file.as_ptr(), file.len(), null_mut(), [0; 16]);
-        let Err(refused) = done(unsafe { sblog_open(at, len, &mut handle) }, 0) else {
+        let code = unsafe { sblog_open(at, len, &mut handle) };
+        if code == 0 {
             return Ok(Image(handle));
-        };
+        }
         unsafe { sblog_check(at, len, fault.as_mut_ptr(), fault.len()) };
         let [rule, slot] = [0, 8].map(|at| u32::from_le_bytes(*fault[at..].first_chunk().unwrap()));
-        Err(match refused.into() {
-            ImageError::Header(_) => ImageError::Header(Fault { rule, slot }),
-            ImageError::Code(_) => ImageError::Code(Fault { rule, slot }),
-            ImageError::Rules(_) => ImageError::Rules(Fault { rule, slot }),
-            other => other,
-        })
+        Err(Refused(code, Fault { rule, slot }).into())
     }
 
     /// How many bytes the state has.
@@ -107,7 +104,7 @@ impl Image {
         let mut reports = vec![0; Report::LIMIT * messages.len()];
         let (sent, out, len, Who { me, from, count }) = (messages.as_flattened(), reports.as_mut_ptr(), reports.len(), who);
         let (state, state_len) = (state.as_mut_ptr(), state.len());
-        done(unsafe { sblog_run(self.0, state, state_len, sent.as_ptr(), sent.len(), me, from, count, out, len) }, 0)?;
+        done(unsafe { sblog_run(self.0, state, state_len, sent.as_ptr(), sent.len(), me, from, count, out, len) })?;
         let mut rest = &reports[..];
         let next = |_| {
             let (report, after) = Report::split(rest);

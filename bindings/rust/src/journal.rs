@@ -37,12 +37,12 @@ impl Entry {
 
     /// Which call.
     pub fn call(&self) -> Call {
-        self.call.into()
+        Call::of(self.call)
     }
 
     /// Which answer.
     pub fn answer(&self) -> Answer {
-        self.answer.into()
+        Answer::of(self.answer)
     }
 
     /// What an input brought.

@@ -5,7 +5,7 @@ use crate::raw::*;
 
 errors! {
     /// Why a node refuses a call; of refused bytes also by which fault.
-    NodeError by sblog_node_code_text: Memory = 15, Image = 17, Bytes(u32) = 21, Unready = 22, Limit = 23, Left = 24
+    NodeError by sblog_node_code_text: Memory = 15, Image = 17, Absent = 20, Bytes(u32) = 21, Unready = 22, Limit = 23, Left = 24
 }
 
 numbers! {
@@ -124,10 +124,11 @@ impl Node {
 
     /// Runs the handler on the message that it received, or on the next one that is replayed; whether there was one.
     pub fn work(&mut self) -> Done<bool> {
-        match unsafe { sblog_node_work(self.0.at()) } {
-            code @ (0 | 20) => Ok(code == 0),
-            code => Err(Refused(code, 0).into()),
+        let code = unsafe { sblog_node_work(self.0.at()) };
+        if code != 20 {
+            done(code)?;
         }
+        Ok(code == 0)
     }
 
     /// The call that [`work`](Node::work) would make, if there is one, for a host that makes it as machine code.
@@ -142,12 +143,12 @@ impl Node {
     pub fn done(&mut self, job: &Job, record: &[u8]) -> Done<()> {
         let Job { incarnation, received, ref array, .. } = *job;
         let (at, len, record, record_len) = (array.as_ptr(), array.len(), record.as_ptr(), record.len());
-        Ok(done(unsafe { sblog_node_done(self.0.at(), incarnation, received, at, len, record, record_len) }, 0)?)
+        Ok(done(unsafe { sblog_node_done(self.0.at(), incarnation, received, at, len, record, record_len) })?)
     }
 
     /// Sends again what isn't answered.
     pub fn tick(&mut self) -> Done<()> {
-        Ok(done(unsafe { sblog_node_tick(self.0.at()) }, 0)?)
+        Ok(done(unsafe { sblog_node_tick(self.0.at()) })?)
     }
 
     /// The bytes that are to be kept. It drops what comes until [`saved`](Node::saved).
@@ -157,15 +158,15 @@ impl Node {
 
     /// They are kept: what waited for that goes out.
     pub fn saved(&mut self) -> Done<()> {
-        Ok(done(unsafe { sblog_node_saved(self.0.at()) }, 0)?)
+        Ok(done(unsafe { sblog_node_saved(self.0.at()) })?)
     }
 
     /// Its numbers, and what it does.
     pub fn standing(&self) -> Done<Standing> {
         let mut words = [0; 10];
-        done(unsafe { sblog_node_standing(self.0.at(), &mut words) }, 0)?;
+        done(unsafe { sblog_node_standing(self.0.at(), &mut words) })?;
         let [length, base, incarnation, stage, exact, receipts, entries, packets, replays, waited_for] = words;
-        let (stage, is_exact) = ((stage as u32).into(), exact == 1);
+        let (stage, is_exact) = (Stage::of(stage as u32), exact == 1);
         Ok(Standing { length, base, incarnation, stage, is_exact, receipts, entries, packets, replays, waited_for })
     }
 

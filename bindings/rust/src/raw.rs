@@ -1,5 +1,6 @@
 //! The functions of the library, as `sblog.h` declares them, and handles.
 
+use crate::image::Fault;
 use crate::journal::Entry;
 use std::cell::UnsafeCell;
 use std::ffi::{c_char, c_void};
@@ -94,11 +95,16 @@ unsafe extern "C" {
 }
 
 /// Why the library refused a call: its code, and the fault that it wrote, if it writes one.
-pub struct Refused(pub u32, pub u32);
+pub struct Refused(pub u32, pub Fault);
+
+/// Of a code that isn't 0, with the number of a fault.
+fn told(code: u32, rule: u32) -> Result<(), Refused> {
+    if code == 0 { Ok(()) } else { Err(Refused(code, Fault { rule, slot: 0 })) }
+}
 
 /// Of a code that isn't 0.
-pub fn done(code: u32, fault: u32) -> Result<(), Refused> {
-    if code == 0 { Ok(()) } else { Err(Refused(code, fault)) }
+pub fn done(code: u32) -> Result<(), Refused> {
+    told(code, 0)
 }
 
 /// The bytes that a call writes. If it answers `room` it says how many it takes, and is made again.
@@ -107,7 +113,7 @@ pub fn written(room: u32, mut call: impl FnMut(Out, usize, Size) -> u32) -> Resu
     loop {
         match call(out.as_mut_ptr(), out.len(), &mut size) {
             code if code == room => out.resize(size, 0),
-            code => return done(code, 0).map(|()| out[..size].to_vec()),
+            code => return done(code).map(|()| out[..size].to_vec()),
         }
     }
 }
@@ -133,7 +139,7 @@ impl Held {
     pub fn told(&self, call: impl FnOnce(At, Number) -> u32) -> Result<u32, Refused> {
         let mut number = 0;
         let code = call(self.at(), &mut number);
-        done(code, number).map(|()| number)
+        told(code, number).map(|()| number)
     }
 
     /// The bytes that a call writes.

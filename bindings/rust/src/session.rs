@@ -68,10 +68,11 @@ impl Session {
     /// keeps the calls that were accepted before.
     pub fn drive(&mut self, budget: u32) -> Done<Drive> {
         let mut accepted = 0;
-        match unsafe { sblog_session_drive(self.0.at(), budget, &mut accepted) } {
-            code @ (0 | 12) => Ok(Drive { accepted, is_stopped: code == 12 }),
-            code => Err(Refused(code, 0).into()),
+        let code = unsafe { sblog_session_drive(self.0.at(), budget, &mut accepted) };
+        if code != 12 {
+            done(code)?;
         }
+        Ok(Drive { accepted, is_stopped: code == 12 })
     }
 
     /// Puts a message on the wire, from and to 0 of the outside, and answers the packet's key.
@@ -86,14 +87,14 @@ impl Session {
 
     /// Takes a packet from the wire.
     pub fn lose(&mut self, packet: u32) -> Done<()> {
-        Ok(done(unsafe { sblog_session_lose(self.0.at(), packet) }, 0)?)
+        Ok(done(unsafe { sblog_session_lose(self.0.at(), packet) })?)
     }
 
     /// Has a packet arrive, calls the handler if that starts a job, and answers the last entry. With [`SessionError::Memory`]
     /// the packet may have arrived, and a job be open.
     pub fn arrive(&mut self, packet: u32) -> Done<Entry> {
         let mut entry = Entry::BLANK;
-        done(unsafe { sblog_session_arrive(self.0.at(), packet, &mut entry) }, 0)?;
+        done(unsafe { sblog_session_arrive(self.0.at(), packet, &mut entry) })?;
         Ok(entry)
     }
 
@@ -126,7 +127,7 @@ impl Session {
     pub fn standing(&self, process: u8) -> Done<(u32, Phase)> {
         let mut phase = 0;
         let length = self.0.told(|it, length| unsafe { sblog_session_standing(it, process, length, &mut phase) })?;
-        Ok((length, phase.into()))
+        Ok((length, Phase::of(phase)))
     }
 
     /// The state of a process; no bytes while it is down.
@@ -166,21 +167,21 @@ impl Session {
     /// How many places the journal has left.
     pub fn room(&self) -> Done<usize> {
         let mut places = 0;
-        done(unsafe { sblog_session_room(self.0.at(), &mut places) }, 0)?;
+        done(unsafe { sblog_session_room(self.0.at(), &mut places) })?;
         Ok(places)
     }
 
     /// How many entries the journal has.
     pub fn journal(&self) -> Done<usize> {
         let mut count = 0;
-        done(unsafe { sblog_session_journal(self.0.at(), &mut count) }, 0)?;
+        done(unsafe { sblog_session_journal(self.0.at(), &mut count) })?;
         Ok(count)
     }
 
     /// The entries from a place on, from 0.
     pub fn entries(&self, from: usize) -> Done<Vec<Entry>> {
         let (mut out, mut count) = (vec![Entry::BLANK; self.journal()?.saturating_sub(from)], 0);
-        done(unsafe { sblog_session_entries(self.0.at(), from, out.as_mut_ptr(), out.len(), &mut count) }, 0)?;
+        done(unsafe { sblog_session_entries(self.0.at(), from, out.as_mut_ptr(), out.len(), &mut count) })?;
         out.truncate(count);
         Ok(out)
     }

@@ -99,46 +99,53 @@ fn entry(entry: Option<&Entry>) -> Told {
 
 #[test]
 fn sessions() {
-    drive("session.", |session, row| {
-        if row.words[0] == "open" {
+    drive("session.", |session, row| match row.words[0].as_str() {
+        "open" => {
             let files: Vec<Vec<u8>> = (1..row.words.len()).map(|at| row.bytes(at)).collect();
             *session = Some(Session::open(&files)?);
-            return numbers([]);
+            numbers([])
         }
-        let it = session.as_mut().unwrap();
-        match row.words[0].as_str() {
-            "input" => number(it.input(row.number(1), row.number(2), &row.bytes(3))?),
-            "drive" => {
-                it.drive(row.number(1)).map_err(Into::into).map(|it| (12 * u32::from(it.is_stopped), vec![it.accepted.into()], vec![]))
-            }
-            "transmit" => number(it.transmit(row.number(1), row.number(2), row.number(3))?),
-            "copy" => number(it.copy(row.number(1))?),
-            "lose" => it.lose(row.number(1)).map_err(Into::into).and_then(|()| numbers([])),
-            "arrive" => entry(Some(&it.arrive(row.number(1))?)),
-            "checkpoint" => number(it.checkpoint(row.number(1))?),
-            "trim" => number(it.trim(row.number(1))?),
-            "crash" => number(it.crash(row.number(1))?),
-            "recover" => number(it.recover(row.number(1))?),
-            "alone" => number(it.recover_alone(row.number(1))?),
-            "standing" => it.standing(row.number(1)).map_err(Into::into).and_then(|(length, phase)| number(length + 100 * phase as u32)),
-            "state" => number(it.state(row.number(1))?.len()),
-            "saved" => number(it.saved(row.number(1))?.len()),
-            "shown" => number(it.shown(row.number(1))?.ok_or("there is none")?.payload.len()),
-            "exact" => number(u32::from(it.exact()?)),
-            "trace" => number(it.trace()?.len()),
-            "room" => number(it.room()?),
-            "journal" => number(it.journal()?),
-            "entry" => entry(it.entries(row.number(1))?.first()),
-            "entries" => number(it.entries(row.number(1))?.len().min(row.number(2))),
-            "fill" => {
-                while it.room()? > row.number(1) {
-                    it.trim(0)?;
-                }
-                number(it.room()?)
-            }
-            call => panic!("{call}"),
-        }
+        call => session_call(session.as_mut().unwrap(), call, row),
     });
+}
+
+fn session_call(it: &mut Session, call: &str, row: &Row) -> Told {
+    match call {
+        "input" => number(it.input(row.number(1), row.number(2), &row.bytes(3))?),
+        "drive" => it.drive(row.number(1)).map_err(Into::into).map(|it| (12 * u32::from(it.is_stopped), vec![it.accepted.into()], vec![])),
+        "transmit" => number(it.transmit(row.number(1), row.number(2), row.number(3))?),
+        "copy" => number(it.copy(row.number(1))?),
+        "lose" => it.lose(row.number(1)).map_err(Into::into).and_then(|()| numbers([])),
+        "arrive" => entry(Some(&it.arrive(row.number(1))?)),
+        "checkpoint" => number(it.checkpoint(row.number(1))?),
+        "trim" => number(it.trim(row.number(1))?),
+        "crash" => number(it.crash(row.number(1))?),
+        "recover" => number(it.recover(row.number(1))?),
+        "alone" => number(it.recover_alone(row.number(1))?),
+        "fill" => {
+            while it.room()? > row.number(1) {
+                it.trim(0)?;
+            }
+            number(it.room()?)
+        }
+        call => session_reading(it, call, row),
+    }
+}
+
+fn session_reading(it: &Session, call: &str, row: &Row) -> Told {
+    match call {
+        "standing" => it.standing(row.number(1)).map_err(Into::into).and_then(|(length, phase)| number(length + 100 * phase as u32)),
+        "state" => number(it.state(row.number(1))?.len()),
+        "saved" => number(it.saved(row.number(1))?.len()),
+        "shown" => number(it.shown(row.number(1))?.ok_or("there is none")?.payload.len()),
+        "exact" => number(u32::from(it.exact()?)),
+        "trace" => number(it.trace()?.len()),
+        "room" => number(it.room()?),
+        "journal" => number(it.journal()?),
+        "entry" => entry(it.entries(row.number(1))?.first()),
+        "entries" => number(it.entries(row.number(1))?.len().min(row.number(2))),
+        call => panic!("{call}"),
+    }
 }
 
 #[test]

@@ -1,4 +1,4 @@
-//! Images: what a call leaves, worked out by hand, why files and calls are refused, and texts.
+//! What calls leave, worked out by hand, why files and calls are refused, and texts.
 
 use sblog::*;
 
@@ -58,9 +58,46 @@ fn a_session_tells_what_happened() {
     let entry = session.entries(0).unwrap()[0];
     assert_eq!((entry.call(), entry.call_numbers, entry.payload()), (Call::Input, [1, 9, 0], &[7, 7][..]));
     assert_eq!((entry.answer(), entry.answer_numbers), (Answer::Logged, [1, 0]));
+    for _ in 0..2 {
+        session.drive(100).unwrap();
+        assert_eq!(session.state(1).unwrap(), 0x707u64.to_le_bytes());
+        session.crash(1).unwrap();
+        session.recover(1).unwrap();
+    }
     assert_eq!(session.refused(1, 1), 0);
+    let mut session = Session::open(&[file("relay.sbi"), file("echo.sbi")]).unwrap();
+    session.input(1, 1, &[7]).unwrap();
+    session.drive(100).unwrap();
+    assert_eq!(session.shown(0).unwrap(), Some(Shown { sender: 2, ssn: 1, payload: message(7).to_vec() }));
     let error = Session::open(&vec![file("adder.sbi"); 16]).err().unwrap();
     assert_eq!(error.to_string(), "there is no such process; to open one, 1 to 15 files");
+}
+
+/// The counter's call by the word 5, made by hand: it adds 5 to its state, and gives the sum as an output.
+#[test]
+fn a_host_makes_the_call_of_a_node() {
+    let (mut gateway, counter) = (Gateway::open(1, 60_000, 8).unwrap(), file("node/counter.sbi"));
+    let mut node = Node::open(&counter, 1, 1, Limits::default()).unwrap();
+    gateway.input(1, &[5]).unwrap();
+    node.receive(&gateway.take().unwrap().unwrap().bytes).unwrap();
+    let job = node.job().unwrap().unwrap();
+    let Job { incarnation, received, me, from, count, ref array, .. } = job;
+    assert_eq!((incarnation, received, me, from, count, array[0]), (1, 0, 1, 0, 1, 5));
+    let mut record = vec![0; 4416];
+    for (at, word) in [(8, 1), (16, 9), (24, 1), (40, 1), (2248, 64), (2256, 5)] {
+        record[at] = word;
+    }
+    assert_eq!(node.done(&job, &record[1..]), Err(NodeError::Left));
+    assert_eq!(node.done(&Job { incarnation: 2, ..job.clone() }, &record), Err(NodeError::Unready));
+    let mut worked = job.clone();
+    worked.array[256] = 5;
+    node.done(&worked, &record).unwrap();
+    assert_eq!(node.done(&worked, &record), Err(NodeError::Absent));
+    assert_eq!(node.state().unwrap(), 5u64.to_le_bytes());
+    gateway.receive(&node.take().unwrap().unwrap().bytes).unwrap();
+    node.receive(&gateway.take().unwrap().unwrap().bytes).unwrap();
+    gateway.receive(&node.take().unwrap().unwrap().bytes).unwrap();
+    assert_eq!(gateway.output().unwrap(), Some(Output { process: 1, ssn: 1, payload: message(5).to_vec() }));
 }
 
 #[test]
