@@ -1,9 +1,9 @@
 -- The exports are calls of hosts
-use Rattle.std.proofs.Common.{◌≡◌, ◌∙◌, ℕ, List, refl, sym, ap, subst}
-use Rattle.std.specs.Prelude.{Option, Some, None}
+use Rattle.std.proofs.Common.{◌≡◌, ℕ, List, refl, sym, subst}
+use Rattle.std.specs.Prelude.{Some, None}
 use Rattle.images.specs.declared.any_image.AnyImage.{AnyImage}
 use Rattle.images.specs.AnyImage.{IsImageOf, form_of, code_of, state_of}
-use Rattle.handlers.specs.Image.{TheImage, as_image}
+use Rattle.handlers.specs.Image.{as_image}
 use Rattle.packets.specs.declared.packet.Packet.{Packet}
 use Rattle.packets.specs.Format.{IsPacket}
 use Rattle.packets.proofs.WholeLemmas.{one_packet}
@@ -14,7 +14,7 @@ use Rattle.process.specs.Packets.{GivesBytes}
 use Rattle.process.specs.Saving.{IsSavable, Keeps}
 use Rattle.process.specs.Working.{Works}
 use Rattle.process.specs.Job.{IsAnswered, WorksAs}
-use Rattle.hosted.specs.Process.{Hosted, Checkpoint, Runs, Alive, Has, Durable}
+use Rattle.hosted.specs.Process.{Checkpoint, Alive, Has, Durable}
 use Rattle.hosted.specs.System.{System, Ticked, AnswersSo, DoesIt}
 use Rattle.embed_node.specs.declared.fault.Fault.{Fault}
 use Rattle.embed_node.specs.declared.fault.Fault.TheVariants.{Memory, Handle, Image, Room, Absent, Bytes, Unready, Limit, Left}
