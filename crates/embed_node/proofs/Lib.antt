@@ -1,4 +1,4 @@
 mod AsBox
-mod Exports
+mod HostCalls
 mod Opened
 mod Outcomes

@@ -17,7 +17,6 @@ use Rattle.gateway.specs.Gateway.{TheGateway, peer_of}
 use Rattle.gateway.specs.Stands as gateways
 use Rattle.together.specs.Together.{IsFirst}
 use Rattle.lives.specs.Process.{StandsAs}
-use Rattle.lives.specs.Process as stages
 use Rattle.lives.specs.System.{System as Lived, AreStored, AreStoredOf, AllStand, IsRunOf}
 use Rattle.lives.specs.System as called
 use Rattle.lives.specs.Back.{HasBack}

@@ -1,10 +1,8 @@
 -- A process holds no more than is named, from its first call on and in each stage
-use Rattle.std.proofs.Common.{◌≡◌, ◌∙◌, ◌≤◌, ◌<◌, ◌+◌, ◌*◌, ◌^◌, ℕ, zero, suc, List, [], ◌∷◌, ◌++◌, length, map, take, drop, min, Bool, true, false, refl, sym, ap, subst, arith}
-use Rattle.std.specs.Prelude.{Option, Some, None, is_some, nat_lt, nat_le, replicate, slice_set, ◌==◌, ◌&&◌, if◌then◌else◌}
+use Rattle.std.proofs.Common.{◌≡◌, ◌∙◌, ◌≤◌, ◌<◌, ◌+◌, ◌*◌, ◌^◌, ℕ, zero, suc, List, [], ◌∷◌, ◌++◌, length, map, take, drop, Bool, true, false, refl, sym, ap, subst, arith}
+use Rattle.std.specs.Prelude.{Option, Some, None, is_some, nat_lt, replicate, slice_set, ◌==◌, ◌&&◌, if◌then◌else◌}
 use Rattle.std.specs.List.{AllByRecursion}
-use Rattle.std.proofs.lemmas.Bool.Decides.{nat_tests}
 use Rattle.std.proofs.lemmas.List.{length-map}
-use Rattle.theorems.proofs.Tests.{both}
 use Rattle.packets.specs.Packet.{is_done, in_range}
 use Rattle.packets.specs.declared.packet.Body.{Body}
 use Rattle.packets.specs.declared.packet.Body.TheVariants as body
@@ -45,12 +43,11 @@ use Rattle.restoring.specs.Restoring as restoring
 use Rattle.restoring.specs.Restoring.{TheRestoring}
 use Rattle.process.specs.declared.course.Course.{Course}
 use Rattle.process.specs.declared.course.Course.TheVariants.{Up, Collecting, Replaying, Replayed, Restoring, Passing}
-use Rattle.process.specs.declared.reading.TheConstants.{MOST_STORED}
-use Rattle.process.specs.Process.{TheProcess, is_settled}
+use Rattle.process.specs.Process.{TheProcess}
 use Rattle.process.specs.Passing.{Recovers, Finishes, Begun, Returns, Passes}
 use Rattle.process.specs.Calls.{Stays, IsHanded, Ticks, Takes, Freezes, FreezesAs, Thaws, is_frozen, is_storable, standing_at}
 use Rattle.process.specs.Working.{TakesIn, MayTakeIn}
-use Rattle.process.specs.Bounds.{IsBounded, unacknowledged, waiting_of, NodeNumbers, LogsHold, NodeHolds, OwnHolds, ReceiptsHold, Holds, IsWithin}
+use Rattle.process.specs.Bounds.{IsBounded, unacknowledged, waiting_of, NodeHolds, OwnHolds, ReceiptsHold, Holds}
 use Rattle.process.specs.Holding.{SavedDrops}
 use Rattle.process.proofs.Holdings as logs
 use Rattle.process.proofs.Holdings.{kept, NoMore, either, entries, entries_more, entries_no_more}

@@ -8,5 +8,7 @@ mod Holdings
 mod Courses
 pub mod Bounds
 mod Bounded
+mod Ranges
+mod Questions
 mod Writing
 mod Within

@@ -1,5 +1,5 @@
 -- One that is up passes on to nothing, and one that is held stays
-use Rattle.std.proofs.Common.{◌≡◌, Bool, Result, Ok, Err, IfErr, refl, true, false, sym, subst}
+use Rattle.std.proofs.Common.{◌≡◌, Result, Err, IfErr, refl, true, false, sym, subst}
 use Rattle.process.specs.declared.course.Held.{Held}
 use Rattle.process.specs.declared.course.Course.{Course}
 use Rattle.process.specs.declared.course.Course.TheVariants.{Up, Collecting, Replaying, Replayed, Restoring, Passing}

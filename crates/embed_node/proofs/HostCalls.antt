@@ -1,9 +1,9 @@
 -- The exports are calls of hosts
-use Rattle.std.proofs.Common.{◌≡◌, ◌∙◌, ℕ, List, refl, sym, ap, subst}
-use Rattle.std.specs.Prelude.{Option, Some, None}
+use Rattle.std.proofs.Common.{◌≡◌, ℕ, List, refl, sym, subst}
+use Rattle.std.specs.Prelude.{Some, None}
 use Rattle.images.specs.declared.any_image.AnyImage.{AnyImage}
 use Rattle.images.specs.AnyImage.{IsImageOf, form_of, code_of, state_of}
-use Rattle.handlers.specs.Image.{TheImage, as_image}
+use Rattle.handlers.specs.Image.{as_image}
 use Rattle.packets.specs.declared.packet.Packet.{Packet}
 use Rattle.packets.specs.Format.{IsPacket}
 use Rattle.packets.proofs.WholeLemmas.{one_packet}
@@ -14,7 +14,7 @@ use Rattle.process.specs.Packets.{GivesBytes}
 use Rattle.process.specs.Saving.{IsSavable, Keeps}
 use Rattle.process.specs.Working.{Works}
 use Rattle.process.specs.Job.{IsAnswered, WorksAs}
-use Rattle.hosted.specs.Process.{Hosted, Checkpoint, Runs, Alive, Has, Durable}
+use Rattle.hosted.specs.Process.{Checkpoint, Alive, Has, Durable}
 use Rattle.hosted.specs.System.{System, Ticked, AnswersSo, DoesIt}
 use Rattle.embed_node.specs.declared.fault.Fault.{Fault}
 use Rattle.embed_node.specs.declared.fault.Fault.TheVariants.{Memory, Handle, Image, Room, Absent, Bytes, Unready, Limit, Left}
@@ -22,7 +22,7 @@ use Rattle.embed_node.specs.Answers.{OfBoth}
 use Rattle.embed_node.specs.Calls.{IsHeldBack}
 use Rattle.embed_node.specs.NodeJob.{state_in}
 use Rattle.embed_node.specs.Opening.{IsImageIn, limits_of}
-use Rattle.embed_node.specs.Exports.{Holds, ExportsAreCalls}
+use Rattle.embed_node.specs.HostCalls.{Holds, ExportsAreCalls}
 
 held : {X : Type 0} (a b : X) → Some a ≡ Some b → b ≡ a
 held a b e = cc (e)
@@ -30,8 +30,8 @@ held a b e = cc (e)
 -- what holds of the processes before and after
 of-both : (old new : TheProcess) (H : TheProcess → TheProcess → Type 0) → OfBoth (Some old) (Some new) H → H old new
 of-both old new H h =
-    let first : H old h.1.0 = subst (λ p. H p h.1.0) (held old h.0 h.1.1.0) h.1.1.2 in
-    subst (λ p. H old p) (held new h.1.0 h.1.1.1) first
+    let first : H old h.1 = subst (λ p. H p h.1) (held old h.0 h.2) h.4 in
+    subst (λ p. H old p) (held new h.1 h.3) first
 
 alive : (P : TheProcess → Type 0) (n : ℕ) (s : System) (p : ℕ) (w : Checkpoint) (old : TheProcess) → Holds n s p w old → P old → Alive P (s.processes p)
 alive P n s p w old h x = subst (Alive P) (sym h.runs) x
@@ -69,7 +69,7 @@ exports-are-calls =
           (first, (dead, (above, (r.image, (same-image file r.image (images p) r.image_is is, subst (λ q. IsRevived r.image (limits_of l) (s.stored p) life q) e r.revived)))));
       received = λ images n s p w old new x bytes h one is r.
           let both = of-both old new _ r in
-          let all : (y : Packet) → IsPacket y bytes → Calls (IsHanded y) old new = λ y other. subst (λ z. Calls (IsHanded z) old new) (one_packet both.0 y bytes both.1.0 other) both.1.1 in
+          let all : (y : Packet) → IsPacket y bytes → Calls (IsHanded y) old new = λ y other. subst (λ z. Calls (IsHanded z) old new) (one_packet both.0 y bytes both.1 other) both.2 in
           (h.first, (one, (is, alive (λ o. (y : Packet) → IsPacket y bytes → Calls (IsHanded y) o new) n s p w old h all)));
       taken = λ images n s p w old new out out' size to h t.
           let both = of-both old new _ t in
@@ -80,7 +80,7 @@ exports-are-calls =
             bytes = bytes;
             copied = both.1.2;
             to_is = both.1.3;
-            is = (h.first, (both.1.1, alive (λ o. GivesBytes bytes o new) n s p w old h (x, (both.1.1, both.1.4))));
+            is = (h.first, (both.1.1, alive (λ o. GivesBytes bytes o new) n s p w old h (x, both.1.1, both.1.4)));
           };
       worked = λ images n s p w old new h k. (h.first, alive (λ o. Works o new) n s p w old h (of-both old new _ k));
       done = λ images n s p w old new ticket array bytes h d.
