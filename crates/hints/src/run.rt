@@ -13,13 +13,13 @@ use world::{Call, PhaseName, Refusal};
 /// Of how many refused orders it is said why.
 const TOLD: usize = 16;
 
-const FULL: &str =
-    "the journal is full: if each message makes another one, a drive of fewer calls ends before";
+const FULL: &str = "the journal is full: do messages go round and round? drive fewer calls";
 
 const WAITS: &str = "it waits for acknowledgements: drive N above this line sends it";
 
-const DOWN: &str =
-    "$a is down, and what is sent to it waits: recover $a, drive N bring it back (alone $a if another one is down)";
+const DOWN: &str = "$a is down, and what is sent to it waits: recover $a, drive N bring it back";
+
+const PEER: &str = "$b is down: recover $b comes first, or if $a is down too, alone $a, drive N";
 
 const BACK: &str = "$a is on its way back: one more drive N brings it up";
 
@@ -85,12 +85,8 @@ fn phase_words(told: &Told, phase: PhaseName) -> &'static str {
         (Refusal::NotUp, PhaseName::Down) if matches!(&told.order, Order::Crash { .. }) => {
             "$a is down already"
         }
-        (Refusal::NotUp, PhaseName::Down) => {
-            "$a is down: recover $a and drive N above this line bring it up"
-        }
-        (Refusal::PeerNotUp, PhaseName::Down) => {
-            "$b is down: recover $b comes first; if $a is down too, alone $a, drive N, recover $b"
-        }
+        (Refusal::NotUp, PhaseName::Down) => "$a is down: recover $a, drive N above this line",
+        (Refusal::PeerNotUp, PhaseName::Down) => PEER,
         (Refusal::PeerNotUp, _) => "$b is on its way back: drive N above this line brings it up",
         (Refusal::NotDown, PhaseName::Up | PhaseName::Busy) => {
             "$a is up: crash $a comes before recover $a"
@@ -115,12 +111,10 @@ fn message_words(told: &Told, ssn: u32, last: u32) -> &'static str {
 fn number_words(refusal: Refusal) -> &'static str {
     match refusal {
         Refusal::Busy => "its process works on a message: finish above this line ends that",
-        Refusal::NoPacket => {
-            "no packet has key $n: transmit puts one on the wire, and the trace tells the key, as in -> packet 0"
-        }
+        Refusal::NoPacket =>
+            "no packet has key $n: transmit makes one, and the trace tells its key",
         Refusal::SameProcess => "both names are the same",
-        Refusal::StaleJob =>
-            "no job of $a is held: a message that arrives starts one, and none has",
+        Refusal::StaleJob => "no job of $a is held: an arrival starts one, and none came",
         Refusal::JournalFull => FULL,
         Refusal::WireFull => "the wire is full: arrive and lose take packets from it",
         _ => "it isn't allowed here",
