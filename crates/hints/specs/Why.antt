@@ -24,6 +24,6 @@ IsAt s act place = (e : Entry) × (slice_get s.entries place ≡ Some e) × IsAc
 abbrev pub Holds : TheSession → Why → Type 0
 Holds s (Phase process phase) = name_of ((world_at s).phase process) ≡ phase
 Holds s (Logged from to ssn) = logged (world_at s) from to ssn ≢ None
-Holds s (Unlogged from to ssn last) = logged (world_at s) from to ssn ≡ None
+Holds s (Unlogged from to ssn) = logged (world_at s) from to ssn ≡ None
 Holds s (Done act entry) = IsAt s act entry
 Holds s Number = Unit {0}

@@ -20,11 +20,9 @@ const MEANT: [(&str, &str); 12] = [
     ("li movi set", "mov r1, 5"),
 ];
 
-const MEMORY: &str =
-    "no instruction computes with memory: a load stands before it, as ldxdw r5, [r2+0]";
+const MEMORY: &str = "no instruction computes with memory: load it first, as ldxdw r5, [r2+0]";
 
-const LABELS: &str =
-    "there are no labels: a jump has the number of slots that it passes over, as +1 (lddw has two)";
+const LABELS: &str = "there are no labels: a jump counts slots, as +1 over the next (lddw has two)";
 
 /// Whether a word is an operand in brackets.
 fn is_place(word: &str) -> bool {

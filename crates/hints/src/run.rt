@@ -1,5 +1,7 @@
 //! What is said of a run: why orders were refused, and what is left to do.
 
+ghost use Rattle.hints.specs.Told.{AreKept, IsAdded};
+
 use crate::rest::{Rest, rest_of};
 use crate::why::{Act, Why, named_in, why_of};
 use indexmap::IndexMap;
@@ -13,13 +15,16 @@ use world::{Call, PhaseName, Refusal};
 /// Of how many refused orders it is said why.
 const TOLD: usize = 16;
 
-const FULL: &str =
-    "the journal is full: if each message makes another one, a drive of fewer calls ends before";
+const FULL: &str = "the journal is full: do messages go round and round? drive fewer calls";
 
 const WAITS: &str = "it waits for acknowledgements: drive N above this line sends it";
 
-const DOWN: &str =
-    "$a is down, and what is sent to it waits: recover $a, drive N bring it back (alone $a if another one is down)";
+const DOWN: &str = "$a is down, and what is sent to it waits: recover $a, drive N bring it back";
+
+const PEER: &str = "$b is down: recover $b comes first, or if $a is down too, alone $a, drive N";
+
+const UNSENT: &str =
+    "$a has sent $b no message $n (each receiver's are numbered from 1): drive N makes it work";
 
 const BACK: &str = "$a is on its way back: one more drive N brings it up";
 
@@ -37,7 +42,9 @@ pub struct Told {
 }
 
 /// Keeps why a session refused the order of a step, of the first ones, if there is memory.
-pub fn keep_told(told: &mut Vec<Told>, session: &Service, step: &Step, refusal: Refusal) {
+pub fn keep_told(told: &mut Vec<Told>, session: &Service, step: &Step, refusal: Refusal)
+    ensures { AreKept session.now told.old.items told.new.items }
+{
     if told.len() >= TOLD {
         return;
     }
@@ -85,12 +92,8 @@ fn phase_words(told: &Told, phase: PhaseName) -> &'static str {
         (Refusal::NotUp, PhaseName::Down) if matches!(&told.order, Order::Crash { .. }) => {
             "$a is down already"
         }
-        (Refusal::NotUp, PhaseName::Down) => {
-            "$a is down: recover $a and drive N above this line bring it up"
-        }
-        (Refusal::PeerNotUp, PhaseName::Down) => {
-            "$b is down: recover $b comes first; if $a is down too, alone $a, drive N, recover $b"
-        }
+        (Refusal::NotUp, PhaseName::Down) => "$a is down: recover $a, drive N above this line",
+        (Refusal::PeerNotUp, PhaseName::Down) => PEER,
         (Refusal::PeerNotUp, _) => "$b is on its way back: drive N above this line brings it up",
         (Refusal::NotDown, PhaseName::Up | PhaseName::Busy) => {
             "$a is up: crash $a comes before recover $a"
@@ -102,12 +105,11 @@ fn phase_words(told: &Told, phase: PhaseName) -> &'static str {
 }
 
 /// Of a message that its sender's log doesn't have.
-fn message_words(told: &Told, ssn: u32, last: u32) -> &'static str {
+fn message_words(told: &Told, ssn: u32) -> &'static str {
     match told.refusal {
         Refusal::NotLogged if ssn == 0 => "messages are numbered from 1",
         Refusal::NotLogged => "message $n of $a to $b was trimmed",
-        _ if last == 0 => "$a has sent $b no message $n: drive N above this line makes it work",
-        _ => "$a has sent $b no message $n: the last one is $m",
+        _ => UNSENT,
     }
 }
 
@@ -115,12 +117,10 @@ fn message_words(told: &Told, ssn: u32, last: u32) -> &'static str {
 fn number_words(refusal: Refusal) -> &'static str {
     match refusal {
         Refusal::Busy => "its process works on a message: finish above this line ends that",
-        Refusal::NoPacket => {
-            "no packet has key $n: transmit puts one on the wire, and the trace tells the key, as in -> packet 0"
-        }
+        Refusal::NoPacket =>
+            "no packet has key $n: transmit makes one, and the trace tells its key",
         Refusal::SameProcess => "both names are the same",
-        Refusal::StaleJob =>
-            "no job of $a is held: a message that arrives starts one, and none has",
+        Refusal::StaleJob => "no job of $a is held: an arrival starts one, and none came",
         Refusal::JournalFull => FULL,
         Refusal::WireFull => "the wire is full: arrive and lose take packets from it",
         _ => "it isn't allowed here",
@@ -141,10 +141,7 @@ fn cause(told: &Told, key: u32) -> (&'static str, u8, u64, u64) {
     match told.why {
         Why::Phase { process, phase } => (phase_words(told, phase), process, 0, 0),
         Why::Logged { to, .. } => (WAITS, to, 0, 0),
-        Why::Unlogged { to, ssn, last, .. } => {
-            let words = message_words(told, ssn, last);
-            (words, to, u64::from(ssn), u64::from(last))
-        }
+        Why::Unlogged { to, ssn, .. } => (message_words(told, ssn), to, u64::from(ssn), 0),
         Why::Done { act, entry } => (done_words(act), 0, key, entry.saturating_add(1) as u64),
         Why::Number => (number_words(told.refusal), 0, key, 0),
     }
@@ -233,30 +230,45 @@ fn push_left(
     note.push_str(line.as_str())
 }
 
-/// Adds to a note what is said of a run: of work that is left only if nothing else is said.
+/// Adds what is said of a run: of work that is left only if nothing else is.
 fn push_run(
     alloc: Global,
-    note: &mut String,
+    lines: &mut String,
     scenario: &Scenario,
     session: &Service,
     told: &[Told],
+    is_alone: bool,
 ) -> Result<(), AllocError> {
-    push_told(alloc, note, &scenario.processes, told)?;
-    push_steps(alloc, note, scenario.steps.as_slice())?;
+    push_told(alloc, lines, &scenario.processes, told)?;
+    push_steps(alloc, lines, scenario.steps.as_slice())?;
     let rest = rest_of(session);
-    if note.is_empty() && rest != Rest::Nothing {
-        push_left(alloc, note, &scenario.processes, rest)?;
+    if is_alone && lines.is_empty() && rest != Rest::Nothing {
+        push_left(alloc, lines, &scenario.processes, rest)?;
     }
     Ok(())
 }
 
-/// The same, as far as there is memory.
+/// Adds what is said of a run to a note, if there is memory; to one with other lines nothing of work that is left.
 pub fn note_run(
     alloc: Global,
     note: &mut String,
     scenario: &Scenario,
     session: &Service,
     told: &Vec<Told>,
-) {
-    let _noted = push_run(alloc, note, scenario, session, told.as_slice());
+)
+    ensures { IsAdded note.old note.new }
+{
+    let (mut lines, is_alone) = (String::new(alloc), note.is_empty());
+    if push_run(
+        alloc,
+        &mut lines,
+        scenario,
+        session,
+        told.as_slice(),
+        is_alone,
+    )
+    .is_ok()
+    {
+        let _noted = note.push_str(lines.as_str());
+    }
 }

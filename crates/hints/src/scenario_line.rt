@@ -17,8 +17,7 @@ const MEANT: [(&str, &str); 9] = [
     ("node proc", "process"),
 ];
 
-const PRINTED: &str =
-    "run prints such a line, and a scenario has none: diff compares what run prints with a stored text";
+const PRINTED: &str = "run prints such a line, and a scenario has none: keep it in another file";
 
 const KEYS: &str = "a packet is named by its key, which the trace tells, as in -> packet 0";
 

@@ -14,9 +14,6 @@ pub(crate) fn line_at(text: &str, number: usize) -> &str {
 /// The number of a word in hexadecimal, as 0x10.
 pub(crate) fn hexadecimal_of(word: &str) -> Option<u64> {
     let digits = word.strip_prefix("0x")?;
-    if digits.is_empty() {
-        return None;
-    }
     let mut number = 0u64;
     for digit in digits.bytes() {
         let value = match digit {

@@ -7,9 +7,6 @@ use scenario::Order;
 use sessions::Service;
 use world::{Call, PhaseName, Refusal};
 
-/// How many numbers are tried for the last message that was sent.
-const TRIED: u32 = 4096;
-
 /// What a call may have done.
 #[derive(Clone, Copy, PartialEq, Eq, Debug)]
 pub enum Act {
@@ -23,28 +20,13 @@ pub enum Act {
 #[derive(Clone, Copy, PartialEq, Eq, Debug)]
 pub enum Why {
     /// The process, of the order or another one that it asks for, is in this phase.
-    Phase {
-        process: u8,
-        phase: PhaseName,
-    },
+    Phase { process: u8, phase: PhaseName },
     /// The log of the sender has the message.
-    Logged {
-        from: u8,
-        to: u8,
-        ssn: u32,
-    },
-    /// It doesn't; the last one that it has below that has this number, or 0 if none is found.
-    Unlogged {
-        from: u8,
-        to: u8,
-        ssn: u32,
-        last: u32,
-    },
+    Logged { from: u8, to: u8, ssn: u32 },
+    /// It doesn't.
+    Unlogged { from: u8, to: u8, ssn: u32 },
     /// The call of this entry, counted from 0, did this.
-    Done {
-        act: Act,
-        entry: usize,
-    },
+    Done { act: Act, entry: usize },
     /// Nothing is found, or the number says it.
     Number,
 }
@@ -117,24 +99,7 @@ fn message_of(session: &Service, order: &Order) -> Why
     if session.logged(from, to, ssn).is_some() {
         return Why::Logged { from, to, ssn };
     }
-    let last = last_of(session, from, to, ssn);
-    Why::Unlogged {
-        from,
-        to,
-        ssn,
-        last,
-    }
-}
-
-/// The number of the last message of one to another that is logged, below this one; 0 if none is found.
-fn last_of(session: &Service, from: u8, to: u8, ssn: u32) -> u32 {
-    let end = ssn.min(TRIED);
-    for back in 1..end {
-        if session.logged(from, to, end - back).is_some() {
-            return end - back;
-        }
-    }
-    0
+    Why::Unlogged { from, to, ssn }
 }
 
 /// Whether a call did this.

@@ -26,7 +26,7 @@ mod ending;
 mod explaining;
 mod fault;
 mod files;
-mod hints;
+mod hint_word;
 mod judged;
 mod kind;
 mod living;

@@ -15,7 +15,7 @@ use crate::ending::print_or_tell;
 use crate::explaining::explain_image;
 use crate::fault::Fault;
 use crate::files::Files;
-use crate::hints::hints_in;
+use crate::hint_word::hints_in;
 use crate::living::live_scenario;
 use crate::loading::{Loaded, load_scenario};
 use crate::machine_code::write_machine_code;
