@@ -1,5 +1,5 @@
 -- Orders that were carried out one after the other.
-use Rattle.std.proofs.Common.{◌≡◌, ◌∙◌, ℕ, List, [], ◌∷◌, ◌++◌, append_assoc, length, take, Option, Some, None, Result, Ok, Err, refl, sym, ap, subst, inl, inr, arith}
+use Rattle.std.proofs.Common.{◌≡◌, ◌∙◌, ℕ, Bool, List, [], ◌∷◌, ◌++◌, append_assoc, length, take, Option, Some, None, Result, Ok, Err, refl, sym, ap, subst, inl, inr, arith}
 use Rattle.std.specs.Result.{OnErr}
 use Rattle.std.proofs.lemmas.List.{append-nil, flat_map_more, take_all}
 use Rattle.handlers.specs.Image.{TheImage}
@@ -16,6 +16,8 @@ use Rattle.scenario.specs.declared.order.Order.TheVariants as order
 use Rattle.scenario.specs.declared.scenario.Step.{Step}
 use Rattle.runner.specs.Orders.{CarriesOut, BringsBack, HoldsJob, MakesCall, Position, beginning, held_for, with_entry, without_job, world_at}
 use Rattle.runner.specs.Results.{results_text}
+use Rattle.runner.specs.Telling.{IsTelling, style_in, told_text}
+use Rattle.styles.specs.Style.{TheStyle}
 use Rattle.runner.specs.Inside.{AreNoted, ArePlayed, ArePlayedTo, IsNoted, IsPlayed, TheNotes}
 use Rattle.runner.specs.Run.{AreCarriedOut, CutsOff, IsCut, IsRun, Passage, RunsThrough, moments_of, passage, refused_lines, refused_text}
 
@@ -131,6 +133,22 @@ played-run names images end steps old mid new played legal text =
       text = text ∙ ap (λ (m : List ℕ). m ++ results_text names end.images end.entries) played.2
           ∙ append_assoc old (refused_lines played.0) (results_text names end.images end.entries)
           ∙ ap (λ (is : List TheImage). old ++ (refused_lines played.0 ++ results_text names is end.entries)) same;
+    }
+
+-- and what it is told as in a style
+pub told-run : (names : List (List ℕ)) (images : List TheImage) (end : Position) (steps : List Step) (notes : TheNotes) (style : TheStyle) (json named : Bool)
+    (text : List ℕ) → AreNoted steps (beginning images) end notes → Legal (length end.images) (handlers_of end.images) end.entries
+    → style ≡ style_in json named names → text ≡ told_text style names end.images notes.moments end.entries → IsTelling names images steps json named text
+told-run names images end steps notes style json named text noted legal styled is =
+    let same : end.images ≡ images = runs-images (beginning images) steps noted.0 end noted.1 in
+    let told : TheStyle → List TheImage → List (ℕ × Option ℕ) → List ℕ = λ s is ms. told_text s names is ms end.entries in
+    record {
+      passages = noted.0;
+      entries = end.entries;
+      carried = played-out images end steps noted.0 noted.1 legal;
+      text_is = is ∙ ap (λ s. told s end.images notes.moments) styled
+          ∙ ap (λ is. told (style_in json named names) is notes.moments) same
+          ∙ ap (told (style_in json named names) images) noted.2;
     }
 
 -- and the first of them alone

@@ -1,6 +1,6 @@
 //! Runs of a scenario in another style.
 
-ghost use Rattle.std.specs.Prelude.{◌≡◌, ◌≤◌, ◌++◌, IfOk, OnOk, length, map, string_bytes};
+ghost use Rattle.std.specs.Prelude.{◌≡◌, ◌≤◌, ◌++◌, IfOk, None, OnOk, Some, cond, length, map, option_map, string_bytes};
 ghost use Rattle.handlers.specs.Image.{image_in};
 ghost use Rattle.machine.specs.Opening.{AreFew};
 ghost use Rattle.scenario.specs.Process.{names_of};
@@ -105,6 +105,16 @@ fn told(
     Ok(text)
 }
 
+/// The processes whose names are told, if they are.
+fn names_if(
+    named: bool,
+    processes: &IndexMap<String, Process>,
+) -> Option<&IndexMap<String, Process>>
+    ensures { option_map (λ m. names_of m.now) result ≡ cond named (Some (names_of processes.now)) None }
+{
+    if named { Some(processes) } else { None }
+}
+
 /// Carries out the orders of a scenario as [`run`](crate::run) does, and gives what it prints in another style: as lines of
 /// JSON, or with names in place of numbers, or both. Only memory can run out.
 pub fn tell(
@@ -118,16 +128,14 @@ pub fn tell(
     requires named { length scenario.now.processes.entries ≡ length images.items }
     ensures { IfOk result (λ text. IsTelling (names_of scenario.now.processes) (map image_in images.items) scenario.now.steps.items json named (string_bytes text)) }
 {
-    let names = if named {
-        Some(&scenario.processes)
-    } else {
-        None
-    };
     let mut player = Player::open(alloc, images)?;
     let Notes { moments, sent: _ } = player.tell_all(alloc, scenario.steps.as_slice())?;
     // The journal is told to be legal.
     let _journal = player.session.journal();
-    let style = Style { json, names };
+    let style = Style {
+        json,
+        names: names_if(named, &scenario.processes),
+    };
     told(
         alloc,
         style,

@@ -1,8 +1,9 @@
 use Rattle.std.proofs.Common.{ap, inl, subst, sym}
 use Rattle.std.proofs.lemmas.Result.{IfErr-weaker, on_ok_weaker}
-use Rattle.cli.specs.Asks.{order_of}
+use Rattle.cli.specs.Asks.{Tell, order_of}
 use Rattle.tracer.specs.Inside.{IsWriteFault}
 use Rattle.tracer.specs.Program.{IsFault, Leaves}
+use Rattle.tracer.proofs.CauseLemmas.{becomes}
 use Rattle.tracer.proofs.program.answer_alone.Goals as goal
 
 pub returns-in-Asm-clause-left : goal.returns-in-Asm-clause-left
@@ -58,3 +59,11 @@ returns-in-Native-clause-fault g c =
     IfErr-weaker c.write_machine_code.result _ _
     (λ f fault. subst (λ o. IsWriteFault g.F.Files.may_be_one (g.F.Files.content c.args.files.now) (g.F.Files.failed c.write_machine_code.new.files) o f) (sym (ap order_of c.in-Native.is)) fault)
     c.write_machine_code.ensures.fault
+
+pub returns-in_err-text-in-Tell-clause-fault : goal.returns-in_err-text-in-Tell-clause-fault
+returns-in_err-text-in-Tell-clause-fault g c =
+    let content = g.F.Files.content c.args.files.now in
+    let failed = g.F.Files.failed c.tell_scenario.new.files in
+    becomes c.from_residual.result _ _ c.from_residual.ensures.1
+    (λ f is. inl (subst (λ o. IsFault content failed o f) (sym (ap order_of c.in-Tell.is))
+    (subst (IsFault content failed (Tell c.in-Tell.scenario.now c.in-Tell.json c.in-Tell.names)) (sym is) c.in_err-text-in-Tell.ensures.fault)))
