@@ -21,6 +21,7 @@ mod mnemonic;
 mod number;
 mod operands;
 mod reading;
+mod sentence;
 mod split;
 mod writing;
 

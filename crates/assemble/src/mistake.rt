@@ -4,13 +4,9 @@ use crate::fault::Fault;
 use crate::mnemonic::{Mnemonic, mnemonic_named};
 use crate::number::{distance_of, number_of, offset_of, value_of};
 use crate::operands::{address_of, register_of, source_of};
-use std::fmt;
-
-/// The most letters of a word that are shown.
-const SHOWN_LIMIT: usize = 40;
 
 /// What stands at an operand's place.
-#[derive(Clone, Copy, PartialEq, Eq, Debug)]
+#[derive(Clone, Copy)]
 pub enum Wanted {
     Register,
     /// A register or a number.
@@ -30,7 +26,7 @@ pub enum Wanted {
 }
 
 /// What is wrong with a line, and what can stand there. It prints as a sentence, without a line's end.
-#[derive(Clone, Copy, PartialEq, Eq, Debug)]
+#[derive(Clone, Copy)]
 pub enum Mistake<'a> {
     /// A byte order mark at the beginning.
     Mark,
@@ -87,14 +83,11 @@ pub fn mistake_of(text: &str, number: usize) -> Option<Mistake<'_>> {
     if line.is_empty() || line.starts_with('#') {
         return None;
     }
-    let written = writing(text, line);
-    if written.is_some() {
-        return written;
-    }
-    let spaced = spacing(line);
-    if spaced.is_some() {
-        return spaced;
-    }
+    writing(text, line).or(spacing(line)).or(wording(line))
+}
+
+/// What is wrong with the words of a line.
+fn wording(line: &str) -> Option<Mistake<'_>> {
     let (word, operands) = match line.split_once(' ') {
         Some((word, operands)) => (word, Some(operands)),
         None => (line, None),
@@ -173,10 +166,19 @@ fn spacing(line: &str) -> Option<Mistake<'_>> {
     if line.starts_with(' ') {
         return Some(Mistake::Indent);
     }
-    let marked = marking(line);
-    if marked.is_some() {
-        return marked;
+    marking(line).or(lettering(line)).or(parting(line))
+}
+
+/// What is wrong with the spaces of a line.
+fn parting(line: &str) -> Option<Mistake<'_>> {
+    if line.ends_with(' ') || line.contains("  ") {
+        return Some(Mistake::Space);
     }
+    None
+}
+
+/// The first letter of a line that isn't ASCII, or that no terminal shows.
+fn lettering(line: &str) -> Option<Mistake<'_>> {
     let mut place = 0usize;
     for letter in line.chars() {
         place = place.saturating_add(1);
@@ -186,9 +188,6 @@ fn spacing(line: &str) -> Option<Mistake<'_>> {
         if !letter.is_ascii() {
             return Some(Mistake::Letter { letter, place });
         }
-    }
-    if line.ends_with(' ') || line.contains("  ") {
-        return Some(Mistake::Space);
     }
     None
 }
@@ -261,20 +260,24 @@ fn operating<'a>(
     if operands.contains(" ,") || operands.split(", ").count() != count {
         return Some(Mistake::Comma);
     }
-    for (kind, operand) in wanted.iter().zip(operands.split(", ")) {
-        if reading(*kind, operand.as_bytes()) == Err(Fault::Shape) {
-            return Some(Mistake::Shape {
-                word: operand,
-                wanted: *kind,
-            });
-        }
+    if let Some((word, wanted)) = first_with(Fault::Shape, wanted, operands) {
+        return Some(Mistake::Shape { word, wanted });
     }
-    for (kind, operand) in wanted.iter().zip(operands.split(", ")) {
-        if reading(*kind, operand.as_bytes()) == Err(Fault::Range) {
-            return Some(Mistake::Range {
-                word: operand,
-                wanted: *kind,
-            });
+    let (word, wanted) = first_with(Fault::Range, wanted, operands)?;
+    Some(Mistake::Range { word, wanted })
+}
+
+/// The first operand that has this fault.
+fn first_with<'a>(
+    fault: Fault,
+    wanted: &'static [Wanted],
+    operands: &'a str,
+) -> Option<(&'a str, Wanted)> {
+    let mut kinds = wanted.iter();
+    for operand in operands.split(", ") {
+        let kind = kinds.next()?;
+        if fault_of(*kind, operand.as_bytes()) == Some(fault) {
+            return Some((operand, *kind));
         }
     }
     None
@@ -303,205 +306,15 @@ fn form_of(mnemonic: Mnemonic) -> (&'static str, &'static [Wanted]) {
     }
 }
 
-/// Reads an operand.
-fn reading(wanted: Wanted, operand: &[u8]) -> Result<(), Fault> {
+/// The fault of an operand.
+fn fault_of(wanted: Wanted, operand: &[u8]) -> Option<Fault> {
     match wanted {
-        Wanted::Register => {
-            register_of(operand)?;
-        }
-        Wanted::Source => {
-            source_of(operand)?;
-        }
-        Wanted::Number | Wanted::Helper => {
-            number_of(operand)?;
-        }
-        Wanted::Value => {
-            value_of(operand)?;
-        }
-        Wanted::Address => {
-            address_of(operand)?;
-        }
-        Wanted::Offset => {
-            offset_of(operand)?;
-        }
-        Wanted::Distance => {
-            distance_of(operand)?;
-        }
-    }
-    Ok(())
-}
-
-impl Wanted {
-    /// What an operand that isn't written so is not, and how it is written.
-    fn shape(self) -> &'static str {
-        match self {
-            Wanted::Register => "is no register: r0 to r10",
-            Wanted::Source => {
-                "is no register, r0 to r10, and no number: 0, or decimal digits without a leading zero, behind a - where it is negative"
-            }
-            Wanted::Number => {
-                "is no number: 0, or decimal digits without a leading zero, behind a - where it is negative"
-            }
-            Wanted::Helper => {
-                "is no number: helper 1 is send, 2 output, 3 the own number, 4 the sender, 5 send of a length, 6 output of a length"
-            }
-            Wanted::Value => "is no number: 0, or decimal digits without a leading zero or a sign",
-            Wanted::Address => {
-                "is no place: a register and a distance with its sign, in brackets, as [r1+0] or [r10-8]"
-            }
-            Wanted::Offset | Wanted::Distance => {
-                "is no distance: decimal digits without a leading zero, behind a + or a -, as +2, or +0"
-            }
-        }
-    }
-
-    /// The range of its number.
-    fn range(self) -> &'static str {
-        match self {
-            Wanted::Register => "r0 to r10",
-            Wanted::Source | Wanted::Number | Wanted::Helper | Wanted::Distance => {
-                "-2147483648 to 2147483647"
-            }
-            Wanted::Value => "0 to 18446744073709551615",
-            Wanted::Address | Wanted::Offset => "-32768 to 32767",
-        }
-    }
-}
-
-/// A word as it is shown: no letter that could move the cursor of a terminal, and not too long.
-#[derive(Clone, Copy)]
-struct Shown<'a>(&'a str);
-
-impl fmt::Display for Shown<'_> {
-    fn fmt<W: fmt::Write>(&self, f: &mut fmt::Formatter<W>) -> fmt::Result {
-        for letter in self.0.chars().take(SHOWN_LIMIT) {
-            f.write_char(if letter == ' ' || letter.is_ascii_graphic() {
-                letter
-            } else {
-                '?'
-            })?;
-        }
-        if self.0.chars().count() > SHOWN_LIMIT {
-            f.write_str("..")?;
-        }
-        Ok(())
-    }
-}
-
-/// A letter that isn't ASCII, by its number.
-#[derive(Clone, Copy)]
-struct Beyond(char);
-
-impl fmt::Display for Beyond {
-    fn fmt<W: fmt::Write>(&self, f: &mut fmt::Formatter<W>) -> fmt::Result {
-        let number = self.0 as u32;
-        match number {
-            0xa0 => f.write_str("a no-break space (U+00A0)"),
-            0xfeff => f.write_str("a byte order mark (U+FEFF)"),
-            _ => write!(f, "U+{number:04x}"),
-        }
-    }
-}
-
-impl Mistake<'_> {
-    /// The words of a mistake that are always the same.
-    fn fixed(self) -> Option<&'static str> {
-        match self {
-            Mistake::Mark => Some(
-                "a byte order mark (U+FEFF) before the first letter: save the text as UTF-8 without one",
-            ),
-            Mistake::CarriageReturn => Some("a carriage return: lines end with a line feed alone"),
-            Mistake::Null => {
-                Some(
-                    "a NUL (U+0000), which each second letter of UTF-16 is: save the text as UTF-8",
-                )
-            }
-            Mistake::Compiler => Some(
-                "this looks like a compiler's assembler text: clang -c in place of clang -S, and sblog pack writes the image (docs/HANDLERS.md)",
-            ),
-            Mistake::Hash => Some("a number stands without a # before it"),
-            Mistake::Language => Some(
-                "this looks like C: clang compiles it, and sblog pack writes the image (docs/HANDLERS.md)",
-            ),
-            Mistake::Tab => Some(
-                "a tab: one space stands behind the first word and behind a comma, and none before the first word or at the end",
-            ),
-            Mistake::Indent => Some("a space before the first word"),
-            Mistake::Semicolon => Some(
-                "a semicolon: each instruction stands on a line of its own, without one",
-            ),
-            Mistake::Comment => Some("a comment stands on a line of its own, which begins with #"),
-            Mistake::Space => Some("a space at the end, or two in a row"),
-            Mistake::Comma => Some(
-                "a comma and one space stand between operands, and no space before the comma",
-            ),
-            Mistake::Label => Some(
-                "there are no labels: a jump has its distance in slots, as ja +2",
-            ),
-            Mistake::Listing => Some(
-                "this looks like a listing, of sblog explain or llvm-objdump: sblog dis prints the text of an image",
-            ),
-            Mistake::Foreign => Some(
-                "this is how clang writes an instruction: here a word stands first, as in jeq r1, 0, +2 or stxdw [r2+0], r3",
-            ),
-            Mistake::Scenario => Some("this looks like a scenario: sblog run carries it out"),
-            _ => None,
-        }
-    }
-}
-
-impl fmt::Display for Mistake<'_> {
-    fn fmt<W: fmt::Write>(&self, f: &mut fmt::Formatter<W>) -> fmt::Result {
-        if let Some(words) = self.fixed() {
-            return f.write_str(words);
-        }
-        match *self {
-            Mistake::Control { letter, place } => {
-                let letter = Beyond(letter);
-                write!(
-                    f,
-                    "letter {place} is {letter}, a control character: no terminal shows it"
-                )
-            }
-            Mistake::Letter { letter, place } => {
-                let letter = Beyond(letter);
-                write!(
-                    f,
-                    "letter {place} is {letter}: outside of comments all are ASCII"
-                )
-            }
-            Mistake::Register { word } => {
-                let word = Shown(word);
-                write!(
-                    f,
-                    "a line begins with the word of its instruction, as mov {word}, 0, and not with a register"
-                )
-            }
-            Mistake::Capital { word } => {
-                let word = Shown(word);
-                write!(f, "{word} has a capital letter: words are in small ones")
-            }
-            Mistake::Word { word } => {
-                let word = Shown(word);
-                write!(
-                    f,
-                    "no instruction has the word {word}: add, sub, mul, div, sdiv, mod, smod, or, and, xor, lsh, rsh, arsh, neg, mov, movsx8 to movsx32, ja, jal, jeq, jne, jgt, jge, jlt, jle, jsgt, jsge, jslt, jsle, jset, le, be and swap with 16, 32 or 64, ldxb, ldxh, ldxw, ldxdw, stxb to stxdw, stb to stdw, lddw, call and exit do; with 32 behind it, half as wide"
-                )
-            }
-            Mistake::Operands { word, form } => {
-                write!(f, "more or fewer operands than in: {word}{form}")
-            }
-            Mistake::Shape { word, wanted } => {
-                let word = Shown(word);
-                let shape = wanted.shape();
-                write!(f, "{word} {shape}")
-            }
-            Mistake::Range { word, wanted } => {
-                let word = Shown(word);
-                let range = wanted.range();
-                write!(f, "{word} is out of its range, {range}")
-            }
-            _ => Ok(()),
-        }
+        Wanted::Register => register_of(operand).err(),
+        Wanted::Source => source_of(operand).err(),
+        Wanted::Number | Wanted::Helper => number_of(operand).err(),
+        Wanted::Value => value_of(operand).err(),
+        Wanted::Address => address_of(operand).err(),
+        Wanted::Offset => offset_of(operand).err(),
+        Wanted::Distance => distance_of(operand).err(),
     }
 }

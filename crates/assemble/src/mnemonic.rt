@@ -11,7 +11,7 @@ ghost use Rattle.assemble.specs.declared.mnemonic.Mnemonic.{Mnemonic};
 use decode::{AluOp, ByteOrder, Condition, Extension, SignedSize, Size, SwapBits, Width};
 
 /// An instruction without its operands.
-#[derive(Clone, Copy, Debug, PartialEq, Eq)]
+#[derive(Clone, Copy)]
 pub enum Mnemonic {
     Alu(AluOp, Width),
     MovSx(Extension),

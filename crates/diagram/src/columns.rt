@@ -13,7 +13,7 @@ use std::alloc::{AllocError, Global};
 use world::{Answer, Call, Entry};
 
 /// The column of the entry at a place, or of an order that was refused behind so many entries.
-#[derive(Clone, Copy, PartialEq, Eq, Debug)]
+#[derive(Clone, Copy)]
 pub struct Column {
     pub line: usize,
     pub place: usize,

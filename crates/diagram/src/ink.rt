@@ -8,7 +8,7 @@ use std::alloc::AllocError;
 const HALF: usize = 9;
 
 /// A point of the page, in pixels to the right and down.
-#[derive(Clone, Copy, PartialEq, Eq, Debug)]
+#[derive(Clone, Copy)]
 pub struct Point {
     pub x: usize,
     pub y: usize,

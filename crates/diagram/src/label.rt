@@ -9,7 +9,7 @@ use crate::page::{GAP, column_x};
 use std::alloc::AllocError;
 
 /// Where a label stands beside a line.
-#[derive(Clone, Copy, PartialEq, Eq, Debug)]
+#[derive(Clone, Copy)]
 pub enum Side {
     Above,
     Below,

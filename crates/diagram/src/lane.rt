@@ -3,7 +3,7 @@
 use crate::sign::Sign;
 
 /// What a line looks like.
-#[derive(Clone, Copy, PartialEq, Eq, Debug)]
+#[derive(Clone, Copy, PartialEq, Eq)]
 pub enum Phase {
     Up,
     Down,
@@ -25,7 +25,7 @@ impl Phase {
 }
 
 /// A handler call that has begun.
-#[derive(Clone, Copy, PartialEq, Eq, Debug)]
+#[derive(Clone, Copy)]
 pub struct Job {
     pub serial: u32,
     /// The column where it began.
@@ -53,7 +53,7 @@ impl Job {
 }
 
 /// The line of a process, or of the outside, at some moment.
-#[derive(Clone, Copy, PartialEq, Eq, Debug)]
+#[derive(Clone, Copy)]
 pub struct Lane {
     pub phase: Phase,
     /// Where its phase began, in pixels.

@@ -84,16 +84,21 @@ impl Legend {
         let mut out = String::new(alloc);
         let shown = Sign::ALL.iter().filter(|sign| self.signs.contains(sign));
         for (place, sign) in shown.enumerate() {
-            let x = CORNER.0.saturating_add((place % IN_ROW) * CELL.0);
-            let y = CORNER
-                .1
-                .saturating_add((place / IN_ROW).saturating_mul(CELL.1));
-            let (sample, words) = (sign.sample(), sign.words());
-            writeln!(
-                out,
-                "<g transform='translate({x} {y})'>{sample}<text x='42' y='4'>{words}</text></g>"
-            )?;
+            push_sign(&mut out, place, *sign)?;
         }
         Ok(out)
     }
+}
+
+/// Writes a sign at its place, and what it is.
+fn push_sign(out: &mut String, place: usize, sign: Sign) -> Result<(), AllocError> {
+    let x = CORNER.0.saturating_add((place % IN_ROW) * CELL.0);
+    let y = CORNER
+        .1
+        .saturating_add((place / IN_ROW).saturating_mul(CELL.1));
+    let (sample, words) = (sign.sample(), sign.words());
+    writeln!(
+        out,
+        "<g transform='translate({x} {y})'>{sample}<text x='42' y='4'>{words}</text></g>"
+    )
 }

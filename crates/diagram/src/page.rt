@@ -97,16 +97,27 @@ fn drawing(
     let count = lane_count(processes);
     let foot = lane_y(count) + FOOT;
     let mut picture = Picture::new(alloc, count, BEGIN, only_messages)?;
+    push_run(&mut picture, processes, entries, columns, foot)?;
+    joined(alloc, &picture, count, entries, columns, foot)
+}
+
+/// Draws these columns, down to a height, and the names of lines and rows.
+fn push_run(
+    picture: &mut Picture,
+    processes: &IndexMap<String, Process>,
+    entries: &[Entry],
+    columns: &[Column],
+    foot: usize,
+) -> Result<(), AllocError> {
     for (column, shown) in columns.iter().enumerate() {
-        push_column(&mut picture, column, shown, foot)?;
+        push_column(picture, column, shown, foot)?;
         match (shown.refused, entries.get(shown.place)) {
             (None, Some(entry)) => picture.enter(column, entry)?,
             _ => (),
         }
     }
     picture.close(columns.len())?;
-    push_names(&mut picture, processes, count, columns.len())?;
-    joined(alloc, &picture, count, entries, columns, foot)
+    push_names(picture, processes, lane_count(processes), columns.len())
 }
 
 /// The width of a page with so many columns, in pixels.
@@ -178,14 +189,43 @@ fn push_lane_names(
     let y = lane_y(0).saturating_add(4);
     push_text(out, class, Point { x, y }, "0 outside")?;
     for number in 1..=count {
-        let y = lane_y(number).saturating_add(4);
-        let name = name_at(processes, number);
-        writeln!(
-            out,
-            "<text class='{class}' x='{x}' y='{y}'>{number} {name}</text>"
-        )?;
+        push_lane_name(out, processes, number, class, x)?;
     }
     Ok(())
+}
+
+/// Writes the name of a process at a place of its line.
+fn push_lane_name(
+    out: &mut String,
+    processes: &IndexMap<String, Process>,
+    number: u8,
+    class: &str,
+    x: usize,
+) -> Result<(), AllocError> {
+    let y = lane_y(number).saturating_add(4);
+    let name = name_at(processes, number);
+    writeln!(
+        out,
+        "<text class='{class}' x='{x}' y='{y}'>{number} {name}</text>"
+    )
+}
+
+/// The layers of a picture, the lowest first.
+fn layers(alloc: Global, picture: &Picture) -> Result<String, AllocError> {
+    let mut out = String::new(alloc);
+    let lowest = [STYLE, "<rect width='100%' height='100%' fill='#fff'/>\n"];
+    for layer in lowest {
+        out.push_str(layer)?;
+    }
+    for layer in [
+        &picture.lines,
+        &picture.boxes,
+        &picture.arrows,
+        &picture.marks,
+    ] {
+        out.push_str(layer.as_str())?;
+    }
+    Ok(out)
 }
 
 /// The layers of a picture of so many processes, with the marks of these columns above them, and its legend.
@@ -200,12 +240,7 @@ fn joined(
     ensures { IfOk result (λ text. HasPart (marks_from count entries.now 0 columns.now) (string_bytes text)) }
 {
     let legend = picture.legend.text(alloc)?;
-    let mut out = String::from_str(alloc, STYLE)?;
-    out.push_str("<rect width='100%' height='100%' fill='#fff'/>\n")?;
-    out.push_str(picture.lines.as_str())?;
-    out.push_str(picture.boxes.as_str())?;
-    out.push_str(picture.arrows.as_str())?;
-    out.push_str(picture.marks.as_str())?;
+    let mut out = layers(alloc, picture)?;
     push_marks(&mut out, count, entries, columns)?;
     writeln!(out, "<g transform='translate(0 {foot})'>")?;
     out.push_str(legend.as_str())?;

@@ -1,6 +1,6 @@
 //! Entries to what is drawn of them.
 
-use crate::ink::{Point, push_line, push_mark};
+use crate::ink::{Point, push_line};
 use crate::lane::{Job, Lane, Phase};
 use crate::legend::Legend;
 use crate::page::{column_x, lane_y};
@@ -95,23 +95,34 @@ impl Picture {
             let Some(lane) = self.lanes.get(usize::from(number)).copied() else {
                 break;
             };
-            self.stop(number, end, true)?;
-            let y = lane_y(number);
-            let start = Point { x: lane.since, y };
-            let class = lane.phase.class();
-            push_line(&mut self.lines, class, start, Point { x: end, y })?;
+            self.close_lane(number, lane, end)?;
         }
-        for wire in self.wires.values() {
-            let half = wire.half(column);
-            push_line(&mut self.arrows, wire.headless(), wire.start(), half)?;
-            self.legend.note(wire.sign())?;
-            self.legend.note(Sign::OnItsWay)?;
-            if let Some(copied) = wire.copied {
-                self.legend.note(Sign::Copy)?;
-                push_mark(&mut self.marks, "copy", wire.point_at(copied, half))?;
-            }
+        for place in 0..self.wires.len() {
+            let Some((_, wire)) = self.wires.get_index(place) else {
+                break;
+            };
+            let wire = *wire;
+            self.close_wire(wire, column)?;
         }
         Ok(())
+    }
+
+    /// A line is drawn to its end.
+    fn close_lane(&mut self, number: u8, lane: Lane, end: usize) -> Result<(), AllocError> {
+        self.stop(number, end, true)?;
+        let y = lane_y(number);
+        let start = Point { x: lane.since, y };
+        let class = lane.phase.class();
+        push_line(&mut self.lines, class, start, Point { x: end, y })
+    }
+
+    /// A packet is drawn half the way to where it goes.
+    fn close_wire(&mut self, wire: Wire, column: usize) -> Result<(), AllocError> {
+        let half = wire.half(column);
+        push_line(&mut self.arrows, wire.headless(), wire.start(), half)?;
+        self.legend.note(wire.sign())?;
+        self.legend.note(Sign::OnItsWay)?;
+        self.mark_copy(wire, half)
     }
 
     /// Whether there is a line of this number.

@@ -1,7 +1,7 @@
 //! The signs of a picture, and what the legend says of them.
 
 /// Something that a picture shows.
-#[derive(Clone, Copy, PartialEq, Eq, Debug)]
+#[derive(Clone, Copy, PartialEq, Eq)]
 pub enum Sign {
     Input,
     Message,

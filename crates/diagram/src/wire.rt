@@ -5,7 +5,7 @@ use crate::page::{column_x, lane_y};
 use crate::sign::Sign;
 
 /// What a packet is.
-#[derive(Clone, Copy, PartialEq, Eq, Debug)]
+#[derive(Clone, Copy, PartialEq, Eq)]
 pub enum Kind {
     Message,
     Number,
@@ -13,7 +13,7 @@ pub enum Kind {
 }
 
 /// A packet on its way, from lane to lane.
-#[derive(Clone, Copy, PartialEq, Eq, Debug)]
+#[derive(Clone, Copy)]
 pub struct Wire {
     pub kind: Kind,
     pub from: u8,

@@ -3,7 +3,7 @@
 use std::fmt;
 
 /// The first lines of a text.
-#[derive(Clone, Copy, PartialEq, Eq, Debug)]
+#[derive(Clone, Copy)]
 pub struct Above<'a> {
     pub(crate) text: &'a str,
     pub(crate) lines: usize,
@@ -42,6 +42,12 @@ impl Above<'_> {
     }
 }
 
+/// Writes a name, and a comma before it if it isn't the first.
+fn push_name<W: fmt::Write>(f: &mut fmt::Formatter<W>, is_first: bool, name: &str) -> fmt::Result {
+    f.write_str(if is_first { "" } else { ", " })?;
+    f.write_str(name)
+}
+
 /// What the lines declare: the names, with commas between them.
 impl fmt::Display for Above<'_> {
     fn fmt<W: fmt::Write>(&self, f: &mut fmt::Formatter<W>) -> fmt::Result {
@@ -52,10 +58,7 @@ impl fmt::Display for Above<'_> {
         let mut is_first = true;
         for line in self.text.split('\n').take(self.lines) {
             if let Some(name) = declared(line) {
-                if !is_first {
-                    f.write_str(", ")?;
-                }
-                f.write_str(name)?;
+                push_name(f, is_first, name)?;
                 is_first = false;
             }
         }

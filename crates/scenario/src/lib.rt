@@ -20,6 +20,7 @@ mod order;
 mod pair;
 mod process;
 mod scenario;
+mod sentence;
 mod split;
 mod verb;
 

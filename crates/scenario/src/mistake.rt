@@ -7,19 +7,12 @@ use crate::order::Allowed;
 use crate::process::is_name;
 use crate::verb::{VERBS, Verb, verb_named};
 use limits::PROCESSES;
-use std::fmt;
-
-/// The most letters of a word that are shown.
-const SHOWN_LIMIT: usize = 40;
 
 /// The word of a line that declares a process.
-const PROCESS: &str = "process";
-
-/// What bytes are.
-const PAIRS: &str = "bytes are pairs of 0 to 9 and a to f, at most 256 pairs, or - for none";
+pub(crate) const PROCESS: &str = "process";
 
 /// What is wrong with a line, and what can stand there. It prints as a sentence, without a line's end.
-#[derive(Clone, Copy, PartialEq, Eq, Debug)]
+#[derive(Clone, Copy)]
 pub enum Mistake<'a> {
     /// No line declares a process.
     NoProcess,
@@ -82,7 +75,7 @@ pub enum Mistake<'a> {
 }
 
 /// What stands behind the word of an order.
-#[derive(Clone, Copy, PartialEq, Eq)]
+#[derive(Clone, Copy)]
 enum Operand {
     Process,
     /// A process or the outside.
@@ -100,22 +93,20 @@ pub fn mistake_of(text: &str, number: usize, allowed: Allowed) -> Option<Mistake
     }
     let lines = number - 1;
     let line = text.split('\n').nth(lines)?;
-    let above = Above { text, lines };
     let (word, operands) = line.split_once(' ').unwrap_or((line, ""));
-    let written = writing(line);
-    if written.is_some() {
-        return written;
-    }
-    if !is_line_word(word) {
-        let meant = meaning(text, word);
-        if meant.is_some() {
-            return meant;
-        }
-    }
-    let spaced = spacing(line);
-    if spaced.is_some() {
-        return spaced;
-    }
+    writing(line)
+        .or(meaning(text, word))
+        .or(spacing(line))
+        .or(wording(Above { text, lines }, word, operands, allowed))
+}
+
+/// What is wrong with the words of a line.
+fn wording<'a>(
+    above: Above<'a>,
+    word: &'a str,
+    operands: &'a str,
+    allowed: Allowed,
+) -> Option<Mistake<'a>> {
     if word == PROCESS {
         return declaring(above, operands);
     }
@@ -153,6 +144,9 @@ pub fn is_begun(line: &str) -> bool {
 
 /// What is meant by a word that begins no line, where the word or the whole text is of another kind.
 fn meaning<'a>(text: &'a str, word: &'a str) -> Option<Mistake<'a>> {
+    if is_line_word(word) {
+        return None;
+    }
     if is_capital(word) {
         return Some(Mistake::Capital { word });
     }
@@ -189,17 +183,14 @@ fn spacing(line: &str) -> Option<Mistake<'_>> {
     if line.starts_with(' ') || line.ends_with(' ') || line.contains("  ") {
         return Some(Mistake::Space);
     }
-    if !line.starts_with("process ") {
-        let marked = marking(line);
-        if marked.is_some() {
-            return marked;
-        }
-    }
-    lettering(line)
+    marking(line).or(lettering(line))
 }
 
-/// What is wrong with a mark behind an order, or in its place.
+/// What is wrong with a mark behind an order, or in its place; in the line of a process it is one of its path.
 fn marking(line: &str) -> Option<Mistake<'_>> {
+    if line.starts_with("process ") {
+        return None;
+    }
     let is_comment = line.contains(" #")
         || line.contains("//")
         || line.starts_with(';')
@@ -293,8 +284,9 @@ fn ordering<'a>(above: Above<'a>, verb: Verb, operands: &'a str) -> Option<Mista
     if words != kinds.len() {
         return Some(Mistake::Words(verb.word(), wanted));
     }
-    for (kind, word) in kinds.iter().zip(operands.split(' ')) {
-        let wrong = reading(above, *kind, word);
+    let mut kinds = kinds.iter();
+    for word in operands.split(' ') {
+        let wrong = reading(above, *kinds.next()?, word);
         if wrong.is_some() {
             return wrong;
         }
@@ -322,7 +314,7 @@ fn operands_of(verb: Verb) -> (&'static str, &'static [Operand]) {
 
 /// What is wrong with an operand.
 fn reading<'a>(above: Above<'a>, kind: Operand, word: &'a str) -> Option<Mistake<'a>> {
-    let is_party = kind == Operand::Party;
+    let is_party = matches!(kind, Operand::Party);
     match kind {
         Operand::Process | Operand::Party if above.has_process(word) => None,
         Operand::Process | Operand::Party if word == "outside" => {
@@ -363,194 +355,5 @@ fn spelling(word: &str) -> Mistake<'_> {
     }
     Mistake::Long {
         bytes: word.len() / 2,
-    }
-}
-
-/// A word as it is shown: no letter that could move the cursor of a terminal, and not too long.
-#[derive(Clone, Copy)]
-struct Shown<'a>(&'a str);
-
-impl fmt::Display for Shown<'_> {
-    fn fmt<W: fmt::Write>(&self, f: &mut fmt::Formatter<W>) -> fmt::Result {
-        for letter in self.0.chars().take(SHOWN_LIMIT) {
-            f.write_char(if letter.is_ascii_graphic() {
-                letter
-            } else {
-                '?'
-            })?;
-        }
-        if self.0.chars().count() > SHOWN_LIMIT {
-            f.write_str("..")?;
-        }
-        Ok(())
-    }
-}
-
-/// A letter that isn't ASCII, by its number.
-#[derive(Clone, Copy)]
-struct Beyond(char);
-
-impl fmt::Display for Beyond {
-    fn fmt<W: fmt::Write>(&self, f: &mut fmt::Formatter<W>) -> fmt::Result {
-        let number = self.0 as u32;
-        match number {
-            0xa0 => f.write_str("a no-break space (U+00A0)"),
-            0xfeff => f.write_str("a byte order mark (U+FEFF)"),
-            _ => write!(f, "U+{number:04x}"),
-        }
-    }
-}
-
-/// Writes what lines begin with.
-fn name_words<W: fmt::Write>(f: &mut fmt::Formatter<W>) -> fmt::Result {
-    f.write_str(PROCESS)?;
-    for verb in VERBS {
-        let before = if verb == Verb::Drive { " and " } else { ", " };
-        f.write_str(before)?;
-        f.write_str(verb.word())?;
-    }
-    f.write_str(" do")
-}
-
-impl Mistake<'_> {
-    /// The words of a mistake that are always the same.
-    fn fixed(self) -> Option<&'static str> {
-        match self {
-            Mistake::NoProcess => Some("no line declares a process: process NAME PATH"),
-            Mistake::Mark => Some(
-                "a byte order mark (U+FEFF) before the first letter: save the text as UTF-8 without one",
-            ),
-            Mistake::CarriageReturn => Some("a carriage return: lines end with a line feed alone"),
-            Mistake::Null => {
-                Some(
-                    "a NUL (U+0000), which each second letter of UTF-16 is: save the text as UTF-8",
-                )
-            }
-            Mistake::Cluster => Some(
-                "this looks like the text of a cluster, which sblog-node --cluster reads (docs/CLUSTER.md)",
-            ),
-            Mistake::Tab => Some("a tab: words stand with one space between them"),
-            Mistake::Space => Some("a space at the beginning or the end, or two in a row"),
-            Mistake::Semicolon => Some("no line ends with a semicolon"),
-            Mistake::Several => Some(
-                "a semicolon: each order stands on a line of its own, without one",
-            ),
-            Mistake::Path => {
-                Some(
-                    "more or fewer words than in: process NAME PATH (a path has no space in it, and no quotes)",
-                )
-            }
-            Mistake::Comment => Some("a comment stands on a line of its own, which begins with #"),
-            Mistake::Late => Some("processes are declared before the first order"),
-            Mistake::InputsAlone => Some("only input and bytes lines can stand here"),
-            _ => None,
-        }
-    }
-
-    /// Writes what is wrong with a word that names no process.
-    fn name<W: fmt::Write>(self, f: &mut fmt::Formatter<W>) -> fmt::Result {
-        match self {
-            Mistake::Unknown { name, above } => {
-                let name = Shown(name);
-                write!(f, "no process is named {name}; {above}")
-            }
-            Mistake::Numbered { name, above } => {
-                let name = Shown(name);
-                write!(
-                    f,
-                    "no process is named {name}: its name stands here, not its number; {above}"
-                )
-            }
-            Mistake::Zero { above } => write!(
-                f,
-                "no process is named 0, and the outside is written outside; {above}"
-            ),
-            Mistake::Outside { above } => write!(
-                f,
-                "the outside is no process, and only a process can stand here; {above}"
-            ),
-            _ => Ok(()),
-        }
-    }
-
-    /// Writes what is wrong with bytes.
-    fn bytes<W: fmt::Write>(self, f: &mut fmt::Formatter<W>) -> fmt::Result {
-        match self {
-            Mistake::Digit { letter } if letter.is_ascii_uppercase() => {
-                write!(f, "{letter} is a capital letter: {PAIRS}")
-            }
-            Mistake::Digit { letter } => {
-                let letter = if letter.is_ascii_graphic() {
-                    letter
-                } else {
-                    '?'
-                };
-                write!(f, "{letter} is no digit of bytes: {PAIRS}")
-            }
-            Mistake::Odd { digits } => write!(f, "an odd number of digits, {digits}: {PAIRS}"),
-            Mistake::Long { bytes } => write!(f, "{bytes} pairs are too many: {PAIRS}"),
-            _ => Ok(()),
-        }
-    }
-}
-
-impl fmt::Display for Mistake<'_> {
-    fn fmt<W: fmt::Write>(&self, f: &mut fmt::Formatter<W>) -> fmt::Result {
-        if let Some(words) = self.fixed() {
-            return f.write_str(words);
-        }
-        match *self {
-            Mistake::Foreign { word } => {
-                let word = Shown(word);
-                write!(
-                    f,
-                    "no line begins with {word}, and none declares a process, so this is no scenario (assembler text is for sblog asm, C for clang and then sblog pack)"
-                )
-            }
-            Mistake::Capital { word } => {
-                let word = Shown(word);
-                write!(f, "{word} has a capital letter: words are in small ones")
-            }
-            Mistake::Control { letter, place } => {
-                let letter = Beyond(letter);
-                write!(
-                    f,
-                    "letter {place} is {letter}, a control character: no terminal shows it"
-                )
-            }
-            Mistake::Letter { letter, place } => {
-                let letter = Beyond(letter);
-                write!(
-                    f,
-                    "letter {place} is {letter}: outside of paths and comments all are ASCII"
-                )
-            }
-            Mistake::Verb { word } => {
-                let word = Shown(word);
-                write!(f, "no line begins with {word}: ")?;
-                name_words(f)
-            }
-            Mistake::Words(word, operands) => {
-                write!(f, "more or fewer words than in: {word} {operands}")
-            }
-            Mistake::Full => write!(f, "there are at most {PROCESSES} processes"),
-            Mistake::Name { name } => {
-                let name = Shown(name);
-                write!(
-                    f,
-                    "{name} is no name: 1 to 16 of a to z and 0 to 9, a letter first, and not outside"
-                )
-            }
-            Mistake::Taken { name } => write!(f, "{name} is declared above"),
-            Mistake::Number { word, bits } => {
-                let word = Shown(word);
-                write!(
-                    f,
-                    "{word} is no number: 0, or digits without a leading zero, below 2^{bits}"
-                )
-            }
-            Mistake::Digit { .. } | Mistake::Odd { .. } | Mistake::Long { .. } => self.bytes(f),
-            _ => self.name(f),
-        }
     }
 }

@@ -15,7 +15,7 @@ use indexmap::IndexMap;
 
 /// What a line asks for. Processes stand by their numbers, from 1 in the order of their lines; 0 is
 /// the outside.
-#[derive(Clone, Copy, PartialEq, Eq, Debug)]
+#[derive(Clone, Copy, PartialEq, Eq)]
 pub enum Order {
     /// The outside hands in a word: 8 bytes, little-endian, and 56 zeros.
     Input { to: u8, word: u64 },
@@ -39,7 +39,7 @@ pub enum Order {
 }
 
 /// Which orders a text may have.
-#[derive(Clone, Copy, PartialEq, Eq, Debug)]
+#[derive(Clone, Copy, PartialEq, Eq)]
 pub enum Allowed {
     All,
     /// Those that hand in a message: `input` and `bytes`.

@@ -12,7 +12,7 @@ use indexmap::IndexMap;
 pub(crate) const NAME_LIMIT: usize = 16;
 
 /// What a scenario says of a process beside its name.
-#[derive(Debug, Drop)]
+#[derive(Drop)]
 pub struct Process {
     /// The number of its line, from 1.
     pub line: usize,

@@ -15,7 +15,7 @@ use std::alloc::{AllocError, AllocFailed, Global};
 use thiserror::Error;
 
 /// An order, with the number of its line, from 1.
-#[derive(Clone, Copy, PartialEq, Eq, Debug)]
+#[derive(Clone, Copy, PartialEq, Eq)]
 pub struct Step {
     pub line: usize,
     pub order: Order,
@@ -23,7 +23,7 @@ pub struct Step {
 
 /// A run as it is asked for: 1 to 15 processes by their names, in the order of their numbers, and
 /// what is to be done with them.
-#[derive(Debug, Drop)]
+#[derive(Drop)]
 pub struct Scenario {
     pub processes: IndexMap<String, Process>,
     pub steps: Vec<Step>,

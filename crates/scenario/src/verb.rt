@@ -6,7 +6,7 @@ ghost use Rattle.scenario.specs.Order.{verb_text};
 ghost use Rattle.scenario.specs.Inside.Reads.{ReadsVerb};
 
 /// The kind of an order: the first word of its line.
-#[derive(Clone, Copy, PartialEq, Eq, Debug)]
+#[derive(Clone, Copy, PartialEq, Eq)]
 pub enum Verb {
     Input,
     Bytes,
