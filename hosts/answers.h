@@ -24,10 +24,10 @@ struct answers {
     size_t count;
 };
 
-/* The answer of the line that a program wrote last, behind the others; there has to be room. Its SSN is still to be told. */
+/* The answer of the line that a program wrote last, after the others; there has to be room. Its SSN is still to be told. */
 struct answer *answers_add(struct answers *answers, struct client *client, const struct line *line, const char *why);
 
-/* It is given, if the program is still there. What is refused is told the program that wrote it, or where that is standard input, on
+/* It is given, if the program is still there. What is refused is told the program that wrote it, or of standard input,
    standard error. */
 void answer_give(const struct answer *answer, const struct cluster *cluster, bool is_pipe);
 

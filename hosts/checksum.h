@@ -5,7 +5,7 @@
 #include <stddef.h>
 #include <stdint.h>
 
-/* Goes on from the checksum of the bytes before; 0 where there are none. */
+/* Goes on from the checksum of the bytes before; 0 if there are none. */
 uint32_t checksum(uint32_t before, const void *bytes, size_t size);
 
 #endif

@@ -21,7 +21,7 @@ int clients_open(struct clients *clients, const char *path);
 /* Takes in those that connect. */
 void clients_welcome(struct clients *clients);
 
-/* The one that takes outputs; null where there is none. */
+/* The one that takes outputs; null if there is none. */
 struct client *clients_consumer(struct clients *clients);
 
 /* Writes what waits; those whose connection is over go. The loss of standard output ends the gateway: a status. */

@@ -9,10 +9,10 @@
 /* Bytes of a bundle that several packets share. */
 enum { BUNDLE_ROOM = 60000 };
 
-/* Where the fields of a bundle's head stand, and bytes of a packet's length. */
+/* The places of the fields in a bundle's head, and bytes of a packet's length. */
 enum { FROM = 4, TO = 5, COUNT = 6, CLUSTER = 8, PACKETS = 24, LENGTH = 2 };
 
-/* Where those of a greeting stand. */
+/* The places of those of a greeting. */
 enum { WORD = 4, PROCESS = 5, ZEROS = 6, OF_CLUSTER = 8, OF_STORE = 24, CHECKSUM = 40 };
 
 static const char BUNDLE[] = "SBB1", GREETING[] = "SBH1";

@@ -11,7 +11,7 @@
 
 enum { PACKET_LIMIT = 65535, FRAME_LIMIT = 65561, GREETING_SIZE = 44, FRAME_LENGTH = 4 };
 
-/* One that waits for its way. Its length stands before its bytes, since by tcp both go. */
+/* One that waits for its way. Its length comes before its bytes, since by tcp both go. */
 struct frame {
     struct frame *next;
     size_t size, room; /* with the length */
@@ -22,7 +22,7 @@ struct frame {
 /* An empty bundle with room for a packet of this size and others; null without memory. */
 struct frame *bundle_new(const struct id *cluster, int from, int to, size_t size);
 
-/* Puts a packet at its end; false where it doesn't fit. */
+/* Puts a packet at its end; false if it doesn't fit. */
 bool bundle_add(struct frame *bundle, const uint8_t *packet, size_t size);
 
 enum kind { KIND_BROKEN, KIND_FOREIGN, KIND_BUNDLE };
@@ -37,7 +37,7 @@ struct unread {
 enum kind bundle_judge(const uint8_t *frame, size_t size, const struct id *cluster, const struct cluster *processes, int me,
                        struct unread *unread, int *from);
 
-/* The next packet; 0 where there is none. */
+/* The next packet; 0 if there is none. */
 size_t bundle_next(struct unread *unread, const uint8_t **packet);
 
 /* A process without a cluster says hello to the gateway, which offers its own; the process joins it, and is welcomed, or refused. */

@@ -69,7 +69,7 @@ static uint32_t read_bytes(struct host *host, uint32_t (*call)(sblog_gateway *, 
     return code;
 }
 
-/* The store is written whole, and nothing stands behind it: what changed is in it. */
+/* The store is written whole, and what changed is in it. */
 static int write_whole(struct host *host) {
     size_t size;
     uint32_t code = read_bytes(host, sblog_gateway_changes, &size);
@@ -78,8 +78,8 @@ static int write_whole(struct host *host) {
                                      : refused("store", code, 0);
 }
 
-/* Where a first life was killed before the store had its name, the store is the one that begins again; any other one lost its
-   name, and stays. */
+/* If a first life was killed before the store had its name, the store is the one that begins again; any other one lost its name,
+   and stays. */
 static int begin_new(struct host *host, const struct owner *owner, const struct bytes *whole, const struct bytes *changes) {
     size_t size;
     uint32_t code = sblog_gateway_open((uint8_t)host->cluster->count, PAGE, TICK, &host->gateway);
@@ -104,7 +104,7 @@ static int begin_again(struct host *host, const struct bytes *whole, const struc
     code = sblog_gateway_revive(whole->at, whole->size, PAGE, TICK, &host->gateway, &fault);
     if (code != SBLOG_GATEWAY_DONE) return refused("the store", code, fault);
     if (changes->size > 0) code = sblog_gateway_apply(&host->gateway, changes->at, changes->size, &fault);
-    if (code != SBLOG_GATEWAY_DONE) return refused("the changes behind the store", code, fault);
+    if (code != SBLOG_GATEWAY_DONE) return refused("the changes since the store", code, fault);
     return write_whole(host);
 }
 
@@ -197,7 +197,8 @@ static int receive(struct host *host) {
 /* Outputs are handed out while a program takes them; whether there may be more. */
 static bool hand_out(struct host *host) {
     struct outputs *waiting = &host->waiting;
-    for (int count = 0; clients_consumer(&host->clients); count++) {
+    bool is_wanted = clients_consumer(&host->clients) != NULL;
+    for (int count = 0; is_wanted; count++) {
         if (count == TURN || outputs_are_full(waiting)) return true;
         struct output *next = outputs_place(waiting);
         uint32_t code = sblog_gateway_output(&host->gateway, &next->process, &next->ssn, next->payload, sizeof next->payload,
@@ -305,7 +306,7 @@ static size_t figures(const struct host *host, struct figure out[FIGURES]) {
         {"printed", host->outputs, NULL, "outputs that were printed since it began"},
         {"untaken", host->waiting.count, NULL, "outputs that were handed out, and that nobody has taken"},
         {"programs", clients, NULL, "programs that hand in inputs or take outputs"},
-        {"behind", host->store.behind, NULL, "bytes of records behind the store"},
+        {"behind", host->store.behind, NULL, "bytes of records after the store"},
         {"refused", host->refused, NULL, "times that bytes came that are no packet"},
         {"broken", host->transport.broken, NULL, "times that something came that is no bundle"},
         {"foreign", host->transport.foreign, NULL, "times that a bundle of another cluster came"},

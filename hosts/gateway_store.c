@@ -15,7 +15,7 @@ enum { BLOCK = 4096, AHEAD = 1 << 20 };
 static const char *const NAMES[2] = {"gateway.0", "gateway.1"}, *const BEFORE = "gateway.sqlite", MAGIC[] = "SBL1";
 
 /* A head: MAGIC, the checksum of all after it and of what it is the head of, the generation, bytes of the store, bytes of the items
-   behind it. */
+   after it. */
 enum { CHECKSUM = 4, GENERATION = 8, STORE = 16, ITEMS = 24, HEAD = 32, WORD = 8, HALF = 4 };
 
 /* A record: bytes of its items, the checksum of generation, place, that length and the items. */
@@ -179,7 +179,7 @@ static bool read_items(const uint8_t *items, size_t size, struct bytes *changes,
     return one > 0;
 }
 
-/* The records behind a store, as far as they are whole. */
+/* The records after a store, as far as they are whole. */
 static bool read_records(const struct gateway_store *store, const uint8_t *all, size_t length, struct bytes *changes,
                          struct outputs *outputs) {
     uint64_t at = store->at;

@@ -1,6 +1,6 @@
-/* What the gateway keeps: a store, behind it the changes since, and the outputs that nobody has taken. Two files of its folder, which
-   are written in turn: a head, the store, and behind them a record for each turn (docs/FORMATS.md, "Log of the gateway"). What was
-   written outlives a kill of the program, and a loss of power once it is synced, which a thread waits for. */
+/* What the gateway keeps: a store, the changes since, and the outputs that nobody has taken. Two files of its folder, which are written
+   in turn, have a head, the store, and a record for each turn since (docs/FORMATS.md, "Log of the gateway"). What was written outlives
+   a kill of the program, and a loss of power once it is synced, which a thread waits for. */
 #ifndef GATEWAY_STORE_H
 #define GATEWAY_STORE_H
 
@@ -19,7 +19,7 @@ struct gateway_store {
     uint64_t room[2];     /* bytes of each file that were written once, so that a sync has no more to write than what changed */
     uint64_t generation;  /* of the file that is written now, which is file generation % 2 */
     uint64_t at;          /* where its next record goes */
-    size_t whole, behind; /* bytes of the store, and of the records behind it */
+    size_t whole, behind; /* bytes of the store, and of the records after it */
     uint64_t asked;       /* the last sync that was asked for */
     struct syncer syncer;
     struct bytes record;
@@ -29,8 +29,8 @@ struct gateway_store {
 int gateway_store_open(struct gateway_store *store, const struct store *folder, struct bytes *whole, struct bytes *changes,
                        struct outputs *outputs);
 
-/* One record: changes are behind the others, outputs that have none yet are in it, and those that are taken go. Where it is to be
-   synced, store->asked tells when it is; without changes it may be lost with the power. */
+/* One record: changes, outputs that weren't in one yet, and which are taken. If it is to be synced, that is done once store->asked syncs
+   are; else it may be lost with the power. */
 int gateway_store_append(struct gateway_store *store, const uint8_t *changes, size_t size, const struct outputs *outputs, bool synced);
 
 /* A whole store and the outputs that nobody has taken, in place of all before. It is durable when this answers, and so is all that

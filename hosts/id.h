@@ -14,8 +14,8 @@ struct id {
     uint8_t bytes[ID_BYTES];
 };
 
-/* Which cluster a store is of, none yet where that wasn't told; and of a process the id of its store, of the gateway that of each
-   process that it has welcomed. */
+/* Which cluster a store is of, none if the gateway hasn't told yet; and the ids of stores: a process knows its own, the gateway that
+   of each process that it has welcomed. */
 struct ids {
     struct id cluster, stores[PROCESS_LIMIT + 1];
 };

@@ -1,5 +1,7 @@
 #include "options.h"
 
+#include "cluster.h"
+#include "limits.h"
 #include "report.h"
 
 #include <getopt.h>
@@ -7,7 +9,7 @@
 #include <stdlib.h>
 #include <string.h>
 
-enum { THOUSAND = 1000, EVERY = 256, EVERY_LIMIT = 65536, TICK = 5, TICK_LIMIT = 10000, ME_LIMIT = 15 };
+enum { THOUSAND = 1000, EVERY = 256, USUAL_TICK = 5, TICK_LIMIT = 10000 };
 
 /* hosts/build names it. */
 #ifndef SBLOG_VERSION
@@ -70,11 +72,11 @@ static bool read_option(int option, const char *text, struct options *options) {
     case LISTEN: return read_path(text, &options->listen);
     case METRICS: return read_path(text, &options->metrics);
     case ME:
-        is_taken = read_number(text, 0, ME_LIMIT, &number);
+        is_taken = read_number(text, 0, PROCESS_LIMIT, &number);
         options->me = (int)number;
         break;
     case CHECKPOINT_EVERY:
-        is_taken = read_number(text, 1, EVERY_LIMIT, &number);
+        is_taken = read_number(text, 1, RECEIPTS, &number);
         options->checkpoint_every = (uint32_t)number;
         break;
     case EVERY_TICK:
@@ -87,7 +89,7 @@ static bool read_option(int option, const char *text, struct options *options) {
 
 int options_read(int argc, char **argv, struct options *options) {
     int option, at;
-    *options = (struct options){.me = -1, .checkpoint_every = EVERY, .tick = TICK * THOUSAND};
+    *options = (struct options){.me = -1, .checkpoint_every = EVERY, .tick = USUAL_TICK * THOUSAND};
     while ((option = getopt_long(argc, argv, "", OPTIONS, &at)) != -1) {
         if (option == HELP) {
             fputs(USAGE, stdout);

@@ -26,17 +26,17 @@ struct outputs {
 
 bool outputs_are_full(const struct outputs *outputs);
 
-/* The place of the next one, where there is one; and that it was filled. */
+/* The place of the next one, if there is room; and that it was filled. */
 struct output *outputs_place(struct outputs *outputs);
 void outputs_add(struct outputs *outputs);
 
 /* So many more are durable. */
 void outputs_are_stored(struct outputs *outputs, size_t count);
 
-/* Those of a process are taken up to an SSN; false where none that is durable has it. */
+/* Those of a process are taken up to an SSN; false if none that is durable has it. */
 bool outputs_take(struct outputs *outputs, int process, uint64_t ssn);
 
-/* The one that was printed last is taken; false where it is already, or none was. */
+/* The one that was printed last is taken; false if it is already, or none was. */
 bool outputs_take_printed(struct outputs *outputs);
 
 /* One as a line, for which there is room. */

@@ -44,8 +44,10 @@ void pace_begin(struct pace *pace, struct transport *transport, uint64_t shortes
     pace->transport = transport;
     pace->shortest = shortest;
     pace->longest = PAUSE * shortest;
-    pace->window = (uint64_t)(NUMBERS * 3 / 4 / transport->cluster->count); /* a quarter is for those on their way */
-    if (pace->window < LEAST_WINDOW) pace->window = LEAST_WINDOW;
+    uint64_t share = NUMBERS * 3 / 4 / (uint64_t)transport->cluster->count; /* a quarter is for those on their way */
+    pace->most = NUMBERS * 3 / 8;
+    pace->least = share > LEAST_WINDOW ? share : LEAST_WINDOW;
+    for (int p = 0; p <= transport->cluster->count; p++) pace->flows[p].window = pace->least;
 }
 
 /* A field by its place; 0 where the packet has none there. */
@@ -85,13 +87,25 @@ void pace_send(struct pace *pace, int to, const uint8_t *packet, size_t size, ui
     uint64_t ssn = field(packet, size, 1);
     if (!flow->is_known) flow->answered = ssn - 1;
     flow->is_known = true;
-    if (ssn > flow->answered + pace->window) queue_put(&flow->held, packet, size);
+    if (ssn > flow->answered + flow->window) queue_put(&flow->held, packet, size);
     else goes(pace, to, packet, size, now);
 }
 
+/* While messages wait, a window of answers makes the window one larger. */
+static void grow(const struct pace *pace, struct flow *flow, uint64_t answers) {
+    if (flow->held.count == 0 || flow->window >= pace->most) return;
+    flow->grown += answers;
+    if (flow->grown < flow->window) return;
+    flow->grown = 0;
+    flow->window++;
+}
+
 /* How long an answer took goes into what is usual by an eighth. */
-static void is_answered(struct flow *flow, uint64_t ssn, uint64_t now) {
-    if (ssn > flow->answered) flow->answered = ssn;
+static void is_answered(const struct pace *pace, struct flow *flow, uint64_t ssn, uint64_t now) {
+    if (ssn > flow->answered) {
+        grow(pace, flow, ssn - flow->answered);
+        flow->answered = ssn;
+    }
     if (flow->timed == 0 || ssn < flow->timed) return;
     uint64_t took = now - flow->timed_at;
     flow->usual = flow->usual == 0 ? took : flow->usual - flow->usual / 8 + took / 8;
@@ -103,7 +117,7 @@ static void send_held(struct pace *pace, int to, uint64_t now) {
     while (flow->held.count > 0) {
         const struct waiting *first = flow->held.first;
         uint64_t ssn = field(first->bytes, first->size, 1);
-        if (ssn > flow->answered + pace->window) return;
+        if (ssn > flow->answered + flow->window) return;
         if (ssn > flow->answered) goes(pace, to, first->bytes, first->size, now);
         queue_drop(&flow->held);
     }
@@ -119,7 +133,7 @@ void pace_hear(struct pace *pace, const uint8_t *packet, size_t size, uint64_t n
     struct flow *flow = &pace->flows[from];
     uint64_t number = field(packet, size, kind == SAVED ? 0 : 1);
     if (kind == ACKNOWLEDGEMENT && number > flow->acknowledged) flow->acknowledged = number;
-    if (kind == NUMBER || kind == SAVED) is_answered(flow, number, now);
+    if (kind == NUMBER || kind == SAVED) is_answered(pace, flow, number, now);
     if (kind == RESUME) flow->is_back = true;
     if (kind == RESUME || !pace_learns(packet)) return;
     flow->since = now;
@@ -132,6 +146,7 @@ void pace_tick_begins(struct pace *pace, uint64_t now) {
     for (int p = 0; p <= pace->transport->cluster->count; p++) {
         struct flow *flow = &pace->flows[p];
         if (is_open(flow) && flow->tries < DOUBLES) flow->tries++;
+        if (flow->sent > flow->answered) flow->window = pace->least; /* the peer may have too much to do */
         flow->timed = 0; /* an answer may be to either of two packets now */
         flow->since = now;
         flow->refill = 0;
@@ -147,7 +162,12 @@ void pace_tick_sends(struct pace *pace, int to, const uint8_t *packet, size_t si
         if (place == 0) flow->answered = ssn - 1; /* it is the first one that has no number */
         if (place == TICK - 1) flow->refill = ssn;
         flow->is_known = true;
-        if (flow->has_held && ssn > flow->answered + pace->window) return; /* it waits already */
+        bool is_sent = ssn <= flow->sent;
+        if (!is_sent && flow->has_held) return; /* it waits already */
+        if (is_sent) {
+            goes(pace, to, packet, size, now);
+            return;
+        }
     }
     pace_send(pace, to, packet, size, now);
 }

@@ -17,6 +17,7 @@ struct flow {
     uint64_t told, acknowledged; /* the last number that it was told, and acknowledged */
     uint64_t timed, timed_at;    /* an SSN whose answer is timed, and since when; 0 for none */
     uint64_t usual;              /* microseconds that an answer takes */
+    uint64_t window, grown;      /* messages without an answer; answers since it grew */
     uint64_t since;              /* when it answered last, or what is open was sent */
     uint64_t refill;             /* the SSN behind which a tick has more to send; 0 for none */
     int tries;                   /* ticks since it answered */
@@ -29,7 +30,7 @@ struct flow {
 struct pace {
     struct transport *transport;
     uint64_t shortest, longest; /* microseconds between ticks */
-    uint64_t window;            /* messages without an answer */
+    uint64_t least, most;       /* windows: an equal share of what a node takes, and what they grow to */
     uint64_t last;              /* when it ticked */
     struct flow flows[PROCESS_LIMIT + 1];
 };

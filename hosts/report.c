@@ -1,6 +1,7 @@
 #include "report.h"
 
 #include <errno.h>
+#include <sblog.h>
 #include <stdarg.h>
 #include <stdio.h>
 #include <string.h>
@@ -35,21 +36,21 @@ void report_fault(const char *format, ...) {
 
 const char *code_words(uint32_t code) {
     switch (code) {
-    case 15: return "there is no memory";
-    case 16: return "the handle is closed, or open already";
-    case 17: return "the file is no image, as sblog check says";
-    case 18: return "a payload has more than 256 bytes";
-    case 19: return "a buffer is too short";
-    case 20: return "there is none";
-    case 21: return "the bytes are refused";
-    case 22: return "not now";
-    case 23: return "a limit is out of this library's range";
+    case SBLOG_NODE_MEMORY: return "there is no memory";
+    case SBLOG_NODE_HANDLE: return "the handle is closed, or open already";
+    case SBLOG_NODE_IMAGE: return "the file is no image, as sblog check says";
+    case SBLOG_GATEWAY_PAYLOAD: return "a payload has more than 256 bytes";
+    case SBLOG_NODE_ROOM: return "a buffer is too short";
+    case SBLOG_NODE_ABSENT: return "there is none";
+    case SBLOG_NODE_BYTES: return "the bytes are refused";
+    case SBLOG_NODE_UNREADY: return "not now";
+    case SBLOG_NODE_LIMIT: return "a limit is out of this library's range";
     default: return "an unknown code";
     }
 }
 
 enum status code_status(uint32_t code) {
-    if (code == 15) return STATUS_MEMORY;
-    if (code == 17) return STATUS_IMAGE;
-    return code == 21 ? STATUS_STORE : STATUS_COMMAND;
+    if (code == SBLOG_NODE_MEMORY) return STATUS_MEMORY;
+    if (code == SBLOG_NODE_IMAGE) return STATUS_IMAGE;
+    return code == SBLOG_NODE_BYTES ? STATUS_STORE : STATUS_COMMAND;
 }

@@ -30,7 +30,7 @@ static void write_head(uint8_t *head, uint64_t number, const uint8_t *bytes, siz
     number_put(head + CHECKSUM, checksum_of(head, bytes, size), HALF);
 }
 
-/* How many bytes a slot holds that were written whole; none where it holds no such bytes. */
+/* How many bytes a slot holds that were written whole; 0 if it holds no such bytes. */
 static size_t whole_in(const uint8_t *slot, size_t room) {
     if (room < HEAD || memcmp(slot, MAGIC, CHECKSUM) != 0) return 0;
     uint64_t size = number_at(slot + SIZE, WORD);

@@ -16,7 +16,7 @@ struct slots {
     uint64_t number; /* of the next write, which goes to slot number % 2 */
 };
 
-/* The last bytes that are whole, to be freed, which are durable then; null where there is no file. A status, and why is reported. */
+/* The last bytes that are whole, to be freed, which are durable then; null if there is no file. A status, and why is reported. */
 int slots_open(struct slots *slots, const struct store *store, uint8_t **bytes, size_t *size);
 
 /* They are durable when it answers. A status, and why is reported. */

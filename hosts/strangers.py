@@ -34,6 +34,34 @@ def lost(folder):
         works(cluster, one, last)
 
 
+def gateway(folder):
+    """A gateway whose store is lost is another cluster's: no node listens to it. With its store it goes on."""
+    cluster = begin(folder)
+    one, (relay, echo), first = connect(cluster), cluster.nodes, cluster.gateway
+    one.says("outputs")
+    works(cluster, one, 1, 2)
+    first.kill()
+    os.rename(first.store, first.store + ".away")
+    first.start()
+    one = connect(cluster)
+    one.says("outputs", "input relay 9")
+    one.hears("logged relay 1")
+    until = time.monotonic() + 20
+    while int((relay.status or {}).get("foreign", 0)) == 0:
+        if time.monotonic() > until:
+            raise Wrong(f"relay tells {relay.status}")
+        cluster.standings()
+    tells(relay, length=2, refused=0)
+    tells(echo, length=2, refused=0)
+    first.kill()
+    shutil.rmtree(first.store)
+    os.rename(first.store + ".away", first.store)
+    first.start()
+    one = connect(cluster)
+    one.says("outputs", "took echo 2")
+    works(cluster, one, 3)
+
+
 def caught(cluster, node, peer):
     """What a node sends to a peer that is away."""
     path = cluster.path(peer.number)

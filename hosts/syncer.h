@@ -17,7 +17,7 @@ struct syncer {
     int event; /* can be read when more is synced */
 };
 
-/* False where there is no thread for it. */
+/* False if there is no thread for it. */
 bool syncer_begin(struct syncer *syncer);
 
 /* Another file is synced from now on; all that was asked for before is durable. */
@@ -29,7 +29,7 @@ uint64_t syncer_ask(struct syncer *syncer);
 /* Up to where it is done; and the fault, if there is one. */
 uint64_t syncer_synced(struct syncer *syncer, int *fault);
 
-/* Ends the thread, behind all that was asked for. */
+/* Ends the thread, once all is done that was asked for. */
 void syncer_end(struct syncer *syncer);
 
 #endif

@@ -31,7 +31,7 @@ struct inlet {
     int (*open)(struct transport *transport, const struct address *own);
     size_t (*receive)(struct transport *transport, const uint8_t **frame);
     void (*watch)(struct transport *transport, struct watch *watch);
-    void (*settle)(struct transport *transport, int peer); /* the last frame was of this peer; none where that tells nothing */
+    void (*settle)(struct transport *transport, int peer); /* the last frame was of this peer; null if that tells nothing */
 };
 
 enum { TCP_GUESTS = 64 };
@@ -77,7 +77,7 @@ void transport_greet(struct transport *transport, int to, const struct greeting 
 /* The next packet that came, which is there until this is asked again; 0 for none. */
 size_t transport_receive(struct transport *transport, const uint8_t **packet);
 
-/* Takes a greeting that came while packets were received; false where there is none. */
+/* Takes a greeting that came while packets were received; false if there is none. */
 bool transport_greeted(struct transport *transport, struct greeting *greeting);
 
 /* What is to be waited for, and what is to be done then. */

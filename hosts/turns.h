@@ -40,7 +40,7 @@ void turn_goes(const struct turn *turn, struct pace *pace, uint64_t now);
 /* Its answers are given. */
 void turn_answers(const struct turn *turn, const struct cluster *cluster, bool is_pipe);
 
-/* Behind the others; and the first one that waits for no more than so many syncs, null where there is none. */
+/* Put after the others; and the first one, if it waits for no more than so many syncs, else null. */
 void turns_put(struct turns *turns, struct turn *turn);
 struct turn *turns_take(struct turns *turns, uint64_t synced);
 

@@ -215,7 +215,7 @@ static void try_log(void) {
     gateway_store_close(&store);
 }
 
-/* A record that is missing, where those after it are there, ends the log. */
+/* A record that is missing ends the log, though those after it are there. */
 static void try_gaps(void) {
     static struct outputs outputs;
     struct gateway_store store;
