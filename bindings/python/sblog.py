@@ -118,8 +118,6 @@ class _Held:
         self._handle, self._thread = (c_uint64 * 2)(), threading.get_ident()
         self._done(self._function(name)(*arguments, self._handle, *([] if fault is None else [byref(fault)])), fault)
 
-    def _function(self, name: str) -> Any: return getattr(_LIBRARY, f"sblog_{self._error._kind}{name}")
-
     def _call(self, name: str, *arguments: Any) -> int:
         """What a function answers."""
         if threading.get_ident() != self._thread:
@@ -152,6 +150,7 @@ class _Held:
         if any(bytes(self._handle)):
             self._call("close")
 
+    def _function(self, name: str) -> Any: return getattr(_LIBRARY, f"sblog_{self._error._kind}{name}")
     def __enter__(self) -> Any: return self
     def __exit__(self, *_: Any) -> None: self.close()
     def __reduce__(self) -> Any: raise TypeError("it has no copies")
