@@ -1,22 +1,14 @@
 """Message handlers that are checked once, sessions of them that survive crashes, and the nodes and the gateway of a cluster.
 
 This module is outside the proofs: it is plain Python, tested, that calls the C library sblog by ctypes. The functions of the library
-are proved to do what their contracts say.
+are proved to do what their contracts say. Its classes are Image, Session, Node and Gateway.
 
-    Image     the image of a handler, and calls of it
-    Session   processes that run handlers, exchange messages and survive crashes, in the memory of this program
-    Node      one process of a cluster, whose host carries its packets and keeps its checkpoints
-    Gateway   the way into a cluster and out of it
-
-Each is closed by its `with`, or by `close`. It stays on the thread that opened it, as the library asks, and has no copies. A refused
-call raises an exception with its code and what the library says of it, and changes nothing, unless its words here say so. The library
-is the one in the folder that SBLOG_LIB_DIR names, else the one that the loader finds.
+Each value is closed by its `with`, or by `close`. It stays on the thread that opened it, as the library asks, and has no copies. A
+refused call raises an exception with its code and what the library says of it, and changes nothing, unless its words here say so. The
+library is the one in the folder that SBLOG_LIB_DIR names, else the one that the loader finds.
 
     with Session([Path("examples/adder.sbi").read_bytes()]) as session:
         session.input(1, 1, (5).to_bytes(8, "little"))
-        session.drive(1000)
-        session.crash(1)
-        session.recover(1)
         session.drive(1000)
         assert session.state(1) == (5).to_bytes(8, "little")
 """
@@ -24,6 +16,7 @@ from __future__ import annotations
 
 import ctypes
 import enum
+import functools
 import operator
 import os
 import threading
@@ -31,7 +24,6 @@ from ctypes import byref, c_char_p, c_size_t, c_uint8, c_uint32, c_uint64, c_voi
 from typing import Any, Iterable, NamedTuple, Sequence
 
 _LIBRARY = ctypes.CDLL(os.path.join(os.environ.get("SBLOG_LIB_DIR", ""), "libsblog.so.0"))
-# What functions answer, if no code.
 for _name in ("version", "code_text", "session_code_text", "gateway_code_text", "node_code_text"):
     getattr(_LIBRARY, f"sblog_{_name}").restype = c_char_p
 for _name in ("state_len", "session_refused", "node_refused"):
@@ -41,38 +33,35 @@ Phase = enum.IntEnum("Phase", "UP BUSY DOWN REPLAYING RESYNC", start=0)
 Stage = enum.IntEnum("Stage", "UP BUSY FROZEN COLLECTING REPLAYING RESUMING", start=0)
 Call = enum.IntEnum("Call", "INPUT TRANSMIT COPY LOSE ARRIVE FINISH CHECKPOINT TRIM CRASH RECOVER ALONE REPLAY RESYNC")
 Answer = enum.IntEnum(
-    "Answer",
-    "LOGGED PACKET LOST STARTED NUMBERED ACKNOWLEDGED SHOWN DUPLICATE SHOWN_BEFORE EARLY STALE UNREACHABLE COMMITTED REPLAYED SAVED "
-    "TRIMMED CRASHED KEPT RESTORED",
-)
+    "Answer", "LOGGED PACKET LOST STARTED NUMBERED ACKNOWLEDGED SHOWN DUPLICATE SHOWN_BEFORE EARLY STALE UNREACHABLE "
+    "COMMITTED REPLAYED SAVED TRIMMED CRASHED KEPT RESTORED")  # fmt: skip
 
-# By which rule a file is refused, and at which slot; slot 0 of a header.
-Fault = NamedTuple("Fault", [("rule", int), ("slot", int)])
+Fault = NamedTuple("Fault", [("rule", int), ("slot", int)])  # by which a file is refused; slot 0 of a header
 # What one call of a handler answered: of a longer message or output the first 64 bytes; a shorter one is filled up with zeros.
 Report = NamedTuple("Report", [("r0", int), ("steps", int), ("sends", "list[tuple[int, bytes]]"), ("outputs", "list[bytes]")])
-# How many calls a drive accepted, and whether the journal's end stopped it.
-Drive = NamedTuple("Drive", [("accepted", int), ("is_stopped", bool)])
-# An output that was shown: the process that gave it, and its number among those of that process.
-Shown = NamedTuple("Shown", [("sender", int), ("ssn", int), ("payload", bytes)])
-# A packet, and the node that it goes to; 0 is the gateway.
-Packet = NamedTuple("Packet", [("to", int), ("data", bytes)])
-# An output of a process, and its number among those of that process.
-Output = NamedTuple("Output", [("process", int), ("ssn", int), ("payload", bytes)])
+Drive = NamedTuple("Drive", [("accepted", int), ("is_stopped", bool)])  # how many calls; whether the journal's end stopped it
+Shown = NamedTuple("Shown", [("sender", int), ("ssn", int), ("payload", bytes)])  # an output, and its number among its process's
+Output = NamedTuple("Output", [("process", int), ("ssn", int), ("payload", bytes)])  # the same, of a gateway
+Packet = NamedTuple("Packet", [("to", int), ("data", bytes)])  # for a node; 0 is the gateway
 # An entry of the journal: a call and its answer, each with numbers in the order of the entry's line in the trace.
-_NUMBERS = ("call_numbers", "tuple[int, ...]"), ("answer_numbers", "tuple[int, ...]")
-Entry = NamedTuple("Entry", [("worker", int), ("call", Call), _NUMBERS[0], ("answer", Answer), _NUMBERS[1], ("payload", bytes)])
-# The fields of sblog_standing.
-_STANDING = ("length", int), ("base", int), ("incarnation", int), ("stage", Stage), ("exact", bool)
-_COUNTS = [(name, int) for name in ("receipts", "entries", "packets", "replays", "waited_for")]
-Standing = NamedTuple("Standing", [*_STANDING, *_COUNTS])
-# The call of a node's handler that is next: the fields of sblog_job, and the array of the call.
-_JOB = [(name, int) for name in ("incarnation", "received", "message_len", "me", "sender", "count")]
-Job = NamedTuple("Job", [*_JOB, ("array", bytearray)])
+Entry = NamedTuple(
+    "Entry",
+    [("worker", int), ("call", Call), ("call_numbers", "tuple[int, ...]"), ("answer", Answer), ("answer_numbers", "tuple[int, ...]"),
+     ("payload", bytes)],
+)  # fmt: skip
+# The fields of sblog_standing, and of sblog_job with the array of the call.
+Standing = NamedTuple(
+    "Standing",
+    [("length", int), ("base", int), ("incarnation", int), ("stage", Stage), ("exact", bool), ("receipts", int), ("entries", int),
+     ("packets", int), ("replays", int), ("waited_for", int)],
+)  # fmt: skip
+Job = NamedTuple(
+    "Job",
+    [("incarnation", int), ("received", int), ("message_len", int), ("me", int), ("sender", int), ("count", int), ("array", bytearray)],
+)
 
 
-class Limits(NamedTuple):
-    """The limits that a node keeps until it is closed."""
-
+class Limits(NamedTuple):  # of a node, until it is closed
     page: int = 60_000
     tick: int = 8
     numbers: int = 256
@@ -80,18 +69,14 @@ class Limits(NamedTuple):
     durable: bool = False
 
 
-def _unsigned(kind: Any) -> Any:
+def _unsigned(kind: Any, value: int) -> Any:
     """Makes a number of this type, and refuses one beyond it, which ctypes would cut off."""
-
-    def number(value: int) -> Any:
-        if not 0 <= operator.index(value) < 1 << 8 * ctypes.sizeof(kind):
-            raise OverflowError(f"{value} is not from 0 to {(1 << 8 * ctypes.sizeof(kind)) - 1}")
-        return kind(value)
-
-    return number
+    if not 0 <= operator.index(value) < 1 << 8 * ctypes.sizeof(kind):
+        raise OverflowError(f"{value} is not from 0 to {(1 << 8 * ctypes.sizeof(kind)) - 1}")
+    return kind(value)
 
 
-_u8, _u32, _u64, _size = map(_unsigned, (c_uint8, c_uint32, c_uint64, c_size_t))
+_u8, _u32, _u64, _size = (functools.partial(_unsigned, kind) for kind in (c_uint8, c_uint32, c_uint64, c_size_t))
 
 
 def _sent(data: bytes) -> tuple[bytes, c_size_t]:
@@ -118,24 +103,10 @@ class Error(Exception):
         return f"code {self.code}: {self.text}" + ("" if self.fault is None else f" ({self.fault})")
 
 
-class ImageError(Error):
-    """Why a file or a call of its handler is refused; of a file `fault` is a Fault."""
-
-
-class SessionError(Error):
-    _kind = "session_"
-
-
-class GatewayError(Error):
-    """Of refused bytes `fault` says by what."""
-
-    _kind = "gateway_"
-
-
-class NodeError(Error):
-    """Of refused bytes `fault` says by what."""
-
-    _kind = "node_"
+class ImageError(Error): _kind = ""  # of a file `fault` is a Fault
+class SessionError(Error): _kind = "session_"
+class GatewayError(Error): _kind = "gateway_"  # of refused bytes `fault` says by what
+class NodeError(Error): _kind = "node_"  # likewise
 
 
 class _Held:
@@ -145,14 +116,13 @@ class _Held:
 
     def _open(self, name: str, *arguments: Any, fault: Any = None) -> None:
         self._handle, self._thread = (c_uint64 * 2)(), threading.get_ident()
-        self._done(self._call(name, *arguments, self._handle, *([] if fault is None else [byref(fault)]), handle=()), fault)
+        self._done(self._function(name)(*arguments, self._handle, *([] if fault is None else [byref(fault)])), fault)
 
-    def _call(self, name: str, *arguments: Any, handle: Any = None) -> int:
+    def _call(self, name: str, *arguments: Any) -> int:
         """What a function answers."""
         if threading.get_ident() != self._thread:
             raise RuntimeError("it stays on the thread that opened it")
-        handle = (self._handle,) if handle is None else handle
-        return getattr(_LIBRARY, f"sblog_{self._error._kind}{name}")(*handle, *arguments)
+        return self._function(name)(self._handle, *arguments)
 
     def _done(self, code: int, fault: Any = None) -> None:
         if code != 0:
@@ -180,14 +150,10 @@ class _Held:
         if any(bytes(self._handle)):
             self._call("close")
 
-    def __enter__(self) -> Any:
-        return self
-
-    def __exit__(self, *_: Any) -> None:
-        self.close()
-
-    def __reduce__(self) -> Any:
-        raise TypeError("it has no copies")
+    def _function(self, name: str) -> Any: return getattr(_LIBRARY, f"sblog_{self._error._kind}{name}")
+    def __enter__(self) -> Any: return self
+    def __exit__(self, *_: Any) -> None: self.close()
+    def __reduce__(self) -> Any: raise TypeError("it has no copies")
 
 
 class Image(_Held):
@@ -199,14 +165,13 @@ class Image(_Held):
         assert (state[0], report.steps) == (5, 6)
     """
 
-    _error, _room = ImageError, 8
-    _limit = 1064  # bytes of a report
+    _error, _room, _limit = ImageError, 8, 1064  # bytes of a report, at most
 
     def __init__(self, file: bytes) -> None:
         self._handle, self._thread, fault = c_void_p(), threading.get_ident(), (c_uint64 * 2)()
-        code = self._call("open", *_sent(file), byref(self._handle), handle=())
+        code = _LIBRARY.sblog_open(*_sent(file), byref(self._handle))
         if code != 0:
-            self._call("check", *_sent(file), fault, c_size_t(16), handle=())
+            _LIBRARY.sblog_check(*_sent(file), fault, c_size_t(16))
             raise ImageError(code, Fault(*fault) if 2 <= code <= 4 else None)
 
     @property
@@ -255,27 +220,21 @@ class Session(_Held):
     """Processes, numbered from 1, that run the handlers of 1 to 15 image files, of any forms; 0 is the outside.
 
     input          hands 0 to 256 bytes in for a process, under a feed number that is taken once; the message's number
-    drive          makes useful calls until there is none, so many were accepted, or the journal has no place; one that runs out of
-                   memory (15) keeps the calls that were accepted before
-    transmit       puts a message on the wire; the packet's key
-    copy           puts a packet on the wire a second time; the copy's key
-    lose           takes a packet from the wire
+    drive          makes useful calls until there is none, so many were accepted, or the journal has no place; with code 15 it keeps
+                   the calls that were accepted before
+    transmit, copy put a message on the wire, or a packet a second time; the key of the packet, which `lose` takes away
     arrive         has a packet arrive, and calls the handler if that starts a job; the last entry. With code 15 the packet may have
                    arrived, and a job be open
-    checkpoint     saves a process; how many messages that covers
-    trim           drops what the checkpoint of a process covers from logs, or of 0 what was shown; how many messages
+    checkpoint     saves a process; how many messages that covers, which `trim` drops from logs, or of 0 what was shown
     crash          loses all of a process but its checkpoint; its new incarnation
     recover        brings a process back; how many messages it keeps, which the next drive replays
     recover_alone  the same though others aren't up: failures came not one at a time from then on
     standing       how many messages the state of a process has, and what it does
-    state          the state of a process; no bytes while it is down
-    saved          the bytes of its latest checkpoint
+    state, saved   the state of a process, without bytes while it is down, and its latest checkpoint
     shown          the output that was shown at a place, from 0
     exact          whether failures came one at a time
     refused        how many sends and outputs helpers refused the handler of a process, by the code that it got, 1 to 3
-    trace          the journal as text
-    room           how many places the journal has left
-    journal        how many entries the journal has
+    trace          the journal as text; `room` is how many places it has left, `journal` how many entries it has
     entries        the entries from a place on, from 0
     """
 
@@ -332,7 +291,8 @@ class Session(_Held):
 
 
 class _Party(_Held):
-    """What a node and the gateway have in common."""
+    """A node or the gateway. `receive` takes the bytes of a packet that came, `take` gives the one that waits first, if one does, and
+    `tick` sends again what isn't answered."""
 
     def receive(self, packet: bytes) -> None: self._told("receive", *_sent(packet))
     def tick(self) -> None: self._done(self._call("tick"))
@@ -349,9 +309,6 @@ class Gateway(_Party):
     revive   one that comes back with a store
     apply    brings the store up to date by the changes that were kept after it, before any other call
     input    logs a message of 0 to 256 bytes for a process; its number among those
-    receive  takes the bytes of a packet that came
-    take     the next packet that is to be sent, if one waits
-    tick     sends again what isn't answered
     output   the next output, if there is one
     store    the bytes of the store
     changes  what happened to the store since this was asked; no bytes if nothing did
@@ -390,12 +347,9 @@ class Node(_Party):
     """Process `me` of `n` in a cluster, which received nothing, by the image file of its handler.
 
     revive      one that comes back from what was kept, in an incarnation that is higher than any before
-    receive     takes the bytes of a packet that came
-    take        the packet that waits first, if one does
     work        runs the handler on the message that it received, or on the next one that is replayed; whether there was one
     job         the call that `work` would make, if there is one, for a host that makes it as machine code
     done        takes in what that call left in the job's array and in its record
-    tick        sends again what isn't answered
     checkpoint  the bytes that are to be kept; it drops what comes until `saved`
     saved       they are kept: what waited for that goes out
     standing    its numbers, and what it does

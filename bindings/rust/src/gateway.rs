@@ -35,6 +35,7 @@ type Done<T> = Result<T, GatewayError>;
 /// assert_eq!(again.take()?, Some(packet));
 /// # Ok::<(), sblog::GatewayError>(())
 /// ```
+#[derive(Debug)]
 pub struct Gateway(Held);
 
 impl Gateway {

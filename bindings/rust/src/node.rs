@@ -88,6 +88,7 @@ type Done<T> = Result<T, NodeError>;
 /// }
 /// # Ok::<(), Box<dyn std::error::Error>>(())
 /// ```
+#[derive(Debug)]
 pub struct Node(Held);
 
 impl Node {

@@ -8,6 +8,7 @@ use std::ptr::null_mut;
 
 /// What a program holds of a session, a node or a gateway: zeros are closed.
 #[repr(C)]
+#[derive(Debug)]
 pub struct Handle {
     at: *mut c_void,
     held: bool,
@@ -119,6 +120,7 @@ pub fn written(room: u32, mut call: impl FnMut(Out, usize, Size) -> u32) -> Resu
 }
 
 /// An open handle, which is closed when it is dropped.
+#[derive(Debug)]
 pub struct Held {
     handle: UnsafeCell<Handle>,
     close: unsafe extern "C" fn(At) -> u32,

@@ -46,6 +46,7 @@ type Done<T> = Result<T, SessionError>;
 /// assert_eq!(session.input(3, 2, b"hello"), Err(sblog::SessionError::NoProcess));
 /// # Ok::<(), Box<dyn std::error::Error>>(())
 /// ```
+#[derive(Debug)]
 pub struct Session(Held);
 
 impl Session {

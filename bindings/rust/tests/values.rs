@@ -69,7 +69,7 @@ fn a_session_tells_what_happened() {
     session.input(1, 1, &[7]).unwrap();
     session.drive(100).unwrap();
     assert_eq!(session.shown(0).unwrap(), Some(Shown { sender: 2, ssn: 1, payload: message(7).to_vec() }));
-    let error = Session::open(&vec![file("adder.sbi"); 16]).err().unwrap();
+    let error = Session::open(&vec![file("adder.sbi"); 16]).unwrap_err();
     assert_eq!(error.to_string(), "there is no such process; to open one, 1 to 15 files");
 }
 
