@@ -466,7 +466,7 @@ enum sblog_node_code {
     SBLOG_NODE_ABSENT = 20, /* there is none */
     SBLOG_NODE_BYTES = 21,  /* the bytes are refused; the fault says by what */
     SBLOG_NODE_UNREADY = 22, /* not now */
-    SBLOG_NODE_LIMIT = 23,  /* a limit, me, n or an incarnation is out of its range */
+    SBLOG_NODE_LIMIT = 23,  /* a limit, me, n or an incarnation is out of its range; of tick, too many messages */
     SBLOG_NODE_LEFT = 24    /* no call of the handler leaves this array and record */
 };
 
@@ -568,8 +568,8 @@ uint32_t sblog_node_job(sblog_node *node, uint8_t *array, size_t array_len, size
    are more than 8 messages or outputs, one is longer than 256 bytes or to no other process, or it was called as another. */
 uint32_t sblog_node_done(sblog_node *node, uint64_t incarnation, uint64_t received, const uint8_t *array,
                          size_t array_len, const uint8_t *record, size_t record_len);
-/* What isn't answered is sent again. 15 or 23 where it was, and the node should have passed on to its next stage and
-   can't: memory was refused, and the next tick tries again; or it would keep more messages than a node takes. */
+/* What isn't answered is sent again. If the node should have passed on to its next stage and can't, the answer is 15
+   (memory was refused; the next tick tries again) or 23 (it would keep more messages than a node takes). */
 uint32_t sblog_node_tick(sblog_node *node);
 /* Bytes to be kept durably; 22 where it isn't up, works on a message, or waits for another checkpoint. */
 uint32_t sblog_node_checkpoint(sblog_node *node, uint8_t *out, size_t out_len, size_t *size);

@@ -25,7 +25,7 @@ pub record Holds (n : ℕ) (s : System) (p : ℕ) (w : Checkpoint) (old : ThePro
   pub first : IsFirst n p
   pub runs : s.processes p ≡ Runs old w
 
--- what `done` took in: what its array and its record hold, which is the host's call where the handler answers just that
+-- what `done` took in: what its array and its record hold, which is the host's call if the handler answers just that
 pub record IsAnswered (images : ℕ → AnyImage) (n : ℕ) (s : System) (p : ℕ) (ticket : Ticket) (array bytes : List ℕ) (old new : TheProcess) : Type 0 where
   pub who : Who
   pub effects : Emitted
@@ -46,7 +46,7 @@ pub record IsFrozen (images : ℕ → AnyImage) (n : ℕ) (s : System) (p : ℕ)
   pub copied : IsCopied bytes out out' size
   pub is : DoesIt images n s (Froze p bytes new)
 
--- an export that answers 0 made the call of a host that has its name; and so did `tick` where it says why its node doesn't pass on. What is
+-- an export that answers 0 made the call of a host that has its name; and so did a `tick` that says why its node doesn't pass on. What is
 -- opened is a process of its file's image; what comes back of the same file is the handler's of that image, of whatever form it is
 pub record ExportsAreCalls : Type 0 where
   pub opened : (file : List ℕ) (me n : ℕ) (l : Limits) (new : TheProcess) → Opens file me n l None (Some new)

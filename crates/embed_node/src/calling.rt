@@ -51,7 +51,7 @@ pub(crate) fn work(alloc: Global, handle: &mut NodeHandle) -> Result<(), Fault>
     }
 }
 
-/// Has it send again what isn't answered, and pass on where it waits for memory to do so.
+/// Has it send again what isn't answered, and pass on if it waits for memory to do so.
 pub(crate) fn tick(alloc: Global, handle: &mut NodeHandle) -> Result<(), Fault>
     ensures { Results result handle.old.process.value handle.new.process.value HasTicked IsHeldBack }
 {

@@ -153,8 +153,8 @@ pub extern "C" fn sblog_node_done(
     code(node_job::done(alloc, node, ticket, array, left))
 }
 
-/// Has it send again what isn't answered. Where it should have passed on to its next stage and couldn't, it tries
-/// again; the code is that of memory, or of a limit, while it can't.
+/// Has it send again what isn't answered. If it should have passed on to its next stage and couldn't, it tries
+/// again; the code is that of memory, or of a limit, as long as it can't.
 #[unsafe(no_mangle)]
 pub extern "C" fn sblog_node_tick(alloc: Global, node: &mut NodeHandle) -> u32
     ensures { Answers result node.old.process.value node.new.process.value HasTicked IsHeldBack }

@@ -8,7 +8,7 @@
 //!
 //! The promise: each function that makes a call of the process owes what that call owes, word for word;
 //! each that reads gives what the process's contract says; and any code but 0 leaves the process as it was, except
-//! that of `sblog_node_tick` where it says why the process doesn't pass on. So what crate `hosted` promises of
+//! that of `sblog_node_tick` that says why the process doesn't pass on. So what crate `hosted` promises of
 //! hosts' calls holds of these ([`laws`]).
 //!
 //! ```c

@@ -33,7 +33,7 @@ const WIRE: &str = "work is left, as a packet on the wire: one more drive N carr
 const SENDS: &str = "work is left, as message $n of $a to $b: one more drive N carries it on";
 
 /// A refused order, with its line, its number and the cause.
-#[derive(Clone, Copy, PartialEq, Eq, Debug)]
+#[derive(Clone, Copy, PartialEq, Eq)]
 pub struct Told {
     pub line: usize,
     pub order: Order,

@@ -19,7 +19,7 @@ use crate::feeds::feeds_of;
 use handlers::Handler;
 use indexmap::IndexMap;
 use limits::{SEATS, WORKERS};
-use runner::{note_refused, push_results, want_of_memory};
+use runner::{note_refused, push_results};
 use scenario::{Process, Scenario};
 use sessions::{End, Session, Share};
 use std::alloc::{AllocError, Global};
@@ -67,8 +67,11 @@ fn opened<L: Ledger>(
     requires few { AreFew (map image_in images.items) }
     ensures { IfOk result (λ s. s ≡ record { images = map image_in images.items; entries = []; seats = new_seats SEATS }) }
 {
-    let session: Session<L> = Session::open(alloc, blank, images).map_err(want_of_memory)?;
-    Ok(session)
+    match Session::open(alloc, blank, images) {
+        Ok(session) => Ok(session),
+        // These images are few, so only memory is refused.
+        Err(_) => Err(AllocError),
+    }
 }
 
 // Runs workers on a session, which they can.

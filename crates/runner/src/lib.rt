@@ -23,7 +23,6 @@ mod telling;
 mod word;
 
 pub use chronicle::{Chronicle, Moment, chronicle_of};
-pub use opening::want_of_memory;
 pub use refused::note_refused;
 pub use results::push_results;
 pub use running::run;

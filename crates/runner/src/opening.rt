@@ -16,7 +16,7 @@ use std::sync::Arc;
 use world::Refusal;
 
 /// Want of memory, which a refusal told.
-pub fn want_of_memory(refusal: Refusal) -> AllocError
+pub(crate) fn want_of_memory(refusal: Refusal) -> AllocError
     requires { refusal ≡ Memory }
 {
     match refusal {

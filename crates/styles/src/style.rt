@@ -4,7 +4,7 @@ use indexmap::IndexMap;
 use scenario::Process;
 
 /// How a run is told.
-#[derive(Clone, Copy, Debug)]
+#[derive(Clone, Copy)]
 pub struct Style<'a> {
     /// As lines of JSON, else as the lines of the trace and the report.
     pub json: bool,
