@@ -9,7 +9,7 @@ use Rattle.sessions.specs.Journal.{TheSession, room_at, world_at}
 use Rattle.hints.specs.declared.rest.Rest.{Rest}
 use Rattle.hints.specs.declared.rest.Rest.TheVariants.{Down, Held, Next, Full, Nothing}
 
--- what is named is so: the process is in this phase, the call can be picked, or could be picked but for the end of the journal; or
+-- what is named is so: the process is in this phase, the call can be picked, or could be if the journal had no end; or
 -- there is nothing left to do
 abbrev pub Leaves : TheSession → Rest → Type 0
 Leaves s (Down process) = name_of ((world_at s).phase process) ≡ names.Down

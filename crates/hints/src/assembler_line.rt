@@ -57,7 +57,7 @@ fn memory_words(alloc: Global, line: &str) -> Result<String, AllocError> {
     let is_store = verb.starts_with("st") && is_place(second) && !is_place(first);
     let is_load = verb.starts_with("ldx") && is_place(first) && !is_place(second);
     if is_store || is_load {
-        return format!(in alloc; "what is written stands first: {verb} {second}, {first}");
+        return format!(in alloc; "what is written comes first: {verb} {second}, {first}");
     }
     if is_place(second) && !verb.starts_with("ld") {
         return String::from_str(alloc, MEMORY);
@@ -65,7 +65,7 @@ fn memory_words(alloc: Global, line: &str) -> Result<String, AllocError> {
     Ok(String::new(alloc))
 }
 
-/// How an operand is written that is none of the kind that stands at its place.
+/// How an operand is written that is not of the kind that its place wants.
 fn shape_words(
     alloc: Global,
     line: &str,

@@ -27,7 +27,7 @@ pub fn command_words<S: AsStr>(words: &[S]) -> &'static str {
     };
     for word in rest {
         if matches!(word.as_str(), "-o" | "--output" | "--out") {
-            return "OUT stands after the file that is read, without -o\n";
+            return "OUT comes after the file that is read, without -o\n";
         }
     }
     meant_words(first.as_str())

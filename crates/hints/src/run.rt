@@ -178,7 +178,7 @@ fn step_words(step: &Step) -> &'static str {
         Order::Drive { budget: 0 } => "drive 0 makes no call: drive N makes at most N",
         Order::Bytes { payload, .. } => match payload.as_slice() {
             [0, _, _, _, _, _, _, low] if *low > 0 => {
-                "the lowest byte of a number stands first: 5 is 0500000000000000"
+                "the lowest byte of a number comes first: 5 is 0500000000000000"
             }
             _ => "",
         },

@@ -16,7 +16,7 @@ pub enum Act {
     Ends(u8),
 }
 
-/// Why an order was refused, beside the number of the refusal.
+/// Why an order was refused, besides the number of the refusal.
 #[derive(Clone, Copy, PartialEq, Eq, Debug)]
 pub enum Why {
     /// The process, of the order or another one that it asks for, is in this phase.
