@@ -155,6 +155,16 @@ void pace_tick_begins(struct pace *pace, uint64_t now) {
     }
 }
 
+/* Whether a message of a tick is dealt with: one that was sent goes again, and one beyond the window may wait already. One within the
+   window goes on, since it may have been lost when too many waited. */
+static bool sends_again(struct pace *pace, int to, const uint8_t *packet, size_t size, uint64_t now) {
+    struct flow *flow = &pace->flows[to];
+    uint64_t ssn = field(packet, size, 1);
+    if (ssn > flow->sent) return flow->has_held && ssn > flow->answered + flow->window;
+    goes(pace, to, packet, size, now);
+    return true;
+}
+
 void pace_tick_sends(struct pace *pace, int to, const uint8_t *packet, size_t size, int place, uint64_t now) {
     struct flow *flow = &pace->flows[to];
     if (packet[KIND] == DELIVERY) {
@@ -162,12 +172,7 @@ void pace_tick_sends(struct pace *pace, int to, const uint8_t *packet, size_t si
         if (place == 0) flow->answered = ssn - 1; /* it is the first one that has no number */
         if (place == TICK - 1) flow->refill = ssn;
         flow->is_known = true;
-        bool is_sent = ssn <= flow->sent;
-        if (!is_sent && flow->has_held) return; /* it waits already */
-        if (is_sent) {
-            goes(pace, to, packet, size, now);
-            return;
-        }
+        if (sends_again(pace, to, packet, size, now)) return;
     }
     pace_send(pace, to, packet, size, now);
 }
