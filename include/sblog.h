@@ -442,7 +442,7 @@ enum sblog_node_code {
     SBLOG_NODE_ABSENT = 20, /* there is none */
     SBLOG_NODE_BYTES = 21,  /* the bytes are refused; the fault says by what */
     SBLOG_NODE_UNREADY = 22, /* not now */
-    SBLOG_NODE_LIMIT = 23,  /* a limit, me, n or an incarnation is out of its range */
+    SBLOG_NODE_LIMIT = 23,  /* a limit, me, n or an incarnation is out of its range; of tick, too many messages */
     SBLOG_NODE_LEFT = 24    /* no call of the handler leaves this array and record */
 };
 
@@ -530,7 +530,7 @@ uint32_t sblog_node_revive(const uint8_t *image, size_t image_len, const uint8_t
                            uint32_t receipts, uint32_t durable, sblog_node *node, uint32_t *fault);
 uint32_t sblog_node_close(sblog_node *node);
 uint32_t sblog_node_receive(sblog_node *node, const uint8_t *packet, size_t packet_len, uint32_t *fault);
-/* A packet to be sent, and to whom (0: the gateway); 20, if there is none. */
+/* A packet to be sent, and to whom (0: the gateway); 20, if none waits. */
 uint32_t sblog_node_take(sblog_node *node, uint8_t *out, size_t out_len, size_t *size, uint8_t *to);
 /* The handler runs; 20, if there is nothing to work on. */
 uint32_t sblog_node_work(sblog_node *node);
@@ -542,6 +542,8 @@ uint32_t sblog_node_job(sblog_node *node, uint8_t *array, size_t array_len, size
    are more than 8 messages or outputs, one is longer than 256 bytes or to no other process, or it was called as another. */
 uint32_t sblog_node_done(sblog_node *node, uint64_t incarnation, uint64_t received, const uint8_t *array,
                          size_t array_len, const uint8_t *record, size_t record_len);
+/* What isn't answered is sent again. If the node should have passed on to its next stage and can't, the answer is 15
+   (memory was refused; the next tick tries again) or 23 (it would keep more messages than a node takes). */
 uint32_t sblog_node_tick(sblog_node *node);
 /* Bytes to be kept durably; 22 where it isn't up, works on a message, or waits for another checkpoint. */
 uint32_t sblog_node_checkpoint(sblog_node *node, uint8_t *out, size_t out_len, size_t *size);

@@ -1,11 +1,11 @@
-"""What the gateway's calls put out in the test of `embed_gateway`, by docs/FORMATS.md and the rules of docs/CLUSTER.md.
+"""What the calls put out in the tests of `embed_gateway` and `embed_node`, by docs/FORMATS.md and the rules of docs/CLUSTER.md.
 
-python3 model/nodes/calls.py prints the bytes as the test has them."""
+python3 model/nodes/calls.py prints the bytes as the tests have them."""
 import struct
 
-from packets import entry, numbers, output, packet, page, payload, store
+from packets import entry, kept, numbers, output, packet, page, payload, store
 
-BYTES = {
+GATEWAY = {
     # the gateway of two processes logs an input for process 1, and sends it
     "LOGGED": bytes([1, 1]) + payload(b"hello"),
     "DELIVERY": packet(1, 2, 0, 1, numbers(1, 1) + payload(b"hello")),
@@ -25,9 +25,31 @@ BYTES = {
     "TOLD": packet(5, 2, 0, 1, numbers(2, 1, 0) + page(5, [entry(1, 1, b"hello")])),
 }
 
+# the one process of a cluster keeps the word that it gets, and puts its 64 bytes out
+WORD = b"hello".ljust(8, b"\0")
+SHOWN = b"hello".ljust(64, b"\0")
+
+NODE = {
+    "NEW": kept(1, 1, bytes(8), 0, [0], [(1, [])]),
+    "DELIVERY": packet(1, 1, 0, 1, numbers(1, 1) + payload(b"hello")),
+    "NUMBER": packet(2, 1, 1, 0, numbers(1, 1, 1)),
+    "ACKNOWLEDGEMENT": packet(3, 1, 0, 1, numbers(1, 1)),
+    "OUTPUT": packet(1, 1, 1, 0, numbers(1, 1) + payload(SHOWN)),
+    # its checkpoint then covers the message, which the gateway is told
+    "KEPT": kept(1, 1, WORD, 1, [1], [(1, [SHOWN])]),
+    "SAVED": packet(8, 1, 1, 0, numbers(1)),
+    # it comes back from nothing in its second incarnation: it asks, is told the message, replays it, asks for the number of
+    # its output, and is up
+    "ASK": packet(4, 1, 1, 0, numbers(2, 0)),
+    "TOLD": packet(5, 1, 0, 1, numbers(2, 1, 0) + page(5, [entry(1, 1, b"hello")])),
+    "RESUME": packet(6, 1, 1, 0, numbers(2, 1, 0)),
+    "RESTORED": packet(7, 1, 0, 1, numbers(2, 1, 0, 0) + page(5, [])),
+    "AGAIN": packet(1, 1, 1, 0, numbers(2, 1) + payload(SHOWN)),
+}
+
 
 def main():
-    for name, data in BYTES.items():
+    for name, data in [*GATEWAY.items(), *NODE.items()]:
         rows = [", ".join("0x%02x" % byte for byte in data[at:at + 16]) for at in range(0, len(data), 16)]
         print("const %s: &[u8] = &[\n%s\n];" % (name, "\n".join("    " + row + "," for row in rows)))
 

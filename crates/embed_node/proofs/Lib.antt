@@ -1,4 +1,3 @@
 mod AsBox
-mod Fronts
 mod Opened
 mod Outcomes

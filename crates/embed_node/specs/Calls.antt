@@ -6,10 +6,13 @@ use Rattle.packets.specs.declared.packet.Packet.{Packet}
 use Rattle.packets.specs.Format.{IsPacket}
 use Rattle.packets.specs.declared.fault.PacketError.TheVariants as packet
 use Rattle.process.specs.Process.{TheProcess}
+use Rattle.recovery.specs.declared.moment.Cause.TheVariants as cause
 use Rattle.process.specs.Calls as calls
+use Rattle.process.specs.Passing as passing
+use Rattle.process.specs.Job.{HasNext}
 use Rattle.process.specs.Working as working
 use Rattle.embed_node.specs.declared.fault.Fault.{Fault}
-use Rattle.embed_node.specs.declared.fault.Fault.TheVariants.{Memory, Handle, Absent, Bytes, Unready}
+use Rattle.embed_node.specs.declared.fault.Fault.TheVariants.{Memory, Handle, Absent, Bytes, Unready, Limit}
 use Rattle.embed_node.specs.Answers.{OfBoth, OfSame, StaysClosed}
 
 -- an open handle is closed now
@@ -36,16 +39,24 @@ IsUnreceived bytes old new other = ⊥
 abbrev pub HasWorked : Option TheProcess → Option TheProcess → Type 0
 HasWorked old new = OfBoth old new working.Works
 
--- why it didn't: there is nothing to run on, memory ran out, or the handle is closed. Nothing has changed
+-- why it didn't: there is nothing to run on; there is, and memory ran out; or the handle is closed. Nothing has changed
 abbrev pub HasNotWorked : Option TheProcess → Option TheProcess → Fault → Type 0
-HasNotWorked old new Memory = OfSame old new (λ p. Unit {0})
+HasNotWorked old new Memory = OfSame old new HasNext
 HasNotWorked old new Absent = OfSame old new working.Rests
 HasNotWorked old new Handle = StaysClosed old new
 HasNotWorked old new other = ⊥
 
--- it sent again what isn't answered
+-- it sent again what isn't answered, and passed on where its stage is over
 abbrev pub HasTicked : Option TheProcess → Option TheProcess → Type 0
-HasTicked old new = OfBoth old new (calls.Calls calls.Ticks)
+HasTicked old new = OfBoth old new (λ p p'. calls.Calls calls.Ticks p p' × (passing.is_held p'.course ≡ false))
+
+-- why it isn't done: it sent that, and its stage is over, but memory ran out, or it would keep more messages than a process takes; or the
+-- handle is closed
+abbrev pub IsHeldBack : Option TheProcess → Option TheProcess → Fault → Type 0
+IsHeldBack old new Memory = OfBoth old new (λ p p'. calls.Calls calls.Ticks p p' × passing.IsHeld cause.Memory p'.course)
+IsHeldBack old new Limit = OfBoth old new (λ p p'. calls.Calls calls.Ticks p p' × passing.IsHeld cause.TooMany p'.course)
+IsHeldBack old new Handle = StaysClosed old new
+IsHeldBack old new other = ⊥
 
 -- its checkpoint is durable, for which it waited
 abbrev pub HasSaved : Option TheProcess → Option TheProcess → Type 0

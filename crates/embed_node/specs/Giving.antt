@@ -1,10 +1,10 @@
 -- What a node gives into buffers
-use Rattle.std.specs.Prelude.{◌≡◌, ℕ, List, Option, Some}
+use Rattle.std.specs.Prelude.{◌≡◌, ℕ, List, [], Option, Some}
 use Rattle.packets.specs.declared.packet.Packet.{Packet}
 use Rattle.packets.specs.Format.{IsPacket}
-use Rattle.process.specs.Process.{TheProcess, state_of}
+use Rattle.process.specs.Process.{TheProcess, out_of, state_of}
 use Rattle.process.specs.Calls.{Stays, Takes, Freezes}
-use Rattle.process.specs.Packets.{IsFront, IsStuck}
+use Rattle.process.specs.Packets.{IsFront}
 use Rattle.process.specs.Saving.{IsSavable, Keeps}
 use Rattle.embed_node.specs.declared.fault.Fault.{Fault}
 use Rattle.embed_node.specs.declared.fault.Fault.TheVariants.{Memory, Handle, Room, Absent, Unready}
@@ -19,7 +19,7 @@ IsTaken out out' size to old new = OfBoth old new (TakesOut out out' size to)
 
 -- why none is, of an open one: none waits, the buffer is too short for it, or memory ran out
 abbrev pub LeavesIn : List ℕ → List ℕ → ℕ → ℕ → TheProcess → TheProcess → Fault → Type 0
-LeavesIn out out' was size p p' Absent = (p' ≡ p) × IsStuck p × IsUntouched out out' was size
+LeavesIn out out' was size p p' Absent = (p' ≡ p) × (out_of p.course ≡ []) × IsUntouched out out' was size
 LeavesIn out out' was size p p' Room = (p' ≡ p) × ((bytes : List ℕ) × IsFront p bytes × IsUncopied bytes out out' size)
 LeavesIn out out' was size p p' Memory = (p' ≡ p) × IsUntouched out out' was size
 LeavesIn out out' was size p p' other = ⊥

@@ -53,11 +53,11 @@ pub record GivesJob (old new : List ℕ) (size : ℕ) (words : NodeJob) (p : The
 abbrev pub IsGiven : List ℕ → List ℕ → ℕ → NodeJob → Option TheProcess → Option TheProcess → Type 0
 IsGiven out out' size words old new = OfSame old new (GivesJob out out' size words)
 
--- why none is, of an open one: there is nothing to run on, the buffer is too short for the array, or memory ran out
+-- why none is, of an open one: there is nothing to run on; there is, and the buffer is too short for the array, or memory ran out
 abbrev pub GivesNone : List ℕ → List ℕ → ℕ → ℕ → TheProcess → Fault → Type 0
 GivesNone out out' was size p Absent = Rests p × IsUntouched out out' was size
 GivesNone out out' was size p Room = (j : TheJob) × IsJobOf p j × DoesNotLayOut j out out' size
-GivesNone out out' was size p Memory = IsUntouched out out' was size
+GivesNone out out' was size p Memory = HasNext p × IsUntouched out out' was size
 GivesNone out out' was size p other = ⊥
 
 -- why none is: that, or the handle is closed

@@ -1,11 +1,12 @@
 //! Calls of the process of a handle.
 
 ghost use Rattle.embed_node.specs.Answers.{Results};
-ghost use Rattle.embed_node.specs.Calls.{IsClosed, WasClosed, IsReceived, IsUnreceived, HasWorked, HasNotWorked, HasTicked, HasSaved, HasNotSaved};
+ghost use Rattle.embed_node.specs.Calls.{IsClosed, WasClosed, IsReceived, IsUnreceived, HasWorked, HasNotWorked, HasTicked, IsHeldBack, HasSaved, HasNotSaved};
 
 use crate::fault::Fault;
 use crate::handle::NodeHandle;
 use packets::PacketError;
+use process::Cause;
 use std::alloc::Global;
 
 /// Closes a handle, and gives the memory of its process back.
@@ -50,16 +51,20 @@ pub(crate) fn work(alloc: Global, handle: &mut NodeHandle) -> Result<(), Fault>
     }
 }
 
-/// Has it send again what isn't answered.
+/// Has it send again what isn't answered, and pass on if it waits for memory to do so.
 pub(crate) fn tick(alloc: Global, handle: &mut NodeHandle) -> Result<(), Fault>
-    ensures { Results result handle.old.process.value handle.new.process.value HasTicked WasClosed }
+    ensures { Results result handle.old.process.value handle.new.process.value HasTicked IsHeldBack }
 {
     let Some(mut process) = handle.take(alloc) else {
         return Err(Fault::Handle);
     };
-    process.tick(alloc);
+    let ticked = process.tick(alloc);
     handle.put(process);
-    Ok(())
+    match ticked {
+        Ok(()) => Ok(()),
+        Err(Cause::Memory) => Err(Fault::Memory),
+        Err(Cause::TooMany) => Err(Fault::Limit),
+    }
 }
 
 /// Tells it that its checkpoint is durable.

@@ -3,7 +3,7 @@
 
 ghost use Rattle.std.specs.Prelude.{◌≡◌};
 ghost use Rattle.embed_node.specs.Answers.{Answers, AnswersOfBytes, OnFault};
-ghost use Rattle.embed_node.specs.Calls.{IsClosed, WasClosed, IsReceived, IsUnreceived, HasWorked, HasNotWorked, HasTicked, HasSaved, HasNotSaved};
+ghost use Rattle.embed_node.specs.Calls.{IsClosed, WasClosed, IsReceived, IsUnreceived, HasWorked, HasNotWorked, HasTicked, IsHeldBack, HasSaved, HasNotSaved};
 ghost use Rattle.embed_node.specs.Giving.{IsTaken, IsUntaken, IsMade, IsUnmade, IsRead, IsUnread};
 ghost use Rattle.embed_node.specs.NodeJob.{ticket_from, IsGiven, IsNotGiven, IsDone, IsNotDone};
 ghost use Rattle.embed_node.specs.Opening.{limits_from, AnswersOpening, AnswersRevival};
@@ -153,10 +153,11 @@ pub extern "C" fn sblog_node_done(
     code(node_job::done(alloc, node, ticket, array, left))
 }
 
-/// Has it send again what isn't answered.
+/// Has it send again what isn't answered. If it should have passed on to its next stage and couldn't, it tries
+/// again; the code is that of memory, or of a limit, as long as it can't.
 #[unsafe(no_mangle)]
 pub extern "C" fn sblog_node_tick(alloc: Global, node: &mut NodeHandle) -> u32
-    ensures { Answers result node.old.process.value node.new.process.value HasTicked WasClosed }
+    ensures { Answers result node.old.process.value node.new.process.value HasTicked IsHeldBack }
 {
     code(calling::tick(alloc, node))
 }

@@ -29,7 +29,8 @@ pub enum Fault {
     /// 22: not now.
     #[error("not now")]
     Unready,
-    /// 23: a limit, a number of a process or an incarnation is out of its range.
+    /// 23: a limit, a number of a process or an incarnation is out of its range, or there are more messages than a
+    /// process takes.
     #[error("a limit is out of its range")]
     Limit,
     /// 24: no call of the handler leaves this array and record.

@@ -1,10 +1,8 @@
 -- A process holds no more than is named, from its first call on and in each stage
-use Rattle.std.proofs.Common.{◌≡◌, ◌∙◌, ◌≤◌, ◌<◌, ◌+◌, ◌*◌, ◌^◌, ℕ, zero, suc, List, [], ◌∷◌, ◌++◌, length, map, take, drop, min, Bool, true, false, refl, sym, ap, subst, arith}
-use Rattle.std.specs.Prelude.{Option, Some, None, is_some, nat_lt, nat_le, replicate, slice_set, ◌==◌, ◌&&◌, if◌then◌else◌}
+use Rattle.std.proofs.Common.{◌≡◌, ◌∙◌, ◌≤◌, ◌<◌, ◌+◌, ◌*◌, ◌^◌, ℕ, zero, suc, List, [], ◌∷◌, ◌++◌, length, map, take, drop, Bool, true, false, refl, sym, ap, subst, arith}
+use Rattle.std.specs.Prelude.{Option, Some, None, is_some, nat_lt, replicate, slice_set, ◌==◌, ◌&&◌, if◌then◌else◌}
 use Rattle.std.specs.List.{AllByRecursion}
-use Rattle.std.proofs.lemmas.Bool.Decides.{nat_tests}
 use Rattle.std.proofs.lemmas.List.{length-map}
-use Rattle.theorems.proofs.Tests.{both}
 use Rattle.packets.specs.Packet.{is_done, in_range}
 use Rattle.packets.specs.declared.packet.Body.{Body}
 use Rattle.packets.specs.declared.packet.Body.TheVariants as body
@@ -45,12 +43,11 @@ use Rattle.restoring.specs.Restoring as restoring
 use Rattle.restoring.specs.Restoring.{TheRestoring}
 use Rattle.process.specs.declared.course.Course.{Course}
 use Rattle.process.specs.declared.course.Course.TheVariants.{Up, Collecting, Replaying, Replayed, Restoring, Passing}
-use Rattle.process.specs.declared.reading.TheConstants.{MOST_STORED}
-use Rattle.process.specs.Process.{TheProcess, is_settled}
+use Rattle.process.specs.Process.{TheProcess}
 use Rattle.process.specs.Passing.{Recovers, Finishes, Begun, Returns, Passes}
 use Rattle.process.specs.Calls.{Stays, IsHanded, Ticks, Takes, Freezes, FreezesAs, Thaws, is_frozen, is_storable, standing_at}
 use Rattle.process.specs.Working.{TakesIn, MayTakeIn}
-use Rattle.process.specs.Bounds.{IsBounded, unacknowledged, waiting_of, NodeNumbers, LogsHold, NodeHolds, OwnHolds, ReceiptsHold, Holds, IsWithin}
+use Rattle.process.specs.Bounds.{IsBounded, unacknowledged, waiting_of, NodeHolds, OwnHolds, ReceiptsHold, Holds}
 use Rattle.process.specs.Holding.{SavedDrops}
 use Rattle.process.proofs.Holdings as logs
 use Rattle.process.proofs.Holdings.{kept, NoMore, either, entries, entries_more, entries_no_more}
@@ -373,7 +370,7 @@ recovered n r is few b =
     let none = is.none in
     (subst (λ k. OwnHolds r.own k) (sym is.none) (subst (λ o. OwnHolds o 0) (sym is.own) b), (omega arith, few))
 
-recovers : (old new : Course) → Recovers old new → Holds old → Holds new
+pub recovers : (old new : Course) → Recovers old new → Holds old → Holds new
 recovers (Collecting n) (Replaying r) h b = recovered n r h.1 h.3 b
 recovers old new h b = subst Holds (sym h) b
 
@@ -386,12 +383,12 @@ ended n over b =
     let few = b.1.1 in
     (record { allowed = b.0.allowed; logs = omega arith; packets = b.0.packets }, record { few = omega arith; flags = flags.0 ∙ sym many; none = flags.1 })
 
-finishes : (old new : Course) → Finishes old new → Holds old → Holds new
+pub finishes : (old new : Course) → Finishes old new → Holds old → Holds new
 finishes (Replaying n) (Replayed r) h b = subst (λ m. Holds (Replayed m)) (sym h.1) (ended n h.0 b)
 finishes (Replaying n) new h b = subst Holds (sym h.1) b
 finishes old new h b = subst Holds (sym h) b
 
-begins : (old new : Course) → Begun old new → Holds old → Holds new
+pub begins : (old new : Course) → Begun old new → Holds old → Holds new
 begins (Replayed r) (Restoring n) h b =
     let first = restoring.begins r in
     subst (λ (m : TheRestoring). Holds (Restoring m)) (sym h.0) (back-holds first (restoring.asked first) (restoring_asked first) (logs.same first.own.logs (restoring.asked first).own.logs (logs.restoring_asked first)) b)

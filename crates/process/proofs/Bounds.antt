@@ -10,8 +10,7 @@ use Rattle.packets.specs.declared.packet.Packet.{Packet}
 use Rattle.outbox.specs.Outbox.{pushed}
 use Rattle.outbox.specs.declared.outbox.TheConstants.{OUTBOX}
 use Rattle.rsn.specs.Receipts.{numbers_of, acknowledged_of, run_of}
-use Rattle.rsn.specs.declared.receipts.TheConstants.{LIMIT}
-use Rattle.node.specs.declared.node.TheConstants.{WINDOW, MOST_RECEIVED}
+use Rattle.node.specs.declared.node.TheConstants.{MOST_RECEIVED}
 use Rattle.node.specs.declared.job.OpenJob.{OpenJob}
 use Rattle.node.specs.declared.job.Given.{Given}
 use Rattle.node.specs.Queue.{TheQueue}
@@ -33,7 +32,7 @@ by-test P false x y h k = k refl
 pub below : (a b : ℕ) → nat_lt a b ≡ true → a < b
 below a b e = grind (arith, nat_tests)
 
-not-true : (b : Bool) → not b ≡ true → b ≡ false
+pub not-true : (b : Bool) → not b ≡ true → b ≡ false
 not-true true e = absurd (cc)
 not-true false e = refl
 

@@ -14,7 +14,7 @@ same-first out rest more x y a b = let both : y ∷ more ≡ x ∷ rest = sym a 
 none-first : (out rest : List Packet) (x : Packet) → out ≡ [] → out ≡ x ∷ rest → None ≡ Some x
 none-first out rest x a b = let both : [] ≡ x ∷ rest = sym a ∙ b in absurd (cc)
 
-taken : (o : Option Packet) (a b : Course) (x : Packet) (rest : List Packet) → Takes o a b → out_of a ≡ x ∷ rest → o ≡ Some x
+pub taken : (o : Option Packet) (a b : Course) (x : Packet) (rest : List Packet) → Takes o a b → out_of a ≡ x ∷ rest → o ≡ Some x
 taken None (Up n) (Up m) x rest h e = none-first n.out rest x h.0 e
 taken (Some y) (Up n) (Up m) x rest h e = same-first n.out rest m.out x y (ap (λ v. v.out) h.0) e
 taken None (Collecting n) (Collecting m) x rest h e = none-first n.own.out rest x h.0 e

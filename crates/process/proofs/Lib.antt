@@ -1,11 +1,14 @@
 mod Giving
 mod Passings
 mod Openings
-mod Fronts
+pub mod Fronts
 mod Workings
 pub mod Rooms
 mod Holdings
 mod Courses
 pub mod Bounds
 mod Bounded
+mod Ranges
+mod Questions
+mod Writing
 mod Within

@@ -1,7 +1,6 @@
 -- A packet without entries that is in its range has room
-use Rattle.std.proofs.Common.{◌≡◌, ◌<◌, ◌^◌, ℕ, List, [], ◌∷◌, length, Bool, true, false, refl, sym, arith}
+use Rattle.std.proofs.Common.{◌≡◌, ◌<◌, ◌^◌, ℕ, List, [], ◌∷◌, length, true, false, arith}
 use Rattle.std.specs.Prelude.{not, ◌&&◌, ◌==◌, nat_lt, nat_le}
-use Rattle.std.specs.Bool.{OnTrue}
 use Rattle.std.specs.List.{list_all}
 use Rattle.std.proofs.lemmas.Bool.Decides.{nat_tests}
 use Rattle.theorems.proofs.Tests.{both}
@@ -14,10 +13,7 @@ use Rattle.packets.specs.declared.packet.Packet.{Packet}
 use Rattle.limits.specs.declared.TheConstants.{PROCESSES}
 use Rattle.packets.specs.Format.{Fits, HasRoom, IsLong, IsPage, IsEntry}
 use Rattle.process.specs.Packets.{is_brief, is_written}
-
-off : (b : Bool) → not b ≡ true → b ≡ false
-off true e = absurd (cc)
-off false e = refl
+use Rattle.process.proofs.Bounds.{not-true}
 
 positive-long : (n : ℕ) → is_positive n ≡ true → IsLong n
 positive-long n e = let l : nat_lt n (2 ^ 63) ≡ true = (both (nat_lt 0 n) (nat_lt n (2 ^ 63)) e).1 in let k : n < 2 ^ 63 = grind (arith, nat_tests) in omega (arith, k)
@@ -69,11 +65,7 @@ written-fits x e =
       few = (let z : nat_le x.count PROCESSES ≡ true = h.1 in grind (arith, nat_tests));
       from = (let z : nat_le x.from x.count ≡ true = g.1 in grind (arith, nat_tests));
       to = (let z : nat_le x.to x.count ≡ true = f.1 in grind (arith, nat_tests));
-      apart = (let z : (x.from == x.to) ≡ false = off (x.from == x.to) d.1 in grind (arith, nat_tests));
+      apart = (let z : (x.from == x.to) ≡ false = not-true (x.from == x.to) d.1 in grind (arith, nat_tests));
       room = brief-room x.body b.1 a.1;
       range = a.1;
     }
-
-pub fits-on : (b : Bool) (x : Packet) → b ≡ is_written x → OnTrue b (Fits x)
-fits-on true x e = written-fits x (sym e)
-fits-on false x e = tt

@@ -7,7 +7,8 @@ use Rattle.packets.specs.Kept.{IsKept}
 use Rattle.node.specs.declared.limit.Limits.{Limits}
 use Rattle.node.specs.declared.job.Given.{Given}
 use Rattle.node.specs.Limit.{AreAllowed}
-use Rattle.node.specs.Node.{TheNode, new_node}
+use Rattle.node.specs.Node.{TheNode, new_node, IsPositive}
+use Rattle.node.specs.Kept.{comes_back}
 use Rattle.node.specs.Saving as saving
 use Rattle.recovery.specs.Collecting.{TheCollecting, revived}
 use Rattle.process.specs.declared.course.Course.{Course}
@@ -18,6 +19,7 @@ use Rattle.process.specs.Calls.{IsHanded, Ticks, Takes, Freezes, Thaws}
 use Rattle.process.specs.Working.{TakesIn, MayTakeIn}
 use Rattle.process.specs.Bounds.{IsWithin}
 use Rattle.process.proofs.Bounded as bounded
+use Rattle.process.proofs.Writing as writing
 
 -- ---- it is in some stage
 
@@ -98,33 +100,42 @@ passes-settled old new p s =
 -- ---- and holds no more
 
 pub handed : (x : Packet) (old new : Course) → IsHanded x old new → IsWithin old → IsWithin new
-handed x old new h w = record { settled = handed-settled x old new h w.settled; holds = bounded.handed x old new h w.holds }
+handed x old new h w = record { settled = handed-settled x old new h w.settled; holds = bounded.handed x old new h w.holds; writes = writing.handed x old new h w.holds w.writes }
 
 pub ticks : (old new : Course) → Ticks old new → IsWithin old → IsWithin new
-ticks old new h w = record { settled = ticks-settled old new h w.settled; holds = bounded.ticks old new h w.holds }
+ticks old new h w = record { settled = ticks-settled old new h w.settled; holds = bounded.ticks old new h w.holds; writes = writing.ticks old new h w.holds w.writes }
 
 pub takes : (o : Option Packet) (old new : Course) → Takes o old new → IsWithin old → IsWithin new
-takes o old new h w = record { settled = takes-settled o old new h w.settled; holds = bounded.takes o old new h w.holds }
+takes o old new h w = record { settled = takes-settled o old new h w.settled; holds = bounded.takes o old new h w.holds; writes = writing.takes o old new h w.writes }
 
 pub freezes : (old new : Course) → Freezes old new → IsWithin old → IsWithin new
-freezes old new h w = record { settled = freezes-settled old new h w.settled; holds = bounded.freezes old new h w.holds }
+freezes old new h w = record { settled = freezes-settled old new h w.settled; holds = bounded.freezes old new h w.holds; writes = writing.freezes old new h w.writes }
 
 pub thaws : (old new : Course) → Thaws old new → IsWithin old → IsWithin new
-thaws old new h w = record { settled = thaws-settled old new h w.settled; holds = bounded.thaws old new h w.holds }
+thaws old new h w = record { settled = thaws-settled old new h w.settled; holds = bounded.thaws old new h w.holds; writes = writing.thaws old new h w.writes }
 
 pub takes-in : (state : List ℕ) (xs : List Given) (old new : Course) → MayTakeIn old xs → TakesIn state xs old new → IsWithin old → IsWithin new
-takes-in state xs old new may h w = record { settled = takes-in-settled state xs old new h w.settled; holds = bounded.takes_in state xs old new may h w.holds }
+takes-in state xs old new may h w = record { settled = takes-in-settled state xs old new h w.settled; holds = bounded.takes_in state xs old new may h w.holds; writes = writing.takes_in state xs old new h w.writes }
 
 pub passes : (old new : Course) → Passes old new → IsWithin old → IsWithin new
-passes old new p w = record { settled = passes-settled old new p w.settled; holds = bounded.passes old new p w.holds }
+passes old new p w =
+    let told = bounded.recovers old p.told p.recovers w.holds in
+    let ran = bounded.finishes p.told p.ran p.finishes told in
+    let writes = writing.finishes p.told p.ran p.finishes (writing.recovers old p.told p.recovers w.writes) in
+    record {
+      settled = passes-settled old new p w.settled;
+      holds = bounded.passes old new p w.holds;
+      writes = writing.returns p.asks new p.returns (writing.begins p.ran p.asks p.begins ran writes);
+    }
 
 pub opened : (limits : Limits) (me count len : ℕ) (n : TheNode) → n ≡ new_node limits me count len → AreAllowed limits → IsWithin (Up n)
-opened limits me count len n e allowed = subst (λ (m : TheNode). IsWithin (Up m)) (sym e) (record { settled = refl; holds = bounded.opened limits me count len allowed })
+opened limits me count len n e allowed = subst (λ (m : TheNode). IsWithin (Up m)) (sym e) (record { settled = refl; holds = bounded.opened limits me count len allowed; writes = tt })
 
-pub came-back : (limits : Limits) (k : Kept) (life : ℕ) (bytes : List ℕ) (n : TheCollecting) → n ≡ revived limits k life → AreAllowed limits → IsKept k bytes → IsWithin (Collecting n)
-came-back limits k life bytes n e allowed is = subst (λ (m : TheCollecting). IsWithin (Collecting m)) (sym e) (record { settled = refl; holds = bounded.came-back limits k life bytes allowed is })
+pub came-back : (limits : Limits) (k : Kept) (life : ℕ) (bytes : List ℕ) (n : TheCollecting) → n ≡ revived limits k life → AreAllowed limits → IsKept k bytes → comes_back k ≡ true → IsPositive life → IsWithin (Collecting n)
+came-back limits k life bytes n e allowed is comes positive =
+    subst (λ (m : TheCollecting). IsWithin (Collecting m)) (sym e) (record { settled = refl; holds = bounded.came-back limits k life bytes allowed is; writes = writing.came-back limits k life comes positive })
 
 -- told or not that its checkpoint is durable
 pub saved : {X E : Type 0} (r : Result X E) (old new : TheNode) → OnOk r (new ≡ saving.saved old) → OnErr r (new ≡ old) → IsWithin (Up old) → IsWithin (Up new)
-saved (Ok x) old new h g w = subst (λ (m : TheNode). IsWithin (Up m)) (sym h) (record { settled = refl; holds = bounded.up-saved old w.holds })
+saved (Ok x) old new h g w = subst (λ (m : TheNode). IsWithin (Up m)) (sym h) (record { settled = refl; holds = bounded.up-saved old w.holds; writes = tt })
 saved (Err e) old new h g w = subst (λ (m : TheNode). IsWithin (Up m)) (sym g) w

@@ -14,6 +14,7 @@ use Rattle.process.specs.declared.course.Course.{Course}
 use Rattle.process.specs.declared.course.Course.TheVariants.{Up, Collecting, Replaying, Replayed, Restoring, Passing}
 use Rattle.process.specs.declared.reading.TheConstants.{MOST_STORED, MOST_ENTRIES}
 use Rattle.process.specs.Process.{is_settled}
+use Rattle.process.specs.Packets.{Writes}
 
 -- ---- what a host reads
 
@@ -81,7 +82,8 @@ Holds (Replayed n) = OwnHolds n.own (length n.receipts.senders) × ReceiptsHold 
 Holds (Restoring n) = OwnHolds n.own (length n.receipts.senders) × ReceiptsHold n.receipts
 Holds Passing = Unit {0}
 
--- it isn't between two stages, and holds no more
+-- it isn't between two stages, holds no more, and what it sends can be written
 pub record IsWithin (c : Course) : Type 0 where
   pub settled : is_settled c ≡ true
   pub holds : Holds c
+  pub writes : Writes c

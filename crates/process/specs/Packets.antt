@@ -1,12 +1,19 @@
 -- Packets of a process as bytes
-use Rattle.std.specs.Prelude.{◌≡◌, ◌⊎◌, List, ℕ, [], ◌∷◌, length, Some, Bool, true, false, not, nat_le, ◌&&◌, ◌==◌}
+use Rattle.std.specs.Prelude.{◌≡◌, ◌≤◌, List, ℕ, ◌∷◌, length, Some, Bool, true, false, not, nat_le, ◌&&◌, ◌==◌}
 use Rattle.limits.specs.declared.TheConstants.{PROCESSES}
 use Rattle.packets.specs.declared.packet.Body.{Body}
 use Rattle.packets.specs.declared.packet.Body.TheVariants.{Ask, Resume, Told}
-use Rattle.packets.specs.Packet.{in_range}
+use Rattle.packets.specs.Packet.{in_range, is_number, is_positive}
 use Rattle.packets.specs.declared.packet.Packet.{Packet}
 use Rattle.packets.specs.Format.{IsPacket}
-use Rattle.process.specs.Process.{TheProcess, is_node, out_of}
+use Rattle.node.specs.declared.node.TheConstants.{MOST_RECEIVED}
+use Rattle.node.specs.Stands.{Each}
+use Rattle.recovery.specs.Own.{TheOwn}
+use Rattle.recovery.specs.Collecting.{told_of}
+use Rattle.restoring.specs.Restoring.{above_of, has_answered}
+use Rattle.process.specs.declared.course.Course.{Course}
+use Rattle.process.specs.declared.course.Course.TheVariants.{Collecting, Replaying, Replayed, Restoring}
+use Rattle.process.specs.Process.{TheProcess, out_of}
 use Rattle.process.specs.Calls.{Takes, Stays}
 
 -- a question of one that comes back, or an answer that has no entries
@@ -16,15 +23,27 @@ is_brief (Resume i k s) = true
 is_brief (Told i j k flags entries) = length entries == 0
 is_brief other = false
 
--- such a packet that can be written, as each can that one puts out which comes back
+-- such a packet that can be written
 abbrev pub is_written : Packet → Bool
 is_written x =
     nat_le 1 x.count && nat_le x.count PROCESSES && nat_le x.from x.count && nat_le x.to x.count && not (x.from == x.to) && is_brief x.body && in_range x.body
 
--- nothing waits; or it isn't up, and what waits first is no such packet
-abbrev pub IsStuck : TheProcess → Type 0
-IsStuck p =
-    (out_of p.course ≡ []) ⊎ ((is_node p.course ≡ false) × ((x : Packet) × ((rest : List Packet) × (out_of p.course ≡ x ∷ rest) × (is_written x ≡ false))))
+-- of what a process has that comes back the numbers are in their ranges, and each packet that waits can be written
+pub record OwnWrites (o : TheOwn) : Type 0 where
+  pub inside : 1 ≤ o.me
+  pub within : o.me ≤ o.count
+  pub few : o.count ≤ PROCESSES
+  pub alive : is_positive o.life ≡ true
+  pub young : o.base ≤ MOST_RECEIVED
+  pub out : Each (λ x. is_written x ≡ true) o.out
+
+-- in each stage; and so can the questions be that it asks next. Of one that is up its node says so
+abbrev pub Writes : Course → Type 0
+Writes (Collecting n) = OwnWrites n.own × ((q : ℕ) → is_number (told_of n.told q).cursor ≡ true)
+Writes (Replaying n) = OwnWrites n.own
+Writes (Replayed n) = OwnWrites n.own
+Writes (Restoring n) = OwnWrites n.own × ((q : ℕ) → is_number (above_of q n) ≡ true) × (has_answered n.own.me n ≡ true)
+Writes other = Unit {0}
 
 -- these are the bytes of the packet that waits first
 abbrev pub IsFront : TheProcess → List ℕ → Type 0

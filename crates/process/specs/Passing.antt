@@ -1,10 +1,12 @@
 -- How a process passes from one stage to the next
-use Rattle.std.specs.Prelude.{◌≡◌, ◌≤◌, length, true, false}
+use Rattle.std.specs.Prelude.{◌≡◌, ◌≤◌, length, Bool, true, false, ◌||◌}
 use Rattle.rsn.specs.declared.receipts.TheConstants.{LIMIT}
 use Rattle.node.specs.Node.{TheNode}
 use Rattle.node.specs.Sending.{ticked}
 use Rattle.node.specs.Stands.{Acts}
-use Rattle.recovery.specs.Plan.{has_all}
+use Rattle.recovery.specs.Plan.{has_all, Overruns}
+use Rattle.recovery.specs.declared.moment.Cause.{Cause}
+use Rattle.recovery.specs.declared.moment.Cause.TheVariants.{Memory, TooMany}
 use Rattle.recovery.specs.Moment.{Recovered}
 use Rattle.recovery.specs.Replaying.{is_over}
 use Rattle.recovery.specs.StandsReplaying.{ComesBack, Ends, replayed_of}
@@ -45,3 +47,23 @@ pub record Passes (old new : Course) : Type 0 where
   pub finishes : Finishes told ran
   pub begins : Begun ran asks
   pub returns : Returns asks new
+
+-- its peers have told all, and it collects still
+abbrev pub has_heard : Course → Bool
+has_heard (Collecting n) = has_all n
+has_heard other = false
+
+-- it has replayed all, and asks for no number yet
+abbrev pub has_run : Course → Bool
+has_run (Replayed r) = true
+has_run other = false
+
+-- its stage is over, and it is in it still
+abbrev pub is_held : Course → Bool
+is_held c = has_heard c || has_run c
+
+-- why it is: memory is refused, or it would keep more messages than a process takes
+abbrev pub IsHeld : Cause → Course → Type 0
+IsHeld Memory c = is_held c ≡ true
+IsHeld TooMany (Collecting n) = (has_all n ≡ true) × Overruns n
+IsHeld TooMany other = ⊥

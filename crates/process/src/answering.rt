@@ -5,7 +5,7 @@ ghost use Rattle.process.specs.Process.{TheProcess};
 ghost use Rattle.node.specs.declared.node.TheConstants.{MOST_GIVEN};
 ghost use Rattle.process.specs.Holding.{entries_of};
 ghost use Rattle.process.specs.Working.{Rests, Works};
-ghost use Rattle.process.specs.Job.{IsJobOf, IsCallOf, IsAnswered, WorksAs, IsUndone, IsUnanswered, ticket_at};
+ghost use Rattle.process.specs.Job.{HasNext, IsJobOf, IsCallOf, IsAnswered, WorksAs, IsUndone, IsUnanswered, ticket_at};
 
 use crate::call::{Call, Ticket};
 use crate::done::Done;
@@ -25,6 +25,7 @@ impl Process {
     pub fn job(&self, alloc: Global) -> Result<Option<Job>, AllocError>
         ensures some { IfOk result (λ o. IfSome o (IsJobOf self.now)) }
         ensures none { IfOk result (λ o. IfNone o (Rests self.now)) }
+        ensures memory { OnErr result (HasNext self.now) }
     {
         let Some((message, who)) = self.next_call() else {
             return Ok(None);

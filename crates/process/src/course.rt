@@ -1,11 +1,11 @@
 //! The stages of a process, and how it passes from one to the next.
 
-ghost use Rattle.std.specs.Prelude.{◌≡◌, true};
+ghost use Rattle.std.specs.Prelude.{◌≡◌, true, false, IfOk, IfErr};
 ghost use Rattle.process.specs.Process.{is_node};
-ghost use Rattle.process.specs.Passing.{Recovers, Finishes, Begun, Returns, Passes};
+ghost use Rattle.process.specs.Passing.{Recovers, Finishes, Begun, Returns, Passes, has_heard, has_run, is_held, IsHeld};
 
 use node::Node;
-use recovery::{Collecting, Replayed, Replaying};
+use recovery::{Cause, Collecting, Replayed, Replaying};
 use restoring::Restoring;
 use std::alloc::Global;
 
@@ -26,6 +26,13 @@ pub enum Course {
     Passing,
 }
 
+/// What couldn't pass on, and why.
+#[derive(Drop)]
+pub(crate) struct Held {
+    pub(crate) course: Course,
+    pub(crate) cause: Cause,
+}
+
 impl Course {
     /// Whether it is up.
     pub(crate) fn is_up(&self) -> bool
@@ -41,31 +48,36 @@ impl Course {
         }
     }
 
-    /// It passes on as far as it can. Where memory is refused it stays what it is.
-    pub(crate) fn passed(self, alloc: Global) -> Course
-        ensures { Passes self result }
+    /// It passes on as far as it can, unless memory is refused.
+    pub(crate) fn passed(self, alloc: Global) -> Result<Course, Held>
+        ensures passed { IfOk result (λ c. Passes self c × (is_held c ≡ false)) }
+        ensures held { IfErr result (λ h. Passes self h.course × IsHeld h.cause h.course) }
     {
-        let told = self.recovered(alloc);
+        let told = self.recovered(alloc)?;
         let ran = told.finished();
-        let asks = ran.begun(alloc);
-        asks.returned()
+        let asks = ran.begun(alloc)?;
+        Ok(asks.returned())
     }
 
     /// Where all peers have told all, it replays what it keeps.
-    fn recovered(self, alloc: Global) -> Course
-        ensures { Recovers self result }
+    fn recovered(self, alloc: Global) -> Result<Course, Held>
+        ensures told { IfOk result (λ c. Recovers self c × (has_heard c ≡ false)) }
+        ensures held { IfErr result (λ h. (h.course ≡ self) × (has_heard self ≡ true) × IsHeld h.cause self) }
     {
         match self {
             Course::Collecting(process) => {
                 if !process.has_all() {
-                    return Course::Collecting(process);
+                    return Ok(Course::Collecting(process));
                 }
                 match process.recover(alloc) {
-                    Ok(process) => Course::Replaying(process),
-                    Err(refused) => Course::Collecting(refused.collecting),
+                    Ok(process) => Ok(Course::Replaying(process)),
+                    Err(refused) => Err(Held {
+                        course: Course::Collecting(refused.collecting),
+                        cause: refused.cause,
+                    }),
                 }
             }
-            other => other,
+            other => Ok(other),
         }
     }
 
@@ -85,15 +97,19 @@ impl Course {
     }
 
     /// Where it has replayed all, it asks its peers for its numbers.
-    fn begun(self, alloc: Global) -> Course
-        ensures { Begun self result }
+    fn begun(self, alloc: Global) -> Result<Course, Held>
+        ensures begun { IfOk result (λ c. Begun self c × (has_run c ≡ false)) }
+        ensures held { IfErr result (λ h. (h.course ≡ self) × (has_run self ≡ true) × IsHeld h.cause self) }
     {
         match self {
             Course::Replayed(process) => match Restoring::begin(alloc, process) {
-                Ok(process) => Course::Restoring(process),
-                Err(process) => Course::Replayed(process),
+                Ok(process) => Ok(Course::Restoring(process)),
+                Err(process) => Err(Held {
+                    course: Course::Replayed(process),
+                    cause: Cause::Memory,
+                }),
             },
-            other => other,
+            other => Ok(other),
         }
     }
 

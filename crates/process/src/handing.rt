@@ -1,19 +1,19 @@
 //! Packets that come and go, and what is sent again.
 
-ghost use Rattle.std.specs.Prelude.{◌≡◌, ◌∷◌, List, IfOk, IfErr, IfNone, IfSome, OnOk, OnErr, MatchOption};
+ghost use Rattle.std.specs.Prelude.{◌≡◌, ◌∷◌, [], false, List, IfOk, IfErr, IfNone, IfSome, OnOk, OnErr, MatchOption};
 ghost use Rattle.packets.specs.declared.packet.Packet.{Packet};
 ghost use Rattle.packets.specs.Format.{Fits, IsPacket};
 ghost use Rattle.packets.specs.Faults.{IsReason};
 ghost use Rattle.node.specs.Bytes.{IsTaken};
 ghost use Rattle.process.specs.Process.{out_of};
 ghost use Rattle.process.specs.Calls.{Calls, Stays, IsHanded, Ticks, Takes};
-ghost use Rattle.process.specs.Packets.{IsFront, IsStuck, GivesBytes};
-ghost use Rattle.process.specs.Passing.{Passes};
+ghost use Rattle.process.specs.Packets.{IsFront, GivesBytes};
+ghost use Rattle.process.specs.Passing.{Passes, is_held, IsHeld};
 
 use crate::course::Course;
 use crate::process::Process;
-use crate::writable::is_written;
 use packets::{Packet, PacketError, decode, encode, one_packet};
+use recovery::Cause;
 use std::alloc::{AllocError, Global};
 use std::mem::replace;
 
@@ -42,16 +42,19 @@ impl Process {
         ensures err { OnErr result (self.new ≡ self.old) }
     {
         self.course.hand(alloc, packet)?;
-        self.pass(alloc);
+        let _held = self.pass(alloc);
         Ok(())
     }
 
-    /// What isn't answered is sent again.
-    pub fn tick(&mut self, alloc: Global)
-        ensures { Calls Ticks self.old self.new }
+    /// What isn't answered is sent again. Where memory was refused when its stage was over, it tries again to pass
+    /// on; where it still can't, it says why.
+    pub fn tick(&mut self, alloc: Global) -> Result<(), Cause>
+        ensures calls { Calls Ticks self.old self.new }
+        ensures on { OnOk result (is_held self.new.course ≡ false) }
+        ensures held { IfErr result (λ why. IsHeld why self.new.course) }
     {
         self.course.send_again();
-        self.pass(alloc);
+        self.pass(alloc)
     }
 
     /// A packet that is to be sent, the first that waits; none, if there is none.
@@ -62,9 +65,9 @@ impl Process {
     }
 
     /// The bytes of the packet that [`Process::take`] would give, which is taken; none, if none waits. A
-    /// refusal, for want of memory, changes nothing.
+    /// refusal, which only memory can cause, changes nothing.
     pub fn take_bytes(&mut self, alloc: Global) -> Result<Option<Vec<u8>>, AllocError>
-        ensures none { IfOk result (λ o. IfNone o ((self.new ≡ self.old) × IsStuck self.old)) }
+        ensures none { IfOk result (λ o. IfNone o ((self.new ≡ self.old) × (out_of self.old.course ≡ []))) }
         ensures some { IfOk result (λ o. IfSome o (λ v. GivesBytes v.items self.old self.new)) }
         ensures err { OnErr result (self.new ≡ self.old) }
     {
@@ -86,7 +89,7 @@ impl Process {
 
     /// The bytes of the packet that waits first, which stays; none, if none waits.
     pub fn front_bytes(&self, alloc: Global) -> Result<Option<Vec<u8>>, AllocError>
-        ensures none { IfOk result (λ o. IfNone o (IsStuck self.now)) }
+        ensures none { IfOk result (λ o. IfNone o (out_of self.now.course ≡ [])) }
         ensures some { IfOk result (λ o. IfSome o (λ v. IsFront self.now v.items)) }
     {
         if let Course::Up(node) = &self.course {
@@ -96,28 +99,41 @@ impl Process {
             };
         }
         match self.front() {
-            Some(packet) if is_written(packet) => written(alloc, packet),
-            _ => Ok(None),
+            Some(packet) => written(alloc, packet),
+            None => Ok(None),
         }
     }
 
-    /// It passes on to the next stage where the one that it is in is over.
-    pub(crate) fn pass(&mut self, alloc: Global)
-        ensures { Stays Passes self.old self.new }
+    /// It passes on to the next stage where the one that it is in is over, or says why it can't.
+    pub(crate) fn pass(&mut self, alloc: Global) -> Result<(), Cause>
+        ensures passes { Stays Passes self.old self.new }
+        ensures on { OnOk result (is_held self.new.course ≡ false) }
+        ensures held { IfErr result (λ why. IsHeld why self.new.course) }
     {
         if self.course.is_up() {
-            return;
+            return Ok(());
         }
-        self.pass_on(alloc);
+        self.pass_on(alloc)
     }
 
     /// The same for one that isn't up, which is rare.
     #[inline(never)]
-    fn pass_on(&mut self, alloc: Global)
-        ensures { Stays Passes self.old self.new }
+    fn pass_on(&mut self, alloc: Global) -> Result<(), Cause>
+        ensures passes { Stays Passes self.old self.new }
+        ensures on { OnOk result (is_held self.new.course ≡ false) }
+        ensures held { IfErr result (λ why. IsHeld why self.new.course) }
     {
         let course = replace(&mut self.course, Course::Passing);
-        self.course = course.passed(alloc);
+        match course.passed(alloc) {
+            Ok(course) => {
+                self.course = course;
+                Ok(())
+            }
+            Err(held) => {
+                self.course = held.course;
+                Err(held.cause)
+            }
+        }
     }
 }
 

@@ -12,7 +12,8 @@
 //! The promise: each call is the call of the stage that the process is in, word for word, and then the
 //! process passes on to the next stage where that one is over: when all peers have told all it recovers,
 //! when nothing is left to replay it restores its numbers, when all have answered it is up. A refusal
-//! changes nothing.
+//! changes nothing. Where memory is refused when a stage is over, the process stays in it; each
+//! [`Process::tick`] tries again, and says so where it still can't pass on.
 //!
 //! ```text
 //! let mut process = Process::revive(alloc, image, &kept, incarnation)?;
@@ -37,7 +38,6 @@ mod process;
 mod reading;
 mod saving;
 mod working;
-mod writable;
 
 pub use call::{Call, Ticket};
 pub use course::Course;
@@ -47,3 +47,4 @@ pub use job::Job;
 pub use laws::{covered_are_dropped, entries_are_given, saved_drops};
 pub use process::Process;
 pub use reading::{MOST_ENTRIES, MOST_STORED};
+pub use recovery::Cause;

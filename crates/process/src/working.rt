@@ -3,7 +3,7 @@
 ghost use Rattle.std.specs.Prelude.{◌≡◌, ◌+◌, ◌++◌, ◌≤◌, None, Some, length, map, true, false, IfOk, IfNone, IfSome, OnOk, OnErr};
 ghost use Rattle.node.specs.declared.node.TheConstants.{MOST_GIVEN};
 ghost use Rattle.process.specs.Process.{state_of};
-ghost use Rattle.process.specs.Job.{IsCallable, TakesBack, IsNext};
+ghost use Rattle.process.specs.Job.{IsCallable, TakesBack, HasNext, IsNext};
 ghost use Rattle.process.specs.Holding.{entries_of};
 ghost use Rattle.process.specs.Working.{job_at, is_other, given_of, sent_by, shown_of, TakesIn, MayTakeIn, Works, Rests};
 
@@ -38,6 +38,8 @@ impl Process {
         ensures works { IfOk result (λ b. b ≡ true → Works self.old self.new) }
         ensures rests { IfOk result (λ b. b ≡ false → Rests self.old × (self.new ≡ self.old)) }
         ensures few { OnOk result (entries_of self.new ≤ entries_of self.old + MOST_GIVEN) }
+        // Where there is none, memory isn't wanting.
+        ensures memory { OnErr result (HasNext self.old) }
         ensures err { OnErr result (self.new ≡ self.old) }
     {
         if self.is_idle() {
@@ -60,6 +62,7 @@ impl Process {
         ensures works { IfOk result (λ b. b ≡ true → Works self.old self.new) }
         ensures rests { IfOk result (λ b. b ≡ false → Rests self.old × (self.new ≡ self.old)) }
         ensures few { OnOk result (entries_of self.new ≤ entries_of self.old + MOST_GIVEN) }
+        ensures memory { OnErr result (HasNext self.old) }
         ensures err { OnErr result (self.new ≡ self.old) }
     {
         let Some((job, who)) = self.next_call() else {
@@ -106,7 +109,7 @@ impl Process {
         let refused = self.course.counted(self.refused, refused);
         self.course.take_in(state, given)?;
         self.refused = refused;
-        self.pass(alloc);
+        let _held = self.pass(alloc);
         Ok(())
     }
 }

@@ -1,9 +1,9 @@
-use Rattle.std.proofs.Common.{rules, ◌≡◌, ◌∙◌, ap, sym, arith}
-use Rattle.std.specs.Prelude.{Some, None}
+use Rattle.std.proofs.Common.{rules, ◌≡◌, arith}
+use Rattle.std.specs.Prelude.{Some}
 use Rattle.std.proofs.lemmas.Grind.{common_steps}
 use Rattle.process.specs.Packets.{IsFront}
 use Rattle.embed_node.specs.Answers.{IsCopied}
-use Rattle.embed_node.proofs.Fronts.{taken, stays-front}
+use Rattle.process.proofs.Fronts.{taken, stays-front}
 use Rattle.embed_node.proofs.giving.take_of.Goals as goal
 use Rattle.embed_node.proofs.giving.take_of.Goals.{in-Some+in-Told-1, in-Some+in-Restored-1, in-Some+in-Delivery-1, in_default}
 

@@ -5,4 +5,10 @@ use Rattle.process.proofs.process.Process.pass_on.Goals as goal
 
 pub invariant_of-self : goal.invariant_of-self
 invariant_of-self c =
-    within.passes c.self.inside.course c.passed.result (subst (λ z. Passes z c.passed.result) c.replace-course.ensures.value c.passed.ensures) c.self.invariant
+    let new = c.in-Ok.course in
+    within.passes c.self.inside.course new (subst (λ z. Passes z new) c.replace-course.ensures.value c.in-Ok.ensures.passed.0) c.self.invariant
+
+pub invariant_of-self-in-Err : goal.invariant_of-self-in-Err
+invariant_of-self-in-Err c =
+    let new = c.in-Err.held.course in
+    within.passes c.self.inside.course new (subst (λ z. Passes z new) c.replace-course.ensures.value c.in-Err.ensures.held.0) c.self.invariant

@@ -1,4 +1,3 @@
-use Rattle.std.proofs.Common.{◌≡◌}
 use Rattle.process.proofs.Within as within
 use Rattle.process.proofs.process.Process.take.Goals as goal
 

@@ -8,8 +8,8 @@ use Rattle.process.proofs.process.Process.take_back.Goals as goal
 
 pub returns-clause-few : goal.returns-clause-few
 returns-clause-few c =
-    let taken : TakesBack c.args.state.items c.args.given.now c.args.self.now c.pass.new.self = first_of (search rules, grind (arith, common_steps)) in
-    few_more c.args.state.items c.args.given.now c.args.self.now c.pass.new.self c.requires taken
+    let taken : TakesBack c.args.state.items c.args.given.now c.args.self.now c.pass-held.new.self = first_of (search rules, grind (arith, common_steps)) in
+    few_more c.args.state.items c.args.given.now c.args.self.now c.pass-held.new.self c.requires taken
 
 pub invariant_of-self-2 : goal.invariant_of-self-2
 invariant_of-self-2 c =
