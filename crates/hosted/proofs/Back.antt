@@ -1,8 +1,6 @@
 -- What a process keeps that recovers in a call of its host
-use Rattle.std.proofs.Common.{◌≡◌, ◌≢◌, ℕ, ◌+◌, ◌≤◌, List, ◌∷◌, ◌++◌, length, take, true, refl, sym, ap, ◌∙◌, subst, append_assoc}
-use Rattle.world.specs.World.{put}
+use Rattle.std.proofs.Common.{◌≡◌, ℕ, ◌+◌, ◌≤◌, List, ◌∷◌, ◌++◌, length, take, sym, ap, ◌∙◌, subst, append_assoc}
 use Rattle.world.specs.History.{count_of}
-use Rattle.images.specs.declared.any_image.AnyImage.{AnyImage}
 use Rattle.world.specs.Handlers.{Handlers}
 use Rattle.cluster.specs.Cluster.{Cluster, opening}
 use Rattle.cluster.specs.Rules.{after_run}
@@ -22,7 +20,7 @@ use Rattle.lives.proofs.Lives.{at-each}
 use Rattle.lives.proofs.Back.{recovers-exactly}
 use Rattle.process.specs.declared.course.Course.{Course}
 use Rattle.hosted.specs.Answering.{answering}
-use Rattle.hosted.specs.System.{System, new_system, HostCall, as_lives, after_call, after_calls}
+use Rattle.hosted.specs.System.{System, new_system, as_lives, after_call, after_calls}
 use Rattle.hosted.specs.Lives.{IsAs, len_of, handlers}
 use Rattle.hosted.specs.Back.{still, HasRecovered, HostedRecovers, HostedRecoversAlone}
 use Rattle.hosted.proofs.Acts.{Beside}

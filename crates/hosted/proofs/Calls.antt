@@ -4,7 +4,8 @@ use Rattle.std.specs.Prelude.{Option, Some, None, not, ◌&&◌, is_none, if◌t
 use Rattle.helpers.specs.declared.effects.Who.{Who}
 use Rattle.images.specs.declared.any_image.AnyImage.{AnyImage}
 use Rattle.interp.specs.HandlerCall.{Handled}
-use Rattle.handlers.specs.Answer.{answer_by}
+use Rattle.handlers.specs.Image.{TheImage, as_image}
+use Rattle.handlers.specs.Answer.{answered as answer_in}
 use Rattle.packets.specs.declared.packet.Packet.{Packet}
 use Rattle.node.specs.declared.job.OpenJob.{OpenJob}
 use Rattle.theorems.proofs.Tests.{both}
@@ -239,19 +240,20 @@ abbrev pub answered : Who → Handled → Answer
 answered who h = record { state = h.state; given = given_of who h.effects }
 
 -- so the answer is that of the handler of its image
-answer-is : (images : ℕ → AnyImage) (image : AnyImage) (count p me total : ℕ) (o : Option OpenJob) (state : List ℕ) (j : OpenJob) (who : Who) (h : Handled) → image ≡ images p → me ≡ p → total ≡ count → job_as me total o ≡ Some (j, who)
+answer-is : (images : ℕ → AnyImage) (image : AnyImage) (count p me total : ℕ) (o : Option OpenJob) (state : List ℕ) (j : OpenJob) (who : Who) (h : Handled) → as_image image ≡ as_image (images p) → me ≡ p → total ≡ count → job_as me total o ≡ Some (j, who)
     → answer_to image who state j ≡ Some h → (i : OpenJob) → o ≡ Some i → answered who h ≡ answering count images p state (job_of i)
 answer-is images image count p me total o state j who h same here all next answers i waits =
     let job = job-is me total o j who next in
     let one : j ≡ i = (let e : Some j ≡ Some i = sym job.0 ∙ waits in cc (e)) in
     let runs : who ≡ who_of count p i.sender = job.1 ∙ ap (λ z. who_of total z j.sender) here ∙ ap (λ z. who_of z p j.sender) all ∙ ap (λ (z : OpenJob). who_of count p z.sender) one in
-    let P : AnyImage → Who → OpenJob → Type 0 = λ a b z. answer_by a b state z.payload ≡ Some h in
-    let said : P (images p) (who_of count p i.sender) i = subst (λ z. P (images p) (who_of count p i.sender) z) one (subst (λ z. P (images p) z j) runs (subst (λ z. P z who j) same answers)) in
+    let P : TheImage → Who → OpenJob → Type 0 = λ a b z. answer_in a b state z.payload ≡ Some h in
+    let its = as_image (images p) in
+    let said : P its (who_of count p i.sender) i = subst (λ z. P its (who_of count p i.sender) z) one (subst (λ z. P its z j) runs (subst (λ z. P z who j) same answers)) in
     let left : answered who h ≡ answered (who_of count p i.sender) h = ap (λ z. answered z h) runs in
     let right : answering count images p state (job_of i) ≡ answered (who_of count p i.sender) h = ap (answer_of (who_of count p i.sender) state) said in
     ◌∙◌ {b = answered (who_of count p i.sender) h} left (sym right)
 
-pub works-is : (images : ℕ → AnyImage) (image : AnyImage) (count p : ℕ) (w : Checkpoint) (c d : Course) (j : OpenJob) (who : Who) (h : Handled) → image ≡ images p → is_settled c ≡ true → Fits w c → IsHere count p (seen w c) → job_at c ≡ Some (j, who)
+pub works-is : (images : ℕ → AnyImage) (image : AnyImage) (count p : ℕ) (w : Checkpoint) (c d : Course) (j : OpenJob) (who : Who) (h : Handled) → as_image image ≡ as_image (images p) → is_settled c ≡ true → Fits w c → IsHere count p (seen w c) → job_at c ≡ Some (j, who)
     → answer_to image who (state_of c) j ≡ Some h → TakesIn h.state (given_of who h.effects) c d → Is (Works (answering count images) p (answered who h)) w c d
 works-is images image count p Absent (Up n) (Up m) j who h same s f here next answers g =
     (refl, (tt, (answer-is images image count p n.me n.count n.working n.state j who h same here.0 here.1.0 next answers, (m, (refl, g)))))

@@ -1,6 +1,6 @@
 -- The moment of recovery among the acts of one call
 use Rattle.std.proofs.Common.{◌≡◌, inl, inr, ℕ, zero, suc, ◌+◌, ◌-◌, ◌≤◌, List, [], ◌∷◌, ◌++◌, length, map, Bool, true, false, refl, sym, ap, ◌∙◌, subst, arith}
-use Rattle.std.specs.Prelude.{◌⊎◌, nat_le}
+use Rattle.std.specs.Prelude.{◌⊎◌}
 use Rattle.std.proofs.lemmas.Bool.Decides.{nat_tests}
 use Rattle.std.proofs.lemmas.List.{length-map}
 use Rattle.node.specs.declared.job.OpenJob.{OpenJob}
@@ -15,7 +15,6 @@ use Rattle.recovery.specs.Entering.{keeps as keeps_of}
 use Rattle.recovery.specs.Collecting.{TheCollecting}
 use Rattle.recovery.specs.Replaying.{TheReplaying, is_over}
 use Rattle.recovery.specs.Replayed.{TheReplayed}
-use Rattle.recovery.specs.StandsReplaying.{replayed_of}
 use Rattle.restoring.specs.Restoring.{TheRestoring, has_answered, begun}
 use Rattle.restoring.specs.Restoring as restores
 use Rattle.together.specs.Together.{IsFirst}

@@ -4,6 +4,7 @@ use Rattle.std.specs.Prelude.{Some}
 use Rattle.world.specs.Handlers.{Handlers}
 use Rattle.world.specs.History.{count_of, nth}
 use Rattle.images.specs.declared.any_image.AnyImage.{AnyImage}
+use Rattle.handlers.specs.Image.{as_image}
 use Rattle.packets.specs.declared.packet.Packet.{Packet}
 use Rattle.stores.specs.declared.change.Output.{Output}
 use Rattle.cluster.specs.Cluster.{Cluster, opening}
@@ -16,7 +17,6 @@ use Rattle.gateway.specs.Gateway.{TheGateway, peer_of}
 use Rattle.gateway.specs.Stands as gateways
 use Rattle.together.specs.Together.{IsFirst}
 use Rattle.lives.specs.Process.{StandsAs}
-use Rattle.lives.specs.Process as stages
 use Rattle.lives.specs.System.{System as Lived, AreStored, AreStoredOf, AllStand, IsRunOf}
 use Rattle.lives.specs.System as called
 use Rattle.lives.specs.Back.{HasBack}
@@ -52,7 +52,7 @@ opened images n page tick limits processes bytes o =
         taken = refl;
         given = refl;
       };
-      good = λ p l. ((o.opened p l).image_is, (ap is_settled (o.opened p l).course_is, tt));
+      good = λ p l. (ap as_image (o.opened p l).image_is, (ap is_settled (o.opened p l).course_is, tt));
       now = λ p l. ([], begins-now (answering n images) (len_of images) n p page tick false false (λ q. false) nothing l.1 limits bytes (are-stored images n limits processes bytes o) l (λ e. absurd (cc (e))));
     }
 

@@ -4,6 +4,7 @@ use Rattle.std.specs.Prelude.{◌⊎◌, Some, ◌==◌, if◌then◌else◌}
 use Rattle.std.proofs.lemmas.Bool.Decides.{nat_tests}
 use Rattle.world.specs.World.{put}
 use Rattle.images.specs.declared.any_image.AnyImage.{AnyImage}
+use Rattle.handlers.specs.Image.{as_image}
 use Rattle.packets.specs.declared.packet.Packet.{Packet}
 use Rattle.packets.specs.Format.{IsPacket}
 use Rattle.packets.proofs.WholeLemmas.{one_packet}
@@ -33,12 +34,11 @@ use Rattle.process.specs.Calls as process
 use Rattle.process.specs.Calls.{Stays, IsHanded, Ticks, Takes, Freezes, Thaws}
 use Rattle.process.specs.Packets.{GivesBytes}
 use Rattle.process.specs.Job.{IsAnswered, WorksAs}
-use Rattle.process.specs.Reviving.{IsRevived}
 use Rattle.process.specs.Saving.{IsSavable, Keeps}
 use Rattle.process.specs.Working as working
 use Rattle.hosted.specs.Process.{Checkpoint, Absent, Pending, Durable, Hosted, Runs, Killed, Alive, Has, goes_on, keeps, stage_of, seen, as_process}
 use Rattle.hosted.specs.Answering.{answering}
-use Rattle.hosted.specs.System.{System, HostCall, Gave, GaveBytes, Handed, HandedBytes, Worked, Answered, Ticked, Froze, Paused, Stored, Saved, Died, Revived, Outside, IsOutside, as_lives, AnswersSo, DoesIt, after_call}
+use Rattle.hosted.specs.System.{System, HostCall, Gave, GaveBytes, Handed, HandedBytes, Worked, Answered, Ticked, Froze, Paused, Stored, Saved, Died, Revived, Outside, IsOutside, as_lives, AnswersSo, RevivesAs, DoesIt, after_call}
 use Rattle.hosted.specs.Lives.{IsAs, FailsAlone, KeepsDurable, LivesOn, gave_by, shown_by}
 use Rattle.hosted.specs.Back.{has_recovered}
 use Rattle.hosted.proofs.Chains.{Chain, chain-append, revived-limits}
@@ -47,9 +47,9 @@ use Rattle.hosted.proofs.Calls.{Is, IsHere, answered, handed-is, taken-is, ticks
 use Rattle.hosted.proofs.Acts.{dids, dids-give, Ran, ran, Beside, ends}
 use Rattle.hosted.proofs.Moments.{Moment, of-acts, behind-one, dead-end, not-collecting}
 
--- it has this image, is in some stage, and waits for what is pending
+-- it has such an image, is in some stage, and waits for what is pending
 abbrev pub IsGood : AnyImage → Hosted → Type 0
-IsGood image (Runs old w) = (old.image ≡ image) × ((is_settled old.course ≡ true) × Fits w old.course)
+IsGood image (Runs old w) = (as_image old.image ≡ as_image image) × ((is_settled old.course ≡ true) × Fits w old.course)
 IsGood image Killed = Unit {0}
 
 abbrev pub AreGood : (ℕ → AnyImage) → ℕ → System → Type 0
@@ -206,7 +206,7 @@ module _ (images : ℕ → AnyImage) (n : ℕ) (s : System) (t : Lived) (st : Is
         given = ap (λ z. x ∷ z) st.given;
       } in
       by-call k p (Runs new w) (called.Gave p x to) to [] l (l, subst (λ z. Gives x z to) (sym (here p old w l e)) a.1.1) tt (raised-here t.processes p to) refl (subst (λ z. Beside n p z (called.after_call t (called.Gave p x to))) (sym is) b)
-      (ap (λ (z : System). z.processes) is) (g.image ∙ good.0, (a.0, a.1.0)) (λ z. tt) (λ q z. tt) refl o gave tt (λ from c. let it = subst (λ z. Gives x z to) (sym (here p old w l e) ∙ c) a.1.1 in inl (it.0, it.1.0))
+      (ap (λ (z : System). z.processes) is) (ap as_image g.image ∙ good.0, (a.0, a.1.0)) (λ z. tt) (λ q z. tt) refl o gave tt (λ from c. let it = subst (λ z. Gives x z to) (sym (here p old w l e) ∙ c) a.1.1 in inl (it.0, it.1.0))
 
   heard : (k : HostCall) (p : ℕ) (x : Packet) (old new : TheProcess) (w : Checkpoint) → IsFirst n p → IsOne x s.given → s.processes p ≡ Runs old w → process.Calls (IsHanded x) old new
       → after_call s k ≡ record s { processes = put s.processes p (Runs new w) } → shown_by s k ≡ [] → ((q : ℕ) → gave_by q k ≡ []) → Steps images n s t k
@@ -216,7 +216,7 @@ module _ (images : ℕ → AnyImage) (n : ℕ) (s : System) (t : Lived) (st : Is
       let c : GoesOn w g.mid new.course = passes-on w g.mid new.course a.0 a.1.0 g.passes in
       let to : Process = seen w g.mid in
       by-call k p (Runs new w) (called.Handed p x to) to c.1.1.0 l (l, (subst (IsOne x) (sym st.given) one, subst (λ z. Hears x z to) (sym (here p old w l e)) a.1.1)) tt (raised-here t.processes p to) c.1.1.1
-      (subst (λ z. Beside n p z (called.after_call t (called.Handed p x to))) (sym is) (beside-one p (Runs new w) to)) (ap (λ (z : System). z.processes) is) (g.image ∙ good.0, (c.0, c.1.0)) (λ z. tt) (λ q z. tt) refl o
+      (subst (λ z. Beside n p z (called.after_call t (called.Handed p x to))) (sym is) (beside-one p (Runs new w) to)) (ap (λ (z : System). z.processes) is) (ap as_image g.image ∙ good.0, (c.0, c.1.0)) (λ z. tt) (λ q z. tt) refl o
       (λ q. dids-give q p c.1.1.0 ∙ sym (gave q)) tt (λ from at. let it = subst (λ z. Hears x z to) (sym (here p old w l e) ∙ at) a.1.1 in inl (it.0, it.1.0))
 
   -- ---- its handler, and what is sent again
@@ -230,7 +230,7 @@ module _ (images : ℕ → AnyImage) (n : ℕ) (s : System) (t : Lived) (st : Is
       let c : GoesOn w g.mid new.course = passes-on w g.mid new.course a.0 a.1.0 g.passes in
       let to : Process = seen w g.mid in
       by-call k p (Runs new w) (called.Worked p does to) to c.1.1.0 l (l, subst (λ z. Works f p does z to) (sym (here p old w l e)) a.1.1) tt (raised-here t.processes p to) c.1.1.1
-      (subst (λ z. Beside n p z (called.after_call t (called.Worked p does to))) (sym is) (beside-one p (Runs new w) to)) (ap (λ (z : System). z.processes) is) (g.image ∙ good.0, (c.0, c.1.0)) (λ z. tt) (λ q z. tt) refl o
+      (subst (λ z. Beside n p z (called.after_call t (called.Worked p does to))) (sym is) (beside-one p (Runs new w) to)) (ap (λ (z : System). z.processes) is) (ap as_image g.image ∙ good.0, (c.0, c.1.0)) (λ z. tt) (λ q z. tt) refl o
       (λ q. dids-give q p c.1.1.0 ∙ sym (gave q)) tt (λ from at. absurd (subst (λ z. Works f p does z to) (sym (here p old w l e) ∙ at) a.1.1))
 
   ticks : (p : ℕ) (old new : TheProcess) (w : Checkpoint) → IsFirst n p → s.processes p ≡ Runs old w → process.Calls Ticks old new → Steps images n s t (Ticked p new)
@@ -240,7 +240,7 @@ module _ (images : ℕ → AnyImage) (n : ℕ) (s : System) (t : Lived) (st : Is
       let c : GoesOn w g.mid new.course = passes-on w g.mid new.course a.0 a.1.0 g.passes in
       let chain : Chain (seen w old.course) (a.1.1.0 ++ c.1.1.0) (seen w new.course) = chain-append (seen w old.course) a.1.1.0 (seen w g.mid) c.1.1.0 (seen w new.course) a.1.1.1 c.1.1.1 in
       by-acts (Ticked p new) p (Runs new w) (a.1.1.0 ++ c.1.1.0) l (subst (λ z. Chain z (a.1.1.0 ++ c.1.1.0) (seen w new.course)) (sym (here p old w l e)) chain)
-      (ap (λ z. record s { processes = put s.processes p z }) (on-by p old new w e)) (g.image ∙ good.0, (c.0, c.1.0)) refl (λ q. refl)
+      (ap (λ z. record s { processes = put s.processes p z }) (on-by p old new w e)) (ap as_image g.image ∙ good.0, (c.0, c.1.0)) refl (λ q. refl)
 
   -- ---- checkpoints
 
@@ -248,13 +248,13 @@ module _ (images : ℕ → AnyImage) (n : ℕ) (s : System) (t : Lived) (st : Is
   freezes p bytes old new w l e may kept g =
       let good = good-of p old w l e in
       let a = froze-is bytes w old.course new.course good.1.1 may kept g.does in
-      by-acts (Froze p bytes new) p (Runs new (Pending bytes)) a.1.1.0 l (subst (λ z. Chain z a.1.1.0 (seen (Pending bytes) new.course)) (sym (here p old w l e)) a.1.1.1) refl (g.image ∙ good.0, (a.0, a.1.0)) refl (λ q. refl)
+      by-acts (Froze p bytes new) p (Runs new (Pending bytes)) a.1.1.0 l (subst (λ z. Chain z a.1.1.0 (seen (Pending bytes) new.course)) (sym (here p old w l e)) a.1.1.1) refl (ap as_image g.image ∙ good.0, (a.0, a.1.0)) refl (λ q. refl)
 
   pauses : (p : ℕ) (old new : TheProcess) (w : Checkpoint) → IsFirst n p → s.processes p ≡ Runs old w → Stays Freezes old new → Steps images n s t (Paused p new)
   pauses p old new w l e g =
       let good = good-of p old w l e in
       let a : GoesOn w old.course new.course = paused-is w old.course new.course good.1.0 good.1.1 g.does in
-      by-acts (Paused p new) p (Runs new w) a.1.1.0 l (subst (λ z. Chain z a.1.1.0 (seen w new.course)) (sym (here p old w l e)) a.1.1.1) (ap (λ z. record s { processes = put s.processes p z }) (on-by p old new w e)) (g.image ∙ good.0, (a.0, a.1.0)) refl (λ q. refl)
+      by-acts (Paused p new) p (Runs new w) a.1.1.0 l (subst (λ z. Chain z a.1.1.0 (seen w new.course)) (sym (here p old w l e)) a.1.1.1) (ap (λ z. record s { processes = put s.processes p z }) (on-by p old new w e)) (ap as_image g.image ∙ good.0, (a.0, a.1.0)) refl (λ q. refl)
 
   stores : (p : ℕ) (bytes : List ℕ) (old : TheProcess) → IsFirst n p → s.processes p ≡ Runs old (Pending bytes) → Steps images n s t (Stored p bytes)
   stores p bytes old l e =
@@ -283,7 +283,7 @@ module _ (images : ℕ → AnyImage) (n : ℕ) (s : System) (t : Lived) (st : Is
       let a = saved-is old.course new.course good.1.1 g.does in
       let to : Process = stage_of new.course in
       by-call (Saved p new) p (Runs new Absent) (called.Saved p to) to [] l (l, subst (λ z. IsTold z to) (sym (here p old Durable l e)) a.1) tt (raised-here t.processes p to) refl (beside-one p (Runs new Absent) to) refl
-      (g.image ∙ good.0, (a.0, tt)) (λ z. tt) (λ q z. tt) refl refl (λ q. refl) tt (λ from at. absurd (subst (λ z. IsTold z to) (sym (here p old Durable l e) ∙ at) a.1))
+      (ap as_image g.image ∙ good.0, (a.0, tt)) (λ z. tt) (λ q z. tt) refl refl (λ q. refl) tt (λ from at. absurd (subst (λ z. IsTold z to) (sym (here p old Durable l e) ∙ at) a.1))
 
   -- ---- it is killed, and comes back
 
@@ -291,8 +291,9 @@ module _ (images : ℕ → AnyImage) (n : ℕ) (s : System) (t : Lived) (st : Is
   dies p l =
       by-call (Died p) p Killed (called.Died p) stages.Killed [] l l tt (raised-here t.processes p stages.Killed) refl (beside-one p Killed stages.Killed) refl tt (λ a q m o. ap is_up (st.processes q m) ∙ a q m o) (λ q z. tt) refl refl (λ q. refl) tt (λ from at. inr refl)
 
-  revives : (p : ℕ) (limits : Limits) (life : ℕ) (new : TheProcess) → IsFirst n p → s.processes p ≡ Killed → s.lives p < life → IsRevived (images p) limits (s.stored p) life new → Steps images n s t (Revived p limits life new)
-  revives p limits life new l e above g =
+  revives : (p : ℕ) (limits : Limits) (life : ℕ) (new : TheProcess) → IsFirst n p → s.processes p ≡ Killed → s.lives p < life → RevivesAs (images p) limits (s.stored p) life new → Steps images n s t (Revived p limits life new)
+  revives p limits life new l e above comes =
+      let g = comes.1.1 in
       let n2 : TheCollecting = revived limits g.kept life in
       let to : Process = stages.Collects n2 in
       let dead : t.processes p ≡ stages.Killed = st.processes p l ∙ ap as_process e in
@@ -309,7 +310,7 @@ module _ (images : ℕ → AnyImage) (n : ℕ) (s : System) (t : Lived) (st : Is
         given = st.given;
       } in
       by-call (Revived p limits life new) p (Runs new Absent) (called.Revived p life n2) to [] l (l, (subst IsKilled (sym dead) tt, (subst (λ z. z < life) (sym (st.lives p l)) above, from))) tt (raised-here t.processes p to) is b refl
-      (g.image_is, (ap is_settled g.course_is, tt)) (λ z. tt) (λ q d same. ap (λ (z : Limits). z.durable) (revived-limits limits g.kept life) ∙ d same) refl refl (λ q. refl) tt (λ from at. absurd (subst IsKilled (sym dead ∙ at) tt))
+      (ap as_image g.image_is ∙ comes.1.0, (ap is_settled g.course_is, tt)) (λ z. tt) (λ q d same. ap (λ (z : Limits). z.durable) (revived-limits limits g.kept life) ∙ d same) refl refl (λ q. refl) tt (λ from at. absurd (subst IsKilled (sym dead ∙ at) tt))
 
   -- ---- the gateway
 

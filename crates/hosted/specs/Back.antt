@@ -16,7 +16,7 @@ use Rattle.lives.specs.System as called
 use Rattle.lives.specs.System.{AllStand}
 use Rattle.lives.specs.Back.{length_of}
 use Rattle.process.specs.declared.course.Course.{Course}
-use Rattle.process.specs.declared.course.Course.TheVariants.{Up, Collecting, Replaying, Replayed, Restoring, Passing}
+use Rattle.process.specs.declared.course.Course.TheVariants.{Up, Replaying, Replayed, Restoring}
 use Rattle.process.specs.Process.{TheProcess}
 use Rattle.process.specs.Calls.{standing_at}
 use Rattle.hosted.specs.Process.{Checkpoint, Runs, as_process}

@@ -7,6 +7,7 @@ use Rattle.helpers.specs.declared.effects.Who.{Who}
 use Rattle.helpers.specs.Effects.{Emitted}
 use Rattle.images.specs.declared.any_image.AnyImage.{AnyImage}
 use Rattle.interp.specs.HandlerCall.{Handled}
+use Rattle.handlers.specs.Image.{as_image}
 use Rattle.node.specs.declared.limit.Limits.{Limits}
 use Rattle.node.specs.declared.job.OpenJob.{OpenJob}
 use Rattle.node.specs.Runs.{IsOne}
@@ -104,9 +105,13 @@ abbrev pub AnswersSo : List ℕ → Emitted → TheProcess → Type 0
 AnswersSo state e p =
     (message : OpenJob) (who : Who) → job_at p.course ≡ Some (message, who) → (h : Handled) × ((answer_to p.image who (state_of p.course) message ≡ Some h) × ((h.state ≡ state) × (h.effects ≡ e)))
 
+-- it comes back with an image of this form, these instructions and a state of this length
+abbrev pub RevivesAs : AnyImage → Limits → List ℕ → ℕ → TheProcess → Type 0
+RevivesAs image limits bytes life new = (same : AnyImage) × ((as_image same ≡ as_image image) × IsRevived same limits bytes life new)
+
 -- each call does what the contract of its function says. What is handed over was given, whenever, or is handed over again. What a host stores
 -- are the bytes of the checkpoint for which the process waits, and it tells it so once they are stored. What comes back does so from the bytes
--- that are stored, in an incarnation above all that were
+-- that are stored, with the same handler, in an incarnation above all that were
 abbrev pub DoesIt : (ℕ → AnyImage) → ℕ → System → HostCall → Type 0
 DoesIt images n s (Gave p x new) = IsFirst n p × Alive (λ old. Stays (Takes (Some x)) old new) (s.processes p)
 DoesIt images n s (GaveBytes p x bytes new) = IsFirst n p × (IsPacket x bytes × Alive (λ old. GivesBytes bytes old new) (s.processes p))
@@ -123,7 +128,7 @@ DoesIt images n s (Paused p new) = IsFirst n p × Alive (λ old. Stays Freezes o
 DoesIt images n s (Stored p bytes) = IsFirst n p × Has (λ checkpoint. checkpoint ≡ Pending bytes) (s.processes p)
 DoesIt images n s (Saved p new) = IsFirst n p × (Has (λ checkpoint. checkpoint ≡ Durable) (s.processes p) × Alive (λ old. Stays Thaws old new) (s.processes p))
 DoesIt images n s (Died p) = IsFirst n p
-DoesIt images n s (Revived p limits life new) = IsFirst n p × ((s.processes p ≡ Killed) × ((s.lives p < life) × IsRevived (images p) limits (s.stored p) life new))
+DoesIt images n s (Revived p limits life new) = IsFirst n p × ((s.processes p ≡ Killed) × ((s.lives p < life) × RevivesAs (images p) limits (s.stored p) life new))
 DoesIt images n s (Outside call) = IsOutside call × called.DoesIt (answering n images) n (as_lives s) call
 
 -- what the gateway's call leaves
