@@ -1,3 +1,4 @@
 mod AsBox
+mod HostCalls
 mod Opened
 mod Outcomes

@@ -6,3 +6,4 @@ pub mod Opening
 pub mod Standing
 pub mod Outcome
 pub mod NodeJob
+pub mod HostCalls

@@ -5,7 +5,9 @@ use Rattle.rsn.specs.declared.receipts.TheConstants.{LIMIT}
 use Rattle.verifier.specs.declared.fault.ImageError.{ImageError}
 use Rattle.verifier.specs.declared.fault.ImageError.TheVariants as error
 use Rattle.images.specs.declared.any_image.AnyImage.{AnyImage}
-use Rattle.images.specs.AnyImage.{code_of, form_of, state_of}
+use Rattle.decode.specs.declared.insn.Insn.{Insn}
+use Rattle.images.specs.declared.file_form.FileForm.{FileForm}
+use Rattle.images.specs.AnyImage.{IsImageOf, code_of, form_of, state_of}
 use Rattle.images.specs.ImageFile.{IsFile, IsRefusal, IsTypable}
 use Rattle.packets.specs.declared.kept_fault.KeptFault.{KeptFault}
 use Rattle.packets.specs.KeptFaults.{kept_fault_number}
@@ -23,10 +25,11 @@ use Rattle.embed_node.specs.declared.fault.Fault.{Fault}
 use Rattle.embed_node.specs.declared.fault.Fault.TheVariants.{Memory, Handle, Image, Bytes, Limit}
 use Rattle.embed_node.specs.Answers.{Answers, AnswersOfBytes}
 
--- the file is that of this image, of any form, whose code is typable in it
+-- the file is that of this image, of any form, whose code is typable in it, and of none of another form, code or length
 pub record IsImageIn (file : List ℕ) (image : AnyImage) : Type 0 where
   pub file_is : IsFile (form_of image) (code_of image) (state_of image) file
   pub typable : IsTypable (form_of image) (code_of image) (state_of image)
+  pub only : (form : FileForm) (code : List Insn) (len : ℕ) → IsFile form code len file → IsTypable form code len → IsImageOf form code len image
 
 -- the file is none of an image, by its header, its code or the rules
 abbrev pub IsNoImage : List ℕ → Type 0

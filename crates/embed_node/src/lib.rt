@@ -7,7 +7,9 @@
 //! not. docs/EMBEDDING.md describes the functions and codes.
 //!
 //! The promise: each function that makes a call of the process owes what that call owes, word for word;
-//! each that reads gives what the process's contract says; and any code but 0 leaves the process as it was.
+//! each that reads gives what the process's contract says; and any code but 0 leaves the process as it was, except
+//! that of `sblog_node_tick` that says why the process doesn't pass on. So what crate `hosted` promises of
+//! hosts' calls holds of these ([`laws`]).
 //!
 //! ```c
 //! sblog_node node = {0};
@@ -23,6 +25,7 @@ mod exports;
 mod fault;
 mod giving;
 mod handle;
+mod laws;
 mod loose;
 mod node_job;
 mod opening;
