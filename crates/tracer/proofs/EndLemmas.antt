@@ -6,7 +6,7 @@ use Rattle.cli.specs.Asks.{AsksFor}
 use Rattle.tracer.specs.Fault.{status_of}
 use Rattle.tracer.specs.Files.{Content}
 use Rattle.tracer.specs.Hints.{command_in, has_hints}
-use Rattle.tracer.specs.Inside.{EndsShort, HasFault, IsEnd, IsHalf, IsStreamFault}
+use Rattle.tracer.specs.Inside.{EndsShort, HasFault, IsEnd, IsHalf}
 use Rattle.tracer.specs.Program.{IsAnswered, IsCause, IsCutShort, IsDone, IsTold, Sameness, Tells}
 use Rattle.tracer.specs.declared.fault.Fault.{Fault}
 use Rattle.tracer.specs.declared.fault.Fault.TheVariants.{Memory}

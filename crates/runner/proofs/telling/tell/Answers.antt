@@ -1,14 +1,14 @@
-use Rattle.std.proofs.Common.{◌≡◌, ◌∙◌, Bool, ap, List, ℕ, Option, length, map, subst, sym}
+use Rattle.std.proofs.Common.{◌≡◌, ◌∙◌, ap, List, ℕ, Option, length, map, subst, sym}
 use Rattle.std.proofs.lemmas.List.{length-map}
 use Rattle.std.proofs.lemmas.Result.{IfOk-weaker}
 use Rattle.std.specs.Prelude.{option_map, string_bytes}
-use Rattle.handlers.specs.Image.{TheImage, image_in}
+use Rattle.handlers.specs.Image.{image_in}
 use Rattle.scenario.specs.Process.{names_of}
 use Rattle.scenario.specs.declared.scenario.Step.{Step}
 use Rattle.styles.specs.Style.{TheStyle}
 use Rattle.runner.specs.Inside.{AreNoted, notes_of, position_of}
 use Rattle.runner.specs.Orders.{Position, beginning}
-use Rattle.runner.specs.Telling.{style_in, told_text}
+use Rattle.runner.specs.Telling.{told_text}
 use Rattle.runner.proofs.Played.{runs-images, told-run}
 use Rattle.runner.proofs.telling.tell.Goals as goal
 

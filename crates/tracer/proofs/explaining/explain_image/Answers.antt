@@ -1,4 +1,4 @@
-use Rattle.std.proofs.Common.{◌≡◌, ◌∙◌, subst, string_bytes}
+use Rattle.std.proofs.Common.{◌∙◌, subst, string_bytes}
 use Rattle.images.specs.ImageFile.{IsUnread}
 use Rattle.listing.specs.FileListing.{IsFileExplained}
 use Rattle.tracer.proofs.CauseLemmas.{becomes, read_fault}

@@ -1,4 +1,4 @@
-use Rattle.std.proofs.Common.{◌≡◌, ◌∙◌, List, ℕ, inl, refl, rules, subst, sym}
+use Rattle.std.proofs.Common.{◌∙◌, inl, refl, rules, subst, sym}
 use Rattle.tracer.specs.Pack.{IsUnpacked}
 use Rattle.tracer.specs.Program.{FaultOf}
 use Rattle.tracer.proofs.CauseLemmas.{becomes, reading_fault}

@@ -1,4 +1,4 @@
-use Rattle.std.proofs.Common.{◌≡◌, ◌⊎◌, ℕ, List, inl, inr, map, string_bytes, subst}
+use Rattle.std.proofs.Common.{ℕ, List, inl, inr, map, string_bytes, subst}
 use Rattle.std.specs.Io.KnownBytes.{Appends}
 use Rattle.tracer.specs.Hints.{AreHints}
 use Rattle.tracer.specs.Inside.{IsEnd, IsHalf}

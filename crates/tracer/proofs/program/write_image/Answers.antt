@@ -1,4 +1,4 @@
-use Rattle.std.proofs.Common.{◌≡◌, ◌∙◌, List, ℕ, inl, refl, rules, subst, sym}
+use Rattle.std.proofs.Common.{◌∙◌, inl, refl, rules, subst, sym}
 use Rattle.tracer.specs.Asm.{IsUnassembled}
 use Rattle.tracer.specs.Program.{FaultOf}
 use Rattle.tracer.proofs.CauseLemmas.{becomes, plain_of, reading_fault}
