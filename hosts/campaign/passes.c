@@ -20,6 +20,7 @@ struct passes {
     long count, ahead, sent, shown;
     uint64_t before; /* the SSN of the last output before these */
     double *began, *took;
+    bool is_over; /* the gateway has heard what was taken: its answer to a line that is none came after it */
     char in[ROOM], out[ROOM];
     size_t have, from, to;
 };
@@ -84,8 +85,9 @@ static void take_output(struct passes *all, const char *line, double at) {
     if (ssn != all->before + (uint64_t)all->shown + 1 || strcmp(hex, right)) fails(line);
     all->took[all->shown] = at - all->began[all->shown];
     all->shown++;
-    if (all->shown % TAKEN == 0 || all->shown == all->count)
-        all->to += (size_t)sprintf(all->out + all->to, "took %s %llu\n", all->last, ssn);
+    bool is_last = all->shown == all->count;
+    if (all->shown % TAKEN == 0 || is_last)
+        all->to += (size_t)sprintf(all->out + all->to, "took %s %llu\n%s", all->last, ssn, is_last ? "over\n" : "");
 }
 
 static void receive_some(struct passes *all) {
@@ -98,6 +100,7 @@ static void receive_some(struct passes *all) {
     while ((end = memchr(line, '\n', (size_t)(all->in + all->have - line)))) {
         *end = 0;
         if (!strncmp(line, "output ", 7)) take_output(all, line, at);
+        else if (!strncmp(line, "refused ", 8) && all->shown == all->count) all->is_over = true;
         else if (strncmp(line, "logged ", 7)) fails(line);
         line = end + 1;
     }
@@ -106,7 +109,7 @@ static void receive_some(struct passes *all) {
 }
 
 static void run(struct passes *all) {
-    while (all->shown < all->count || all->from < all->to) {
+    while (!all->is_over) {
         put_inputs(all);
         struct pollfd state = {.fd = all->file, .events = POLLIN | (all->from < all->to ? POLLOUT : 0)};
         if (poll(&state, 1, PATIENCE) == 0) fails("nothing comes");
@@ -134,7 +137,7 @@ int main(int argc, char **argv) {
     all.to = (size_t)sprintf(all.out, "outputs\n");
     double began = now();
     run(&all);
-    double seconds = now() - began;
+    double seconds = all.began[all.count - 1] + all.took[all.count - 1] - began;
     qsort(all.took, (size_t)all.count, sizeof *all.took, by_size);
     printf("%.0f %.3f %.3f\n", (double)all.count / seconds, 1e3 * all.took[all.count / 2], 1e3 * all.took[all.count * 99 / 100]);
     return 0;
