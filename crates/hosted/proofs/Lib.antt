@@ -8,3 +8,4 @@ pub mod Lists
 pub mod Promised
 pub mod Outputs
 pub mod Back
+pub mod WorkedLemmas
