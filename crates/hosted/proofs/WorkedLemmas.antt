@@ -54,17 +54,9 @@ use Rattle.hosted.specs.System.{System, Opens, HostCall, Died, DoesIt, AreCalls,
 use Rattle.hosted.specs.Lives.{FailsAlone, OneAtATime}
 use Rattle.hosted.specs.Worked.{copies, IsCopying, process, before, behind, opened, IsWorked, HostsCanCall}
 use Rattle.hosted.proofs.Promised.{hosted-alone}
+use Rattle.hosted.proofs.CopyingLemmas.{r0, r1, r2, copying-loads}
 
 -- ---- what the handler answers
-
-abbrev r0 : Reg
-r0 = record { number = 0; in_range = omega arith }
-
-abbrev r1 : Reg
-r1 = record { number = 1; in_range = omega arith }
-
-abbrev r2 : Reg
-r2 = record { number = 2; in_range = omega arith }
 
 abbrev handled : ℕ → Handled
 handled k = record { state = input k; effects = record { sends = []; outputs = [] }; r0 = k; steps = 3 }
@@ -254,5 +246,5 @@ worked image is stored bytes kept-0 kept-4 =
     }
 
 pub hosts-can-call : HostsCanCall
-hosts-can-call image is =
-    worked image is (kept_bytes (kept_of n0)) (kept_bytes (kept_of n4)) (record { fits = fits-0; bytes_are = refl }) (record { fits = fits-4; bytes_are = refl })
+hosts-can-call =
+    (copying-loads, λ image is. worked image is (kept_bytes (kept_of n0)) (kept_bytes (kept_of n4)) (record { fits = fits-0; bytes_are = refl }) (record { fits = fits-4; bytes_are = refl }))

@@ -7,7 +7,8 @@ use Rattle.decode.specs.declared.insn.Insn.{Insn}
 use Rattle.decode.specs.declared.insn.Insn.TheVariants.{Load, StoreReg, Exit}
 use Rattle.images.specs.declared.any_image.AnyImage.{AnyImage}
 use Rattle.images.specs.declared.file_form.FileForm.TheVariants.{Sbi1}
-use Rattle.images.specs.AnyImage.{IsImageOf}
+use Rattle.images.specs.AnyImage.{IsImageOf, code_of, state_of}
+use Rattle.images.specs.ImageFile.{IsTypable}
 use Rattle.packets.specs.Kept.{kept_bytes}
 use Rattle.node.specs.declared.limit.TheConstants.{PAGE, TICK}
 use Rattle.node.specs.Limit.{usual}
@@ -39,6 +40,10 @@ pub record IsCopying (image : AnyImage) : Type 0 where
   pub r2 : Reg
   pub numbers : (r0.number ≡ 0) × (r1.number ≡ 1) × (r2.number ≡ 2)
   pub is_image : IsImageOf Sbi1 (copies r0 r1 r2) 1 image
+
+-- there is one whose code is typable: its file loads
+abbrev pub CopyingLoads : Type 0
+CopyingLoads = (image : AnyImage) × (IsCopying image × IsTypable Sbi1 (code_of image) (state_of image))
 
 -- ---- the calls
 
@@ -142,6 +147,6 @@ pub record IsWorked (image : AnyImage) (stored bytes : List ℕ) : Type 0 where
   pub life : node.life ≡ 2
   pub state : node.state ≡ input 3
 
--- for each image of that handler
+-- there is such an image, and so it is for each
 abbrev pub HostsCanCall : Type 0
-HostsCanCall = (image : AnyImage) → IsCopying image → IsWorked image (kept_bytes (kept_of n0)) (kept_bytes (kept_of n4))
+HostsCanCall = CopyingLoads × ((image : AnyImage) → IsCopying image → IsWorked image (kept_bytes (kept_of n0)) (kept_bytes (kept_of n4)))

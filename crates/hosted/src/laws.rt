@@ -81,10 +81,11 @@ pub fn hosted_agree()
     ensures { HostedAgree }
 {}
 
-/// The only process of a cluster, with a handler that copies a byte, receives three messages, stores its
-/// checkpoint after the first, and is killed when two are acknowledged; it is revived from its checkpoint,
-/// replays two that the gateway tells it, and is up with all three, in the state that it had: these are
-/// such calls, where it fails alone, and it stays exact.
+/// The only process of a cluster, whose handler has the first byte of a message as its state, receives three
+/// messages, its checkpoint is stored after the first, and it is killed when two are acknowledged; it is
+/// revived from its checkpoint, replays two that the gateway tells it, and is up with all three, in the state
+/// that it had: these are such calls, where it fails alone, and it stays exact. So it is with each image of
+/// that handler, and there is one whose code is typable.
 pub fn hosts_can_call()
     ensures { HostsCanCall }
 {}
