@@ -1,6 +1,6 @@
 -- A worked list of calls of hosts: the only process of a cluster receives three messages, its checkpoint is stored after the first, and it is
 -- killed when two are acknowledged; it is revived from its checkpoint, replays two, and is up with all three
-use Rattle.std.specs.Prelude.{◌≡◌, ℕ, List, [], ◌∷◌, ◌++◌, pos}
+use Rattle.std.specs.Prelude.{◌≡◌, ℕ, List, [], ◌∷◌, ◌++◌, length, take, pos}
 use Rattle.decode.specs.declared.insn.Reg.{Reg}
 use Rattle.decode.specs.declared.insn.Size.TheVariants.{Byte}
 use Rattle.decode.specs.declared.insn.Insn.{Insn}
@@ -129,9 +129,13 @@ behind image =
 abbrev pub opened : AnyImage → List ℕ → System
 opened image stored = new_system 1 (λ _. process image (Up n0)) (λ _. stored) PAGE TICK
 
+-- after its death, so many calls later
+abbrev pub later : AnyImage → List ℕ → List ℕ → ℕ → System
+later image stored bytes k = after_calls (opened image stored) (before image bytes ++ take k (behind image))
+
 -- with these bytes of its opening and of its checkpoint they are such calls, from an opening on; the process is killed alone, and stays
--- exact. When it is killed it has three messages, of which two are acknowledged without a gap. Then it is up in its second incarnation, with
--- these three and the state that it had
+-- exact. When it is killed it has three messages, of which two are acknowledged without a gap. It collects, until a call by which it has two
+-- to replay. Then it is up in its second incarnation, with all three and the state that it had
 pub record IsWorked (image : AnyImage) (stored bytes : List ℕ) : Type 0 where
   pub opens : Opens 1 (λ _. image) (λ _. usual) (λ _. process image (Up n0)) (λ _. stored)
   pub calls : AreCalls (λ _. image) 1 (opened image stored) (before image bytes ++ behind image)
@@ -141,6 +145,9 @@ pub record IsWorked (image : AnyImage) (stored bytes : List ℕ) : Type 0 where
   pub had : length_of n10 ≡ 3
   pub acknowledged : run_at n10 ≡ 2
   pub was : n10.state ≡ input 3
+  pub collects : (later image stored bytes 6).processes 1 ≡ Runs (process image (Collecting asks)) Absent
+  pub recovers : (later image stored bytes 7).processes 1 ≡ Runs (process image (Replaying replays)) Absent
+  pub replays_two : length replays.plan ≡ 2
   pub node : TheNode
   pub is_up : (after_calls (opened image stored) (before image bytes ++ behind image)).processes 1 ≡ Runs (process image (Up node)) Absent
   pub has : length_of node ≡ 3

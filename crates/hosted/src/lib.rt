@@ -8,8 +8,8 @@
 //! most one call there, and one more for each stage to which the process passes on. So what is promised there
 //! is promised of these values ([`hosted_run`], [`hosted_alone`], [`hosted_back`], [`hosted_recovers`],
 //! [`hosted_stays`], [`hosted_last`], [`hosted_keep`], [`hosted_in_order`], [`hosted_without_gap`],
-//! [`hosted_stay_out`], [`hosted_agree`]). A worked list of calls with messages shows that what they ask of
-//! calls can be met ([`hosts_can_call`]).
+//! [`hosted_stay_out`], [`hosted_agree`]). [`hosts_can_call`] works out a list of such calls with
+//! messages in them.
 #![tactic(auto)]
 
 mod laws;
