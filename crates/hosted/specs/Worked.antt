@@ -129,7 +129,7 @@ behind image =
 abbrev pub opened : AnyImage → List ℕ → System
 opened image stored = new_system 1 (λ _. process image (Up n0)) (λ _. stored) PAGE TICK
 
--- after its death, so many calls later
+-- after the calls up to its death, and so many of those from it on
 abbrev pub later : AnyImage → List ℕ → List ℕ → ℕ → System
 later image stored bytes k = after_calls (opened image stored) (before image bytes ++ take k (behind image))
 
