@@ -8,3 +8,5 @@ pub mod Lists
 pub mod Promised
 pub mod Outputs
 pub mod Back
+pub mod CopyingLemmas
+pub mod WorkedLemmas

@@ -3,3 +3,4 @@ pub mod Answering
 pub mod System
 pub mod Lives
 pub mod Back
+pub mod Worked

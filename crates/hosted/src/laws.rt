@@ -2,6 +2,7 @@
 
 ghost use Rattle.hosted.specs.Lives.{HostedAgree, HostedAlone, HostedBack, HostedInOrder, HostedKeep, HostedLast, HostedLive, HostedRun, HostedStayOut, HostedStays, HostedWithoutGap};
 ghost use Rattle.hosted.specs.Back.{HostedRecovers, HostedRecoversAlone};
+ghost use Rattle.hosted.specs.Worked.{HostsCanCall};
 
 /// Calls of processes by their hosts, from their opening on, as the contracts of their functions say,
 /// and of the gateway, in any order, with packets handed over late, twice or never, each process killed
@@ -78,4 +79,13 @@ pub fn hosted_stay_out()
 /// And what it hands out again of a durable process is what it was.
 pub fn hosted_agree()
     ensures { HostedAgree }
+{}
+
+/// The only process of a cluster, whose handler has the first byte of a message as its state, receives three
+/// messages, its checkpoint is stored after the first, and it is killed when two are acknowledged; it is
+/// revived from its checkpoint, replays two that the gateway tells it, and is up with all three, in the state
+/// that it had: these are such calls, where it fails alone, and it stays exact. So it is with each image of
+/// that handler, and there is one whose code is typable.
+pub fn hosts_can_call()
+    ensures { HostsCanCall }
 {}

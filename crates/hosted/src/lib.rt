@@ -8,7 +8,8 @@
 //! most one call there, and one more for each stage to which the process passes on. So what is promised there
 //! is promised of these values ([`hosted_run`], [`hosted_alone`], [`hosted_back`], [`hosted_recovers`],
 //! [`hosted_stays`], [`hosted_last`], [`hosted_keep`], [`hosted_in_order`], [`hosted_without_gap`],
-//! [`hosted_stay_out`], [`hosted_agree`]).
+//! [`hosted_stay_out`], [`hosted_agree`]). [`hosts_can_call`] works out a list of such calls with
+//! messages in them.
 #![tactic(auto)]
 
 mod laws;
@@ -16,5 +17,5 @@ mod laws;
 pub use laws::{
     hosted_agree, hosted_alone, hosted_back, hosted_in_order, hosted_keep, hosted_last,
     hosted_live, hosted_recovers, hosted_recovers_alone, hosted_run, hosted_stay_out, hosted_stays,
-    hosted_without_gap,
+    hosted_without_gap, hosts_can_call,
 };
