@@ -1,20 +1,12 @@
-#!/bin/sh
-# Prints what scenarios of 1,000 and of 10,000 messages for one adder cost the program: handed in
-# alone, driven until nothing is left to do, and carried out by 1 and by 4 workers. A line has the least wall time, the least
-# processor time (user and system) and the greatest peak memory of some runs, of 5 or of as many as
-# the second argument says. The first argument is the program, the one that tools/build makes if there is none.
-set -eu
-here=$(cd "$(dirname "$0")" && pwd)
-sblog=${1:-$here/../../crates/sblog/out/sblog}
-[ -x "$sblog" ] || "$here/../../tools/build"
-sblog=$(cd "$(dirname "$sblog")" && pwd)/$(basename "$sblog")
+# Scenarios of 1,000 and 10,000 messages for one adder: handed in, driven, and carried out by 1 and by 4 workers.
+sblog=${1:-$top/crates/sblog/out/sblog}
+[ -x "$sblog" ] || "$top/tools/build"
+sblog=$(readlink -f "$sblog")
 runs=${2:-5}
-root=$(mktemp -d)
-trap 'rm -r "$root"' EXIT
-cd "$root"
-cp "$here/../../examples/adder.sbi" .
+cd "$work"
+cp "$top/examples/adder.sbi" .
 
-# so many messages, and the lines behind them
+# so many messages, and the lines after them
 scenario() {
     echo "process a adder.sbi"
     seq "$1" | sed 's/^/input a /'
