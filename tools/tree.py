@@ -1,0 +1,53 @@
+"""The crates of this repository and the commands of the kit; the scripts here and .ci/keep import it."""
+import importlib.util
+import subprocess
+import sys
+from pathlib import Path
+
+TOP = Path(__file__).resolve().parents[1]
+NO_KIT = "rt is not on the path: install the Rattle kit that README.md names, and put its folder bin on the path"
+
+
+def families():
+    """The crates of crates.txt, the lowest first: family -> crate -> the names that it stands on."""
+    found = {}
+    for line in (TOP / "crates.txt").read_text().splitlines():
+        if line.startswith("#"):
+            family = found.setdefault(line[1:].strip(), {})
+        elif line.strip():
+            name, _, below = line.partition(":")
+            family[name.split()[0]] = below.split()
+    return {family: crates for family, crates in found.items() if crates}
+
+
+def crates():
+    """Each crate with the names that it stands on, the lowest first."""
+    return {crate: below for crates in families().values() for crate, below in crates.items()}
+
+
+def needed(*named):
+    """The named crates and all of this repository that they stand on, the lowest first, each with the names that it stands on."""
+    found, wanted = {}, set(named)
+    for crate, below in reversed(crates().items()):
+        if crate in wanted:
+            wanted |= set(below)
+            found[crate] = below
+    return dict(reversed(found.items()))
+
+
+def text_of(crates):
+    """A crates.txt of these crates."""
+    return "".join(f"{' '.join([f'{crate}:', *below])}\n" for crate, below in crates.items())
+
+
+def kit():
+    """The folder of the kit."""
+    return Path(subprocess.run(["rt", "doc"], check=True, capture_output=True, text=True).stdout.strip()).parent
+
+
+def commands():
+    """The module of the kit that `rt` does its work with."""
+    spec = importlib.util.spec_from_file_location("rtlib", kit() / "bin/rtlib.py")
+    sys.modules["rtlib"] = found = importlib.util.module_from_spec(spec)
+    spec.loader.exec_module(found)
+    return found
