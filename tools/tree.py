@@ -1,4 +1,5 @@
 """The crates of this repository and the commands of the kit; the scripts here and .ci/keep import it."""
+import functools
 import importlib.util
 import subprocess
 import sys
@@ -40,6 +41,7 @@ def text_of(crates):
     return "".join(f"{' '.join([f'{crate}:', *below])}\n" for crate, below in crates.items())
 
 
+@functools.cache
 def kit():
     """The folder of the kit."""
     return Path(subprocess.run(["rt", "doc"], check=True, capture_output=True, text=True).stdout.strip()).parent
