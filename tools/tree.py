@@ -1,4 +1,4 @@
-"""The crates of this repository and the commands of the kit; the scripts here and .ci/keep import it."""
+"""The crates of this repository and the commands of the kit; the scripts here, .ci/keep and .ci/minutes import it."""
 import functools
 import importlib.util
 import subprocess
@@ -27,7 +27,7 @@ def crates():
 
 
 def needed(*named):
-    """The named crates and all of this repository that they stand on, the lowest first, each with the names that it stands on."""
+    """The named crates and those below them, the lowest first, each with the names that it stands on."""
     found, wanted = {}, set(named)
     for crate, below in reversed(crates().items()):
         if crate in wanted:
