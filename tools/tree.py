@@ -1,6 +1,7 @@
 """The crates of this repository and the commands of the kit; the scripts here, .ci/keep and .ci/minutes import it."""
 import functools
 import importlib.util
+import shutil
 import subprocess
 import sys
 from pathlib import Path
@@ -39,6 +40,21 @@ def needed(*named):
 def text_of(crates):
     """A crates.txt of these crates."""
     return "".join(f"{' '.join([f'{crate}:', *below])}\n" for crate, below in crates.items())
+
+
+def copy_sources(root, crates):
+    """Copies crates to a root of their own, without what was built of them."""
+    (root / "crates.txt").write_text(text_of(crates))
+    for crate in crates:
+        shutil.copytree(TOP / "crates" / crate, root / "crates" / crate, ignore=shutil.ignore_patterns("out"))
+
+
+def copy_proved(root, crates, copy=shutil.copy2):
+    """Copies what was proved of crates to where a root has none of it."""
+    for crate in crates:
+        proved, there = (top / "crates" / crate / "out/rlib" for top in (TOP, root))
+        if proved.is_dir() and not there.is_dir():
+            shutil.copytree(proved, there, copy_function=copy)
 
 
 @functools.cache
