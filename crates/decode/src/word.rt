@@ -52,7 +52,7 @@ pub fn word_at(bytes: &[u8]) -> (Word, &[u8])
     (word, rest)
 }
 
-/// Writes a slot at the end.
+/// Appends a slot.
 pub fn push_word(out: &mut Vec<u8>, word: Word) -> Result<(), AllocError>
     requires dst { word.dst < 16 }
     requires src { word.src < 16 }
