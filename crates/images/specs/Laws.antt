@@ -1,4 +1,4 @@
--- What form 3 takes of what forms 1 and 2 take.
+-- What forms 1 and 2 take, form 3 takes.
 use Rattle.std.specs.Prelude.{◌≡◌, ◌≤◌, ℕ, List, length, None, Some}
 use Rattle.std.specs.List.{AllByRecursion}
 use Rattle.limits.specs.declared.TheConstants.{PAYLOAD_BYTES, REGISTERS}
@@ -24,12 +24,12 @@ use Rattle.images.specs.declared.file_form.FileForm.TheVariants.{Sbi3}
 use Rattle.images.specs.ImageFile.{IsFile, IsTypable}
 use Rattle.images.specs.Reading.{as_form_3, read_frame, read_table}
 
--- what the second of two frames says, the first says too, and so it is of both as frames of form 3
+-- if the first of two frames says what the second says, it does so when both are read as frames of form 3
 abbrev pub IsOrderKept : Type 0
 IsOrderKept = (f g : FlatFrame) → FlatLeq f g → Leq (read_frame f) (read_frame g)
 
--- an instruction that breaks none of V3 to V10 breaks none of form 3's, and on each way there leaves it nothing, or what
--- says no less; the state has `state` bytes
+-- an instruction that breaks none of V3 to V10 breaks none of form 3's, and on each way there no frame leaves, or one
+-- that says no less; the state has `state` bytes
 abbrev pub AreRulesSubsumed : Type 0
 AreRulesSubsumed =
     (form : ImageForm) (state : ℕ) (i : Insn) (f : FlatFrame) → Fits i → length f.kinds ≡ REGISTERS → f.low ≤ PAYLOAD_BYTES
@@ -46,7 +46,7 @@ AreTypingsSubsumed =
     → IsTyped state (slots_of code) (read_table table)
     × ((least : Table) → IsLeastTyping state (slots_of code) least → Below (span_form state (slots_of code)) least (read_table table))
 
--- a file of typable code, of any form, is one of form 3 with a 3 as its fourth byte, and its code is typable there
+-- a file of typable code, of any form, is a file of form 3 with a 3 as its fourth byte, and its code is typable there
 abbrev pub AreFilesSubsumed : Type 0
 AreFilesSubsumed =
     (form : FileForm) (code : List Insn) (state : ℕ) (bytes : List ℕ) → IsFile form code state bytes → IsTypable form code state

@@ -1,4 +1,4 @@
--- What is known in forms 1 and 2, as form 3 says it.
+-- Frames of forms 1 and 2, read as frames of form 3.
 use Rattle.std.specs.Prelude.{ℕ, nat_lt, List, if◌then◌else◌, slice_set}
 use Rattle.std.specs.Option.{option_map}
 use Rattle.limits.specs.declared.TheConstants.{PAYLOAD_BYTES, REGISTERS}
@@ -13,18 +13,18 @@ use Rattle.spans.specs.declared.kind.Kind.TheVariants.{Unset, Num, Place}
 use Rattle.spans.specs.Frame.{Frame, at_place}
 use Rattle.span_calls.specs.Typing.{Table}
 
--- a number is any word, the message's length one up to 256, and a place is that one alone
+-- a number is any word, the message's length is a word up to 256, and a place is only that place
 abbrev pub read_kind : FlatKind → Kind
 read_kind flat.Unset = Unset
 read_kind flat.Num = Num (whole 64)
 read_kind flat.Len = Num (span 0 PAYLOAD_BYTES)
 read_kind (flat.Place r k) = Place r (at_place k)
 
--- a register is what is known of it; forms 1 and 2 store numbers alone, so each of the stack's 64 words is any number
+-- a register has its kind; forms 1 and 2 store only numbers, so each of the stack's 64 words is any number
 abbrev pub read_cell : ℕ → FlatKind → Kind
 read_cell c k = if nat_lt c REGISTERS then read_kind k else if nat_lt c 75 then Num (whole 64) else Unset
 
--- how long the message is at least is no matter in form 3: zeros lie behind it
+-- form 3 doesn't need the message's least length, since zeros come after the message
 abbrev pub read_frame : FlatFrame → Frame
 read_frame f c = read_cell c (kind_at f.kinds c)
 
@@ -32,6 +32,6 @@ read_frame f c = read_cell c (kind_at f.kinds c)
 abbrev pub read_table : FlatTable → Table
 read_table table s = option_map read_frame (frame_at table s)
 
--- an image file of form 3 is one of form 1 or 2 with "SBI3" in place of its first four bytes, of which the fourth differs
+-- the bytes with "SBI3" as their first four; an image file of form 1 or 2 changes only in the fourth
 abbrev pub as_form_3 : List ℕ → List ℕ
 as_form_3 bytes = slice_set bytes 3 0x33

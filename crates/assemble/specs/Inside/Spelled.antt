@@ -11,12 +11,12 @@ pub record IsPositive (ds : List ℕ) : Type 0 where
 abbrev pub IsUnsigned : List ℕ → Type 0
 IsUnsigned ds = (ds ≡ 48 ∷ []) ⊎ IsPositive ds
 
--- the same, or such digits behind a minus
+-- an unsigned number, or a minus and digits of which the first is not 0
 abbrev pub IsNumber : List ℕ → Type 0
 IsNumber [] = ⊥
 IsNumber (c ∷ cs) = ((c ≡ 45) × IsPositive cs) ⊎ IsUnsigned (c ∷ cs)
 
--- the same behind a plus, or such digits behind a minus
+-- a plus and an unsigned number, or a minus and digits of which the first is not 0
 abbrev pub IsSigned : List ℕ → Type 0
 IsSigned [] = ⊥
 IsSigned (c ∷ cs) = ((c ≡ 43) × IsUnsigned cs) ⊎ ((c ≡ 45) × IsPositive cs)
