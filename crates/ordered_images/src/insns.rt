@@ -8,7 +8,7 @@ ghost use Rattle.ordered_images.specs.Order.{IsForward};
 
 use decode::Insn;
 
-/// How many slots from the next one an instruction jumps, 0 where it doesn't.
+/// How many slots from the next one an instruction jumps; 0 if it doesn't.
 pub fn distance_of(insn: &Insn) -> i32
     ensures { result ≡ distance insn.now }
 {
@@ -20,7 +20,7 @@ pub fn distance_of(insn: &Insn) -> i32
     }
 }
 
-/// The instruction with another distance, if it jumps; `None` where that has no room in it.
+/// The instruction with another distance, if it jumps; `None` if the distance doesn't fit its field.
 pub fn with_distance(insn: &Insn, distance: i32) -> Option<Insn>
     ensures { IfSome result (λ i. i ≡ with_distance insn.now distance) }
 {
