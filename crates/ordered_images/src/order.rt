@@ -78,7 +78,7 @@ fn moved(
     }
 }
 
-/// A way from slot 0, and a part of it once more.
+/// A way from slot 0, followed by a part of it again.
 fn twice(alloc: Global, way: &[usize], from: usize, to: usize) -> Result<Vec<usize>, AllocError>
     requires from { from ≤ to }
     requires to { to ≤ length way.now }

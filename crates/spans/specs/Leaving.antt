@@ -70,7 +70,7 @@ set_kind Unset = None
 set_kind (Num s) = Some (Num s)
 set_kind (Place r s) = Some (Place r s)
 
--- places of which each has a distance from its region's first byte that fits 16 bits and a sign
+-- places with distances from their region's first byte that fit 16 bits and a sign
 abbrev pub near_place : Region → Reach → Option Kind
 near_place r s = if int_le (negsuc 32767) s.lo && int_le s.hi (pos 32767) then Some (Place r s) else None
 

@@ -2,7 +2,7 @@
 use Rattle.std.specs.Prelude.{◌≡◌, ◌≢◌, ◌⊎◌, ℕ, List, [], ◌∷◌, slice_index}
 use Rattle.std.specs.Str.Parse.{IsNumeral}
 
--- digits of which the first is not 0
+-- digits, the first of them not 0
 pub record IsPositive (ds : List ℕ) : Type 0 where
   pub digits : IsNumeral 10 ds
   pub first : slice_index ds 0 ≢ 48
