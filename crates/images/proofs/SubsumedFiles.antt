@@ -1,4 +1,4 @@
--- A file of forms 1 and 2 is one of form 3 but for its fourth byte.
+-- A file of forms 1 and 2 is one of form 3, except for its fourth byte.
 use Rattle.std.proofs.Common.{◌≡◌, ℕ, List, ◌++◌, refl, ap, ◌∙◌}
 use Rattle.std.specs.Int.{w16, to_le_bytes}
 use Rattle.decode.specs.declared.insn.Insn.{Insn}
