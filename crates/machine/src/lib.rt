@@ -15,7 +15,7 @@
 //! | File | Methods of a machine |
 //! |---|---|
 //! | `machine` | `open`, and what reads it |
-//!  `stepping` | `cause` and `step` of any call, by the method of its name |
+//! | `stepping` | `cause` and `step` of any call, by the method of its name |
 //! | `sending` | `input`, `transmit`, `copy`, `lose` |
 //! | `arriving` | `arrive` |
 //! | `jobs` | `run`, `finish`, `is_open`, `receiver_of` |
