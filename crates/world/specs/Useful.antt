@@ -48,8 +48,8 @@ wants w p (suc d) i =
     && ((not (works_on (w.phase (suc d)) p i) && (i == suc (count_of p (w.history (suc d)))))
     || is_unacknowledged (w.acknowledged (suc d)) (rsn_of (w.history (suc d)) p i))
 
--- whether a call is of use now: a packet arrives whose receiver has no open job, a message is replayed, a peer restores numbers, or
--- a released message that its receiver wants goes on the wire while no packet of that message is there
+-- whether a call is of use now: a packet arrives that isn't a message for a process with an open job, a message is replayed, a peer
+-- restores numbers, or a released message that its receiver wants goes on the wire while no packet of that message is there
 abbrev pub is_useful : World → Call → Bool
 is_useful w (Arrive key) = not (is_none (w.wire key)) && not (is_to_busy w (w.wire key))
 is_useful w (ReplayBegin p) = is_replaying (w.phase p) && not (is_working (w.phase p))
