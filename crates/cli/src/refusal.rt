@@ -1,4 +1,4 @@
-//! Why a command line asks for nothing.
+//! Why a command line makes no request.
 
 ghost use Rattle.std.specs.Prelude.{◌≡◌, ◌≢◌, IfOk, [], string_bytes};
 ghost use Rattle.cli.specs.Asks.{own_input_text};
@@ -8,17 +8,17 @@ use clap::error::ErrorKind;
 use std::alloc::{AllocError, Global};
 use thiserror::Error;
 
-/// A command line that asks for nothing, or for help.
+/// A command line that is faulty, or asks for help.
 #[derive(Debug, Drop, Error)]
 #[error("{text}")]
 pub struct Usage {
     pub kind: ErrorKind,
-    /// What to show: one or more ended lines.
+    /// The text to show: one or more ended lines.
     pub text: String,
 }
 
 impl Usage {
-    /// That of words which are not UTF-8.
+    /// The refusal of words that are not UTF-8.
     pub fn not_utf8(alloc: Global) -> Result<Usage, AllocError>
         ensures { IfOk result (λ u. string_bytes u.text ≢ []) }
     {
@@ -29,7 +29,7 @@ impl Usage {
         })
     }
 
-    /// That of an order whose OUT is a file that it reads.
+    /// The refusal of an order whose OUT is a file that it reads.
     pub fn own_input(alloc: Global) -> Result<Usage, AllocError>
         ensures { IfOk result (λ u. string_bytes u.text ≡ own_input_text) }
     {
