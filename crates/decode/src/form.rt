@@ -9,14 +9,14 @@ use crate::insn::{
 };
 use crate::word::Word;
 
-#[derive(Clone, Copy, Debug, PartialEq, Eq)]
+#[derive(Clone, Copy)]
 pub enum Source {
     Imm,
     Register,
 }
 
 /// What an opcode tells of an instruction.
-#[derive(Clone, Copy, Debug, PartialEq, Eq)]
+#[derive(Clone, Copy)]
 pub enum Form {
     Alu(AluOp, Width, Source),
     Neg(Width),

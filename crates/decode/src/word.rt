@@ -10,7 +10,7 @@ use std::alloc::AllocError;
 pub const SLOT: usize = 8;
 
 /// The fields of a slot, as numbers without a sign (RFC 9669 section 3.1).
-#[derive(Clone, Copy, Debug, PartialEq, Eq)]
+#[derive(Clone, Copy, PartialEq, Eq)]
 pub struct Word {
     /// What the instruction does.
     pub opcode: u8,
