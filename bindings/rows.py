@@ -3,7 +3,7 @@
 with bytes in hexadecimal after an x.
 
 Those of sessions and gateways are the tables of tests/embed_session and tests/embed_gateway, whose values a model worked out. Those
-of nodes are what the model in model/calls answers to a list of calls. Left out is what bindings leave no way to ask for: a buffer
+of nodes are what the model in tests/model/calls answers to a list of calls. Left out is what bindings leave no way to ask for: a buffer
 that is too short, lengths that don't fit their files, and a handle that is opened or closed twice.
 """
 import re
@@ -12,7 +12,7 @@ from pathlib import Path
 
 sys.dont_write_bytecode = True
 TOP = Path(__file__).resolve().parent.parent
-sys.path[:0] = [str(TOP / "model/calls"), str(TOP / "model")]
+sys.path[:0] = [str(TOP / "tests/model/calls"), str(TOP / "tests/model")]
 import gateway as model_gateway  # noqa: E402
 import handlers  # noqa: E402
 import node as model_node  # noqa: E402

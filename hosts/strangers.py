@@ -161,7 +161,7 @@ def joining(folder):
     """A new cluster begins whichever program dies at whichever call on its store, and over a way that loses, doubles and delays."""
     os.makedirs(folder)
     preload = os.path.join(folder, "die.so")
-    subprocess.run(["cc", "-O2", "-shared", "-fPIC", "-o", preload, os.path.join(HERE, "campaign", "die.c"), "-ldl"], check=True)
+    subprocess.run(["cc", "-O2", "-shared", "-fPIC", "-o", preload, os.path.join(HERE, "..", "tests", "campaign", "die.c"), "-ldl"], check=True)
     for name in ("gateway", "relay"):
         call = 1
         while joins(os.path.join(folder, f"{name}{call}"), name, {"LD_PRELOAD": preload, "DIE_AT": str(call)}):

@@ -1,6 +1,6 @@
 """Random images of form 3.
 
-Each instruction is made under what is known where it stands, by the rules as `model/listings.py` has them, and left out
+Each instruction is made under what is known where it stands, by the rules as `tests/model/listings.py` has them, and left out
 where they refuse it: so places are moved by numbers that were masked or compared, kept in words of the stack and taken
 from there, and accesses reach to the last byte of their region. Some instructions are left unjudged, and most of those
 images are refused.
@@ -9,7 +9,7 @@ import os
 import struct
 import sys
 
-sys.path.append(os.path.join(os.path.dirname(os.path.realpath(__file__)), "../../../model"))
+sys.path.append(os.path.join(os.path.dirname(os.path.realpath(__file__)), "../../../tests/model"))
 
 import handlers  # noqa: E402
 import listings  # noqa: E402

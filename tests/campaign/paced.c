@@ -1,0 +1,93 @@
+/* Whether all messages come to a peer, whatever is lost and however many are put out at once: a model of the library and of a peer that
+   takes them in order, around the pace. paced */
+#include "../../hosts/limits.h"
+#include "../../hosts/pace.h"
+
+#include <stdio.h>
+#include <stdlib.h>
+#include <string.h>
+
+enum { MESSAGES = 6000, TICKS = 3000, SIZE = 36, DELIVERY = 1, NUMBER = 2, PEER = 1, KIND = 4, FROM = 6, SSN = 16, WORD = 8 };
+
+static struct {
+    struct pace pace;
+    uint64_t put_out, numbered, got, now; /* messages; the last ones that have a number, and that the peer has */
+    int loss;                             /* of a hundred packets */
+    bool has_news;                        /* the peer answered */
+} model;
+
+uint64_t clock_now(void) { return model.now; }
+
+static bool is_lost(void) { return rand() % 100 < model.loss; }
+
+static const uint8_t *packet_of(int kind, uint64_t ssn) {
+    static uint8_t packet[SIZE];
+    memset(packet, 0, sizeof packet);
+    packet[KIND] = (uint8_t)kind;
+    packet[FROM] = PEER;
+    for (int i = 0; i < WORD; i++) packet[SSN + i] = (uint8_t)(ssn >> 8 * i);
+    return packet;
+}
+
+/* The peer takes the next one, and says again what it has. */
+void transport_send(struct transport *transport, int to, const uint8_t *packet, size_t size) {
+    uint64_t ssn = 0;
+    (void)transport, (void)to, (void)size;
+    for (int i = WORD - 1; i >= 0; i--) ssn = ssn << 8 | packet[SSN + i];
+    if (is_lost() || ssn > model.got + 1) return;
+    if (ssn == model.got + 1) model.got++;
+    model.has_news |= !is_lost();
+}
+
+/* What the peer has is heard, until nothing more comes of that. */
+static void hear(void) {
+    while (model.has_news && model.numbered < model.got) {
+        model.has_news = false;
+        model.numbered = model.got;
+        pace_hear(&model.pace, packet_of(NUMBER, model.numbered), SIZE, ++model.now);
+    }
+    model.has_news = false;
+}
+
+static void put_out(uint64_t count) {
+    for (; count > 0 && model.put_out < MESSAGES; count--)
+        pace_send(&model.pace, PEER, packet_of(DELIVERY, ++model.put_out), SIZE, model.now);
+}
+
+static void tick(void) {
+    int place = 0;
+    model.now += 1000000;
+    pace_tick_begins(&model.pace, model.now);
+    for (uint64_t ssn = model.numbered + 1; ssn <= model.put_out && place < TICK; ssn++)
+        pace_tick_sends(&model.pace, PEER, packet_of(DELIVERY, ssn), SIZE, place++, model.now);
+}
+
+static int run(int count, int loss, uint64_t burst) {
+    static struct transport transport;
+    static struct cluster cluster;
+    cluster.count = count;
+    transport.cluster = &cluster;
+    memset(&model, 0, sizeof model);
+    model.loss = loss;
+    pace_begin(&model.pace, &transport, 5000);
+    for (int ticks = 0; ticks < TICKS; ticks++) {
+        put_out(burst);
+        hear();
+        if (model.numbered == MESSAGES) return 0;
+        tick();
+        hear();
+    }
+    fprintf(stderr, "%d processes, %d of 100 lost, %lu at once: stopped at %lu\n", count, loss, (unsigned long)burst,
+            (unsigned long)model.numbered);
+    return 1;
+}
+
+int main(void) {
+    static const uint64_t bursts[] = {10, 96, 97, 300, 2049, 3000, MESSAGES};
+    int wrong = 0;
+    srand(1);
+    for (int count = 1; count <= PROCESS_LIMIT; count += 1 + count / 2)
+        for (int loss = 0; loss <= 20; loss += 10)
+            for (size_t i = 0; i < sizeof bursts / sizeof *bursts; i++) wrong += run(count, loss, bursts[i]);
+    return wrong > 0;
+}
