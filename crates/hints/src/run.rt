@@ -1,19 +1,15 @@
 //! What is said of a run: why orders were refused, and what is left to do.
 
-ghost use Rattle.hints.specs.Told.{AreKept, IsAdded};
+ghost use Rattle.hints.specs.Told.{IsAdded};
 
-use crate::rest::{Rest, rest_of};
-use crate::why::{Act, Why, named_in, why_of};
+use crate::rest::Rest;
+use crate::why::{Act, Told, Why, named_in};
 use indexmap::IndexMap;
 use scenario::{Order, Process, Scenario, Step};
-use sessions::Service;
 use std::alloc::{AllocError, Global};
 use std::fmt;
 use trace::name_at;
 use world::{Call, PhaseName, Refusal};
-
-/// Of how many refused orders it is said why.
-const TOLD: usize = 16;
 
 const FULL: &str = "the journal is full: do messages go round and round? drive fewer calls";
 
@@ -31,30 +27,6 @@ const BACK: &str = "$a is on its way back: one more drive N brings it up";
 const WIRE: &str = "work is left, as a packet on the wire: one more drive N carries it on";
 
 const SENDS: &str = "work is left, as message $n of $a to $b: one more drive N carries it on";
-
-/// A refused order, with its line, its number and the cause.
-#[derive(Clone, Copy, PartialEq, Eq)]
-pub struct Told {
-    pub line: usize,
-    pub order: Order,
-    pub refusal: Refusal,
-    pub why: Why,
-}
-
-/// Keeps why a session refused the order of a step, of the first ones, if there is memory.
-pub fn keep_told(told: &mut Vec<Told>, session: &Service, step: &Step, refusal: Refusal)
-    ensures { AreKept session.now told.old.items told.new.items }
-{
-    if told.len() >= TOLD {
-        return;
-    }
-    let _kept = told.push(Told {
-        line: step.line,
-        order: step.order,
-        refusal,
-        why: why_of(session, &step.order, refusal),
-    });
-}
 
 /// A sentence with marks: for the names of two processes `$a` and `$b`, for numbers `$n` and `$m`.
 #[derive(Clone, Copy)]
@@ -235,13 +207,12 @@ fn push_run(
     alloc: Global,
     lines: &mut String,
     scenario: &Scenario,
-    session: &Service,
     told: &[Told],
+    rest: Rest,
     is_alone: bool,
 ) -> Result<(), AllocError> {
     push_told(alloc, lines, &scenario.processes, told)?;
     push_steps(alloc, lines, scenario.steps.as_slice())?;
-    let rest = rest_of(session);
     if is_alone && lines.is_empty() && rest != Rest::Nothing {
         push_left(alloc, lines, &scenario.processes, rest)?;
     }
@@ -249,26 +220,11 @@ fn push_run(
 }
 
 /// Adds what is said of a run to a note, if there is memory; to one with other lines nothing of work that is left.
-pub fn note_run(
-    alloc: Global,
-    note: &mut String,
-    scenario: &Scenario,
-    session: &Service,
-    told: &Vec<Told>,
-)
+pub fn note_run(alloc: Global, note: &mut String, scenario: &Scenario, told: &[Told], rest: Rest)
     ensures { IsAdded note.old note.new }
 {
     let (mut lines, is_alone) = (String::new(alloc), note.is_empty());
-    if push_run(
-        alloc,
-        &mut lines,
-        scenario,
-        session,
-        told.as_slice(),
-        is_alone,
-    )
-    .is_ok()
-    {
+    if push_run(alloc, &mut lines, scenario, told, rest, is_alone).is_ok() {
         let _noted = note.push_str(lines.as_str());
     }
 }

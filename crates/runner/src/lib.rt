@@ -17,14 +17,18 @@ mod held;
 mod opening;
 mod player;
 mod refused;
+mod rest;
 mod results;
 mod running;
 mod telling;
+mod why;
 mod word;
 
 pub use chronicle::{Chronicle, Moment, chronicle_of};
 pub use refused::note_refused;
+pub use rest::rest_of;
 pub use results::push_results;
 pub use running::run;
 pub use telling::tell;
+pub use why::{keep_told, why_of};
 pub use word::payload_of;

@@ -10,9 +10,11 @@ ghost use Rattle.runner.specs.Run.{IsCut, IsRun, refused_text};
 
 use crate::player::Player;
 use crate::refused::note_refused;
+use crate::rest::rest_of;
 use crate::results::push_results;
+use crate::why::keep_told;
 use handlers::Handler;
-use hints::{Told, keep_told, note_run};
+use hints::{Told, note_run};
 use itoa::Buffer;
 use scenario::{Scenario, Step};
 use std::alloc::{AllocError, Global};
@@ -151,6 +153,7 @@ pub fn run(
     // The journal is told to be legal.
     let _journal = player.session.journal();
     note_refused(alloc, note, &scenario.processes, &player.session);
-    note_run(alloc, note, scenario, &player.session, &told);
+    let rest = rest_of(&player.session);
+    note_run(alloc, note, scenario, told.as_slice(), rest);
     push_results(alloc, out, &scenario.processes, &player.session)
 }

@@ -1,5 +1,5 @@
 -- What a cause says of the session that refused an order.
-use Rattle.std.specs.Prelude.{◌≡◌, ◌≢◌, ◌⊎◌, ℕ, None, Some, slice_get}
+use Rattle.std.specs.Prelude.{◌≡◌, ◌≢◌, ◌⊎◌, ℕ, List, [], ◌∷◌, ◌++◌, None, Some, slice_get}
 use Rattle.world.specs.declared.call.Call.{Call}
 use Rattle.world.specs.declared.call.Call.TheVariants as call
 use Rattle.world.specs.declared.entry.Entry.{Entry}
@@ -8,6 +8,7 @@ use Rattle.sessions.specs.Journal.{TheSession, world_at}
 use Rattle.sessions.specs.Logged.{logged}
 use Rattle.hints.specs.declared.why.Act.{Act}
 use Rattle.hints.specs.declared.why.Act.TheVariants.{Takes, Ends}
+use Rattle.hints.specs.declared.why.Told.{Told}
 use Rattle.hints.specs.declared.why.Why.{Why}
 use Rattle.hints.specs.declared.why.Why.TheVariants.{Phase, Logged, Unlogged, Done, Number}
 
@@ -27,3 +28,7 @@ Holds s (Logged from to ssn) = logged (world_at s) from to ssn ≢ None
 Holds s (Unlogged from to ssn) = logged (world_at s) from to ssn ≡ None
 Holds s (Done act entry) = IsAt s act entry
 Holds s Number = Unit {0}
+
+-- one more is kept, whose cause holds in the session; or none
+abbrev pub AreKept : TheSession → List Told → List Told → Type 0
+AreKept s old new = (new ≡ old) ⊎ ((one : Told) × (new ≡ old ++ one ∷ []) × Holds s one.why)
