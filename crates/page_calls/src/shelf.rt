@@ -2,8 +2,8 @@
 
 ghost use Rattle.std.specs.Prelude.{◌≡◌, IfErr, IfOk, map, option_map, string_bytes};
 ghost use Rattle.std.specs.Str.{bytes_eq};
-ghost use Rattle.tracer.specs.Files.{up_to};
-ghost use Rattle.tracer.specs.declared.files.Failure.TheVariants.{Memory};
+ghost use Rattle.image_commands.specs.Files.{up_to};
+ghost use Rattle.image_commands.specs.declared.files.Failure.TheVariants.{Memory};
 ghost use Rattle.page_calls.specs.Shelf.{content_of, content_with};
 
 use std::alloc::Global;

@@ -1,7 +1,7 @@
 //! The files of the system.
 
 ghost use Rattle.std.specs.Prelude.{◌≡◌, IfErr};
-ghost use Rattle.tracer.specs.declared.files.Failure.TheVariants.{Memory};
+ghost use Rattle.image_commands.specs.declared.files.Failure.TheVariants.{Memory};
 
 use crate::place::Place;
 use crate::streams::note;

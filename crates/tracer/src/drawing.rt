@@ -6,12 +6,8 @@ ghost use Rattle.tracer.specs.Draw.{IsDrawn};
 ghost use Rattle.tracer.specs.Inside.{IsWriteFault};
 ghost use Rattle.tracer.specs.Program.{IsAnswer, Leaves, SparesImages};
 
-use crate::fault::Fault;
-use crate::files::Files;
-use crate::loading::{Loaded, load_scenario};
-use crate::own_input::{spare, spare_images};
-use crate::site::Site;
 use diagram::{Run, draw};
+use image_commands::{Fault, Files, Loaded, Site, load_scenario, spare, spare_images};
 use runner::{Moment, chronicle_of};
 use scenario::Allowed;
 use std::alloc::{AllocError, Global};

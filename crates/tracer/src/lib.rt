@@ -18,32 +18,10 @@
 //! ```
 #![tactic(auto)]
 
-mod asm;
-mod check;
-mod dis;
 mod drawing;
-mod ending;
-mod explaining;
-mod fault;
-mod files;
-mod hint_word;
-mod judged;
-mod kind;
 mod living;
-mod loading;
-mod look;
-mod machine_code;
-mod own_input;
-mod pack;
 mod program;
-mod said;
-mod site;
-mod stream;
 mod telling;
 
-pub use check::Accepted;
-pub use cli::Usage;
-pub use fault::Fault;
-pub use files::{Failure, Files, Reason};
+pub use image_commands::{Accepted, Failure, Fault, Files, Reason, Stream, Usage, Written};
 pub use program::{sblog, sblog_alone};
-pub use stream::{Stream, Written};

@@ -4,10 +4,7 @@ ghost use Rattle.std.specs.Prelude.{◌≡◌, ◌≤◌, [], IfErr, OnErr, OnOk
 ghost use Rattle.cli.specs.Asks.{Live};
 ghost use Rattle.tracer.specs.Program.{IsAnswer, IsFault};
 
-use crate::fault::Fault;
-use crate::files::Files;
-use crate::loading::{Loaded, load_scenario};
-use crate::site::Site;
+use image_commands::{Fault, Files, Loaded, Site, load_scenario};
 use limits::WORKERS;
 use live::live;
 use scenario::Allowed;

@@ -1,33 +1,21 @@
 //! The program as a function of its words, its files and two streams.
 
 ghost use Rattle.std.specs.Prelude.{◌≡◌, ◌≢◌, ◌≤◌, ◌⊎◌, ◌||◌, true, [], IfErr, OnErr, OnOk, map, string_bytes};
-ghost use Rattle.cli.specs.Asks.{Asm, IsInRange, Run, order_of};
-ghost use Rattle.tracer.specs.Hints.{AreHints, has_hints};
+ghost use Rattle.cli.specs.Asks.{IsInRange, Run, order_of};
+ghost use Rattle.image_commands.specs.Hints.{AreHints, has_hints};
 ghost use Rattle.tracer.specs.Inside.{EndsShort, IsWriteFault};
 ghost use Rattle.tracer.specs.Program.{IsAnswer, IsAnswered, IsCause, IsDone, IsFault, IsHalfPrinted, IsShort, IsTold, Leaves};
-ghost use Rattle.tracer.specs.declared.fault.Fault.TheVariants.{Memory};
+ghost use Rattle.image_commands.specs.declared.fault.Fault.TheVariants.{Memory};
 
-use crate::asm::{SOURCE_LIMIT, asm_at};
-use crate::check::check;
-use crate::dis::dis;
 use crate::drawing::draw_scenario;
-use crate::ending::print_or_tell;
-use crate::explaining::explain_image;
-use crate::fault::Fault;
-use crate::files::Files;
-use crate::hint_word::hints_in;
 use crate::living::live_scenario;
-use crate::loading::{Loaded, load_scenario};
-use crate::machine_code::write_machine_code;
-use crate::own_input::spare;
-use crate::pack::write_packed;
-use crate::site::Site;
-use crate::stream::Stream;
 use crate::telling::tell_scenario;
 use cli::{Request, parse_words};
 use hints::command_words;
-use images::FileForm;
-use limits::STATE_BYTES;
+use image_commands::{
+    Fault, Files, Loaded, Site, Stream, check_image, disassemble_image, explain_image, hints_in,
+    load_scenario, print_or_tell, write_image, write_machine_code, write_packed,
+};
 use rule_pages::page_of;
 use runner::run;
 use scenario::Allowed;
@@ -54,30 +42,6 @@ fn run_scenario<F: Files>(
 {
     let Loaded { scenario, images } = load_scenario(alloc, path, Allowed::All, files, site)?;
     run(alloc, &scenario, images, text, &mut site.note)?;
-    Ok(())
-}
-
-/// Writes the image file of this form of the source file, with a state of this length.
-fn write_image<F: Files>(
-    alloc: Global,
-    source: &str,
-    image: &str,
-    state: u16,
-    form: FileForm,
-    files: &mut F,
-    site: &mut Site,
-) -> Result<(), Fault>
-    requires { state ≤ STATE_BYTES }
-    ensures report { OnOk result (IsAnswer (F.content files.old) (Asm source.now image.now state form) []) }
-    ensures left { OnOk result (Leaves (Asm source.now image.now state form)
-        (F.content files.old) (F.content files.new)) }
-    ensures fault { IfErr result (IsWriteFault F.may_be_one (F.content files.old) (F.failed files.new) (Asm source.now image.now state form)) }
-    ensures kept { OnErr result (F.content files.new ≡ F.content files.old) }
-{
-    spare(alloc, source, image, files)?;
-    let text = site.read(alloc, source, Some(SOURCE_LIMIT), files)?;
-    let bytes = asm_at(alloc, text.as_slice(), state, form, site)?;
-    site.write(image, bytes.as_slice(), files)?;
     Ok(())
 }
 
@@ -118,7 +82,7 @@ fn answer_alone<F: Files>(
             only_messages,
         } => draw_scenario(alloc, scenario, picture, only_messages, files, site),
         Request::Check { image } => {
-            let accepted = check(alloc, image, files, site)?;
+            let accepted = check_image(alloc, image, files, site)?;
             *text = accepted.to_string(alloc)?;
             Ok(())
         }
@@ -143,7 +107,7 @@ fn answer_alone<F: Files>(
             form,
         } => write_packed(alloc, code, image, state, form, files, site),
         Request::Dis { image } => {
-            *text = dis(alloc, image, files, site)?;
+            *text = disassemble_image(alloc, image, files, site)?;
             Ok(())
         }
         Request::Native { image, code } => write_machine_code(alloc, image, code, files, site),

@@ -4,10 +4,7 @@ ghost use Rattle.std.specs.Prelude.{◌≡◌, IfErr, IfOk, string_bytes};
 ghost use Rattle.cli.specs.Asks.{Tell};
 ghost use Rattle.tracer.specs.Program.{IsAnswer, IsFault};
 
-use crate::fault::Fault;
-use crate::files::Files;
-use crate::loading::{Loaded, load_scenario};
-use crate::site::Site;
+use image_commands::{Fault, Files, Loaded, Site, load_scenario};
 use runner::tell;
 use scenario::Allowed;
 use std::alloc::Global;
