@@ -1,12 +1,7 @@
 //! The program `sblog`: the library's function over the real files, streams and arguments.
 #![tactic(auto)]
 
-mod place;
-mod streams;
-mod system;
-
-use crate::streams::{Faults, Reports};
-use crate::system::SystemFiles;
+use image_commands::{Faults, Reports, SystemFiles};
 use std::alloc::Global;
 use std::cell::Cell;
 use std::process::ExitCode;

@@ -3,8 +3,9 @@
 ghost use Rattle.std.specs.Prelude.{◌≡◌, IfErr};
 ghost use Rattle.image_commands.specs.declared.files.Failure.TheVariants.{Memory};
 
+use crate::files::{Failure, Files};
 use crate::place::Place;
-use crate::streams::note;
+use crate::standard_streams::note;
 use std::alloc::Global;
 use std::cell::Cell;
 use std::fs::{OpenFile, OpenOptions, Permissions};
@@ -12,7 +13,6 @@ use std::io::{Read, Write};
 use std::os::unix::fs::MetadataExt;
 use std::path::Path;
 use std::{fs, io, rt};
-use tracer::{Failure, Files};
 
 /// The files of the system. A plain file is written beside its place first, and then takes that place
 /// at once.
