@@ -11,7 +11,7 @@ pub enum Rest {
     Held { process: u8 },
     /// The call can be made.
     Next { call: Call },
-    /// The call could be made, if the journal weren't full.
+    /// The call could be made if the journal weren't full.
     Full { call: Call },
     Nothing,
 }

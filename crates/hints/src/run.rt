@@ -1,4 +1,4 @@
-//! What is said of a run: why orders were refused, and what is left to do.
+//! Hints on a run: why orders were refused, and what is left to do.
 
 ghost use Rattle.hints.specs.Told.{IsAdded};
 
@@ -28,7 +28,7 @@ const WIRE: &str = "work is left, as a packet on the wire: one more drive N carr
 
 const SENDS: &str = "work is left, as message $n of $a to $b: one more drive N carries it on";
 
-/// A sentence with marks: for the names of two processes `$a` and `$b`, for numbers `$n` and `$m`.
+/// A sentence with marks: `$a` and `$b` for the names of two processes, `$n` and `$m` for numbers.
 #[derive(Clone, Copy)]
 struct Sentence<'a> {
     words: &'static str,
@@ -58,7 +58,7 @@ impl fmt::Display for Sentence<'_> {
     }
 }
 
-/// Of an order of process `$a`, or of one that asks for `$b`, which is in a phase that doesn't allow it.
+/// Of an order of process `$a`, or one that needs process `$b`, that the process's phase doesn't allow.
 fn phase_words(told: &Told, phase: PhaseName) -> &'static str {
     match (told.refusal, phase) {
         (Refusal::NotUp, PhaseName::Down) if matches!(&told.order, Order::Crash { .. }) => {
@@ -85,7 +85,7 @@ fn message_words(told: &Told, ssn: u32) -> &'static str {
     }
 }
 
-/// Of an order of which nothing more is found.
+/// Of an order of which only the refusal is known.
 fn number_words(refusal: Refusal) -> &'static str {
     match refusal {
         Refusal::Busy => "its process works on a message: finish above this line ends that",
@@ -99,7 +99,7 @@ fn number_words(refusal: Refusal) -> &'static str {
     }
 }
 
-/// Of an order that comes after a call of entry `$m` of the trace.
+/// Of an order that entry `$m` of the trace forestalled.
 fn done_words(act: Act) -> &'static str {
     match act {
         Act::Takes(_) => "key $n has no packet any more: entry $m of the trace took it",
@@ -144,7 +144,7 @@ fn name_of(processes: &IndexMap<String, Process>, process: u8) -> &str {
     name_at(processes, process)
 }
 
-/// What is said of a line of a scenario that does less than it seems to.
+/// Of a line that does less than it seems to.
 fn step_words(step: &Step) -> &'static str {
     match &step.order {
         Order::Drive { budget: 0 } => "drive 0 makes no call: drive N makes at most N",
@@ -202,7 +202,7 @@ fn push_left(
     note.push_str(line.as_str())
 }
 
-/// Adds what is said of a run: of work that is left only if nothing else is.
+/// Adds the hints on a run: on work that is left only if there is no other hint.
 fn push_run(
     alloc: Global,
     lines: &mut String,
@@ -219,7 +219,7 @@ fn push_run(
     Ok(())
 }
 
-/// Adds what is said of a run to a note, if there is memory; to one with other lines nothing of work that is left.
+/// Adds the hints on a run to a note, if there is memory. A note that has other lines gets none on work that is left.
 pub fn note_run(alloc: Global, note: &mut String, scenario: &Scenario, told: &[Told], rest: Rest)
     ensures { IsAdded note.old note.new }
 {

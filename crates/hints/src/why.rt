@@ -12,22 +12,22 @@ pub enum Act {
     Ends(u8),
 }
 
-/// Why an order was refused, besides the number of the refusal.
+/// Why an order was refused, in more detail than the refusal's number.
 #[derive(Clone, Copy, PartialEq, Eq, Debug)]
 pub enum Why {
-    /// The process, of the order or another one that it asks for, is in this phase.
+    /// The process of the order, or one that it needs, is in this phase.
     Phase { process: u8, phase: PhaseName },
     /// The log of the sender has the message.
     Logged { from: u8, to: u8, ssn: u32 },
-    /// It doesn't.
+    /// The log of the sender doesn't have the message.
     Unlogged { from: u8, to: u8, ssn: u32 },
     /// The call of this entry, counted from 0, did this.
     Done { act: Act, entry: usize },
-    /// Nothing is found, or the number says it.
+    /// Nothing more is found.
     Number,
 }
 
-/// A refused order, with its line, its number and the cause.
+/// A refused order, with its line, the refusal and the cause.
 #[derive(Clone, Copy, PartialEq, Eq)]
 pub struct Told {
     pub line: usize,
@@ -36,7 +36,7 @@ pub struct Told {
     pub why: Why,
 }
 
-/// The process that an order is about, 0 if there is none, and the key of its packet.
+/// The process of an order, or 0, and the key of its packet, or 0.
 pub fn named_in(order: &Order) -> (u8, u32) {
     match *order {
         Order::Transmit { from, .. } => (from, 0),

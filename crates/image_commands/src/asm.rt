@@ -20,13 +20,12 @@ use limits::STATE_BYTES;
 use std::alloc::{AllocError, Global};
 use verifier::HeaderFault;
 
-/// The bytes that decide what a source comes to: as many as a text has at most, and one more.
+/// How many bytes of a source are read: as many as a text has at most, and one more.
 pub const SOURCE_LIMIT: usize = TEXT_LIMIT + 1;
 
-/// The image file of this form of a source, of which these are the bytes that decide, with a state of this
-/// length, at most 1,024 bytes. Its code is not verified. A source that is not UTF-8 can't be read as a text:
-/// `Fault::InputOutput`. One with more bytes than a text has comes to the first fault of the lines that end
-/// within these, or else to `HeaderFault::SlotCount`.
+/// The image file of this form of a source, of which these are the first bytes, with a state of at most 1,024 bytes. It does not
+/// verify the code. A source that is not UTF-8 is `Fault::InputOutput`. One that is longer than a text may be comes to the first
+/// fault of the lines that end within the limit, or else to `HeaderFault::SlotCount`.
 pub fn asm(alloc: Global, source: &[u8], state: u16, form: FileForm) -> Result<Vec<u8>, Fault>
     requires { state ≤ STATE_BYTES }
     ensures written { IfOk result (λ v. (whole : List ℕ) → source.now ≡ take SOURCE_LIMIT whole
@@ -45,7 +44,7 @@ pub fn asm(alloc: Global, source: &[u8], state: u16, form: FileForm) -> Result<V
     Ok(bytes)
 }
 
-/// The same of the file at a site, which keeps what is wrong with the line that is refused.
+/// As [`asm`]; the site keeps what is wrong with the refused line.
 pub fn asm_at(
     alloc: Global,
     source: &[u8],
@@ -71,7 +70,8 @@ pub fn asm_at(
     }
 }
 
-/// What is wrong with the line of a source that is refused, or that is no text, as a line of text; of any other fault nothing.
+/// What is wrong with the refused line of a source, or with the line that is no text, as a line of text; empty for any other
+/// fault.
 fn said(alloc: Global, source: &[u8], fault: &Fault, kind: Kind) -> Result<String, AllocError> {
     if matches!(fault, Fault::InputOutput) {
         return broken_line(alloc, judged(source), kind);
@@ -86,7 +86,7 @@ fn said(alloc: Global, source: &[u8], fault: &Fault, kind: Kind) -> Result<Strin
     assembler_words(alloc, text, line)
 }
 
-/// Writes the image file of this form of the source file, with a state of this length.
+/// Writes the image file of this form of a source file, with a state of this length.
 pub fn write_image<F: Files>(
     alloc: Global,
     source: &str,

@@ -11,10 +11,10 @@ use limits::SLOTS;
 use std::alloc::Global;
 use std::fmt;
 
-/// The bytes that decide whether a file is an image: as many as the largest one has, and one more.
+/// How many bytes of an image file are read: as many as the largest one has, and one more.
 pub const IMAGE_LIMIT: usize = 8 + 8 * SLOTS + 1;
 
-/// The answer of `check`. It prints as its line, with the line's end.
+/// The answer of `check`. It prints as its line.
 #[derive(Clone, Copy, Debug, PartialEq, Eq)]
 pub struct Accepted {
     /// How many instructions the image has; a wide one counts once.
@@ -30,7 +30,7 @@ impl fmt::Display for Accepted {
     }
 }
 
-/// Verifies the image of any form of a file.
+/// Verifies the image in a file, of any form.
 pub fn check_image<F: Files>(
     alloc: Global,
     path: &str,

@@ -12,7 +12,7 @@ use assemble::disassemble;
 use images::parts;
 use std::alloc::Global;
 
-/// The assembler text of the image of a file. Its code is not verified.
+/// The assembler text of the image in a file. It does not verify the code.
 pub fn disassemble_image<F: Files>(
     alloc: Global,
     path: &str,

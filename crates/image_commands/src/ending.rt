@@ -1,4 +1,4 @@
-//! How a command line ends: its text or its fault is told.
+//! How a command line ends: by its text or its fault.
 
 ghost use Rattle.std.specs.Prelude.{◌≡◌, ◌≢◌, ◌≤◌, ◌⊎◌, true, [], IfErr, IsOk, OnErr, OnOk};
 ghost use Rattle.std.specs.Io.KnownBytes.{Appends};
@@ -27,7 +27,7 @@ fn show<O: Stream>(text: &str, out: &mut O) -> Result<(), Fault>
     Ok(())
 }
 
-/// Says what is to be said of an order that was carried out, if hints are asked for.
+/// Prints the note on a command that was carried out, if hints are asked for.
 fn say<E: Stream>(hints: bool, note: &str, err: &mut E)
     ensures { AreHints E.contents E.failed hints err.old err.new }
 {
@@ -36,7 +36,7 @@ fn say<E: Stream>(hints: bool, note: &str, err: &mut E)
     }
 }
 
-/// Tells a fault, and this below it, if hints are asked for.
+/// Tells a fault, and hints below it, if they are asked for.
 fn tell_text<E: Stream>(fault: &Fault, hints: bool, said: &str, err: &mut E) -> u8
     ensures told { Tells hints fault.now (E.failed err.new) (E.contents err.old) (E.contents err.new) result }
     ensures status { (2 ≤ result) × (result ≤ 6) }
@@ -48,7 +48,7 @@ fn tell_text<E: Stream>(fault: &Fault, hints: bool, said: &str, err: &mut E) -> 
     }
 }
 
-/// The same with what is to be said of a fault at a file.
+/// Tells a fault with the hints on its file.
 fn tell<E: Stream>(alloc: Global, fault: &Fault, hints: bool, site: &Site, err: &mut E) -> u8
     ensures told { Tells hints fault.now (E.failed err.new) (E.contents err.old) (E.contents err.new) result }
     ensures status { (2 ≤ result) × (result ≤ 6) }
@@ -57,8 +57,7 @@ fn tell<E: Stream>(alloc: Global, fault: &Fault, hints: bool, site: &Site, err: 
     tell_text(fault, hints, said.as_str(), err)
 }
 
-/// Prints the text of a command that ended so, or tells the fault that it came to, with hints if these are asked for, and
-/// answers the exit status.
+/// Prints the text of a command, or tells its fault, with hints if they are asked for. Answers the exit status.
 pub fn print_or_tell<O: Stream, E: Stream>(
     alloc: Global,
     ended: Result<(), Fault>,

@@ -12,7 +12,7 @@ use crate::site::Site;
 use listing::explain_file;
 use std::alloc::Global;
 
-/// The listing of the image of a file, whether or not its code is accepted.
+/// The listing of the image in a file, whether or not the verifier accepts its code.
 pub fn explain_image<F: Files>(
     alloc: Global,
     path: &str,

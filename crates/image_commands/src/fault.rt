@@ -13,8 +13,7 @@ use std::alloc::{AllocError, AllocFailed};
 use std::fmt;
 use verifier::{HeaderFault, ImageError};
 
-/// Why a command line was not carried out. It prints as its line on standard error, or as the text
-/// on usage, with the line's end.
+/// Why a command line was not carried out. It prints as its line on standard error, or as the text on usage.
 #[derive(Debug, Drop)]
 pub enum Fault {
     /// The words ask for nothing, or for help.
@@ -27,7 +26,7 @@ pub enum Fault {
     Verify { rule: regtypes::Rule, slot: usize },
     /// This line of an assembler text, counted from 1, breaks a rule.
     Assemble { rule: assemble::Rule, line: usize },
-    /// This line of a scenario, counted from 1, is the first faulty one; line 0, where there is no process.
+    /// This line of a scenario, counted from 1, is the first faulty one; line 0 if there is no process.
     Scenario { line: usize },
     Memory,
     /// A file or a stream could not be read or written.
@@ -49,7 +48,7 @@ impl Fault {
         }
     }
 
-    /// Writes the fault to `err` and answers the exit status: of the fault, or of the failed write.
+    /// Writes the fault to `err`. Answers the exit status: of the fault, or of the failed write.
     pub fn tell<E: Stream>(&self, err: &mut E) -> u8
         ensures { TellsText self.now (fault_text self.now) (E.failed err.new) (E.contents err.old) (E.contents err.new) result }
     {
@@ -59,7 +58,7 @@ impl Fault {
         }
     }
 
-    /// The same with hints below the fault.
+    /// The same, with hints below the fault.
     pub fn tell_with<E: Stream>(&self, hints: &str, err: &mut E) -> u8
         ensures { TellsText self.now (fault_text self.now ++ hints.now) (E.failed err.new) (E.contents err.old) (E.contents err.new) result }
     {

@@ -16,16 +16,16 @@ pub enum Failure {
     InputOutput(Reason),
 }
 
-/// Why input or output failed, as far as it is told.
+/// Why input or output failed, as far as that is known.
 #[derive(Clone, Copy, Debug, PartialEq, Eq)]
 pub enum Reason {
     /// Nothing is there, or no folder on the way to it.
     Missing,
-    /// It isn't allowed.
+    /// Not allowed.
     Denied,
-    /// A folder is there.
+    /// It is a folder.
     Folder,
-    /// There is no room for it.
+    /// No space is left.
     Full,
     Other,
 }
@@ -40,22 +40,22 @@ impl From<AllocError> for Failure {
 
 /// Files that can be read, and replaced whole.
 pub trait Files {
-    // The bytes of the file at a path, where they are known.
+    // The bytes of the file at a path, if they are known.
     ghost content: { Self → List ℕ → Option (List ℕ) } = { λ _ _. None };
 
-    // Whether a read or a write has failed by input or output, where that is known.
+    // Whether a read or a write has failed by input or output, if that is known.
     ghost failed: { Self → Bool } = { λ _. true };
 
     // Whether two paths may lead to one file.
     ghost may_be_one: { List ℕ → List ℕ → Bool } = { λ _ _. true };
 
-    /// Whether two paths lead to one file. A path leads to the same file as itself, whatever is there.
+    /// Whether two paths lead to one file. A path leads to the same file as itself, even if nothing is there.
     fn is_one(&self, alloc: Global, path: &str, other: &str) -> Result<bool, Failure>
         ensures one { IfOk result (λ one. one ≡ true → may_be_one path.now other.now ≡ true) }
         ensures same { IfOk result (λ one. path.now ≡ other.now → one ≡ true) }
         ensures fault { IfErr result (λ e. e ≡ Memory) };
 
-    /// The bytes of a file; with a limit, the first so many where it has more.
+    /// The bytes of a file, at most as many as the limit.
     fn read(&mut self, alloc: Global, path: &str, limit: Option<usize>) -> Result<Vec<u8>, Failure>
         ensures bytes { IfOk result (λ v. (bytes : List ℕ) → content self.old path.now ≡ Some bytes
             → v.items ≡ up_to limit bytes) }
@@ -63,8 +63,7 @@ pub trait Files {
         ensures sound { OnOk result (failed self.new ≡ failed self.old) }
         ensures fault { IfErr result (λ e. e ≢ Memory → failed self.new ≡ true) };
 
-    /// Makes a file of these bytes, or puts them in place of those of the file that is there, which
-    /// stays as it is where that fails.
+    /// Makes a file of these bytes, or replaces the bytes of the file that is there. If that fails, the file stays as it was.
     fn write(&mut self, path: &str, bytes: &[u8]) -> Result<(), Failure>
         ensures bytes { OnOk result ((old : List ℕ) → content self.old path.now ≡ Some old
             → content self.new path.now ≡ Some bytes.now) }

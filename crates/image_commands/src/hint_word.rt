@@ -5,7 +5,7 @@ ghost use Rattle.image_commands.specs.Hints.{command_in, has_hints};
 
 use std::convert::AsStr;
 
-/// Whether the word `--hints` stands before a command, and the words of the command.
+/// Whether the word `--hints` comes before the command, and the words of the command.
 pub fn hints_in<S: AsStr>(words: &[S]) -> (bool, &[S])
     ensures asked { result.0 ≡ has_hints (map S.text words.now) }
     ensures words { map S.text result.1.now ≡ command_in (map S.text words.now) }

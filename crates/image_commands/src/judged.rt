@@ -1,4 +1,4 @@
-//! What of a source is judged.
+//! The part of a source that is judged.
 
 ghost use Rattle.std.specs.Prelude.{◌≤◌};
 ghost use Rattle.image_commands.specs.Judged.{AreWholeLines, IsJudged};
@@ -6,7 +6,7 @@ ghost use Rattle.image_commands.specs.Judged.{AreWholeLines, IsJudged};
 /// How many bytes a text has at most.
 pub const TEXT_LIMIT: usize = 1_048_576;
 
-/// The lines that end in these bytes, without the last one's line feed.
+/// The lines that end within these bytes, without the last line feed.
 fn whole_lines(bytes: &[u8]) -> &[u8]
     ensures { AreWholeLines bytes.now result.now }
 {
@@ -20,7 +20,7 @@ fn whole_lines(bytes: &[u8]) -> &[u8]
     &bytes[..0]
 }
 
-/// What of a source is judged: all of it; of one that is longer than the limit, the lines that end within it.
+/// The part of a source that is judged: all of it; if it is longer than the limit, the lines that end within the limit.
 pub fn judged(source: &[u8]) -> &[u8]
     ensures { IsJudged source.now result.now }
 {

@@ -1,6 +1,6 @@
 //! What a file looks like.
 
-/// What a file looks like by its first bytes, whatever follows them.
+/// What a file looks like by its first bytes.
 #[derive(Clone, Copy, Debug, PartialEq, Eq)]
 pub enum Kind {
     /// An image file of form 1.
@@ -9,12 +9,11 @@ pub enum Kind {
     Sbi2,
     /// An image file of form 3.
     Sbi3,
-    /// What a compiler makes of a source: an ELF file.
+    /// An ELF file, as a compiler makes it.
     Object,
     Other,
 }
 
-/// What a file of these bytes looks like.
 pub fn kind_of(bytes: &[u8]) -> Kind {
     if bytes.starts_with(b"SBI1") {
         Kind::Sbi1

@@ -19,14 +19,14 @@ use scenario::{Allowed, Process, Scenario, ScenarioError, parse};
 use std::alloc::Global;
 use std::sync::Arc;
 
-/// A scenario, and the handlers of its processes, in their order.
+/// A scenario, and the handlers of its processes in their order.
 #[derive(Drop)]
 pub struct Loaded {
     pub scenario: Scenario,
     pub images: Vec<Arc<Handler>>,
 }
 
-/// Reads a scenario. A file that is not UTF-8 can't be read as a text: `Fault::InputOutput`.
+/// Reads a scenario. A file that is not UTF-8 is `Fault::InputOutput`.
 fn read<F: Files>(
     alloc: Global,
     path: &str,
@@ -50,7 +50,7 @@ fn read<F: Files>(
     }
 }
 
-/// Why a text is no scenario; the site keeps what is wrong with the line that is named.
+/// Why a text is no scenario. The site keeps what is wrong with the line that the fault names.
 fn refusal(
     alloc: Global,
     text: &str,
@@ -72,7 +72,7 @@ fn refusal(
     }
 }
 
-/// The handler of the image of any form of a file, which is to be run or compiled.
+/// The handler of the image in a file, of any form.
 pub fn load_handler<F: Files>(
     alloc: Global,
     path: &str,
@@ -88,7 +88,7 @@ pub fn load_handler<F: Files>(
     Ok(handler)
 }
 
-/// Loads the images of processes, of any form, in their order.
+/// Loads the images of processes in their order.
 fn load_images<F: Files>(
     alloc: Global,
     processes: &IndexMap<String, Process>,
@@ -111,7 +111,7 @@ fn load_images<F: Files>(
     Ok(images)
 }
 
-/// Reads a scenario, and then loads the images of its processes.
+/// Reads a scenario, and loads the images of its processes.
 pub fn load_scenario<F: Files>(
     alloc: Global,
     path: &str,

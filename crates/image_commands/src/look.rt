@@ -6,7 +6,7 @@ use scenario::is_begun;
 use std::alloc::{AllocError, Global};
 use std::str;
 
-/// A line that says which command takes a file of these bytes, where they look like what another one takes; else nothing.
+/// A line that says which command takes a file that looks like these bytes; empty if none does.
 pub fn look_of(bytes: &[u8]) -> &'static str {
     if bytes.starts_with(b"SBI") || bytes.starts_with(b"sbi") {
         return "images begin with SBI1, SBI2 or SBI3, by their form\n";
@@ -17,7 +17,7 @@ pub fn look_of(bytes: &[u8]) -> &'static str {
     }
 }
 
-/// The same of a text: its first line that decides does so. A page of prose is none of these, whatever its examples are.
+/// The same of a text, by the first line that tells. A page of prose with examples is none of these.
 fn look_of_text(text: &str) -> &'static str {
     let mut is_first = true;
     for line in text.split('\n') {
@@ -46,7 +46,7 @@ fn is_c(line: &str) -> bool {
     line.starts_with("#include ") || line.starts_with("/*") || line.starts_with("u64 ")
 }
 
-/// A line that says what a path that leads to nothing may have been meant for; it may be the one of a process.
+/// A line that says what a path that leads to nothing may be meant for.
 pub fn lost_words(path: &str, is_of_process: bool) -> &'static str {
     if path == "-" {
         return "the standard input is /dev/stdin\n";
@@ -69,7 +69,7 @@ pub fn lost_words(path: &str, is_of_process: bool) -> &'static str {
     "a path in a scenario is taken from the folder in which sblog runs, wherever the scenario lies\n"
 }
 
-/// A line that names the first line of bytes that is not UTF-8; of a file that isn't meant for a text nothing.
+/// A line that names the first line that is not UTF-8; empty if the file isn't meant as a text.
 pub fn broken_line(alloc: Global, bytes: &[u8], kind: Kind) -> Result<String, AllocError> {
     if kind != Kind::Other {
         return Ok(String::new(alloc));

@@ -15,7 +15,7 @@ use crate::site::Site;
 use span_native::compile_handler;
 use std::alloc::Global;
 
-/// The machine code of the image of any form of a file.
+/// The machine code of the image in a file, of any form.
 fn machine_code<F: Files>(
     alloc: Global,
     path: &str,
@@ -32,7 +32,7 @@ fn machine_code<F: Files>(
     Ok(code.into_bytes())
 }
 
-/// Verifies the image of any form of a file, and writes its machine code into another.
+/// Verifies the image in a file, of any form, and writes its machine code into another file.
 pub fn write_machine_code<F: Files>(
     alloc: Global,
     image: &str,

@@ -1,4 +1,4 @@
-//! Orders whose OUT is a file that they read.
+//! Commands whose OUT is a file that they read.
 
 ghost use Rattle.std.specs.Prelude.{◌≡◌, ◌≢◌, ℕ, List, IfErr, OnOk, true};
 ghost use Rattle.image_commands.specs.OwnInput.{IsOwnInput};
@@ -11,7 +11,7 @@ use indexmap::IndexMap;
 use scenario::Process;
 use std::alloc::Global;
 
-/// Refuses to write over a file that is read.
+/// Refuses to write over the input.
 pub fn spare<F: Files>(alloc: Global, input: &str, output: &str, files: &F) -> Result<(), Fault>
     ensures apart { OnOk result (input.now ≢ output.now) }
     ensures fault { IfErr result (IsOwnInput (F.may_be_one input.now output.now ≡ true)) }

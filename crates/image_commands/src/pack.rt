@@ -18,12 +18,11 @@ use ordered_images::{Ordered, ordered_file};
 use std::alloc::Global;
 use verifier::HeaderFault;
 
-/// The bytes that decide what code comes to: as many as 1,024 slots have, and one more.
+/// How many bytes of code are read: as many as 1,024 slots have, and one more.
 pub const CODE_LIMIT: usize = 8 * SLOTS + 1;
 
-/// The image file of this form of code, of which these are the bytes that decide, with a state of this
-/// length, at most 1,024 bytes, and how its blocks stand. Code that is refused has a file too, but more bytes
-/// than 1,024 slots have are refused whatever they are.
+/// The image file of this form of code, of which these are the first bytes, with a state of at most 1,024 bytes, and the order of
+/// its blocks. Code that the verifier refuses has a file too; more than 1,024 slots have none.
 fn pack(alloc: Global, code: &[u8], state: u16, form: FileForm) -> Result<Ordered, Fault>
     requires { state ≤ STATE_BYTES }
     ensures written { IfOk result (λ o. (whole : List ℕ) → code.now ≡ take CODE_LIMIT whole
@@ -39,8 +38,8 @@ fn pack(alloc: Global, code: &[u8], state: u16, form: FileForm) -> Result<Ordere
     Ok(packed)
 }
 
-/// Writes the image file of this form of the code in a file, with a state of this length. The site keeps how its
-/// blocks stand.
+/// Writes the image file of this form of the code in a file, with a state of this length. The site keeps the order of its
+/// blocks.
 pub fn write_packed<F: Files>(
     alloc: Global,
     code: &str,

@@ -1,29 +1,29 @@
-//! Where the bytes of a file are put.
+//! The place to which a path leads.
 
 use std::fs::Permissions;
 use std::os::unix::fs::PermissionsExt;
 use std::path::{Path, PathBuf};
 use std::{fs, io, rt};
 
-/// How many links are followed, one to the next; as many as the system follows.
+/// How many links in a row are followed; as many as the system follows.
 const LINKS: u32 = 40;
 
 /// The bits of a mode that say who may read, write and run. Setuid, setgid and sticky lie above them.
 const ACCESS: u32 = 0o777;
 
-/// Where the bytes of a file are put, behind all links.
+/// The place to which a path leads, after all links.
 #[derive(Drop)]
 pub enum Place {
-    /// A plain file is there, whose permissions a new one takes over; or nothing is, so there are none.
+    /// A plain file, with the permissions that a new one takes over; or nothing yet, without permissions.
     Plain(PathBuf, Option<Permissions>),
-    /// The link of an open file, in `/proc`, as behind `/dev/stdout`: it has what was written to it so far.
+    /// The link of an open file in `/proc`, as that of `/dev/stdout`: it has what was written to it so far.
     Open(PathBuf),
     /// A device, a pipe or a folder.
     Special(PathBuf),
 }
 
 impl Place {
-    /// The place to which a path leads. A link that leads to nothing leads to the place of a new file.
+    /// Follows the links of a path. A link that leads to nothing leads to the place of a new file.
     pub fn of<R: rt::Files + AllocGlobal>(rt: &R, path: &str) -> io::Result<Place> {
         let mut path = PathBuf::from_str(rt.alloc(), path)?;
         for _ in 0..LINKS {
@@ -52,7 +52,7 @@ impl Place {
     }
 }
 
-/// Whether a link lies in `/proc`, where links lead to open files and not to the paths that they say.
+/// Whether a link lies in `/proc`: such a link leads to an open file, and not to the path that it says.
 fn is_open_file<R: rt::Files + AllocGlobal>(rt: &R, link: &str) -> io::Result<bool> {
     let here = Path::new(link).with_file_name(rt.alloc(), ".")?;
     let folder = fs::canonicalize(rt, here.as_str())?;

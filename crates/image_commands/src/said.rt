@@ -1,5 +1,4 @@
-//! Hints: what is said below the line of a fault, of the file that it was found in. They are for people, and no contract
-//! names them.
+//! Hints below the line of a fault, on the file that has it. They are for people, and no contract names them.
 
 use crate::fault::Fault;
 use crate::files::Reason;
@@ -8,7 +7,7 @@ use crate::site::Site;
 use std::alloc::{AllocError, Global};
 use verifier::HeaderFault;
 
-/// What a file is that is taken for no image.
+/// What a file is that is no image.
 fn magic_words(kind: Kind) -> &'static str {
     match kind {
         Kind::Object => "an object file, not an image (./sblog pack writes one of its code)",
@@ -44,8 +43,8 @@ fn code_words(rule: decode::Rule) -> &'static str {
     }
 }
 
-/// Whether code that was written for another form may break the rule: it finds a register that its form sets, a place that it
-/// keeps, or a helper that it has.
+/// Whether code that was written for another form may break the rule: forms differ in the registers that they set, the places
+/// that they keep and the helpers that they have.
 fn is_of_form(rule: regtypes::Rule) -> bool {
     match rule {
         regtypes::Rule::V3 | regtypes::Rule::V5 | regtypes::Rule::V6 => true,
@@ -55,7 +54,7 @@ fn is_of_form(rule: regtypes::Rule) -> bool {
     }
 }
 
-/// Where the rule of the verifier that a slot breaks is told; and which form the image is of, where that may be why.
+/// Which command shows why a slot breaks a rule of the verifier, and the image's form, if that may be the cause.
 fn rule_words(kind: Kind, rule: regtypes::Rule) -> &'static str {
     if !is_of_form(rule) {
         return "sblog explain shows why";
@@ -92,7 +91,7 @@ fn text_words(kind: Kind) -> &'static str {
     }
 }
 
-/// Why a file was not read or written; what was read and is no text has no such reason.
+/// Why a file was not read or written; without a reason it was read and is no text.
 fn reason_words(kind: Kind, reason: Option<Reason>) -> &'static str {
     match reason {
         None => text_words(kind),
@@ -104,7 +103,7 @@ fn reason_words(kind: Kind, reason: Option<Reason>) -> &'static str {
     }
 }
 
-/// The file and what is wrong with it, as lines of text; or nothing.
+/// The file and what is wrong with it, as lines of text; or empty.
 fn lines_of(alloc: Global, fault: &Fault, site: &Site) -> Result<String, AllocError> {
     let below = site.words.as_str();
     let (words, below) = match fault {
@@ -119,7 +118,7 @@ fn lines_of(alloc: Global, fault: &Fault, site: &Site) -> Result<String, AllocEr
     format!(in alloc; "{site}: {words}\n{below}")
 }
 
-/// What is said of a fault at a file, as lines of text; nothing where memory runs out.
+/// The hints on a fault at a file, as lines of text; empty if memory runs out.
 pub fn said_of(alloc: Global, fault: &Fault, site: &Site) -> String {
     match lines_of(alloc, fault, site) {
         Ok(lines) => lines,

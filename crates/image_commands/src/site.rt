@@ -1,4 +1,4 @@
-//! Where a command is: the file that it reads or writes.
+//! The file that a command reads or writes.
 
 ghost use Rattle.std.specs.Prelude.{◌≡◌, ◌≢◌, ℕ, true, List, Some, IfErr, IfOk, OnErr, OnOk};
 ghost use Rattle.image_commands.specs.Files.{up_to};
@@ -10,25 +10,24 @@ use crate::look::{look_of, lost_words};
 use std::alloc::{AllocError, Global};
 use std::fmt;
 
-/// The file that a command reads or writes, or did last. It prints as its path, behind the process whose
-/// image it is.
+/// The file that a command reads or writes, or did last. It prints as its path, after the process whose image it is.
 #[derive(Debug, Drop)]
 pub struct Site {
     pub process: Option<String>,
     pub path: String,
-    /// Why it was not read or written, where that failed.
+    /// Why it was not read or written, if that failed.
     pub reason: Option<Reason>,
-    /// What it looks like, where it was read.
+    /// What it looks like, if it was read.
     pub kind: Kind,
-    /// What is wrong with the line of it that is named, or what it looks like in place of an image, as a line of text; or
-    /// nothing.
+    /// What is wrong with the line that the fault names, or what the file looks like in place of an image, as a line of text; or
+    /// empty.
     pub words: String,
-    /// What is said of an order that was carried out, as lines of text; or nothing.
+    /// Hints on a command that was carried out, as lines of text; or empty.
     pub note: String,
 }
 
 impl Site {
-    /// Before the first file.
+    /// A site before the first file.
     pub fn new(alloc: Global) -> Site {
         Site {
             process: None,
@@ -40,18 +39,18 @@ impl Site {
         }
     }
 
-    /// Keeps what the command line may be meant for, until a file is read or written.
+    /// Keeps what the command line may be meant for until a file is read or written.
     pub fn expect(&mut self, words: &str) {
         let _kept = self.words.push_str(words);
     }
 
-    /// From here on the image of this process is read.
+    /// The image of this process is read next.
     pub fn enter(&mut self, alloc: Global, process: &str) -> Result<(), AllocError> {
         self.process = Some(String::from_str(alloc, process)?);
         Ok(())
     }
 
-    /// The file at this path is what is read or written next.
+    /// The file at this path is read or written next.
     fn reach(&mut self, path: &str) -> Result<(), AllocError> {
         self.reason = None;
         self.kind = Kind::Other;
@@ -101,7 +100,7 @@ impl Site {
         }
     }
 
-    /// Writes a file, which is no process's image, as `Files::write` does.
+    /// Writes a file that is no process's image, as `Files::write` does.
     pub fn write<F: Files>(
         &mut self,
         path: &str,

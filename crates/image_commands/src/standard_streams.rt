@@ -4,7 +4,7 @@ use std::cell::Cell;
 use std::io;
 use std::io::Write;
 
-/// The standard output. It notes when nobody reads it any more.
+/// The standard output. It notes that nobody reads it any more.
 #[derive(Drop)]
 pub struct Reports<'a, W: Write + Drop> {
     pub stream: W,
@@ -25,7 +25,7 @@ impl<W: Write + Drop> Write for Reports<'_, W> {
     }
 }
 
-/// The standard error. It says nothing once nobody reads what the program writes elsewhere.
+/// The standard error. It is silent once nobody reads what the program writes elsewhere.
 #[derive(Drop)]
 pub struct Faults<'a, W: Write + Drop> {
     pub stream: W,
@@ -45,7 +45,7 @@ impl<W: Write + Drop> Write for Faults<'_, W> {
     }
 }
 
-/// Notes that a write has failed since nobody reads, if that is its error.
+/// Notes that nobody reads, if that is the error of a write.
 pub fn note(e: &io::Error, broken: &Cell<bool>) {
     if e.kind() == io::ErrorKind::BrokenPipe {
         broken.set(true);

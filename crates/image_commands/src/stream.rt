@@ -1,4 +1,4 @@
-//! The streams that the program writes.
+//! Streams of texts.
 
 ghost use Rattle.std.specs.Prelude.{◌≡◌, ℕ, Bool, true, List, Option, None, IfSome, OnErr, OnOk};
 ghost use Rattle.std.specs.Io.KnownBytes.{Appends};
@@ -10,13 +10,13 @@ use std::io::Write;
 
 /// A stream that takes whole texts.
 pub trait Stream {
-    // The bytes that were written, where they are known.
+    // The bytes that were written, if they are known.
     ghost contents: { Self → Option (List ℕ) } = { λ _. None };
 
-    // Whether a write has failed, where that is known.
+    // Whether a write has failed, if that is known.
     ghost failed: { Self → Bool } = { λ _. true };
 
-    /// Writes a text. Where that fails, a part of it may have been written.
+    /// Writes a text. If that fails, a part of it may have been written.
     fn print<D: Display + Drop>(&mut self, text: D) -> Result<(), Failure>
         ensures whole { OnOk result (IfSome (D.output text) (Appends (contents self.old) (contents self.new))) }
         ensures sound { OnOk result (failed self.new ≡ failed self.old) }
@@ -56,7 +56,6 @@ impl<W: Write> Stream for Written<'_, W> {
 }
 
 impl From<io::Error> for Failure {
-    /// Want of memory in a writer is want of memory.
     fn from(e: io::Error) -> Failure {
         match e.kind() {
             io::ErrorKind::OutOfMemory => Failure::Memory,

@@ -14,14 +14,13 @@ use std::os::unix::fs::MetadataExt;
 use std::path::Path;
 use std::{fs, io, rt};
 
-/// The files of the system. A plain file is written beside its place first, and then takes that place
-/// at once.
+/// The files of the system. A plain file is written next to its place first, and then takes the place at once.
 #[derive(Drop)]
 pub struct SystemFiles<'a, R: rt::Files + AllocGlobal> {
     pub rt: &'a R,
-    /// The number of this process, so that no other one writes a file of the same name beside a place.
+    /// The number of this process, so that no other process writes a file of the same name next to a place.
     pub process: u32,
-    /// Whether a write has failed since nobody reads what it writes.
+    /// Whether a write has failed since nobody reads any more.
     pub broken: &'a Cell<bool>,
 }
 
@@ -60,8 +59,8 @@ impl<'a, R: rt::Files + AllocGlobal> Files for SystemFiles<'a, R> {
     }
 }
 
-/// The device and the number of the plain file to which a path leads. A device or a pipe may be read
-/// and written at once, and what isn't found is no file.
+/// The device and the number of the plain file to which a path leads. A device or a pipe has none, since it may be read and
+/// written at once, and so has what isn't found.
 fn identity<R: rt::Files + AllocGlobal>(rt: &R, path: &str) -> Result<Option<(u64, u64)>, Failure>
     ensures { IfErr result (λ e. e ≡ Memory) }
 {
@@ -94,7 +93,7 @@ fn put<R: rt::Files + AllocGlobal>(
     }
 }
 
-/// Puts a file of these bytes at a path, whole: where that fails, what was there stays.
+/// Puts a file of these bytes at a path as a whole. If that fails, what was there stays.
 fn replace<R: rt::Files + AllocGlobal>(
     rt: &R,
     process: u32,
@@ -103,7 +102,7 @@ fn replace<R: rt::Files + AllocGlobal>(
     permissions: Option<Permissions>,
 ) -> io::Result<()> {
     let alloc = rt.alloc();
-    // An earlier process of the same number may have left a file, so its name is passed over.
+    // An earlier process of the same number may have left a file of this name: try the next one.
     for counter in 0..u32::MAX {
         let name = format!(in alloc; ".sblog-{process}-{counter}")?;
         let beside = Path::new(place).with_file_name(alloc, name.as_str())?;

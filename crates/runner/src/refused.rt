@@ -7,7 +7,7 @@ use sessions::Service;
 use std::alloc::{AllocError, Global};
 use trace::name_at;
 
-/// Writes a line for each cause for which helpers refused sends or outputs of a process.
+/// Writes a line for each cause of which helpers refused sends or outputs of a process.
 fn push_causes(
     alloc: Global,
     lines: &mut String,
@@ -56,7 +56,7 @@ fn refused_lines(
     Ok(lines)
 }
 
-/// Writes these lines as a note, if there is memory. They are hints for people, and no contract names them.
+/// Makes these lines the note, if there is memory. They are hints for people, and no contract names them.
 pub fn note_refused(
     alloc: Global,
     note: &mut String,

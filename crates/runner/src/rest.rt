@@ -1,4 +1,4 @@
-//! What a session leaves undone.
+//! What is left to do in a session.
 
 ghost use Rattle.std.specs.Prelude.{◌≡◌, IfSome};
 ghost use Rattle.world.specs.Phases.{name_of};
@@ -9,7 +9,7 @@ use hints::Rest;
 use sessions::Service;
 use world::PhaseName;
 
-/// What a session leaves undone.
+/// What is left to do in a session.
 pub fn rest_of(session: &Service) -> Rest
     ensures { Leaves session.now result }
 {

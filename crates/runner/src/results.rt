@@ -1,4 +1,4 @@
-//! What a session came to, as text.
+//! The trace and the report of a session.
 
 ghost use Rattle.std.specs.Prelude.{◌≡◌, ◌≤◌, ◌++◌, IfOk, OnErr, OnOk, length, string_bytes};
 ghost use Rattle.scenario.specs.Process.{names_of};
@@ -26,7 +26,7 @@ fn push_state(out: &mut String, name: &str, session: &Service, p: u8) -> Result<
     )
 }
 
-/// Writes a line a process, in the order of their numbers.
+/// Writes a line for each process, in the order of their numbers.
 fn push_processes(
     out: &mut String,
     processes: &IndexMap<String, Process>,
@@ -42,7 +42,7 @@ fn push_processes(
     Ok(())
 }
 
-/// Writes a line an output, in the order in which they were shown.
+/// Writes a line for each output, in the order in which they were shown.
 fn push_outputs(
     out: &mut String,
     processes: &IndexMap<String, Process>,
@@ -57,8 +57,7 @@ fn push_outputs(
     Ok(())
 }
 
-/// What a session came to: the trace of its journal, a line a process, a line an output, and
-/// whether failures came one at a time.
+/// The trace of a session's journal, a line for each process, one for each output, and whether failures came one at a time.
 fn results(
     alloc: Global,
     processes: &IndexMap<String, Process>,
@@ -67,7 +66,6 @@ fn results(
     requires { length processes.now.entries ≡ length session.now.images }
     ensures { IfOk result (λ text. string_bytes text ≡ results_text (names_of processes.now) session.now.images session.now.entries) }
 {
-    // (the journal keeps its entries as slips)
     let entries = copied(alloc, session.journal())?;
     let mut text = trace_text(alloc, entries.as_slice())?;
     push_processes(&mut text, processes, session)?;
@@ -76,8 +74,8 @@ fn results(
     Ok(text)
 }
 
-/// Writes what a session of these processes came to (docs/FORMATS.md, "Trace" and "Report"). Only
-/// memory can run out, and then nothing is written.
+/// Writes the trace and the report of a session of these processes (docs/FORMATS.md, "Trace" and "Report"). Only memory can
+/// run out, and then nothing is written.
 pub fn push_results(
     alloc: Global,
     out: &mut String,

@@ -8,10 +8,10 @@ use scenario::{Order, Step};
 use sessions::Service;
 use world::{Call, PhaseName, Refusal};
 
-/// Of how many refused orders it is said why.
+/// How many refused orders a hint explains at most.
 const TOLD: usize = 16;
 
-/// Keeps why a session refused the order of a step, of the first ones, if there is memory.
+/// Keeps why a session refused the order of a step, if it is one of the first and there is memory.
 pub fn keep_told(told: &mut Vec<Told>, session: &Service, step: &Step, refusal: Refusal)
     ensures { AreKept session.now told.old.items told.new.items }
 {
@@ -42,7 +42,7 @@ pub fn why_of(session: &Service, order: &Order, refusal: Refusal) -> Why
     }
 }
 
-/// The phase of a process, if there is one.
+/// The phase of a process, if the session has it.
 fn phase_of(session: &Service, process: u8) -> Why
     ensures { Holds session.now result }
 {
@@ -53,7 +53,7 @@ fn phase_of(session: &Service, process: u8) -> Why
     Why::Phase { process, phase }
 }
 
-/// The process that isn't up, which the order asks for.
+/// The process that the order needs and that isn't up.
 fn peer_of(session: &Service, order: &Order) -> Why
     ensures { Holds session.now result }
 {

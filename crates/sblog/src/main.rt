@@ -17,7 +17,7 @@ fn arguments(rt: &HostRuntime) -> io::Result<Vec<String>> {
     Ok(words)
 }
 
-/// The fault of arguments that could not be read. Beside want of memory that is one that is not UTF-8.
+/// The fault of arguments that could not be read: memory ran out, or one is not UTF-8.
 fn argument_fault(alloc: Global, e: io::Error) -> Fault {
     if e.kind() == io::ErrorKind::OutOfMemory {
         return Fault::Memory;

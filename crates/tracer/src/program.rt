@@ -24,8 +24,8 @@ use std::convert::AsStr;
 use std::sync::Wait;
 use std::thread::Threads;
 
-/// Carries out the orders of a scenario, and writes the lines of those that were refused, the trace
-/// and the report into an empty text. Where memory runs out it may have such lines.
+/// Carries out the orders of a scenario, and writes the refused lines, the trace and the report into an empty text. If memory
+/// runs out, the text may have refused lines.
 fn run_scenario<F: Files>(
     alloc: Global,
     path: &str,
@@ -45,7 +45,7 @@ fn run_scenario<F: Files>(
     Ok(())
 }
 
-/// Carries out what is asked for without a thread, and puts what is to be printed into an empty text.
+/// Carries out a request without a thread, and writes what is to be printed into an empty text.
 fn answer_alone<F: Files>(
     alloc: Global,
     request: Request<'_>,
@@ -114,7 +114,7 @@ fn answer_alone<F: Files>(
     }
 }
 
-/// Carries out what is asked for, and puts what is to be printed into an empty text.
+/// Carries out a request, and writes what is to be printed into an empty text.
 fn answer<R: Threads + Wait + Sync, F: Files>(
     rt: &R,
     alloc: Global,
@@ -144,8 +144,7 @@ fn answer<R: Threads + Wait + Sync, F: Files>(
     }
 }
 
-/// Carries out what the words ask for without a thread, and puts what is to be printed into an empty
-/// text.
+/// Carries out what the words ask for without a thread, and writes what is to be printed into an empty text.
 fn run_command_alone<S: AsStr, F: Files>(
     alloc: Global,
     words: &[S],
@@ -166,7 +165,7 @@ fn run_command_alone<S: AsStr, F: Files>(
     answer_alone(alloc, request, files, site, text)
 }
 
-/// Carries out what the words ask for, and puts what is to be printed into an empty text.
+/// Carries out what the words ask for, and writes what is to be printed into an empty text.
 fn run_command<R: Threads + Wait + Sync, S: AsStr, F: Files>(
     rt: &R,
     alloc: Global,
@@ -188,12 +187,12 @@ fn run_command<R: Threads + Wait + Sync, S: AsStr, F: Files>(
     answer(rt, alloc, request, files, site, text)
 }
 
-/// Carries out one command line, given without the program's own name, and answers the exit status:
-/// 0; 2 for usage; 3 for an image or a text that is refused; 4 for a scenario that is; 5 for want of
-/// memory; 6 for input or output.
+/// Carries out one command line, without the program's own name, and answers the exit status: 0; 2 for
+/// usage; 3 for a refused image or text; 4 for a refused scenario; 5 if memory ran out; 6 for input or
+/// output.
 ///
-/// A report goes to `out`, the line of a fault to `err`. With the word `--hints` before the command hints for people stand
-/// below that line, or alone there, if the command was carried out.
+/// A report goes to `out`, the line of a fault to `err`. With the word `--hints` before the command `err` also gets hints for
+/// people, below that line, or alone if the command was carried out.
 pub fn sblog<R: Threads + Wait + Sync, S: AsStr, F: Files, O: Stream, E: Stream>(
     rt: &R,
     alloc: Global,
@@ -202,15 +201,15 @@ pub fn sblog<R: Threads + Wait + Sync, S: AsStr, F: Files, O: Stream, E: Stream>
     out: &mut O,
     err: &mut E,
 ) -> u8
-    // With status 0 the words ask for an order that was carried out, and its text was printed; and nothing was told but hints,
-    // if the words ask for these.
+    // With status 0 the words ask for an order that was carried out, its text was printed, and `err` got nothing but hints, if
+    // the words ask for them.
     ensures done { result ≡ 0 → IsDone (map S.text words.now) (F.content files.old) (F.content files.new)
         (O.contents out.old) (O.contents out.new) × AreHints E.contents E.failed (has_hints (map S.text words.now)) err.old err.new }
-    // With every other status they come to a fault of this status, which was told, alone or with hints below it; unless `err`
+    // With any other status the words come to a fault of this status, which was told, alone or with hints below it, unless `err`
     // has failed.
     ensures told { result ≢ 0 → IsTold (map S.text words.now) (F.content files.old) F.may_be_one
         (F.failed files.new || O.failed out.new) (E.failed err.new) (E.contents err.old) (E.contents err.new) result }
-    // Then no file has changed, and nothing was printed but of a run that memory ended; unless `out` has failed.
+    // Then no file changed, and nothing was printed, except by a run that memory ended or if `out` has failed.
     ensures kept { result ≢ 0 → F.content files.new ≡ F.content files.old }
     ensures silent { result ≢ 0 → (out.new ≡ out.old) ⊎ IsHalfPrinted (map S.text words.now) (F.content files.old)
         (O.failed out.new) (E.failed err.new) (O.contents out.old) (O.contents out.new) result }
@@ -223,7 +222,7 @@ pub fn sblog<R: Threads + Wait + Sync, S: AsStr, F: Files, O: Stream, E: Stream>
     print_or_tell(alloc, ended, text.as_str(), hints, &site, out, err)
 }
 
-/// As [`sblog`], where no thread can be started: `live` ends for want of memory.
+/// As [`sblog`], if no thread can be started: `live` ends as if memory ran out.
 pub fn sblog_alone<S: AsStr, F: Files, O: Stream, E: Stream>(
     alloc: Global,
     words: &[S],
@@ -231,15 +230,15 @@ pub fn sblog_alone<S: AsStr, F: Files, O: Stream, E: Stream>(
     out: &mut O,
     err: &mut E,
 ) -> u8
-    // With status 0 the words ask for an order that was carried out, and its text was printed; and nothing was told but hints,
-    // if the words ask for these.
+    // With status 0 the words ask for an order that was carried out, its text was printed, and `err` got nothing but hints, if
+    // the words ask for them.
     ensures done { result ≡ 0 → IsDone (map S.text words.now) (F.content files.old) (F.content files.new)
         (O.contents out.old) (O.contents out.new) × AreHints E.contents E.failed (has_hints (map S.text words.now)) err.old err.new }
-    // With every other status they come to a fault of this status, which was told, alone or with hints below it; unless `err`
+    // With any other status the words come to a fault of this status, which was told, alone or with hints below it, unless `err`
     // has failed.
     ensures told { result ≢ 0 → IsTold (map S.text words.now) (F.content files.old) F.may_be_one
         (F.failed files.new || O.failed out.new) (E.failed err.new) (E.contents err.old) (E.contents err.new) result }
-    // Then no file has changed, and nothing was printed but of a run that memory ended; unless `out` has failed.
+    // Then no file changed, and nothing was printed, except by a run that memory ended or if `out` has failed.
     ensures kept { result ≢ 0 → F.content files.new ≡ F.content files.old }
     ensures silent { result ≢ 0 → (out.new ≡ out.old) ⊎ IsHalfPrinted (map S.text words.now) (F.content files.old)
         (O.failed out.new) (E.failed err.new) (O.contents out.old) (O.contents out.new) result }

@@ -9,8 +9,8 @@ use runner::tell;
 use scenario::Allowed;
 use std::alloc::Global;
 
-/// Carries out the orders of a scenario, and gives the lines of those that were refused, the trace and the report, as lines of
-/// JSON, or with names in place of numbers, or both.
+/// Carries out the orders of a scenario, and gives the refused lines, the trace and the report, as lines of JSON, or with names
+/// in place of numbers, or both.
 pub fn tell_scenario<F: Files>(
     alloc: Global,
     path: &str,
