@@ -3,7 +3,7 @@
 ghost use Rattle.std.specs.Prelude.{◌≡◌, ◌+◌, IfOk, OnOk, length};
 ghost use Rattle.live.specs.Inside.{feed_of, feeds_of, with_feed};
 
-use runner::payload_of;
+use results::payload_of;
 use scenario::{Order, Step};
 use std::alloc::{AllocError, Global};
 use world::Feed;

@@ -12,14 +12,14 @@ ghost use Rattle.workers.specs.Running.{CanRun, manned};
 ghost use Rattle.workers.specs.Shares.{AreServed};
 ghost use Rattle.live.specs.Inside.{HasMemory};
 ghost use Rattle.live.specs.Live.{IsLive};
-ghost use Rattle.runner.specs.Results.{results_text};
+ghost use Rattle.results.specs.Results.{results_text};
 
 use crate::ended::{Ended, ends_of};
 use crate::feeds::feeds_of;
 use handlers::Handler;
 use indexmap::IndexMap;
 use limits::{SEATS, WORKERS};
-use runner::{note_refused, push_results};
+use results::{note_refused, push_results};
 use scenario::{Process, Scenario};
 use sessions::{End, Session, Share};
 use std::alloc::{AllocError, Global};

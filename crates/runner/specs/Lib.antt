@@ -1,5 +1,3 @@
-pub mod Results
-pub mod Word
 pub mod Orders
 pub mod Run
 pub mod Telling

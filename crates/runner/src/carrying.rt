@@ -6,8 +6,8 @@ ghost use Rattle.runner.specs.Orders.{CarriesOut, BringsBack, FindsNoMemory, Han
 ghost use Rattle.runner.specs.Inside.{ComesTo, NoNumber, OnMemory, position_of};
 
 use crate::player::Player;
-use crate::word::payload_of;
 use helpers::Payload;
+use results::payload_of;
 use scenario::Order;
 use sessions::Service;
 use world::{Call, Refusal};

@@ -4,8 +4,7 @@
 //! the report. Its promise: it writes the text of `specs/Run.antt`, in which each accepted call is a step of the world and each
 //! refused one tells the least number whose cause holds; only memory can run out, and then it wrote refused lines alone.
 //! [`tell`] does the same in another style: with names in place of numbers, or as lines of JSON. [`chronicle_of`] gives the
-//! accepted calls and the refused orders of such a run, with their lines. [`push_results`] writes the trace and the report of a
-//! session, the text of `specs/Results.antt`: it follows from the names, the images and the journal alone.
+//! accepted calls and the refused orders of such a run, with their lines.
 //!
 //! A run also notes hints for people: what helpers refused, why orders were refused, and what is left to do. [`why_of`] finds
 //! out why a session refused an order, and [`rest_of`] what is left. Their promise: each process, message and entry that they
@@ -21,19 +20,14 @@ mod chronicle;
 mod held;
 mod opening;
 mod player;
-mod refused;
 mod rest;
-mod results;
 mod running;
 mod telling;
 mod why;
-mod word;
 
 pub use chronicle::{Chronicle, Moment, chronicle_of};
-pub use refused::note_refused;
 pub use rest::rest_of;
 pub use results::push_results;
 pub use running::run;
 pub use telling::tell;
 pub use why::{keep_told, why_of};
-pub use word::payload_of;

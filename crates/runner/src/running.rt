@@ -9,13 +9,12 @@ ghost use Rattle.runner.specs.Inside.{ArePlayed, ArePlayedTo, IsPlayed, position
 ghost use Rattle.runner.specs.Run.{IsCut, IsRun, refused_text};
 
 use crate::player::Player;
-use crate::refused::note_refused;
 use crate::rest::rest_of;
-use crate::results::push_results;
 use crate::why::keep_told;
 use handlers::Handler;
 use hints::{Told, note_run};
 use itoa::Buffer;
+use results::{note_refused, push_results};
 use scenario::{Scenario, Step};
 use std::alloc::{AllocError, Global};
 use std::sync::Arc;

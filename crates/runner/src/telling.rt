@@ -6,7 +6,7 @@ ghost use Rattle.machine.specs.Opening.{AreFew};
 ghost use Rattle.scenario.specs.Process.{names_of};
 ghost use Rattle.sessions.specs.Journal.{world_at};
 ghost use Rattle.styles.specs.Style.{style_of};
-ghost use Rattle.runner.specs.Results.{numbered};
+ghost use Rattle.results.specs.Results.{numbered};
 ghost use Rattle.runner.specs.Telling.{IsTelling, outputs_told, process_told, refusals_told, told_text};
 
 use crate::chronicle::{Moment, Notes};

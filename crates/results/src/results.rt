@@ -3,7 +3,7 @@
 ghost use Rattle.std.specs.Prelude.{◌≡◌, ◌≤◌, ◌++◌, IfOk, OnErr, OnOk, length, string_bytes};
 ghost use Rattle.scenario.specs.Process.{names_of};
 ghost use Rattle.sessions.specs.Journal.{world_at};
-ghost use Rattle.runner.specs.Results.{outputs_text, process_text_of, processes_text, results_text};
+ghost use Rattle.results.specs.Results.{outputs_text, process_text_of, processes_text, results_text};
 
 use indexmap::IndexMap;
 use scenario::Process;

@@ -1,7 +1,7 @@
 //! Numbers as messages.
 
 ghost use Rattle.std.specs.Prelude.{◌≡◌};
-ghost use Rattle.runner.specs.Word.{message_word};
+ghost use Rattle.results.specs.Word.{message_word};
 
 use helpers::Payload;
 

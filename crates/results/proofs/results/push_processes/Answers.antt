@@ -2,9 +2,9 @@ use Rattle.std.proofs.Common.{◌≡◌, ◌∙◌, ◌+◌, ◌-◌, ◌<◌, �
 use Rattle.std.proofs.lemmas.List.{length-map}
 use Rattle.scenario.specs.Process.{names_of}
 use Rattle.sessions.specs.Journal.{world_at}
-use Rattle.runner.specs.Results.{process_text_of}
-use Rattle.runner.proofs.ResultsLemmas.{process_more}
-use Rattle.runner.proofs.results.push_processes.Goals as goal
+use Rattle.results.specs.Results.{process_text_of}
+use Rattle.results.proofs.ResultsLemmas.{process_more}
+use Rattle.results.proofs.results.push_processes.Goals as goal
 
 pub loop-index-preserved : goal.loop-index-preserved
 loop-index-preserved c =

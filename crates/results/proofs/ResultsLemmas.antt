@@ -2,7 +2,7 @@
 use Rattle.std.proofs.Common.{◌≡◌, ◌∙◌, ℕ, ◌+◌, ◌<◌, List, [], ◌∷◌, ◌++◌, length, take, get_or, refl, sym, ap, arith, append_assoc, append-nil}
 use Rattle.std.specs.Prelude.{Bool, true, false, if◌then◌else◌}
 use Rattle.std.proofs.lemmas.List.{take_more, length-take-le}
-use Rattle.runner.specs.Results.{numbered}
+use Rattle.results.specs.Results.{numbered}
 
 -- what a process shows, by cases
 pub state_by_cases : (down : Bool) (shown live : List ℕ) → (down ≡ false → shown ≡ live) → (down ≡ true → shown ≡ []) → shown ≡ (if down then [] else live)
