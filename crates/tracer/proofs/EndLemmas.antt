@@ -6,11 +6,11 @@ use Rattle.cli.specs.Asks.{AsksFor}
 use Rattle.image_commands.specs.Fault.{status_of, Tells}
 use Rattle.image_commands.specs.Files.{Content, Sameness}
 use Rattle.image_commands.specs.Hints.{command_in, has_hints}
-use Rattle.tracer.specs.Inside.{EndsShort}
 use Rattle.image_commands.specs.Ending.{HasFault, IsEnd, IsHalf}
-use Rattle.tracer.specs.Program.{IsAnswered, IsCause, IsCutShort, IsDone, IsTold}
 use Rattle.image_commands.specs.declared.fault.Fault.{Fault}
 use Rattle.image_commands.specs.declared.fault.Fault.TheVariants.{Memory}
+use Rattle.tracer.specs.Inside.{EndsShort}
+use Rattle.tracer.specs.Program.{IsAnswered, IsCause, IsCutShort, IsDone, IsTold}
 use Rattle.tracer.proofs.CauseLemmas.{cause_beside, failure_cause, stream_cause}
 
 -- what a command that came to a fault has printed

@@ -13,17 +13,17 @@ use Rattle.image_commands.specs.Asm.{IsAssembled, IsUnassembled}
 use Rattle.image_commands.specs.Check.{IsUnaccepted}
 use Rattle.image_commands.specs.Dis.{IsUnlisted}
 use Rattle.image_commands.specs.Explain.{IsUnexplained}
-use Rattle.tracer.specs.Draw.{IsDrawn}
 use Rattle.image_commands.specs.Fault.{FaultOf, Tells}
 use Rattle.image_commands.specs.Files.{Content, IsWritten, Sameness}
 use Rattle.image_commands.specs.Hints.{command_in, has_hints}
 use Rattle.image_commands.specs.Native.{IsMachineCode}
 use Rattle.image_commands.specs.Pack.{IsPacked, IsUnpacked}
-use Rattle.tracer.specs.Report.{IsReport, path_of}
-use Rattle.tracer.specs.Run.{IsCutText}
 use Rattle.image_commands.specs.Loading.{IsImagePath, IsUnloadable}
 use Rattle.image_commands.specs.declared.fault.Fault.{Fault}
 use Rattle.image_commands.specs.declared.fault.Fault.TheVariants.{Usage, Memory, InputOutput}
+use Rattle.tracer.specs.Draw.{IsDrawn}
+use Rattle.tracer.specs.Report.{IsReport, path_of}
+use Rattle.tracer.specs.Run.{IsCutText}
 
 -- ---- an order that is carried out
 

@@ -7,11 +7,11 @@ use Rattle.rule_pages.specs.Page.{page_text}
 use Rattle.image_commands.specs.Asm.{IsAssembled}
 use Rattle.image_commands.specs.Check.{IsAccepted, accepted_text}
 use Rattle.image_commands.specs.Dis.{IsListing}
-use Rattle.tracer.specs.Draw.{IsDrawn}
 use Rattle.image_commands.specs.Files.{Content}
-use Rattle.tracer.specs.Live.{IsLiveText}
 use Rattle.image_commands.specs.Native.{IsMachineCode}
 use Rattle.image_commands.specs.Pack.{IsPacked}
+use Rattle.tracer.specs.Draw.{IsDrawn}
+use Rattle.tracer.specs.Live.{IsLiveText}
 use Rattle.tracer.specs.Run.{IsRunText}
 use Rattle.tracer.specs.Tell.{IsToldText}
 

@@ -3,9 +3,9 @@
 ghost use Rattle.std.specs.Prelude.{◌≡◌, ◌≢◌, ◌≤◌, ◌⊎◌, ◌||◌, true, [], IfErr, OnErr, OnOk, map, string_bytes};
 ghost use Rattle.cli.specs.Asks.{IsInRange, Run, order_of};
 ghost use Rattle.image_commands.specs.Hints.{AreHints, has_hints};
+ghost use Rattle.image_commands.specs.declared.fault.Fault.TheVariants.{Memory};
 ghost use Rattle.tracer.specs.Inside.{EndsShort, IsWriteFault};
 ghost use Rattle.tracer.specs.Program.{IsAnswer, IsAnswered, IsCause, IsDone, IsFault, IsHalfPrinted, IsShort, IsTold, Leaves};
-ghost use Rattle.image_commands.specs.declared.fault.Fault.TheVariants.{Memory};
 
 use crate::drawing::draw_scenario;
 use crate::living::live_scenario;

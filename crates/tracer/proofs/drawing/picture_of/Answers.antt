@@ -9,10 +9,10 @@ use Rattle.world.specs.declared.message.Message.{Message}
 use Rattle.world.specs.History.{Payload}
 use Rattle.image_commands.specs.OwnInput.{IsOwnInput}
 use Rattle.image_commands.specs.Loading.{IsImagePath}
-use Rattle.tracer.specs.Program.{WritesOver}
 use Rattle.image_commands.proofs.FaultLemmas.{becomes, own_input_of}
-use Rattle.tracer.proofs.FewLemmas.{are_few}
 use Rattle.image_commands.proofs.LoadLemmas.{loaded_scenario}
+use Rattle.tracer.specs.Program.{WritesOver}
+use Rattle.tracer.proofs.FewLemmas.{are_few}
 use Rattle.tracer.proofs.drawing.picture_of.Goals as goal
 
 pub chronicle_of-requires : goal.chronicle_of-requires

@@ -1,9 +1,9 @@
 use Rattle.std.proofs.Common.{ap, inl, string_bytes, subst, sym}
 use Rattle.std.proofs.lemmas.Result.{IfErr-weaker, on_ok_weaker}
 use Rattle.cli.specs.Asks.{Tell, order_of}
+use Rattle.image_commands.proofs.FaultLemmas.{becomes}
 use Rattle.tracer.specs.Inside.{IsWriteFault}
 use Rattle.tracer.specs.Program.{IsAnswer, IsFault, Leaves}
-use Rattle.image_commands.proofs.FaultLemmas.{becomes}
 use Rattle.tracer.proofs.program.answer_alone.Goals as goal
 
 pub returns-in-Asm-clause-report : goal.returns-in-Asm-clause-report
