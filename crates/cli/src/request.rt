@@ -1,4 +1,4 @@
-//! The request of a command line.
+//! What a command line asks for.
 
 ghost use Rattle.std.specs.Prelude.{◌≡◌, ◌≢◌, IfErr, IfOk, [], codes, map, option_map, string_bytes};
 ghost use Rattle.clap.specs.Words.{first_of, found_of, kind_of, rows_of, subcommand_rows_of};
@@ -13,14 +13,14 @@ use limits::{STATE_BYTES, WORKERS};
 use std::alloc::{AllocError, Global};
 use std::convert::AsStr;
 
-/// The request of a command line, one variant for each command. Paths are as given.
+/// What a command line asks for, a variant for each command. Paths are as given.
 #[derive(Clone, Copy, Debug, PartialEq, Eq)]
 pub enum Request<'a> {
     /// `run SCENARIO`.
     Run {
         scenario: &'a str,
     },
-    /// `run [--json] [--names] SCENARIO`, with at least one of the two.
+    /// `run [--json] [--names] SCENARIO`, with at least one option.
     Tell {
         scenario: &'a str,
         json: bool,
@@ -50,7 +50,7 @@ pub enum Request<'a> {
     Why {
         rule: &'a str,
     },
-    /// `asm SRC OUT --state N --form F`, with N at most 1,024. Without `--form` it is form 1.
+    /// `asm SRC OUT --state N --form F`, with N at most 1,024; form 1 if no form is given.
     Asm {
         source: &'a str,
         image: &'a str,
@@ -75,15 +75,14 @@ pub enum Request<'a> {
     },
 }
 
-/// The path that was given for an argument.
+/// The path of an argument.
 fn path_in<'a>(matches: &ArgMatches<'a>, id: &str) -> Option<&'a str>
     ensures { option_map (λ s. s.now) result ≡ first_of id.now (rows_of (found_of matches.now)) }
 {
     matches.get_str(id)
 }
 
-/// The number that was given for an argument. Its rule already refuses any number out of range; the
-/// test here makes that known of the number.
+/// The number of an argument. Its rule refuses every number out of range; the test here makes that a fact.
 fn number_in(matches: &ArgMatches<'_>, id: &str, low: u64, high: u64) -> Option<u64>
     ensures { Gives (HasNumber id.now low high (rows_of (found_of matches.now))) result }
 {
@@ -230,7 +229,7 @@ fn native_in<'a>(matches: &ArgMatches<'a>) -> Option<Request<'a>>
     Some(Request::Native { image, code })
 }
 
-/// The request of the command `name` with these matches.
+/// What the command `name` asks for with these matches.
 fn request_in<'a>(name: &str, matches: &ArgMatches<'a>) -> Option<Request<'a>>
     ensures { GivesOrder (AsksIn name.now (rows_of (found_of matches.now))) result }
 {
@@ -248,7 +247,7 @@ fn request_in<'a>(name: &str, matches: &ArgMatches<'a>) -> Option<Request<'a>>
     }
 }
 
-/// The request of a whole command line.
+/// What the matches of a whole command line ask for.
 fn request_of<'a>(matches: &ArgMatches<'a>) -> Option<Request<'a>>
     ensures { GivesOrder (AsksBy (subcommand_rows_of matches.now)) result }
 {
@@ -264,8 +263,7 @@ fn is_negative(word: &str) -> bool {
     }
 }
 
-/// A line that says which values an option takes, if a value has a sign, so that `clap` takes it
-/// for an option; else nothing.
+/// A line that says what the value of an option is, if it was given with a sign, which `clap` takes for an option; else empty.
 fn range_words<S: AsStr>(words: &[S]) -> &'static str {
     let mut before = "";
     for word in words {
@@ -281,7 +279,7 @@ fn range_words<S: AsStr>(words: &[S]) -> &'static str {
     ""
 }
 
-/// A line that says which commands take an option, if it was given to another; else nothing.
+/// A line that says which commands take an option, if it was given to another one; else empty.
 fn option_words<S: AsStr>(words: &[S]) -> &'static str {
     let command = match words.first() {
         Some(word) => word.as_str(),
@@ -306,7 +304,7 @@ fn option_words<S: AsStr>(words: &[S]) -> &'static str {
     ""
 }
 
-/// The text below an error of `clap`: a line, or nothing.
+/// The line below an error of `clap`, or empty.
 fn below_words<S: AsStr>(words: &[S]) -> &'static str {
     let range = range_words(words);
     if range.is_empty() {
@@ -316,7 +314,7 @@ fn below_words<S: AsStr>(words: &[S]) -> &'static str {
     }
 }
 
-/// The text of an error of `clap`, or another line if it has none, and then `below`.
+/// The text of an error of `clap`, or a line in its place if it is empty, and further words below it.
 fn text_of(alloc: Global, error: &Error, below: &str) -> Result<String, AllocError>
     ensures { IfOk result (λ text. string_bytes text ≢ []) }
 {
@@ -328,7 +326,7 @@ fn text_of(alloc: Global, error: &Error, below: &str) -> Result<String, AllocErr
     Ok(text)
 }
 
-/// The refusal for an error of `clap`, with `below` after its text.
+/// The refusal of a command line by `clap`, with further words below the error.
 fn refusal_of(alloc: Global, error: &Error, below: &str) -> Refusal
     ensures { Explains (kind_of error.now) result }
 {
@@ -342,9 +340,9 @@ fn refusal_of(alloc: Global, error: &Error, below: &str) -> Refusal
     }
 }
 
-/// Reads the words of a command line, without the program's name.
+/// Reads the words of a command line, without the program's own name.
 ///
-/// A usage refusal has the text of `clap`: what was wrong, or the help that was asked for.
+/// A refusal for usage carries the text of `clap`: what was wrong, or the help that was asked for.
 pub fn parse_words<'a, S: AsStr>(alloc: Global, words: &'a [S]) -> Result<Request<'a>, Refusal>
     ensures request { IfOk result (λ r. AsksFor (map S.text words.entry.now) (order_of r)) }
     ensures range { IfOk result (λ r. IsInRange (order_of r)) }
