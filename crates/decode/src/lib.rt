@@ -16,6 +16,7 @@
 //! ```
 #![tactic(auto)]
 
+mod distance;
 mod fault;
 mod form;
 mod insn;

@@ -12,8 +12,9 @@ use Rattle.images.specs.SpanFile as span
 use Rattle.images.specs.Typed.{IsTypable}
 use Rattle.images.specs.declared.file_form.FileForm.TheVariants.{Sbi1, Sbi2, Sbi3}
 use Rattle.images.specs.Laws.{AreFilesSubsumed}
-use Rattle.images.specs.Reading.{as_form_3, read_table}
-use Rattle.images.proofs.Typings.{typings_subsumed}
+use Rattle.span_verifier.specs.FlatFrames.{read_table}
+use Rattle.images.specs.Laws.{as_form_3}
+use Rattle.span_verifier.proofs.FlatTypings.{typings_subsumed}
 
 -- what is written of code is the same but for the fourth byte
 same_behind : (form : ImageForm) (header rest : List ℕ) → as_form_3 ((flat.magic form ++ header) ++ rest) ≡ (span.magic_3 ++ header) ++ rest

@@ -11,12 +11,8 @@
 //! known at each slot when it is called; the image keeps no memory for that. `span_interp` calls the handler of a
 //! `SpanImage`.
 //!
-//! Form 3 takes all code that forms 1 and 2 take. `specs/Reading` reads a frame of theirs as one of form 3: a number is
-//! any number, the message's length a number up to 256, a place that one place, and each word of the stack any number.
-//! Under such a frame an instruction that breaks no rule of its own form breaks none of form 3, and the frames that
-//! leave it there say no less ([`rules_are_subsumed`]). So a typing is one of form 3, of the same code with the same
-//! state ([`typings_are_subsumed`]), and a file that loads also loads with a 3 as its fourth byte
-//! ([`files_are_subsumed`]). These functions do nothing: they are laws.
+//! Form 3 takes all that forms 1 and 2 take (`span_verifier`), so a file that loads does so with a 3 in its fourth byte
+//! ([`files_are_subsumed`], which does nothing: it is there for what it promises).
 //!
 //! ```
 //! let image = load(alloc, &bytes)?;
@@ -37,10 +33,7 @@ mod storing;
 
 pub use any_image::AnyImage;
 pub use file_form::FileForm;
-pub use laws::{
-    file_refusals_are_one, files_are_subsumed, order_is_kept, rules_are_subsumed,
-    typings_are_subsumed,
-};
+pub use laws::{file_refusals_are_one, files_are_subsumed};
 pub use loading::{load, parts};
 pub use span_image::SpanImage;
 pub use span_loading::{load_span, span_parts};

@@ -7,7 +7,8 @@ use Rattle.decode.specs.Slots.{insn_at, slots, slots_of}
 use Rattle.regtypes.specs.declared.flow.Flow.{Flow}
 use Rattle.regtypes.specs.declared.flow.Flow.TheVariants.{Ends, Leaps, Forks, Falls}
 use Rattle.regtypes.specs.Flow.{flow_of}
-use Rattle.span_calls.specs.Typing.{Code, distance}
+use Rattle.span_calls.specs.Typing.{Code}
+use Rattle.decode.specs.Distance.{distance}
 use Rattle.ordered_images.specs.Placement.{IsPlacement, place_at}
 use Rattle.ordered_images.specs.declared.placing.Placed.{Placed}
 use Rattle.ordered_images.specs.declared.order.Order.{Order}

@@ -2,18 +2,12 @@
 use Rattle.std.specs.Prelude.{◌≡◌, ◌⊎◌, ℕ, ◌+◌, ℤ, pos, ◌+ℤ◌, List, Option, Some, None, slice_get}
 use Rattle.std.specs.Option.{unwrap_or}
 use Rattle.decode.specs.declared.insn.Insn.{Insn}
-use Rattle.decode.specs.declared.insn.Insn.TheVariants.{Jump, JumpLong, JumpIf}
+use Rattle.decode.specs.declared.insn.Insn.TheVariants.{Jump}
+use Rattle.decode.specs.Distance.{with_distance}
 use Rattle.regtypes.specs.declared.flow.Flow.{Flow}
 use Rattle.regtypes.specs.declared.flow.Flow.TheVariants.{Ends, Leaps, Forks, Falls}
 use Rattle.regtypes.specs.Flow.{flow_of}
 use Rattle.span_calls.specs.Typing.{Code}
-
--- the same instruction, with another distance if it jumps
-abbrev pub with_distance : Insn → ℤ → Insn
-with_distance (Jump offset) d = Jump d
-with_distance (JumpLong far) d = JumpLong d
-with_distance (JumpIf condition width dst o offset) d = JumpIf condition width dst o d
-with_distance i d = i
 
 -- the place of each slot's instruction in the other code; None for one that is left out
 abbrev pub Places : Type 0

@@ -2,10 +2,9 @@
 
 ghost use Rattle.std.specs.Prelude.{◌≡◌, ◌+◌, IfOk, IsTrue};
 ghost use Rattle.decode.specs.Slots.{insn_at};
-ghost use Rattle.span_calls.specs.Typing.{distance};
-ghost use Rattle.ordered_images.specs.Placement.{Arrives, ArrivesBy, IsPlacement, Stands, WaysArrive, place_at, with_distance};
+ghost use Rattle.decode.specs.Distance.{distance, with_distance};
+ghost use Rattle.ordered_images.specs.Placement.{Arrives, ArrivesBy, IsPlacement, Stands, WaysArrive, place_at};
 
-use crate::insns::{distance_of, with_distance};
 use crate::slots::{insn_at, place_at, target};
 use decode::{Insn, encode};
 use regtypes::{Flow, flow_from};
@@ -104,7 +103,7 @@ fn is_one(alloc: Global, insn: &Insn, other: &Insn) -> Result<bool, AllocError>
 fn is_same(alloc: Global, insn: &Insn, other: &Insn) -> Result<bool, AllocError>
     ensures { IfOk result (λ same. IsTrue same → other.now ≡ with_distance insn.now (distance other.now)) }
 {
-    match with_distance(insn, distance_of(other)) {
+    match insn.with_distance(other.distance()) {
         Some(same) => is_one(alloc, &same, other),
         None => Ok(false),
     }
@@ -128,7 +127,7 @@ fn stands(
         Ok(true) => {}
         refused => return refused,
     }
-    let by = distance_of(&moved);
+    let by = moved.distance();
     let flow = flow_from(&insn);
     Ok(ways_arrive(other, places, slot, flow, place, by))
 }

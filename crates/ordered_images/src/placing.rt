@@ -2,7 +2,6 @@
 
 ghost use Rattle.std.specs.Prelude.{◌≤◌};
 
-use crate::insns::with_distance;
 use crate::slots::{insn_at, place_at, ways, ways_at};
 use decode::Insn;
 use limits::SLOTS;
@@ -69,7 +68,7 @@ fn set_places(places: &mut [Option<usize>], code: &[Option<Insn>], finished: &[u
 fn led_to(insn: &Insn, place: Option<usize>, to: Option<usize>) -> Option<Insn> {
     match (place, to) {
         (Some(place), Some(to)) if to > place && to - place <= SLOTS => {
-            with_distance(insn, (to - place - 1) as i32)
+            insn.with_distance((to - place - 1) as i32)
         }
         _ => None,
     }

@@ -1,9 +1,9 @@
 -- When code is typable in form 3.
 use Rattle.std.specs.Prelude.{◌≡◌, ℕ, ◌+◌, ◌<◌, ℤ, pos, ◌+ℤ◌, ◌<ℤ◌, Option, Some, None, unsigned_abs}
 use Rattle.decode.specs.declared.insn.Insn.{Insn}
-use Rattle.decode.specs.declared.insn.Insn.TheVariants.{Jump, JumpLong, JumpIf}
 use Rattle.decode.specs.Encoding.{Fits}
 use Rattle.decode.specs.Slots.{size_of}
+use Rattle.decode.specs.Distance.{distance}
 use Rattle.spans.specs.Frame.{Frame, IsFrame, Leq, entry_frame}
 use Rattle.spans.specs.Leaving.{Ways, Leaves}
 
@@ -14,13 +14,6 @@ Code = ℕ → Option Insn
 -- a frame for each slot, or none
 abbrev pub Table : Type 0
 Table = ℕ → Option Frame
-
--- how many slots from the next one an instruction jumps; 0 if it doesn't
-abbrev pub distance : Insn → ℤ
-distance (Jump offset) = offset
-distance (JumpLong far) = far
-distance (JumpIf condition width dst o offset) = offset
-distance i = pos 0
 
 -- the slot that an instruction at slot s jumps to
 abbrev pub target : ℕ → Insn → ℕ

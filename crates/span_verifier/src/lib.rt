@@ -23,6 +23,12 @@
 //! is only one refusal. Every form shares [`lay_out`], which puts instructions slot by slot, and [`leads`], which
 //! judges where an instruction leads, by the rules V1 and V2.
 //!
+//! Form 3 takes all that forms 1 and 2 take. A frame of theirs is read as one of form 3 (`specs/FlatFrames`): a number
+//! is any number, the message's length a number up to 256, a place that one place, and each word of the stack any
+//! number. Read so, a frame that says more still does ([`order_is_kept`]), an instruction that breaks no rule breaks
+//! none of form 3, and what leaves it there says no less ([`rules_are_subsumed`]); so a typing is one of form 3, of the
+//! same code with the same state ([`typings_are_subsumed`]).
+//!
 //! ```
 //! let frames = verify(alloc, &code, 64)?;
 //! let cells = &frames.table[0]; // what is known as a call begins
@@ -43,6 +49,7 @@ mod call;
 mod distance;
 mod exactness;
 mod fault;
+mod flat_laws;
 mod frame;
 mod framing;
 mod judging;
@@ -64,6 +71,7 @@ pub use alu::{alu_kind, alu_rule, any_number, extended, operand_kind};
 pub use call::{answered, call_rule};
 pub use exactness::rules_are_exact;
 pub use fault::VerifyError;
+pub use flat_laws::{order_is_kept, rules_are_subsumed, typings_are_subsumed};
 pub use frame::{entry, join};
 pub use framing::{Frames, frames_of};
 pub use laws::{form_3_keeps_laws, refusals_are_one, typed_calls_are_shown, typings_are_typings};

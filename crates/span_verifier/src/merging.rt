@@ -3,7 +3,8 @@
 ghost use Rattle.std.specs.Prelude.{◌≡◌, ◌<◌, ◌+◌, ◌≤ℤ◌, pos, OnOk, length};
 ghost use Rattle.std.specs.Option.{option_map};
 ghost use Rattle.decode.specs.Slots.{size_of};
-ghost use Rattle.span_calls.specs.Typing.{distance, target};
+ghost use Rattle.span_calls.specs.Typing.{target};
+ghost use Rattle.decode.specs.Distance.{distance};
 ghost use Rattle.span_verifier.specs.Transfer.{frame_of, frames_of};
 ghost use Rattle.span_verifier.specs.Inside.Pass.{IsMerged, IsSpread, IsWayMerged, IsWayWithin};
 ghost use Rattle.span_verifier.specs.Typing.{table_of};

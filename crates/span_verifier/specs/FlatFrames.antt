@@ -1,5 +1,5 @@
 -- Frames of forms 1 and 2, read as frames of form 3.
-use Rattle.std.specs.Prelude.{ℕ, nat_lt, List, if◌then◌else◌, slice_set}
+use Rattle.std.specs.Prelude.{ℕ, nat_lt, if◌then◌else◌}
 use Rattle.std.specs.Option.{option_map}
 use Rattle.limits.specs.declared.TheConstants.{PAYLOAD_BYTES, REGISTERS}
 use Rattle.regtypes.specs.declared.frame.Kind.{Kind as FlatKind}
@@ -31,7 +31,3 @@ read_frame f c = read_cell c (kind_at f.kinds c)
 -- slot by slot
 abbrev pub read_table : FlatTable → Table
 read_table table s = option_map read_frame (frame_at table s)
-
--- the bytes with "SBI3" as their first four; an image file of form 1 or 2 changes only in the fourth
-abbrev pub as_form_3 : List ℕ → List ℕ
-as_form_3 bytes = slice_set bytes 3 0x33

@@ -19,8 +19,8 @@ use Rattle.spans.specs.Frame.{Frame, IsFrame, IsKind, Leq, LeqKind, at_place, en
 use Rattle.spans.specs.Frame as spans
 use Rattle.spans.specs.Leaving.{behind_helper}
 use Rattle.spans.proofs.Order.{LeqKind-refl}
-use Rattle.images.specs.Reading.{read_cell, read_frame, read_kind}
-use Rattle.images.specs.Laws.{IsOrderKept}
+use Rattle.span_verifier.specs.FlatFrames.{read_cell, read_frame, read_kind}
+use Rattle.span_verifier.specs.FlatLaws.{IsOrderKept}
 
 -- the frame of registers of which this is known
 abbrev pub read_kinds : List FlatKind → Frame

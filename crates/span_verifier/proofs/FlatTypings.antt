@@ -25,10 +25,10 @@ use Rattle.span_calls.specs.Typing.{Enters, IsAllowed, target}
 use Rattle.span_verifier.specs.Inside.Pass.{AreFitting}
 use Rattle.span_verifier.specs.Typing.{IsPlaced, IsTyped}
 use Rattle.span_verifier.proofs.Slots.{are_fitting, later}
-use Rattle.images.specs.Laws.{AreTypingsSubsumed}
-use Rattle.images.specs.Reading.{read_frame, read_table}
-use Rattle.images.proofs.Reading.{entered, order_kept, read_frame-is}
-use Rattle.images.proofs.Rules.{rules_subsumed}
+use Rattle.span_verifier.specs.FlatLaws.{AreTypingsSubsumed}
+use Rattle.span_verifier.specs.FlatFrames.{read_frame, read_table}
+use Rattle.span_verifier.proofs.FlatFrames.{entered, order_kept, read_frame-is}
+use Rattle.span_verifier.proofs.FlatRules.{rules_subsumed}
 
 -- what is read stands where it was
 there : (table : FlatTable) (s : ℕ) (f : Frame) → read_table table s ≡ Some f → (g : FlatFrame) × (frame_at table s ≡ Some g) × (read_frame g ≡ f)

@@ -31,8 +31,8 @@ use Rattle.regtypes.specs.Rules.{arguments_of, first_broken, has, is_in_message,
 use Rattle.regtypes.specs.Leaving.{next, taken}
 use Rattle.regtypes.specs.declared.rule.Rule.TheVariants.{V4}
 use Rattle.regtypes.proofs.Monotone.{not_false}
-use Rattle.verifier.proofs.RuleLemmas.{rules_of}
-use Rattle.verifier.proofs.OpsWithin.{send_given, output_given, send_sized_given, output_sized_given}
+use Rattle.regtypes.proofs.RuleLemmas.{rules_of}
+use Rattle.regtypes.proofs.RuleLemmas.{send_given, output_given, send_sized_given, output_sized_given}
 use Rattle.spans.specs.declared.kind.Kind.{Kind}
 use Rattle.spans.specs.declared.kind.Kind.TheVariants.{Num, Place}
 use Rattle.spans.specs.declared.span.Span.{Span}
@@ -48,10 +48,10 @@ use Rattle.spans.proofs.Order.{LeqKind-refl, Leq-refl, within-refl}
 use Rattle.spans.proofs.Tests.{both}
 use Rattle.span_verifier.specs.Rules.{frame_pointer_rule, frame_rule}
 use Rattle.span_verifier.proofs.Exact.{exact, both as both_kept}
-use Rattle.images.specs.Reading.{read_frame, read_kind}
-use Rattle.images.specs.Laws.{AreRulesSubsumed}
-use Rattle.images.proofs.Reading.{any_stack, any_word, below, helped, read_frame-is, read_kinds, register, written}
-use Rattle.images.proofs.Memory.{IsBase, has_payload, has_sized, may_load, may_store}
+use Rattle.span_verifier.specs.FlatFrames.{read_frame, read_kind}
+use Rattle.span_verifier.specs.FlatLaws.{AreRulesSubsumed}
+use Rattle.span_verifier.proofs.FlatFrames.{any_stack, any_word, below, helped, read_frame-is, read_kinds, register, written}
+use Rattle.span_verifier.proofs.FlatMemory.{IsBase, has_payload, has_sized, may_load, may_store}
 
 -- what is known of the registers breaks no rule of form 3, and what leaves says no less than these two frames
 record IsSubsumed (state : ℕ) (i : Insn) (kinds : List FlatKind) (next taken : Frame) : Type 0 where

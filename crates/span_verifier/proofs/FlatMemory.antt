@@ -22,8 +22,8 @@ use Rattle.spans.proofs.Tests.{both}
 use Rattle.spans.proofs.Access.{whole_word-is_reached}
 use Rattle.spans.proofs.Order.{LeqKind-refl, Leq-refl}
 use Rattle.span_verifier.proofs.Exact.{reached-within}
-use Rattle.images.specs.Reading.{read_kind}
-use Rattle.images.proofs.Reading.{IsAnyStack, any_word, below, stays}
+use Rattle.span_verifier.specs.FlatFrames.{read_kind}
+use Rattle.span_verifier.proofs.FlatFrames.{IsAnyStack, any_word, below, stays}
 
 -- ---- bytes inside a region
 
