@@ -4,6 +4,7 @@ use crate::fault::Fault;
 use crate::files::Reason;
 use crate::kind::Kind;
 use crate::site::Site;
+use listing::explain_file;
 use std::alloc::{AllocError, Global};
 use verifier::HeaderFault;
 
@@ -103,15 +104,32 @@ fn reason_words(kind: Kind, reason: Option<Reason>) -> &'static str {
     }
 }
 
+/// Why the verifier refuses an image, as the line of its listing; empty if there is no such line.
+fn refused_line(alloc: Global, image: &[u8]) -> Result<String, AllocError> {
+    if let Ok(text) = explain_file(alloc, image) {
+        for line in text.split('\n') {
+            let line = line.trim();
+            if line.starts_with("refused by ") {
+                return format!(in alloc; "{line}\n");
+            }
+        }
+    }
+    Ok(String::new(alloc))
+}
+
 /// The file and what is wrong with it, as lines of text; or empty.
 fn lines_of(alloc: Global, fault: &Fault, site: &Site) -> Result<String, AllocError> {
+    let why = match fault {
+        Fault::Verify { .. } => refused_line(alloc, site.image.as_slice())?,
+        _ => String::new(alloc),
+    };
     let below = site.words.as_str();
     let (words, below) = match fault {
         Fault::Memory => return Ok(String::new(alloc)),
         Fault::Usage(_) | Fault::Scenario { .. } => return String::from_str(alloc, below),
         Fault::Header(header) => (header_words(site.kind, *header), below),
         Fault::Decode { rule, .. } => (code_words(*rule), ""),
-        Fault::Verify { rule, .. } => (rule_words(site.kind, *rule), ""),
+        Fault::Verify { rule, .. } => (rule_words(site.kind, *rule), why.as_str()),
         Fault::Assemble { rule, .. } => (line_words(*rule), below),
         Fault::InputOutput => (reason_words(site.kind, site.reason), below),
     };

@@ -22,6 +22,8 @@ pub struct Site {
     /// What is wrong with the line that the fault names, or what the file looks like in place of an image, as a line of text; or
     /// empty.
     pub words: String,
+    /// The bytes of the image that was read last, for hints on its code; or empty.
+    pub image: Vec<u8>,
     /// Hints on a command that was carried out, as lines of text; or empty.
     pub note: String,
 }
@@ -35,6 +37,7 @@ impl Site {
             reason: None,
             kind: Kind::Other,
             words: String::new(alloc),
+            image: Vec::new(alloc),
             note: String::new(alloc),
         }
     }
@@ -55,6 +58,7 @@ impl Site {
         self.reason = None;
         self.kind = Kind::Other;
         self.words.clear();
+        self.image.clear();
         self.path.clear();
         self.path.push_str(path)
     }
@@ -86,6 +90,8 @@ impl Site {
                 self.kind = kind_of(bytes.as_slice());
                 if self.kind == Kind::Other {
                     self.words.push_str(look_of(bytes.as_slice()))?;
+                } else if self.kind != Kind::Object {
+                    self.image.extend_from_slice(bytes.as_slice())?;
                 }
                 Ok(bytes)
             }

@@ -17,7 +17,7 @@ fn push_causes(
     let causes = [
         (
             refused.no_peer,
-            "sends were refused: no other process has the number",
+            "sends were refused: no other process has the number (they count from 1, by their lines)",
         ),
         (
             refused.full,
