@@ -13,7 +13,7 @@ use Rattle.assemble.specs.Inside.Reads.{Reads}
 use Rattle.assemble.specs.Inside.Words.{operands_of, tail}
 use Rattle.assemble.specs.Inside.Mnemonic.{mnemonic_of, IsInsn}
 
--- the values that an instruction has beside its mnemonic
+-- the values of an instruction with this mnemonic
 abbrev pub IsOf : Mnemonic → Insn → Type 0
 IsOf (Alu op width) i = (v : Reg × Operand) × (i ≡ insn.Alu op width v.0 v.1)
 IsOf (MovSx extension) i = (v : Reg × Reg) × (i ≡ insn.MovSx extension v.0 v.1)
@@ -46,7 +46,7 @@ is_of (insn.StoreReg s dst src offset) = (((dst, offset), src), refl)
 is_of (insn.StoreImm s dst offset imm) = (((dst, offset), imm), refl)
 is_of (insn.Wide dst value) = ((dst, value), refl)
 
--- an instruction with this mnemonic has the values beside it
+-- an instruction with this mnemonic has such values
 pub of_as : (m : Mnemonic) (i : Insn) → mnemonic_of i ≡ m → IsOf m i
 of_as m i is = subst (λ (k : Mnemonic). IsOf k i) is (is_of i)
 

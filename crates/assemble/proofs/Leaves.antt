@@ -15,28 +15,28 @@ plain_ascii [] h i = omega arith
 plain_ascii (c ∷ cs) h zero = omega (arith, h.0.2)
 plain_ascii (c ∷ cs) h (suc i) = plain_ascii cs h.1 i
 
--- what spells a number is UTF-8
+-- the spelling of a number is UTF-8
 pub number_text : (ds : List ℕ) → IsNumber ds → IsUtf8 ds
 number_text ds h = IsUtf8-from_ascii ds (plain_ascii ds (subst (λ (x : List ℕ). IsPlain x) (number_is ds h) (number_plain (signed_digits_value 10 ds))))
 
--- so is what spells one behind its sign
+-- the spelling of a number with its sign is UTF-8
 pub signed_text : (ds : List ℕ) → IsSigned ds → IsUtf8 ds
 signed_text ds h = IsUtf8-from_ascii ds (plain_ascii ds (subst (λ (x : List ℕ). IsPlain x) (signed_is ds h) (signed_plain (signed_digits_value 10 ds))))
 
--- and what spells one without a sign
+-- the spelling of an unsigned number is UTF-8
 pub unsigned_text : (ds : List ℕ) → IsUnsigned ds → IsUtf8 ds
 unsigned_text ds h = IsUtf8-from_ascii ds (plain_ascii ds (subst (λ (x : List ℕ). IsPlain x) (unsigned_is ds h) (numeral_plain (digits_value 10 ds))))
 
 bare : (c : ℕ) (cs : List ℕ) → 48 ≤ c → without_leading_sign (c ∷ cs) ≡ c ∷ cs
 bare c cs le = search (rules, nat_tests)
 
--- behind its minus, if it has one, a number has digits alone
+-- after its minus, if it has one, a number has only digits
 pub number_digits : (ds : List ℕ) → IsNumber ds → IsNumeral 10 (without_leading_sign ds)
 number_digits [] h = absurd h
 number_digits (c ∷ cs) (inl h) = subst (λ (x : ℕ). IsNumeral 10 (without_leading_sign (x ∷ cs))) (sym h.0) h.1.digits
 number_digits (c ∷ cs) (inr h) = subst (λ (x : List ℕ). IsNumeral 10 x) (sym (bare c cs (above c cs h))) (unsigned_digits (c ∷ cs) h)
 
--- so has one behind its sign
+-- after its sign, a number has only digits
 pub signed_digits : (ds : List ℕ) → IsSigned ds → IsNumeral 10 (without_leading_sign ds)
 signed_digits [] h = absurd h
 signed_digits (c ∷ cs) (inl h) = subst (λ (x : ℕ). IsNumeral 10 (without_leading_sign (x ∷ cs))) (sym h.0) (unsigned_digits cs h.1)

@@ -92,7 +92,7 @@ pub leading_is : (t : List ℕ) → before_first (λ c. c == 32) t ≡ leading_w
 leading_is [] = refl
 leading_is (c ∷ cs) = leading_step (c == 32) c (position_or_len (λ d. d == 32) cs) cs ∙ ap (λ (x : List ℕ). if c == 32 then [] else c ∷ x) (leading_is cs)
 
--- a word without a space leads a line in which nothing or a space is behind it
+-- a word without a space is the first word of a line if nothing or a space follows it
 pub first_of : (w rest : List ℕ) → lacks 32 w → IsBehind rest → leading_word (w ++ rest) ≡ w
 first_of [] [] lw b = refl
 first_of [] (c ∷ cs) lw b = stop c (c ∷ leading_word cs) b
@@ -253,7 +253,7 @@ module _ (line w : List ℕ) (o : Option (Bor (List ℕ))) (whole : line ≡ w +
     pub has_line : (i : Insn) → IsInsn m (behind o) i → line ≡ line_of i
     has_line i h = whole ∙ (λ k. (is ∙ ap word (sym h.0) ∙ word_is i) k ++ h.1 k) ∙ sym (line_is i)
 
-    -- where what is behind it is of no instruction with the mnemonic, the shape is the first fault
+    -- if no instruction with the mnemonic has the text after it, the shape is the first fault
     pub no_shape : ((i : Insn) → ¬ IsInsn m (behind o) i) → (n : ℕ) → LineBreaksFirst n rule.Shape line
     no_shape none n = first_shape n line
         (λ unknown. unknown (sample m) (sym (word_is (sample m)) ∙ ap word (sample_is m) ∙ sym is ∙ sym starts)) (λ i e. none i (insn_is i e))

@@ -198,7 +198,7 @@ pub number_spelled : (z : ℤ) → IsNumber (number z)
 number_spelled (pos n) = unsigned_some (numeral n) (unsigned n)
 number_spelled (negsuc n) = inl (refl, positive n)
 
--- and so what is written of one behind its sign
+-- the text of a number with its sign spells one
 pub signed_spelled : (z : ℤ) → IsSigned (with_sign z)
 signed_spelled (pos n) = inl (refl, unsigned n)
 signed_spelled (negsuc n) = inr (refl, positive n)
@@ -232,7 +232,7 @@ number_is [] h = absurd h
 number_is (c ∷ cs) (inl h) = subst (λ (x : ℕ). number (signed_digits_value 10 (x ∷ cs)) ≡ x ∷ cs) (sym h.0) (negative cs h.1).0
 number_is (c ∷ cs) (inr h) = ap number (plain c cs (above c cs h)) ∙ unsigned_is (c ∷ cs) h
 
--- what spells a number behind its sign is what is written of it
+-- the spelling of a number with its sign is the text that is written for it
 pub signed_is : (ds : List ℕ) → IsSigned ds → with_sign (signed_digits_value 10 ds) ≡ ds
 signed_is [] h = absurd h
 signed_is (c ∷ cs) (inl h) = subst (λ (x : ℕ). with_sign (signed_digits_value 10 (x ∷ cs)) ≡ x ∷ cs) (sym h.0) (ap (λ (x : List ℕ). 43 ∷ x) (unsigned_is cs h.1))

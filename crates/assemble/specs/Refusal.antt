@@ -19,26 +19,26 @@ rule_number rule.Shape = 2
 rule_number rule.Range = 3
 rule_number rule.Limit = 4
 
--- what each rule refuses, in a line after n slots: no instruction has its word, which ends at the first space; none,
--- whatever its numbers, has this line; none whose numbers are in range; none that leaves at most as many slots as an
--- image has (docs/FORMATS.md, "Limits")
+-- what each rule refuses in a line after n slots: no instruction has its word, which ends at the first space; no
+-- instruction, with any numbers, has this line; none with numbers in range has it; none that leaves at most as many
+-- slots as an image may have (docs/FORMATS.md, "Limits")
 abbrev pub LineBreaks : ℕ → Rule → List ℕ → Type 0
 LineBreaks n rule.Word line = (i : Insn) → (parts_of i).0 ≢ before_first (λ c. c == 32) line
 LineBreaks n rule.Shape line = (i : Insn) → line ≢ line_of i
 LineBreaks n rule.Range line = (i : Insn) → Fits i → line ≢ line_of i
 LineBreaks n rule.Limit line = (i : Insn) → Fits i → line ≡ line_of i → SLOTS < n + size_of i
 
--- the first rule that refuses the line; each refuses what the one before it does
+-- the first rule that refuses the line; each rule refuses all that the one before it refuses
 abbrev pub LineBreaksFirst : ℕ → Rule → List ℕ → Type 0
 LineBreaksFirst n r line = IsFirst (λ q. LineBreaks n q line) (rule.Word ∷ rule.Shape ∷ rule.Range ∷ rule.Limit ∷ []) r
 
--- the list whose lines these are, of at most as many slots as an image has
+-- the list whose lines these are; it has at most as many slots as an image may have
 pub record AreLines (lines : List (List ℕ)) (is : List Insn) : Type 0 where
   pub fits : AllByRecursion Fits is
   pub written : spoken lines ≡ map line_of is
   pub limit : slots is ≤ SLOTS
 
--- what stands before the line is fine, and the line breaks this rule
+-- the lines before this one are good, and this line breaks the rule
 pub record IsFault (text : List ℕ) (r : Rule) (number : ℕ) : Type 0 where
   pub before : List (List ℕ)
   pub line : List ℕ

@@ -39,7 +39,7 @@ alu_word alu.Xor = codes "xor"
 alu_word alu.Mov = codes "mov"
 alu_word alu.Arsh = codes "arsh"
 
--- what follows it in 32 bits
+-- the suffix of the word in 32 bits
 abbrev pub suffix : Width → List ℕ
 suffix W32 = codes "32"
 suffix W64 = []
@@ -111,7 +111,8 @@ parts_of (Wide dst value) = (codes "lddw", register dst ∷ numeral value ∷ []
 
 -- ---- lines
 
--- the one line of an instruction, without its line feed: its word, and its operands behind a space each, with commas between
+-- the one line of an instruction, without its line feed: its word, then its operands, each after a space, with commas
+-- between them
 abbrev pub line_of : Insn → List ℕ
 line_of i = (parts_of i).0 ++ join_with_byte 44 (map (λ o. codes " " ++ o) (parts_of i).1)
 
@@ -126,7 +127,7 @@ is_silent (c ∷ cs) = c == 35
 abbrev pub spoken : List (List ℕ) → List (List ℕ)
 spoken lines = filter (λ l. not (is_silent l)) lines
 
--- the lines, without their line feeds; what stands after the last line feed is one too
+-- the lines, without their line feeds; the text after the last line feed is one too
 abbrev pub lines_of : List ℕ → List (List ℕ)
 lines_of text = slice_split (λ c. c == 10) text
 

@@ -11,13 +11,13 @@ use thiserror::Error;
 /// Why an operand could not be read.
 #[derive(Clone, Copy, Debug, PartialEq, Eq)]
 pub enum Fault {
-    /// It is not written so.
+    /// It has the wrong shape.
     Shape,
     /// It is a number that is out of range.
     Range,
 }
 
-/// Both values, or the lesser fault.
+/// Both values, or the lesser of the faults.
 pub fn both<A: Copy, B: Copy>(
     left: Result<A, Fault>,
     right: Result<B, Fault>,
@@ -32,7 +32,7 @@ pub fn both<A: Copy, B: Copy>(
     }
 }
 
-/// What is wrong with a line, by number. Each rule refuses what the one before it does, and more.
+/// What is wrong with a line, by number. Each rule refuses all that the one before it refuses, and more.
 #[derive(Clone, Copy, Debug, PartialEq, Eq, Error)]
 pub enum Rule {
     /// 1: no instruction has this word.

@@ -1,4 +1,4 @@
-//! What the text says apart from code, and that what is written is read back.
+//! Laws of the text itself, and that written text is read back.
 
 ghost use Rattle.std.specs.Prelude.{◌≡◌, ◌≤◌, ℕ, List, IfOk, IfErr};
 ghost use Rattle.std.specs.List.{AllByRecursion};
@@ -17,24 +17,24 @@ use decode::Insn;
 use limits::SLOTS;
 use std::alloc::Global;
 
-/// A text belongs to one list only.
+/// A text belongs to at most one list.
 pub fn one_list()
     ensures { (text : List ℕ) (is js : List Insn) → IsText text is → IsText text js → is ≡ js }
 {}
 
-/// A text has one fault at most, and then belongs to no list of at most 1,024 slots.
+/// A text has at most one fault, and a text with a fault belongs to no list of at most 1,024 slots.
 pub fn one_fault()
     ensures once { (text : List ℕ) (q r : Rule) (m n : ℕ) → IsFault text q m → IsFault text r n → (q ≡ r) × (m ≡ n) }
     ensures none { (text : List ℕ) (is : List Insn) (r : Rule) (n : ℕ) → AreLines (lines_of text) is → IsFault text r n → ⊥ }
 {}
 
-/// What is written for a list belongs to it, and with at most 1,024 slots it is read back.
+/// The text written for a list belongs to it, and is read back if the list has at most 1,024 slots.
 pub fn read_back()
     ensures written { (is : List Insn) → IsText (text_of is) is }
     ensures again { (is : List Insn) → AllByRecursion Fits is → slots is ≤ SLOTS → AreLines (lines_of (text_of is)) is }
 {}
 
-/// What is written of at most 1,024 slots is read back, unless memory runs out.
+/// Writes at most 1,024 slots and reads them back: the same list, unless memory runs out.
 pub fn there_and_back(alloc: Global, insns: &[Insn]) -> Result<Vec<Insn>, AsmError>
     requires { slots insns.now ≤ SLOTS }
     ensures { IfOk result (λ v. v.items ≡ insns.now) × IfErr result (λ e. e ≡ Memory) }

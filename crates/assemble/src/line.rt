@@ -17,7 +17,7 @@ use crate::operands::{
 use crate::split::split_at_byte;
 use decode::Insn;
 
-/// The instruction that the line is.
+/// Reads the instruction of a line.
 pub fn read_line(line: &[u8]) -> Result<Insn, Rule>
     ensures found { IfOk result (λ i. Fits i × (line.now ≡ line_of i)) }
     ensures refused { IfErr result (λ r. (n : ℕ) → LineBreaksFirst n r line.now) }
@@ -54,7 +54,7 @@ fn insn_with(mnemonic: Mnemonic, operands: Option<&[u8]>) -> Result<Insn, Fault>
     }
 }
 
-/// The instruction that has no operands.
+/// The instruction of a word that takes no operands.
 fn bare(mnemonic: Mnemonic) -> Result<Insn, Fault>
     ensures { Reads (IsInsn mnemonic []) Fits result }
 {
@@ -64,7 +64,7 @@ fn bare(mnemonic: Mnemonic) -> Result<Insn, Fault>
     }
 }
 
-/// The instruction with these operands, behind a space.
+/// The instruction with the operands in this text, which came after a space.
 fn insn_of(mnemonic: Mnemonic, text: &[u8]) -> Result<Insn, Fault>
     ensures { Reads (IsInsn mnemonic (32 ∷ text.now)) Fits result }
 {

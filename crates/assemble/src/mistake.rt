@@ -5,7 +5,7 @@ use crate::mnemonic::{Mnemonic, mnemonic_named};
 use crate::number::{distance_of, number_of, offset_of, value_of};
 use crate::operands::{address_of, register_of, source_of};
 
-/// What stands at an operand's place.
+/// What belongs at an operand's place.
 #[derive(Clone, Copy)]
 pub enum Wanted {
     Register,
@@ -19,19 +19,19 @@ pub enum Wanted {
     Address,
     /// The number of a helper.
     Helper,
-    /// A distance of 16 bits, behind its sign.
+    /// A distance of 16 bits, with its sign.
     Offset,
-    /// The same of 32 bits.
+    /// A distance of 32 bits, with its sign.
     Distance,
 }
 
-/// What is wrong with a line, and what can stand there. It prints as a sentence, without a line's end.
+/// What is wrong with a line, and what would be right. It prints as a sentence without a line feed.
 #[derive(Clone, Copy)]
 pub enum Mistake<'a> {
     /// A byte order mark at the beginning.
     Mark,
     CarriageReturn,
-    /// A NUL, as each second letter of a text in UTF-16 is.
+    /// A NUL; every second letter of a text in UTF-16 is one.
     Null,
     /// The text is what a compiler writes for an assembler.
     Compiler,
@@ -42,17 +42,17 @@ pub enum Mistake<'a> {
     Indent,
     /// A semicolon at the end, or between two instructions.
     Semicolon,
-    /// Something behind an instruction that looks like a comment.
+    /// Something after an instruction that looks like a comment.
     Comment,
-    /// A number behind a `#`.
+    /// A number after a `#`.
     Hash,
-    /// A control character, at this place, counted from 1.
+    /// A control character, and its place, counted from 1.
     Control { letter: char, place: usize },
-    /// A letter that isn't ASCII, at this place, counted from 1.
+    /// A letter that isn't ASCII, and its place, counted from 1.
     Letter { letter: char, place: usize },
     /// A space at the end, or two in a row.
     Space,
-    /// A comma without the space behind it, or with one before it.
+    /// A comma with a space before it, or without one after it.
     Comma,
     /// The first word is a label.
     Label,
@@ -60,7 +60,7 @@ pub enum Mistake<'a> {
     Listing,
     /// The line is an instruction as compilers write it.
     Foreign,
-    /// The first word is that of a scenario's line.
+    /// The first word is one of a scenario.
     Scenario,
     /// The first word is a register.
     Register { word: &'a str },
@@ -68,16 +68,16 @@ pub enum Mistake<'a> {
     Capital { word: &'a str },
     /// No instruction has this word.
     Word { word: &'a str },
-    /// Too many operands or too few; an instruction of this word has such ones.
+    /// Too many operands or too few; `form` shows the right ones.
     Operands { word: &'a str, form: &'static str },
-    /// An operand that isn't written as what stands at its place.
+    /// An operand that doesn't have the shape that belongs at its place.
     Shape { word: &'a str, wanted: Wanted },
     /// An operand whose number is out of its range.
     Range { word: &'a str, wanted: Wanted },
 }
 
-/// What is wrong with the line of this number, the first faulty one of a text, counted from 1. `None` is said of a line
-/// that isn't faulty by itself.
+/// What is wrong with the line of this number, counted from 1, the first faulty one of a text. `None` if the line
+/// itself isn't faulty.
 pub fn mistake_of(text: &str, number: usize) -> Option<Mistake<'_>> {
     let line = text.split('\n').nth(number.checked_sub(1)?)?;
     if line.is_empty() || line.starts_with('#') {
@@ -98,7 +98,7 @@ fn wording(line: &str) -> Option<Mistake<'_>> {
     }
 }
 
-/// What is wrong with a line that another program wrote, or that is meant for one.
+/// What is wrong with a line that another program wrote, or that is meant for another program.
 fn writing<'a>(text: &'a str, line: &'a str) -> Option<Mistake<'a>> {
     if line.starts_with('\u{feff}') {
         return Some(Mistake::Mark);
@@ -121,7 +121,7 @@ fn writing<'a>(text: &'a str, line: &'a str) -> Option<Mistake<'a>> {
     None
 }
 
-/// Whether a line is one of a listing: the number of a slot stands first in it, and a colon behind that.
+/// Whether a line is one of a listing: it begins with the number of a slot and a colon.
 fn is_listed(line: &str) -> bool {
     match line.trim_start().split_once(':') {
         Some((number, _)) => is_slot(number),
@@ -129,7 +129,7 @@ fn is_listed(line: &str) -> bool {
     }
 }
 
-/// Whether a line is one of those that a compiler writes for an assembler beside instructions.
+/// Whether a line is one that a compiler writes for an assembler, other than an instruction.
 pub fn is_compiled(line: &str) -> bool {
     let line = line.trim_start();
     line.starts_with(".text")
@@ -140,7 +140,7 @@ pub fn is_compiled(line: &str) -> bool {
         || line.starts_with("# %bb.")
 }
 
-/// Whether a line that is refused is one of C, or some line of its text is.
+/// Whether a refused line is one of C, or some line of its text is.
 fn is_c(text: &str, line: &str) -> bool {
     is_call(line)
         || line.starts_with("/*")
@@ -150,7 +150,7 @@ fn is_c(text: &str, line: &str) -> bool {
         })
 }
 
-/// Whether a line begins with no instruction's word, and has a parenthesis before any mark.
+/// Whether a line begins with no instruction's word, and has a parenthesis before any other mark.
 fn is_call(line: &str) -> bool {
     let (word, _) = line.split_once(' ').unwrap_or((line, ""));
     let (head, _) = line.split_once(';').unwrap_or((line, ""));
@@ -158,7 +158,7 @@ fn is_call(line: &str) -> bool {
     mnemonic_named(word.as_bytes()).is_none() && head.contains('(') && !is_marked
 }
 
-/// What is wrong with what stands between a line's words, and with its letters.
+/// What is wrong with the spaces and commas between a line's words, and with its letters.
 fn spacing(line: &str) -> Option<Mistake<'_>> {
     if line.contains('\t') {
         return Some(Mistake::Tab);
@@ -177,7 +177,7 @@ fn parting(line: &str) -> Option<Mistake<'_>> {
     None
 }
 
-/// The first letter of a line that isn't ASCII, or that no terminal shows.
+/// The first letter of a line that isn't ASCII, or that a terminal can't show.
 fn lettering(line: &str) -> Option<Mistake<'_>> {
     let mut place = 0usize;
     for letter in line.chars() {
@@ -192,7 +192,7 @@ fn lettering(line: &str) -> Option<Mistake<'_>> {
     None
 }
 
-/// What is wrong with a mark behind an instruction, or in its place.
+/// What is wrong with a mark after an instruction, or instead of one.
 fn marking(line: &str) -> Option<Mistake<'_>> {
     if line.split(", #").skip(1).any(is_number_begun) {
         return Some(Mistake::Hash);
@@ -283,7 +283,7 @@ fn first_with<'a>(
     None
 }
 
-/// How the operands of an instruction are written, and what they are.
+/// How the operands of an instruction are written, and what belongs at each place.
 fn form_of(mnemonic: Mnemonic) -> (&'static str, &'static [Wanted]) {
     match mnemonic {
         Mnemonic::Alu(..) => (" r1, r2 or r1, 5", &[Wanted::Register, Wanted::Source]),

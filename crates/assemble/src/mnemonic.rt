@@ -196,7 +196,7 @@ fn alu_name(of: AluOp) -> &'static str
     }
 }
 
-/// What follows a word in 32 bits.
+/// The suffix of a word in 32 bits.
 fn suffix_of(of: Width) -> &'static str
     ensures { result.now ≡ suffix of }
 {
@@ -230,7 +230,7 @@ fn order_name(of: ByteOrder) -> &'static str
     }
 }
 
-/// The bits behind it.
+/// The number of bits after the word of a byte swap.
 fn bits_name(of: SwapBits) -> &'static str
     ensures { result.now ≡ bits of }
 {
@@ -272,7 +272,7 @@ fn size_name(of: Size) -> &'static str
     }
 }
 
-/// The same of a load that extends a sign.
+/// The end of the word of a load that extends a sign.
 fn signed_size_name(of: SignedSize) -> &'static str
     ensures { result.now ≡ size_letters (loaded of) }
 {

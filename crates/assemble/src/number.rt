@@ -18,7 +18,7 @@ fn are_digits(text: &[u8]) -> bool
     text.iter().all(|byte| byte.is_ascii_digit())
 }
 
-/// Whether the text is digits of which the first is not 0.
+/// Whether the text is digits, the first of them not 0.
 #[tactic(auto, using(crate::proofs::Digits::all_digits, crate::proofs::Digits::digits_all))]
 fn is_positive(text: &[u8]) -> bool
     ensures { IsTrue result ↔ IsPositive text.now }
@@ -36,7 +36,7 @@ fn is_unsigned(text: &[u8]) -> bool
     matches!(text, [b'0']) || is_positive(text)
 }
 
-/// Whether the text is such digits, or a minus and digits of which the first is not 0.
+/// Whether the text is an unsigned number, or a minus and digits of which the first is not 0.
 fn is_number(text: &[u8]) -> bool
     ensures { IsTrue result ↔ IsNumber text.now }
 {
@@ -46,7 +46,7 @@ fn is_number(text: &[u8]) -> bool
     }
 }
 
-/// Whether the text is a plus and such digits, or a minus and digits of which the first is not 0.
+/// Whether the text is a plus and an unsigned number, or a minus and digits of which the first is not 0.
 fn is_signed(text: &[u8]) -> bool
     ensures { IsTrue result ↔ IsSigned text.now }
 {
@@ -57,7 +57,7 @@ fn is_signed(text: &[u8]) -> bool
     }
 }
 
-/// The text, if it is one.
+/// The bytes as text, if they are UTF-8.
 fn text_of(bytes: &[u8]) -> Option<&str>
     ensures { MatchOption result (¬ IsUtf8 bytes.now) (λ s. s.now ≡ bytes.now) }
 {
@@ -80,7 +80,7 @@ pub fn number_of(bytes: &[u8]) -> Result<i32, Fault>
     }
 }
 
-/// A number of 16 bits behind its sign.
+/// A number of 16 bits with its sign.
 pub fn offset_of(bytes: &[u8]) -> Result<i16, Fault>
     ensures { Reads (λ z. bytes.now ≡ with_sign z) (λ z. FitsSigned w16 z) result }
 {
@@ -96,7 +96,7 @@ pub fn offset_of(bytes: &[u8]) -> Result<i16, Fault>
     }
 }
 
-/// A number of 32 bits behind its sign.
+/// A number of 32 bits with its sign.
 pub fn distance_of(bytes: &[u8]) -> Result<i32, Fault>
     ensures { Reads (λ z. bytes.now ≡ with_sign z) (λ z. FitsSigned w32 z) result }
 {

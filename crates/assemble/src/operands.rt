@@ -1,5 +1,5 @@
-//! The shapes of operands: R a register, N a number of 32 bits, U an unsigned one of 64, S a register or a number, O an
-//! offset behind its sign, `[RO]` an address.
+//! The shapes of operands: R a register, N a number of 32 bits, U an unsigned number of 64 bits, S a register or a
+//! number, O an offset with its sign, `[RO]` an address.
 
 ghost use Rattle.std.specs.Prelude.{◌≡◌, ◌∷◌, [], ◌<◌, ◌^◌, ℤ, ℕ, FitsSigned};
 ghost use Rattle.std.specs.Int.{w16, w32};

@@ -14,13 +14,13 @@ use decode::Insn;
 use limits::SLOTS;
 use std::alloc::Global;
 
-/// The instructions that the lines of the text are, one a line, of at most 1,024 slots (docs/FORMATS.md, "Assembler
-/// text"). Empty lines and lines that begin with `#` give none. The error names the first faulty line, counted from 1,
-/// and the least rule that it breaks.
+/// Reads the instructions of a text, one a line, of at most 1,024 slots (docs/FORMATS.md, "Assembler text"). Empty
+/// lines and lines that begin with `#` give none. The error names the first faulty line, counted from 1, and the least
+/// rule that it breaks.
 pub fn assemble(alloc: Global, text: &str) -> Result<Vec<Insn>, AsmError>
-    // What is read is written so.
+    // The lines of the text are those of what was read.
     ensures found { IfOk result (λ v. AreLines (lines_of text.now) v.items) }
-    // What is written so is read, unless memory runs out.
+    // If the lines of the text are those of a list, that list is read, unless memory runs out.
     ensures only { (is : List Insn) → AreLines (lines_of text.now) is → IfOk result (λ v. v.items ≡ is) × IfErr result (λ e. e ≡ Memory) }
     // Which rule and which line an error names.
     ensures refused { IfErr result (IsRefusal text.now) }

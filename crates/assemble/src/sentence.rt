@@ -1,13 +1,13 @@
-//! The sentence that a mistake prints as.
+//! The sentence that a mistake prints.
 
 use crate::mistake::{Mistake, Wanted};
 use std::fmt;
 
-/// The most letters of a word that are shown.
+/// How many letters of a word are shown at most.
 const SHOWN_LIMIT: usize = 40;
 
 impl Wanted {
-    /// What an operand that isn't written so is not, and how it is written.
+    /// What is wrong with an operand of the wrong shape, and how it is written.
     fn shape(self) -> &'static str {
         match self {
             Wanted::Register => "is no register: r0 to r10",
@@ -55,7 +55,7 @@ enum Part<'a> {
     Code(char),
 }
 
-/// Writes a word as it is shown: no letter that could move the cursor of a terminal, and not too long.
+/// Writes a word so that it can be shown: cut to the limit, and without letters that could move a terminal's cursor.
 fn show_word<W: fmt::Write>(f: &mut fmt::Formatter<W>, word: &str) -> fmt::Result {
     for letter in word.chars().take(SHOWN_LIMIT) {
         f.write_char(if letter == ' ' || letter.is_ascii_graphic() {
@@ -101,7 +101,7 @@ impl<'a> Sentence<'a> {
         Sentence(begin, part, end, Part::Fixed(""), "")
     }
 
-    /// What is said of the letter at a place.
+    /// The sentence on the letter at a place.
     fn of_letter(place: usize, letter: char, end: &'static str) -> Sentence<'a> {
         Sentence(
             "letter ",
@@ -124,7 +124,7 @@ impl fmt::Display for Sentence<'_> {
 }
 
 impl<'a> Mistake<'a> {
-    /// The words of a mistake that are always the same.
+    /// The whole sentence of a mistake that quotes nothing.
     fn fixed(self) -> Option<&'static str> {
         match self {
             Mistake::Mark => Some(
@@ -153,7 +153,7 @@ impl<'a> Mistake<'a> {
         }
     }
 
-    /// The same of what is meant for another program.
+    /// The same for text that is meant for another program.
     fn foreign(self) -> Option<&'static str> {
         match self {
             Mistake::Compiler => Some(
@@ -176,7 +176,7 @@ impl<'a> Mistake<'a> {
         }
     }
 
-    /// The sentence that has something of the text.
+    /// The sentence of a mistake that quotes something from the text.
     fn sentence(self) -> Sentence<'a> {
         match self {
             Mistake::Control { letter, place } => Sentence::of_letter(
@@ -208,7 +208,7 @@ impl<'a> Mistake<'a> {
         }
     }
 
-    /// The sentence of operands.
+    /// The sentence of a mistake in operands.
     fn operand(self) -> Sentence<'a> {
         match self {
             Mistake::Operands { word, form } => Sentence::of(

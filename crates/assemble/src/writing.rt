@@ -12,8 +12,8 @@ use crate::mnemonic::Mnemonic;
 use decode::{Insn, Operand, Reg};
 use std::alloc::{AllocError, Global};
 
-/// The text of the instructions: one line each, ended by a line feed (docs/FORMATS.md, "Assembler text"). Only memory
-/// can run out.
+/// The text of the instructions: one line each, ended by a line feed (docs/FORMATS.md, "Assembler text"). It fails only
+/// if memory runs out.
 pub fn disassemble(alloc: Global, insns: &[Insn]) -> Result<String, AllocError>
     ensures written { IfOk result (λ s. string_bytes s ≡ text_of insns.now) }
     // Each number has the size of its field, so the text is read back as these instructions.
@@ -110,7 +110,7 @@ fn push_operands(out: &mut String, insn: &Insn) -> Result<(), AllocError>
     }
 }
 
-/// Writes a register, and a number or a register behind it.
+/// Writes a register, and after it a number or a register.
 fn push_both(out: &mut String, dst: Reg, operand: Operand) -> Result<(), AllocError>
     ensures written { OnOk result (string_bytes out.new ≡ string_bytes out.old ++ tail (register dst ∷ source operand ∷ [])) }
     ensures fits { OnOk result (OperandFits operand) }
@@ -119,7 +119,7 @@ fn push_both(out: &mut String, dst: Reg, operand: Operand) -> Result<(), AllocEr
     push_source(out, operand)
 }
 
-/// Writes a register alone.
+/// Writes the operand of an instruction that takes one register.
 fn push_alone(out: &mut String, dst: Reg) -> Result<(), AllocError>
     ensures { OnOk result (string_bytes out.new ≡ string_bytes out.old ++ tail (register dst ∷ [])) }
 {
@@ -127,7 +127,7 @@ fn push_alone(out: &mut String, dst: Reg) -> Result<(), AllocError>
     push_register(out, dst)
 }
 
-/// Writes how far a jump goes.
+/// Writes the distance of a jump.
 fn push_distance(out: &mut String, distance: i32) -> Result<(), AllocError>
     ensures { OnOk result (string_bytes out.new ≡ string_bytes out.old ++ tail (with_sign distance ∷ [])) }
 {
@@ -135,7 +135,7 @@ fn push_distance(out: &mut String, distance: i32) -> Result<(), AllocError>
     push_signed(out, distance)
 }
 
-/// Writes what is compared, and how far the jump goes.
+/// Writes the operands of a comparison, and the distance of its jump.
 fn push_condition(
     out: &mut String,
     dst: Reg,
@@ -158,7 +158,7 @@ fn push_helper(out: &mut String, helper: i32) -> Result<(), AllocError>
     push_number(out, helper)
 }
 
-/// Writes a register and the address of what it gets.
+/// Writes a register and the address from which it is loaded.
 fn push_load(out: &mut String, dst: Reg, src: Reg, offset: i16) -> Result<(), AllocError>
     ensures { OnOk result (string_bytes out.new ≡ string_bytes out.old ++ tail (register dst ∷ address src offset ∷ [])) }
 {
@@ -166,7 +166,7 @@ fn push_load(out: &mut String, dst: Reg, src: Reg, offset: i16) -> Result<(), Al
     push_address(out, src, offset)
 }
 
-/// Writes an address and what is stored there.
+/// Writes an address and the operand that is stored there.
 fn push_store(out: &mut String, dst: Reg, offset: i16, operand: Operand) -> Result<(), AllocError>
     ensures written { OnOk result (string_bytes out.new ≡ string_bytes out.old ++ tail (address dst offset ∷ source operand ∷ [])) }
     ensures fits { OnOk result (OperandFits operand) }
@@ -231,7 +231,7 @@ fn push_address(out: &mut String, base: Reg, offset: i16) -> Result<(), AllocErr
     out.push(']')
 }
 
-/// Writes a number, a negative one behind its sign.
+/// Writes a number, with its sign if it is negative.
 #[tactic(auto, using(crate::proofs::Decimals::number_decimal))]
 fn push_number(out: &mut String, n: i32) -> Result<(), AllocError>
     ensures { OnOk result (string_bytes out.new ≡ string_bytes out.old ++ number n) }
@@ -239,7 +239,7 @@ fn push_number(out: &mut String, n: i32) -> Result<(), AllocError>
     write!(out, "{n}")
 }
 
-/// Writes a number behind its sign.
+/// Writes a number with its sign.
 fn push_signed(out: &mut String, n: i32) -> Result<(), AllocError>
     ensures { OnOk result (string_bytes out.new ≡ string_bytes out.old ++ with_sign n) }
 {

@@ -37,7 +37,7 @@ ends (errors.Fault f) field front count i bytes total lt h so_far =
     let one : with_front front (times field (count - i) bytes) ≡ Err f = rw (k, h) refl in
     sym so_far ∙ one
 
--- where all are read, what was read is the whole
+-- if all are read, what was read is the whole
 pub is_done : {A : Type 0} (field : Field A) (front : List A) (count i : ℕ) (bytes : List ℕ) (total : Result (List A × List ℕ) SavedFault) → count ≤ i → with_front front (times field (count - i) bytes) ≡ total → total ≡ Ok (front, bytes)
 unfolding times
 is_done {A} field front count i bytes total le so_far =

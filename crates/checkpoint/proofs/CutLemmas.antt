@@ -24,7 +24,7 @@ use Rattle.checkpoint.proofs.FileLemmas.{length-removed, all-removed, head_bytes
 abbrev IsShort : {A : Type 0} → (List ℕ → Result A SavedFault) → List ℕ → Type 0
 IsShort read text = (bytes more : List ℕ) → bytes ++ more ≡ text → 0 < length more → read bytes ≡ Err Length
 
--- where two texts follow each other, a cut lies in the first or in the second
+-- if two texts follow each other, a cut is in the first or in the second
 cut : (bytes more a b : List ℕ) → bytes ++ more ≡ a ++ b → ((m : List ℕ) × (bytes ++ m ≡ a) × (0 < length m)) ⊎ ((c : List ℕ) × (bytes ≡ a ++ c) × (c ++ more ≡ b))
 cut bytes more [] b e = inr (bytes, refl, e)
 cut [] more (x ∷ a) b e = inl (x ∷ a, refl, omega arith)

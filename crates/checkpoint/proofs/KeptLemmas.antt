@@ -9,9 +9,9 @@ use Rattle.checkpoint.specs.Reading.{◌>>=◌, number_at, payload_at, times, ke
 use Rattle.checkpoint.proofs.Counted.{Field}
 use Rattle.checkpoint.proofs.FieldLemmas.{IsBytes, bind_ok, ok_is, Takes, Takes-then, wide32, number_takes, number_again, payload_takes, payload_again}
 
--- ---- so many fields
+-- ---- several fields
 
--- where each field that is read was spelled so, so were all of them
+-- if each field that is read was spelled by `spell`, so were all of them
 pub times_takes : {A : Type 0} (field : Field A) (spell : A → List ℕ) (P : A → Type 0) (step : (bytes : List ℕ) (x : A × List ℕ) → IsBytes bytes → field bytes ≡ Ok x → Takes bytes (spell x.0) x.1 × P x.0)
     (n : ℕ) (bytes : List ℕ) (x : List A × List ℕ) → IsBytes bytes → times field n bytes ≡ Ok x → Takes bytes (flat_map spell x.0) x.1 × (length x.0 ≡ n) × AllByRecursion P x.0
 unfolding times
@@ -26,7 +26,7 @@ times_takes {A} field spell P step (suc n) bytes x fits e =
     subst (λ (y : List A × List ℕ). Takes bytes (flat_map spell y.0) y.1 × (length y.0 ≡ suc n) × AllByRecursion P y.0) (ok_is (a.0.0 ∷ b.0.0, b.0.1) x b.2)
     (Takes-then bytes (spell a.0.0) a.0.1 (flat_map spell b.0.0) b.0.1 t.0 u.0, ap suc u.1, (t.1, u.2))
 
--- and where each, spelled so, is read, all are
+-- and if each field that `spell` spells is read, all are
 pub times_again : {A : Type 0} (field : Field A) (spell : A → List ℕ) (P : A → Type 0) (step : (a : A) (rest : List ℕ) → P a → field (spell a ++ rest) ≡ Ok (a, rest))
     (xs : List A) (rest : List ℕ) → AllByRecursion P xs → times field (length xs) (flat_map spell xs ++ rest) ≡ Ok (xs, rest)
 unfolding times

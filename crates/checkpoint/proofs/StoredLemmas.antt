@@ -13,7 +13,7 @@ pub saved_again : (s : TheSaved) (bytes : List ℕ) → IsCheckpoint Second s by
 unfolding saved_in
 saved_again s bytes is = ap read_of (reading_again Second s bytes is)
 
--- bytes of a checkpoint with a state of this length, and so many messages, are those of a stored one
+-- bytes of a checkpoint with a state of this length, and this many messages, are those of a stored one
 pub is_stored : (s : TheSaved) (bytes : List ℕ) (state received : ℕ) → IsCheckpoint Second s bytes → length s.state ≡ state → length s.senders ≡ received → IsStored bytes state received
 is_stored s bytes state received is state_is received_is =
     let e = saved_again s bytes is in
@@ -23,11 +23,11 @@ is_stored s bytes state received is state_is received_is =
       received_is = ap (λ (t : TheSaved). length t.senders) e ∙ received_is;
     }
 
--- behind the first twelve bytes the state stands
+-- the state comes after the first twelve bytes
 behind_numbers : (s : TheSaved) → drop 12 (bytes_of Second s) ≡ s.state ++ (s.senders ++ flat_map (kept_bytes Second) (remove s.queues s.me))
 behind_numbers s = refl
 
--- its state stands behind the first twelve bytes
+-- the state of a checkpoint comes after its first twelve bytes
 pub state_at : (s : TheSaved) (bytes : List ℕ) (n : ℕ) → IsCheckpoint Second s bytes → length s.state ≡ n → take n (drop 12 bytes) ≡ s.state
 state_at s bytes n is len =
     ap (λ b. take n (drop 12 b)) is.bytes_are ∙ ap (take n) (behind_numbers s) ∙ take_at s.state (s.senders ++ flat_map (kept_bytes Second) (remove s.queues s.me)) n len

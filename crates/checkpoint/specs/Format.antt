@@ -6,25 +6,25 @@ use Rattle.checkpoint.specs.declared.form.Form.{Form}
 use Rattle.checkpoint.specs.declared.form.Form.TheVariants.{First, Second}
 use Rattle.checkpoint.specs.Saved.{TheKept, TheSaved, Fits}
 
--- "SBC1" and "SBC2"
+-- the magic of a form, "SBC1" or "SBC2"
 abbrev pub magic : Form → List ℕ
 magic First = 0x53 ∷ 0x42 ∷ 0x43 ∷ 0x31 ∷ []
 magic Second = 0x53 ∷ 0x42 ∷ 0x43 ∷ 0x32 ∷ []
 
--- a payload, in the second form behind its length
+-- a payload. In the second form its length comes first
 abbrev pub payload_bytes : Form → List ℕ → List ℕ
 payload_bytes First payload = payload
 payload_bytes Second payload = to_le_bytes w16 (length payload) ++ payload
 
--- the first SSN, how many messages, and their payloads
+-- what is kept for one destination: the first SSN, how many messages, and their payloads
 abbrev pub kept_bytes : Form → TheKept → List ℕ
 kept_bytes form kept = to_le_bytes w32 kept.first ++ (to_le_bytes w32 (length kept.payloads) ++ flat_map (payload_bytes form) kept.payloads)
 
--- the length of the state, how many processes, the own number, and how many receipts
+-- the length of the state, the number of processes, the process's own number, and how many receipts
 abbrev pub number_bytes : TheSaved → List ℕ
 number_bytes s = to_le_bytes w16 (length s.state) ++ (s.count ∷ s.me ∷ to_le_bytes w32 (length s.senders))
 
--- a checkpoint of a form: magic, numbers, the state, a byte for each receipt, and what is kept for each number but the own one
+-- a checkpoint of a form: magic, numbers, the state, the sender of each receipt, and what is kept for each number but its own
 abbrev pub bytes_of : Form → TheSaved → List ℕ
 bytes_of form s = magic form ++ (number_bytes s ++ (s.state ++ (s.senders ++ flat_map (kept_bytes form) (remove s.queues s.me))))
 

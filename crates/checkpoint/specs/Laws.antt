@@ -1,4 +1,4 @@
--- What holds of all checkpoints
+-- Laws of all checkpoints
 use Rattle.std.specs.Prelude.{◌≡◌, ℕ, ◌<◌, List, ◌++◌, length, Err}
 use Rattle.checkpoint.specs.declared.form.Form.{Form}
 use Rattle.checkpoint.specs.declared.form.Form.TheVariants.{Second}
@@ -7,11 +7,11 @@ use Rattle.checkpoint.specs.Saved.{TheSaved}
 use Rattle.checkpoint.specs.Format.{IsCheckpoint}
 use Rattle.checkpoint.specs.Reading.{reading}
 
--- bytes are the checkpoint of one saved process, in one form
+-- bytes are the checkpoint of at most one saved process, in one form
 abbrev pub IsOneCheckpoint : Type 0
 IsOneCheckpoint = (form form' : Form) (s s' : TheSaved) (bytes : List ℕ) → IsCheckpoint form s bytes → IsCheckpoint form' s' bytes → (form ≡ form') × (s ≡ s')
 
--- bytes behind a checkpoint are left over
+-- bytes after a checkpoint are left over, and are refused for their length
 abbrev pub IsTooLong : Type 0
 IsTooLong = (form : Form) (s : TheSaved) (bytes more : List ℕ) → IsCheckpoint form s bytes → 0 < length more → reading (bytes ++ more) ≡ Err Length
 
@@ -19,6 +19,6 @@ IsTooLong = (form : Form) (s : TheSaved) (bytes more : List ℕ) → IsCheckpoin
 abbrev pub IsTooShort : Type 0
 IsTooShort = (form : Form) (s : TheSaved) (bytes more : List ℕ) → IsCheckpoint form s (bytes ++ more) → 0 < length more → reading bytes ≡ Err Length
 
--- new is the second form of what old is the checkpoint of
+-- new is the second form of the process whose checkpoint old is
 abbrev pub IsMigrated : List ℕ → List ℕ → Type 0
 IsMigrated old new = (form : Form) × (s : TheSaved) × IsCheckpoint form s old × IsCheckpoint Second s new

@@ -1,4 +1,4 @@
--- Reading a checkpoint from left to right, with the first fault that is met. A field is a value and the bytes after it.
+-- Reading a checkpoint from left to right. A field gives a value and the bytes after it, or the first fault.
 use Rattle.std.specs.Prelude.{◌≡◌, ℕ, zero, suc, ◌+◌, ◌-◌, List, [], ◌∷◌, length, take, drop, Result, Ok, Err, nat_lt, nat_eq, ◌==◌, ◌||◌, if◌then◌else◌}
 use Rattle.std.specs.Int.{Width, w16, w32, byte_len, from_le_bytes}
 use Rattle.std.specs.List.{list_all, insert}
@@ -31,7 +31,7 @@ Gives view (Err e) read = Fails e read
 
 -- ---- fields
 
--- so many bytes
+-- the first n bytes
 abbrev pub bytes_at : ℕ → List ℕ → Result (List ℕ × List ℕ) SavedFault
 bytes_at n bytes = if nat_lt (length bytes) n then Err Length else Ok (take n bytes, drop n bytes)
 
@@ -50,13 +50,13 @@ number_at w low high bytes = do
   found ← bytes_at (byte_len w) bytes
   in_range low high (from_le_bytes w found.0) found.1
 
--- the magic of a form
+-- the form with the magic at the front
 unfoldable pub form_at : List ℕ → Result (Form × List ℕ) SavedFault
 form_at bytes = do
   found ← bytes_at 4 bytes
   if pointwise nat_eq found.0 (magic First) then Ok (First, found.1) else (if pointwise nat_eq found.0 (magic Second) then Ok (Second, found.1) else Err Magic)
 
--- a byte for each receipt
+-- the senders of the receipts, a byte each
 unfoldable pub senders_at : ℕ → ℕ → ℕ → List ℕ → Result (List ℕ × List ℕ) SavedFault
 senders_at me count received bytes = do
   senders ← bytes_at received bytes
@@ -69,7 +69,7 @@ payload_at Second bytes = do
   len ← number_at w16 0 PAYLOAD_BYTES bytes
   bytes_at len.0 len.1
 
--- so many fields of a kind
+-- n fields of one kind
 unfoldable pub times : {A : Type 0} → (List ℕ → Result (A × List ℕ) SavedFault) → ℕ → List ℕ → Result (List A × List ℕ) SavedFault
 times field zero bytes = Ok ([], bytes)
 times field (suc n) bytes = do
@@ -97,7 +97,7 @@ head_at bytes = do
   received ← number_at w32 0 RECEIPTS me.1
   Ok (record { form = form.0; state = state.0; count = count.0; me = me.0; received = received.0 }, received.1)
 
--- the state, the receipts, and what is kept for each number but the own one, for which it is nothing
+-- the state, the receipts, and what is kept for each number but the process's own, for which nothing is kept
 unfoldable pub body_at : Head → List ℕ → Result (TheSaved × List ℕ) SavedFault
 body_at head bytes = do
   state ← bytes_at head.state bytes
@@ -105,7 +105,7 @@ body_at head bytes = do
   queues ← times (kept_at head.form) head.count senders.1
   Ok (record { me = head.me; count = head.count; state = state.0; senders = senders.0; queues = insert queues.0 head.me nothing_kept }, queues.1)
 
--- all of the bytes: none are left over
+-- all of the bytes, with none left over
 unfoldable pub reading : List ℕ → Result TheSaved SavedFault
 reading bytes = do
   head ← head_at bytes

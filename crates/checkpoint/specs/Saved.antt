@@ -19,7 +19,8 @@ pub record TheKept : Type 0 where
 abbrev pub nothing_kept : TheKept
 nothing_kept = record { first = 1; payloads = [] }
 
--- the process, how many there are, its state, the senders of what it received, and what it keeps for 0, 1, .. count. For itself it keeps nothing
+-- the process, the number of processes, its state, the senders of what it received, and what it keeps for 0, 1, .. count. It keeps
+-- nothing for itself
 pub record TheSaved : Type 0 where
   pub me : ℕ
   pub count : ℕ
@@ -29,18 +30,18 @@ pub record TheSaved : Type 0 where
 
 -- ---- ranges
 
--- how many bytes a payload of a form can have
+-- the length that a payload of a form may have
 abbrev pub PayloadFits : Form → List ℕ → Type 0
 PayloadFits First payload = length payload ≡ 64
 PayloadFits Second payload = length payload ≤ PAYLOAD_BYTES
 
--- SSNs are at most SENDS
+-- SSNs are from 1 to SENDS
 pub record KeptFits (form : Form) (kept : TheKept) : Type 0 where
   pub least : 1 ≤ kept.first
   pub bound : kept.first + length kept.payloads ≤ SENDS + 1
   pub payloads : AllByRecursion (PayloadFits form) kept.payloads
 
--- 0, the outside, and each other process can send
+-- whether s can have sent to me: it is 0, the outside, or another process
 abbrev pub is_sender : ℕ → ℕ → ℕ → Bool
 is_sender me count s = nat_le s count && not (s == me)
 
@@ -59,11 +60,11 @@ pub record Fits (form : Form) (s : TheSaved) : Type 0 where
 
 -- ---- from receipts and a log, and back
 
--- what is saved of a queue: its numbers are not
+-- what is saved of a queue. Its RSNs are not
 abbrev pub kept_of : TheQueue → TheKept
 kept_of q = record { first = q.first; payloads = q.payloads }
 
--- the queue of what was saved: no message has a number
+-- the queue of what was saved. No message has an RSN
 abbrev pub queue_again : TheKept → TheQueue
 queue_again kept = record { first = kept.first; payloads = kept.payloads; numbers = replicate (length kept.payloads) None }
 
@@ -71,10 +72,10 @@ queue_again kept = record { first = kept.first; payloads = kept.payloads; number
 abbrev pub saved_of : ℕ → ℕ → List ℕ → Received → TheLog → TheSaved
 saved_of me count state receipts log = record { me = me; count = count; state = state; senders = receipts.senders; queues = map kept_of log.queues }
 
--- all that was received counts as acknowledged
+-- the receipts of what was saved. All count as acknowledged
 abbrev pub receipts_again : TheSaved → Received
 receipts_again s = record { senders = s.senders; acknowledged = replicate (length s.senders) true }
 
--- no message has a number
+-- the log of what was saved. No message has an RSN
 abbrev pub log_again : TheSaved → TheLog
 log_again s = record { owner = s.me; queues = map queue_again s.queues }

@@ -12,7 +12,7 @@ pub enum SavedFault {
     /// 1: the first four bytes are the magic of neither form.
     #[error("no checkpoint")]
     Magic,
-    /// 2: fewer bytes are left than a field has, or bytes are left over.
+    /// 2: the bytes end before a field does, or bytes are left over.
     #[error("the length is not that of the fields")]
     Length,
     /// 3: a field is out of its range.

@@ -1,4 +1,4 @@
-//! The fields of a checkpoint, from bytes.
+//! Reading the fields of a checkpoint.
 
 ghost use Rattle.std.specs.Prelude.{◌≡◌, ◌≤◌, true, length, IfOk};
 ghost use Rattle.std.specs.Int.{w16, w32};
@@ -28,7 +28,7 @@ pub struct Head {
 /// How many bytes a payload of the first form has.
 const FIRST_PAYLOAD: usize = 64;
 
-/// So many bytes, and those after them.
+/// The first `len` bytes, and those after them.
 pub fn bytes_of(len: usize, bytes: &[u8]) -> Result<(&[u8], &[u8]), SavedError>
     ensures exact { Gives (λ x. (x.0.now, x.1.now)) result (bytes_at len bytes.now) }
     ensures len { IfOk result (λ x. length x.0.now ≡ len) }
@@ -81,7 +81,7 @@ pub fn u32_of(least: u32, most: u32, bytes: &[u8]) -> Result<(u32, &[u8]), Saved
     Ok((number, rest))
 }
 
-/// The form whose magic this is.
+/// The form with this magic.
 #[tactic(auto, unfolding(crate::specs::Reading::form_at))]
 fn form_of(bytes: &[u8]) -> Result<(Form, &[u8]), SavedError>
     ensures { Gives (λ x. (x.0, x.1.now)) result (form_at bytes.now) }
@@ -117,7 +117,7 @@ pub fn head_of(bytes: &[u8]) -> Result<(Head, &[u8]), SavedError>
     Ok((head, rest))
 }
 
-/// A byte for each receipt: its sender.
+/// The senders of the received messages, a byte each.
 #[tactic(auto, unfolding(crate::specs::Reading::senders_at))]
 pub fn senders_of(head: Head, bytes: &[u8]) -> Result<(&[u8], &[u8]), SavedError>
     ensures exact { Gives (λ x. (x.0.now, x.1.now)) result (senders_at head.me head.count head.received bytes.now) }
@@ -131,7 +131,7 @@ pub fn senders_of(head: Head, bytes: &[u8]) -> Result<(&[u8], &[u8]), SavedError
     Ok((senders, rest))
 }
 
-/// Whether each of these numbers is the outside or another process.
+/// Whether each of these is the outside or another process.
 fn are_senders(head: Head, senders: &[u8]) -> bool
     ensures { result ≡ list_all (is_sender head.me head.count) senders.now }
 {
@@ -140,7 +140,7 @@ fn are_senders(head: Head, senders: &[u8]) -> bool
         .all(|sender| *sender <= head.count && *sender != head.me)
 }
 
-/// A payload, in the second form behind its length.
+/// A payload. In the second form its length comes first.
 #[tactic(auto, unfolding(crate::specs::Reading::payload_at))]
 pub fn payload_of(form: Form, bytes: &[u8]) -> Result<(&[u8], &[u8]), SavedError>
     ensures exact { Gives (λ x. (x.0.now, x.1.now)) result (payload_at form bytes.now) }

@@ -1,11 +1,11 @@
 //! The forms of a checkpoint.
 
-/// A form, by the last digit of its magic.
+/// A form. The last digit of its magic tells which.
 #[derive(Clone, Copy, Debug, PartialEq, Eq)]
 pub enum Form {
     /// `SBC1`: each payload has 64 bytes.
     First,
-    /// `SBC2`: each payload stands behind its length.
+    /// `SBC2`: each payload comes after its length, two bytes.
     Second,
 }
 
@@ -13,7 +13,7 @@ impl Form {
     ghost use Rattle.std.specs.Prelude.{◌≡◌};
     ghost use Rattle.checkpoint.specs.Format.{magic};
 
-    /// The four bytes that a checkpoint of this form begins with.
+    /// The first four bytes of a checkpoint of this form.
     pub fn magic(self) -> [u8; 4]
         ensures { result ≡ magic self }
     {

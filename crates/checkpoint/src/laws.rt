@@ -1,4 +1,4 @@
-//! What holds of all checkpoints.
+//! Laws of all checkpoints.
 
 ghost use Rattle.std.specs.Prelude.{Ok};
 ghost use Rattle.checkpoint.specs.Laws.{IsOneCheckpoint, IsTooLong, IsTooShort};
@@ -10,17 +10,17 @@ use crate::saved::Saved;
 use crate::writing::encode;
 use std::alloc::Global;
 
-/// Bytes are the checkpoint of one saved process, in one form, if they are one.
+/// Bytes are the checkpoint of at most one saved process, in one form.
 pub fn one_checkpoint()
     ensures { IsOneCheckpoint }
 {}
 
-/// The beginning of a checkpoint is refused for its length, wherever it ends.
+/// A checkpoint that is cut short is refused for its length, wherever it is cut.
 pub fn too_short()
     ensures { IsTooShort }
 {}
 
-/// A checkpoint with bytes behind it is refused for its length.
+/// A checkpoint with more bytes at its end is refused for its length.
 pub fn too_long()
     ensures { IsTooLong }
 {}

@@ -1,18 +1,18 @@
-//! A saved process: what a checkpoint holds, and its bytes.
+//! Checkpoints: a saved process, and its bytes.
 //!
 //! [`Saved`] is what a process needs to come back as it was when it was saved: its number, the
 //! number of processes, its state, the senders of the messages that it had received, and for each
-//! destination the messages that it kept. Its type keeps every field in the range that the format
-//! has for it. [`Saved::of`] takes it from receipts and a log, [`Saved::restore`] makes receipts
-//! and a log of it again, which know no receive sequence numbers of others any more.
+//! destination the messages that it kept. Its type keeps every field in the format's range.
+//! [`Saved::of`] takes it from receipts and a log. [`Saved::restore`] makes receipts and a log of
+//! it again; that log knows no RSNs.
 //!
-//! A checkpoint has two forms: in `SBC1` each payload has 64 bytes, in `SBC2` its length stands
-//! before it. [`encode`] writes the second, [`decode`] reads both, and [`migrate`] makes the
-//! second of either.
+//! A checkpoint has two forms: in `SBC1` each payload has 64 bytes, in `SBC2` each comes after its
+//! length. [`encode`] writes the second form, [`decode`] reads both, and [`migrate`] turns either
+//! into the second.
 //!
-//! The promise: `decode` reads bytes exactly where they are the checkpoint of a saved process in one
-//! of the forms, and of one only; any other bytes are refused by the first fault from left to right.
-//! So what `encode` wrote is read back.
+//! `decode` reads exactly the bytes that are the checkpoint of a saved process in one of the forms,
+//! and no bytes are the checkpoint of two. It refuses any others by the first fault from left to
+//! right. So what `encode` wrote is read back.
 //!
 //! ```
 //! let saved = Saved::of(alloc, 1, 2, &state, &receipts, &log)?;

@@ -1,4 +1,4 @@
-//! Either form to the second.
+//! Migration from either form to the second.
 
 ghost use Rattle.std.specs.Prelude.{IfOk, IfErr, Ok};
 ghost use Rattle.checkpoint.specs.declared.form.Form.{Form};
@@ -13,10 +13,10 @@ use crate::reading::decode;
 use crate::writing::encode;
 use std::alloc::Global;
 
-/// The second form of a checkpoint in either form. Bytes that are none are refused as `decode`
-/// refuses them.
+/// The second form of a checkpoint in either form. Other bytes are refused as `decode` refuses
+/// them.
 pub fn migrate(alloc: Global, bytes: &[u8]) -> Result<Vec<u8>, SavedError>
-    // What is answered is the second form of what the bytes say.
+    // The answer is the second form of the same saved process.
     ensures found { IfOk result (λ v. IsMigrated bytes.now v.items) }
     // A checkpoint in either form is migrated, unless memory runs out.
     ensures only { (form : Form) (s : TheSaved) → IsCheckpoint form s bytes.now → Gives (λ v. v.items) result (Ok (bytes_of Second s)) }

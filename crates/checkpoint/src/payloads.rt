@@ -1,4 +1,4 @@
-//! Payloads, one behind the other.
+//! Payloads, one after the other.
 
 ghost use Rattle.std.specs.Prelude.{◌≡◌, ◌++◌, ◌∷◌, ◌<◌, ◌≤◌, [], length, IfOk, OnOk, OnErr};
 ghost use Rattle.std.specs.List.{flat_map, AllByRecursion};
@@ -11,7 +11,7 @@ use limits::PAYLOAD_BYTES;
 use std::alloc::{AllocError, Global};
 use std::marker::Model;
 
-/// Payloads of at most 256 bytes as the second form has them: each behind its length.
+/// Payloads of at most 256 bytes, as the second form has them: each after its length.
 #[derive(Drop)]
 pub struct Payloads {
     count: u32,
@@ -41,7 +41,7 @@ impl Payloads {
         }
     }
 
-    /// No payload, with room for so many bytes, the lengths included.
+    /// No payload, with room for this many bytes, the lengths included.
     #[tactic(auto, using(crate::proofs::PayloadLemmas::none_are, crate::proofs::PayloadLemmas::none_read))]
     pub fn with_room(alloc: Global, room: usize) -> Result<Payloads, AllocError>
         ensures { IfOk result (λ p. p ≡ []) }

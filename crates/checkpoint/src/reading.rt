@@ -1,4 +1,4 @@
-//! Bytes to a saved process.
+//! From bytes to a saved process.
 
 ghost use Rattle.std.specs.Prelude.{◌≡◌, ◌≢◌, ◌+◌, ◌*◌, ◌≤◌, true, length, IfOk, Ok};
 ghost use Rattle.std.specs.List.{AllByRecursion};
@@ -18,20 +18,20 @@ use crate::saved::Saved;
 use limits::SENDS;
 use std::alloc::Global;
 
-/// The saved process of a checkpoint, in either form. The first fault is named, in the order of
+/// The saved process of a checkpoint in either form. The error is the first fault in the order of
 /// reading.
 pub fn decode(alloc: Global, bytes: &[u8]) -> Result<Saved, SavedError>
-    // What is read is written so, in one of the forms.
+    // The bytes are the checkpoint of what is answered, in one of the forms.
     ensures found { IfOk result (λ s. (form : Form) × IsCheckpoint form s bytes.now) }
-    // What is written so is read, unless memory runs out.
+    // A checkpoint is read, unless memory runs out.
     ensures only { (form : Form) (s : TheSaved) → IsCheckpoint form s bytes.now → Gives (λ x. x) result (Ok s) }
-    // Each refusal is the first fault that reading meets.
+    // The error is the first fault that reading meets.
     ensures exact { Gives (λ x. x) result (reading bytes.now) }
 {
     whole(alloc, bytes)
 }
 
-/// All of the bytes, by fields.
+/// All of the bytes, field by field.
 #[tactic(auto, unfolding(crate::specs::Reading::reading))]
 fn whole(alloc: Global, bytes: &[u8]) -> Result<Saved, SavedError>
     ensures { Gives (λ x. x) result (reading bytes.now) }
@@ -44,7 +44,7 @@ fn whole(alloc: Global, bytes: &[u8]) -> Result<Saved, SavedError>
     Ok(saved)
 }
 
-/// The state, the receipts, and what is kept.
+/// The state, the receipts, and what is kept for each destination.
 #[tactic(auto, unfolding(crate::specs::Reading::body_at))]
 fn body_of(alloc: Global, head: Head, bytes: &[u8]) -> Result<(Saved, &[u8]), SavedError>
     requires { HeadFits head }
@@ -62,7 +62,7 @@ fn body_of(alloc: Global, head: Head, bytes: &[u8]) -> Result<(Saved, &[u8]), Sa
     ))
 }
 
-/// What is kept for so many destinations.
+/// What is kept for `count` destinations.
 fn queues_of(
     alloc: Global,
     form: Form,
@@ -95,7 +95,7 @@ fn kept_of(alloc: Global, form: Form, bytes: &[u8]) -> Result<(Kept, &[u8]), Sav
     Ok((Kept::new(first, payloads), rest))
 }
 
-/// So many payloads.
+/// `count` payloads.
 fn payloads_of(
     alloc: Global,
     form: Form,
@@ -116,8 +116,7 @@ fn payloads_of(
     Ok((payloads, rest))
 }
 
-/// How many bytes so many payloads take, each behind its length, up to the first that can't be
-/// read.
+/// How many bytes the payloads take, each after its length, up to the first that can't be read.
 fn room_of(form: Form, count: u32, bytes: &[u8]) -> usize
     ensures { result ≤ length bytes.now + 2 * count }
 {

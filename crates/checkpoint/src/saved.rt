@@ -35,8 +35,8 @@ impl Model for Saved {
 }
 
 impl Saved {
-    /// The process `me` of `n` with this state, 0 to 1,024 bytes, these receipts and this log,
-    /// which is a log of `me` for `n` processes. Numbers in the log are not saved.
+    /// The process `me` of `n` with this state of 0 to 1,024 bytes, these receipts, and this log of
+    /// `me` among `n` processes. RSNs in the log are not saved.
     pub fn of(
         alloc: Global,
         me: u8,
@@ -65,7 +65,7 @@ impl Saved {
         })
     }
 
-    /// A process of its parts. Those that are kept for it are none.
+    /// A process from its parts. It keeps nothing for itself.
     pub(crate) fn new(
         me: u8,
         count: u8,
@@ -132,8 +132,8 @@ impl Saved {
         self.queues.as_slice()
     }
 
-    /// Receipts of the messages that had been received, all acknowledged, and a log of those that
-    /// are kept, without numbers.
+    /// Receipts of the messages that had been received, all acknowledged, and a log of the messages
+    /// that are kept, without RSNs.
     pub fn restore(&self, alloc: Global) -> Result<(Receipts, Log), AllocError>
         ensures receipts { IfOk result (λ r. r.0 ≡ receipts_again self.now) }
         ensures log { IfOk result (λ r. r.1 ≡ log_again self.now) }

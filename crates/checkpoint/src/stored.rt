@@ -1,4 +1,4 @@
-//! A saved process, kept as bytes.
+//! A saved process that is kept as bytes.
 
 ghost use Rattle.std.specs.Prelude.{◌≡◌, ◌≤◌, length, IfOk};
 ghost use Rattle.checkpoint.specs.declared.form.Form.TheVariants.{Second};
@@ -18,8 +18,8 @@ use std::marker::Model;
 /// Where the state begins in a checkpoint.
 const STATE_START: usize = 12;
 
-/// A saved process of which the bytes of its checkpoint alone are kept, in the second form. They
-/// are read when it is restored.
+/// A saved process that is kept only as the bytes of its checkpoint, in the second form. They are
+/// read when it is restored.
 #[derive(Drop)]
 pub struct Stored {
     bytes: Vec<u8>,
@@ -39,7 +39,7 @@ impl Model for Stored {
 }
 
 impl Stored {
-    /// What is kept of a saved process.
+    /// The bytes of a saved process.
     pub fn of(alloc: Global, saved: &Saved) -> Result<Stored, AllocError>
         ensures { IfOk result (λ s. s ≡ saved.now) }
     {
@@ -75,8 +75,8 @@ impl Stored {
         self.received
     }
 
-    /// Receipts of the messages that had been received, all acknowledged, and a log of those that
-    /// are kept, without numbers.
+    /// Receipts of the messages that had been received, all acknowledged, and a log of the messages
+    /// that are kept, without RSNs.
     pub fn restore(&self, alloc: Global) -> Result<(Receipts, Log), AllocError>
         ensures receipts { IfOk result (λ r. r.0 ≡ receipts_again self.now) }
         ensures log { IfOk result (λ r. r.1 ≡ log_again self.now) }

@@ -1,4 +1,4 @@
-//! A saved process to bytes.
+//! From a saved process to bytes.
 
 ghost use Rattle.std.specs.Prelude.{◌≡◌, ◌++◌, ◌<◌, ◌≤◌, length, take, IfOk, OnOk, OnErr};
 ghost use Rattle.std.specs.Int.{w16, w32, to_le_bytes};
@@ -29,7 +29,7 @@ pub fn encode(alloc: Global, saved: &Saved) -> Result<Vec<u8>, AllocError>
     Ok(out)
 }
 
-/// Appends the length of the state, how many processes there are, the own number, and how many
+/// Appends the length of the state, the number of processes, the process's own number, and how many
 /// messages were received.
 fn put_numbers(out: &mut Vec<u8>, saved: &Saved) -> Result<(), AllocError>
     ensures { OnOk result (out.new.items ≡ out.old.items ++ number_bytes saved.now) }
@@ -39,7 +39,7 @@ fn put_numbers(out: &mut Vec<u8>, saved: &Saved) -> Result<(), AllocError>
     put_u32(out, saved.length())
 }
 
-/// Appends what is kept for some destinations.
+/// Appends what is kept for each of these destinations.
 fn put_queues(out: &mut Vec<u8>, queues: &[Kept]) -> Result<(), AllocError>
     ensures { OnOk result (out.new.items ≡ out.old.items ++ flat_map (kept_bytes Second) queues.now) }
 {
@@ -59,7 +59,8 @@ fn put_kept(out: &mut Vec<u8>, kept: &Kept) -> Result<(), AllocError>
     out.extend_from_slice(payloads.bytes())
 }
 
-/// Appends a payload behind its length. What was there before stays, also at a refusal.
+/// Appends the length of a payload and then the payload. Earlier bytes stay, even if memory is
+/// refused.
 pub fn put_payload(out: &mut Vec<u8>, payload: &[u8]) -> Result<(), AllocError>
     requires { length payload.now ≤ PAYLOAD_BYTES }
     ensures ok { OnOk result (out.new.items ≡ out.old.items ++ payload_bytes Second payload.now) }

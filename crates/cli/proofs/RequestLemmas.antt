@@ -19,7 +19,7 @@ use Rattle.cli.specs.Program.{sblog_app}
 some≢none : {X : Type 0} (x : X) → Some x ≡ None → ⊥
 some≢none x e = cc
 
--- what `get_one` reads of an argument is its number, where that is in its range
+-- what `get_one` reads of an argument is its number, if that is in its range
 module _ {E : Type 0} (G : Text → Result ℕ E → Type 0) (m : ArgMatches) (id : Text) (low high : ℕ)
     (parses : (t : Text) (x : Result ℕ E) → G t x → ParsesUnsigned 64 10 t x) where
   -- what is read as no number is none
@@ -50,7 +50,7 @@ module _ {E : Type 0} (G : Text → Result ℕ E → Type 0) (m : ArgMatches) (i
           let read = parses t (Ok n) (value t e) in
           (t, sym (one_text-rows (found_of m) id) ∙ e, record { digits = read.0.0; value = read.1; least = least; most = most })
 
--- where `--form` was given, and as no number, there is no form
+-- if `--form` was given, and as no number, there is no form
 pub no_form : (rows : List Row) (path : Text) → Some path ≡ first_of (codes "form") rows → ((n : ℕ) → HasNumber (codes "form") 1 3 rows n → ⊥)
     → (form : FileForm) → HasForm rows form → ⊥
 no_form rows path given none form (inl h) = none (file_form_number form) h

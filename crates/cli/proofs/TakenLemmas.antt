@@ -35,7 +35,7 @@ use Rattle.cli.specs.declared.command.TheConstants.{BUDGET}
 abbrev IsNumbered : Text → ℕ → ℕ → Row → Text → Type 0
 IsNumbered id low high r text = bytes_eq r.id id ≡ true → (read_as r.reading text ≡ text) × (accepts false (parser.Unsigned low high) text ≡ true)
 
--- the row has one value, and where it has to be a number it is one
+-- the row has one value, and if it has to be a number it is one
 pub record IsSound (r : Row) : Type 0 where
   pub text : Text
   pub one : r.values ≡ text ∷ []
@@ -269,7 +269,7 @@ flag_in id = record (rule_in draw_leaf 2) { id = id; long = Some id }
 flag_sound : (id : Text) → IsFlagName id → (source : ValueSource) (v : Text) → IsSound (row_from source (flag_in id) v)
 flag_sound id other source v = path_sound (flag_in id) other.0 other.1 other.2 other.3 {source = source} v
 
--- the word `true` stands for a use of it
+-- the word `true` says that it was used
 flag_keeps : (id : Text) → IsFlagName id → Keeps IsSound false (flag_in id)
 flag_keeps id other [] rows none all =
     value_kept IsSound (flag_in id) (codes "true") rows (flag_sound id other CommandLine (codes "true"))

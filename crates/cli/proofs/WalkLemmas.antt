@@ -23,7 +23,7 @@ pub some_kind : (k : ErrorKind) (ks : Kinds) → k ∷ ks ≡ [] → ⊥
 unfolding is_none
 some_kind k ks e = true≢false (sym (ap is_none e))
 
--- where neither of two finds a fault, the first finds none
+-- if neither of two finds a fault, the first finds none
 pub first_none : (a b : Kinds) → or_else a b ≡ [] → a ≡ []
 first_none [] b none = refl
 first_none (k ∷ ks) b none = none
@@ -35,7 +35,7 @@ second_none (k ∷ ks) b none = absurd (some_kind k ks none)
 
 -- ---- one level
 
--- a step names no command `help`, where that one is there
+-- a step names no command `help`, if that one is there
 abbrev pub IsFineStep : Shape → Step → Type 0
 IsFineStep s (subcommand name) = s.disable_help_subcommand ≡ false → bytes_eq name (codes "help") ≡ false
 IsFineStep s (next waiting) = Unit {0}

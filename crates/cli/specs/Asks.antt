@@ -1,4 +1,4 @@
--- What a command line asks for: the words decide it, by the rules of `clap` for `sblog_app`.
+-- The request of a command line. The words decide it, by the rules of clap for sblog_app.
 use Rattle.std.specs.Prelude.{◌≡◌, ◌≢◌, ◌≤◌, ◌⊎◌, ◌||◌, ℕ, Bool, false, true, List, [], Option, Some, None, codes}
 use Rattle.std.specs.Option.{option_map_or}
 use Rattle.std.specs.Str.{bytes_eq}
@@ -18,7 +18,7 @@ use Rattle.cli.specs.declared.request.Request.{Request}
 use Rattle.cli.specs.declared.request.Request.TheVariants as request
 use Rattle.cli.specs.declared.command.TheConstants.{BUDGET}
 
--- the text is n in decimal, in this range; a plus may stand first
+-- the text is n in decimal, in this range. It may begin with a plus
 pub record IsNumber (low high : ℕ) (text : Text) (n : ℕ) : Type 0 where
   pub digits : IsNumeral 10 (without_leading_plus text)
   pub value : n ≡ digits_value 10 (without_leading_plus text)
@@ -41,7 +41,7 @@ HasWorkers rows n = HasNumber (codes "workers") 1 WORKERS rows n
 abbrev pub HasBudget : List Row → ℕ → Type 0
 HasBudget rows n = HasNumber (codes "budget") 1 BUDGET rows n
 
--- the option --form was given as the number of this form; form 1 where it was not given
+-- the option --form was given as the number of this form. Without the option it is form 1
 abbrev pub HasForm : List Row → FileForm → Type 0
 HasForm rows form = HasNumber (codes "form") 1 3 rows (file_form_number form) ⊎ ((first_of (codes "form") rows ≡ None) × (form ≡ Sbi1))
 
@@ -57,11 +57,11 @@ HasImage rows path = HasPath (codes "IMAGE") rows path
 abbrev pub HasScenario : List Row → Text → Type 0
 HasScenario rows path = HasPath (codes "SCENARIO") rows path
 
--- whether the option of this name, which has no value, was given: what stands for one is then the word `true`
+-- whether the option of this name, which has no value, was given: clap then has the word true for it
 abbrev pub is_set : Text → List Row → Bool
 is_set id rows = option_map_or (λ word. bytes_eq word (codes "true")) (first_of id rows) false
 
--- what a command line can ask for, apart from where its texts lie
+-- the requests of command lines, as plain values
 pub data Order : Type 0 where
   Run : Text → Order
   Tell : Text → Bool → Bool → Order
@@ -75,7 +75,7 @@ pub data Order : Type 0 where
   Dis : Text → Order
   Native : Text → Text → Order
 
--- a request with its paths as plain texts, wherever these lie in memory
+-- a request with its paths as plain texts
 abbrev pub order_of : Request → Order
 order_of (request.Run scenario) = Run scenario.now
 order_of (request.Tell scenario json names) = Tell scenario.now json names
@@ -89,14 +89,14 @@ order_of (request.Pack code image state form) = Pack code.now image.now state fo
 order_of (request.Dis image) = Dis image.now
 order_of (request.Native image code) = Native image.now code.now
 
--- a length of a state is at most 1,024; workers are 1 to 16, and have a budget of 1 to 1,000,000
+-- a state has at most 1,024 bytes; workers are 1 to 16, and have a budget of 1 to 1,000,000
 abbrev pub IsInRange : Order → Type 0
 IsInRange (Live scenario workers budget) = (1 ≤ workers) × (workers ≤ WORKERS) × (1 ≤ budget) × (budget ≤ BUDGET)
 IsInRange (Asm source image state form) = state ≤ STATE_BYTES
 IsInRange (Pack code image state form) = state ≤ STATE_BYTES
 IsInRange order = Unit {0}
 
--- the command of this name asks for it, with what its arguments were given
+-- the command of this name, with these arguments, makes this request
 abbrev pub AsksIn : Text → List Row → Order → Type 0
 AsksIn name rows (Run scenario) = (name ≡ codes "run")
     × HasScenario rows scenario × (is_set (codes "json") rows ≡ false) × (is_set (codes "names") rows ≡ false)
@@ -116,35 +116,35 @@ AsksIn name rows (Pack code image state form) = (name ≡ codes "pack")
 AsksIn name rows (Dis image) = (name ≡ codes "dis") × HasImage rows image
 AsksIn name rows (Native image code) = (name ≡ codes "native") × HasImage rows image × HasPath (codes "OUT") rows code
 
--- the same of the command that was used, if one was
+-- the command that was used, if there was one, makes this request
 abbrev pub AsksBy : Option (Text × List Row) → Order → Type 0
 AsksBy None o = ⊥
 AsksBy (Some used) o = AsksIn used.0 used.1 o
 
--- `clap` finds no fault in the words, and the command that they use asks for this
+-- clap finds no fault in the words, and the command that they use makes this request
 abbrev pub AsksFor : List Text → Order → Type 0
 AsksFor words o = (fault_of sblog_app words ≡ []) × AsksBy (subcommand_of sblog_app words) o
 
--- a value of which P holds, or None where P holds of none
+-- a value of which P holds, or None if P holds of none
 abbrev pub Gives : {T : Type 0} → (T → Type 0) → Option T → Type 0
 Gives {T} P None = (x : T) → P x → ⊥
 Gives {T} P (Some x) = P x
 
--- a request for what P holds of, or None where P holds of nothing
+-- a request of which P holds, or None if P holds of none
 abbrev pub GivesOrder : (Order → Type 0) → Option Request → Type 0
 GivesOrder P None = (o : Order) → P o → ⊥
 GivesOrder P (Some r) = P (order_of r)
 
--- the refusal is one for usage: of a kind of fault that `clap` finds in the words, and with something to show
+-- a usage refusal has a kind of fault that clap finds in the words, and a text to show
 abbrev pub IsRefusal : List Text → Refusal → Type 0
 IsRefusal words (refusal.Usage usage) = IsAmong usage.kind (fault_of sblog_app words) × (string_bytes usage.text ≢ [])
 IsRefusal words refusal.Memory = Unit {0}
 
--- what is shown of an order whose OUT is a file that it reads
+-- the text for an order whose OUT is a file that it reads
 abbrev pub own_input_text : Text
 own_input_text = codes "error: OUT is a file that is read\n"
 
--- the same kind, and something to show; want of memory is no usage
+-- a usage refusal has this kind and a text to show. Lack of memory is no usage
 abbrev pub Explains : ErrorKind → Refusal → Type 0
 Explains kind (refusal.Usage usage) = (usage.kind ≡ kind) × (kind ≢ OutOfMemory) × (string_bytes usage.text ≢ [])
 Explains kind refusal.Memory = Unit {0}

@@ -11,7 +11,7 @@ use Rattle.cli.specs.declared.command.TheConstants.{BUDGET}
 abbrev pub required_rule : Text → Rule
 required_rule id = record (new_rule id) { required = true; action = Some Set }
 
--- an option whose value is a number in this range; it may have to be given
+-- an option whose value is a number in this range. It may be required
 abbrev pub number_rule : Text → Bool → ℕ → ℕ → Rule
 number_rule id required low high = record (new_rule id) {
   required = required;
@@ -21,7 +21,7 @@ number_rule id required low high = record (new_rule id) {
   parser = Some (parser.Unsigned low high);
 }
 
--- an option without a value, which may be given
+-- an option without a value. It isn't required
 abbrev pub flag_rule : Text → Rule
 flag_rule id = record (new_rule id) { long = Some id; action = Some SetTrue }
 
@@ -69,7 +69,7 @@ dis_app = with_rule (new_app (codes "dis")) (required_rule (codes "IMAGE"))
 abbrev pub native_app : App
 native_app = with_rule (with_rule (new_app (codes "native")) (required_rule (codes "IMAGE"))) (required_rule (codes "OUT"))
 
--- the program with no command yet: its words leave out its own name, and one of them is a command
+-- the program without commands: its words don't have its name, and one of them has to be a command
 abbrev pub top_app : App
 top_app = on_top (λ s. record s { no_binary_name = true; subcommand_required = true })
     (new_app (codes "sblog"))

@@ -1,4 +1,4 @@
-//! The command line as `clap` is told of it.
+//! The command line for `clap`.
 
 ghost use Rattle.std.specs.Prelude.{◌≡◌, IfOk, codes, false, true};
 ghost use Rattle.clap.specs.Words.{App, Rule, app_of, rule_of, with_rule, with_subcommand};
@@ -10,13 +10,13 @@ use clap::{Arg, ArgAction, Command};
 use limits::{STATE_BYTES, WORKERS};
 use std::alloc::{AllocError, Global};
 
-/// The most calls that a worker can be given as its budget.
+/// The greatest budget of a worker, in calls.
 pub const BUDGET: u64 = 1_000_000;
 
-/// What is said of a scenario.
+/// The help of a scenario.
 const ORDERS: &str = "Text that declares processes and gives orders";
 
-/// What is said of an image.
+/// The help of an image.
 const IMAGE: &str = "Image file";
 
 /// A required argument with one value.
@@ -68,7 +68,7 @@ fn form<'a>(alloc: Global) -> Arg<'a>
     number(alloc, "form", "F", 1, 3, help).required(false)
 }
 
-/// A command with one argument more, unless it failed before.
+/// Adds an argument to a command, unless the command failed before.
 fn with<'a>(to: Result<Command<'a>, AllocError>, arg: Arg<'a>) -> Result<Command<'a>, AllocError>
     ensures shape { (app : App) (rule : Rule) → arg.entry.global ≡ false → rule_of arg.entry ≡ rule
         → IfOk to.entry (λ c. app_of c ≡ app) → IfOk result (λ c. app_of c ≡ with_rule app rule) }
@@ -81,7 +81,7 @@ fn with<'a>(to: Result<Command<'a>, AllocError>, arg: Arg<'a>) -> Result<Command
     }
 }
 
-/// A command with another one below it, unless either failed before.
+/// Adds a command below another, unless either failed before.
 fn joined<'a>(
     to: Result<Command<'a>, AllocError>,
     one: Result<Command<'a>, AllocError>,
@@ -165,7 +165,7 @@ fn explain<'a>(alloc: Global) -> Result<Command<'a>, AllocError>
     with(image, flag(alloc, "why", help))
 }
 
-/// A command that writes an image of a source.
+/// A command that makes an image of a source.
 fn writer<'a>(
     alloc: Global,
     name: &'a str,
@@ -226,7 +226,7 @@ fn native<'a>(alloc: Global) -> Result<Command<'a>, AllocError>
     )
 }
 
-/// The program without its commands, read without its own name.
+/// The program without its commands. Its own name is not among the words.
 fn program<'a>(alloc: Global) -> Result<Command<'a>, AllocError>
     ensures { IfOk result (λ c. app_of c ≡ top_app) }
 {

@@ -1,10 +1,9 @@
 //! The command line of `sblog`: words to a request.
 //!
-//! `parse_words` reads the words of a command line, without the program's own name, by the rules of
-//! `clap`. Its promise: an `Ok` comes exactly where `clap` finds no fault in the words, and holds
-//! what the words ask for then; a usage refusal comes only where it finds one, or a call for help.
-//! Both are functions of the words alone (`specs/Program.antt`, `specs/Asks.antt`). Want of memory is
-//! a refusal of its own.
+//! [`parse_words`] reads the words of a command line, without the program's own name, by the rules of
+//! `clap`. Its promise: it answers `Ok` exactly if `clap` finds no fault in the words, with what the
+//! words ask for; it refuses usage only if `clap` finds a fault, or a call for help. Both depend on the
+//! words alone (`specs/Program.antt`, `specs/Asks.antt`). That memory ran out is a refusal of its own.
 //!
 //! ```text
 //! let request = parse_words(alloc, ["check", "adder.sbi"].as_slice())?;

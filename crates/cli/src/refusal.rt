@@ -1,4 +1,4 @@
-//! Why a command line asks for nothing.
+//! Why a command line is refused.
 
 ghost use Rattle.std.specs.Prelude.{◌≡◌, ◌≢◌, IfOk, [], string_bytes};
 ghost use Rattle.cli.specs.Asks.{own_input_text};
@@ -13,12 +13,12 @@ use thiserror::Error;
 #[error("{text}")]
 pub struct Usage {
     pub kind: ErrorKind,
-    /// What to show: one or more ended lines.
+    /// What to show: one or more whole lines.
     pub text: String,
 }
 
 impl Usage {
-    /// That of words which are not UTF-8.
+    /// The usage of words that are not UTF-8.
     pub fn not_utf8(alloc: Global) -> Result<Usage, AllocError>
         ensures { IfOk result (λ u. string_bytes u.text ≢ []) }
     {
@@ -29,7 +29,7 @@ impl Usage {
         })
     }
 
-    /// That of an order whose OUT is a file that it reads.
+    /// The usage of a command whose OUT is a file that it reads.
     pub fn own_input(alloc: Global) -> Result<Usage, AllocError>
         ensures { IfOk result (λ u. string_bytes u.text ≡ own_input_text) }
     {
@@ -41,7 +41,7 @@ impl Usage {
     }
 }
 
-/// Why there is no request.
+/// Why a command line is refused.
 #[derive(Debug, Drop, Error)]
 pub enum Refusal {
     #[error("{0}")]

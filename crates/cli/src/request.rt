@@ -13,14 +13,14 @@ use limits::{STATE_BYTES, WORKERS};
 use std::alloc::{AllocError, Global};
 use std::convert::AsStr;
 
-/// What a command line asks for, a variant a command. Paths are as they were given.
+/// What a command line asks for, a variant for each command. Paths are as given.
 #[derive(Clone, Copy, Debug, PartialEq, Eq)]
 pub enum Request<'a> {
     /// `run SCENARIO`.
     Run {
         scenario: &'a str,
     },
-    /// `run [--json] [--names] SCENARIO`, with one of both at least.
+    /// `run [--json] [--names] SCENARIO`, with at least one option.
     Tell {
         scenario: &'a str,
         json: bool,
@@ -50,7 +50,7 @@ pub enum Request<'a> {
     Why {
         rule: &'a str,
     },
-    /// `asm SRC OUT --state N --form F`, with N at most 1,024; form 1 where no form is given.
+    /// `asm SRC OUT --state N --form F`, with N at most 1,024; form 1 if no form is given.
     Asm {
         source: &'a str,
         image: &'a str,
@@ -75,15 +75,14 @@ pub enum Request<'a> {
     },
 }
 
-/// The path that an argument was given.
+/// The path of an argument.
 fn path_in<'a>(matches: &ArgMatches<'a>, id: &str) -> Option<&'a str>
     ensures { option_map (λ s. s.now) result ≡ first_of id.now (rows_of (found_of matches.now)) }
 {
     matches.get_str(id)
 }
 
-/// The number that an argument was given. Its range refuses every other number already; the test here makes
-/// that a fact of the number.
+/// The number of an argument. Its rule refuses every number out of range; the test here makes that a fact.
 fn number_in(matches: &ArgMatches<'_>, id: &str, low: u64, high: u64) -> Option<u64>
     ensures { Gives (HasNumber id.now low high (rows_of (found_of matches.now))) result }
 {
@@ -105,7 +104,7 @@ fn is_set(matches: &ArgMatches<'_>, id: &str) -> bool
     }
 }
 
-/// The form of the image that is to be written.
+/// The form of the image to write.
 fn form_in(matches: &ArgMatches<'_>) -> Option<FileForm>
     ensures { Gives (HasForm (rows_of (found_of matches.now))) result }
 {
@@ -264,8 +263,7 @@ fn is_negative(word: &str) -> bool {
     }
 }
 
-/// A line that says what the value of an option is, where one was given with a sign, which `clap` takes for an option; else
-/// nothing.
+/// A line that says what the value of an option is, if it was given with a sign, which `clap` takes for an option; else empty.
 fn range_words<S: AsStr>(words: &[S]) -> &'static str {
     let mut before = "";
     for word in words {
@@ -281,7 +279,7 @@ fn range_words<S: AsStr>(words: &[S]) -> &'static str {
     ""
 }
 
-/// A line that says which commands take an option, where another was given it; else nothing.
+/// A line that says which commands take an option, if it was given to another one; else empty.
 fn option_words<S: AsStr>(words: &[S]) -> &'static str {
     let command = match words.first() {
         Some(word) => word.as_str(),
@@ -306,7 +304,7 @@ fn option_words<S: AsStr>(words: &[S]) -> &'static str {
     ""
 }
 
-/// What is said below an error of `clap`: a line, or nothing.
+/// The line below an error of `clap`, or empty.
 fn below_words<S: AsStr>(words: &[S]) -> &'static str {
     let range = range_words(words);
     if range.is_empty() {
@@ -316,7 +314,7 @@ fn below_words<S: AsStr>(words: &[S]) -> &'static str {
     }
 }
 
-/// The text of an error of `clap`, or a line in its place if it has none, and further words below it.
+/// The text of an error of `clap`, or a line in its place if it is empty, and further words below it.
 fn text_of(alloc: Global, error: &Error, below: &str) -> Result<String, AllocError>
     ensures { IfOk result (λ text. string_bytes text ≢ []) }
 {
@@ -328,7 +326,7 @@ fn text_of(alloc: Global, error: &Error, below: &str) -> Result<String, AllocErr
     Ok(text)
 }
 
-/// The refusal of a command line that `clap` refused, with further words below the error.
+/// The refusal of a command line by `clap`, with further words below the error.
 fn refusal_of(alloc: Global, error: &Error, below: &str) -> Refusal
     ensures { Explains (kind_of error.now) result }
 {

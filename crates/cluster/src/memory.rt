@@ -2,29 +2,29 @@
 
 ghost use Rattle.cluster.specs.Memory.{FewWait, LogsWait, ReceiptsAreNew, ToldIsDropped, ToldIsNew};
 
-/// What a node keeps of the messages that it received came since its last durable checkpoint.
+/// A node keeps receipts only of messages that it received since its last durable checkpoint.
 pub fn receipts_are_new()
     ensures { ReceiptsAreNew }
 {}
 
-/// A node's log for a receiver has the messages that this one doesn't have for good, and those of
-/// which the node wasn't told that it has.
+/// A node's log for a receiver has two kinds of messages: those that no durable checkpoint of the
+/// receiver covers, and those for which no Saved has told the node so.
 pub fn logs_wait()
     ensures { LogsWait }
 {}
 
-/// What a node was ever told that its receiver has for good is in its log no more, where it is up:
-/// also when it has died since.
+/// A node that is up has dropped from its log every message that its receiver ever reported as
+/// covered for good, also if the node crashed since.
 pub fn told_is_dropped()
     ensures { ToldIsDropped }
 {}
 
-/// The numbers that wait for their acknowledgement are no more than the window has.
+/// At most a window of RSNs wait for their acknowledgement.
 pub fn few_wait()
     ensures { FewWait }
 {}
 
-/// While a node collects, it holds of what a peer told it at most as many messages as it took of
+/// A node that collects holds, of what one peer told it, at most as many messages as it took from
 /// that peer since its last durable checkpoint.
 pub fn told_is_new()
     ensures { ToldIsNew }

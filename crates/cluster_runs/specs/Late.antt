@@ -10,18 +10,18 @@ use Rattle.cluster.specs.Rules.{Act, Puts, Starts, Works, Replays, Records, Coun
 use Rattle.cluster_runs.specs.Pieces.{receives, number_recorded, falls, asks, tells, resumes, restores, no_numbers, no_entries, greets, first_entry, one_after, two_after}
 use Rattle.cluster_runs.specs.Deaths.{gap_heard, gap_closed, second_entry}
 
--- the gateway has heard the Ask of node 1, and a number of before its death comes: it isn't recorded
+-- the gateway has heard the Ask of node 1; an RSN from before its death arrives, and isn't recorded
 abbrev pub LateNumberIsDropped : Type 0
 LateNumberIsDropped =
     (g : ℕ → List Message → List ℕ) (x y : List ℕ) →
     In (parcel 1 0 (Number 1 1 1)) (one_after g (gap_heard x y)).parcels
     × (¬ May (one_after g (gap_heard x y)) (Records 1 0 1 1 1))
 
--- node 1 has come back with nothing and received a message again, whose new number is recorded
+-- node 1 has come back with nothing and received a message again, whose new RSN is recorded
 abbrev pub renumbered : List ℕ → List ℕ → List Act
 renumbered x y = gap_closed x y ++ number_recorded 2 1 1
 
--- it is a run; its Resume and its Ask come a second time, and change nothing, so that the number stays
+-- it is a run; its Resume and its Ask arrive a second time and change nothing, so the RSN stays
 abbrev pub LateResumeIsDropped : Type 0
 LateResumeIsDropped =
     (g : ℕ → List Message → List ℕ) (x y : List ℕ) →
@@ -32,7 +32,7 @@ LateResumeIsDropped =
     × (¬ May (one_after g (renumbered x y)) (Hears 1 0 2 0))
     × ((one_after g (renumbered x y)).numbers 0 1 1 ≡ Some 1)
 
--- node 1 comes back with a message, receives another one, whose number is acknowledged, and dies again
+-- node 1 comes back with a message, receives another, whose RSN is acknowledged, and dies again
 abbrev pub second_death : List ℕ → List ℕ → List Act
 second_death x y =
     receives 1 x
@@ -48,15 +48,15 @@ second_death x y =
     ++ Counts 0 1 2 2
     ∷ falls 1
 
--- what the gateway has of them, by number
+-- the entries of the gateway's log for it, by RSN
 abbrev pub both_entries : List ℕ → List ℕ → ℕ → Option Message
 both_entries x y m = or_else (first_entry x m) (second_entry y m)
 
--- it asks, is told, and keeps both
+-- it asks, is told, and keeps both messages
 abbrev pub second_return : List ℕ → List ℕ → List Act
 second_return x y = second_death x y ++ asks 1 0 3 0 ++ tells 1 0 3 1 0 (both_entries x y) ++ Recovers 1 2 ∷ []
 
--- it is a run. What was told after the first death comes again, without the second message: it isn't collected, and both are kept
+-- it is a run. The answer to its first Ask arrives again, without the second message: it isn't collected, and both messages are kept
 abbrev pub OldAnswerIsDropped : Type 0
 OldAnswerIsDropped =
     (g : ℕ → List Message → List ℕ) (x y : List ℕ) →
@@ -94,20 +94,20 @@ sender_back x y =
     ∷ Puts 1 2 (Resume 2 2 0)
     ∷ []
 
--- node 2 is through with the first message
+-- node 2 finishes the first message
 abbrev pub job_done : List ℕ → List ℕ → List Act
 job_done x y = sender_back x y ++ Works 2 (message 1 1 x) ∷ []
 
--- the number under which it has it
+-- the RSN that it gave it
 abbrev pub first_number : ℕ → Option ℕ
 first_number ssn = if 1 == ssn then Some 1 else None
 
--- it obeys and answers, and so does the gateway
+-- node 2 obeys and answers, and so does the gateway
 abbrev pub job_told : List ℕ → List ℕ → List Act
 job_told x y = job_done x y ++ Obeys 1 2 2 2 0 ∷ restores 1 2 2 1 first_number ++ greets 1 2 2
 
--- it is a run. While node 2 works on a message of node 1 it neither obeys nor answers it; when it is through, the second message comes as
--- it was sent before the death, and isn't taken; and node 1 has the number of the first, which nobody had told it before
+-- it is a run. While node 2 works on a message of node 1, it neither obeys nor answers node 1. When it has finished, the second message
+-- arrives as it was sent before the death, and isn't taken. Node 1 then has the RSN of the first, which nobody had told it before
 abbrev pub OpenJobComesFirst : Type 0
 OpenJobComesFirst =
     (g : ℕ → List Message → List ℕ) (x y : List ℕ) →
@@ -119,7 +119,7 @@ OpenJobComesFirst =
     × ((two_after g (job_told x y)).numbers 1 2 1 ≡ Some 1)
     × (is_well (two_after g (job_told x y)) 1 ≡ true)
 
--- node 2 receives a message of node 1, puts out its number, which comes late, and comes back with nothing
+-- node 2 receives a message of node 1, sends its RSN, which comes late, and comes back with nothing
 abbrev pub receiver_back : List ℕ → List Act
 receiver_back x =
     receives 1 x
@@ -139,7 +139,7 @@ receiver_back x =
     ++ resumes 2 1 2 0
     ++ restores 2 1 2 1 no_numbers
 
--- then node 1 dies, and with it what it had heard of node 2; it comes back
+-- then node 1 dies, and forgets which incarnation of node 2 it had heard; it comes back
 abbrev pub both_back : List ℕ → List Act
 both_back x =
     receiver_back x
@@ -154,7 +154,7 @@ both_back x =
     ++ resumes 1 2 2 1
     ++ restores 1 2 2 2 no_numbers
 
--- it is a run; node 1 has heard of node 2's incarnation again, by what node 2 told it, and doesn't take the late number
+-- it is a run; from the answer of node 2 node 1 knows the incarnation of node 2 again, and doesn't take the late RSN
 abbrev pub HeardComesBack : Type 0
 HeardComesBack =
     (g : ℕ → List Message → List ℕ) (x : List ℕ) →
@@ -177,11 +177,11 @@ ask_forgotten =
     ++ restores 1 2 2 1 no_numbers
     ++ falls 2
 
--- it asks node 1, and the Ask of node 1 comes a second time
+-- it asks node 1, and the Ask of node 1 arrives a second time
 abbrev pub old_ask_heard : List Act
 old_ask_heard = ask_forgotten ++ asks 2 1 2 0 ++ Hears 1 2 2 0 ∷ []
 
--- node 1 tells it, and it comes back
+-- node 1 tells it its log, and it comes back
 abbrev pub old_ask_answered : List Act
 old_ask_answered =
     old_ask_heard
@@ -193,8 +193,8 @@ old_ask_answered =
     ++ resumes 2 1 2 0
     ++ restores 2 1 2 2 no_numbers
 
--- it is a run. Node 2 has forgotten that it had heard the Ask, and hears it while it collects, though node 1 is up: so the Ask doesn't say
--- that node 1 lost what it had. It is told by node 1, and both are up
+-- it is a run. Node 2 has forgotten that it had heard the Ask, and hears it while it collects, though node 1 is up: so an Ask doesn't prove
+-- that its sender lost anything. Node 1 tells it its log, and both are up
 abbrev pub OldAskIsHeard : Type 0
 OldAskIsHeard =
     (g : ℕ → List Message → List ℕ) →

@@ -1,4 +1,4 @@
--- What worked runs are made of
+-- The parts of worked runs
 use Rattle.std.specs.Prelude.{ℕ, List, [], ◌∷◌, ◌++◌, Option, Some, None, ◌==◌, if◌then◌else◌}
 use Rattle.world.specs.declared.message.Message.{Message}
 use Rattle.world.specs.Worked.{relaying}
@@ -11,7 +11,7 @@ use Rattle.cluster.specs.Rules.{Act, Input, Puts, Starts, Works, Records, Hears,
 abbrev pub receives : ℕ → List ℕ → List Act
 receives ssn x = Input 1 x ∷ Puts 0 1 (Delivery 1 ssn x) ∷ Starts 0 1 1 ssn x ∷ Works 1 (message 0 ssn x) ∷ []
 
--- in incarnation i it gave that message the number k, which the gateway records
+-- in incarnation i it gave that message the RSN k, which the gateway records
 abbrev pub number_recorded : ℕ → ℕ → ℕ → List Act
 number_recorded i ssn k = Puts 1 0 (Number i ssn k) ∷ Records 1 0 i ssn k ∷ []
 
@@ -19,11 +19,11 @@ number_recorded i ssn k = Puts 1 0 (Number i ssn k) ∷ Records 1 0 i ssn k ∷ 
 abbrev pub falls : ℕ → List Act
 falls p = Dies p ∷ Opens p 0 ∷ []
 
--- p, in incarnation i, asks q for what is above k, and q hears it
+-- p, in incarnation i, asks q for what is above the RSN k, and q hears it
 abbrev pub asks : ℕ → ℕ → ℕ → ℕ → List Act
 asks p q i k = Puts p q (Ask i k) ∷ Hears p q i k ∷ []
 
--- q, in incarnation j, tells p these entries, which are all, and p collects them
+-- q, in incarnation j, tells p these entries, which are all that it has, and p collects them
 abbrev pub tells : ℕ → ℕ → ℕ → ℕ → ℕ → (ℕ → Option Message) → List Act
 tells p q i j k entries = Puts q p (Told i j k None entries) ∷ Collects q p i j k None entries ∷ []
 
@@ -31,7 +31,7 @@ tells p q i j k entries = Puts q p (Told i j k None entries) ∷ Collects q p i 
 abbrev pub resumes : ℕ → ℕ → ℕ → ℕ → List Act
 resumes p q i k = Puts p q (Resume i k 0) ∷ Obeys p q i k 0 ∷ []
 
--- q, in incarnation j, answers p, in incarnation i, with these numbers, which are all
+-- q, in incarnation j, answers p, in incarnation i, with these RSNs, which are all
 abbrev pub restores : ℕ → ℕ → ℕ → ℕ → (ℕ → Option ℕ) → List Act
 restores p q i j numbers = Puts q p (Restored i j 0 0 None numbers) ∷ Restores q p i j 0 0 numbers ∷ []
 
@@ -41,16 +41,16 @@ no_numbers ssn = None
 abbrev pub no_entries : ℕ → Option Message
 no_entries m = None
 
--- p says so to the gateway, which obeys and answers
+-- p sends its Resume to the gateway, which obeys and answers
 abbrev pub greets : ℕ → ℕ → ℕ → List Act
 greets p i k = resumes p 0 i k ++ Puts 0 p (Restored i 1 0 0 None no_numbers) ∷ Greets p i 1 0 0 no_numbers ∷ []
 
--- the gateway's first input, which it has under the number 1
+-- the gateway's first input, which its log has with the RSN 1
 abbrev pub first_entry : List ℕ → ℕ → Option Message
 first_entry x m = if 1 == m then Some (message 0 1 x) else None
 
--- a node that puts out what it receives, after these acts; and two of which the first sends what it receives to the second, which puts
--- it out. g makes their states
+-- after these acts: a node that outputs what it receives; and two nodes, of which the first sends what it receives to the second, which
+-- outputs it. g gives their states
 abbrev pub one_after : (ℕ → List Message → List ℕ) → List Act → Cluster
 one_after g acts = after_run (opening 1 (relaying 0 g)) acts
 

@@ -1,4 +1,4 @@
--- Worked runs of what a node keeps: how much it is, and when it goes
+-- Worked runs about what a node keeps: how much it is, and when it is dropped
 use Rattle.std.specs.Prelude.{◌≡◌, ℕ, List, [], ◌∷◌, ◌++◌, length, None, Bool, true, take}
 use Rattle.world.specs.declared.message.Message.{Message}
 use Rattle.world.specs.Worked.{relaying}
@@ -9,13 +9,13 @@ use Rattle.cluster.specs.Memory.{receipts, taken_since, entries, untold, unsaved
 use Rattle.cluster_runs.specs.Pieces.{receives, number_recorded, falls, asks, tells, resumes, no_numbers, first_entry, one_after}
 use Rattle.cluster_runs.specs.Worked.{comes_back}
 
--- how many messages of any kind
+-- any message counts
 abbrev pub any : Message → Bool
 any m = true
 
--- in the run of a node that comes back: the gateway's message is in its log until it is told that the node has it for good; first as
--- one that the node hasn't taken, then as one behind its checkpoint, then as one of which the gateway wasn't told. The node keeps its
--- receipt from when it takes it until a checkpoint covers it, also where it died between
+-- in the run of a node that comes back: the gateway's message is in its log until the gateway is told that the node's checkpoint covers it:
+-- first as one that the node hasn't taken, then as one after its checkpoint, then as one of which the gateway wasn't told. The node keeps
+-- its receipt from when it takes the message until a checkpoint covers it, also if it dies in between
 abbrev pub MemoryIsFilled : Type 0
 MemoryIsFilled =
     (g : ℕ → List Message → List ℕ) (x : List ℕ) →
@@ -35,8 +35,8 @@ MemoryIsFilled =
     × (taken_since any 1 0 (take 22 (comes_back x)) ≡ 0)
     × (entries (one_after g (comes_back x)) 0 1 ≡ 0)
 
--- the gateway shows what node 1 puts out and tells it so; the node drops it, dies without a checkpoint and comes back: until the gateway
--- answers its Resume it has it again
+-- the gateway shows the output of node 1 and says so; the node drops it, dies without a checkpoint and comes back: until the gateway
+-- answers its Resume the node has the output again
 abbrev pub told_and_dies : List ℕ → List Act
 told_and_dies x =
     receives 1 x
@@ -70,13 +70,13 @@ ToldAgain =
 abbrev pub saves : List Act
 saves = Freezes 1 ∷ Keeps 1 ∷ Thaws 1 ∷ []
 
--- node 1 says Saved, which is lost; another checkpoint covers another message, the gateway is told of that one, and the first Saved comes
--- behind it
+-- node 1 sends Saved, which is lost; another checkpoint covers another message, the gateway is told of that one, and then the first Saved
+-- arrives
 abbrev pub saved_lost : List ℕ → List ℕ → List Act
 saved_lost x y = receives 1 x ++ saves ++ Puts 1 0 (Saved 1) ∷ receives 2 y ++ saves ++ Puts 1 0 (Saved 2) ∷ Drops 1 0 2 ∷ Drops 1 0 1 ∷ []
 
--- it is a run. The gateway's log keeps both messages until it is told, and then none: the second Saved makes up for the first, which changes
--- nothing when it comes
+-- it is a run. The gateway's log keeps both messages until it is told, and then none: the second Saved makes up for the first, which
+-- changes nothing when it arrives
 abbrev pub SavedMayBeLost : Type 0
 SavedMayBeLost =
     (g : ℕ → List Message → List ℕ) (x y : List ℕ) →

@@ -1,4 +1,4 @@
--- Worked runs: a node that comes back, and two deaths that overlap
+-- Worked runs: a node that comes back, and two recoveries that overlap
 use Rattle.std.specs.Prelude.{◌≡◌, ℕ, List, [], ◌∷◌, None, true, take, false}
 use Rattle.world.specs.declared.message.Message.{Message}
 use Rattle.world.specs.Logs.{state_of}
@@ -8,7 +8,7 @@ use Rattle.cluster.specs.Cluster.{opening, seen, is_well}
 use Rattle.cluster_runs.specs.Pieces.{no_numbers, no_entries, first_entry}
 use Rattle.cluster.specs.Rules.{Act, Input, Puts, Starts, Shows, Works, Replays, Records, Drops, Hears, Collects, Recovers, Obeys, Restores, Greets, Freezes, Keeps, Thaws, Dies, Opens, May, Run, after_run, message}
 
--- a node dies when its message's number is recorded and not yet acknowledged; it comes back with the message, and its output is shown
+-- a node dies when the RSN of its message is recorded and not yet acknowledged; it comes back with the message, and its output is shown
 abbrev pub comes_back : List ℕ → List Act
 comes_back x =
     Input 1 x
@@ -47,7 +47,7 @@ NodeComesBack =
     × (state_of (seen (after_run (opening 1 (relaying 0 g)) (comes_back x))) 1 ≡ g 1 (message 0 1 x ∷ []))
     × ((after_run (opening 1 (relaying 0 g)) (comes_back x)).shown ≡ message 1 1 x ∷ [])
 
--- packets of before its death can still arrive, and are dropped: the message was received already, and the number is of an older incarnation
+-- packets from before its death still arrive and are dropped: the message was received already, and the RSN is of an older incarnation
 abbrev pub OldPacketsAreDropped : Type 0
 OldPacketsAreDropped =
     (g : ℕ → List Message → List ℕ) (x : List ℕ) →

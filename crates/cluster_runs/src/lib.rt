@@ -1,9 +1,9 @@
-//! Worked runs of nodes: a node is killed while it is idle, while it collects, before and after a
-//! number is recorded; packets come late or not at all.
+//! Worked runs of a cluster, computed from its rules: nodes die at different moments, and packets
+//! come late or not at all.
 //!
-//! Each is a list of acts with the cluster that it leads to. That its steps may happen and that it leads
-//! there is computed from the rules of crate `cluster`, so a reader sees what these are for. That a wrong
-//! rule is refused is shown in `cluster`, by its laws.
+//! Each is a list of acts, with the cluster that it leads to. That the acts may happen and lead
+//! there is computed from the rules of crate `cluster`, so a reader sees what each rule is for. The
+//! laws of `cluster` show that wrong rules are refused.
 //!
 //! ```text
 //! node_comes_back();

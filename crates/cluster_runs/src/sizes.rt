@@ -1,19 +1,20 @@
-//! Worked runs of what a node keeps.
+//! Worked runs about what a node keeps in memory.
 
 ghost use Rattle.cluster_runs.specs.Sizes.{MemoryIsFilled, SavedMayBeLost, ToldAgain};
 
-/// A message is in a log until its sender is told that the receiver has it for good, and a receipt
-/// is kept until a checkpoint covers it.
+/// A message is in a log until its sender is told that the receiver's checkpoint covers it. A
+/// receipt is kept until a checkpoint covers it.
 pub fn memory_is_filled()
     ensures { MemoryIsFilled }
 {}
 
-/// A node that dies after it was told has the entry again while it comes back, and not when it is up.
+/// A node that dies after it was told has the log entry again during its recovery, and no longer
+/// when it is up.
 pub fn told_again()
     ensures { ToldAgain }
 {}
 
-/// A Saved that is lost is made up for by the one of the next checkpoint.
+/// If a Saved is lost, the one of the next checkpoint makes up for it.
 pub fn saved_may_be_lost()
     ensures { SavedMayBeLost }
 {}

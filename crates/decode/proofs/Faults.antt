@@ -114,7 +114,7 @@ pub all_append : (is js : List Insn) → AllByRecursion Fits is → AllByRecursi
 all_append [] js fi fj = fj
 all_append (i ∷ is) js fi fj = (fi.0, all_append is js fi.1 fj)
 
--- what is broken behind whole instructions is broken in all of the bytes, as many slots later
+-- a rule broken after whole instructions is broken in all of the bytes, as many slots later
 pub broken_later : (bytes rest : List ℕ) (is : List Insn) (r : Rule) (slot : ℕ) → AllByRecursion Fits is → slot ≡ slots is → bytes ≡ encoding is ++ rest → IsBrokenAt rest r 0 → IsBrokenAt bytes r slot
 broken_later bytes rest is r slot fits slot_is so_far b =
     let words = flat_map word_bytes (b.word ∷ b.rest) in

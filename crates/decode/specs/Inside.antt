@@ -1,3 +1,3 @@
--- What the crate's own functions say to one another. No public contract reaches it.
+-- Definitions for the crate's own functions. No public contract reaches them.
 pub mod Form
 pub mod Reg

@@ -28,9 +28,9 @@ rule_number Profile = 7
 abbrev pub Begins : Insn → Word → Option Word → Type 0
 Begins i w next = (first_word i ≡ w) × MatchOption (second_word i) (Unit {0}) (λ s. next ≡ Some s)
 
--- what each rule refuses, in a slot w before the slot next: an opcode of no instruction; a register above 10; a call or a
--- wide value of a kind that the profile leaves out; a wide instruction in the last slot; a byte swap of another width;
--- what begins no instruction (RFC 9669 sections 3.2, 4.2, 4.3.1 and 5.4)
+-- what each rule refuses in a slot w that the slot `next` follows: an opcode that no instruction has; a register above
+-- 10; a call or a wide value of a kind that the profile leaves out; a wide instruction in the last slot; a byte swap of
+-- another width; a slot that begins no instruction (RFC 9669 sections 3.2, 4.2, 4.3.1 and 5.4)
 abbrev pub Breaks : Rule → Word → Option Word → Type 0
 Breaks Length w next = ⊥
 Breaks Opcode w next = (i : Insn) → (first_word i).opcode ≢ w.opcode
@@ -44,7 +44,7 @@ Breaks Field w next = (i : Insn) → Fits i → Begins i w next → ⊥
 abbrev pub order : List Rule
 order = Opcode ∷ Register ∷ Profile ∷ Cut ∷ Width ∷ Field ∷ []
 
--- whole instructions stand before the slot, and of the rules it breaks this one first
+-- the bytes before the slot are whole instructions, and this is the first rule that the slot breaks
 pub record IsBrokenAt (bytes : List ℕ) (r : Rule) (slot : ℕ) : Type 0 where
   pub before : List Insn
   pub fits : AllByRecursion Fits before

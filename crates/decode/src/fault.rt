@@ -16,8 +16,7 @@ pub enum Rule {
     /// 2: no instruction has this opcode.
     #[error("unknown opcode")]
     Opcode,
-    /// 3: a field that is not used is not zero, also in the second slot of a wide instruction, or an offset names no
-    /// form.
+    /// 3: an unused field is not zero, in either slot of a wide instruction, or an offset names no form.
     #[error("an unused field is not zero, or an offset names no form")]
     Field,
     /// 4: a register field is above 10, used or not.
@@ -29,8 +28,8 @@ pub enum Rule {
     /// 6: the width of a byte swap is not 16, 32 or 64.
     #[error("byte swap of a width other than 16, 32 and 64")]
     Width,
-    /// 7: a call by another source than 0, or a wide value of another kind than a number, which the standard has and
-    /// this crate leaves out.
+    /// 7: a call whose source is not 0, or a wide value that is no number. The standard has these; this crate leaves
+    /// them out.
     #[error("form outside the profile")]
     Profile,
 }

@@ -1,4 +1,4 @@
-//! What an opcode stands for.
+//! What an opcode means.
 
 ghost use Rattle.std.specs.Prelude.{◌≡◌};
 ghost use Rattle.decode.specs.Encoding.{Fits};
@@ -9,14 +9,14 @@ use crate::insn::{
 };
 use crate::word::Word;
 
-#[derive(Clone, Copy, Debug, PartialEq, Eq)]
+#[derive(Clone, Copy)]
 pub enum Source {
     Imm,
     Register,
 }
 
 /// What an opcode tells of an instruction.
-#[derive(Clone, Copy, Debug, PartialEq, Eq)]
+#[derive(Clone, Copy)]
 pub enum Form {
     Alu(AluOp, Width, Source),
     Neg(Width),
@@ -122,7 +122,7 @@ pub fn form_of(opcode: u8) -> Option<Form>
     })
 }
 
-/// The signed division in place of the unsigned one, where the offset says so.
+/// The signed division instead of the unsigned one, if the offset says so.
 fn signed_of(op: AluOp, offset: u16) -> AluOp
     ensures { result ≡ signed_at op offset }
 {
@@ -166,7 +166,7 @@ fn operand_of(source: Source, src: Reg, imm: i32) -> Operand
     }
 }
 
-/// The instruction of this form that the fields name. Fields that it does not use are not looked at.
+/// The instruction with this form and these fields. Unused fields are not read.
 pub fn insn_of(form: Form, dst: Reg, src: Reg, word: &Word, next: Option<Word>) -> Insn
     ensures insn { result ≡ insn_from form dst src word.now next }
     ensures fits { Fits result }

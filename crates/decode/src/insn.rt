@@ -49,14 +49,14 @@ pub enum AluOp {
     Arsh,
 }
 
-/// What an operation takes beside its destination: a signed number, or a register (RFC 9669 section 4).
+/// What an operation takes besides its destination: a signed number, or a register (RFC 9669 section 4).
 #[derive(Clone, Copy, Debug, PartialEq, Eq)]
 pub enum Operand {
     Imm(i32),
     Reg(Reg),
 }
 
-/// To which width a move extends a sign, and from how many bits (RFC 9669 section 4.1).
+/// The width to which a move extends a sign, and from how many bits (RFC 9669 section 4.1).
 #[derive(Clone, Copy, Debug, PartialEq, Eq)]
 pub enum Extension {
     W32From8,
@@ -162,7 +162,7 @@ pub enum Insn {
     JumpLong {
         distance: i32,
     },
-    /// Jumps where the condition holds (section 4.3).
+    /// Jumps if the condition holds (section 4.3).
     JumpIf {
         condition: Condition,
         width: Width,
@@ -176,14 +176,14 @@ pub enum Insn {
     },
     /// Returns r0 (section 4.3).
     Exit,
-    /// `dst` is what stands at `src + offset` (section 5.1).
+    /// `dst` is the number at `src + offset` (section 5.1).
     Load {
         size: Size,
         dst: Reg,
         src: Reg,
         offset: i16,
     },
-    /// `dst` is what stands at `src + offset`, extended by its sign (section 5.2).
+    /// `dst` is the number at `src + offset`, extended by its sign (section 5.2).
     LoadSx {
         size: SignedSize,
         dst: Reg,

@@ -1,11 +1,12 @@
 //! The instructions of BPF (RFC 9669) and their bytes, both ways.
 //!
-//! [`Insn`] is an instruction as a Rust enum, in which nothing can be written that has no encoding. [`decode`] reads
-//! a whole list of them from bytes, [`encode`] writes them, and [`slots`] counts the eight-byte slots that they take.
+//! [`Insn`] is an instruction as a Rust enum; each of its values has an encoding. [`decode`] reads a whole list of
+//! instructions from bytes, [`encode`] writes them, and [`slots`] counts the eight-byte slots that they take.
 //!
-//! The promise: `decode` gives a list of instructions exactly where the bytes are the encoding of that list, which is
-//! then the only one; everything else is refused, with the first rule that is broken and the slot that breaks it. So
-//! `decode` of what `encode` wrote is the same list again, and `encode` of what `decode` read is the same bytes.
+//! The promise: `decode` gives a list of instructions exactly if the bytes are the encoding of that list. No other list
+//! has this encoding. All other bytes are refused, and the error names the first slot with a fault and the first rule
+//! that it breaks. So decoding what `encode` wrote gives the same list again, and encoding what `decode` read gives the
+//! same bytes.
 //!
 //! ```text
 //! let bytes = [0x07, 0x01, 0, 0, 5, 0, 0, 0, 0x95, 0, 0, 0, 0, 0, 0, 0];
@@ -15,6 +16,7 @@
 //! ```
 #![tactic(auto)]
 
+mod distance;
 mod fault;
 mod form;
 mod insn;

@@ -17,14 +17,14 @@ use crate::insn::{Insn, Reg};
 use crate::word::{SLOT, Word, word_at};
 use std::alloc::Global;
 
-/// The instructions whose encoding the bytes are, all of the bytes (RFC 9669 section 3). Nothing is read from bytes
-/// that are no encoding: the error names the first slot with a fault, and the first rule that it breaks.
+/// Reads the instructions whose encoding the bytes are (RFC 9669 section 3). Bytes that are no encoding are refused as
+/// a whole: the error names the first slot with a fault, and the first rule that it breaks.
 pub fn decode(alloc: Global, bytes: &[u8]) -> Result<Vec<Insn>, DecodeError>
-    // What is read is encoded so.
+    // The bytes are the encoding of what was read.
     ensures found { IfOk result (λ v. AllByRecursion Fits v.items × (bytes.now ≡ encoding v.items)) }
     // Eight bytes a slot.
     ensures slots { IfOk result (λ v. 8 * slots v.items ≡ length bytes.now) }
-    // What is encoded so is read, unless memory runs out.
+    // If the bytes are the encoding of a list, that list is read, unless memory runs out.
     ensures only { (is : List Insn) → AllByRecursion Fits is → bytes.now ≡ encoding is → IfOk result (λ v. v.items ≡ is) × IfErr result (λ e. e ≡ Memory) }
     // Which rule and which slot an error names.
     ensures refused { IfErr result (IsRefusal bytes.now) }
@@ -38,7 +38,7 @@ pub fn decode(alloc: Global, bytes: &[u8]) -> Result<Vec<Insn>, DecodeError>
     read_all(alloc, bytes)
 }
 
-/// The instructions of whole slots.
+/// Reads whole slots.
 fn read_all(alloc: Global, bytes: &[u8]) -> Result<Vec<Insn>, DecodeError>
     requires { length bytes.now % 8 ≡ 0 }
     ensures found { IfOk result (λ v. AllByRecursion Fits v.items × (bytes.now ≡ encoding v.items)) }
@@ -114,8 +114,8 @@ fn registers_of(word: &Word) -> Option<(Reg, Reg)>
     Some((Reg::new(word.dst)?, Reg::new(word.src)?))
 }
 
-/// Whether the slot is a call by another source than 0, or a wide value that is no number (RFC 9669 sections 4.3.1,
-/// 4.3.2 and 5.4): forms of the standard that this crate leaves out.
+/// Whether the slot is a call whose source is not 0, or a wide value that is no number (RFC 9669 sections 4.3.1, 4.3.2
+/// and 5.4). This crate leaves these forms of the standard out.
 fn is_outside_profile(word: &Word) -> bool
     ensures { IsTrue result ↔ Breaks rule.Profile word.now None }
 {
@@ -126,14 +126,14 @@ fn is_outside_profile(word: &Word) -> bool
     }
 }
 
-/// Whether the slot is the first of a wide instruction, and no other follows.
+/// Whether a wide instruction begins in the slot, and its second slot is missing.
 fn is_cut(word: &Word, next: Option<Word>) -> bool
     ensures { IsTrue result ↔ Breaks rule.Cut word.now next }
 {
     word.opcode == 0x18 && next.is_none()
 }
 
-/// Whether the slot swaps bytes of no width that there is.
+/// Whether the slot is a byte swap whose width is not 16, 32 or 64.
 fn has_no_width(word: &Word) -> bool
     ensures { IsTrue result ↔ ((word.now.opcode ≡ 0xd4) ⊎ ((word.now.opcode ≡ 0xdc) ⊎ (word.now.opcode ≡ 0xd7))) × (word.now.imm ≢ 16) × (word.now.imm ≢ 32) × (word.now.imm ≢ 64) }
 {

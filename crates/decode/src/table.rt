@@ -30,7 +30,7 @@ impl AluOp {
         }
     }
 
-    /// The offset field, which tells the signed divisions.
+    /// The offset field, 1 for a signed division.
     fn offset(self) -> u16
         ensures { result ≡ alu_offset self }
     {
@@ -322,7 +322,7 @@ impl Insn {
         }
     }
 
-    /// Whether it takes two slots, as loading 64 bits does (RFC 9669 section 3).
+    /// Whether it takes two slots, as the load of a 64-bit value does (RFC 9669 section 3).
     pub fn is_wide(&self) -> bool
         ensures { result ≡ (size_of self.now == 2) }
     {

@@ -10,7 +10,7 @@ use std::alloc::AllocError;
 pub const SLOT: usize = 8;
 
 /// The fields of a slot, as numbers without a sign (RFC 9669 section 3.1).
-#[derive(Clone, Copy, Debug, PartialEq, Eq)]
+#[derive(Clone, Copy, PartialEq, Eq)]
 pub struct Word {
     /// What the instruction does.
     pub opcode: u8,
@@ -52,7 +52,7 @@ pub fn word_at(bytes: &[u8]) -> (Word, &[u8])
     (word, rest)
 }
 
-/// Writes a slot at the end.
+/// Appends a slot.
 pub fn push_word(out: &mut Vec<u8>, word: Word) -> Result<(), AllocError>
     requires dst { word.dst < 16 }
     requires src { word.src < 16 }

@@ -9,7 +9,7 @@ use crate::insn::Insn;
 use crate::word::push_word;
 use std::alloc::{AllocError, Global};
 
-/// The bytes of the instructions, eight a slot (RFC 9669 section 3). Only memory can run out.
+/// The bytes of the instructions, eight a slot (RFC 9669 section 3). It fails only if memory runs out.
 pub fn encode(alloc: Global, insns: &[Insn]) -> Result<Vec<u8>, AllocError>
     ensures ok { IfOk result (λ v. v.items ≡ encoding insns.now) }
     ensures slots { IfOk result (λ v. length v.items ≡ 8 * slots insns.now) }
@@ -26,8 +26,7 @@ pub fn encode(alloc: Global, insns: &[Insn]) -> Result<Vec<u8>, AllocError>
     Ok(out)
 }
 
-/// How many slots the instructions take: a wide one two, each other one. No list of instructions in memory is so long
-/// that the count does not fit.
+/// How many slots the instructions take: two for a wide one, one for any other. The count of any list in memory fits.
 pub fn slots(insns: &[Insn]) -> usize
     ensures { result ≡ slots insns.now }
 {

@@ -3,7 +3,7 @@ use Rattle.std.proofs.Common.{◌≡◌, ◌∙◌, ℕ, ◌+◌, ◌<◌, List,
 use Rattle.std.proofs.lemmas.List.{take_more}
 use Rattle.std.proofs.lemmas.List.Sums.{fold-append}
 
--- behind the one at i
+-- after the one at i
 pub one_more_moment : {S X : Type 0} (f : S → X → S) (first : S) (xs : List X) (i : ℕ) (d x : X) (old new : S) → i < length xs → x ≡ get_or xs i d
     → old ≡ fold f first (take i xs) → new ≡ f old x → new ≡ fold f first (take (i + 1) xs)
 one_more_moment f first xs i d x old new lt is before more =

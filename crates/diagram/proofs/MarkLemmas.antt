@@ -29,7 +29,7 @@ module _ (n : ℕ) (es : List Entry) where
       ∙ ap (λ x. marks_from n es 0 (take i ps ++ x ∷ [])) is
       ∙ ap (λ l. marks_from n es 0 l) (sym (take_more ps i d lt)))
 
--- a part stays a part behind more text
+-- a part stays a part if more text follows
 pub has_more : (part text more : List ℕ) → HasPart part text → HasPart part (text ++ more)
 has_more part text more (before, after, is) = (before, after ++ more, ap (λ t. t ++ more) is ∙ append_assoc (before ++ part) after more)
 

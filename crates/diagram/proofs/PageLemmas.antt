@@ -6,7 +6,7 @@ use Rattle.diagram.specs.Page.{head_text, page_height, page_width}
 use Rattle.diagram.specs.Picture.{IsPicture}
 use Rattle.diagram.specs.Run.{TheRun}
 
--- what is inside stands between the beginning and the end
+-- the inner text is between the beginning and the end
 pub enclosed : (processes : ℕ) (run : TheRun) (only : Bool) (width height : ℕ) (start begun filled text inside : List ℕ) → start ≡ []
     → width ≡ page_width (length (columns only run)) → height ≡ page_height processes
     → begun ≡ start ++ head_text width height → filled ≡ begun ++ inside → text ≡ filled ++ codes "</svg>\n"

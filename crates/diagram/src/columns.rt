@@ -1,5 +1,5 @@
-//! Which columns there are: one of each refused order and of each entry, or where only messages are shown of all entries
-//! but those that move other packets.
+//! Which columns a picture has: one for each refused order and each entry. If only messages are
+//! shown, entries that move other packets have none.
 
 ghost use Rattle.std.specs.Prelude.{◌≡◌, ◌<◌, ◌+◌, ◌^◌, ◌++◌, ◌∷◌, [], IfOk, None, OnOk, Some};
 ghost use Rattle.diagram.specs.Columns.{behind, behind_entry, column, columns, keys_after, moves_other, outputs_in, text_of};
@@ -12,18 +12,18 @@ use indexmap::IndexSet;
 use std::alloc::{AllocError, Global};
 use world::{Answer, Call, Entry};
 
-/// The column of the entry at a place, or of an order that was refused behind so many entries.
+/// The column of the entry at `place`, or of an order that was refused after `place` entries.
 #[derive(Clone, Copy)]
 pub struct Column {
     pub line: usize,
     pub place: usize,
     pub refused: Option<u8>,
-    /// What the message says that the entry puts on the wire or shows.
+    /// The payload of the message that the entry puts on the wire or shows.
     pub text: Option<Payload>,
 }
 
 impl Standing {
-    /// Behind a refused order, which has a column.
+    /// Adds a refused order, which gets a column.
     fn refuse(&mut self, line: usize, number: u8) -> Result<(), AllocError>
         ensures { OnOk result (standing_of self.new ≡ record (standing_of self.old) { columns = self.old.columns.items ++ column (line, Some number) self.old.place None ∷ [] }) }
     {
@@ -36,7 +36,8 @@ impl Standing {
         Ok(())
     }
 
-    /// Behind an entry of a line, which has a column, but where only messages are shown and it moves another packet.
+    /// Adds an entry of a line. It gets a column, unless only messages are shown and it moves
+    /// another packet.
     fn enter(
         &mut self,
         run: &Run<'_>,
@@ -60,7 +61,7 @@ impl Standing {
         note(&mut self.messages, entry)
     }
 
-    /// Behind a moment of a run.
+    /// Adds a moment of a run.
     fn pass(&mut self, run: &Run<'_>, moment: Moment, only_messages: bool) -> Result<(), AllocError>
         ensures { OnOk result (standing_of self.new ≡ behind only_messages (run_of run.now) (standing_of self.old) moment) }
     {
@@ -85,8 +86,8 @@ fn outputs_in(answer: Answer) -> usize
     }
 }
 
-/// What an entry's message says, behind so many entries and outputs: the output that it shows, or the message that it
-/// puts on the wire.
+/// The payload of an entry's message, after `place` entries and `outputs` outputs: of the output
+/// that it shows, or the message that it puts on the wire.
 fn text_of(run: &Run<'_>, place: usize, outputs: usize, answer: Answer) -> Option<Payload>
     ensures { result ≡ text_of (run_of run.now) place outputs answer }
 {
@@ -96,7 +97,7 @@ fn text_of(run: &Run<'_>, place: usize, outputs: usize, answer: Answer) -> Optio
     }
 }
 
-/// Notes the keys of messages that go on the wire, or leave it.
+/// Updates the keys of the messages on the wire.
 fn note(messages: &mut IndexSet<usize>, entry: &Entry) -> Result<(), AllocError>
     ensures { OnOk result (messages.new.keys ≡ keys_after messages.old.keys entry.now) }
 {
@@ -117,7 +118,7 @@ fn note(messages: &mut IndexSet<usize>, entry: &Entry) -> Result<(), AllocError>
     Ok(())
 }
 
-/// Whether a call moves a packet that is none of these messages.
+/// Whether a call moves a packet that isn't one of these messages.
 fn moves_other(messages: &IndexSet<usize>, call: &Call) -> bool
     ensures { result ≡ moves_other messages.now.keys call.now }
 {

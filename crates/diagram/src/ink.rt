@@ -1,4 +1,4 @@
-//! What is written of a picture: lines, boxes, marks and texts, an element each.
+//! The elements of a picture: lines, boxes, marks and texts.
 //!
 //! A class names a style of `legend::STYLE`.
 
@@ -7,7 +7,7 @@ use std::alloc::AllocError;
 /// Half the height of a box, in pixels.
 const HALF: usize = 9;
 
-/// A point of the page, in pixels to the right and down.
+/// A point of the page: pixels to the right, and pixels down.
 #[derive(Clone, Copy)]
 pub struct Point {
     pub x: usize,
@@ -29,7 +29,7 @@ pub(crate) fn push_line(
     )
 }
 
-/// Writes a box on a lane, whose right side is left out where it is open.
+/// Writes a box on a lane. An open box has no right side.
 pub(crate) fn push_box(
     out: &mut String,
     class: &str,
@@ -47,7 +47,7 @@ pub(crate) fn push_box(
     )
 }
 
-/// Writes a mark, one of the shapes of `legend::STYLE`.
+/// Writes a mark, one of the shapes in `legend::STYLE`.
 pub(crate) fn push_mark(out: &mut String, shape: &str, at: Point) -> Result<(), AllocError> {
     let Point { x, y } = at;
     writeln!(out, "<use href='#{shape}' x='{x}' y='{y}'/>")

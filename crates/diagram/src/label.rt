@@ -1,4 +1,4 @@
-//! Labels: words beside a line, in an entry's column.
+//! Labels: words near a line, in an entry's column.
 //!
 //! A class names a style of `legend::STYLE`.
 
@@ -8,19 +8,19 @@ ghost use Rattle.diagram.specs.Label.{far_side, label_place, label_text};
 use crate::page::{GAP, column_x};
 use std::alloc::AllocError;
 
-/// Where a label stands beside a line.
+/// The place of a label near its line.
 #[derive(Clone, Copy)]
 pub enum Side {
     Above,
     Below,
-    /// Above what stands above the line.
+    /// Above the labels that are above the line.
     Beyond,
-    /// Below what stands below the line.
+    /// Below the labels that are below the line.
     Beneath,
 }
 
 impl Side {
-    /// The side of a line that looks away from another.
+    /// The side of a line that is away from another line.
     pub(crate) fn away(line: u8, other: u8) -> Side {
         if other < line {
             Side::Below
@@ -29,7 +29,7 @@ impl Side {
         }
     }
 
-    /// Beyond what stands on the side of a line that looks away from another.
+    /// The outer place on the side of a line that is away from another line.
     pub(crate) fn far(line: u8, other: u8) -> Side
         ensures { result ≡ far_side line other }
     {
@@ -40,7 +40,7 @@ impl Side {
         }
     }
 
-    /// The foot of a label in this column, in pixels. Those of odd columns are further out.
+    /// The height of a label in this column, in pixels down. In odd columns it is further out.
     pub(crate) fn height(self, column: usize, line: u8) -> usize
         ensures { result ≡ label_place self column line }
     {
@@ -55,7 +55,7 @@ impl Side {
     }
 }
 
-/// Writes a word beside a line.
+/// Writes a word near a line.
 pub(crate) fn push_word(
     out: &mut String,
     class: &str,
@@ -70,7 +70,7 @@ pub(crate) fn push_word(
     writeln!(out, "<text class='{class}' x='{x}' y='{y}'>{word}</text>")
 }
 
-/// Writes a word and a number beside a line.
+/// Writes a word and a number near a line.
 pub(crate) fn push_number(
     out: &mut String,
     class: &str,

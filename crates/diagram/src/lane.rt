@@ -1,15 +1,15 @@
-//! What a process is doing, as far as its line and its boxes tell.
+//! What the line and boxes of a process show.
 
 use crate::sign::Sign;
 
-/// What a line looks like.
+/// The phase that a line shows.
 #[derive(Clone, Copy, PartialEq, Eq)]
 pub enum Phase {
     Up,
     Down,
-    /// Messages up to this number are replayed; by itself, or with all others up.
+    /// Messages up to the RSN `kept` are replayed. `alone`: the process came back alone.
     Replaying { kept: u32, alone: bool },
-    /// Numbers are to be restored from so many peers.
+    /// RSNs are to be restored from `left` more peers.
     Restoring { left: usize },
 }
 
@@ -30,7 +30,7 @@ pub struct Job {
     pub serial: u32,
     /// The column where it began.
     pub column: usize,
-    /// Who sent its message; none where it is replayed.
+    /// The sender of its message. A replayed message has none.
     pub sender: Option<u8>,
 }
 
@@ -43,7 +43,7 @@ impl Job {
         }
     }
 
-    /// What the legend calls it.
+    /// The legend's sign for it.
     pub(crate) fn sign(&self) -> Sign {
         match self.sender {
             Some(_) => Sign::Call,
@@ -52,11 +52,11 @@ impl Job {
     }
 }
 
-/// The line of a process, or of the outside, at some moment.
+/// The line of a process or of the outside, at a moment.
 #[derive(Clone, Copy)]
 pub struct Lane {
     pub phase: Phase,
-    /// Where its phase began, in pixels.
+    /// Where its phase began, in pixels to the right.
     pub since: usize,
     pub job: Option<Job>,
     /// How many messages its latest checkpoint covers.
@@ -64,7 +64,7 @@ pub struct Lane {
 }
 
 impl Lane {
-    /// A line that begins here.
+    /// A line that begins here, in pixels to the right.
     pub(crate) fn new(since: usize) -> Lane {
         Lane {
             phase: Phase::Up,

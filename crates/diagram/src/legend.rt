@@ -1,4 +1,4 @@
-//! The styles of a picture, and the legend of the signs that it has.
+//! The styles of a picture, and the legend of its signs.
 
 use crate::sign::Sign;
 use std::alloc::{AllocError, Global};
@@ -8,9 +8,9 @@ pub const LEGEND_WIDTH: usize = 900;
 /// The height of the legend.
 pub const LEGEND_HEIGHT: usize = 132;
 
-/// Signs stand side by side, so many in a row.
+/// How many signs a row has.
 const IN_ROW: usize = 4;
-/// From a sign to the next one of its row, and from a row to the next.
+/// The distance from a sign to the next in its row, and from a row to the next.
 const CELL: (usize, usize) = (222, 24);
 /// Where the first sign is.
 const CORNER: (usize, usize) = (12, 20);
@@ -59,14 +59,14 @@ pub struct Legend {
 }
 
 impl Legend {
-    /// No sign so far.
+    /// A legend without signs.
     pub(crate) fn new(alloc: Global) -> Legend {
         Legend {
             signs: Vec::new(alloc),
         }
     }
 
-    /// The picture has this sign.
+    /// Adds a sign to the legend.
     pub(crate) fn note(&mut self, sign: Sign) -> Result<(), AllocError> {
         if !self.signs.contains(&sign) {
             self.signs.push(sign)?;
@@ -79,7 +79,7 @@ impl Legend {
         self.signs.contains(&sign)
     }
 
-    /// Each sign, with what it is.
+    /// All signs of the picture, each with its words.
     pub(crate) fn text(&self, alloc: Global) -> Result<String, AllocError> {
         let mut out = String::new(alloc);
         let shown = Sign::ALL.iter().filter(|sign| self.signs.contains(sign));
@@ -90,7 +90,7 @@ impl Legend {
     }
 }
 
-/// Writes a sign at its place, and what it is.
+/// Writes a sign and its words.
 fn push_sign(out: &mut String, place: usize, sign: Sign) -> Result<(), AllocError> {
     let x = CORNER.0.saturating_add((place % IN_ROW) * CELL.0);
     let y = CORNER

@@ -1,5 +1,5 @@
-//! What columns show by themselves: their numbers, and the mark and labels of an entry, on its process's line, or that an
-//! order was refused.
+//! The marks of columns: their numbers, the mark and labels of an entry on its process's line, and
+//! refused orders. Packets and handler calls are drawn elsewhere.
 //!
 //! A class names a style of `legend::STYLE`, a shape one of its shapes.
 
@@ -18,17 +18,19 @@ use world::{Answer, Call, Entry};
 /// How many bytes of a message are shown.
 const SHOWN_BYTES: usize = 4;
 
-/// How high the numbers of entries stand, the shapes of refused orders among them, the lines of the scenario, and the
-/// numbers that refused orders.
+/// The height of the numbers of entries, in pixels down.
 const ENTRY_ROW: usize = 18;
 
+/// The height of the shapes of refused orders.
 const STOP_ROW: usize = 14;
 
+/// The height of the lines of the scenario.
 const LINE_ROW: usize = 30;
 
+/// The height of the numbers of refusals.
 const REFUSED_ROW: usize = 43;
 
-/// Writes the marks of these columns, in a picture of so many processes.
+/// Writes the marks of these columns, in a picture of this many processes.
 pub(crate) fn push_marks(
     out: &mut String,
     processes: u8,
@@ -43,7 +45,7 @@ pub(crate) fn push_marks(
     Ok(())
 }
 
-/// Writes the marks of a column: the line of the scenario that it is of, and what it shows.
+/// Writes the marks of a column: the number of its line in the scenario, and what it shows.
 fn push_column_mark(
     out: &mut String,
     processes: u8,
@@ -89,7 +91,7 @@ fn push_place_mark(
     }
 }
 
-/// Writes the number of an entry, from 1, its mark, and what its message says.
+/// Writes the number of an entry, from 1, its mark, and the first bytes of its message.
 fn push_numbered(
     out: &mut String,
     processes: u8,
@@ -105,7 +107,7 @@ fn push_numbered(
     push_text(out, processes, column, &entry.call, &shown.text)
 }
 
-/// Writes that an order was refused, and the number that refused it.
+/// Writes the mark of a refused order, with the refusal's number.
 fn push_refused(out: &mut String, column: usize, number: u8) -> Result<(), AllocError>
     ensures { OnOk result (string_bytes out.new ≡ string_bytes out.old ++ refused_mark column number) }
 {
@@ -148,7 +150,7 @@ fn push_entry_mark(
     )
 }
 
-/// The number that the answer of a checkpoint, a trim, a crash or a recovery gives; else 0.
+/// The number in the answer of a checkpoint, a trim, a crash or a recovery; else 0.
 fn number_in(answer: &Answer) -> u32
     ensures { result ≡ number_in answer.now }
 {
@@ -161,7 +163,7 @@ fn number_in(answer: &Answer) -> u32
     }
 }
 
-/// Writes the mark of a call that was answered with a number.
+/// Writes the mark of a call, with the number in its answer.
 fn push_call_mark(
     out: &mut String,
     processes: u8,
@@ -203,7 +205,7 @@ fn push_call_mark(
     }
 }
 
-/// Writes where the outside hands in a message: the number of its feed, and for whom it is.
+/// Writes the mark of an input: the number of its feed, and its process.
 fn push_input(out: &mut String, column: usize, to: u8, feed: u32) -> Result<(), AllocError>
     ensures { OnOk result (string_bytes out.new ≡ string_bytes out.old ++ input_mark column to feed) }
 {
@@ -232,7 +234,8 @@ fn push_shape_at(
     writeln!(out, "<use href='#{shape}' x='{x}' y='{height}'/>")
 }
 
-/// Writes what a message says, where it begins, if both lines are there, and an output where it is shown.
+/// Writes the first bytes of a message where it begins, if both lines are there, and of an output
+/// also where it is shown.
 fn push_text(
     out: &mut String,
     processes: u8,
@@ -251,7 +254,7 @@ fn push_text(
     }
 }
 
-/// Writes the first four bytes of a message beside a line, and two dots where it has more.
+/// Writes the first four bytes of a message near a line, and two dots if it has more.
 fn push_bytes(
     out: &mut String,
     side: Side,

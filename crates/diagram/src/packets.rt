@@ -1,4 +1,4 @@
-//! What is drawn of packets.
+//! How packets are drawn.
 
 use crate::ink::{Point, push_line, push_mark};
 use crate::label::{Side, push_number, push_word};
@@ -26,7 +26,7 @@ impl Picture {
         self.place(key, wire)
     }
 
-    /// A packet goes on the wire under its key, if it is shown.
+    /// A packet goes on the wire under its key. It is drawn if its kind is shown.
     pub(crate) fn place(&mut self, key: usize, wire: Wire) -> Result<(), AllocError> {
         if !self.only_messages || wire.kind == Kind::Message {
             self.wires.insert(key, wire)?;
@@ -34,7 +34,7 @@ impl Picture {
         Ok(())
     }
 
-    /// A packet is copied: its copy begins where it began.
+    /// A packet is copied. The copy begins where the packet began.
     pub(crate) fn copy(&mut self, column: usize, key: usize, new: usize) -> Result<(), AllocError> {
         let Some(wire) = self.wires.get(&key).copied() else {
             return Ok(());
@@ -78,7 +78,7 @@ impl Picture {
         self.receive(column, wire, answer)
     }
 
-    /// The answer to an arrival is marked at its end.
+    /// Marks the answer to an arrival at the end of its arrow.
     fn receive(&mut self, column: usize, wire: Wire, answer: Answer) -> Result<(), AllocError> {
         let end = wire.end(column);
         let side = Side::away(wire.to, wire.from);
@@ -111,7 +111,7 @@ impl Picture {
         push_word(&mut self.marks, "t", side, column, here, word)
     }
 
-    /// A ring where a copied packet was copied.
+    /// Draws a ring where a packet was copied.
     pub(crate) fn mark_copy(&mut self, wire: Wire, end: Point) -> Result<(), AllocError> {
         let Some(column) = wire.copied else {
             return Ok(());

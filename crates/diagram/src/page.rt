@@ -1,4 +1,4 @@
-//! The page: where things stand, and the whole text.
+//! The page: the places of its parts, and the whole text.
 
 ghost use Rattle.std.specs.Prelude.{◌≡◌, ◌++◌, IfOk, OnOk, length, min, string_bytes};
 ghost use Rattle.indexmap.specs.IndexMap.{index_map_len};
@@ -21,28 +21,28 @@ use std::alloc::{AllocError, Global};
 use trace::name_at;
 use world::Entry;
 
-/// From a column to the next, in pixels.
+/// The distance from a column to the next, in pixels.
 const STEP: usize = 24;
-/// Where the first column is.
+/// The place of the first column.
 const FIRST: usize = 190;
 /// Where lines begin.
 const BEGIN: usize = 160;
-/// After so many columns names are written again.
+/// After this many columns the names are written again.
 const BLOCK: usize = 50;
-/// How much room they have then.
+/// How much room these names have.
 const GUTTER: usize = 140;
-/// Where the line of the outside is.
+/// The height of the outside's line.
 const TOP: usize = 100;
-/// Columns from this one on are in one place.
+/// All columns from this one on have the same place.
 const COLUMN_LIMIT: usize = 4_294_967_295;
-/// From a line to the next.
+/// The distance from a line to the next.
 pub(crate) const GAP: usize = 78;
-/// What is free behind the last column.
+/// The free room after the last column.
 const MARGIN: usize = 44;
-/// What is free below the last line, for its labels.
+/// The free room below the last line, for its labels.
 const FOOT: usize = 60;
 
-/// The middle of a column, in pixels.
+/// The middle of a column, in pixels to the right.
 pub(crate) fn column_x(column: usize) -> usize
     ensures { result ≡ column_place column }
 {
@@ -50,20 +50,22 @@ pub(crate) fn column_x(column: usize) -> usize
     FIRST + column * STEP + column / BLOCK * GUTTER
 }
 
-/// The line of a process, or of the outside (0), in pixels.
+/// The height of the line of a process, or of the outside (0), in pixels down.
 pub(crate) fn lane_y(number: u8) -> usize
     ensures { result ≡ line_place number }
 {
     TOP + usize::from(number) * GAP
 }
 
-/// The picture of a run as the text of an SVG file: a line for the outside and for each process, and
-/// a column for each moment, from left to right: each order that was refused, and each call that was accepted, which are
-/// the entries in their order. A message has its first bytes where it begins, and an output also where it is shown. Where only messages are shown, other packets are left
-/// out, and entries that copy, lose or hand over one have no column. Of more than 255 processes the
-/// first 255 have lines. Names are written as they are: those of a scenario are letters and digits, which mean nothing else
-/// in such a text. What names a process or a packet that isn't there is not drawn. Only memory can run
-/// out.
+/// The picture of a run, as the text of an SVG file. The outside has a line, and so has each
+/// process. Each moment has a column, from left to right: each refused order, and each accepted
+/// call, which are the entries in their order. A message has its first bytes where it begins, and
+/// an output also where it is shown.
+///
+/// If only messages are shown, other packets are left out, and entries that copy, lose or hand over
+/// one have no column. Of more than 255 processes the first 255 have lines. Names are written as
+/// they are: a scenario's names are letters and digits, which need no escapes. An entry that names
+/// a process or packet that isn't there is not drawn. The only error is lack of memory.
 pub fn draw(
     alloc: Global,
     processes: &IndexMap<String, Process>,
@@ -84,7 +86,7 @@ pub fn draw(
     Ok(out)
 }
 
-/// What is drawn of these columns.
+/// The drawing of these columns.
 fn drawing(
     alloc: Global,
     processes: &IndexMap<String, Process>,
@@ -120,7 +122,7 @@ fn push_run(
     push_names(picture, processes, lane_count(processes), columns.len())
 }
 
-/// The width of a page with so many columns, in pixels.
+/// The width of a page with this many columns, in pixels.
 fn page_width(columns: usize) -> usize
     ensures { result ≡ page_width columns }
 {
@@ -141,7 +143,7 @@ fn lane_count(processes: &IndexMap<String, Process>) -> u8
     u8::try_from(processes.len()).unwrap_or(u8::MAX)
 }
 
-/// Writes a thin line through a column.
+/// Writes a thin line along a column.
 fn push_column(
     picture: &mut Picture,
     column: usize,
@@ -157,7 +159,8 @@ fn push_column(
     push_line(&mut picture.lines, "column", Point { x, y: 34 }, end)
 }
 
-/// Writes the names of the rows of numbers, and of the lines, left of them and again after each block of columns.
+/// Writes the names of the rows of numbers and of the lines, at the left and again after each block
+/// of columns.
 fn push_names(
     picture: &mut Picture,
     processes: &IndexMap<String, Process>,
@@ -228,7 +231,8 @@ fn layers(alloc: Global, picture: &Picture) -> Result<String, AllocError> {
     Ok(out)
 }
 
-/// The layers of a picture of so many processes, with the marks of these columns above them, and its legend.
+/// The layers of a picture of this many processes, with the marks of these columns above them, and
+/// its legend.
 fn joined(
     alloc: Global,
     picture: &Picture,
@@ -248,7 +252,7 @@ fn joined(
     Ok(out)
 }
 
-/// Writes the beginning of an element `svg` of this size.
+/// Writes the start of an `svg` element of this size.
 fn push_head(out: &mut String, width: usize, height: usize) -> Result<(), AllocError>
     ensures { OnOk result (string_bytes out.new ≡ string_bytes out.old ++ head_text width height) }
 {

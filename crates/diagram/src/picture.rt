@@ -1,4 +1,4 @@
-//! Entries to what is drawn of them.
+//! The drawing of entries, one after the other.
 
 use crate::ink::{Point, push_line};
 use crate::lane::{Job, Lane, Phase};
@@ -10,20 +10,20 @@ use indexmap::IndexMap;
 use std::alloc::{AllocError, Global};
 use world::{Answer, Call, Entry};
 
-/// What is drawn so far, in layers, and what goes on.
+/// The drawing so far, in layers, and what isn't finished yet.
 #[derive(Drop)]
 pub struct Picture {
-    /// The lines by number, the first that of the outside.
+    /// The lines by number. The first is the outside's.
     pub lanes: Vec<Lane>,
-    /// The packets on their way, by their keys.
+    /// The packets on the wire, by their keys.
     pub wires: IndexMap<usize, Wire>,
-    /// What is drawn first, the lines.
+    /// The lowest layer: the lines.
     pub lines: String,
-    /// Then the boxes,
+    /// The next layer: the boxes.
     pub boxes: String,
-    /// the arrows,
+    /// The next layer: the arrows.
     pub arrows: String,
-    /// and marks and labels of packets and handler calls.
+    /// The top layer: marks and labels of packets and handler calls.
     pub marks: String,
     pub legend: Legend,
     /// Whether packets of numbers and acknowledgements are left out.
@@ -31,7 +31,7 @@ pub struct Picture {
 }
 
 impl Picture {
-    /// A picture of the outside and so many processes, whose lines begin here, of all packets or of messages.
+    /// A picture of the outside and `count` processes, whose lines begin at this place.
     pub(crate) fn new(
         alloc: Global,
         count: u8,
@@ -54,8 +54,8 @@ impl Picture {
         })
     }
 
-    /// Draws an entry in its column, but for the mark that it has by itself (`marks`). What names nobody that is there
-    /// isn't drawn.
+    /// Draws an entry in its column, without the mark that `marks` draws. An entry that names
+    /// nobody who is there isn't drawn.
     pub(crate) fn enter(&mut self, column: usize, entry: &Entry) -> Result<(), AllocError> {
         match (entry.call, entry.answer) {
             (Call::Input { .. }, _) => self.legend.note(Sign::Input),
@@ -87,8 +87,8 @@ impl Picture {
         }
     }
 
-    /// The lines are drawn to their ends, with the handler calls that are still open, and the packets
-    /// that are on their way half the way to where they go, a copy with its ring.
+    /// Draws the lines to their ends, with the handler calls that are still open. Packets that are
+    /// still on the wire get half their way, a copy with its ring.
     pub(crate) fn close(&mut self, column: usize) -> Result<(), AllocError> {
         let end = column_x(column);
         for number in 0..=u8::MAX {
@@ -107,7 +107,7 @@ impl Picture {
         Ok(())
     }
 
-    /// A line is drawn to its end.
+    /// Draws a line to its end.
     fn close_lane(&mut self, number: u8, lane: Lane, end: usize) -> Result<(), AllocError> {
         self.stop(number, end, true)?;
         let y = lane_y(number);
@@ -116,7 +116,7 @@ impl Picture {
         push_line(&mut self.lines, class, start, Point { x: end, y })
     }
 
-    /// A packet is drawn half the way to where it goes.
+    /// Draws half the way of a packet.
     fn close_wire(&mut self, wire: Wire, column: usize) -> Result<(), AllocError> {
         let half = wire.half(column);
         push_line(&mut self.arrows, wire.headless(), wire.start(), half)?;
@@ -125,12 +125,12 @@ impl Picture {
         self.mark_copy(wire, half)
     }
 
-    /// Whether there is a line of this number.
+    /// Whether there is a line with this number.
     pub(crate) fn has(&self, number: u8) -> bool {
         usize::from(number) < self.lanes.len()
     }
 
-    /// What a process is doing.
+    /// The phase of a process.
     pub(crate) fn phase(&self, process: u8) -> Phase {
         match self.lanes.get(usize::from(process)) {
             Some(lane) => lane.phase,
@@ -138,24 +138,24 @@ impl Picture {
         }
     }
 
-    /// Who sent the message of the open handler call.
+    /// The sender of the open handler call's message.
     pub(crate) fn sender(&self, process: u8) -> Option<u8> {
         self.lanes.get(usize::from(process))?.job?.sender
     }
 
-    /// The open handler call of a process, which is none then.
+    /// Takes out the open handler call of a process.
     pub(crate) fn take_job(&mut self, process: u8) -> Option<Job> {
         self.lanes.get_mut(usize::from(process))?.job.take()
     }
 
-    /// A process does something else, and its line looks the same.
+    /// Sets the phase of a process, whose line looks the same.
     pub(crate) fn set_phase(&mut self, process: u8, phase: Phase) {
         if let Some(lane) = self.lanes.get_mut(usize::from(process)) {
             lane.phase = phase;
         }
     }
 
-    /// A process does something else from here on.
+    /// Sets the phase of a process, whose line looks different from here on.
     pub(crate) fn begin_phase(&mut self, process: u8, since: usize, phase: Phase) {
         if let Some(lane) = self.lanes.get_mut(usize::from(process)) {
             lane.phase = phase;
@@ -163,7 +163,7 @@ impl Picture {
         }
     }
 
-    /// How many peers restore the numbers of a process: all others, or where it came back alone those
+    /// How many peers restore the RSNs of a process: all others, or if it came back alone those
     /// that are up.
     pub(crate) fn peers(&self, process: u8, alone: bool) -> usize {
         self.lanes

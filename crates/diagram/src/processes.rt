@@ -1,4 +1,4 @@
-//! What is drawn of processes: their lines, handler calls, checkpoints, crashes and recoveries.
+//! How processes are drawn: their lines, handler calls, checkpoints, crashes and recoveries.
 
 use crate::ink::{Point, push_box, push_count, push_line};
 use crate::label::{Side, push_number};
@@ -11,7 +11,7 @@ use std::alloc::AllocError;
 use world::Answer;
 
 impl Picture {
-    /// A handler call begins: with a message of a sender, or one that is replayed.
+    /// A handler call begins, for a sender's message or a replayed one.
     pub(crate) fn begin(
         &mut self,
         column: usize,
@@ -30,8 +30,8 @@ impl Picture {
         Ok(())
     }
 
-    /// The open handler call of a process, if there is one, is drawn up to here: as an open box, or as
-    /// a whole one.
+    /// Draws the open handler call of a process, if there is one, up to here, as an open box or a
+    /// closed one.
     pub(crate) fn stop(
         &mut self,
         process: u8,
@@ -70,7 +70,7 @@ impl Picture {
         }
     }
 
-    /// A message is received, and its number goes on the wire to its sender.
+    /// A message is received, and its RSN goes on the wire to its sender.
     fn commit(
         &mut self,
         column: usize,
@@ -87,7 +87,7 @@ impl Picture {
         self.place(key, Wire::new(Kind::Number, process, sender, column))
     }
 
-    /// A message is received once more.
+    /// A message is replayed.
     fn replayed(&mut self, column: usize, process: u8, rsn: u32) -> Result<(), AllocError> {
         push_number(
             &mut self.marks,
@@ -104,7 +104,7 @@ impl Picture {
         }
     }
 
-    /// A process is saved.
+    /// A process saves a checkpoint.
     pub(crate) fn checkpoint(&mut self, process: u8, length: u32) -> Result<(), AllocError> {
         let Some(lane) = self.lanes.get_mut(usize::from(process)) else {
             return Ok(());
@@ -123,7 +123,7 @@ impl Picture {
         self.turn(column, process, Phase::Down)
     }
 
-    /// A process comes back with so many messages; alone, or with all others up.
+    /// A process comes back with `kept` messages, alone or with all others up.
     pub(crate) fn recover(
         &mut self,
         column: usize,
@@ -143,7 +143,7 @@ impl Picture {
         }
     }
 
-    /// A process restores the numbers of its messages to a peer.
+    /// A process restores the RSNs of its messages to a peer.
     pub(crate) fn resync(
         &mut self,
         column: usize,
@@ -169,7 +169,7 @@ impl Picture {
         }
     }
 
-    /// A process restores numbers next; where there are no peers, it is up.
+    /// A process begins to restore RSNs. If there are no peers, it is up.
     fn restore(&mut self, column: usize, process: u8, alone: bool) -> Result<(), AllocError> {
         let left = self.peers(process, alone);
         let phase = if left == 0 {
@@ -180,7 +180,7 @@ impl Picture {
         self.turn(column, process, phase)
     }
 
-    /// The line of a process is drawn up to this column, and looks otherwise from there on.
+    /// Draws the line of a process up to this column. From there on it shows another phase.
     fn turn(&mut self, column: usize, process: u8, phase: Phase) -> Result<(), AllocError> {
         let Some(lane) = self.lanes.get(usize::from(process)) else {
             return Ok(());
@@ -199,7 +199,7 @@ impl Picture {
     }
 }
 
-/// A point of a line.
+/// The point of a line in a column.
 fn point(column: usize, process: u8) -> Point {
     Point {
         x: column_x(column),

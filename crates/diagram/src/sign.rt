@@ -1,4 +1,4 @@
-//! The signs of a picture, and what the legend says of them.
+//! The signs of a picture, and their words in the legend.
 
 /// Something that a picture shows.
 #[derive(Clone, Copy, PartialEq, Eq)]
@@ -10,11 +10,11 @@ pub enum Sign {
     Output,
     Call,
     Replayed,
-    /// A handler call that has no end.
+    /// A handler call without an end.
     Open,
     Crash,
     Recovery,
-    /// A line that replays, or restores numbers.
+    /// A line that replays or restores RSNs.
     Back,
     Sync,
     Saved,
@@ -49,7 +49,7 @@ impl Sign {
         Sign::Refused,
     ];
 
-    /// The sign, 34 pixels wide, left of the words that say what it is.
+    /// A sample of the sign, 34 pixels wide.
     pub(crate) fn sample(self) -> &'static str {
         match self {
             Sign::Input => "<use href='#input' x='17' y='0'/>",
@@ -79,7 +79,7 @@ impl Sign {
         }
     }
 
-    /// What the sign is.
+    /// The words for the sign.
     pub(crate) fn words(self) -> &'static str {
         match self {
             Sign::Input => "input, its feed and first bytes",

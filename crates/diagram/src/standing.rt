@@ -1,16 +1,16 @@
-//! Where the columns stand, from moment to moment.
+//! How far the columns of a run have come.
 
 ghost use Rattle.std.specs.Prelude.{◌≤◌};
 
 use crate::columns::Column;
 use indexmap::IndexSet;
 
-/// Where the columns stand.
+/// How far the columns of a run have come.
 #[derive(Drop)]
 pub struct Standing {
-    /// How many entries came so far.
+    /// How many entries came.
     pub place: usize,
-    /// How many outputs these show.
+    /// How many outputs these showed.
     pub outputs: usize,
     /// The keys of the messages on the wire.
     pub messages: IndexSet<usize>,

@@ -1,10 +1,10 @@
-//! Packets on their way.
+//! Packets on the wire.
 
 use crate::ink::Point;
 use crate::page::{column_x, lane_y};
 use crate::sign::Sign;
 
-/// What a packet is.
+/// The kind of a packet.
 #[derive(Clone, Copy, PartialEq, Eq)]
 pub enum Kind {
     Message,
@@ -12,15 +12,15 @@ pub enum Kind {
     Acknowledgement,
 }
 
-/// A packet on its way, from lane to lane.
+/// A packet on the wire, from line to line.
 #[derive(Clone, Copy)]
 pub struct Wire {
     pub kind: Kind,
     pub from: u8,
     pub to: u8,
-    /// The column where it went on the wire; of a copy, where the original did.
+    /// The column where it went on the wire. For a copy, where the original did.
     pub column: usize,
-    /// The column where it was copied, of a copy.
+    /// The column where a copy was made.
     pub copied: Option<usize>,
 }
 
@@ -45,7 +45,7 @@ impl Wire {
         }
     }
 
-    /// What the legend calls it.
+    /// The legend's sign for it.
     pub(crate) fn sign(&self) -> Sign {
         match self.kind {
             Kind::Message => {
@@ -86,7 +86,7 @@ impl Wire {
         }
     }
 
-    /// Where its arrow ends if it gets half the way by this column.
+    /// Where its arrow ends if it has come half its way by this column.
     pub(crate) fn half(&self, column: usize) -> Point {
         let y = (lane_y(self.from) / 2).saturating_add(lane_y(self.to) / 2);
         Point {
@@ -95,7 +95,7 @@ impl Wire {
         }
     }
 
-    /// The point of its arrow in a column on the way to an end.
+    /// The point where its arrow to this end crosses a column.
     pub(crate) fn point_at(&self, column: usize, end: Point) -> Point {
         let start = self.start();
         let x = column_x(column);

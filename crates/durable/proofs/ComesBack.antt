@@ -61,7 +61,7 @@ module _ (p : ℕ) where
   abbrev Like : Cluster → Cluster → ℕ → Type 0
   Like c d q = (d.count ≡ c.count) × ((r : ℕ) → r ≢ q → (d.stage r ≡ c.stage r) × (d.greeted r ≡ c.greeted r) × (d.phase r ≡ c.phase r))
 
-  -- a node that is up is through with its job, and waits
+  -- a node that is up finishes its job, and waits
   module _ (c : Cluster) (s : Sane c) (q : ℕ) (node : IsNode c q) (go : (d : Cluster) → Sane d → Like c d q → Waits d q → CanReach d AllUp) where
     awake : (d : Cluster) → Sane d → Like c d q → IsNode d q → d.stage q ≡ Live → d.greeted q ≡ true → is_up (d.phase q) ≡ true → CanReach d AllUp
     awake d t l n live g up = split (d.phase q) refl up

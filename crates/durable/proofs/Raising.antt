@@ -224,7 +224,7 @@ module _ (born : ℕ → ℕ) (now p : ℕ) where
   kept-here : (s : Telling) → Stand s → Kept s s
   kept-here s h = record { aged = h.aged; count = refl; stage = λ r. refl; greeted = λ r _. refl; phase = λ r _. refl; lost = λ r. refl }
 
-  -- it is through with the message that it works on
+  -- it finishes the message that it works on
   finish : (s : Telling) → Stand s → s.cluster.greeted p ≡ true → is_up (s.cluster.phase p) ≡ true → CanGo s (Raised s)
   finish s h g up = split (s.cluster.phase p) refl up
     where

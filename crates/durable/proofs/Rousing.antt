@@ -1,4 +1,4 @@
--- Nodes that are down are opened, those that are frozen thaw, and those that work on a message are through with it
+-- Nodes that are down are opened, those that are frozen thaw, and those that work on a message finish it
 use Rattle.std.proofs.Common.{◌≡◌, ◌≢◌, inl, inr, ℕ, zero, suc, ◌<◌, ◌≤◌, List, [], ◌∷◌, Bool, true, false, refl, sym, ap, ◌∙◌, subst, arith}
 use Rattle.std.specs.Prelude.{◌⊎◌, ◌==◌}
 use Rattle.std.proofs.lemmas.Bool.Decides.{nat_tests}

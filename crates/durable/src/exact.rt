@@ -1,18 +1,19 @@
-//! The whole rules, with the nodes that meet while they come back, and what it says that all are exact.
+//! The whole rules, with recoveries that meet, and what it means that all nodes stayed exact.
 
 ghost use Rattle.durable.specs.Exact.{ExactRunsDontMeet, ExactRunsKeep, StepsAreDeeds};
 
-/// A run in which no node was ever not exact is one of nodes that don't meet.
+/// A run in which every node was always exact is a run in which no recoveries meet.
 pub fn exact_runs_dont_meet()
     ensures { ExactRunsDontMeet }
 {}
 
-/// And so it keeps what these keep: no orphan, each output once, and each message received once.
+/// So it keeps the promises of such runs: no orphan, each output once, and each message received
+/// once.
 pub fn exact_runs_keep()
     ensures { ExactRunsKeep }
 {}
 
-/// Each run of the whole rules is one of deeds, so it keeps what these keep whatever fails.
+/// Each run of the whole rules is a list of deeds, so it keeps their promises whatever fails.
 pub fn steps_are_deeds()
     ensures { StepsAreDeeds }
 {}

@@ -13,7 +13,7 @@ use Rattle.handlers.specs.declared.handler.Handler.TheVariants.{Flat, Span}
 use Rattle.embed.specs.declared.calling.TheConstants.{MESSAGE}
 use Rattle.embed.specs.Calls.{IsReported}
 
--- no call is under way in the array that is kept for a handler. Those of form 3 run in another
+-- no call is under way in the array that is kept for a handler. Calls of form 3 use another array
 abbrev pub IsReady : Handler → List ℕ → Type 0
 IsReady (Flat image) mem = IsSpent MESSAGE image.len image.low mem
 IsReady (Span image) mem = Unit {0}
@@ -26,7 +26,7 @@ flat_image image = as_image (AnyFlat image)
 abbrev pub state_in : Typed → List ℕ → List ℕ
 state_in image mem = part MESSAGE image.len State mem
 
--- one call in the array, by the message and on the state that it holds
+-- one call in the array, with the message and the state that it holds
 abbrev pub IsReportedIn : Typed → Who → List ℕ → List ℕ → List ℕ → ℕ → List ℕ → ℕ → Type 0
 IsReportedIn image who mem left out at written end =
     IsReported (flat_image image) who (state_in image mem) (part MESSAGE image.len Message mem) (state_in image left) out at written end
@@ -35,7 +35,7 @@ IsReportedIn image who mem left out at written end =
 abbrev pub span_image : span.Typed → TheImage
 span_image image = as_image (AnySpan image)
 
--- the same of one call of form 3, in its array
+-- the same of a call of form 3, in its array
 abbrev pub IsReportedAfter : span.Typed → Who → List ℕ → List ℕ → List ℕ → ℕ → List ℕ → ℕ → Type 0
 IsReportedAfter image who mem left out at written end =
     IsReported (span_image image) who (span_array.state_in image.len mem) (slice_range mem 0 MESSAGE) (span_array.state_in image.len left) out at written end

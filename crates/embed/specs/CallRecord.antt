@@ -1,4 +1,4 @@
--- Records that calls of machine code leave, and the reports of such calls (docs/EMBEDDING.md).
+-- The records that calls of machine code leave, and the reports of such calls (docs/EMBEDDING.md).
 use Rattle.std.specs.Prelude.{◌≡◌, ℕ, ◌+◌, ◌^◌, ◌<◌, ◌≤◌, List, Some, length, slice_get, slice_range}
 use Rattle.operations.specs.Bytes.{le_bytes, overwritten}
 use Rattle.helpers.specs.declared.effects.Who.{Who}
@@ -12,29 +12,29 @@ use Rattle.embed.specs.declared.report.TheConstants.{REPORT_LIMIT}
 use Rattle.embed.specs.Exports.{Answers}
 use Rattle.embed.specs.Layout.{report_bytes}
 
--- a payload of 64 bytes stands in a place
+-- a place has this payload of 64 bytes
 pub record IsPayloadAt (bytes : List ℕ) (place : ℕ) (payload : List ℕ) : Type 0 where
   pub is_at : IsAt bytes place payload
   pub plain : length payload ≡ PAYLOAD
 
--- a send of such a payload, to a number of one byte, stands in a place
+-- a place has this send of such a payload, to a process whose number is one byte
 pub record IsSentAt (bytes : List ℕ) (place : ℕ) (sent : Sent) : Type 0 where
   pub low : sent.dst < 2 ^ 8
   pub dst_is : slice_range bytes place (place + 8) ≡ le_bytes 8 sent.dst
   pub payload_is : IsPayloadAt bytes place sent.payload
 
--- so many, each of which stands in its place
+-- there are `count` of these, each in its place
 pub record AreIn {A : Type 0} (Stands : ℕ → A → Type 0) (count : ℕ) (xs : List A) : Type 0 where
   pub size : length xs ≡ count
   pub each : (k : ℕ) (x : A) → slice_get xs k ≡ Some x → Stands k x
 
--- in one of so many places none stands
+-- one of the first `count` places has none
 pub record AreNotIn {A : Type 0} (Stands : ℕ → A → Type 0) (count : ℕ) : Type 0 where
   pub k : ℕ
   pub within : k < count
   pub none : (x : A) → ¬ Stands k x
 
--- a call of form 1 left this record: so many steps, and these effects
+-- a call of form 1 left this record, after this many steps and with these effects
 pub record IsLeft (bytes : List ℕ) (steps : ℕ) (e : Emitted) : Type 0 where
   pub who : Who
   pub keeps : Keeps who e bytes
@@ -43,7 +43,7 @@ pub record IsLeft (bytes : List ℕ) (steps : ℕ) (e : Emitted) : Type 0 where
   pub sends : (k : ℕ) (s : Sent) → slice_get e.sends k ≡ Some s → (s.dst < 2 ^ 8) × (length s.payload ≡ PAYLOAD)
   pub outputs : (k : ℕ) (payload : List ℕ) → slice_get e.outputs k ≡ Some payload → length payload ≡ PAYLOAD
 
--- the report of the call that left this record and answered this r0 was written from the front on
+-- the report of the call that left this record and had this r0 was written to the front
 pub record IsTold (r0 : ℕ) (bytes out written : List ℕ) : Type 0 where
   pub steps : ℕ
   pub effects : Emitted
@@ -57,7 +57,7 @@ IsUntold bytes out Room = length out < REPORT_LIMIT
 IsUntold bytes out Record = (REPORT_LIMIT ≤ length out) × ((steps : ℕ) (e : Emitted) → ¬ IsLeft bytes steps e)
 IsUntold bytes out why = ⊥
 
--- what a code says of the report of a record. A refusal leaves the buffer as it was
+-- the meaning of a code for the report of a record. A refusal leaves the buffer as it was
 abbrev pub Reports : ℕ → ℕ → List ℕ → List ℕ → List ℕ → Type 0
 Reports code r0 bytes out written =
     Answers code (IsTold r0 bytes out written) (λ why. IsUntold bytes out why × (written ≡ out))

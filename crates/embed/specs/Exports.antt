@@ -1,4 +1,4 @@
--- What the exports answer (docs/EMBEDDING.md).
+-- The answers of the exports (docs/EMBEDDING.md).
 use Rattle.std.specs.Prelude.{◌≡◌, ◌≢◌, ◌⊎◌, ℕ, ◌*◌, ◌/◌, ◌%◌, ◌<◌, ◌≤◌, List, [], ◌∷◌, length}
 use Rattle.decode.specs.Refusal as decoding
 use Rattle.helpers.specs.declared.effects.Who.{Who}
@@ -37,14 +37,14 @@ refusal_number Form = 9
 refusal_number Handle = 10
 refusal_number Record = 12
 
--- the broken rule, 0 where there is none
+-- the broken rule, 0 if there is none
 abbrev pub refused_rule : ImageError → ℕ
 refused_rule error.Memory = 0
 refused_rule (error.Header fault) = header_fault_number fault
 refused_rule (error.Decode rule slot) = decoding.rule_number rule
 refused_rule (error.Verify rule slot) = rules.rule_number rule
 
--- the slot that breaks it, 0 where there is none
+-- the slot that breaks it, 0 if there is none
 abbrev pub refused_slot : ImageError → ℕ
 refused_slot error.Memory = 0
 refused_slot (error.Header fault) = 0
@@ -53,7 +53,7 @@ refused_slot (error.Verify rule slot) = slot
 
 -- ---- answers
 
--- what a code says: 0 that this was done, any other number why it was not
+-- the meaning of a code: 0 means that this was done, any other number says why it was not
 abbrev pub Answers : ℕ → Type 0 → (Refusal → Type 0) → Type 0
 Answers code done refused = ((code ≡ 0) × done) ⊎ ((why : Refusal) × (code ≡ refusal_number why) × refused why)
 
@@ -64,7 +64,7 @@ pub record IsChecked (file out written : List ℕ) : Type 0 where
   pub room : FAULT_SIZE ≤ length out
   pub same : written ≡ out
 
--- why a file is refused, and what is written of it: the room is judged before the file
+-- why a file is refused, and what is written of it: the buffer is judged before the file
 abbrev pub IsUnchecked : List ℕ → List ℕ → List ℕ → Refusal → Type 0
 IsUnchecked file out written (Image e) =
     (FAULT_SIZE ≤ length out) × IsRefusal file e × (written ≡ overwritten out 0 (fault_bytes (refused_rule e) (refused_slot e)))
@@ -76,8 +76,8 @@ IsUnchecked file out written Form = ⊥
 IsUnchecked file out written Handle = ⊥
 IsUnchecked file out written Record = ⊥
 
--- calls by whole messages, with room for their reports, are done on a state as long as the file says, by its image, which
--- is not of form 2
+-- the image of the file isn't of form 2, and made these calls with whole messages and room for their reports, on a state as long as the
+-- file says
 pub record IsDone (file state : List ℕ) (who : Who) (whole room : Type 0) (calls : TheImage → Type 0) : Type 0 where
   pub image : TheImage
   pub file_is : IsTypableFile image file
@@ -88,15 +88,15 @@ pub record IsDone (file state : List ℕ) (who : Who) (whole room : Type 0) (cal
   pub reports_fit : room
   pub called : calls image
 
--- the file is that of code that has a typing
+-- the code of the file has a typing
 abbrev pub IsTypable : List ℕ → Type 0
 IsTypable file = (image : TheImage) × IsTypableFile image file
 
--- this refusal says why the file is none. Want of memory says nothing of it
+-- this refusal says why the file is not accepted. If memory ran out, nothing is known of the file
 abbrev pub IsFileRefusal : List ℕ → Refusal → Type 0
 IsFileRefusal file why = (e : ImageError) × (why ≡ Image e) × IsRefusal file e
 
--- its image is called by messages of 64 bytes
+-- its image can be called with messages of 64 bytes
 abbrev pub IsCallable : List ℕ → Type 0
 IsCallable file = (image : TheImage) × IsTypableFile image file × IsCallableForm image
 
@@ -114,7 +114,7 @@ abbrev pub IsUncallable : List ℕ → List ℕ → Refusal → Type 0
 IsUncallable file state why =
     IsFileRefusal file why ⊎ (IsTypable file × (IsFormRefusal file why ⊎ (IsCallable file × IsStateRefusal file state why)))
 
--- what the arguments of a call are judged by
+-- the tests of the arguments of a call
 pub data Test : Type 0 where
   OfSeat : Test
   OfMessages : Test
@@ -123,11 +123,11 @@ pub data Test : Type 0 where
   OfForm : Test
   OfState : Test
 
--- the order in which they are judged
+-- the order of the tests
 abbrev pub order : List Test
 order = OfSeat ∷ OfMessages ∷ OfRoom ∷ OfFile ∷ OfForm ∷ OfState ∷ []
 
--- the arguments pass a test: whole says that the messages are whole, room that their reports fit
+-- the arguments pass a test: `whole` says that the messages are whole, `room` that their reports fit
 abbrev pub Passes : List ℕ → List ℕ → Who → Type 0 → Type 0 → Test → Type 0
 Passes file state who whole room OfSeat = IsSeat who
 Passes file state who whole room OfMessages = whole
@@ -137,7 +137,7 @@ Passes file state who whole room OfForm = IsCallable file
 Passes file state who whole room OfState =
     (image : TheImage) × IsTypableFile image file × IsCallableForm image × (length state ≡ image.len)
 
--- the arguments fail it, and this is the refusal for that
+-- the arguments fail a test, with this refusal
 abbrev pub Fails : List ℕ → List ℕ → Who → Type 0 → Type 0 → Test → Refusal → Type 0
 Fails file state who whole room OfSeat why = (why ≡ NotSeat) × (¬ IsSeat who)
 Fails file state who whole room OfMessages why = (why ≡ Message) × (¬ whole)
@@ -146,13 +146,13 @@ Fails file state who whole room OfFile why = IsFileRefusal file why
 Fails file state who whole room OfForm why = IsFormRefusal file why
 Fails file state who whole room OfState why = IsStateRefusal file state why
 
--- the refusal is for the first of these tests that the arguments fail
+-- the refusal is that of the first of these tests that the arguments fail
 unfoldable pub FailsFirst : List ℕ → List ℕ → Who → Type 0 → Type 0 → List Test → Refusal → Type 0
 FailsFirst file state who whole room [] why = ⊥
 FailsFirst file state who whole room (t ∷ ts) why =
     Fails file state who whole room t why ⊎ (Passes file state who whole room t × FailsFirst file state who whole room ts why)
 
--- one call, its report written from the front
+-- one call, with its report written to the front
 abbrev pub IsCalled : List ℕ → Who → List ℕ → List ℕ → List ℕ → List ℕ → List ℕ → Type 0
 IsCalled file who state message after out written =
     IsDone file state who (length message ≡ MESSAGE) (REPORT_LIMIT ≤ length out)
@@ -163,7 +163,7 @@ abbrev pub IsCallRefusal : List ℕ → Who → List ℕ → List ℕ → List �
 IsCallRefusal file who state message out why =
     FailsFirst file state who (length message ≡ MESSAGE) (REPORT_LIMIT ≤ length out) order why
 
--- calls one after another, with room for as long a report of each
+-- calls in turn, with room for a report of the greatest size for each
 abbrev pub AreCalled : List ℕ → Who → List ℕ → List ℕ → List ℕ → List ℕ → List ℕ → Type 0
 AreCalled file who state messages after out written =
     IsDone file state who (length messages % MESSAGE ≡ 0) (REPORT_LIMIT * (length messages / MESSAGE) ≤ length out)
@@ -174,13 +174,13 @@ abbrev pub AreCallsRefused : List ℕ → Who → List ℕ → List ℕ → List
 AreCallsRefused file who state messages out why =
     FailsFirst file state who (length messages % MESSAGE ≡ 0) (REPORT_LIMIT * (length messages / MESSAGE) ≤ length out) order why
 
--- what a code says of one call. A refusal changes nothing
+-- the meaning of a code for one call. A refusal changes nothing
 abbrev pub AnswersCall : ℕ → List ℕ → Who → List ℕ → List ℕ → List ℕ → List ℕ → List ℕ → Type 0
 AnswersCall code file who state message after out written =
     Answers code (IsCalled file who state message after out written)
     (λ why. IsCallRefusal file who state message out why × (after ≡ state) × (written ≡ out))
 
--- the same of calls one after another
+-- the same for calls in turn
 abbrev pub AnswersCalls : ℕ → List ℕ → Who → List ℕ → List ℕ → List ℕ → List ℕ → List ℕ → Type 0
 AnswersCalls code file who state messages after out written =
     Answers code (AreCalled file who state messages after out written)

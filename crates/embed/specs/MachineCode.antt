@@ -1,4 +1,4 @@
--- Machine code of an image that was opened (docs/EMBEDDING.md).
+-- Machine code of an opened image (docs/EMBEDDING.md).
 use Rattle.std.specs.Prelude.{◌≡◌, ℕ, ◌<◌, ◌≤◌, List, Option, Some, None, length}
 use Rattle.operations.specs.Bytes.{overwritten}
 use Rattle.verifier.specs.declared.fault.ImageError.TheVariants.{Memory}
@@ -8,17 +8,17 @@ use Rattle.embed.specs.declared.refusal.Refusal.{Refusal}
 use Rattle.embed.specs.declared.refusal.Refusal.TheVariants.{Image, Room, Handle}
 use Rattle.embed.specs.Exports.{Answers}
 
--- why there is none of an image: memory ran out
+-- why there is none: memory ran out
 abbrev pub IsUnmade : Refusal → Type 0
 IsUnmade (Image Memory) = Unit {0}
 IsUnmade why = ⊥
 
--- these bytes are machine code of the image, and the size is how many they are
+-- these bytes are machine code of the image, and `size` is their number
 pub record IsCodeOf (image : TheImage) (size : ℕ) (code : List ℕ) : Type 0 where
   pub native : IsNativeOf image code
   pub size_is : size ≡ length code
 
--- machine code of the image was written from the front on
+-- machine code of the image was written to the front
 pub record IsCompiled (image : TheImage) (out written : List ℕ) (size : ℕ) : Type 0 where
   pub code : List ℕ
   pub code_is : IsCodeOf image size code
@@ -30,7 +30,7 @@ abbrev pub IsUncompiled : TheImage → List ℕ → ℕ → ℕ → Refusal → 
 IsUncompiled image out was size Room = (code : List ℕ) × IsCodeOf image size code × (length out < length code)
 IsUncompiled image out was size why = (size ≡ was) × IsUnmade why
 
--- what a code says of compiling a handle's image. A refusal leaves the buffer as it was
+-- the meaning of a code for compiling a handle's image. A refusal leaves the buffer as it was
 abbrev pub Compiles : ℕ → Option TheImage → List ℕ → List ℕ → ℕ → ℕ → Type 0
 Compiles code None out written was size =
     Answers code ⊥ (λ why. (why ≡ Handle) × (written ≡ out) × (size ≡ was))

@@ -9,8 +9,8 @@ use crate::report::{REPORT_LIMIT, put_report};
 use handlers::Handler;
 use helpers::{Effects, Payload, Who};
 
-/// Calls the handler by one message, and writes its report from a place on. Answers the place behind
-/// it. What an earlier call emitted is forgotten.
+/// Calls the handler with one message, and writes its report at `at`. Answers the place after it.
+/// Drops what an earlier call emitted.
 pub fn call_alone(
     handler: &Handler,
     effects: &mut Effects,

@@ -14,8 +14,8 @@ use helpers::{Effects, Who};
 use interp::{call_flat, refill, take};
 use verifier::Image;
 
-/// Calls the handler by the message that the array holds, and writes its report from a place on.
-/// Answers the place behind it. What an earlier call emitted is forgotten.
+/// Calls the handler with the message in the array, and writes its report at `at`. Answers the
+/// place after it. Drops what an earlier call emitted.
 #[inline(always)]
 fn call_once(
     image: &Image,
@@ -31,28 +31,28 @@ fn call_once(
     ensures reported { IsReportedIn image.now who mem.old mem.new out.old at out.new result }
     ensures spent { IsSpent MESSAGE image.now.len image.now.low mem.new }
 {
-    // Its clause says that the slots are those of the code.
+    // For the proof: the slots are those of the code.
     let _code = image.code();
     effects.clear();
     let end = call_flat(image, mem, MESSAGE, who, effects);
     put_report(out, at, end, effects)
 }
 
-/// Lays the state into an array in which no call is under way.
+/// Writes the state into an array in which no call is under way.
 fn lay(image: &Image, mem: &mut [u8; 1792], state: &[u8])
     requires state { length state.now ≡ image.now.len }
     requires spent { IsSpent MESSAGE image.now.len image.now.low mem.old }
     ensures state { state_in image.now mem.new ≡ state.now }
     ensures spent { IsSpent MESSAGE image.now.len image.now.low mem.new }
 {
-    // Their clauses say that the state and the stack lie in the array.
+    // For the proof: state and stack lie in the array.
     let _low = image.low();
     let _len = image.state_len();
     put(mem, 256, state);
 }
 
-/// Calls the handler by one message after another, and writes the reports from the front on. The
-/// state stays in one array for all calls, which goes from one run of calls to the next.
+/// Calls the handler with each message in turn, and writes the reports from the front of `out`. The
+/// state stays in one array during these calls, and the array is kept for the next ones.
 pub fn call_each(
     image: &Image,
     mem: &mut [u8; 1792],
@@ -70,7 +70,7 @@ pub fn call_each(
     ensures reported { AreReported (flat_image image.now) who state.old messages.now state.new out.old out.new }
     ensures spent { IsSpent MESSAGE image.now.len image.now.low mem.new }
 {
-    // Its clause says that the state lies in the array.
+    // For the proof: the state lies in the array.
     let _len = image.state_len();
     lay(image, mem, state);
     let mut end = 0;

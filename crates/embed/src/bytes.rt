@@ -4,7 +4,7 @@ ghost use Rattle.std.specs.Prelude.{◌≡◌, ◌≤◌, ◌+◌, length};
 ghost use Rattle.operations.specs.Bytes.{overwritten};
 ghost use Rattle.embed.specs.Layout.{number_bytes};
 
-/// Writes bytes from a place on, and answers the place behind them.
+/// Writes bytes at `at`, and answers the place after them.
 pub fn put(out: &mut [u8], at: usize, bytes: &[u8]) -> usize
     requires { at + length bytes.now ≤ length out.old }
     ensures written { out.new ≡ overwritten out.old at bytes.now }
@@ -15,7 +15,7 @@ pub fn put(out: &mut [u8], at: usize, bytes: &[u8]) -> usize
     end
 }
 
-/// Writes a number in eight bytes, the lowest first, and answers the place behind them.
+/// Writes a number as eight bytes at `at`, the lowest first, and answers the place after them.
 pub fn put_number(out: &mut [u8], at: usize, number: u64) -> usize
     requires { at + 8 ≤ length out.old }
     ensures written { out.new ≡ overwritten out.old at (number_bytes number) }

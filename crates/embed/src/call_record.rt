@@ -1,4 +1,4 @@
-//! Records that calls of machine code leave.
+//! The records that calls of machine code leave.
 
 ghost use Rattle.std.specs.Prelude.{◌≡◌, ◌≤◌, ◌<◌, ◌+◌, ◌*◌, ℕ, List, MatchOption, OnOk, IfErr, OnErr, length, slice_range};
 ghost use Rattle.arrayvec.specs.ArrayVec.{array_vec_len};
@@ -13,7 +13,7 @@ use byteorder::{ByteOrder, LittleEndian};
 use helpers::{Payload, Sent};
 use limits::EFFECTS;
 
-/// How many bytes a record has.
+/// The size of a record in bytes.
 pub const RECORD_SIZE: usize = 4416;
 
 /// Where the places for sends begin.
@@ -22,13 +22,13 @@ pub const SENDS: usize = 64;
 /// Where the places for outputs begin.
 pub const OUTPUTS: usize = 2240;
 
-/// How many bytes a place has.
+/// The size of a place in bytes.
 pub const PLACE: usize = 272;
 
-/// How many bytes a payload of form 1 has.
+/// The size of a payload of form 1 in bytes.
 pub const PAYLOAD: usize = 64;
 
-/// What a call of form 1 left: how many steps it made, and what it emitted.
+/// What a call of form 1 left: how many steps it took, and what it emitted.
 #[derive(Drop)]
 pub struct Left {
     pub steps: u64,
@@ -36,7 +36,7 @@ pub struct Left {
     pub outputs: ArrayVec<Payload, EFFECTS>,
 }
 
-/// The number in eight bytes.
+/// The number in the eight bytes at `at`.
 fn word_at(bytes: &[u8], at: usize) -> u64
     requires { at + 8 ≤ length bytes.now }
     ensures value { result ≡ le_value (slice_range bytes.now at (at + 8)) }
@@ -57,7 +57,7 @@ fn payload_at(bytes: &[u8], place: usize) -> Option<Payload>
     Some(Payload::from_slice(&bytes[place + 16..place + 16 + PAYLOAD]))
 }
 
-/// The send in a place, to a number of one byte.
+/// The send in a place, to a process whose number is one byte.
 fn sent_at(bytes: &[u8], place: usize) -> Option<Sent>
     requires { place + PLACE ≤ length bytes.now }
     ensures { MatchOption result ((sent : Sent) → ¬ IsSentAt bytes.now place sent) (IsSentAt bytes.now place) }
@@ -73,7 +73,7 @@ fn sent_at(bytes: &[u8], place: usize) -> Option<Sent>
     })
 }
 
-/// The first sends.
+/// The first `count` sends.
 fn sends_in(bytes: &[u8], count: usize) -> Option<ArrayVec<Sent, EFFECTS>>
     requires whole { length bytes.now ≡ RECORD_SIZE }
     requires few { count ≤ EFFECTS }
@@ -87,7 +87,7 @@ fn sends_in(bytes: &[u8], count: usize) -> Option<ArrayVec<Sent, EFFECTS>>
     Some(sends)
 }
 
-/// The first outputs.
+/// The first `count` outputs.
 fn outputs_in(bytes: &[u8], count: usize) -> Option<ArrayVec<Payload, EFFECTS>>
     requires whole { length bytes.now ≡ RECORD_SIZE }
     requires few { count ≤ EFFECTS }
@@ -101,7 +101,7 @@ fn outputs_in(bytes: &[u8], count: usize) -> Option<ArrayVec<Payload, EFFECTS>>
     Some(outputs)
 }
 
-/// What a call of form 1 left in a record. `None`: no such call left it.
+/// What a call of form 1 left in a record, or `None` if no such call left it.
 fn left_in(bytes: &[u8]) -> Option<Left>
     ensures { MatchOption result ((steps : ℕ) (e : Emitted) → ¬ IsLeft bytes.now steps e) (λ left. IsLeft bytes.now left.steps (record { sends = left.sends.items; outputs = left.outputs.items })) }
 {
@@ -123,7 +123,7 @@ fn left_in(bytes: &[u8]) -> Option<Left>
     })
 }
 
-/// Writes the report of the call that left this record and answered this r0.
+/// Writes the report of the call that left this record and had this r0.
 fn write(r0: u64, bytes: &[u8], out: &mut [u8]) -> Result<(), Refusal>
     ensures done { OnOk result (IsTold r0 bytes.now out.old out.new) }
     ensures refused { IfErr result (IsUntold bytes.now out.old) }
@@ -141,7 +141,7 @@ fn write(r0: u64, bytes: &[u8], out: &mut [u8]) -> Result<(), Refusal>
     Ok(())
 }
 
-/// The code of writing a report: 0, or the number of the refusal.
+/// Writes this report, and answers 0 or the number of the refusal.
 pub fn report(r0: u64, bytes: &[u8], out: &mut [u8]) -> u32
     ensures { Reports result r0 bytes.now out.old out.new }
 {

@@ -15,10 +15,10 @@ use images::{FileForm, load};
 use limits::PROCESSES;
 use std::alloc::Global;
 
-/// How many bytes a message has.
+/// The size of a message in bytes.
 pub const MESSAGE: usize = 64;
 
-/// Checks a file. The rule and the slot of a refusal are written into `out`.
+/// Checks a file. If it is refused, writes the rule and the slot into `out`.
 pub fn check(alloc: Global, file: &[u8], out: &mut [u8]) -> Result<(), Refusal>
     ensures { MatchResult result (λ _. IsChecked file.now out.old out.new) (IsUnchecked file.now out.old out.new) }
 {
@@ -66,7 +66,7 @@ fn load_callable(alloc: Global, file: &[u8], state: &[u8]) -> Result<AnyHandler,
     Ok(handler)
 }
 
-/// Loads a file and calls its handler by one message. The report is written into `out`.
+/// Loads a file and calls its handler with one message. Writes the report into `out`.
 pub fn call(
     alloc: Global,
     file: &[u8],
@@ -94,8 +94,8 @@ pub fn call(
     Ok(())
 }
 
-/// Loads a file and calls its handler by one message of 64 bytes after another. The reports are
-/// written into `out`, one behind the other.
+/// Loads a file and calls its handler with each message of 64 bytes in turn. Writes the reports
+/// into `out`, one after another.
 pub fn call_many(
     alloc: Global,
     file: &[u8],

@@ -1,5 +1,5 @@
-//! What C calls. A code of 0 says that it is done, any other is the number of a refusal, and what
-//! either says of file, state and buffers stands in the contracts.
+//! The functions for C. Code 0 means done, any other code is the number of a refusal; the contracts
+//! say what that means for file, state and buffers.
 
 ghost use Rattle.embed.specs.CallRecord.{Reports};
 ghost use Rattle.embed.specs.Calls.{caller};
@@ -9,8 +9,8 @@ use crate::{call_record, calling};
 use helpers::Who;
 use std::alloc::Global;
 
-/// Checks an image file. Where it is refused, the rule and the slot are written into `out`, which
-/// has at least 16 bytes.
+/// Checks an image file. If it is refused, writes the rule and the slot into `out`, which has at
+/// least 16 bytes.
 #[unsafe(no_mangle)]
 pub extern "C" fn sblog_check(alloc: Global, file: &[u8], out: &mut [u8]) -> u32
     ensures { Answers result (IsChecked file.now out.old out.new) (IsUnchecked file.now out.old out.new) }
@@ -21,8 +21,8 @@ pub extern "C" fn sblog_check(alloc: Global, file: &[u8], out: &mut [u8]) -> u32
     }
 }
 
-/// Loads an image file and calls its handler by one message of 64 bytes. The state is changed in
-/// place, and the report is written into `out`, which has at least 1,064 bytes.
+/// Loads an image file and calls its handler with one message of 64 bytes. Changes the state in
+/// place, and writes the report into `out`, which has at least 1,064 bytes.
 #[unsafe(no_mangle)]
 pub extern "C" fn sblog_call(
     alloc: Global,
@@ -42,9 +42,9 @@ pub extern "C" fn sblog_call(
     }
 }
 
-/// Loads an image file and calls its handler by one message of 64 bytes after another. The state
-/// is changed in place, and the reports are written into `out`, one behind the other. It has at
-/// least 1,064 bytes a message.
+/// Loads an image file and calls its handler with each message of 64 bytes in turn. Changes the
+/// state in place, and writes the reports into `out`, one after another. `out` has at least 1,064
+/// bytes for each message.
 #[unsafe(no_mangle)]
 pub extern "C" fn sblog_call_many(
     alloc: Global,
@@ -64,8 +64,8 @@ pub extern "C" fn sblog_call_many(
     }
 }
 
-/// Writes the report of a call of machine code: of what it answered, r0, and of the record that it
-/// left. `out` has at least 1,064 bytes.
+/// Writes the report of a call of machine code from its r0 and the record that it left. `out` has
+/// at least 1,064 bytes.
 #[unsafe(no_mangle)]
 pub extern "C" fn sblog_native_report(r0: u64, bytes: &[u8], out: &mut [u8]) -> u32
     ensures { Reports result r0 bytes.now out.old out.new }

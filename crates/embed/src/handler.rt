@@ -1,4 +1,4 @@
-//! Handlers that are kept from call to call.
+//! A handler that is kept from call to call.
 
 ghost use Rattle.std.specs.Prelude.{◌≡◌};
 ghost use Rattle.interp.specs.Flat.{IsSpent};
@@ -17,8 +17,8 @@ use std::alloc::Global;
 use std::marker::Model;
 use verifier::{Image, ImageError};
 
-/// A handler of any form, the array in which calls of form 1 run one after another, and a place for
-/// what a call emits. Since both are kept, such a call clears only what the one before left.
+/// A handler of any form, the array for calls of form 1, and memory for what a call emits. Both are
+/// kept, so a call clears only what the one before left.
 #[derive(Drop)]
 pub struct Handler {
     pub(crate) handler: AnyHandler,
@@ -37,17 +37,17 @@ impl Model for Handler {
     ghost invariant = { λ h. IsReady h.handler h.mem };
 }
 
-/// The array in which no call of an image was made.
+/// The array before any call of an image.
 fn clear_array(image: &Image) -> [u8; 1792]
     ensures { IsSpent MESSAGE image.now.len image.now.low result }
 {
-    // Their clauses say that the state and the stack lie in the array.
+    // For the proof: state and stack lie in the array.
     let _low = image.low();
     let _len = image.state_len();
     [0; 1792]
 }
 
-/// The array in which no call of a handler was made.
+/// The array before any call of a handler.
 fn array_of(handler: &AnyHandler) -> [u8; 1792]
     ensures { IsReady handler.now result }
 {
@@ -64,7 +64,7 @@ impl Handler {
     ghost use Rattle.span_native.specs.AnyForm.{IsNativeOf};
     ghost use Rattle.embed.specs.MachineCode.{IsUnmade};
 
-    /// A handler that wasn't called yet.
+    /// A handler before its first call.
     pub fn new(handler: AnyHandler) -> Handler
         ensures { result ≡ the_image handler }
     {
@@ -94,14 +94,15 @@ impl Handler {
         }
     }
 
-    /// How many bytes its state has.
+    /// The length of its state in bytes.
     pub fn state_len(&self) -> usize
         ensures { result ≡ self.now.len }
     {
         self.handler.state_len() as usize
     }
 
-    /// Calls it by one message of 64 bytes after another, and writes the reports from the front on.
+    /// Calls it with each message of 64 bytes in turn, and writes the reports from the front of
+    /// `out`.
     pub fn call_each(&mut self, state: &mut [u8], messages: &[u8], who: Who, out: &mut [u8])
         requires seat { IsSeat who }
         requires form { IsCallableForm self.old }

@@ -1,5 +1,5 @@
-//! What C calls to open an image once and to call its handler often. What C holds meanwhile is a
-//! pointer, which it gives to one call at a time and closes once.
+//! The functions for C that open an image once and call its handler often. C holds a pointer, which
+//! it passes to one call at a time and closes once.
 
 ghost use Rattle.std.specs.Prelude.{◌≡◌, Option};
 ghost use Rattle.std.specs.Borrow.{sem};
@@ -15,16 +15,16 @@ use crate::opening::{Opened, close, open};
 use crate::running::run;
 use std::alloc::Global;
 
-/// The number of the refusal of a null handle.
+/// The code of a null handle.
 const NULL: u32 = 10;
 
-/// What a handle points to, of which C knows nothing.
+/// What a handle points to; C knows nothing of it.
 #[repr(C)]
 pub struct Handle {
     byte: u8,
 }
 
-/// Opens an image file. The handle stands for its image, and is null where the file is refused.
+/// Opens an image file. The handle is null if the file is refused.
 #[unsafe(no_mangle)]
 pub extern "C" fn sblog_open(alloc: Global, file: &[u8], handle: &mut *mut Handle) -> u32
     ensures* { ∃ₛ (λ held. sem 𝓛 (owns_image handle.new held) ∗ ⌜ Opens result file.now held ⌝) }
@@ -34,7 +34,7 @@ pub extern "C" fn sblog_open(alloc: Global, file: &[u8], handle: &mut *mut Handl
     code
 }
 
-/// How many bytes the state has: 0 for a null handle.
+/// The length of the state in bytes, 0 for a null handle.
 #[unsafe(no_mangle)]
 pub unsafe extern "C" fn sblog_state_len(handle: *mut Handle) -> usize
     ghost held: { Option TheImage }
@@ -48,8 +48,8 @@ pub unsafe extern "C" fn sblog_state_len(handle: *mut Handle) -> usize
     (&*handler).state_len()
 }
 
-/// Calls the handler by one message of 64 bytes after another. The state is changed in place, and
-/// the reports are written into `out`, one behind the other. It has at least 1,064 bytes a message.
+/// Calls the handler with each message of 64 bytes in turn. Changes the state in place, and writes
+/// the reports into `out`, one after another. `out` has at least 1,064 bytes for each message.
 #[unsafe(no_mangle)]
 pub unsafe extern "C" fn sblog_run(
     handle: *mut Handle,
@@ -71,8 +71,8 @@ pub unsafe extern "C" fn sblog_run(
     run(&mut *handler, state, messages, me, from, count, out)
 }
 
-/// Writes the machine code of an image from the front of `out` on. `size` becomes how many bytes that
-/// is, also where `out` has less: nothing is written then.
+/// Writes the machine code of an image to the front of `out`, and its length in bytes into `size`.
+/// If `out` is too short, writes only the length.
 #[unsafe(no_mangle)]
 pub unsafe extern "C" fn sblog_compile(
     alloc: Global,
@@ -91,7 +91,7 @@ pub unsafe extern "C" fn sblog_compile(
     compile(alloc, &*handler, out, size)
 }
 
-/// Gives the memory of an image back. Of a null handle there is none.
+/// Gives the memory of an image back. Does nothing for a null handle.
 #[unsafe(no_mangle)]
 pub unsafe extern "C" fn sblog_close(alloc: Global, handle: *mut Handle)
     ghost held: { Option TheImage }

@@ -1,16 +1,16 @@
 //! Images for programs in C and Rust: a static library that checks an image file and calls its
 //! handler.
 //!
-//! [`exports`] and [`handles`] have the functions that cross: numbers and slices of bytes go in, a
-//! code comes out, and what a call emits is written into a buffer of the caller's. Each unfit
-//! argument has a code of its own, but for a handle that was closed, which no function can tell.
-//! docs/EMBEDDING.md describes the functions and the bytes.
+//! [`exports`] and [`handles`] have the functions for C: numbers and slices of bytes go in, a code
+//! comes out, and what a call emits is written into a buffer of the caller. Each unfit argument has
+//! its own code, except a handle that was closed, which no function can tell. docs/EMBEDDING.md
+//! describes the functions and the bytes.
 //!
-//! The promise: code 0 says that the file is that of an image, that its handler was called, and
-//! that state and buffer hold what the call left by the definition of a handler call; any other
-//! code says which fault there is, and that state and buffer are unchanged. `sblog_check` alone
-//! writes the rule and the slot of a refusal. A handle stands for the image of the file that was
-//! opened, and owns its memory until it is closed.
+//! Code 0 means that the file is that of an image, that its handler was called, and that state and
+//! buffer hold what the call left, by the definition of a handler call. Any other code says which
+//! fault there is, and that state and buffer are unchanged; only `sblog_check` writes the rule and
+//! the slot of a refusal. A handle stands for the image of the file that was opened, and owns its
+//! memory until it is closed.
 //!
 //! ```c
 //! uint8_t state[8] = {0}, message[64] = {5}, report[SBLOG_REPORT_LIMIT];

@@ -6,7 +6,7 @@ ghost use Rattle.std.specs.Box.Ownership.{box_owns};
 use std::alloc::Allocator;
 use std::marker::Model;
 
-/// A box, taken apart: the pointer to its value, with the right to give the memory back.
+/// A box as the pointer to its value and the right to free it.
 pub struct Loose<T, A: Allocator> {
     pub(crate) at: *mut T,
     pub(crate) alloc: A,
@@ -26,7 +26,7 @@ impl<T: Drop, A: Allocator> Loose<T, A> {
         Loose { at, alloc }
     }
 
-    /// The box again.
+    /// Puts the box together again.
     pub fn into_box(self) -> Box<T, A>
         ensures { result.value ≡ self.value }
     {

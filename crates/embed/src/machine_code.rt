@@ -1,4 +1,4 @@
-//! Machine code of images that were opened.
+//! Machine code of opened images.
 
 ghost use Rattle.std.specs.Prelude.{◌≡◌, Some, OnOk, IfErr, OnErr};
 ghost use Rattle.embed.specs.MachineCode.{IsCompiled, IsUncompiled, Compiles};
@@ -8,8 +8,8 @@ use crate::handler::Handler;
 use crate::refusal::Refusal;
 use std::alloc::Global;
 
-/// Writes the machine code of a handler's image from the front on, and how many bytes that is, which
-/// a buffer that is too short is told too.
+/// Writes the machine code of a handler's image to the front of `out`, and its length into `size`.
+/// If `out` is too short, writes only the length.
 fn write(alloc: Global, handler: &Handler, out: &mut [u8], size: &mut usize) -> Result<(), Refusal>
     ensures done { OnOk result (IsCompiled handler.now out.old out.new size.new) }
     ensures refused { IfErr result (IsUncompiled handler.now out.old size.old size.new) }
@@ -24,7 +24,7 @@ fn write(alloc: Global, handler: &Handler, out: &mut [u8], size: &mut usize) -> 
     Ok(())
 }
 
-/// The code of writing machine code: 0, or the number of the refusal.
+/// Writes machine code, and answers 0 or the number of the refusal.
 pub fn compile(alloc: Global, handler: &Handler, out: &mut [u8], size: &mut usize) -> u32
     ensures { Compiles result (Some handler.now) out.old out.new size.old size.new }
 {

@@ -1,10 +1,10 @@
-//! Messages, one behind the other.
+//! Messages, one after another.
 
 ghost use Rattle.std.specs.Prelude.{◌≡◌, ◌≤◌, ◌+◌, length, slice_range};
 
 use crate::calling::MESSAGE;
 
-/// The 64 bytes of a message from a place on.
+/// The 64 bytes of the message at `at`.
 #[inline(always)]
 pub fn message_at(messages: &[u8], at: usize) -> &[u8]
     requires { at + MESSAGE ≤ length messages.now }

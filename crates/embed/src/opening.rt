@@ -1,4 +1,4 @@
-//! Files that are opened once.
+//! Image files that are opened once.
 
 ghost use Rattle.std.specs.Prelude.{◌≡◌, Option, Some, None, IfOk, IfErr};
 ghost use Rattle.handlers.specs.Image.{TheImage};
@@ -15,7 +15,7 @@ use std::marker::Model;
 use std::ptr::null_mut;
 use verifier::ImageError;
 
-/// What came of opening a file: a code, and the pointer to an image, which is null where there is
+/// The result of opening a file: a code, and the pointer to an image, which is null if there is
 /// none.
 pub struct Opened {
     pub(crate) at: *mut Handler,
@@ -28,7 +28,7 @@ impl Model for Opened {
 }
 
 impl Opened {
-    /// The image that was in a box.
+    /// The image of a box.
     fn of(image: Loose<Handler, Global>) -> Opened
         ensures code { result.code ≡ 0 }
         ensures held { result.held ≡ Some image.value }
@@ -49,7 +49,7 @@ impl Opened {
     }
 }
 
-/// The image of a file, in memory of its own.
+/// The image of a file, on the heap.
 fn boxed(alloc: Global, file: &[u8]) -> Result<Box<Handler>, Refusal>
     ensures image { IfOk result (λ image. IsTypableFile image.value file.now) }
     ensures refused { IfErr result (IsFileRefusal file.now) }

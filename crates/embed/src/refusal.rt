@@ -9,16 +9,17 @@ use verifier::ImageError;
 /// Why a file or a call is refused, by number.
 #[derive(Debug, Drop, Error)]
 pub enum Refusal {
-    /// 1 to 4: no memory, or a fault of the file's header, of its code, or by the verifier's rules.
+    /// 1 to 4: memory ran out, or a fault of the file's header, of its code, or by the verifier's
+    /// rules.
     #[error(transparent)]
     Image(ImageError),
     /// 5: the state isn't as long as the file says.
     #[error("the state isn't as long as the file says")]
     State,
-    /// 6: what is given isn't messages of 64 bytes.
+    /// 6: the messages are not a multiple of 64 bytes.
     #[error("no whole messages of 64 bytes")]
     Message,
-    /// 7: the numbers of the processes aren't in range.
+    /// 7: the numbers of the processes are out of range.
     #[error("numbers of processes out of range")]
     Who,
     /// 8: the buffer for the answer is too short.
@@ -30,7 +31,7 @@ pub enum Refusal {
     /// 10: the handle is null.
     #[error("the handle is null")]
     Handle,
-    /// 12: these bytes aren't a record that a call of form 1 leaves.
+    /// 12: no call of form 1 leaves such a record.
     #[error("no record of a call of form 1")]
     Record,
 }
@@ -56,7 +57,7 @@ impl Refusal {
     }
 }
 
-/// The number of the broken rule, 0 where memory ran out.
+/// The number of the broken rule, 0 if memory ran out.
 pub fn refused_rule(error: &ImageError) -> u8
     ensures { result ≡ refused_rule error.now }
 {
@@ -68,7 +69,7 @@ pub fn refused_rule(error: &ImageError) -> u8
     }
 }
 
-/// The slot that breaks it, 0 where no slot does.
+/// The slot that breaks it, 0 if no slot does.
 pub fn refused_slot(error: &ImageError) -> usize
     ensures { result ≡ refused_slot error.now }
 {

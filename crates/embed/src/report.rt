@@ -1,4 +1,4 @@
-//! What a call answers, as bytes.
+//! The report of a call, as bytes.
 
 ghost use Rattle.std.specs.Prelude.{◌≡◌, ◌≤◌, ◌+◌, ◌*◌, length};
 ghost use Rattle.std.specs.List.{flat_map};
@@ -11,13 +11,13 @@ use helpers::{Effects, Payload, Sent};
 use interp::CallEnd;
 use limits::EFFECTS;
 
-/// The most bytes that the report of one call has: four numbers, 8 sends and 8 outputs.
+/// The greatest size of the report of one call in bytes: four numbers, 8 sends and 8 outputs.
 pub const REPORT_LIMIT: usize = 1064;
 
-/// How many bytes the rule and the slot of a refusal have.
+/// The size of the rule and the slot of a refusal in bytes.
 pub const FAULT_SIZE: usize = 16;
 
-/// Writes sends, and answers the place behind them.
+/// Writes sends, and answers the place after them.
 fn put_sends(out: &mut [u8], at: usize, sends: &[Sent]) -> usize
     requires { at + 65 * length sends.now ≤ length out.old }
     ensures written { out.new ≡ overwritten out.old at (flat_map sent_bytes sends.now) }
@@ -32,7 +32,7 @@ fn put_sends(out: &mut [u8], at: usize, sends: &[Sent]) -> usize
     end
 }
 
-/// Writes outputs, and answers the place behind them.
+/// Writes outputs, and answers the place after them.
 fn put_outputs(out: &mut [u8], at: usize, outputs: &[Payload]) -> usize
     requires { at + 64 * length outputs.now ≤ length out.old }
     ensures written { out.new ≡ overwritten out.old at (flat_map view64 outputs.now) }
@@ -46,7 +46,7 @@ fn put_outputs(out: &mut [u8], at: usize, outputs: &[Payload]) -> usize
     end
 }
 
-/// Writes a report by its parts, and answers the place behind it.
+/// Writes a report from its parts, and answers the place after it.
 pub fn put_parts(
     out: &mut [u8],
     at: usize,
@@ -70,7 +70,7 @@ pub fn put_parts(
     put_outputs(out, end, outputs)
 }
 
-/// Writes the report of a call, and answers the place behind it.
+/// Writes the report of a call, and answers the place after it.
 pub fn put_report(out: &mut [u8], at: usize, call: CallEnd, effects: &Effects) -> usize
     requires { at + REPORT_LIMIT ≤ length out.old }
     ensures written { out.new ≡ overwritten out.old at (report_bytes call.r0 call.steps effects.now) }

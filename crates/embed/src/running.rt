@@ -1,4 +1,4 @@
-//! Calls of images that were opened.
+//! Calls of opened images.
 
 ghost use Rattle.std.specs.Prelude.{◌≡◌, Some, IfOk, IfErr, OnErr};
 ghost use Rattle.embed.specs.Calls.{caller};
@@ -11,8 +11,8 @@ use crate::report::REPORT_LIMIT;
 use helpers::Who;
 use images::FileForm;
 
-/// Calls the handler by one message of 64 bytes after another. The reports are written into `out`,
-/// one behind the other.
+/// Calls the handler with each message of 64 bytes in turn. Writes the reports into `out`, one
+/// after another.
 fn call_all(
     handler: &mut Handler,
     state: &mut [u8],
@@ -44,7 +44,7 @@ fn call_all(
     Ok(())
 }
 
-/// The code of calls by messages of 64 bytes: 0, or the number of the refusal.
+/// Calls the handler with messages of 64 bytes, and answers 0 or the number of the refusal.
 pub fn run(
     handler: &mut Handler,
     state: &mut [u8],
@@ -63,7 +63,7 @@ pub fn run(
     }
 }
 
-/// What calls by a handle answer, `sblog_call_many` answers for the file that was opened.
+/// Calls by a handle answer what `sblog_call_many` answers for the file that was opened.
 pub fn runs_are_calls()
     ensures done { AreDoneAsByFile }
     ensures refused { AreRefusedAsByFile }

@@ -11,8 +11,8 @@ use crate::report::{REPORT_LIMIT, put_report};
 use helpers::{Effects, Who};
 use span_interp::{Program, call_flat, fill, refill, take};
 
-/// Calls the handler by the message that the array holds, and writes its report from a place on.
-/// Answers the place behind it. What an earlier call emitted is forgotten.
+/// Calls the handler with the message in the array, and writes its report at `at`. Answers the
+/// place after it. Drops what an earlier call emitted.
 #[inline(always)]
 fn call_once(
     program: &Program,
@@ -33,8 +33,8 @@ fn call_once(
     put_report(out, at, end, effects)
 }
 
-/// Calls the handler by one message after another, and writes the reports from the front on. The
-/// state stays in one array for all calls, which a call clears only where the one before wrote.
+/// Calls the handler with each message in turn, and writes the reports from the front of `out`. The
+/// state stays in one array during these calls; a call clears only what the one before wrote.
 pub fn call_spans(
     program: &Program,
     effects: &mut Effects,
@@ -49,7 +49,7 @@ pub fn call_spans(
     requires room { REPORT_LIMIT * (length messages.now / MESSAGE) ≤ length out.old }
     ensures { AreReported (span_image program.now) who state.old messages.now state.new out.old out.new }
 {
-    // Its clause says that the state lies in the array.
+    // For the proof: the state lies in the array.
     let _len = program.state_len();
     let mut mem = [0; 2048];
     fill(program, &mut mem, &[], state);

@@ -1,4 +1,4 @@
--- What the exports answer (docs/EMBEDDING.md, "A gateway")
+-- The answers of the exports (docs/EMBEDDING.md, "A gateway")
 use Rattle.std.specs.Prelude.{◌≡◌, ◌⊎◌, ℕ, ◌<◌, ◌≤◌, List, length, Option, Some, None, Result, MatchResult}
 use Rattle.operations.specs.Bytes.{overwritten}
 use Rattle.gateway.specs.Gateway.{TheGateway}
@@ -16,8 +16,8 @@ fault_number Bytes = 21
 fault_number Early = 22
 fault_number Range = 23
 
--- what a code says of a handle, which held one thing before and holds another now: 0 that this was done, any other number why it was not,
--- and the handle is as it was
+-- the meaning of a code, with what the handle held before and holds now: 0 means that this was done, any other number says why it was not,
+-- and the handle is unchanged
 abbrev pub Answers : ℕ → Option TheGateway → Option TheGateway → (Option TheGateway → Option TheGateway → Type 0) → (Option TheGateway → Fault → Type 0) → Type 0
 Answers code old new done refused = ((code ≡ 0) × done old new) ⊎ ((why : Fault) × (code ≡ fault_number why) × refused old why × (new ≡ old))
 
@@ -30,7 +30,7 @@ Results result old new done refused = MatchResult result (λ u. done old new) (�
 abbrev pub Does : Result (Unit {0}) Fault → TheGateway → TheGateway → (TheGateway → TheGateway → Type 0) → (TheGateway → Fault → Type 0) → Type 0
 Does result old new done refused = MatchResult result (λ u. done old new) (λ why. refused old why × (new ≡ old))
 
--- where a code tells a fault, this holds
+-- if the code is a fault, this holds
 abbrev pub OnFault : ℕ → Type 0 → Type 0
 OnFault code kept = (code ≡ 0) ⊎ kept
 
@@ -42,15 +42,15 @@ OfOpen handle holds = (g : TheGateway) × (handle ≡ Some g) × holds g
 abbrev pub Calls : Option TheGateway → Option TheGateway → (TheGateway → TheGateway → Type 0) → Type 0
 Calls old new holds = (g h : TheGateway) × (old ≡ Some g) × (new ≡ Some h) × holds g h
 
--- why it was not: the handle is closed, and nothing is written; or this holds of its gateway
+-- why it was not called: the handle is closed, and nothing is written; or this holds of its gateway
 abbrev pub Refuses : Option TheGateway → Type 0 → (TheGateway → Fault → Type 0) → Fault → Type 0
 Refuses handle untouched holds why = ((why ≡ Handle) × (handle ≡ None) × untouched) ⊎ OfOpen handle (λ g. holds g why)
 
--- the buffer begins with these bytes, and their number is told
+-- the buffer begins with these bytes, and their number is written
 abbrev pub IsCopied : List ℕ → List ℕ → List ℕ → ℕ → Type 0
 IsCopied bytes old new size = (length bytes ≤ length old) × (new ≡ overwritten old 0 bytes) × (size ≡ length bytes)
 
--- the buffer is too short for them and unchanged, and their number is told
+-- the buffer is too short for them and unchanged, and their number is written
 abbrev pub IsUncopied : List ℕ → List ℕ → List ℕ → ℕ → Type 0
 IsUncopied bytes old new size = (length old < length bytes) × (new ≡ old) × (size ≡ length bytes)
 

@@ -1,4 +1,4 @@
--- What the host tells a gateway
+-- What the host hands the gateway
 use Rattle.std.specs.Prelude.{◌≡◌, ℕ, ◌+◌, ◌<◌, ◌≤◌, List, length, Option}
 use Rattle.limits.specs.declared.TheConstants.{PAYLOAD_BYTES}
 use Rattle.packets.specs.declared.fault.PacketFault.{PacketFault}
@@ -15,12 +15,12 @@ use Rattle.embed_gateway.specs.declared.fault.Fault.{Fault}
 use Rattle.embed_gateway.specs.declared.fault.Fault.TheVariants.{Memory, Payload, Bytes, Range}
 use Rattle.embed_gateway.specs.Answers.{Calls, Refuses}
 
--- a payload that isn't too long is logged for one of its processes, and sent; the number is its SSN
+-- a payload that isn't too long is logged for one of its processes, and sent; `ssn` is its SSN
 abbrev pub Logs : ℕ → List ℕ → ℕ → TheGateway → TheGateway → Type 0
 Logs p payload ssn g h =
     (length payload ≤ PAYLOAD_BYTES) × IsOf p g.store × (ssn ≡ last_of (peer_of p g) + 1) × (h ≡ puts_in p payload g) × KeepsSince g h × Acts g h
 
--- why it isn't: it is too long, there is no such process, or memory ran out; the first of these
+-- why it isn't: the first of these: it is too long, there is no such process, or memory ran out
 abbrev pub LogsNot : ℕ → List ℕ → TheGateway → Fault → Type 0
 LogsNot p payload g Payload = PAYLOAD_BYTES < length payload
 LogsNot p payload g Range = (length payload ≤ PAYLOAD_BYTES) × (¬ IsOf p g.store)
@@ -33,11 +33,11 @@ IsLogged p payload ssn old new = Calls old new (Logs p payload ssn)
 abbrev pub IsUnlogged : ℕ → List ℕ → ℕ → ℕ → Option TheGateway → Fault → Type 0
 IsUnlogged p payload was ssn old why = Refuses old (ssn ≡ was) (λ g w. LogsNot p payload g w × (ssn ≡ was)) why
 
--- the packet of these bytes is handed in
+-- the packet in these bytes is handed in
 abbrev pub Receives : List ℕ → TheGateway → TheGateway → Type 0
 Receives bytes g h = (x : Packet) × IsPacket x bytes × (h ≡ handed x g) × KeepsSince g h × IsHanded x g h
 
--- why none is: the bytes are no packet's by their first fault, or memory ran out
+-- why none is: the bytes are not a packet, by their first fault, or memory ran out
 abbrev pub ReceivesNot : List ℕ → ℕ → ℕ → Fault → Type 0
 ReceivesNot bytes was fault Bytes = (f : PacketFault) × packets.IsFirst f bytes × (fault ≡ packets.fault_number f)
 ReceivesNot bytes was fault Memory = fault ≡ was
@@ -49,7 +49,7 @@ IsReceived bytes was fault old new = Calls old new (λ g h. Receives bytes g h �
 abbrev pub IsUnreceived : List ℕ → ℕ → ℕ → Option TheGateway → Fault → Type 0
 IsUnreceived bytes was fault old why = Refuses old (fault ≡ was) (λ g w. ReceivesNot bytes was fault w) why
 
--- what isn't answered is sent again
+-- sends again what isn't answered
 abbrev pub Ticks : TheGateway → TheGateway → Type 0
 Ticks g h = (h ≡ ticked g) × KeepsSince g h × Acts g h
 

@@ -15,7 +15,7 @@ use Rattle.embed_gateway.specs.Answers.{OfOpen, Calls, Refuses, IsCopied, IsUnco
 
 -- ---- packets
 
--- the packet that waited first is taken: its bytes, and whom it is to
+-- the first packet that waits is taken: its bytes, and its receiver
 abbrev pub Gives : List ℕ → List ℕ → ℕ → ℕ → TheGateway → TheGateway → Type 0
 Gives out new size to g h = (x : Packet) × (bytes : List ℕ) × IsPacket x bytes × (x.to ≡ to) × Takes (Some x) g h × IsCopied bytes out new size
 
@@ -34,7 +34,7 @@ IsUntaken out new was size old why = Refuses old (IsUntouched out new was size) 
 
 -- ---- outputs
 
--- the output that was shown first is taken: its process, its SSN and its bytes
+-- the first output that wasn't taken is taken: its process, its SSN and its bytes
 abbrev pub Shows : ℕ → ℕ → List ℕ → List ℕ → ℕ → TheGateway → TheGateway → Type 0
 Shows process ssn out new size g h =
     ((o : Output) × (slice_get g.store.outputs 0 ≡ Some o) × (process ≡ o.process) × (ssn ≡ o.ssn) × IsCopied o.payload out new size)
@@ -53,7 +53,7 @@ IsShown process ssn out out' size old new = Calls old new (Shows process ssn out
 abbrev pub IsUnshown : List ℕ → List ℕ → ℕ → ℕ → Option TheGateway → Fault → Type 0
 IsUnshown out new was size old why = Refuses old (IsUntouched out new was size) (λ g w. ShowsNot out new was size g w) why
 
--- ---- what is kept durably
+-- ---- stable storage
 
 -- the buffer begins with the bytes of its store
 abbrev pub Spells : List ℕ → List ℕ → ℕ → TheGateway → Type 0
@@ -62,7 +62,7 @@ Spells out new size g = (bytes : List ℕ) × IsStoreBytes g.store bytes × IsCo
 abbrev pub IsStored : List ℕ → List ℕ → ℕ → Option TheGateway → Option TheGateway → Type 0
 IsStored out out' size old new = OfOpen old (Spells out out' size) × (new ≡ old)
 
--- the buffer is too short for bytes of which this holds, or memory ran out
+-- the buffer is too short for bytes for which this holds, or memory ran out
 abbrev pub WritesNot : (List ℕ → Type 0) → List ℕ → List ℕ → ℕ → ℕ → Fault → Type 0
 WritesNot Is out new was size Memory = IsUntouched out new was size
 WritesNot Is out new was size Room = (bytes : List ℕ) × Is bytes × IsUncopied bytes out new size
@@ -71,7 +71,7 @@ WritesNot Is out new was size other = ⊥
 abbrev pub IsUnstored : List ℕ → List ℕ → ℕ → ℕ → Option TheGateway → Fault → Type 0
 IsUnstored out new was size old why = Refuses old (IsUntouched out new was size) (λ g w. WritesNot (IsStoreBytes g.store) out new was size w) why
 
--- the changes since are taken: the buffer begins with their bytes
+-- the changes are taken: the buffer begins with their bytes
 abbrev pub Tells : List ℕ → List ℕ → ℕ → TheGateway → TheGateway → Type 0
 Tells out new size g h =
     ((bytes : List ℕ) × AreChanges g.changes bytes × IsCopied bytes out new size) × (h ≡ record g { changes = [] }) × Since h.store h × Acts g h

@@ -1,2 +1,2 @@
--- What no caller needs
+-- Definitions for the crate's own functions. No public contract reaches them.
 pub mod Held

@@ -1,4 +1,4 @@
-//! What the host tells the gateway of a handle.
+//! Calls of the gateway of a handle.
 
 ghost use Rattle.std.specs.Prelude.{◌≡◌};
 ghost use Rattle.embed_gateway.specs.Answers.{Does, Results};
@@ -13,7 +13,7 @@ use limits::PAYLOAD_BYTES;
 use packets::PacketError;
 use std::alloc::Global;
 
-/// Hands a message in for a process, and writes its SSN.
+/// Logs an input for a process, and writes its SSN.
 fn log(gateway: &mut Gateway, process: u8, payload: &[u8], ssn: &mut u64) -> Result<(), Fault>
     ensures { Does result gateway.old gateway.new (Logs process payload.now ssn.new) (λ g why. LogsNot process payload.now g why × (ssn.new ≡ ssn.old)) }
 {
@@ -46,7 +46,7 @@ pub(crate) fn input(
     done
 }
 
-/// Hands the bytes of a packet in. The number of their first fault is written where they are refused.
+/// Hands the bytes of a packet in. If they are refused, writes the number of their first fault.
 fn hear(alloc: Global, gateway: &mut Gateway, packet: &[u8], fault: &mut u32) -> Result<(), Fault>
     ensures { Does result gateway.old gateway.new (λ g h. Receives packet.now g h × (fault.new ≡ fault.old)) (λ _. ReceivesNot packet.now fault.old fault.new) }
 {
@@ -77,7 +77,7 @@ pub(crate) fn receive(
     done
 }
 
-/// What isn't answered is sent again.
+/// Sends again what isn't answered.
 pub(crate) fn tick(alloc: Global, handle: &mut GatewayHandle) -> Result<(), Fault>
     ensures { Results result handle.old.gateway.value handle.new.gateway.value IsTicked WasClosed }
 {

@@ -1,5 +1,5 @@
-//! What C calls. A code of 0 says that it is done, any other is the number of a fault, and what either
-//! says of handle and buffers stands in the contracts.
+//! The functions for C. Code 0 means done, any other code is the number of a fault; the contracts
+//! say what that means for handle and buffers.
 
 ghost use Rattle.std.specs.Prelude.{◌≡◌};
 ghost use Rattle.embed_gateway.specs.Answers.{Answers, OnFault};
@@ -12,8 +12,8 @@ use crate::handle::GatewayHandle;
 use crate::{calling, giving, opening};
 use std::alloc::Global;
 
-/// Opens the gateway of a new cluster of 1 to 15 processes. A packet has at most `page` bytes, 512 to
-/// 65,535, and one tick makes at most `tick` messages for a process, 1 or more.
+/// Opens the gateway of a new cluster of 1 to 15 processes. A packet has at most `page` bytes, 512
+/// to 65,535, and a tick sends at most `tick` messages to a process again, 1 or more.
 #[unsafe(no_mangle)]
 pub extern "C" fn sblog_gateway_open(
     alloc: Global,
@@ -27,8 +27,8 @@ pub extern "C" fn sblog_gateway_open(
     code(opening::open(alloc, n, page, tick, handle))
 }
 
-/// Opens the gateway that has a store which was kept when another life of it was killed. Where the bytes
-/// are refused, writes by which fault, 1 to 7.
+/// Opens the gateway with a store that was kept when an earlier one was killed. If the bytes are
+/// refused, writes the number of their fault, 1 to 7.
 #[unsafe(no_mangle)]
 pub extern "C" fn sblog_gateway_revive(
     alloc: Global,
@@ -43,8 +43,8 @@ pub extern "C" fn sblog_gateway_revive(
     code(opening::revive(alloc, store, page, tick, handle, fault))
 }
 
-/// The changes that were made durable behind the store happen. Where they are refused, writes by which
-/// fault: 1 they are not the bytes of changes, 2 one can't happen to the store as it is then.
+/// Makes changes that were made durable after the store. If they are refused, writes why: 1 if the
+/// bytes are not changes, 2 if a change doesn't fit the store after those before it.
 #[unsafe(no_mangle)]
 pub extern "C" fn sblog_gateway_apply(
     alloc: Global,
@@ -65,7 +65,7 @@ pub extern "C" fn sblog_gateway_close(alloc: Global, handle: &mut GatewayHandle)
     code(opening::close(alloc, handle))
 }
 
-/// A message of 0 to 256 bytes for a process comes from outside. Writes its SSN.
+/// Takes a message of 0 to 256 bytes from outside for a process. Writes its SSN.
 #[unsafe(no_mangle)]
 pub extern "C" fn sblog_gateway_input(
     alloc: Global,
@@ -79,8 +79,8 @@ pub extern "C" fn sblog_gateway_input(
     code(calling::input(alloc, handle, process, payload, ssn))
 }
 
-/// Bytes came. Those of a packet are taken as the rules say; any others are refused, and the number of
-/// their first fault is written, 1 to 8.
+/// Takes the bytes of a packet, as the rules say. If they are not a packet, writes the number of
+/// their first fault, 1 to 8.
 #[unsafe(no_mangle)]
 pub extern "C" fn sblog_gateway_receive(
     alloc: Global,
@@ -93,7 +93,7 @@ pub extern "C" fn sblog_gateway_receive(
     code(calling::receive(alloc, handle, packet, fault))
 }
 
-/// Takes the first packet that waits: writes its bytes, how many they are, and which process it is to.
+/// Takes the first packet that waits: writes its bytes, its length, and its receiver.
 #[unsafe(no_mangle)]
 pub extern "C" fn sblog_gateway_take(
     alloc: Global,
@@ -108,7 +108,7 @@ pub extern "C" fn sblog_gateway_take(
     code(giving::take(alloc, handle, out, size, to))
 }
 
-/// What isn't answered yet is sent again.
+/// Sends again what isn't answered.
 #[unsafe(no_mangle)]
 pub extern "C" fn sblog_gateway_tick(alloc: Global, handle: &mut GatewayHandle) -> u32
     ensures { Answers result handle.old.gateway.value handle.new.gateway.value IsTicked WasClosed }
@@ -116,8 +116,8 @@ pub extern "C" fn sblog_gateway_tick(alloc: Global, handle: &mut GatewayHandle) 
     code(calling::tick(alloc, handle))
 }
 
-/// Takes the output that was shown first of those that weren't taken: writes its process, its SSN, its
-/// bytes and how many they are.
+/// Takes the first output that wasn't taken: writes its process, its SSN, its bytes and their
+/// number.
 #[unsafe(no_mangle)]
 pub extern "C" fn sblog_gateway_output(
     alloc: Global,
@@ -133,7 +133,7 @@ pub extern "C" fn sblog_gateway_output(
     code(giving::output(alloc, handle, process, ssn, out, size))
 }
 
-/// Writes the bytes of its store, and how many they are.
+/// Writes the bytes of its store, and their number.
 #[unsafe(no_mangle)]
 pub extern "C" fn sblog_gateway_store(
     alloc: Global,
@@ -146,8 +146,8 @@ pub extern "C" fn sblog_gateway_store(
     code(giving::store(alloc, handle, out, size))
 }
 
-/// Takes the changes of its store since this was asked: writes their bytes, none where nothing happened,
-/// and how many they are. They are to be durable before what the calls put out is sent.
+/// Takes the changes of its store since the last call: writes their bytes, none if nothing changed,
+/// and their number. They have to be durable before the host sends what the calls gave.
 #[unsafe(no_mangle)]
 pub extern "C" fn sblog_gateway_changes(
     alloc: Global,

@@ -12,7 +12,7 @@ pub enum Fault {
     /// 15: memory ran out.
     #[error("out of memory")]
     Memory,
-    /// 16: the handle is closed, or where one is to be opened, it is open.
+    /// 16: the handle is closed; or, when a function opens one, it is open.
     #[error("the handle is closed; to open one, it is open")]
     Handle,
     /// 18: a payload has more than 256 bytes.
@@ -21,13 +21,13 @@ pub enum Fault {
     /// 19: the buffer is too short.
     #[error("the buffer is too short")]
     Room,
-    /// 20: there is none.
+    /// 20: there is none, such as no packet that waits.
     #[error("there is none")]
     Absent,
-    /// 21: bytes are refused.
+    /// 21: the bytes are refused.
     #[error("the bytes are refused")]
     Bytes,
-    /// 22: not now: something waits to be sent or to be made durable.
+    /// 22: not now, as something waits to be sent or to be made durable.
     #[error("something waits to be sent or to be made durable")]
     Early,
     /// 23: a limit or a number of a process is out of range.
@@ -64,7 +64,7 @@ impl From<AllocError> for Fault {
     }
 }
 
-/// The code of what was done or wasn't: 0, or the number of the fault.
+/// The code of a result: 0, or the number of the fault.
 pub(crate) fn code(done: Result<(), Fault>) -> u32
     ensures done { IfOk done (λ _. result ≡ 0) }
     ensures fault { IfErr done (λ why. result ≡ fault_number why) }

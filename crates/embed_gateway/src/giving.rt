@@ -1,4 +1,4 @@
-//! What the gateway of a handle gives its host.
+//! What the gateway of a handle gives: packets, outputs, its store and changes.
 
 ghost use Rattle.std.specs.Prelude.{◌≡◌, MatchResult, OnErr};
 ghost use Rattle.embed_gateway.specs.Answers.{Does, Results};
@@ -12,7 +12,7 @@ use crate::output::{copy, measure, write};
 use gateway::Gateway;
 use std::alloc::Global;
 
-/// Writes the bytes of the first packet that waits, how many they are and whom it is to, and takes it.
+/// Takes the first packet that waits: writes its bytes, their number, and its receiver.
 fn give(
     alloc: Global,
     gateway: &mut Gateway,
@@ -51,8 +51,8 @@ pub(crate) fn take(
     done
 }
 
-/// Writes the first output that wasn't taken: its process, its SSN, its bytes and how many these are,
-/// and takes it.
+/// Takes the first output that wasn't taken: writes its process, its SSN, its bytes and their
+/// number.
 fn show(
     gateway: &mut Gateway,
     process: &mut u8,
@@ -95,7 +95,7 @@ pub(crate) fn output(
     done
 }
 
-/// Writes the bytes of a gateway's store, and how many they are.
+/// Writes the bytes of a gateway's store, and their number.
 fn spell(alloc: Global, gateway: &Gateway, out: &mut [u8], size: &mut usize) -> Result<(), Fault>
     ensures { MatchResult result (λ _. Spells out.old out.new size.new gateway.now) (WritesNot (IsStoreBytes gateway.now.store) out.old out.new size.old size.new) }
 {
@@ -120,7 +120,7 @@ pub(crate) fn store(
     done
 }
 
-/// Writes the bytes of what happened to a gateway's store, and how many they are, and forgets it.
+/// Takes the changes of a gateway's store: writes their bytes, and their number.
 fn tell(alloc: Global, gateway: &mut Gateway, out: &mut [u8], size: &mut usize) -> Result<(), Fault>
     ensures { Does result gateway.old gateway.new (Tells out.old out.new size.new) (λ g. WritesNot (AreChanges g.changes) out.old out.new size.old size.new) }
 {

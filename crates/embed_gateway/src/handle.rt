@@ -1,4 +1,4 @@
-//! What a program in C holds of a gateway.
+//! The handle that a program in C holds.
 
 ghost use Rattle.std.specs.Prelude.{◌≡◌, IfNone, IfSome, Some, None, false, is_some};
 ghost use Rattle.std.specs.Ptr.{null_ptr};
@@ -9,7 +9,7 @@ use gateway::Gateway;
 use std::alloc::Global;
 use std::mem::replace;
 
-/// A gateway, or none where it is closed. A program makes it of zeros, and leaves its bytes alone.
+/// A gateway, or none if it is closed. A program makes it of zeros, and doesn't touch its bytes.
 #[repr(C)]
 #[derive(Drop)]
 pub struct GatewayHandle {
@@ -19,7 +19,7 @@ pub struct GatewayHandle {
 }
 
 impl GatewayHandle {
-    /// A handle without a gateway, as zeros are: null, and a mark of 0.
+    /// A closed handle, which is all zeros: a null pointer and a mark of 0.
     #[inline(always)]
     pub(crate) fn closed(alloc: Global) -> GatewayHandle
         ensures closed { result.gateway.value ≡ None }
@@ -31,7 +31,7 @@ impl GatewayHandle {
         }
     }
 
-    /// Takes the gateway out, which leaves the handle closed.
+    /// Takes the gateway out, and leaves the handle closed.
     #[inline(always)]
     pub(crate) fn take(&mut self, alloc: Global) -> Option<Box<Gateway>>
         ensures closed { self.new.gateway.value ≡ None }

@@ -1,13 +1,13 @@
 //! The gateway of a cluster for programs in C: a static library over [`gateway`].
 //!
-//! [`exports`] has the functions that cross. A program holds a gateway by a handle, two words of its
-//! own that it makes of zeros: closed. `sblog_gateway_open` and `sblog_gateway_revive` open it, the
-//! others are calls of its host, and `sblog_gateway_close` gives all memory back. Code 0 says that it is
-//! done, any other why not. docs/EMBEDDING.md describes functions and codes.
+//! [`exports`] has the functions for C. A program holds a gateway by a handle, two words of its own
+//! that it makes of zeros, which means closed. `sblog_gateway_open` and `sblog_gateway_revive` open
+//! it, the other functions are calls of its host, and `sblog_gateway_close` gives all memory back.
+//! Code 0 means done, any other says why not. docs/EMBEDDING.md describes functions and codes.
 //!
-//! The promise: each function owes what the gateway's call owes, word for word; packets, store and
-//! changes are the bytes that docs/FORMATS.md describes; and any code but 0 leaves the gateway as it was.
-//! A buffer that is too short is told how many bytes it takes, and nothing is taken.
+//! Each function owes exactly what the gateway's call owes. Packets, store and changes are the
+//! bytes that docs/FORMATS.md describes. Any code except 0 leaves the gateway as it was. If a
+//! buffer is too short, the number of bytes is written and nothing is taken.
 //!
 //! ```c
 //! sblog_gateway gateway = {0};

@@ -13,23 +13,23 @@ use pages::LEAST_PAGE;
 use std::alloc::Global;
 use stores::{ApplyError, ChangesError, StoreError, decode_changes, decode_store};
 
-/// So many bytes a packet has at most, at most.
+/// The greatest size of a packet in bytes.
 pub const MOST_PAGE: u32 = 65_535;
 
-/// The fault of bytes that are not those of changes.
+/// The fault of bytes that are not changes.
 pub const NOT_CHANGES: u32 = 1;
 
-/// The fault of changes of which one can't happen to the store as it is then.
+/// The fault of a change that doesn't fit the store after those before it.
 pub const UNFIT: u32 = 2;
 
-/// Whether the limits are in their ranges.
+/// Whether the limits are in range.
 fn are_limits(page: u32, tick: u32) -> bool
     ensures { IsTrue result ↔ AreLimits page tick }
 {
     LEAST_PAGE as u32 <= page && page <= MOST_PAGE && 1 <= tick
 }
 
-/// Whether the number of processes is too.
+/// Whether the limits and the number of processes are in range.
 fn are_inside(count: u8, page: u32, tick: u32) -> bool
     ensures { IsTrue result ↔ AreInside count page tick }
 {
@@ -47,7 +47,7 @@ fn hold(alloc: Global, handle: &mut GatewayHandle, gateway: Gateway) -> Result<(
     Ok(())
 }
 
-/// Opens the gateway of a new cluster of so many processes.
+/// Opens the gateway of a new cluster of `count` processes.
 pub(crate) fn open(
     alloc: Global,
     count: u8,
@@ -67,8 +67,8 @@ pub(crate) fn open(
     hold(alloc, handle, gateway)
 }
 
-/// Opens the gateway that has the store of these bytes. The number of their first fault is written
-/// where they are refused.
+/// Opens the gateway with the store in these bytes. If they are refused, writes the number of their
+/// first fault.
 pub(crate) fn revive(
     alloc: Global,
     store: &[u8],
@@ -97,7 +97,7 @@ pub(crate) fn revive(
     hold(alloc, handle, gateway)
 }
 
-/// The changes of these bytes happen to a gateway's store.
+/// Makes the changes in these bytes in a gateway's store.
 fn bring_up(
     alloc: Global,
     gateway: &mut Gateway,

@@ -1,4 +1,4 @@
-//! Bytes written into a buffer of the caller's.
+//! Bytes written into a buffer of the caller.
 
 ghost use Rattle.std.specs.Prelude.{◌≡◌, ◌<◌, ◌≤◌, length, MatchResult};
 ghost use Rattle.embed_gateway.specs.declared.fault.Fault.TheVariants.{Room};
@@ -6,7 +6,7 @@ ghost use Rattle.embed_gateway.specs.Answers.{IsCopied, IsUncopied};
 
 use crate::fault::Fault;
 
-/// Tells how many bytes there are where a buffer is too short for them (`Room`).
+/// If a buffer is too short for the bytes, writes their number (`Room`).
 pub(crate) fn measure(bytes: &[u8], out: &[u8], size: &mut usize) -> Result<(), Fault>
     ensures { MatchResult result (λ _. (length bytes.now ≤ length out.now) × (size.new ≡ size.old)) (λ why. (why ≡ Room) × (length out.now < length bytes.now) × (size.new ≡ length bytes.now)) }
 {
@@ -17,7 +17,7 @@ pub(crate) fn measure(bytes: &[u8], out: &[u8], size: &mut usize) -> Result<(), 
     Ok(())
 }
 
-/// Writes bytes in front of a buffer, and how many they are.
+/// Writes bytes to the front of a buffer, and their number.
 pub(crate) fn write(bytes: &[u8], out: &mut [u8], size: &mut usize)
     requires { length bytes.now ≤ length out.old }
     ensures { IsCopied bytes.now out.old out.new size.new }
@@ -26,8 +26,8 @@ pub(crate) fn write(bytes: &[u8], out: &mut [u8], size: &mut usize)
     out[..bytes.len()].copy_from_slice(bytes);
 }
 
-/// The same where there is room; a buffer that is too short is left as it was (`Room`), and is told how
-/// many there are.
+/// The same if the buffer is long enough. One that is too short is left as it was (`Room`), and the
+/// number is written.
 pub(crate) fn copy(bytes: &[u8], out: &mut [u8], size: &mut usize) -> Result<(), Fault>
     ensures { MatchResult result (λ _. IsCopied bytes.now out.old out.new size.new) (λ why. (why ≡ Room) × IsUncopied bytes.now out.old out.new size.new) }
 {

@@ -1,4 +1,4 @@
--- What the exports answer (docs/EMBEDDING.md, "A node").
+-- The answers of the exports (docs/EMBEDDING.md, "A node").
 use Rattle.std.specs.Prelude.{◌≡◌, ◌⊎◌, ℕ, ◌<◌, ◌≤◌, List, length, Option, Some, None, Result, MatchResult}
 use Rattle.operations.specs.Bytes.{overwritten}
 use Rattle.process.specs.Process.{TheProcess}
@@ -17,7 +17,7 @@ fault_number Unready = 22
 fault_number Limit = 23
 fault_number Left = 24
 
--- what a code says of a handle, which held one thing before and holds another now: 0 that this was done, any other number why it was not
+-- the meaning of a code, with what the handle held before and holds now: 0 means that this was done, any other number says why it was not
 abbrev pub Answers : ℕ → Option TheProcess → Option TheProcess → (Option TheProcess → Option TheProcess → Type 0) → (Option TheProcess → Option TheProcess → Fault → Type 0) → Type 0
 Answers code old new done refused = ((code ≡ 0) × done old new) ⊎ ((why : Fault) × (code ≡ fault_number why) × refused old new why)
 
@@ -26,16 +26,16 @@ abbrev pub Results : Result (Unit {0}) Fault → Option TheProcess → Option Th
     → Type 0
 Results result old new done refused = MatchResult result (λ u. done old new) (refused old new)
 
--- where a code tells a fault, this holds
+-- if the code is a fault, this holds
 abbrev pub OnFault : ℕ → Type 0 → Type 0
 OnFault code kept = (code ≡ 0) ⊎ kept
 
--- the number of the fault is written where bytes are refused, and is left alone otherwise
+-- writes the number of the fault if bytes are refused, and nothing otherwise
 abbrev pub written : Fault → ℕ → ℕ
 written (Bytes f) was = f
 written other was = was
 
--- what a code says where bytes are handed in, and of the number of their fault before and after
+-- the meaning of a code when bytes are handed in, with the number of their fault before and after
 abbrev pub AnswersOfBytes : ℕ → Option TheProcess → Option TheProcess → ℕ → ℕ → (Option TheProcess → Option TheProcess → Type 0) → (Option TheProcess → Option TheProcess → Fault → Type 0)
     → Type 0
 AnswersOfBytes code old new was fault done refused =
@@ -45,7 +45,7 @@ AnswersOfBytes code old new was fault done refused =
 abbrev pub OfBoth : Option TheProcess → Option TheProcess → (TheProcess → TheProcess → Type 0) → Type 0
 OfBoth old new holds = (p p' : TheProcess) × (old ≡ Some p) × (new ≡ Some p') × holds p p'
 
--- the handle is open and as it was, and this holds of its process
+-- the handle is open and unchanged, and this holds of its process
 abbrev pub OfSame : Option TheProcess → Option TheProcess → (TheProcess → Type 0) → Type 0
 OfSame old new holds = (p : TheProcess) × (old ≡ Some p) × (new ≡ old) × holds p
 
@@ -53,11 +53,11 @@ OfSame old new holds = (p : TheProcess) × (old ≡ Some p) × (new ≡ old) × 
 abbrev pub StaysClosed : Option TheProcess → Option TheProcess → Type 0
 StaysClosed old new = (old ≡ None) × (new ≡ None)
 
--- the buffer begins with these bytes, and their number is told
+-- the buffer begins with these bytes, and their number is written
 abbrev pub IsCopied : List ℕ → List ℕ → List ℕ → ℕ → Type 0
 IsCopied bytes old new size = (length bytes ≤ length old) × (new ≡ overwritten old 0 bytes) × (size ≡ length bytes)
 
--- the buffer is too short for them and unchanged, and their number is told
+-- the buffer is too short for them and unchanged, and their number is written
 abbrev pub IsUncopied : List ℕ → List ℕ → List ℕ → ℕ → Type 0
 IsUncopied bytes old new size = (length old < length bytes) × (new ≡ old) × (size ≡ length bytes)
 

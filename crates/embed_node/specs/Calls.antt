@@ -1,4 +1,4 @@
--- Calls of a node, and what each is answered
+-- The calls of a node, and their answers
 use Rattle.std.specs.Prelude.{◌≡◌, ℕ, List, Option, Some, None, true, false}
 use Rattle.packets.specs.declared.fault.PacketFault.{PacketFault}
 use Rattle.packets.specs.Faults as faults
@@ -15,11 +15,11 @@ use Rattle.embed_node.specs.declared.fault.Fault.{Fault}
 use Rattle.embed_node.specs.declared.fault.Fault.TheVariants.{Memory, Handle, Absent, Bytes, Unready, Limit}
 use Rattle.embed_node.specs.Answers.{OfBoth, OfSame, StaysClosed}
 
--- an open handle is closed now
+-- an open handle was closed
 abbrev pub IsClosed : Option TheProcess → Option TheProcess → Type 0
 IsClosed old new = ((p : TheProcess) × (old ≡ Some p)) × (new ≡ None)
 
--- it was closed before, and is
+-- the handle was closed before, and still is
 abbrev pub WasClosed : Option TheProcess → Option TheProcess → Fault → Type 0
 WasClosed old new Handle = StaysClosed old new
 WasClosed old new other = ⊥
@@ -28,14 +28,14 @@ WasClosed old new other = ⊥
 abbrev pub IsReceived : List ℕ → Option TheProcess → Option TheProcess → Type 0
 IsReceived bytes old new = OfBoth old new (λ p p'. (x : Packet) × IsPacket x bytes × calls.Calls (calls.IsHanded x) p p')
 
--- why they weren't: they are none of a packet, memory ran out, or the handle is closed. Nothing has changed
+-- why they weren't: they are not those of a packet, memory ran out, or the handle is closed. Nothing has changed
 abbrev pub IsUnreceived : List ℕ → Option TheProcess → Option TheProcess → Fault → Type 0
 IsUnreceived bytes old new Memory = OfSame old new (λ p. Unit {0})
 IsUnreceived bytes old new (Bytes f) = OfSame old new (λ p. (why : PacketFault) × (f ≡ faults.fault_number why) × faults.IsReason (packet.Fault why) bytes)
 IsUnreceived bytes old new Handle = StaysClosed old new
 IsUnreceived bytes old new other = ⊥
 
--- its handler ran on the message that was next
+-- its handler ran on the next message
 abbrev pub HasWorked : Option TheProcess → Option TheProcess → Type 0
 HasWorked old new = OfBoth old new working.Works
 
@@ -46,11 +46,11 @@ HasNotWorked old new Absent = OfSame old new working.Rests
 HasNotWorked old new Handle = StaysClosed old new
 HasNotWorked old new other = ⊥
 
--- it sent again what isn't answered, and passed on where its stage is over
+-- it sent again what isn't answered, and went on if its stage is over
 abbrev pub HasTicked : Option TheProcess → Option TheProcess → Type 0
 HasTicked old new = OfBoth old new (λ p p'. calls.Calls calls.Ticks p p' × (passing.is_held p'.course ≡ false))
 
--- why it isn't done: it sent that, and its stage is over, but memory ran out, or it would keep more messages than a process takes; or the
+-- why it didn't: it sent again, and its stage is over, but memory ran out or it would keep more messages than a process takes; or the
 -- handle is closed
 abbrev pub IsHeldBack : Option TheProcess → Option TheProcess → Fault → Type 0
 IsHeldBack old new Memory = OfBoth old new (λ p p'. calls.Calls calls.Ticks p p' × passing.IsHeld cause.Memory p'.course)
@@ -58,11 +58,11 @@ IsHeldBack old new Limit = OfBoth old new (λ p p'. calls.Calls calls.Ticks p p'
 IsHeldBack old new Handle = StaysClosed old new
 IsHeldBack old new other = ⊥
 
--- its checkpoint is durable, for which it waited
+-- the checkpoint for which it waited is durable
 abbrev pub HasSaved : Option TheProcess → Option TheProcess → Type 0
 HasSaved old new = OfBoth old new (λ p p'. (calls.is_frozen p.course ≡ true) × calls.Stays calls.Thaws p p')
 
--- why it doesn't go on: it doesn't wait, memory ran out, or the handle is closed. Nothing has changed
+-- why it still waits or isn't waiting: it waits for none, memory ran out, or the handle is closed. Nothing has changed
 abbrev pub HasNotSaved : Option TheProcess → Option TheProcess → Fault → Type 0
 HasNotSaved old new Memory = OfSame old new (λ p. Unit {0})
 HasNotSaved old new Unready = OfSame old new (λ p. calls.is_frozen p.course ≡ false)

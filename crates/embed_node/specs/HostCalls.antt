@@ -1,4 +1,4 @@
--- The exports are calls of hosts, as crate `hosted` has them
+-- The exports are calls of hosts in crate `hosted`
 use Rattle.std.specs.Prelude.{◌≡◌, ◌<◌, ℕ, List, Some, None}
 use Rattle.helpers.specs.declared.effects.Who.{Who}
 use Rattle.helpers.specs.Effects.{Emitted}
@@ -25,14 +25,14 @@ pub record Holds (n : ℕ) (s : System) (p : ℕ) (w : Checkpoint) (old : ThePro
   pub first : IsFirst n p
   pub runs : s.processes p ≡ Runs old w
 
--- what `done` took in: what its array and its record hold, which is the host's call if the handler answers just that
+-- what `done` took from the array and the record is the host's call, if the handler answers exactly that
 pub record IsAnswered (images : ℕ → AnyImage) (n : ℕ) (s : System) (p : ℕ) (ticket : Ticket) (array bytes : List ℕ) (old new : TheProcess) : Type 0 where
   pub who : Who
   pub effects : Emitted
   pub left : IsLeftBy old.image who array bytes effects
   pub is : AnswersSo (state_in old.image array) effects old → DoesIt images n s (Answered p ticket (state_in old.image array) effects new)
 
--- what `take` wrote: the bytes of a packet, and to whom it is
+-- what `take` wrote: the bytes of a packet, and its receiver
 pub record IsGiven (images : ℕ → AnyImage) (n : ℕ) (s : System) (p : ℕ) (out out' : List ℕ) (size to : ℕ) (new : TheProcess) : Type 0 where
   pub packet : Packet
   pub bytes : List ℕ
@@ -46,8 +46,8 @@ pub record IsFrozen (images : ℕ → AnyImage) (n : ℕ) (s : System) (p : ℕ)
   pub copied : IsCopied bytes out out' size
   pub is : DoesIt images n s (Froze p bytes new)
 
--- an export that answers 0 made the call of a host that has its name; and so did a `tick` that says why its node doesn't pass on. What is
--- opened is a process of its file's image; what comes back of the same file is the handler's of that image, of whatever form it is
+-- an export that answers 0 made the host's call of its name; so did a `tick` that says why its node doesn't go on. A node that is opened is
+-- a process of its file's image; a node that comes back with the same file has the handler of that image, whatever its form
 pub record ExportsAreCalls : Type 0 where
   pub opened : (file : List ℕ) (me n : ℕ) (l : Limits) (new : TheProcess) → Opens file me n l None (Some new)
       → IsImageIn file new.image × IsOpened new.image (limits_of l) me n new

@@ -25,13 +25,13 @@ use Rattle.embed_node.specs.declared.fault.Fault.{Fault}
 use Rattle.embed_node.specs.declared.fault.Fault.TheVariants.{Memory, Handle, Image, Bytes, Limit}
 use Rattle.embed_node.specs.Answers.{Answers, AnswersOfBytes}
 
--- the file is that of this image, of any form, whose code is typable in it, and of none of another form, code or length
+-- the file is that of this image, of any form, whose code is typable in it, and of no image with another form, code or length
 pub record IsImageIn (file : List ℕ) (image : AnyImage) : Type 0 where
   pub file_is : IsFile (form_of image) (code_of image) (state_of image) file
   pub typable : IsTypable (form_of image) (code_of image) (state_of image)
   pub only : (form : FileForm) (code : List Insn) (len : ℕ) → IsFile form code len file → IsTypable form code len → IsImageOf form code len image
 
--- the file is none of an image, by its header, its code or the rules
+-- the file is not that of an image, by its header, its code or the rules
 abbrev pub IsNoImage : List ℕ → Type 0
 IsNoImage file = (e : ImageError) × (e ≢ error.Memory) × IsRefusal file e
 
@@ -41,18 +41,18 @@ IsNotLoaded file Memory = Unit {0}
 IsNotLoaded file Image = IsNoImage file
 IsNotLoaded file other = ⊥
 
--- the fault that tells why nothing came back
+-- the fault that tells why no process came back
 abbrev pub IsTold : Unrevived → Fault → Type 0
 IsTold why.Memory fault = fault ≡ Memory
 IsTold (why.Kept e) fault = fault ≡ Bytes (kept_fault_number e)
 IsTold why.State fault = fault ≡ Bytes 9
 IsTold why.Incarnation fault = fault ≡ Limit
 
--- limits, as C gives them
+-- limits, as C passes them
 abbrev pub limits_from : ℕ → ℕ → ℕ → ℕ → ℕ → Limits
 limits_from page tick numbers receipts durable = record { page = page; tick = tick; numbers = numbers; receipts = receipts; durable = durable }
 
--- the limits are in their ranges
+-- each limit is in range
 pub record AreLimits (l : Limits) : Type 0 where
   pub page : (LEAST_PAGE ≤ l.page) × (l.page ≤ MOST_PAGE)
   pub tick : 1 ≤ l.tick
@@ -60,7 +60,7 @@ pub record AreLimits (l : Limits) : Type 0 where
   pub receipts : (1 ≤ l.receipts) × (l.receipts ≤ LIMIT)
   pub durable : l.durable ≤ 1
 
--- those of a node then
+-- the node's limits from these
 abbrev pub limits_of : Limits → node.Limits
 limits_of l = record { page = l.page; tick = l.tick; numbers = l.numbers; receipts = l.receipts; durable = l.durable == 1 }
 
@@ -70,7 +70,7 @@ pub record IsSeat (me n : ℕ) : Type 0 where
   pub within : me ≤ n
   pub few : n ≤ PROCESSES
 
--- a handle that was closed holds the process of an image that received nothing
+-- a handle that was closed holds the process of an image, which received nothing
 pub record Opens (file : List ℕ) (me n : ℕ) (l : Limits) (old new : Option TheProcess) : Type 0 where
   pub was : old ≡ None
   pub seat : IsSeat me n
@@ -81,8 +81,8 @@ pub record Opens (file : List ℕ) (me n : ℕ) (l : Limits) (old new : Option T
   pub is : new ≡ Some process
   pub opened : IsOpened image (limits_of l) me n process
 
--- why it doesn't: the handle is open, a limit is out of its range, the file is none of an image, or memory ran out; the first of these. It
--- stays as it was
+-- why it doesn't: the first of these: the handle is open, a limit is out of range, the file is not that of an image, or memory ran out. The
+-- handle stays as it was
 abbrev pub DoesNotOpen : List ℕ → ℕ → ℕ → Limits → Option TheProcess → Option TheProcess → Fault → Type 0
 DoesNotOpen file me n l old new Handle = ((p : TheProcess) × (old ≡ Some p)) × (new ≡ old)
 DoesNotOpen file me n l old new Limit = (old ≡ None) × (new ≡ None) × ¬ (IsSeat me n × AreLimits l)
@@ -90,7 +90,7 @@ DoesNotOpen file me n l old new Image = (old ≡ None) × (new ≡ None) × (IsS
 DoesNotOpen file me n l old new Memory = (old ≡ None) × (new ≡ None) × (IsSeat me n × AreLimits l)
 DoesNotOpen file me n l old new other = ⊥
 
--- a handle that was closed holds the process of an image, and what these bytes keep of it comes back in this incarnation
+-- a handle that was closed holds the process of an image that comes back from these bytes in this incarnation
 pub record Revives (file kept : List ℕ) (life : ℕ) (l : Limits) (old new : Option TheProcess) : Type 0 where
   pub was : old ≡ None
   pub limits : AreLimits l
@@ -100,13 +100,14 @@ pub record Revives (file kept : List ℕ) (life : ℕ) (l : Limits) (old new : O
   pub is : new ≡ Some process
   pub revived : IsRevived image (limits_of l) kept life process
 
--- why the bytes are refused, of an image's process: they are none that is kept of a process, or its state isn't as long as the image's
+-- why the bytes are refused for the process of an image: they are not the kept state of a process, or its state isn't as long as the
+-- image's
 abbrev pub AreRefused : List ℕ → List ℕ → ℕ → ℕ → Type 0
 AreRefused file kept life f =
     (image : AnyImage) × IsImageIn file image × ((((e : KeptFault) × (f ≡ kept_fault_number e) × IsUnrevived image kept life (why.Kept e))) ⊎ ((f ≡ 9) × IsUnrevived image kept life why.State))
 
--- why nothing comes back: the handle is open, a limit or the incarnation is out of its range, the file is none of an image, the bytes are
--- refused, or memory ran out; the first of these. The handle stays as it was
+-- why no process comes back: the first of these: the handle is open, a limit or the incarnation is out of range, the file is not that of an
+-- image, the bytes are refused, or memory ran out. The handle stays as it was
 abbrev pub DoesNotRevive : List ℕ → List ℕ → ℕ → Limits → Option TheProcess → Option TheProcess → Fault → Type 0
 DoesNotRevive file kept life l old new Handle = ((p : TheProcess) × (old ≡ Some p)) × (new ≡ old)
 DoesNotRevive file kept life l old new Limit = (old ≡ None) × (new ≡ None) × ¬ (AreLimits l × IsPositive life)
@@ -115,11 +116,11 @@ DoesNotRevive file kept life l old new (Bytes f) = (old ≡ None) × (new ≡ No
 DoesNotRevive file kept life l old new Memory = (old ≡ None) × (new ≡ None) × (AreLimits l × IsPositive life)
 DoesNotRevive file kept life l old new other = ⊥
 
--- what a code says where a process is opened: of its image file, the process, the processes in all and its limits
+-- the meaning of a code when a process is opened, by its image file, its number, the number of processes and its limits
 abbrev pub AnswersOpening : List ℕ → ℕ → ℕ → Limits → ℕ → Option TheProcess → Option TheProcess → Type 0
 AnswersOpening file me n l code old new = Answers code old new (Opens file me n l) (DoesNotOpen file me n l)
 
--- what a code says where a process comes back: of its image file, what was kept, its incarnation and its limits, and of the number of the
--- fault before and after
+-- the meaning of a code when a process comes back, by its image file, its kept state, its incarnation and its limits, with the number of
+-- the fault before and after
 abbrev pub AnswersRevival : List ℕ → List ℕ → ℕ → Limits → ℕ → Option TheProcess → Option TheProcess → ℕ → ℕ → Type 0
 AnswersRevival file kept life l code old new was fault = AnswersOfBytes code old new was fault (Revives file kept life l) (DoesNotRevive file kept life l)

@@ -1,4 +1,4 @@
--- How the process of a handle stands
+-- The status of a handle's process
 use Rattle.std.specs.Prelude.{◌≡◌, Option, if◌then◌else◌}
 use Rattle.node.specs.declared.standing.Standing.{Standing}
 use Rattle.node.specs.Standing.{stage_number}
@@ -7,7 +7,7 @@ use Rattle.process.specs.Calls.{standing_at}
 use Rattle.embed_node.specs.declared.standing.NodeStanding.{NodeStanding}
 use Rattle.embed_node.specs.Answers.{OfSame}
 
--- how it stands, in ten words
+-- the status, in ten words
 abbrev pub words_of : Standing → NodeStanding
 words_of s =
     record {
@@ -23,6 +23,6 @@ words_of s =
       waited_for = s.waited_for;
     }
 
--- these words say how the process of an open handle stands
+-- these words are the status of the process of an open handle
 abbrev pub IsStanding : NodeStanding → Option TheProcess → Option TheProcess → Type 0
 IsStanding s old new = OfSame old new (λ p. s ≡ words_of (standing_at p.course))

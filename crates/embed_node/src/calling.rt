@@ -19,7 +19,7 @@ pub(crate) fn close(alloc: Global, handle: &mut NodeHandle) -> Result<(), Fault>
     }
 }
 
-/// Hands it a packet that came.
+/// Hands the process a packet that arrived.
 pub(crate) fn receive(alloc: Global, handle: &mut NodeHandle, packet: &[u8]) -> Result<(), Fault>
     ensures { Results result handle.old.process.value handle.new.process.value (IsReceived packet.now) (IsUnreceived packet.now) }
 {
@@ -35,7 +35,7 @@ pub(crate) fn receive(alloc: Global, handle: &mut NodeHandle, packet: &[u8]) -> 
     }
 }
 
-/// Has its handler run.
+/// Runs the handler of the process.
 pub(crate) fn work(alloc: Global, handle: &mut NodeHandle) -> Result<(), Fault>
     ensures { Results result handle.old.process.value handle.new.process.value HasWorked HasNotWorked }
 {
@@ -51,7 +51,8 @@ pub(crate) fn work(alloc: Global, handle: &mut NodeHandle) -> Result<(), Fault>
     }
 }
 
-/// Has it send again what isn't answered, and pass on if it waits for memory to do so.
+/// Sends again what isn't answered, and goes on to the next stage if memory was refused for it
+/// before.
 pub(crate) fn tick(alloc: Global, handle: &mut NodeHandle) -> Result<(), Fault>
     ensures { Results result handle.old.process.value handle.new.process.value HasTicked IsHeldBack }
 {
@@ -67,7 +68,7 @@ pub(crate) fn tick(alloc: Global, handle: &mut NodeHandle) -> Result<(), Fault>
     }
 }
 
-/// Tells it that its checkpoint is durable.
+/// Tells the process that its checkpoint is durable.
 pub(crate) fn saved(alloc: Global, handle: &mut NodeHandle) -> Result<(), Fault>
     ensures { Results result handle.old.process.value handle.new.process.value HasSaved HasNotSaved }
 {

@@ -1,5 +1,5 @@
-//! What C calls. A code of 0 says that it is done, any other is the number of a fault, and what either
-//! says of handle and buffers stands in the contracts.
+//! The functions for C. Code 0 means done, any other code is the number of a fault; the contracts
+//! say what that means for handle and buffers.
 
 ghost use Rattle.std.specs.Prelude.{◌≡◌};
 ghost use Rattle.embed_node.specs.Answers.{Answers, AnswersOfBytes, OnFault};
@@ -18,8 +18,8 @@ use crate::{calling, giving, node_job, opening, standing};
 use process::Ticket;
 use std::alloc::Global;
 
-/// Opens the process `me` of `n`, which received nothing, by the image file of its handler. The handle has
-/// to be closed.
+/// Opens the process `me` of `n`, which received nothing, with the image file of its handler. The
+/// handle has to be closed.
 #[unsafe(no_mangle)]
 pub extern "C" fn sblog_node_open(
     alloc: Global,
@@ -45,8 +45,8 @@ pub extern "C" fn sblog_node_open(
     code(opening::open(alloc, image, me, n, limits, node))
 }
 
-/// Opens a process by the image file of its handler, from what was kept of it, in this incarnation. Where
-/// the kept bytes are refused, the number of their fault is written.
+/// Opens a process with the image file of its handler, from its kept state, in this incarnation. If
+/// the kept bytes are refused, writes the number of their fault.
 #[unsafe(no_mangle)]
 pub extern "C" fn sblog_node_revive(
     alloc: Global,
@@ -82,7 +82,8 @@ pub extern "C" fn sblog_node_close(alloc: Global, node: &mut NodeHandle) -> u32
     code(calling::close(alloc, node))
 }
 
-/// Hands it a packet that came. Where the bytes are no packet, the number of their fault is written.
+/// Hands the process a packet that arrived. If the bytes are not a packet, writes the number of
+/// their fault.
 #[unsafe(no_mangle)]
 pub extern "C" fn sblog_node_receive(
     alloc: Global,
@@ -95,7 +96,7 @@ pub extern "C" fn sblog_node_receive(
     code_of_bytes(calling::receive(alloc, node, packet), fault)
 }
 
-/// Writes the packet that waits first, how many bytes it has, and to whom it goes, and takes it.
+/// Takes the first packet that waits: writes its bytes, its length, and its receiver.
 #[unsafe(no_mangle)]
 pub extern "C" fn sblog_node_take(
     alloc: Global,
@@ -110,7 +111,7 @@ pub extern "C" fn sblog_node_take(
     code(giving::take(alloc, node, out, size, to))
 }
 
-/// Has its handler run on the message that it received, or on the next one that is replayed.
+/// Runs the handler on the message that was received, or on the next one of the replay.
 #[unsafe(no_mangle)]
 pub extern "C" fn sblog_node_work(alloc: Global, node: &mut NodeHandle) -> u32
     ensures { Answers result node.old.process.value node.new.process.value HasWorked HasNotWorked }
@@ -118,8 +119,9 @@ pub extern "C" fn sblog_node_work(alloc: Global, node: &mut NodeHandle) -> u32
     code(calling::work(alloc, node))
 }
 
-/// Writes the array of the call of its handler that is next, for whoever makes it outside, how many bytes it has, and
-/// which call it is. It stays next until `sblog_node_done` takes in what it left.
+/// Gives out the next call of the handler, to be made outside: writes its array, the length of
+/// that, and the words of the call. It stays the next call until `sblog_node_done` takes its
+/// answer.
 #[unsafe(no_mangle)]
 pub extern "C" fn sblog_node_job(
     alloc: Global,
@@ -134,7 +136,7 @@ pub extern "C" fn sblog_node_job(
     code(node_job::job(alloc, node, array, size, job))
 }
 
-/// Takes in what that call left in its array and its record, whatever made it.
+/// Takes what that call left in its array and its record, whatever made the call.
 #[unsafe(no_mangle)]
 pub extern "C" fn sblog_node_done(
     alloc: Global,
@@ -153,8 +155,8 @@ pub extern "C" fn sblog_node_done(
     code(node_job::done(alloc, node, ticket, array, left))
 }
 
-/// Has it send again what isn't answered. If it should have passed on to its next stage and couldn't, it tries
-/// again; the code is that of memory, or of a limit, as long as it can't.
+/// Sends again what isn't answered. If the process couldn't go on to its next stage, it tries
+/// again; as long as it can't, the code is that of memory or of a limit.
 #[unsafe(no_mangle)]
 pub extern "C" fn sblog_node_tick(alloc: Global, node: &mut NodeHandle) -> u32
     ensures { Answers result node.old.process.value node.new.process.value HasTicked IsHeldBack }
@@ -162,7 +164,8 @@ pub extern "C" fn sblog_node_tick(alloc: Global, node: &mut NodeHandle) -> u32
     code(calling::tick(alloc, node))
 }
 
-/// Writes the bytes of a checkpoint, and how many they are. It waits until `sblog_node_saved` then.
+/// Makes a checkpoint: writes its bytes, and their number. The node then waits until
+/// `sblog_node_saved`.
 #[unsafe(no_mangle)]
 pub extern "C" fn sblog_node_checkpoint(
     alloc: Global,
@@ -175,7 +178,7 @@ pub extern "C" fn sblog_node_checkpoint(
     code(giving::checkpoint(alloc, node, out, size))
 }
 
-/// Tells it that its checkpoint is durable.
+/// Tells the process that its checkpoint is durable.
 #[unsafe(no_mangle)]
 pub extern "C" fn sblog_node_saved(alloc: Global, node: &mut NodeHandle) -> u32
     ensures { Answers result node.old.process.value node.new.process.value HasSaved HasNotSaved }
@@ -183,7 +186,7 @@ pub extern "C" fn sblog_node_saved(alloc: Global, node: &mut NodeHandle) -> u32
     code(calling::saved(alloc, node))
 }
 
-/// Writes how it stands.
+/// Writes the status of the process.
 #[unsafe(no_mangle)]
 pub extern "C" fn sblog_node_standing(
     alloc: Global,
@@ -196,9 +199,9 @@ pub extern "C" fn sblog_node_standing(
     code(standing::standing(alloc, node, out))
 }
 
-/// How many sends and outputs helpers answered with this code in this life of the node, and so did nothing for
-/// its handler: 1 to no other process, 2 more than 8 of a call, 3 of more than 256 bytes. It is 0 for any other
-/// code, and of a closed handle. How many, no contract says.
+/// How many sends and outputs of its handler helpers refused in this incarnation with this code: 1
+/// for no other process, 2 for more than 8 in a call, 3 for more than 256 bytes. It is 0 for any
+/// other code, and for a closed handle. No contract says how many.
 #[unsafe(no_mangle)]
 pub extern "C" fn sblog_node_refused(alloc: Global, node: &mut NodeHandle, code: u32) -> u64
     ensures { node.new.process.value ≡ node.old.process.value }
@@ -206,7 +209,7 @@ pub extern "C" fn sblog_node_refused(alloc: Global, node: &mut NodeHandle, code:
     standing::refused(alloc, node, code)
 }
 
-/// Writes the state that its handler left last, and how many bytes it has.
+/// Writes the state that its handler left last, and its length in bytes.
 #[unsafe(no_mangle)]
 pub extern "C" fn sblog_node_state(
     alloc: Global,

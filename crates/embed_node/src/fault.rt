@@ -11,26 +11,26 @@ pub enum Fault {
     /// 15: memory ran out.
     #[error("out of memory")]
     Memory,
-    /// 16: the handle is closed, or where one is to be opened, it is open.
+    /// 16: the handle is closed; or, when a function opens one, it is open.
     #[error("the handle is closed; to open one, it is open")]
     Handle,
-    /// 17: the image is none.
+    /// 17: the file is not that of an image.
     #[error("the image is none")]
     Image,
     /// 19: the buffer is too short.
     #[error("the buffer is too short")]
     Room,
-    /// 20: there is none.
+    /// 20: there is none, such as no packet that waits.
     #[error("there is none")]
     Absent,
-    /// 21: the bytes are refused, by a fault of this number.
+    /// 21: the bytes are refused, with a fault of this number.
     #[error("the bytes are refused, by fault {0}")]
     Bytes(u8),
-    /// 22: not now.
+    /// 22: the call can't be made now.
     #[error("not now")]
     Unready,
-    /// 23: a limit, a number of a process or an incarnation is out of its range, or there are more messages than a
-    /// process takes.
+    /// 23: a limit, the number of a process or an incarnation is out of range, or there are more
+    /// messages than a process takes.
     #[error("a limit is out of its range")]
     Limit,
     /// 24: no call of the handler leaves this array and record.
@@ -57,7 +57,7 @@ impl Fault {
     }
 }
 
-/// The code of what was done or wasn't: 0, or the number of the fault.
+/// The code of a result: 0, or the number of the fault.
 pub(crate) fn code(done: Result<(), Fault>) -> u32
     ensures done { IfOk done (λ _. result ≡ 0) }
     ensures fault { IfErr done (λ why. result ≡ fault_number why) }
@@ -68,7 +68,7 @@ pub(crate) fn code(done: Result<(), Fault>) -> u32
     }
 }
 
-/// The same, and where bytes were refused, the number of their fault is written.
+/// The same; if bytes were refused, writes the number of their fault.
 pub(crate) fn code_of_bytes(done: Result<(), Fault>, number: &mut u32) -> u32
     ensures done { IfOk done (λ _. (result ≡ 0) × (number.new ≡ number.old)) }
     ensures fault { IfErr done (λ why. (result ≡ fault_number why) × (number.new ≡ written why number.old)) }

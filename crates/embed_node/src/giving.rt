@@ -1,4 +1,4 @@
-//! What the process of a handle gives.
+//! What the process of a handle gives: packets, checkpoints, its state.
 
 ghost use Rattle.std.specs.Prelude.{◌≡◌, MatchResult, OnErr};
 ghost use Rattle.embed_node.specs.Answers.{Results};
@@ -10,7 +10,8 @@ use crate::output::copy;
 use process::Process;
 use std::alloc::Global;
 
-/// Writes the packet that waits first, and to whom it goes. Where the buffer takes it, it is taken.
+/// Writes the first packet that waits, and its receiver. If the buffer is long enough, the packet
+/// is taken.
 pub(crate) fn take(
     alloc: Global,
     handle: &mut NodeHandle,
@@ -51,7 +52,7 @@ fn take_of(
     Ok(())
 }
 
-/// Writes the bytes of a checkpoint. Where the buffer takes them, the process waits until they are
+/// Writes the bytes of a checkpoint. If the buffer is long enough, the process waits until they are
 /// durable.
 pub(crate) fn checkpoint(
     alloc: Global,

@@ -1,4 +1,4 @@
-//! What a program in C holds of a node.
+//! The handle that a program in C holds.
 
 ghost use Rattle.std.specs.Prelude.{◌≡◌, IfNone, IfSome, Some, None, false, is_some};
 ghost use Rattle.std.specs.Ptr.{null_ptr};
@@ -9,7 +9,7 @@ use process::Process;
 use std::alloc::Global;
 use std::mem::replace;
 
-/// A process, or none where it is closed. A program makes it of zeros, and leaves its bytes alone.
+/// A process, or none if it is closed. A program makes it of zeros, and doesn't touch its bytes.
 #[repr(C)]
 #[derive(Drop)]
 pub struct NodeHandle {
@@ -19,7 +19,7 @@ pub struct NodeHandle {
 }
 
 impl NodeHandle {
-    /// A handle without a process, as zeros are: null, and a mark of 0.
+    /// A closed handle, which is all zeros: a null pointer and a mark of 0.
     #[inline(always)]
     pub(crate) fn closed(alloc: Global) -> NodeHandle
         ensures closed { result.process.value ≡ None }
@@ -31,7 +31,7 @@ impl NodeHandle {
         }
     }
 
-    /// Takes the process out, which leaves the handle closed.
+    /// Takes the process out, and leaves the handle closed.
     #[inline(always)]
     pub(crate) fn take(&mut self, alloc: Global) -> Option<Box<Process>>
         ensures closed { self.new.process.value ≡ None }

@@ -1,9 +1,10 @@
-//! What the exports are to hosts.
+//! The exports are calls of hosts.
 
 ghost use Rattle.embed_node.specs.HostCalls.{ExportsAreCalls};
 
-/// Each export that made a call made that of a host, which crate `hosted` speaks of. A process that comes back by
-/// the image file that it was opened by has the handler that it had, of whatever form the image is.
+/// Each export that made a call made the call of a host in crate `hosted`. A process that comes
+/// back with the image file with which it was opened has the handler that it had, whatever the
+/// image's form.
 pub fn exports_are_calls()
     ensures { ExportsAreCalls }
 {}

@@ -1,15 +1,15 @@
 //! Nodes for programs in C and Rust: a static library over [`process`].
 //!
-//! [`exports`] has the functions that cross. A program holds a node by a handle, two words of its own
-//! that it makes of zeros: closed. `sblog_node_open` opens one that received nothing, `sblog_node_revive`
-//! one from what was kept of it, the other functions make its calls, and `sblog_node_close` gives all
-//! memory back. Code 0 says that a call was made or something was read; the numbers from 15 on say why
-//! not. docs/EMBEDDING.md describes the functions and codes.
+//! [`exports`] has the functions for C. A program holds a node by a handle, two words of its own
+//! that it makes of zeros, which means closed. `sblog_node_open` opens a node that received
+//! nothing, `sblog_node_revive` one from its kept state, the other functions make its calls, and
+//! `sblog_node_close` gives all memory back. Code 0 means that a call was made or something was
+//! read; the numbers from 15 on say why not. docs/EMBEDDING.md describes the functions and codes.
 //!
-//! The promise: each function that makes a call of the process owes what that call owes, word for word;
-//! each that reads gives what the process's contract says; and any code but 0 leaves the process as it was, except
-//! that of `sblog_node_tick` that says why the process doesn't pass on. So what crate `hosted` promises of
-//! hosts' calls holds of these ([`laws`]).
+//! Each function that makes a call of the process owes exactly what that call owes, and each that
+//! reads gives what the process's contract says. Any code except 0 leaves the process as it was,
+//! with one exception: the code of `sblog_node_tick` that says why the process doesn't go on to its
+//! next stage. So what crate `hosted` promises of hosts' calls holds of these ([`laws`]).
 //!
 //! ```c
 //! sblog_node node = {0};

@@ -1,4 +1,4 @@
-//! A process on the heap as a pointer that says nothing of what it points to, since only plain types cross to C.
+//! A process on the heap as an untyped pointer, since only plain types cross to C.
 
 ghost use Rattle.std.specs.Prelude.{◌≡◌, Option, Some, None};
 ghost use Rattle.std.specs.Ptr.{null_ptr};
@@ -46,7 +46,7 @@ impl LooseProcess {
         }
     }
 
-    /// The box again.
+    /// Puts the box together again.
     pub(crate) fn into_parts(self) -> Parts<Process, Global>
         ghost v: { TheProcess }
         requires { self.value ≡ Some v }

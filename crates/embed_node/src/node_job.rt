@@ -1,4 +1,4 @@
-//! Calls of a node's handler that a program makes outside of it.
+//! Handler calls that a program makes outside of the node.
 
 ghost use Rattle.std.specs.Prelude.{◌≡◌, ◌≤◌, ◌<◌, ◌+◌, ◌↔◌, length, IfErr, IsTrue, MatchOption, MatchResult, OnErr, OnOk};
 ghost use Rattle.handlers.specs.Handler.{image_of};
@@ -20,10 +20,10 @@ use std::alloc::Global;
 /// Where the state begins in the array of forms 1 and 2.
 pub const STATE_AT: usize = 256;
 
-/// Where it begins in that of form 3.
+/// Where the state begins in the array of form 3.
 pub const SPAN_STATE_AT: usize = 512;
 
-/// A call of the handler that is next, as a program in C reads it: six words of 8 bytes.
+/// The next call of the handler, as a program in C reads it: six words of 8 bytes.
 #[repr(C)]
 #[derive(Clone, Copy)]
 pub struct NodeJob {
@@ -31,11 +31,11 @@ pub struct NodeJob {
     pub incarnation: u64,
     /// How many messages it received before this one.
     pub received: u64,
-    /// How many bytes of the message the handler is shown.
+    /// How many bytes of the message the handler sees.
     pub message_len: u64,
-    /// As which process it is called.
+    /// The number of the process.
     pub me: u64,
-    /// Who sent the message.
+    /// The sender of the message.
     pub from: u64,
     /// How many processes there are.
     pub count: u64,
@@ -58,7 +58,7 @@ impl NodeJob {
     }
 }
 
-/// Gives the call out that is next: lays its array out in front of the buffer, and tells its words.
+/// Gives out the next call: writes its array to the front of the buffer, and its words.
 pub(crate) fn job(
     alloc: Global,
     handle: &mut NodeHandle,
@@ -97,7 +97,7 @@ fn job_of(
     Ok(())
 }
 
-/// Lays the array of a job out in front of a buffer.
+/// Writes the array of a job to the front of a buffer.
 fn lay(job: &Job, array: &mut [u8], size: &mut usize) -> Result<(), Fault>
     ensures laid { OnOk result (LaysOut job.now array.old array.new size.new) }
     ensures room { IfErr result (λ why. (why ≡ Room) × DoesNotLayOut job.now array.old array.new size.new) }
@@ -108,7 +108,7 @@ fn lay(job: &Job, array: &mut [u8], size: &mut usize) -> Result<(), Fault>
     copy(&laid[..len], array, size)
 }
 
-/// How many bytes the array of a job has.
+/// The size of the array of a job in bytes.
 fn array_len(job: &Job) -> usize
     ensures value { result ≡ array_size job.now.image }
     ensures bound { result ≤ ARRAY_BYTES }
@@ -116,7 +116,7 @@ fn array_len(job: &Job) -> usize
     job.array_len()
 }
 
-/// Takes in what a call outside left in its array and its record.
+/// Takes what a call made outside left in its array and its record.
 pub(crate) fn done(
     alloc: Global,
     handle: &mut NodeHandle,
@@ -173,7 +173,7 @@ fn is_next(process: &Process, ticket: Ticket) -> bool
     standing.incarnation == ticket.incarnation && standing.length == ticket.received
 }
 
-/// The state in the array of a call; none, where the array is too short.
+/// The state in the array of a call, if the array is long enough.
 fn state_of<'a>(handler: &Handler, array: &'a [u8]) -> Option<&'a [u8]>
     ensures { MatchOption result (length array.now < array_size (image_of handler.now)) (λ state. IsStateIn (image_of handler.now) array.now state.now) }
 {
@@ -185,7 +185,8 @@ fn state_of<'a>(handler: &Handler, array: &'a [u8]) -> Option<&'a [u8]>
     Some(&array[at..at + len])
 }
 
-/// Where the state begins in the array of a handler. Behind it there is room for the longest, and for a stack.
+/// Where the state begins in the array of a handler. After it there is room for the longest state
+/// and for a stack.
 fn state_at(handler: &Handler) -> usize
     ensures value { result ≡ state_place (image_of handler.now) }
     ensures size { result + STATE_BYTES + STACK_BYTES ≡ array_size (image_of handler.now) }

@@ -18,10 +18,10 @@ use std::alloc::Global;
 use std::sync::Arc;
 use verifier::ImageError;
 
-/// So many bytes the largest packet has, at most.
+/// The greatest size of a packet in bytes.
 pub const MOST_PAGE: u32 = 65_535;
 
-/// The limits of a node, as a program says them.
+/// The limits of a node, as a program passes them.
 #[derive(Clone, Copy)]
 pub struct Limits {
     pub page: u32,
@@ -32,7 +32,7 @@ pub struct Limits {
 }
 
 impl Limits {
-    /// Those of a node, where each is in its range.
+    /// The node's limits, if each is in range.
     fn of_node(self) -> Option<node::Limits>
         ensures { MatchOption result (¬ AreLimits self) (λ l. AreLimits self × (l ≡ limits_of self)) }
     {
@@ -107,7 +107,7 @@ pub(crate) fn open(
     put(alloc, process, handle)
 }
 
-/// Opens a node from what was kept of it, in this incarnation.
+/// Opens a node from its kept state, in this incarnation.
 pub(crate) fn revive(
     alloc: Global,
     image: &[u8],
@@ -134,7 +134,7 @@ pub(crate) fn revive(
     }
 }
 
-/// Whether this is a process of a cluster.
+/// Whether `me` is a process of a cluster of `n`.
 fn is_seat(me: u8, n: u8) -> bool
     ensures { IsTrue result ↔ IsSeat me n }
 {
@@ -148,7 +148,7 @@ fn is_incarnation(incarnation: u64) -> bool
     1 <= incarnation && incarnation < NUMBER_LIMIT
 }
 
-/// Why nothing came back.
+/// The fault that tells why no process came back.
 fn refused(why: Unrevived) -> Fault
     ensures { IsTold why result }
 {

@@ -1,4 +1,4 @@
-//! Records that calls of machine code leave.
+//! The records that calls of machine code leave.
 
 ghost use Rattle.std.specs.Prelude.{◌≡◌, ◌≤◌, ◌<◌, ◌+◌, ◌*◌, ◌++◌, ◌∷◌, ◌↔◌, [], ℕ, List, IsTrue, MatchOption, length, slice_range};
 ghost use Rattle.helpers.specs.declared.effects.Sent.{Sent};
@@ -11,7 +11,7 @@ use byteorder::{ByteOrder, LittleEndian};
 use helpers::{Effects, Who};
 use limits::{EFFECTS, PAYLOAD_BYTES};
 
-/// How many bytes a record has.
+/// The size of a record in bytes.
 pub const RECORD_BYTES: usize = 4416;
 
 /// Where the places for messages begin.
@@ -20,10 +20,10 @@ pub const MESSAGES: usize = 64;
 /// Where the places for outputs begin.
 pub const OUTPUTS: usize = 2240;
 
-/// How many bytes a place has.
+/// The size of a place in bytes.
 pub const PLACE: usize = 272;
 
-/// The number in eight bytes.
+/// The number in the eight bytes at `at`.
 fn word_at(bytes: &[u8], at: usize) -> u64
     requires { at + 8 ≤ length bytes.now }
     ensures value { result ≡ le_value (slice_range bytes.now at (at + 8)) }
@@ -44,7 +44,7 @@ fn payload_at(bytes: &[u8], place: usize) -> Option<&[u8]>
     Some(&bytes[place + 16..place + 16 + len as usize])
 }
 
-/// Behind the others, the message in a place; none, where none for another process stands there.
+/// Appends the message in a place, or answers `None` if the place has none for another process.
 fn add_message(effects: &mut Effects, who: Who, bytes: &[u8], place: usize) -> Option<()>
     requires whole { place + PLACE ≤ length bytes.now }
     requires room { length effects.old.sends < EFFECTS }
@@ -59,7 +59,7 @@ fn add_message(effects: &mut Effects, who: Who, bytes: &[u8], place: usize) -> O
     Some(())
 }
 
-/// Behind the others, the output in a place; none, where none stands there.
+/// Appends the output in a place, or answers `None` if the place has none.
 fn add_output(effects: &mut Effects, bytes: &[u8], place: usize) -> Option<()>
     requires whole { place + PLACE ≤ length bytes.now }
     requires room { length effects.old.outputs < EFFECTS }
@@ -71,7 +71,7 @@ fn add_output(effects: &mut Effects, bytes: &[u8], place: usize) -> Option<()>
     Some(())
 }
 
-/// The first messages.
+/// The first `count` messages.
 fn add_messages(effects: &mut Effects, who: Who, bytes: &[u8], count: usize) -> Option<()>
     requires whole { length bytes.now ≡ RECORD_BYTES }
     requires few { count ≤ EFFECTS }
@@ -85,7 +85,7 @@ fn add_messages(effects: &mut Effects, who: Who, bytes: &[u8], count: usize) -> 
     Some(())
 }
 
-/// The first outputs.
+/// The first `count` outputs.
 fn add_outputs(effects: &mut Effects, bytes: &[u8], count: usize) -> Option<()>
     requires whole { length bytes.now ≡ RECORD_BYTES }
     requires few { count ≤ EFFECTS }
@@ -99,7 +99,7 @@ fn add_outputs(effects: &mut Effects, bytes: &[u8], count: usize) -> Option<()>
     Some(())
 }
 
-/// Whether a record is of a call as this one.
+/// Whether a record is of a call with this identity.
 fn is_of(who: Who, bytes: &[u8]) -> bool
     requires { length bytes.now ≡ RECORD_BYTES }
     ensures { IsTrue result ↔ (le_value (slice_range bytes.now 24 32) ≡ who.me) × (le_value (slice_range bytes.now 32 40) ≡ who.from) × (le_value (slice_range bytes.now 40 48) ≡ who.count) }
@@ -109,7 +109,7 @@ fn is_of(who: Who, bytes: &[u8]) -> bool
         && word_at(bytes, 40) == u64::from(who.count)
 }
 
-/// What a call as this one left in a record; none, where no call left it.
+/// What a call with this identity left in a record, or `None` if no such call left it.
 pub(crate) fn left_in(who: Who, bytes: &[u8]) -> Option<Effects>
     ensures { MatchOption result ((e : Emitted) → ¬ IsLeft who bytes.now e) (IsLeft who bytes.now) }
 {

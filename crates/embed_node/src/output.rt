@@ -1,4 +1,4 @@
-//! Bytes written into a buffer of the caller's.
+//! Bytes written into a buffer of the caller.
 
 ghost use Rattle.std.specs.Prelude.{◌≡◌, IfErr, OnOk};
 ghost use Rattle.embed_node.specs.declared.fault.Fault.TheVariants.{Room};
@@ -6,8 +6,8 @@ ghost use Rattle.embed_node.specs.Answers.{IsCopied, IsUncopied};
 
 use crate::fault::Fault;
 
-/// Writes bytes in front of a buffer, and how many they are. A buffer that is too short is left as it
-/// was (`Room`), and tells how many there are too.
+/// Writes bytes to the front of a buffer, and their number into `size`. A buffer that is too short
+/// is left as it was (`Room`); the number is written too.
 pub(crate) fn copy(bytes: &[u8], out: &mut [u8], size: &mut usize) -> Result<(), Fault>
     ensures done { OnOk result (IsCopied bytes.now out.old out.new size.new) }
     ensures room { IfErr result (λ why. (why ≡ Room) × IsUncopied bytes.now out.old out.new size.new) }

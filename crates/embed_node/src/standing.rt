@@ -1,4 +1,4 @@
-//! How the process of a handle stands, in numbers.
+//! The status of a handle's process, in numbers.
 
 ghost use Rattle.std.specs.Prelude.{◌≡◌, OnErr};
 ghost use Rattle.embed_node.specs.Answers.{Results};
@@ -10,7 +10,7 @@ use crate::handle::NodeHandle;
 use node::Standing;
 use std::alloc::Global;
 
-/// How a node stands, as a program in C reads it: ten words of 8 bytes.
+/// The status of a node, as a program in C reads it: ten words of 8 bytes.
 #[repr(C)]
 #[derive(Clone, Copy)]
 pub struct NodeStanding {
@@ -21,17 +21,17 @@ pub struct NodeStanding {
     pub incarnation: u64,
     /// 0 up, 1 busy, 2 frozen, 3 collecting, 4 replaying, 5 resuming.
     pub stage: u64,
-    /// 1 where failures came one at a time, as far as it knows, else 0.
+    /// 1 if failures came one at a time, as far as it knows, else 0.
     pub exact: u64,
-    /// Messages behind the checkpoint.
+    /// Messages since the checkpoint.
     pub receipts: u64,
-    /// Messages that its log keeps.
+    /// Messages in its logs.
     pub entries: u64,
     /// Packets that wait to be taken.
     pub packets: u64,
-    /// Messages that it still has to replay.
+    /// Messages that it has still to replay.
     pub replays: u64,
-    /// Peers whose answers it waits for: bit q of peer q.
+    /// Peers whose answers it waits for: bit q is peer q.
     pub waited_for: u64,
 }
 
@@ -54,7 +54,7 @@ impl NodeStanding {
     }
 }
 
-/// How many effects of its handler helpers refused by this code.
+/// How many effects of its handler helpers refused with this code.
 pub(crate) fn refused(alloc: Global, handle: &mut NodeHandle, code: u32) -> u64
     ensures { handle.new.process.value ≡ handle.old.process.value }
 {
@@ -71,7 +71,7 @@ pub(crate) fn refused(alloc: Global, handle: &mut NodeHandle, code: u32) -> u64
     })
 }
 
-/// Writes how it stands.
+/// Writes the status.
 pub(crate) fn standing(
     alloc: Global,
     handle: &mut NodeHandle,

@@ -1,4 +1,4 @@
-//! Calls of the session of a handle.
+//! Calls of the session in a handle.
 
 ghost use Rattle.std.specs.Prelude.{◌≡◌, ◌≤◌, length};
 ghost use Rattle.machine.specs.Stepping.{IsJobless};
@@ -13,7 +13,7 @@ use limits::PAYLOAD_BYTES;
 use std::alloc::Global;
 use world::{Answer, Call, Refusal};
 
-/// The number that an answer tells, 0 where it tells none.
+/// The number in an answer, or 0 if it has none.
 fn number_of(answer: &Answer) -> u32
     requires { HasKey answer.now }
     ensures { result ≡ number_of answer.now }
@@ -30,7 +30,7 @@ fn number_of(answer: &Answer) -> u32
     }
 }
 
-/// Makes a call, and writes the number that its answer tells.
+/// Makes a call, and writes the number in its answer.
 pub(crate) fn call(
     alloc: Global,
     handle: &mut SessionHandle,
@@ -55,8 +55,8 @@ pub(crate) fn call(
     }
 }
 
-/// Drives the session, and writes how many calls were accepted, also where the journal's end stopped
-/// it (`JournalFull`).
+/// Drives the session, and writes how many calls were accepted, also if the end of the journal
+/// stopped it (`JournalFull`).
 pub(crate) fn drive(
     alloc: Global,
     handle: &mut SessionHandle,
@@ -85,8 +85,8 @@ pub(crate) fn drive(
     Ok(())
 }
 
-/// Hands a payload in for a process, under a feed number, and writes the message's number. Places of
-/// the journal are kept for it to be put on the wire, to arrive and to be received.
+/// Hands in a payload for a process under a feed number, and writes the message's SSN. The journal
+/// keeps room for the message to go on the wire, arrive and be received.
 pub(crate) fn input(
     alloc: Global,
     handle: &mut SessionHandle,
@@ -112,7 +112,7 @@ pub(crate) fn input(
     call(alloc, handle, Call::Input { to, feed, payload }, ssn)
 }
 
-/// Closes a handle, and gives the memory of its session back.
+/// Closes a handle, and frees its session's memory.
 pub(crate) fn close(alloc: Global, handle: &mut SessionHandle) -> Result<(), Fault>
     ensures { Results result handle.old.session.value handle.new.session.value IsClosed WasClosed }
 {

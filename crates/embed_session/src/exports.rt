@@ -1,5 +1,5 @@
-//! What C calls. A code of 0 says that it is done, any other is the number of a fault, and what either
-//! says of handle and buffers stands in the contracts.
+//! The functions that C calls. Each answers a code: 0 says that it is done, any other is the number
+//! of a fault. The contracts say what each code means for the handle and the buffers.
 
 ghost use Rattle.std.specs.Prelude.{◌≡◌, length};
 ghost use Rattle.embed_session.specs.Session.{Answers, IsCalled, IsClosed, IsDriven, IsHandedBack, IsHandedIn, IsUncalled, IsUndriven, NoneIsOpen, OnFault, Tells, WasClosed};
@@ -16,8 +16,8 @@ use crate::{calling, journal, opening, places, reading, schedule};
 use std::alloc::Global;
 use world::Call;
 
-/// Opens a session of processes 1, 2, .. by their image files, which stand one behind the other, each
-/// as long as its length says. The handle has to be closed.
+/// Opens a session of processes 1, 2, .. from their image files. The files come one after the
+/// other, each as long as its length says. The handle has to be closed.
 #[unsafe(no_mangle)]
 pub extern "C" fn sblog_session_open(
     alloc: Global,
@@ -30,7 +30,7 @@ pub extern "C" fn sblog_session_open(
     code(opening::open(alloc, files, lengths, handle))
 }
 
-/// Closes a handle, and gives the memory of its session back.
+/// Closes a handle, and frees its session's memory.
 #[unsafe(no_mangle)]
 pub extern "C" fn sblog_session_close(alloc: Global, handle: &mut SessionHandle) -> u32
     ensures { Answers result handle.old.session.value handle.new.session.value IsClosed WasClosed }
@@ -38,9 +38,9 @@ pub extern "C" fn sblog_session_close(alloc: Global, handle: &mut SessionHandle)
     code(calling::close(alloc, handle))
 }
 
-/// Hands a payload of at most 256 bytes in for a process, under a feed number that is taken once, and
-/// writes the message's number. It leaves three places in the journal for its message, or is refused
-/// (12).
+/// Hands in a payload of at most 256 bytes for a process, and writes the message's SSN. A feed
+/// number is taken once. The journal keeps three places for the message; if it can't, the input is
+/// refused (12).
 #[unsafe(no_mangle)]
 pub extern "C" fn sblog_session_input(
     alloc: Global,
@@ -55,8 +55,8 @@ pub extern "C" fn sblog_session_input(
     code(calling::input(alloc, handle, to, feed, payload, ssn))
 }
 
-/// Makes useful calls, until there is none or `budget` were accepted, and writes how many were. Where
-/// only the journal's end is in the way of more, it answers 12, and writes how many were too.
+/// Makes useful calls until there is none or `budget` were accepted, and writes how many were. If
+/// only the end of the journal stopped it, it answers 12 and also writes how many were.
 #[unsafe(no_mangle)]
 pub extern "C" fn sblog_session_drive(
     alloc: Global,
@@ -69,8 +69,8 @@ pub extern "C" fn sblog_session_drive(
     code(calling::drive(alloc, handle, budget, accepted))
 }
 
-/// Puts a logged message on the wire, from a process, or the outside (0), to another of these, by its
-/// number. Writes the key of the packet, below 4,096.
+/// Puts a logged message on the wire, by its sender, its receiver and its SSN. Either of them may
+/// be the outside (0). Writes the key of the packet, below 4,096.
 #[unsafe(no_mangle)]
 pub extern "C" fn sblog_session_transmit(
     alloc: Global,
@@ -86,7 +86,7 @@ pub extern "C" fn sblog_session_transmit(
     code(calling::call(alloc, handle, call, packet))
 }
 
-/// Puts the packet of a key on the wire a second time, and writes the key of the copy.
+/// Puts the packet with this key on the wire a second time, and writes the key of the copy.
 #[unsafe(no_mangle)]
 pub extern "C" fn sblog_session_copy(
     alloc: Global,
@@ -100,7 +100,7 @@ pub extern "C" fn sblog_session_copy(
     code(calling::call(alloc, handle, Call::Copy { key }, copy))
 }
 
-/// Loses the packet of a key.
+/// The wire loses the packet with this key.
 #[unsafe(no_mangle)]
 pub extern "C" fn sblog_session_lose(alloc: Global, handle: &mut SessionHandle, packet: u32) -> u32
     ensures { Answers result handle.old.session.value handle.new.session.value (IsCalled (Call.Lose packet) 0) (IsUncalled (Call.Lose packet) 0 0) }
@@ -110,8 +110,9 @@ pub extern "C" fn sblog_session_lose(alloc: Global, handle: &mut SessionHandle, 
     code(calling::call(alloc, handle, Call::Lose { key }, &mut number))
 }
 
-/// Has the packet of a key arrive. Where it starts a job, the handler is called, and its result comes
-/// back. Writes the entry of that, or of the arrival where there is no job.
+/// Takes the packet with this key from the wire to its receiver. If it starts a job, it also calls
+/// the handler and commits the result. Writes the last entry: that of the result, or if there was
+/// no job that of the arrival.
 #[unsafe(no_mangle)]
 pub extern "C" fn sblog_session_arrive(
     alloc: Global,
@@ -138,8 +139,8 @@ pub extern "C" fn sblog_session_checkpoint(
     code(calling::call(alloc, handle, call, covered))
 }
 
-/// Each sender drops its messages to a process that the process's checkpoint covers, or for the outside
-/// (0) those that were shown. Writes how many.
+/// Each sender that is up drops its messages to a process that the process's checkpoint covers, or
+/// if it is the outside (0) those that were shown. Writes how many.
 #[unsafe(no_mangle)]
 pub extern "C" fn sblog_session_trim(
     alloc: Global,
@@ -167,7 +168,7 @@ pub extern "C" fn sblog_session_crash(
     code(calling::call(alloc, handle, call, incarnation))
 }
 
-/// A process comes back, and how many messages it keeps is written. They are replayed by a drive.
+/// A process comes back. Writes how many messages it keeps. A drive replays them.
 #[unsafe(no_mangle)]
 pub extern "C" fn sblog_session_recover(
     alloc: Global,
@@ -181,8 +182,8 @@ pub extern "C" fn sblog_session_recover(
     code(calling::call(alloc, handle, call, kept))
 }
 
-/// A process comes back though others aren't up (docs/PROTOCOL.md), and how many messages it keeps is
-/// written. They are replayed by a drive. Failures came not one at a time from then on.
+/// A process comes back though others aren't up (docs/PROTOCOL.md). Writes how many messages it
+/// keeps. A drive replays them. After it failures didn't come one at a time.
 #[unsafe(no_mangle)]
 pub extern "C" fn sblog_session_recover_alone(
     alloc: Global,
@@ -196,7 +197,7 @@ pub extern "C" fn sblog_session_recover_alone(
     code(calling::call(alloc, handle, call, kept))
 }
 
-/// Writes how many messages the state of a process has, and the number of its phase.
+/// Writes how many messages are in the state of a process, and the number of its phase.
 #[unsafe(no_mangle)]
 pub extern "C" fn sblog_session_standing(
     alloc: Global,
@@ -210,7 +211,7 @@ pub extern "C" fn sblog_session_standing(
     code(reading::standing(alloc, handle, process, length, phase))
 }
 
-/// Writes the state of a process, and how many bytes it has.
+/// Writes the state of a process, and its length in bytes.
 #[unsafe(no_mangle)]
 pub extern "C" fn sblog_session_state(
     alloc: Global,
@@ -224,7 +225,7 @@ pub extern "C" fn sblog_session_state(
     code(reading::state(alloc, handle, process, out, size))
 }
 
-/// Writes the bytes of a process's latest checkpoint, and how many they are.
+/// Writes the bytes of a process's latest checkpoint, and how many there are.
 #[unsafe(no_mangle)]
 pub extern "C" fn sblog_session_saved(
     alloc: Global,
@@ -238,8 +239,8 @@ pub extern "C" fn sblog_session_saved(
     code(reading::saved(alloc, handle, process, out, size))
 }
 
-/// Writes an output that was shown, by its place from 0: its sender, its number and its bytes, and how
-/// many these are.
+/// Writes an output that was shown, by its place from 0: its sender, its SSN, its bytes, and how
+/// many bytes these are.
 #[unsafe(no_mangle)]
 pub extern "C" fn sblog_session_shown(
     alloc: Global,
@@ -256,9 +257,9 @@ pub extern "C" fn sblog_session_shown(
     code(reading::shown(alloc, handle, place, sender, ssn, out, size))
 }
 
-/// How many sends and outputs helpers answered with this code, and so did nothing for the handler of a process:
-/// 1 to no other process, 2 more than 8 of a call, 3 of more than 256 bytes. It is 0 for any other code or
-/// process, and of a closed handle. How many, no contract says.
+/// How many sends and outputs of a process's handler the helpers refused with this code: 1 for a
+/// send to no other process, 2 for more than 8 in a call, 3 for more than 256 bytes. It is 0 for
+/// any other code or process, and for a closed handle. No contract says how many.
 #[unsafe(no_mangle)]
 pub extern "C" fn sblog_session_refused(
     alloc: Global,
@@ -271,7 +272,7 @@ pub extern "C" fn sblog_session_refused(
     reading::refused(alloc, handle, process, code)
 }
 
-/// Writes 1 where failures came one at a time, else 0.
+/// Writes 1 if failures came one at a time, else 0.
 #[unsafe(no_mangle)]
 pub extern "C" fn sblog_session_exact(
     alloc: Global,
@@ -283,7 +284,7 @@ pub extern "C" fn sblog_session_exact(
     code(reading::exact(alloc, handle, answer))
 }
 
-/// Writes the trace of the journal, and how many bytes it has.
+/// Writes the trace of the journal, and its length in bytes.
 #[unsafe(no_mangle)]
 pub extern "C" fn sblog_session_trace(
     alloc: Global,
@@ -296,8 +297,8 @@ pub extern "C" fn sblog_session_trace(
     code(reading::trace(alloc, handle, out, size))
 }
 
-/// Writes how many places the journal has left, without those that open jobs hold. A call takes one,
-/// and where it starts a job, two.
+/// Writes how many places the journal has left, without those that open jobs hold. A call takes
+/// one, or two if it starts a job.
 #[unsafe(no_mangle)]
 pub extern "C" fn sblog_session_room(
     alloc: Global,
@@ -321,7 +322,7 @@ pub extern "C" fn sblog_session_journal(
     code(journal::length(alloc, handle, count))
 }
 
-/// Writes an entry of the journal, by its place from 0.
+/// Writes the entry of the journal at a place from 0.
 #[unsafe(no_mangle)]
 pub extern "C" fn sblog_session_entry(
     alloc: Global,
@@ -334,7 +335,7 @@ pub extern "C" fn sblog_session_entry(
     code(journal::entry(alloc, handle, place, entry))
 }
 
-/// Writes the entries of the journal from a place on, as many as there are and as the buffer takes,
+/// Writes the entries of the journal from a place on, as many as there are and fit into the buffer,
 /// and how many these are.
 #[unsafe(no_mangle)]
 pub extern "C" fn sblog_session_entries(

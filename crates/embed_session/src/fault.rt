@@ -12,10 +12,10 @@ pub enum Fault {
     /// 1 to 15: the session refused the call.
     #[error(transparent)]
     Session(Refusal),
-    /// 16: the handle is closed, or where one is to be opened, it is open.
+    /// 16: the handle is closed; or if one is to be opened, it is open.
     #[error("the handle is closed; to open one, it is open")]
     Handle,
-    /// 17: a file isn't that of an image, or the files aren't as long as their lengths say.
+    /// 17: a file is no image file, or the files aren't as long as their lengths say.
     #[error("a file is none of an image, or the lengths don't fit")]
     File,
     /// 18: a payload has more than 256 bytes.
@@ -24,7 +24,7 @@ pub enum Fault {
     /// 19: the buffer is too short.
     #[error("the buffer is too short")]
     Room,
-    /// 20: there is none of this number.
+    /// 20: nothing has this number.
     #[error("there is none of this number")]
     Absent,
 }
@@ -45,7 +45,7 @@ impl Fault {
     }
 }
 
-/// The code of what was done or wasn't: 0, or the number of the fault.
+/// The code of a result: 0, or the number of the fault.
 pub(crate) fn code(done: Result<(), Fault>) -> u32
     ensures done { IfOk done (λ _. result ≡ 0) }
     ensures fault { IfErr done (λ why. result ≡ fault_number why) }

@@ -1,4 +1,4 @@
-//! What a program in C holds of a session.
+//! The handle by which a program in C holds a session.
 
 ghost use Rattle.std.specs.Prelude.{◌≡◌, IfNone, IfSome, Some, None, false, is_some};
 ghost use Rattle.std.specs.Ptr.{null_ptr};
@@ -9,7 +9,8 @@ use sessions::Service;
 use std::alloc::Global;
 use std::mem::replace;
 
-/// A session, or none where it is closed. A program makes it of zeros, and leaves its bytes alone.
+/// A session, or none if the handle is closed. A program makes it of zeros and doesn't touch its
+/// bytes.
 #[repr(C)]
 #[derive(Drop)]
 pub struct SessionHandle {
@@ -19,7 +20,7 @@ pub struct SessionHandle {
 }
 
 impl SessionHandle {
-    /// A handle without a session, as zeros are: null, and a mark of 0.
+    /// A closed handle, which is all zeros: a null pointer and a mark of 0.
     #[inline(always)]
     pub(crate) fn closed(alloc: Global) -> SessionHandle
         ensures closed { result.session.value ≡ None }
@@ -31,7 +32,7 @@ impl SessionHandle {
         }
     }
 
-    /// Takes the session out, which leaves the handle closed.
+    /// Takes out the session. The handle is closed then.
     #[inline(always)]
     pub(crate) fn take(&mut self, alloc: Global) -> Option<Box<Service>>
         ensures closed { self.new.session.value ≡ None }
@@ -56,7 +57,7 @@ impl SessionHandle {
         };
     }
 
-    /// Whether it is open.
+    /// Whether the handle is open.
     pub(crate) fn is_open(&mut self) -> bool
         ensures same { self.new.session.value ≡ self.old.session.value }
         ensures open { result ≡ is_some self.old.session.value }

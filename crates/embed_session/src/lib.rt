@@ -1,16 +1,16 @@
-//! Sessions for programs in C and Rust: a static library over [`sessions`].
+//! Sessions for programs in C and Rust: a static library over `sessions`.
 //!
-//! [`exports`] has the functions that cross. A program holds a session by a handle, two words of its
-//! own that it makes of zeros: closed. `sblog_session_open` opens it, the other functions make calls
-//! and read, and `sblog_session_close` gives all memory back. Code 0 says that a call was made or
-//! something was read; 1 to 15 is the session's refusal by its number, and the numbers above say
-//! what was wrong with the call's arguments. docs/EMBEDDING.md describes the functions and codes.
+//! [`exports`] has the functions that C calls. A program holds a session by a handle: two words of
+//! its own, which it sets to zeros. That is a closed handle. `sblog_session_open` opens it, the
+//! other functions make calls and read, and `sblog_session_close` frees all memory. Code 0 says
+//! that a call was made or something was read; 1 to 15 is the number of the session's refusal;
+//! greater ones say what is wrong with the arguments. docs/EMBEDDING.md describes the functions and
+//! codes.
 //!
-//! The promise: each function that makes a call of the session owes what that call owes, word for
-//! word; each that reads gives what the session's contract says; and any code but 0 leaves the
-//! session as it was, but for a drive that ran out of memory or came to the journal's end, and for an
-//! arrival that ran out of memory for the result of its job. A record of an entry says all of it
-//! ([`one_entry`]).
+//! Each function that makes a call of the session guarantees what that call does, word for word.
+//! Each that reads gives what the session's contract says. Any code but 0 leaves the session as it
+//! was, with two exceptions: a drive that ran out of memory or of journal, and an arrival that ran
+//! out of memory for the result of its job. A record tells its whole entry ([`one_entry`]).
 //!
 //! ```c
 //! sblog_session session = {0};

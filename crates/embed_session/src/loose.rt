@@ -1,4 +1,4 @@
-//! A service on the heap as a pointer that says nothing of what it points to, since only plain types cross to C.
+//! A service on the heap behind an untyped pointer, since only plain types cross to C.
 
 ghost use Rattle.std.specs.Prelude.{◌≡◌, Option, Some, None};
 ghost use Rattle.std.specs.Ptr.{null_ptr};
@@ -11,7 +11,7 @@ use std::alloc::Global;
 use std::marker::Model;
 use std::ptr::null_mut;
 
-/// A service, or nothing.
+/// A service, or none.
 #[repr(C)]
 #[derive(Drop)]
 pub struct LooseService {
@@ -25,7 +25,7 @@ impl Model for LooseService {
 }
 
 impl LooseService {
-    /// Nothing, at null.
+    /// None: a null pointer.
     pub(crate) fn empty(alloc: Global) -> LooseService
         ensures { (result.value ≡ None) × (result.at ≡ null_ptr) }
     {
@@ -46,7 +46,7 @@ impl LooseService {
         }
     }
 
-    /// The box again.
+    /// The box of the service.
     pub(crate) fn into_parts(self) -> Parts<Service, Global>
         ghost v: { TheSession }
         requires { self.value ≡ Some v }

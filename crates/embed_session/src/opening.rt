@@ -1,4 +1,4 @@
-//! Sessions of image files.
+//! Opening a session from image files.
 
 ghost use Rattle.std.specs.Prelude.{◌≡◌, ◌≤◌, MatchResult, OnOk, IfErr, length, map};
 ghost use Rattle.handlers.specs.Image.{image_in};
@@ -31,7 +31,7 @@ fn handler_of(alloc: Global, file: &[u8]) -> Result<Arc<Handler>, Fault>
     }
 }
 
-/// Loads the images of files that stand one behind the other, each as long as its length says.
+/// Loads the images of files that come one after the other, each as long as its length says.
 fn load_each(
     alloc: Global,
     files: &[u8],
@@ -59,8 +59,8 @@ fn load_each(
     load_each(alloc, others, rest, images)
 }
 
-/// Opens a session of the images of files that stand one behind the other, each as long as its
-/// length says: process 1 has the first one.
+/// Opens a session of the images of files that come one after the other, each as long as its length
+/// says. The first is of process 1.
 pub(crate) fn open(
     alloc: Global,
     files: &[u8],
@@ -77,7 +77,7 @@ pub(crate) fn open(
     }
     let mut images = Vec::new(alloc);
     load_each(alloc, files, lengths, &mut images)?;
-    // There are 1 to 15 images, so only memory can be wanting.
+    // There are 1 to 15 images, so only memory can be lacking.
     let Ok(service) = Service::open(alloc, images) else {
         return Err(Fault::Session(Refusal::Memory));
     };

@@ -1,4 +1,4 @@
-//! Packets that a program has arrive, by a schedule of its own.
+//! Arrivals of packets, in the order that a program chooses.
 
 ghost use Rattle.std.specs.Prelude.{◌≡◌, MatchResult};
 ghost use Rattle.sessions.specs.Service.{KeepsPromises};
@@ -12,8 +12,8 @@ use sessions::Service;
 use std::alloc::Global;
 use world::{Call, Entry, Refusal};
 
-/// Has a packet arrive, and runs the job that it starts: the entry of the arrival, or that of the
-/// job's result. Where memory runs out for a result, its job stays open.
+/// Makes a packet arrive and runs the job that it starts. Answers the entry of the arrival, or of
+/// the job's result. If memory runs out for a result, its job stays open.
 fn receive(service: &mut Service, key: usize) -> Result<Entry, Refusal>
     ensures { MatchResult result (Arrives key service.old service.new) (IsUnarrived key service.old service.new) }
 {
@@ -37,7 +37,7 @@ fn receive(service: &mut Service, key: usize) -> Result<Entry, Refusal>
     })
 }
 
-/// Has a packet arrive, runs the job that it starts, and writes the record of the last entry.
+/// Makes a packet arrive, runs the job that it starts, and writes the record of the last entry.
 pub(crate) fn arrive(
     alloc: Global,
     handle: &mut SessionHandle,

@@ -1,4 +1,4 @@
--- What is said of bytes that come
+-- Bytes that arrive
 use Rattle.std.specs.Prelude.{⊤, Result, Ok, Err}
 use Rattle.packets.specs.declared.fault.PacketError.{PacketError}
 use Rattle.packets.specs.declared.fault.PacketError.TheVariants.{Memory, Fault}

@@ -1,4 +1,4 @@
--- What clauses see of the gateway, and what it sends
+-- The gateway as clauses see it, and what it sends
 use Rattle.std.specs.Prelude.{◌≡◌, ℕ, zero, suc, ◌+◌, ◌<◌, ◌≤◌, ◌^◌, List, [], ◌∷◌, ◌++◌, length, take, replicate, is_none, nat_lt, true, if◌then◌else◌}
 use Rattle.std.specs.List.{AllByRecursion}
 use Rattle.packets.specs.declared.packet.Body.{Body}
@@ -14,8 +14,8 @@ use Rattle.stores.specs.declared.change.Change.TheVariants.{Input, Taken}
 use Rattle.stores.specs.Peer.{ThePeer, no_peer, last_of, payload_of}
 use Rattle.stores.specs.Store.{TheStore, IsOf, peer_at, applied}
 
--- how many bytes a packet has at most, and how many messages one tick makes for a process; what is kept durably, and what happened to it
--- since that was asked; the packets to be taken
+-- the greatest size of a packet, and how many messages to a process one tick sends again; what is kept in stable storage, and its changes
+-- since the host asked for them; the packets that wait
 pub record TheGateway : Type 0 where
   pub page : ℕ
   pub tick : ℕ
@@ -29,63 +29,63 @@ pub record IsGateway (page tick : ℕ) (out : List Packet) : Type 0 where
   -- each packet that waits can be written
   pub fit : AllByRecursion Fits out
 
--- the gateway of so many processes, of which nothing came
+-- the gateway of a new cluster
 abbrev pub new_gateway : ℕ → ℕ → ℕ → TheGateway
 new_gateway count page tick = record { page = page; tick = tick; store = record { peers = replicate count no_peer; outputs = [] }; changes = []; out = [] }
 
--- what it has of the process p
+-- what it keeps of the process p
 abbrev pub peer_of : ℕ → TheGateway → ThePeer
 peer_of p g = peer_at p g.store
 
--- a packet of the gateway's
+-- a packet from the gateway
 abbrev pub packet_of : TheGateway → ℕ → Body → Packet
 packet_of g to body = record { count = length g.store.peers; from = 0; to = to; body = body }
 
--- one more packet waits to be taken, where there is room
+-- puts one more packet into the outbox, if there is room
 abbrev pub posts : ℕ → Body → TheGateway → TheGateway
 posts to body g = record g { out = pushed (packet_of g to body) g.out }
 
--- a number that counts from 1, of which one more has room
+-- a number that counts from 1; one more still fits
 abbrev pub IsPositive : ℕ → Type 0
 IsPositive n = (0 < n) × (n < 2 ^ 63)
 
--- this can be said to one: it is a process, and each field is in its range
+-- the gateway may say this to a process, and each field is in range
 pub record CanSay (g : TheGateway) (to : ℕ) (body : Body) : Type 0 where
   pub process : IsOf to g.store
   pub room : HasRoom body
   pub range : in_range body ≡ true
 
--- a change happens
+-- makes a change of the store
 abbrev pub happens : Change → TheGateway → TheGateway
 happens k g = record g { store = applied k g.store; changes = g.changes ++ k ∷ [] }
 
--- a message that is kept is sent
+-- sends a message that is kept
 abbrev pub delivers : ℕ → ℕ → TheGateway → TheGateway
 delivers p ssn g = posts p (Delivery 1 ssn (payload_of ssn (peer_of p g))) g
 
--- an input is logged, and sent
+-- logs an input, and sends it
 abbrev pub puts_in : ℕ → List ℕ → TheGateway → TheGateway
 puts_in p x g = delivers p (last_of (peer_of p g) + 1) (happens (Input p x) g)
 
--- the first output is taken, if there is one
+-- takes the first output, if there is one
 abbrev pub hands_out : TheGateway → TheGateway
 hands_out g = if nat_lt 0 (length g.store.outputs) then happens (Taken 1) g else g
 
--- of the entries behind SSN s those without a number, by their SSN
+-- the SSNs of the entries after SSN s that have no RSN
 abbrev pub unnumbered : ℕ → List Logged → List ℕ
 unnumbered s [] = []
 unnumbered s (e ∷ es) = if is_none e.number then suc s ∷ unnumbered (suc s) es else unnumbered (suc s) es
 
--- each of these is sent
+-- sends each of these
 abbrev pub delivers_each : ℕ → List ℕ → TheGateway → TheGateway
 delivers_each p [] g = g
 delivers_each p (s ∷ ss) g = delivers_each p ss (delivers p s g)
 
--- the first messages for p without a number are sent again
+-- sends the first messages to p without an RSN again
 abbrev pub resent : ℕ → TheGateway → TheGateway
 resent p g = delivers_each p (take g.tick (unnumbered (peer_of p g).dropped (peer_of p g).entries)) g
 
--- so for the first k processes
+-- does so for the first k processes
 abbrev pub ticked_to : ℕ → TheGateway → TheGateway
 ticked_to zero g = g
 ticked_to (suc k) g = resent (suc k) (ticked_to k g)

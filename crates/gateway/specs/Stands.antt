@@ -1,4 +1,4 @@
--- Which clusters the gateway stands in, and what a call owes
+-- When the gateway agrees with a cluster, and what a call owes
 use Rattle.std.specs.Prelude.{◌≡◌, ℕ, suc, ◌+◌, ◌<◌, List, [], ◌∷◌, ◌++◌, length, map, Option, Some, None, true, slice_index_or}
 use Rattle.std.specs.List.{AllByRecursion}
 use Rattle.world.specs.declared.message.Message.{Message}
@@ -15,19 +15,19 @@ use Rattle.gateway.specs.Gateway.{TheGateway, peer_of}
 use Rattle.pages.specs.Says.{Says}
 use Rattle.gateway.specs.Deeds.{IsByGateway}
 
--- a body that the packet says was put out from p
+-- p sent a body that the packet says
 pub record WasSaid (parcels : List Parcel) (p : ℕ) (x : Packet) : Type 0 where
   pub body : Body
   pub says : Says p x.body body
   pub among : In (parcel p x.to body) parcels
 
--- the packet is the gateway's, of a cluster of so many, and was put out
+-- the packet is from the gateway of a cluster of `count` processes, and was sent
 pub record PutOut (count : ℕ) (parcels : List Parcel) (x : Packet) : Type 0 where
   pub count_is : x.count ≡ count
   pub from : x.from ≡ 0
   pub said : WasSaid parcels 0 x
 
--- of these messages so many are dropped, and the log has the others, with their numbers by SSN; what isn't sent has no number
+-- of these messages the first ones are dropped, and the log has the others, with their RSNs by SSN; what isn't sent yet has no RSN
 pub record KeepsOf (p : ThePeer) (dropped : ℕ) (payloads : List Payload) (numbers : ℕ → Option ℕ) : Type 0 where
   pub before : List Payload
   pub many : length before ≡ p.dropped
@@ -36,16 +36,16 @@ pub record KeepsOf (p : ThePeer) (dropped : ℕ) (payloads : List Payload) (numb
   pub numbers_are : (i : ℕ) → i < length p.entries → (slice_index_or p.entries i no_entry).number ≡ numbers (suc (p.dropped + i))
   pub beyond : (i : ℕ) → p.dropped + length p.entries < i → numbers i ≡ None
 
--- the message that an output is
+-- an output as a message
 abbrev pub shown_as : Output → Message
 shown_as o = message o.process o.ssn o.payload
 
--- these outputs are the last ones of what was shown
+-- these outputs are the last of those shown
 pub record EndsWith (outputs : List Output) (shown : List Message) : Type 0 where
   pub before : List Message
   pub joined : before ++ map shown_as outputs ≡ shown
 
--- what the gateway holds is what the cluster has of it. It says nothing of the processes
+-- what the gateway holds is what the cluster has of it. Nothing is said of the processes
 pub record Stands (g : TheGateway) (c : Cluster) : Type 0 where
   pub count : length g.store.peers ≡ c.count
   pub stage : c.stage 0 ≡ Live
@@ -58,29 +58,29 @@ pub record Stands (g : TheGateway) (c : Cluster) : Type 0 where
   pub outputs : EndsWith g.store.outputs c.shown
   pub heard : (p : ℕ) → IsNode c p → c.heard 0 p ≡ (peer_of p g).heard
   pub resumed : (p : ℕ) → IsNode c p → c.resumed 0 p ≡ (peer_of p g).resumed
-  -- what waits to be taken was put out
+  -- the packets that wait were sent in the cluster
   pub out : AllByRecursion (PutOut c.count c.parcels) g.out
 
--- by acts of its own the gateway goes from the cluster c to one in which the new one stands
+-- acts of the gateway lead from the cluster c to one with which the new gateway agrees
 pub record Goes (new : TheGateway) (c : Cluster) : Type 0 where
   pub acts : List Act
   pub run : Run c acts
   pub by : AllByRecursion IsByGateway acts
   pub stands : Stands new (after_run c acts)
 
--- what a call owes, in each cluster in which the gateway stands, and which this holds of
+-- what a call owes, in each cluster with which the gateway agrees and for which `given` holds
 abbrev pub Owes : (Cluster → Type 0) → TheGateway → TheGateway → Type 0
 Owes given old new = (c : Cluster) → Stands old c → given c → Goes new c
 
--- what one owes that is told nothing
+-- what a call owes that is handed nothing
 abbrev pub Acts : TheGateway → TheGateway → Type 0
 Acts old new = Owes (λ c. Unit {0}) old new
 
--- what it owes that is handed a packet, if that was put out
+-- what a call owes that is handed a packet, if that was sent
 abbrev pub IsHanded : Packet → TheGateway → TheGateway → Type 0
 IsHanded x old new = Owes (λ c. WasSaid c.parcels x.from x) old new
 
--- what take owes: the packet that waited first, which was put out; the gateway is without it
+-- what `take` owes: it gives the first packet that waited, which was sent, and the gateway no longer has it
 abbrev pub Takes : Option Packet → TheGateway → TheGateway → Type 0
 Takes None old new = (old.out ≡ []) × (new ≡ old)
 Takes (Some x) old new = (old ≡ record new { out = x ∷ new.out }) × ((c : Cluster) → Stands old c → PutOut c.count c.parcels x × Stands new c)

@@ -5,10 +5,10 @@ use Rattle.packets.specs.Format.{IsPacket}
 use Rattle.gateway.specs.Gateway.{TheGateway}
 use Rattle.gateway.specs.Stands.{Takes}
 
--- the packet that waits first is to this process, and these are its bytes
+-- the first packet that waits is to this process, and these are its bytes
 abbrev pub Waits : ℕ → List ℕ → TheGateway → Type 0
 Waits to bytes g = (x : Packet) × (rest : List Packet) × (g.out ≡ x ∷ rest) × IsPacket x bytes × (x.to ≡ to)
 
--- what is given are the bytes of the packet that waited first, and the gateway is without it
+-- the bytes are those of the first packet that waited, and the gateway no longer has it
 abbrev pub GivesBytes : List ℕ → TheGateway → TheGateway → Type 0
 GivesBytes bytes old new = (x : Packet) × IsPacket x bytes × Takes (Some x) old new

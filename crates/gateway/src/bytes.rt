@@ -1,4 +1,4 @@
-//! Packets as bytes.
+//! Packets that come as bytes.
 
 ghost use Rattle.std.specs.Prelude.{◌≡◌, IfErr, OnOk, OnErr};
 ghost use Rattle.packets.specs.declared.packet.Packet.{Packet};
@@ -14,15 +14,15 @@ use packets::{PacketError, decode, one_packet};
 use std::alloc::Global;
 
 impl Gateway {
-    /// Bytes came. Those of a packet are taken as [`Gateway::receive`] takes it; any others are refused
-    /// by the first of their faults. A refusal changes nothing.
+    /// Takes the bytes of a packet as [`Gateway::receive`] takes the packet. Any other bytes are
+    /// refused by the first of their faults. A refusal changes nothing.
     pub fn receive_bytes(&mut self, alloc: Global, bytes: &[u8]) -> Result<(), PacketError>
-        // What is taken are the bytes of a packet, and of one only.
+        // Bytes that are taken are those of one packet.
         ensures found { OnOk result ((p : Packet) × IsPacket p bytes.now) }
         ensures value { OnOk result ((p : Packet) → IsPacket p bytes.now → self.new ≡ handed p self.old) }
         ensures since { OnOk result (KeepsSince self.old self.new) }
         ensures acts { OnOk result ((p : Packet) → IsPacket p bytes.now → IsHanded p self.old self.new) }
-        // Those of a packet are taken, unless memory runs out.
+        // The bytes of a packet are taken, unless memory runs out.
         ensures only { (p : Packet) → IsPacket p bytes.now → IsTaken result }
         ensures refused { IfErr result (λ e. IsReason e bytes.now) }
         ensures err { OnErr result (self.new ≡ self.old) }

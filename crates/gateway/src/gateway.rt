@@ -1,4 +1,4 @@
-//! What the gateway holds in memory, and the calls of its host.
+//! The gateway in memory, and the calls of its host.
 
 ghost use Rattle.std.specs.Prelude.{◌≡◌, ◌+◌, ◌<◌, ◌≤◌, [], length, slice_get, true, IfOk, OnOk, OnErr};
 ghost use Rattle.world.specs.Handlers.{Handlers};
@@ -18,15 +18,15 @@ use std::alloc::{AllocError, Global};
 use std::marker::Model;
 use stores::{Change, Output, Store};
 
-/// The way in and out of a cluster.
+/// The way into a cluster and out of it.
 #[derive(Drop)]
 pub struct Gateway {
-    /// How many bytes a packet has at most.
+    /// The greatest size of a packet, in bytes.
     pub(crate) page: u16,
-    /// How many messages one tick makes for a process, at most.
+    /// The greatest number of messages to one process that a tick sends again.
     pub(crate) tick: u32,
     pub(crate) store: Store,
-    /// What happened to the store since its host asked.
+    /// The changes of the store since the host asked for them.
     pub(crate) changes: Vec<Change>,
     pub(crate) out: Outbox,
 }
@@ -42,8 +42,8 @@ impl Model for Gateway {
 }
 
 impl Gateway {
-    /// The gateway of a new cluster of so many processes. The others say how many bytes a packet has
-    /// at most, and how many messages one tick makes for a process.
+    /// The gateway of a new cluster of `count` processes. `page` is the greatest size of a packet
+    /// in bytes, `tick` the greatest number of messages to one process that a tick sends again.
     pub fn open(alloc: Global, count: u8, page: u16, tick: u32) -> Result<Gateway, AllocError>
         requires some { 1 ≤ count }
         requires few { count ≤ PROCESSES }
@@ -63,15 +63,15 @@ impl Gateway {
         })
     }
 
-    /// What is kept durably.
+    /// What is kept in stable storage.
     pub fn store(&self) -> &Store
         ensures { result.now ≡ self.now.store }
     {
         &self.store
     }
 
-    /// What happened to it since this was asked. It is to be durable before what the calls put out is
-    /// sent.
+    /// The changes of the store since the last call. The host makes them durable before it sends
+    /// what came out since then.
     pub fn changes(&mut self, alloc: Global) -> Vec<Change>
         ensures given { result.items ≡ self.old.changes }
         ensures value { self.new ≡ record self.old { changes = [] } }
@@ -88,8 +88,8 @@ impl Gateway {
         std::mem::replace(&mut self.changes, Vec::new(alloc))
     }
 
-    /// The same where nobody wants them any more, as behind [`Gateway::changes_bytes`]: their memory is
-    /// kept for the next ones.
+    /// Drops these changes, as after [`Gateway::changes_bytes`], and keeps their memory for the
+    /// next ones.
     pub fn forget_changes(&mut self)
         ensures value { self.new ≡ record self.old { changes = [] } }
         ensures since { Since self.new.store self.new }
@@ -104,7 +104,7 @@ impl Gateway {
         self.changes.clear();
     }
 
-    /// A message for a process comes from outside. Answers its SSN. A refusal changes nothing.
+    /// Logs a message from outside for a process, and answers its SSN. A refusal changes nothing.
     pub fn input(&mut self, process: u8, payload: Payload) -> Result<u64, AllocError>
         requires { IsOf process self.old.store }
         ensures ssn { IfOk result (λ ssn. ssn ≡ last_of (peer_of process self.old) + 1) }
@@ -113,7 +113,7 @@ impl Gateway {
         ensures acts { OnOk result (Acts self.old self.new) }
         ensures err { OnErr result (self.new ≡ self.old) }
     {
-        // For the proof: this tells how long it is at most.
+        // For the proof: this gives the limit of its length.
         let _len = payload.len();
         self.put_in(process, payload)
     }
@@ -135,15 +135,14 @@ impl Gateway {
         Ok(ssn)
     }
 
-    /// A packet that is to be sent, the first that waits; none, if there is none.
+    /// Takes the first packet that waits to be sent, if there is one.
     pub fn take(&mut self) -> Option<Packet>
         ensures { Takes result self.old self.new }
     {
         self.out.pop()
     }
 
-    /// The output that was shown first of those that weren't taken; none, if there is none. A refusal
-    /// changes nothing.
+    /// Takes the first output that wasn't taken yet, if there is one. A refusal changes nothing.
     pub fn output(&mut self) -> Result<Option<Output>, AllocError>
         ensures output { IfOk result (λ o. o ≡ slice_get self.old.store.outputs 0) }
         ensures value { OnOk result (self.new ≡ hands_out self.old) }
@@ -166,7 +165,7 @@ impl Gateway {
         Ok(output)
     }
 
-    /// What isn't answered yet is sent again: for each process the first messages without a number.
+    /// Sends again what isn't answered: to each process the first messages without an RSN.
     pub fn tick(&mut self)
         ensures value { self.new ≡ ticked self.old }
         ensures since { KeepsSince self.old self.new }
@@ -183,7 +182,7 @@ impl Gateway {
         }
     }
 
-    /// The first messages for a process that have no number are sent again.
+    /// Sends the first messages to a process that have no RSN again.
     fn resend(&mut self, process: u8)
         requires { IsOf process self.old.store }
         ensures { self.new ≡ resent process self.old }
@@ -201,7 +200,7 @@ impl Gateway {
         }
     }
 
-    /// How many of the messages for a process were dropped, and how many there were in all.
+    /// How many of the messages to a process were dropped, and how many there were in all.
     fn span(&self, process: u8) -> (u64, u64)
         requires { IsOf process self.now.store }
         ensures first { result.0 ≡ (peer_of process self.now).dropped }
@@ -213,7 +212,7 @@ impl Gateway {
         (peer.dropped(), peer.last())
     }
 
-    /// The number of a message that is kept, where it's known.
+    /// The RSN of a message that is kept, if it is known.
     fn number_of(&self, process: u8, ssn: u64) -> Option<u64>
         requires of { IsOf process self.now.store }
         requires kept { is_kept ssn (peer_of process self.now) ≡ true }
@@ -222,7 +221,7 @@ impl Gateway {
         self.store.peer(process).number(ssn)
     }
 
-    /// A message that is kept is sent.
+    /// Sends a message that is kept.
     fn deliver(&mut self, process: u8, ssn: u64)
         requires of { IsOf process self.old.store }
         requires kept { is_kept ssn (peer_of process self.old) ≡ true }
@@ -230,7 +229,7 @@ impl Gateway {
     {
         let peer = self.store.peer(process);
         let payload = peer.payload(ssn);
-        // For the proof: these tell how great they are at most.
+        // For the proof: these give the limits of the numbers.
         let _last = peer.last();
         let _len = payload.len();
         self.put(
@@ -243,7 +242,7 @@ impl Gateway {
         );
     }
 
-    /// A change happens to the store, and its host is told. A refusal changes nothing.
+    /// Changes the store, and keeps the change for the host. A refusal changes nothing.
     pub(crate) fn happen(&mut self, change: Change) -> Result<(), AllocError>
         requires { Fits change self.old.store }
         ensures ok { OnOk result (self.new ≡ happens change self.old) }
@@ -255,7 +254,7 @@ impl Gateway {
         Ok(())
     }
 
-    /// A packet waits to be taken.
+    /// Puts a packet into the outbox.
     pub(crate) fn put(&mut self, to: u8, body: Body)
         requires { CanSay self.old to body }
         ensures { self.new ≡ posts to body self.old }

@@ -1,20 +1,22 @@
-//! The gateway of a cluster: node 0, the way in and out of it, as a value that its host calls.
+//! The gateway of a cluster, node 0: it takes inputs from outside and shows outputs, as a value
+//! that its host calls.
 //!
 //! A [`Gateway`] knows no clock, socket, file or thread. Its host hands it messages from outside
-//! ([`Gateway::input`]) and the packets that came ([`Gateway::receive`], [`Gateway::receive_bytes`]),
-//! sends those that it gives ([`Gateway::take`]), passes on what processes show
-//! ([`Gateway::output`]), and now and then lets it send again what isn't answered
-//! ([`Gateway::tick`]). A process that comes back is told what the log holds for it, a page at a time.
+//! ([`Gateway::input`]) and packets that arrive ([`Gateway::receive`], [`Gateway::receive_bytes`]),
+//! sends the packets that it gives ([`Gateway::take`]), passes its outputs on
+//! ([`Gateway::output`]), and now and then has it send again what isn't answered
+//! ([`Gateway::tick`]). The gateway tells a recovering process what its log holds for it, a page at
+//! a time.
 //!
-//! Its host makes what happened to the [`Store`] ([`Gateway::changes`]) durable before it sends what a
-//! call put out. A store and all changes since are the store of now; with it the gateway comes back
-//! ([`Gateway::revive`], [`Gateway::apply`]) where it was killed, and stands in each cluster in which
-//! the killed one stood.
+//! The host makes the changes of the [`Store`] ([`Gateway::changes`]) durable before it sends what
+//! a call gave. A store and all changes since then are the store as it is now. After a crash the
+//! gateway comes back from it ([`Gateway::revive`], [`Gateway::apply`]), and takes the place of the
+//! earlier one in the cluster.
 //!
-//! The promise: each call is none, one or more acts of the gateway that the rules of crate `cluster`
-//! allow, and what the gateway then holds is what the cluster has of it: its logs are the inputs, it
-//! counts what was shown of each process, and the outputs that weren't taken yet are the last ones of
-//! what was shown, in order. A refusal changes nothing.
+//! Each call is zero or more acts of the gateway that the rules of crate `cluster` allow. The
+//! gateway then agrees with the cluster: its logs are the cluster's inputs, it counts the outputs
+//! that were shown of each process, and the outputs not yet taken are the last of those shown, in
+//! order. A refusal changes nothing.
 //!
 //! ```text
 //! let mut gateway = Gateway::open(alloc, 2, 60_000, 8)?;

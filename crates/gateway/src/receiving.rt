@@ -1,4 +1,4 @@
-//! What the gateway does with a packet.
+//! The gateway takes a packet.
 
 ghost use Rattle.std.specs.Prelude.{◌≡◌, ◌≤◌, ◌<◌, ◌^◌, length, OnOk, OnErr};
 ghost use Rattle.stores.specs.Store.{IsOf};
@@ -13,8 +13,8 @@ use std::alloc::{AllocError, Global};
 use stores::{Change, Output};
 
 impl Gateway {
-    /// A packet came. One that isn't of a process of this cluster to the gateway is dropped. A refusal
-    /// changes nothing.
+    /// Takes a packet. It drops one that isn't from a process of this cluster to the gateway. A
+    /// refusal changes nothing.
     pub fn receive(&mut self, alloc: Global, packet: &Packet) -> Result<(), AllocError>
         ensures value { OnOk result (self.new ≡ handed packet.now self.old) }
         ensures since { OnOk result (KeepsSince self.old self.new) }
@@ -65,7 +65,8 @@ impl Gateway {
         }
     }
 
-    /// Whether the packet is of a process of this cluster to the gateway, and its fields are in range.
+    /// Whether the packet is from a process of this cluster to the gateway, and its fields are in
+    /// range.
     fn is_for(&self, packet: &Packet) -> bool
         ensures { result ≡ is_for self.now packet.now }
     {
@@ -76,8 +77,8 @@ impl Gateway {
             && packet.body.is_in_range()
     }
 
-    /// A message came. The next one of its process is shown; that it was, or had been before, the
-    /// process is told.
+    /// Takes a message: shows it if it is the next of its process, and answers its process if it is
+    /// or was shown.
     fn receive_delivery(&mut self, incarnation: u64, output: Output) -> Result<(), AllocError>
         requires of { IsOf output.process self.old.store }
         requires small { output.ssn < 2 ^ 63 }
@@ -100,7 +101,7 @@ impl Gateway {
         Ok(())
     }
 
-    /// A process is told how many of its outputs were shown.
+    /// Tells a process how many of its outputs were shown.
     fn say_shown(&mut self, process: u8)
         requires { IsOf process self.old.store }
         ensures { self.new ≡ says_shown process self.old }
@@ -109,7 +110,7 @@ impl Gateway {
         self.put(process, Body::Saved { covered });
     }
 
-    /// A number came: `process`, in this incarnation, received this message under it.
+    /// Takes an RSN, which `process` in this incarnation gave the message.
     fn receive_number(
         &mut self,
         process: u8,
@@ -143,7 +144,7 @@ impl Gateway {
         Ok(())
     }
 
-    /// The first messages for a process are covered for good: the log drops them.
+    /// Drops the first messages to a process, which are covered for good.
     fn receive_saved(&mut self, process: u8, covered: u64) -> Result<(), AllocError>
         requires { IsOf process self.old.store }
         ensures ok { OnOk result (self.new ≡ dropped_by process covered self.old) }
@@ -158,7 +159,7 @@ impl Gateway {
     }
 }
 
-/// For the proof: this tells how long a payload is at most.
+/// For the proof: this gives the limit of a payload's length.
 fn longest(body: &Body) -> usize
     ensures { IsShort body.now }
 {

@@ -1,4 +1,4 @@
-//! A gateway that comes back.
+//! The gateway comes back after a crash.
 
 ghost use Rattle.std.specs.Prelude.{◌≡◌, ◌≤◌, [], true, IfOk, IfErr, OnOk, OnErr};
 ghost use Rattle.stores.specs.Store.{FitAll, applied_all, IsApplyReason};
@@ -11,8 +11,8 @@ use std::alloc::{AllocError, Global};
 use stores::{ApplyError, Change, Store};
 
 impl Gateway {
-    /// The gateway that has this store, which was kept when another life of it was killed. What that
-    /// life had still to send is lost.
+    /// The gateway with this store, which was kept when an earlier one was killed. Packets that the
+    /// earlier one hadn't sent are lost.
     pub fn revive(alloc: Global, store: Store, page: u16, tick: u32) -> Result<Gateway, AllocError>
         requires page { LEAST_PAGE ≤ page }
         requires tick { 1 ≤ tick }
@@ -37,7 +37,7 @@ impl Gateway {
         })
     }
 
-    /// Whether nothing waits to be sent or to be made durable.
+    /// Whether there is nothing to send and nothing to make durable.
     pub fn is_fresh(&self) -> bool
         ensures yes { result ≡ true → (self.now.changes ≡ []) × (self.now.out ≡ []) }
         ensures no { (self.now.changes ≡ []) × (self.now.out ≡ []) → result ≡ true }
@@ -45,8 +45,7 @@ impl Gateway {
         self.changes.is_empty() && self.out.is_empty()
     }
 
-    /// Its store is the one after these changes, which were made durable behind it. A refusal changes
-    /// nothing.
+    /// Makes changes in its store that were made durable after it. A refusal changes nothing.
     pub fn apply(&mut self, alloc: Global, changes: &[Change]) -> Result<(), ApplyError>
         requires changes { self.old.changes ≡ [] }
         requires out { self.old.out ≡ [] }

@@ -12,8 +12,8 @@ use std::alloc::{AllocError, Global};
 use stores::{encode_changes, encode_store};
 
 impl Gateway {
-    /// The first packet that waits, by the process that it is to and its bytes; none, if there is none.
-    /// It still waits: [`Gateway::take`] takes it.
+    /// The first packet that waits, if there is one: its receiver and its bytes. [`Gateway::take`]
+    /// takes it.
     pub fn first_bytes(&self, alloc: Global) -> Result<Option<(u8, Vec<u8>)>, AllocError>
         ensures { IfOk result (λ o. MatchOption o (self.now.out ≡ []) (λ v. Waits v.0 v.1.items self.now)) }
     {
@@ -24,8 +24,8 @@ impl Gateway {
         Ok(Some((packet.to, bytes)))
     }
 
-    /// The bytes of the packet that [`Gateway::take`] would give, which is taken; none, if none waits. A
-    /// refusal, for want of memory, changes nothing.
+    /// Takes the first packet that waits, if there is one, as bytes. A refusal, which is by memory,
+    /// changes nothing.
     pub fn take_bytes(&mut self, alloc: Global) -> Result<Option<Vec<u8>>, AllocError>
         ensures none { IfOk result (λ o. IfNone o (Takes None self.old self.new)) }
         ensures some { IfOk result (λ o. IfSome o (λ v. GivesBytes v.items self.old self.new)) }
@@ -38,15 +38,15 @@ impl Gateway {
         Ok(Some(bytes))
     }
 
-    /// The bytes of its store. Where four bytes don't count its entries or its outputs, that is want of
-    /// memory.
+    /// The bytes of the store. It answers `AllocError` too if four bytes can't count the entries of
+    /// a log or the outputs.
     pub fn store_bytes(&self, alloc: Global) -> Result<Vec<u8>, AllocError>
         ensures { IfOk result (λ v. IsStoreBytes self.now.store v.items) }
     {
         encode_store(alloc, &self.store)
     }
 
-    /// The bytes of what happened to it since [`Gateway::changes`] was asked.
+    /// The bytes of the changes since the last call of [`Gateway::changes`].
     pub fn changes_bytes(&self, alloc: Global) -> Result<Vec<u8>, AllocError>
         ensures { IfOk result (λ v. AreChanges self.now.changes v.items) }
     {

@@ -4,7 +4,7 @@ use Rattle.images.specs.declared.any_image.AnyImage.TheVariants.{Flat as AnyFlat
 use Rattle.handlers.specs.declared.handler.Handler.{Handler}
 use Rattle.handlers.specs.declared.handler.Handler.TheVariants.{Flat, Span}
 
--- the image of which it is the handler
+-- the image of a handler
 abbrev pub image_of : Handler → AnyImage
 image_of (Flat image) = AnyFlat image
 image_of (Span image) = AnySpan image

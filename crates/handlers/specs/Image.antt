@@ -9,7 +9,7 @@ use Rattle.images.specs.AnyImage.{code_of, form_of, state_of}
 use Rattle.handlers.specs.declared.handler.Handler.{Handler}
 use Rattle.handlers.specs.Handler.{image_of}
 
--- the form of its image, the instructions, and the length of the state
+-- the form of its image, the instructions, and the state's length
 pub record TheImage : Type 0 where
   pub form : FileForm
   pub code : List Insn

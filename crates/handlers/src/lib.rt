@@ -1,10 +1,10 @@
-//! Handlers of all three forms, for what runs any of them.
+//! Handlers of all three forms, for code that runs any of them.
 //!
-//! A [`Handler`] is the image of a file of any form, ready to be called: of form 3 it is laid out once. Its
-//! method `call` runs it on its state and a payload. What it is shown of the payload is a matter of its form:
-//! in form 1 the first 64 bytes, filled up with zeros, in forms 2 and 3 the payload as it is. What a call
-//! leaves is the run of the definitions of its form (`specs/Answer`), of at most as many steps as it has
-//! instructions; the state keeps its length. A refusal of a file is one of `verifier`, with its numbers.
+//! A [`Handler`] is the image of a file of any form, ready to be called; one of form 3 is laid out once. Its method
+//! `call` runs it on its state and a payload. The form decides what it sees of the payload: in form 1 the first 64
+//! bytes, filled up with zeros, in forms 2 and 3 the payload as it is. A call leaves what the run by the definitions of
+//! its form leaves (`specs/Answer`), in at most as many steps as it has instructions; the state keeps its length. A
+//! refusal of a file is one of `verifier`, with its numbers.
 //!
 //! ```
 //! let handler = Handler::load(alloc, &bytes)?;

@@ -17,17 +17,17 @@ pub struct Who {
     pub count: u8,
 }
 
-/// A message that a handler sends: the process that is to get it, and what it says.
+/// A message that a handler sends: its destination and its payload.
 #[derive(Clone, Copy, Debug, Default, PartialEq, Eq)]
 pub struct Sent {
     pub dst: u8,
     pub payload: Payload,
 }
 
-/// What one call of a handler does outside its own memory, in the order of its calls.
+/// What one call of a handler sends and outputs, in order.
 ///
-/// The places lie in the value itself, and no call takes memory. A value that is kept and cleared
-/// between calls costs a call only what it emits.
+/// The value itself has room for all of it, so no method takes memory. A value that is kept and cleared between calls
+/// costs a call only what it emits.
 #[derive(Drop)]
 pub struct Effects {
     sends: ArrayVec<Sent, EFFECTS>,
@@ -89,8 +89,8 @@ impl Effects {
         self.outputs.as_slice()
     }
 
-    /// How many sends and outputs were refused since these were cleared, by cause. No contract speaks of it: it
-    /// is for people, and only tested.
+    /// How many sends and outputs were refused since the last `clear`, by cause. People read it; it is tested, and no
+    /// contract mentions it.
     pub fn refused(&self) -> Refused {
         self.refused
     }
@@ -104,8 +104,8 @@ impl Effects {
         code
     }
 
-    /// Helper 1: sends bytes to another process. The code is 0 where they were appended, 1 where
-    /// the destination, as a 64-bit number, isn't another process, else 2: no room is left.
+    /// Helper 1: sends bytes to another process. The code is 0 if they were appended, 1 if the destination, as a 64-bit
+    /// number, is no other process, and else 2: no room is left.
     pub fn send(&mut self, who: Who, dst: u64, payload: &[u8]) -> u64
         requires { length payload.now ≤ PAYLOAD_BYTES }
         ensures code { result ≡ (rows.send who dst (Some payload.now) self.old).0 }
@@ -125,8 +125,7 @@ impl Effects {
         0
     }
 
-    /// Helper 2: gives bytes to the outside. The code is 0 where they were appended, else 2: no
-    /// room is left.
+    /// Helper 2: outputs bytes. The code is 0 if they were appended, else 2: no room is left.
     pub fn output(&mut self, payload: &[u8]) -> u64
         requires { length payload.now ≤ PAYLOAD_BYTES }
         ensures code { result ≡ (rows.output (Some payload.now) self.old).0 }
@@ -141,8 +140,8 @@ impl Effects {
         0
     }
 
-    /// Helper 5: sends as many of 256 bytes as are asked for. The code is as helper 1's, but 3 where
-    /// the destination is good, room is left and more than 256 are asked for: nothing is appended.
+    /// Helper 5: sends the first `len` of 256 bytes. The code is as helper 1's, but 3 if the destination is good, room
+    /// is left and `len` is above 256: nothing is appended.
     pub fn send_sized(&mut self, who: Who, dst: u64, bytes: &[u8], len: u64) -> u64
         requires { length bytes.now ≡ PAYLOAD_BYTES }
         ensures code { result ≡ (rows.send who dst (sized_payload bytes.now len) self.old).0 }
@@ -161,8 +160,8 @@ impl Effects {
         self.refuse(code)
     }
 
-    /// Helper 6: gives as many of 256 bytes as are asked for to the outside. The code is as helper
-    /// 2's, but 3 where room is left and more than 256 are asked for: nothing is appended.
+    /// Helper 6: outputs the first `len` of 256 bytes. The code is as helper 2's, but 3 if room is left and `len` is
+    /// above 256: nothing is appended.
     pub fn output_sized(&mut self, bytes: &[u8], len: u64) -> u64
         requires { length bytes.now ≡ PAYLOAD_BYTES }
         ensures code { result ≡ (rows.output (sized_payload bytes.now len) self.old).0 }

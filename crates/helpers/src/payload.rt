@@ -1,4 +1,4 @@
-//! What a message says.
+//! The content of a message.
 
 ghost use Rattle.std.specs.Prelude.{◌≡◌, ◌≤◌, ◌==◌, [], length, nat_eq};
 ghost use Rattle.std.specs.Cmp.{partial_equiv_from_equiv};
@@ -9,10 +9,9 @@ use limits::{FORM_1_BYTES, PAYLOAD_BYTES};
 use std::fmt;
 use std::marker::Model;
 
-/// What a message says: 0 to 256 bytes.
+/// The content of a message: 0 to 256 bytes.
 ///
-/// The bytes lie in the value itself, and the places behind them are zeros: so the first 64 of a
-/// message, filled up, are lent and not copied.
+/// The value holds the bytes itself, with zeros after them, so `view64` lends the first 64 bytes and copies nothing.
 #[derive(Clone, Copy)]
 pub struct Payload {
     bytes: [u8; PAYLOAD_BYTES],
@@ -89,7 +88,7 @@ impl Payload {
         view
     }
 
-    // Takes these bytes in place of its own. Of its places only those are written that either uses.
+    // Replaces its bytes. It writes only places that the old or the new bytes use.
     pub(crate) fn replace(&mut self, bytes: &[u8])
         requires { length bytes.now ≤ PAYLOAD_BYTES }
         ensures { self.new ≡ bytes.now }
@@ -99,7 +98,7 @@ impl Payload {
     }
 }
 
-// Puts bytes into the places, of which so many were used, and zeros behind them.
+// Puts bytes into the places, and zeros after them up to `used`, the number of places that were used.
 fn refill(places: &mut [u8; PAYLOAD_BYTES], used: usize, bytes: &[u8])
     requires used { IsFilled used places.old }
     requires fits { length bytes.now ≤ PAYLOAD_BYTES }

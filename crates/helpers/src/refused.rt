@@ -2,19 +2,19 @@
 
 ghost use Rattle.std.specs.Prelude.{◌≡◌, ◌+◌, min};
 
-/// How many sends and outputs were refused, by cause. A refused one leaves nothing behind, and its handler goes on.
+/// How many sends and outputs were refused, by cause. A refused one has no effect, and its handler goes on.
 #[derive(Clone, Copy, Debug, Default, PartialEq, Eq)]
 pub struct Refused {
     /// Sends to a number that is no other process: code 1.
     pub no_peer: u32,
-    /// Sends and outputs beyond the eighth of a call: code 2.
+    /// Sends and outputs after the eighth of a call: code 2.
     pub full: u32,
     /// Sends and outputs of more than 256 bytes: code 3.
     pub long: u32,
 }
 
 impl Refused {
-    /// Counts one that was answered with this code. Code 0 refuses nothing.
+    /// Counts an answer with this code. Code 0 is no refusal.
     pub(crate) fn count(&mut self, code: u64) {
         match code {
             1 => self.no_peer = self.no_peer.saturating_add(1),
@@ -24,7 +24,7 @@ impl Refused {
         }
     }
 
-    /// Counts all of the other, too. No count goes above `u32::MAX`.
+    /// Adds the other's counts. No count goes above `u32::MAX`.
     pub fn add(&mut self, other: Refused)
         ensures no_peer { self.new.no_peer ≡ min (self.old.no_peer + other.no_peer) 4294967295 }
         ensures full { self.new.full ≡ min (self.old.full + other.full) 4294967295 }
@@ -35,7 +35,7 @@ impl Refused {
         self.long = self.long.saturating_add(other.long);
     }
 
-    /// How many there are of all causes.
+    /// The sum over all causes.
     pub fn total(&self) -> u64
         ensures { result ≡ self.now.no_peer + self.now.full + self.now.long }
     {

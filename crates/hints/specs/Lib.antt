@@ -1,3 +1,1 @@
-pub mod Why
-pub mod Rest
 pub mod Told

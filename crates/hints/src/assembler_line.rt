@@ -1,10 +1,10 @@
-//! What is said of the line of an assembler text that is refused.
+//! Hints on a refused line of assembler text.
 
 use crate::shown::{hexadecimal_of, line_at, meant};
 use assemble::{Mistake, Wanted, mistake_of};
 use std::alloc::{AllocError, Global};
 
-/// Words that no instruction has, and the one that they may be meant for.
+/// Words that no instruction has, and what they may be meant for.
 const MEANT: [(&str, &str); 12] = [
     ("ret return end halt", "exit"),
     ("jmp b br jump", "ja +2"),
@@ -35,8 +35,8 @@ fn is_number(word: &str) -> bool {
     !digits.is_empty() && digits.bytes().all(|it| it.is_ascii_digit())
 }
 
-/// How an instruction is written that stores or loads, and has its operands in the other order, or a number in place of a
-/// register; nothing of any other.
+/// How a store or a load is written whose operands are in the other order, or that has a number in place of a register;
+/// empty for any other instruction.
 fn memory_words(alloc: Global, line: &str) -> Result<String, AllocError> {
     let (verb, operands) = line.split_once(' ').unwrap_or((line, ""));
     let Some((first, second)) = operands.split_once(", ") else {
@@ -65,7 +65,7 @@ fn memory_words(alloc: Global, line: &str) -> Result<String, AllocError> {
     Ok(String::new(alloc))
 }
 
-/// How an operand is written that is not of the kind that its place wants.
+/// How an operand of the wrong kind is written.
 fn shape_words(
     alloc: Global,
     line: &str,
@@ -120,7 +120,7 @@ fn range_words(alloc: Global, line: &str, word: &str) -> Result<String, AllocErr
     }
 }
 
-/// What a line may be meant for; nothing if that isn't known.
+/// What a line may be meant for; empty if that isn't known.
 fn meant_words(alloc: Global, line: &str, mistake: &Mistake<'_>) -> Result<String, AllocError> {
     match *mistake {
         Mistake::Word { word } => match meant(&MEANT, word) {
@@ -138,7 +138,7 @@ fn meant_words(alloc: Global, line: &str, mistake: &Mistake<'_>) -> Result<Strin
     }
 }
 
-/// What is wrong with the line of this number, the first faulty one of a text, as a line of text; nothing of a line that isn't
+/// What is wrong with the line of this number, the first faulty one of a text, as a line of text; empty for a line that isn't
 /// faulty by itself.
 pub fn assembler_words(alloc: Global, text: &str, number: usize) -> Result<String, AllocError> {
     let Some(mistake) = mistake_of(text, number) else {

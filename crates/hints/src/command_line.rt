@@ -20,7 +20,7 @@ fn meant_words(word: &str) -> &'static str {
     }
 }
 
-/// What a command line that is refused may be meant for, as a line of text; or nothing.
+/// What a refused command line may be meant for, as a line of text; or empty.
 pub fn command_words<S: AsStr>(words: &[S]) -> &'static str {
     let Some((first, rest)) = words.split_first() else {
         return "";

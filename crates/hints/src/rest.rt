@@ -1,12 +1,6 @@
-//! What a session leaves undone.
+//! What is left to do after a run.
 
-ghost use Rattle.std.specs.Prelude.{◌≡◌, IfSome};
-ghost use Rattle.world.specs.Phases.{name_of};
-ghost use Rattle.sessions.specs.Journal.{world_at};
-ghost use Rattle.hints.specs.Rest.{Leaves};
-
-use sessions::Service;
-use world::{Call, PhaseName};
+use world::Call;
 
 /// What is left to do, the likeliest thing first.
 #[derive(Clone, Copy, PartialEq, Eq, Debug)]
@@ -17,38 +11,7 @@ pub enum Rest {
     Held { process: u8 },
     /// The call can be made.
     Next { call: Call },
-    /// The call could be made, if the journal weren't full.
+    /// The call could be made if the journal weren't full.
     Full { call: Call },
     Nothing,
-}
-
-/// What a session leaves undone.
-pub fn rest_of(session: &Service) -> Rest
-    ensures { Leaves session.now result }
-{
-    if let Some(process) = first_in(session, PhaseName::Down) {
-        return Rest::Down { process };
-    }
-    if let Some(call) = session.pick() {
-        return Rest::Next { call };
-    }
-    if let Some(process) = first_in(session, PhaseName::Busy) {
-        return Rest::Held { process };
-    }
-    match session.outstanding() {
-        Some(call) => Rest::Full { call },
-        None => Rest::Nothing,
-    }
-}
-
-/// The first process in a phase.
-fn first_in(session: &Service, phase: PhaseName) -> Option<u8>
-    ensures { IfSome result (λ p. name_of ((world_at session.now).phase p) ≡ phase) }
-{
-    for process in 1..session.count() + 1 {
-        if session.phase(process) == phase {
-            return Some(process);
-        }
-    }
-    None
 }

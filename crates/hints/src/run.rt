@@ -1,19 +1,15 @@
-//! What is said of a run: why orders were refused, and what is left to do.
+//! Hints on a run: why orders were refused, and what is left to do.
 
-ghost use Rattle.hints.specs.Told.{AreKept, IsAdded};
+ghost use Rattle.hints.specs.Told.{IsAdded};
 
-use crate::rest::{Rest, rest_of};
-use crate::why::{Act, Why, named_in, why_of};
+use crate::rest::Rest;
+use crate::why::{Act, Told, Why, named_in};
 use indexmap::IndexMap;
 use scenario::{Order, Process, Scenario, Step};
-use sessions::Service;
 use std::alloc::{AllocError, Global};
 use std::fmt;
 use trace::name_at;
 use world::{Call, PhaseName, Refusal};
-
-/// Of how many refused orders it is said why.
-const TOLD: usize = 16;
 
 const FULL: &str = "the journal is full: do messages go round and round? drive fewer calls";
 
@@ -32,31 +28,7 @@ const WIRE: &str = "work is left, as a packet on the wire: one more drive N carr
 
 const SENDS: &str = "work is left, as message $n of $a to $b: one more drive N carries it on";
 
-/// A refused order, with its line, its number and the cause.
-#[derive(Clone, Copy, PartialEq, Eq)]
-pub struct Told {
-    pub line: usize,
-    pub order: Order,
-    pub refusal: Refusal,
-    pub why: Why,
-}
-
-/// Keeps why a session refused the order of a step, of the first ones, if there is memory.
-pub fn keep_told(told: &mut Vec<Told>, session: &Service, step: &Step, refusal: Refusal)
-    ensures { AreKept session.now told.old.items told.new.items }
-{
-    if told.len() >= TOLD {
-        return;
-    }
-    let _kept = told.push(Told {
-        line: step.line,
-        order: step.order,
-        refusal,
-        why: why_of(session, &step.order, refusal),
-    });
-}
-
-/// A sentence with marks: for the names of two processes `$a` and `$b`, for numbers `$n` and `$m`.
+/// A sentence with marks: `$a` and `$b` for the names of two processes, `$n` and `$m` for numbers.
 #[derive(Clone, Copy)]
 struct Sentence<'a> {
     words: &'static str,
@@ -86,7 +58,7 @@ impl fmt::Display for Sentence<'_> {
     }
 }
 
-/// Of an order of process `$a`, or of one that asks for `$b`, which is in a phase that doesn't allow it.
+/// Of an order of process `$a`, or one that needs process `$b`, that the process's phase doesn't allow.
 fn phase_words(told: &Told, phase: PhaseName) -> &'static str {
     match (told.refusal, phase) {
         (Refusal::NotUp, PhaseName::Down) if matches!(&told.order, Order::Crash { .. }) => {
@@ -113,7 +85,7 @@ fn message_words(told: &Told, ssn: u32) -> &'static str {
     }
 }
 
-/// Of an order of which nothing more is found.
+/// Of an order of which only the refusal is known.
 fn number_words(refusal: Refusal) -> &'static str {
     match refusal {
         Refusal::Busy => "its process works on a message: finish above this line ends that",
@@ -127,7 +99,7 @@ fn number_words(refusal: Refusal) -> &'static str {
     }
 }
 
-/// Of an order that comes after a call of entry `$m` of the trace.
+/// Of an order that entry `$m` of the trace forestalled.
 fn done_words(act: Act) -> &'static str {
     match act {
         Act::Takes(_) => "key $n has no packet any more: entry $m of the trace took it",
@@ -172,7 +144,7 @@ fn name_of(processes: &IndexMap<String, Process>, process: u8) -> &str {
     name_at(processes, process)
 }
 
-/// What is said of a line of a scenario that does less than it seems to.
+/// Of a line that does less than it seems to.
 fn step_words(step: &Step) -> &'static str {
     match &step.order {
         Order::Drive { budget: 0 } => "drive 0 makes no call: drive N makes at most N",
@@ -230,45 +202,29 @@ fn push_left(
     note.push_str(line.as_str())
 }
 
-/// Adds what is said of a run: of work that is left only if nothing else is.
+/// Adds the hints on a run: on work that is left only if there is no other hint.
 fn push_run(
     alloc: Global,
     lines: &mut String,
     scenario: &Scenario,
-    session: &Service,
     told: &[Told],
+    rest: Rest,
     is_alone: bool,
 ) -> Result<(), AllocError> {
     push_told(alloc, lines, &scenario.processes, told)?;
     push_steps(alloc, lines, scenario.steps.as_slice())?;
-    let rest = rest_of(session);
     if is_alone && lines.is_empty() && rest != Rest::Nothing {
         push_left(alloc, lines, &scenario.processes, rest)?;
     }
     Ok(())
 }
 
-/// Adds what is said of a run to a note, if there is memory; to one with other lines nothing of work that is left.
-pub fn note_run(
-    alloc: Global,
-    note: &mut String,
-    scenario: &Scenario,
-    session: &Service,
-    told: &Vec<Told>,
-)
+/// Adds the hints on a run to a note, if there is memory. A note that has other lines gets none on work that is left.
+pub fn note_run(alloc: Global, note: &mut String, scenario: &Scenario, told: &[Told], rest: Rest)
     ensures { IsAdded note.old note.new }
 {
     let (mut lines, is_alone) = (String::new(alloc), note.is_empty());
-    if push_run(
-        alloc,
-        &mut lines,
-        scenario,
-        session,
-        told.as_slice(),
-        is_alone,
-    )
-    .is_ok()
-    {
+    if push_run(alloc, &mut lines, scenario, told, rest, is_alone).is_ok() {
         let _noted = note.push_str(lines.as_str());
     }
 }

@@ -1,10 +1,10 @@
-//! What is said of the line of a scenario that is refused.
+//! Hints on a refused line of a scenario.
 
 use crate::shown::{hexadecimal_of, line_at, meant};
 use scenario::{Allowed, Mistake, mistake_of};
 use std::alloc::{AllocError, Global};
 
-/// Words that begin no line, and the one that they may be meant for.
+/// Words that begin no line, and what they may be meant for.
 const MEANT: [(&str, &str); 9] = [
     ("send sent msg message", "transmit"),
     ("deliver receive recv", "arrive"),
@@ -21,7 +21,7 @@ const PRINTED: &str = "run prints such a line, and a scenario has none: keep it 
 
 const KEYS: &str = "a packet is named by its key, which the trace tells, as in -> packet 0";
 
-/// Whether `run` prints such a line, which a scenario has none of.
+/// Whether `run` prints such a line, and a scenario has none.
 fn is_printed(line: &str) -> bool {
     let mut words = line.split(' ');
     match (words.next(), words.nth(1)) {
@@ -33,7 +33,7 @@ fn is_printed(line: &str) -> bool {
     }
 }
 
-/// How bytes are written that are none, of the process of this name; nothing if that isn't known.
+/// How the bytes for the process of this name are written; empty if that isn't known.
 fn bytes_words(alloc: Global, name: &str, said: &str) -> Result<String, AllocError> {
     let digits = said.strip_prefix("0x").unwrap_or(said);
     let letters = said.trim_matches('"').trim_matches('\'');
@@ -54,7 +54,7 @@ fn bytes_words(alloc: Global, name: &str, said: &str) -> Result<String, AllocErr
     format!(in alloc; "bytes are pairs of 0 to 9 and a to f alone: bytes {name} {right}")
 }
 
-/// How a line is written whose operands aren't those of its order; nothing if that isn't known.
+/// How a line with the wrong operands is written; empty if that isn't known.
 fn operand_words(alloc: Global, line: &str, mistake: &Mistake<'_>) -> Result<String, AllocError> {
     if let Some((before, after)) = line.split_once(" -> ") {
         return format!(in alloc; "names stand without an arrow: {before} {after}");
@@ -78,7 +78,7 @@ fn operand_words(alloc: Global, line: &str, mistake: &Mistake<'_>) -> Result<Str
     Ok(String::new(alloc))
 }
 
-/// What a line may be meant for; nothing if that isn't known.
+/// What a line may be meant for; empty if that isn't known.
 fn meant_words(alloc: Global, line: &str, mistake: &Mistake<'_>) -> Result<String, AllocError> {
     if is_printed(line) {
         return String::from_str(alloc, PRINTED);
@@ -95,7 +95,7 @@ fn meant_words(alloc: Global, line: &str, mistake: &Mistake<'_>) -> Result<Strin
     }
 }
 
-/// What is wrong with the line of this number, the first faulty one of a text that may have such orders, as a line of text.
+/// What is wrong with the line of this number, the first faulty one of a text that may have these orders, as a line of text.
 pub fn scenario_words(
     alloc: Global,
     text: &str,

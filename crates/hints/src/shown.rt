@@ -1,9 +1,9 @@
 //! Lines and words, and what they may be meant for.
 
-/// How long a line is at most of which it is said how it is written right.
+/// The length of the longest line that is shown as it should be.
 const LINE: usize = 600;
 
-/// The line of this number, from 1; of a line that is too long to be shown nothing.
+/// The line of this number, from 1; empty if it is too long to be shown.
 pub(crate) fn line_at(text: &str, number: usize) -> &str {
     match text.split('\n').nth(number.saturating_sub(1)) {
         Some(line) if line.len() <= LINE => line,
@@ -27,7 +27,7 @@ pub(crate) fn hexadecimal_of(word: &str) -> Option<u64> {
     Some(number)
 }
 
-/// What may be meant by a word, of rows of words and what these mean.
+/// What a word may be meant for, by rows of words and what they mean.
 pub(crate) fn meant(rows: &[(&'static str, &'static str)], word: &str) -> Option<&'static str> {
     for (said, right) in rows {
         if said.split(' ').any(|it| it == word) {

@@ -1,4 +1,4 @@
--- The moment of recovery, which is inside a call of its host
+-- Recovery, which happens inside a call of the host
 use Rattle.std.specs.Prelude.{◌≡◌, ℕ, ◌+◌, ◌≤◌, List, [], ◌∷◌, ◌++◌, length, take, Bool, true, false}
 use Rattle.world.specs.Handlers.{Handlers}
 use Rattle.world.specs.World.{put}
@@ -23,7 +23,7 @@ use Rattle.hosted.specs.Process.{Checkpoint, Runs, as_process}
 use Rattle.hosted.specs.System.{System, Opens, new_system, HostCall, as_lives, AreCalls, after_call, after_calls}
 use Rattle.hosted.specs.Lives.{handlers, StayExact, OneAtATime}
 
--- it collects no more
+-- it no longer collects
 abbrev pub has_recovered : Course → Bool
 has_recovered (Up n) = true
 has_recovered (Replaying n) = true
@@ -36,17 +36,17 @@ abbrev pub plan_of : Course → List OpenJob
 plan_of (Replaying n) = n.plan
 plan_of c = []
 
--- how many messages it keeps, as a host reads it: those that it has, and those that it still has to replay
+-- how many messages it keeps, as a host reads it: those that it has, and those that it has still to replay
 abbrev pub keeps : Course → ℕ
 keeps c = (standing_at c).length + (standing_at c).replays
 
--- where all is as s has it, but that p collects still
+-- the system as s has it, except that p still collects
 abbrev pub still : System → ℕ → TheCollecting → called.System
 still s p n = record (as_lives s) { processes = put (as_lives s).processes p (stages.Collects n) }
 
--- p recovered in a call, behind which it is in this stage and the system is s, which goes on to t: it had received what it keeps, and all is
--- among that which was acknowledged without a gap; these stay its first messages; and where it is up with just as many, its state is the one
--- that it had after them. It had these in the cluster in which it stood as one that collects, all others as in s
+-- p recovered in a call that led to this stage and to the system s, which goes on to t. It had received what it keeps, and all that was
+-- acknowledged without a gap is among that; these stay its first messages; and when it is up with just these, its state is the one that it
+-- had after them. It had them in the cluster with which it agreed while it collected, with all others as in s
 pub record HasRecovered (n : ℕ) (f : Handlers) (s t : System) (p : ℕ) (now : Course) : Type 0 where
   pub collected : TheCollecting
   pub acts : List Act
@@ -59,7 +59,7 @@ pub record HasRecovered (n : ℕ) (f : Handlers) (s t : System) (p : ℕ) (now :
   pub stays : take (keeps now) ((after_run (opening n f) (acts ++ more)).history p) ≡ take (keeps now) ((after_run (opening n f) acts).history p)
   pub back : (m : TheNode) → as_process (t.processes p) ≡ stages.Up m → length_of m ≡ keeps now → f.state p (take (keeps now) ((after_run (opening n f) acts).history p)) ≡ m.state
 
--- a call before which p collects, and behind which it doesn't
+-- a call before which p collects, and after which it doesn't
 abbrev pub HostedRecovers : Type 0
 HostedRecovers = (images : ℕ → AnyImage) (n page tick : ℕ) (limits : ℕ → Limits) (processes : ℕ → TheProcess) (bytes : ℕ → List ℕ) (calls more : List HostCall) (k : HostCall) (p : ℕ) (from : TheCollecting) (now : TheProcess) (w : Checkpoint)
     → n ≤ 15 → Opens n images limits processes bytes → IsFirst n p → AreCalls images n (new_system n processes bytes page tick) (calls ++ k ∷ more) → StayExact n (new_system n processes bytes page tick) (calls ++ k ∷ more)
@@ -67,7 +67,7 @@ HostedRecovers = (images : ℕ → AnyImage) (n page tick : ℕ) (limits : ℕ �
     → (after_call (after_calls (new_system n processes bytes page tick) calls) k).processes p ≡ Runs now w → has_recovered now.course ≡ true
     → HasRecovered n (handlers n images) (after_call (after_calls (new_system n processes bytes page tick) calls) k) (after_calls (new_system n processes bytes page tick) (calls ++ k ∷ more)) p now.course
 
--- so each does where processes fail one at a time
+-- the same if processes fail one at a time
 abbrev pub HostedRecoversAlone : Type 0
 HostedRecoversAlone = (images : ℕ → AnyImage) (n page tick : ℕ) (limits : ℕ → Limits) (processes : ℕ → TheProcess) (bytes : ℕ → List ℕ) (calls more : List HostCall) (k : HostCall) (p : ℕ) (from : TheCollecting) (now : TheProcess) (w : Checkpoint)
     → n ≤ 15 → Opens n images limits processes bytes → IsFirst n p → AreCalls images n (new_system n processes bytes page tick) (calls ++ k ∷ more) → OneAtATime n (new_system n processes bytes page tick) (calls ++ k ∷ more)

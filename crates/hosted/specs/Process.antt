@@ -1,4 +1,4 @@
--- A process as its host has it
+-- A process and its host
 use Rattle.std.specs.Prelude.{ℕ, List}
 use Rattle.process.specs.declared.course.Course.{Course}
 use Rattle.process.specs.declared.course.Course.TheVariants as course
@@ -6,16 +6,16 @@ use Rattle.process.specs.Process.{TheProcess}
 use Rattle.lives.specs.Process.{Process, covered}
 use Rattle.lives.specs.Process as lives
 
--- how far a checkpoint is
+-- the stage of a checkpoint
 pub data Checkpoint : Type 0 where
   -- there is none
   Absent : Checkpoint
-  -- the process waits for it, and these bytes of it are to be stored
+  -- the process waits for it, and these bytes are to be stored
   Pending : List ℕ → Checkpoint
-  -- they are stored durably, and the process wasn't told so
+  -- it is stored, and the process wasn't told so yet
   Durable : Checkpoint
 
--- the process that runs, and its checkpoint; or none does
+-- the process that runs, and its checkpoint; or no process
 pub data Hosted : Type 0 where
   Runs : TheProcess → Checkpoint → Hosted
   Killed : Hosted
@@ -25,12 +25,12 @@ abbrev pub Alive : (TheProcess → Type 0) → Hosted → Type 0
 Alive P (Runs process checkpoint) = P process
 Alive P Killed = ⊥
 
--- so far is its checkpoint
+-- this holds of its checkpoint
 abbrev pub Has : (Checkpoint → Type 0) → Hosted → Type 0
 Has P (Runs process checkpoint) = P checkpoint
 Has P Killed = ⊥
 
--- it is this by a call
+-- the process after a call
 abbrev pub goes_on : TheProcess → Hosted → Hosted
 goes_on new (Runs process checkpoint) = Runs new checkpoint
 goes_on new Killed = Killed
@@ -42,7 +42,7 @@ keeps Killed = Killed
 
 -- ---- which process of `lives` it is
 
--- by its stage. Between two stages it is inside a call alone
+-- by its stage. It is between two stages only inside a call
 abbrev pub stage_of : Course → Process
 stage_of (course.Up n) = lives.Up n
 stage_of (course.Collecting n) = lives.Collects n

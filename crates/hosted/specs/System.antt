@@ -27,8 +27,8 @@ use Rattle.process.specs.Working.{job_at, answer_to, Works}
 use Rattle.hosted.specs.Process.{Absent, Pending, Durable, Hosted, Runs, Killed, Alive, Has, goes_on, keeps, as_process}
 use Rattle.hosted.specs.Answering.{answering}
 
--- the processes by number; of each the bytes that its host has stored durably, and the greatest incarnation; the gateway, as what it is
--- durable, and the outputs that it handed out, of which it isn't durable that they were taken; and the packets that were given
+-- the processes by number; for each the bytes that its host has stored, and the greatest incarnation; the gateway, and the gateway that its
+-- store gives; the outputs that it gave without having stored so; and the packets that were given
 pub record System : Type 0 where
   pub processes : ℕ → Hosted
   pub stored : ℕ → List ℕ
@@ -38,7 +38,7 @@ pub record System : Type 0 where
   pub taken : List Output
   pub given : List Packet
 
--- what a host begins with: each process opened, and what is kept of it stored; and the gateway
+-- the system at the start: each process is opened, and its kept state stored; and the gateway
 pub record Opens (n : ℕ) (images : ℕ → AnyImage) (limits : ℕ → Limits) (processes : ℕ → TheProcess) (bytes : ℕ → List ℕ) : Type 0 where
   pub opened : (p : ℕ) → IsFirst n p → IsOpened (images p) (limits p) p n (processes p)
   pub stored : (p : ℕ) → IsFirst n p → Keeps (processes p).course (bytes p)
@@ -55,11 +55,11 @@ new_system n processes bytes page tick =
       given = [];
     }
 
--- a call of a process that isn't refused and changes it, and what it is then; or what its host does with it
+-- a call that isn't refused and changes a process, and the process after it; or something that its host does with it
 pub data HostCall : Type 0 where
   -- `take` gave this packet
   Gave : ℕ → Packet → TheProcess → HostCall
-  -- `take_bytes` gave these bytes, which are this packet's
+  -- `take_bytes` gave these bytes, which are those of this packet
   GaveBytes : ℕ → Packet → List ℕ → TheProcess → HostCall
   -- `receive`, with this packet
   Handed : ℕ → Packet → TheProcess → HostCall
@@ -67,26 +67,26 @@ pub data HostCall : Type 0 where
   HandedBytes : ℕ → Packet → List ℕ → TheProcess → HostCall
   -- `work`, or `done`
   Worked : ℕ → TheProcess → HostCall
-  -- `done_unchecked`, of this job with this state and these messages and outputs
+  -- `done_unchecked`, for this job with this state and these messages and outputs
   Answered : ℕ → Ticket → List ℕ → Emitted → TheProcess → HostCall
   -- `tick`
   Ticked : ℕ → TheProcess → HostCall
   -- `checkpoint` gave these bytes; or `kept_bytes` did, and then `freeze` was called
   Froze : ℕ → List ℕ → TheProcess → HostCall
-  -- `freeze` was called alone: its host has no bytes of that checkpoint, and the process waits until it is killed
+  -- `freeze` alone: the host has no bytes of that checkpoint, and the process waits until it is killed
   Paused : ℕ → TheProcess → HostCall
-  -- the bytes that `checkpoint` gave are stored durably, in place of the others
+  -- the bytes that `checkpoint` gave are stored, in place of the earlier ones
   Stored : ℕ → List ℕ → HostCall
   -- `saved`
   Saved : ℕ → TheProcess → HostCall
-  -- it was killed
+  -- the process was killed
   Died : ℕ → HostCall
   -- `revive`, with these limits in this incarnation
   Revived : ℕ → Limits → ℕ → TheProcess → HostCall
-  -- a call of the gateway, or what happens to it
+  -- a call of the gateway, or something that happens to it
   Outside : Call → HostCall
 
--- it is one of these
+-- it is a call of the gateway
 abbrev pub IsOutside : Call → Type 0
 IsOutside (GaveOut x new) = Unit {0}
 IsOutside (HandedOut x new) = Unit {0}
@@ -96,22 +96,22 @@ IsOutside (StoredBut k) = Unit {0}
 IsOutside (RevivedOut new) = Unit {0}
 IsOutside call = ⊥
 
--- which system of `lives` it is
+-- the system of `lives` that it is
 abbrev pub as_lives : System → called.System
 as_lives s = record { processes = λ p. as_process (s.processes p); stored = s.stored; lives = s.lives; gateway = s.gateway; durable = s.durable; taken = s.taken; given = s.given }
 
--- the handler leaves just this state and gives just this, on the message that is next: so its host knows of machine code
+-- on the next message the handler leaves exactly this state and sends exactly this: the host knows it of machine code
 abbrev pub AnswersSo : List ℕ → Emitted → TheProcess → Type 0
 AnswersSo state e p =
     (message : OpenJob) (who : Who) → job_at p.course ≡ Some (message, who) → (h : Handled) × ((answer_to p.image who (state_of p.course) message ≡ Some h) × ((h.state ≡ state) × (h.effects ≡ e)))
 
--- it comes back with an image of this form, these instructions and a state of this length
+-- it comes back with an image of this form, with these instructions and this length of state
 abbrev pub RevivesAs : AnyImage → Limits → List ℕ → ℕ → TheProcess → Type 0
 RevivesAs image limits bytes life new = (same : AnyImage) × ((as_image same ≡ as_image image) × IsRevived same limits bytes life new)
 
--- each call does what the contract of its function says. What is handed over was given, whenever, or is handed over again. What a host stores
--- are the bytes of the checkpoint for which the process waits, and it tells it so once they are stored. What comes back does so from the bytes
--- that are stored, with the same handler, in an incarnation above all that were
+-- each call does what the contract of its function says. A packet that is handed over was given, at any time, and may be handed over again.
+-- A host stores the bytes of the checkpoint for which the process waits, and tells it once they are stored. A process comes back from its
+-- stored bytes, with the same handler, in an incarnation above all that were stored
 abbrev pub DoesIt : (ℕ → AnyImage) → ℕ → System → HostCall → Type 0
 DoesIt images n s (Gave p x new) = IsFirst n p × Alive (λ old. Stays (Takes (Some x)) old new) (s.processes p)
 DoesIt images n s (GaveBytes p x bytes new) = IsFirst n p × (IsPacket x bytes × Alive (λ old. GivesBytes bytes old new) (s.processes p))
@@ -131,7 +131,7 @@ DoesIt images n s (Died p) = IsFirst n p
 DoesIt images n s (Revived p limits life new) = IsFirst n p × ((s.processes p ≡ Killed) × ((s.lives p < life) × RevivesAs (images p) limits (s.stored p) life new))
 DoesIt images n s (Outside call) = IsOutside call × called.DoesIt (answering n images) n (as_lives s) call
 
--- what the gateway's call leaves
+-- the system after a call of the gateway
 abbrev pub after_outside : System → called.System → System
 after_outside s t = record s { gateway = t.gateway; durable = t.durable; taken = t.taken; given = t.given }
 
@@ -151,7 +151,7 @@ after_call s (Died p) = record s { processes = put s.processes p Killed }
 after_call s (Revived p limits life new) = record s { processes = put s.processes p (Runs new Absent); lives = put s.lives p life }
 after_call s (Outside call) = after_outside s (called.after_call (as_lives s) call)
 
--- calls one after another
+-- calls, one after another
 abbrev pub AreCalls : (ℕ → AnyImage) → ℕ → System → List HostCall → Type 0
 AreCalls images n s [] = Unit {0}
 AreCalls images n s (k ∷ ks) = DoesIt images n s k × AreCalls images n (after_call s k) ks

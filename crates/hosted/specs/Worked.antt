@@ -1,5 +1,5 @@
--- A worked list of calls of hosts: the only process of a cluster receives three messages, its checkpoint is stored after the first, and it is
--- killed when two are acknowledged; it is revived from its checkpoint, replays two, and is up with all three
+-- A worked list of calls of hosts: the only process of a cluster receives three messages, its checkpoint is stored after the first, and it
+-- is killed when two are acknowledged; it is revived from its checkpoint, replays two, and is up with all three
 use Rattle.std.specs.Prelude.{◌≡◌, ℕ, List, [], ◌∷◌, ◌++◌, length, take, pos}
 use Rattle.decode.specs.declared.insn.Reg.{Reg}
 use Rattle.decode.specs.declared.insn.Size.TheVariants.{Byte}
@@ -29,11 +29,11 @@ use Rattle.hosted.specs.Lives.{StayExact, OneAtATime}
 
 -- ---- its handler
 
--- these registers are r0, r1 and r2; the first byte of the message becomes the state, and nothing is given
+-- these registers are r0, r1 and r2; the first byte of the message becomes the state, and nothing is sent
 abbrev pub copies : Reg → Reg → Reg → List Insn
 copies r0 r1 r2 = Load Byte r0 r1 (pos 0) ∷ StoreReg Byte r2 r0 (pos 0) ∷ Exit ∷ []
 
--- the image is one of form 1 of just that, with a state of one byte
+-- the image is of form 1 and has just this code, with a state of one byte
 pub record IsCopying (image : AnyImage) : Type 0 where
   pub r0 : Reg
   pub r1 : Reg
@@ -41,7 +41,7 @@ pub record IsCopying (image : AnyImage) : Type 0 where
   pub numbers : (r0.number ≡ 0) × (r1.number ≡ 1) × (r2.number ≡ 2)
   pub is_image : IsImageOf Sbi1 (copies r0 r1 r2) 1 image
 
--- there is one whose code is typable: its file loads
+-- there is such an image whose code is typable: its file loads
 abbrev pub CopyingLoads : Type 0
 CopyingLoads = (image : AnyImage) × (IsCopying image × IsTypable Sbi1 (code_of image) (state_of image))
 
@@ -51,28 +51,28 @@ CopyingLoads = (image : AnyImage) × (IsCopying image × IsTypable Sbi1 (code_of
 abbrev pub process : AnyImage → Course → TheProcess
 process image course = record { image = image; course = course }
 
--- up to its death, with these bytes of its checkpoint
+-- up to its death, if its checkpoint has these bytes
 abbrev pub before : AnyImage → List ℕ → List HostCall
 before image bytes =
     -- an input comes for the process, and the gateway sends it
     Outside (DidOut g1)
     ∷ Outside StoredOut
     ∷ Outside (GaveOut (delivery 1) (sent g1))
-    -- the process is handed it
+    -- the process gets the message
     ∷ Handed 1 (delivery 1) (process image (Up n1))
-    -- its handler runs on it
+    -- its handler runs on the message
     ∷ Worked 1 (process image (Up n2))
-    -- it tells the gateway the number of the message, and the gateway acknowledges that
+    -- it tells the gateway the RSN of the message, and the gateway acknowledges it
     ∷ Gave 1 (number 1) (process image (Up (quiet n2)))
     ∷ Outside (HandedOut (number 1) g2)
     ∷ Outside StoredOut
     ∷ Outside (GaveOut (acknowledgement 1) (sent g2))
     ∷ Handed 1 (acknowledgement 1) (process image (Up n3))
-    -- it makes a checkpoint, which is stored, and it is told so
+    -- it makes a checkpoint, which is stored, and is told so
     ∷ Froze 1 bytes (process image (Up n4))
     ∷ Stored 1 bytes
     ∷ Saved 1 (process image (Up n5))
-    -- it tells the gateway that one message is covered
+    -- it tells the gateway that one message is covered for good
     ∷ Gave 1 covers (process image (Up (quiet n5)))
     -- two more inputs come, and the gateway sends them
     ∷ Outside (DidOut g3)
@@ -80,21 +80,21 @@ before image bytes =
     ∷ Outside StoredOut
     ∷ Outside (GaveOut (delivery 2) (gave (delivery 3 ∷ []) g4))
     ∷ Outside (GaveOut (delivery 3) (sent g4))
-    -- the process is handed the second, works on it and tells its number
+    -- the process gets the second message, works on it and tells its RSN
     ∷ Handed 1 (delivery 2) (process image (Up n6))
     ∷ Worked 1 (process image (Up n7))
     ∷ Gave 1 (number 2) (process image (Up (quiet n7)))
-    -- so it does with the third
+    -- the same with the third
     ∷ Handed 1 (delivery 3) (process image (Up n8))
     ∷ Worked 1 (process image (Up n9))
     ∷ Gave 1 (number 3) (process image (Up (quiet n9)))
-    -- the gateway acknowledges both numbers
+    -- the gateway acknowledges both RSNs
     ∷ Outside (HandedOut (number 2) g5)
     ∷ Outside (HandedOut (number 3) g6)
     ∷ Outside StoredOut
     ∷ Outside (GaveOut (acknowledgement 2) (gave (acknowledgement 3 ∷ []) g6))
     ∷ Outside (GaveOut (acknowledgement 3) (sent g6))
-    -- the process is handed one of these
+    -- the process gets one of these acknowledgements
     ∷ Handed 1 (acknowledgement 2) (process image (Up n10))
     ∷ []
 
@@ -105,23 +105,23 @@ behind image =
     Died 1
     -- it is revived from its checkpoint
     ∷ Revived 1 usual 2 (process image (Collecting comes))
-    -- it asks the gateway for what it is to replay, and that answers
+    -- it asks the gateway what its log holds, and the gateway answers
     ∷ Gave 1 ask (process image (Collecting asks))
     ∷ Outside (HandedOut ask g7)
     ∷ Outside StoredOut
     ∷ Outside (GaveOut told (sent g7))
-    -- it is handed the answer, and begins to replay two messages
+    -- it gets the answer, and begins to replay two messages
     ∷ Handed 1 told (process image (Replaying replays))
     -- its handler runs on the second message again
     ∷ Worked 1 (process image (Replaying replays_more))
-    -- and on the third; all is replayed, and it begins to restore its numbers
+    -- and on the third; the replay is over, and it begins to restore its RSNs
     ∷ Worked 1 (process image (Restoring begins))
-    -- it asks the gateway for these, and that answers
+    -- it asks the gateway for these, and the gateway answers
     ∷ Gave 1 resume (process image (Restoring resumes))
     ∷ Outside (HandedOut resume g8)
     ∷ Outside StoredOut
     ∷ Outside (GaveOut restored (sent g8))
-    -- it is handed the answer, and is up
+    -- it gets the answer, and is up
     ∷ Handed 1 restored (process image (Up (ticked (up has_answer))))
     ∷ []
 
@@ -129,13 +129,13 @@ behind image =
 abbrev pub opened : AnyImage → List ℕ → System
 opened image stored = new_system 1 (λ _. process image (Up n0)) (λ _. stored) PAGE TICK
 
--- after the calls up to its death, and so many of those from it on
+-- the system after the calls up to its death and k calls after that
 abbrev pub later : AnyImage → List ℕ → List ℕ → ℕ → System
 later image stored bytes k = after_calls (opened image stored) (before image bytes ++ take k (behind image))
 
 -- with these bytes of its opening and of its checkpoint they are such calls, from an opening on; the process is killed alone, and stays
--- exact. When it is killed it has three messages, of which two are acknowledged without a gap. It collects, until a call by which it has two
--- to replay. Then it is up in its second incarnation, with all three and the state that it had
+-- exact. When it is killed it has three messages, of which two are acknowledged without a gap. It collects, until a call after which it has
+-- two to replay. Then it is up in its second incarnation, with all three and the state that it had
 pub record IsWorked (image : AnyImage) (stored bytes : List ℕ) : Type 0 where
   pub opens : Opens 1 (λ _. image) (λ _. usual) (λ _. process image (Up n0)) (λ _. stored)
   pub calls : AreCalls (λ _. image) 1 (opened image stored) (before image bytes ++ behind image)
@@ -154,6 +154,6 @@ pub record IsWorked (image : AnyImage) (stored bytes : List ℕ) : Type 0 where
   pub life : node.life ≡ 2
   pub state : node.state ≡ input 3
 
--- there is such an image, and so it is for each
+-- there is such an image, and this holds for each
 abbrev pub HostsCanCall : Type 0
 HostsCanCall = CopyingLoads × ((image : AnyImage) → IsCopying image → IsWorked image (kept_bytes (kept_of n0)) (kept_bytes (kept_of n4)))

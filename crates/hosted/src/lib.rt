@@ -1,15 +1,18 @@
-//! Processes as their hosts call them, and the gateway: what holds of their calls together.
+//! What holds of processes and the gateway by the calls that their hosts make, through crashes and
+//! recoveries.
 //!
-//! A host has each process as a [`process::Process`], one value through all its stages. It takes
-//! packets of it and hands it others, has its handler run, lets it send again what isn't answered,
-//! stores the bytes of its checkpoints and then tells it so; it may be killed at any moment, and is
-//! revived from the bytes that are stored. The contract of each function says what it leaves. Here
-//! such calls, in any order, are shown to be those of crate `lives` ([`hosted_live`]): each is at
-//! most one call there, and one more for each stage to which the process passes on. So what is promised there
-//! is promised of these values ([`hosted_run`], [`hosted_alone`], [`hosted_back`], [`hosted_recovers`],
+//! A host has each process as a [`process::Process`], one value through all its stages. The host
+//! takes its packets and hands it others, has its handler run, has it send again what isn't
+//! answered, stores the bytes of its checkpoints, and tells it so. A process may be killed at any
+//! moment, and is revived from its stored bytes. The contract of each function says what a call
+//! does.
+//!
+//! Such calls, in any order, are calls of crate `lives` ([`hosted_live`]): each is at most one call
+//! there, and one more for each stage that the process goes through. So the promises of `lives`
+//! hold of these values ([`hosted_run`], [`hosted_alone`], [`hosted_back`], [`hosted_recovers`],
 //! [`hosted_stays`], [`hosted_last`], [`hosted_keep`], [`hosted_in_order`], [`hosted_without_gap`],
-//! [`hosted_stay_out`], [`hosted_agree`]). [`hosts_can_call`] works out a list of such calls with
-//! messages in them.
+//! [`hosted_stay_out`], [`hosted_agree`]). [`hosts_can_call`] is a worked list of such calls with
+//! messages.
 #![tactic(auto)]
 
 mod laws;

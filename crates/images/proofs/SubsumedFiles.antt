@@ -1,4 +1,4 @@
--- A file of forms 1 and 2 is one of form 3 but for its fourth byte.
+-- A file of forms 1 and 2 is one of form 3, except for its fourth byte.
 use Rattle.std.proofs.Common.{◌≡◌, ℕ, List, ◌++◌, refl, ap, ◌∙◌}
 use Rattle.std.specs.Int.{w16, to_le_bytes}
 use Rattle.decode.specs.declared.insn.Insn.{Insn}
@@ -12,8 +12,9 @@ use Rattle.images.specs.SpanFile as span
 use Rattle.images.specs.Typed.{IsTypable}
 use Rattle.images.specs.declared.file_form.FileForm.TheVariants.{Sbi1, Sbi2, Sbi3}
 use Rattle.images.specs.Laws.{AreFilesSubsumed}
-use Rattle.images.specs.Reading.{as_form_3, read_table}
-use Rattle.images.proofs.Typings.{typings_subsumed}
+use Rattle.span_verifier.specs.FlatFrames.{read_table}
+use Rattle.images.specs.Laws.{as_form_3}
+use Rattle.span_verifier.proofs.FlatTypings.{typings_subsumed}
 
 -- what is written of code is the same but for the fourth byte
 same_behind : (form : ImageForm) (header rest : List ℕ) → as_form_3 ((flat.magic form ++ header) ++ rest) ≡ (span.magic_3 ++ header) ++ rest

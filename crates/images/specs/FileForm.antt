@@ -11,7 +11,7 @@ file_form_number Sbi1 = 1
 file_form_number Sbi2 = 2
 file_form_number Sbi3 = 3
 
--- form 1 or 2 as one of three
+-- form 1 or 2 as one of the three
 abbrev pub file_form_of : ImageForm → FileForm
 file_form_of two.Sbi1 = Sbi1
 file_form_of two.Sbi2 = Sbi2

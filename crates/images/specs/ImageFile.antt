@@ -1,4 +1,4 @@
--- Image files of all three forms: those of forms 1 and 2 as `verifier` has them, those of form 3 as `SpanFile`.
+-- Image files of all three forms: those of forms 1 and 2 by `verifier`, those of form 3 by `SpanFile`.
 use Rattle.std.specs.Prelude.{◌≢◌, ℕ, take, drop, List, [], ◌∷◌}
 use Rattle.decode.specs.declared.insn.Insn.{Insn}
 use Rattle.decode.specs.Slots.{slots_of}
@@ -22,7 +22,7 @@ use Rattle.images.specs.declared.file_form.FileForm.TheVariants.{Sbi1, Sbi2, Sbi
 
 -- ---- the bytes
 
--- the file of this form of this code, with a state of this length
+-- the file with this form, this code and this length of the state
 abbrev pub IsFile : FileForm → List Insn → ℕ → List ℕ → Type 0
 IsFile Sbi1 code len bytes = flat.IsFile two.Sbi1 code len bytes
 IsFile Sbi2 code len bytes = flat.IsFile two.Sbi2 code len bytes
@@ -36,8 +36,7 @@ IsTypable Sbi3 code len = span_typed.IsTypable code len
 
 -- ---- refusals
 
--- what each fault finds in a file: no image file begins as one of none of the three forms, and the other faults are
--- those of each form
+-- what each fault finds in a file: the magic is that of no form, and the other faults are those of each form
 abbrev pub HasFault : List ℕ → HeaderFault → Type 0
 HasFault bytes Magic = flat.HasFault bytes Magic × (take 4 bytes ≢ span.magic_3)
 HasFault bytes TooShort = flat.HasFault bytes TooShort
@@ -45,23 +44,23 @@ HasFault bytes StateLength = flat.HasFault bytes StateLength
 HasFault bytes SlotCount = flat.HasFault bytes SlotCount
 HasFault bytes FileLength = flat.HasFault bytes FileLength
 
--- the fault that bytes are refused with before their code is read: the first, in the order of their numbers
+-- the header's fault for which bytes are refused: the first, in the order of their numbers
 abbrev pub IsHeaderFault : List ℕ → HeaderFault → Type 0
 IsHeaderFault bytes fault =
     IsFirst (HasFault bytes) (TooShort ∷ Magic ∷ StateLength ∷ SlotCount ∷ FileLength ∷ []) fault
 
--- behind a header without a fault the code breaks this rule of its encoding, at this slot
+-- the header has no fault, and the code after it breaks this rule of the encoding, at this slot
 abbrev pub IsCodeFault : List ℕ → Rule → ℕ → Type 0
 IsCodeFault bytes rule slot =
     ((fault : HeaderFault) → ¬ HasFault bytes fault) × decoding.IsFault (drop 8 bytes) rule slot
 
--- code has no typing in this form, since this slot breaks this rule
+-- code has no typing in this form, because this slot breaks this rule
 abbrev pub IsFault : FileForm → List Insn → ℕ → BrokenRule → ℕ → Type 0
 IsFault Sbi1 code len rule slot = flat_verdict.IsFault two.Sbi1 code len rule slot
 IsFault Sbi2 code len rule slot = flat_verdict.IsFault two.Sbi2 code len rule slot
 IsFault Sbi3 code len rule slot = span_verdict.IsFault code len rule slot
 
--- why bytes are no image file; want of memory says nothing of them
+-- why bytes are no image file; that memory ran out says nothing of them
 abbrev pub IsUnread : List ℕ → ImageError → Type 0
 IsUnread bytes Memory = Unit {0}
 IsUnread bytes (Header fault) = IsHeaderFault bytes fault

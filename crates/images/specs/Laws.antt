@@ -1,52 +1,15 @@
--- What form 3 takes of what forms 1 and 2 take.
-use Rattle.std.specs.Prelude.{◌≡◌, ◌≤◌, ℕ, List, length, None, Some}
-use Rattle.std.specs.List.{AllByRecursion}
-use Rattle.limits.specs.declared.TheConstants.{PAYLOAD_BYTES, REGISTERS}
+-- What form 3 takes of the files of forms 1 and 2.
+use Rattle.std.specs.Prelude.{ℕ, List, slice_set}
 use Rattle.decode.specs.declared.insn.Insn.{Insn}
-use Rattle.decode.specs.Encoding.{Fits}
-use Rattle.decode.specs.Slots.{slots_of}
-use Rattle.regtypes.specs.declared.image_form.ImageForm.{ImageForm}
-use Rattle.regtypes.specs.declared.frame.Frame.{Frame as FlatFrame}
-use Rattle.regtypes.specs.Frame.{Leq as FlatLeq}
-use Rattle.regtypes.specs.Rules.{first_broken, tests_of}
-use Rattle.regtypes.specs.Leaving.{next, taken}
-use Rattle.regtypes.specs.Typing.{Table as FlatTable, IsTyping}
-use Rattle.spans.specs.Frame.{Leq}
-use Rattle.spans.specs.Leaving.{LeqWay}
-use Rattle.span_verifier.specs.Rules.{broken_rule}
-use Rattle.span_verifier.specs.Leaving.{ways}
-use Rattle.span_calls.specs.Typing.{Table}
-use Rattle.span_verifier.specs.Form.{Below}
-use Rattle.span_verifier.specs.Typing.{IsTyped, span_form}
-use Rattle.span_verifier.specs.Verdict.{IsLeastTyping}
 use Rattle.images.specs.declared.file_form.FileForm.{FileForm}
 use Rattle.images.specs.declared.file_form.FileForm.TheVariants.{Sbi3}
 use Rattle.images.specs.ImageFile.{IsFile, IsTypable}
-use Rattle.images.specs.Reading.{as_form_3, read_frame, read_table}
 
--- what the second of two frames says, the first says too, and so it is of both as frames of form 3
-abbrev pub IsOrderKept : Type 0
-IsOrderKept = (f g : FlatFrame) → FlatLeq f g → Leq (read_frame f) (read_frame g)
+-- the bytes with "SBI3" as their first four; an image file of form 1 or 2 changes only in the fourth
+abbrev pub as_form_3 : List ℕ → List ℕ
+as_form_3 bytes = slice_set bytes 3 0x33
 
--- an instruction that breaks none of V3 to V10 breaks none of form 3's, and on each way there leaves it nothing, or what
--- says no less; the state has `state` bytes
-abbrev pub AreRulesSubsumed : Type 0
-AreRulesSubsumed =
-    (form : ImageForm) (state : ℕ) (i : Insn) (f : FlatFrame) → Fits i → length f.kinds ≡ REGISTERS → f.low ≤ PAYLOAD_BYTES
-    → first_broken (tests_of form state i f) ≡ None
-    → (broken_rule state i (read_frame f) ≡ None)
-    × LeqWay (ways i (read_frame f)).0 (Some (read_frame (next i f)))
-    × LeqWay (ways i (read_frame f)).1 (Some (read_frame (taken i f)))
-
--- a typing of code is one of form 3, and the least typing of form 3 is below it
-abbrev pub AreTypingsSubsumed : Type 0
-AreTypingsSubsumed =
-    (form : ImageForm) (code : List Insn) (state : ℕ) (table : FlatTable)
-    → AllByRecursion Fits code → IsTyping form (slots_of code) state table
-    → IsTyped state (slots_of code) (read_table table)
-    × ((least : Table) → IsLeastTyping state (slots_of code) least → Below (span_form state (slots_of code)) least (read_table table))
-
--- a file of typable code, of any form, is one of form 3 with a 3 as its fourth byte, and its code is typable there
+-- a file of typable code, of any form, is a file of form 3 with a 3 as its fourth byte, and its code is typable there
 abbrev pub AreFilesSubsumed : Type 0
 AreFilesSubsumed =
     (form : FileForm) (code : List Insn) (state : ℕ) (bytes : List ℕ) → IsFile form code state bytes → IsTypable form code state

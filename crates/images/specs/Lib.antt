@@ -1,7 +1,6 @@
 pub mod FileForm
 pub mod AnyImage
 pub mod ImageFile
-pub mod Reading
 pub mod Laws
 pub mod Typed
 pub mod SpanFile

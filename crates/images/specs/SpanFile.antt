@@ -1,4 +1,4 @@
--- Image files of form 3: the bytes "SBI3", and what follows in those of forms 1 and 2 (`verifier`).
+-- Image files of form 3: the bytes "SBI3", and then the same as in files of forms 1 and 2 (`verifier`).
 use Rattle.std.specs.Prelude.{◌≡◌, ◌≢◌, ◌<◌, ◌≤◌, ℕ, ◌++◌, take, drop, List, [], ◌∷◌}
 use Rattle.std.specs.Int.{w16, to_le_bytes}
 use Rattle.std.specs.List.{AllByRecursion}
@@ -28,7 +28,7 @@ pub record IsFile (code : List Insn) (len : ℕ) (bytes : List ℕ) : Type 0 whe
   pub some : 0 < slots code
   pub short : slots code ≤ SLOTS
 
--- what each fault finds in a file: all but the magic what it finds in one of forms 1 and 2
+-- what each fault finds in a file: except for the magic, the same as in a file of form 1 or 2
 abbrev pub HasFault : List ℕ → HeaderFault → Type 0
 HasFault bytes Magic = take 4 bytes ≢ magic_3
 HasFault bytes TooShort = files.HasFault bytes TooShort
@@ -36,17 +36,17 @@ HasFault bytes StateLength = files.HasFault bytes StateLength
 HasFault bytes SlotCount = files.HasFault bytes SlotCount
 HasFault bytes FileLength = files.HasFault bytes FileLength
 
--- the fault that bytes are refused with before their code is read: the first, in the order of their numbers
+-- the header's fault for which bytes are refused: the first, in the order of their numbers
 abbrev pub IsHeaderFault : List ℕ → HeaderFault → Type 0
 IsHeaderFault bytes fault =
     IsFirst (HasFault bytes) (TooShort ∷ Magic ∷ StateLength ∷ SlotCount ∷ FileLength ∷ []) fault
 
--- behind a header without a fault the code breaks this rule of its encoding, at this slot
+-- the header has no fault, and the code after it breaks this rule of the encoding, at this slot
 abbrev pub IsCodeFault : List ℕ → Rule → ℕ → Type 0
 IsCodeFault bytes rule slot =
     ((fault : HeaderFault) → ¬ HasFault bytes fault) × decoding.IsFault (drop 8 bytes) rule slot
 
--- why bytes are no image file; want of memory says nothing of them
+-- why bytes are no image file; that memory ran out says nothing of them
 abbrev pub IsUnread : List ℕ → ImageError → Type 0
 IsUnread bytes Memory = Unit {0}
 IsUnread bytes (Header fault) = IsHeaderFault bytes fault
@@ -58,7 +58,7 @@ abbrev pub IsRefusal : List ℕ → ImageError → Type 0
 IsRefusal bytes (Verify rule slot) = (is : List Insn) × (len : ℕ) × IsFile is len bytes × verdict.IsFault is len rule slot
 IsRefusal bytes error = IsUnread bytes error
 
--- a file is refused for one cause, but for want of memory
+-- a refused file has one cause that can be named, if memory doesn't run out
 abbrev pub IsOneFileRefusal : Type 0
 IsOneFileRefusal =
     (bytes : List ℕ) (e e' : ImageError) → IsRefusal bytes e → IsRefusal bytes e' → e ≢ Memory → e' ≢ Memory → e ≡ e'

@@ -8,9 +8,9 @@ use verifier::Image;
 /// An image of one of the three forms.
 #[derive(Drop)]
 pub enum AnyImage {
-    /// One of form 1 or 2.
+    /// An image of form 1 or 2.
     Flat(Image),
-    /// One of form 3.
+    /// An image of form 3.
     Span(SpanImage),
 }
 
@@ -39,7 +39,7 @@ impl AnyImage {
         }
     }
 
-    /// How many instructions it has. A wide one counts once.
+    /// The number of instructions. A wide one counts once.
     pub fn count(&self) -> usize
         ensures { result ≡ length (code_of self.now) }
     {

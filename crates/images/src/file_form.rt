@@ -5,8 +5,8 @@ ghost use Rattle.images.specs.FileForm.{file_form_of};
 
 use regtypes::ImageForm;
 
-/// Which rules an image is verified by. `Sbi1` and `Sbi2` are the forms of `regtypes`; `Sbi3` takes what a
-/// C compiler makes of ordinary C.
+/// The form of an image, by whose rules it is verified. `Sbi1` and `Sbi2` are the forms of `regtypes`; `Sbi3` takes
+/// what a C compiler makes of ordinary C.
 #[derive(Clone, Copy, Debug, PartialEq, Eq)]
 pub enum FileForm {
     Sbi1,

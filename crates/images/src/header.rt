@@ -8,10 +8,10 @@ ghost use Rattle.verifier.specs.Inside.Header.{HasHeader};
 use limits::{SLOTS, STATE_BYTES};
 use verifier::{FileHeader, HeaderFault, header_at};
 
-/// How many bytes a header has, and so a slot.
+/// The number of bytes of a header, and of a slot.
 pub const HEADER: usize = 8;
 
-/// What a file of form 3 begins with.
+/// The first four bytes of a file of form 3.
 const MAGIC_3: [u8; 4] = [0x53, 0x42, 0x49, 0x33];
 
 /// The header of a file and its code, if the header has no fault.

@@ -15,10 +15,10 @@ use decode::Insn;
 use std::alloc::Global;
 use verifier::ImageError;
 
-/// What a file of form 3 begins with.
+/// The first four bytes of a file of form 3.
 const MAGIC_3: [u8; 4] = [0x53, 0x42, 0x49, 0x33];
 
-/// Whether a file begins as those of form 3 do.
+/// Whether a file begins like those of form 3.
 fn is_form_3(bytes: &[u8]) -> bool
     ensures { IsTrue result ↔ (take 4 bytes.now ≡ magic_3) }
 {
@@ -27,9 +27,9 @@ fn is_form_3(bytes: &[u8]) -> bool
 
 /// The instructions of an image file, the length of its state, and its form. The code is not verified.
 pub fn parts(alloc: Global, bytes: &[u8]) -> Result<(Vec<Insn>, u16, FileForm), ImageError>
-    // What is read is written so.
+    // The file of what was read has these bytes.
     ensures found { IfOk result (λ p. IsFile p.2 p.0.items p.1 bytes.now) }
-    // What is written so is read, unless memory runs out.
+    // If the bytes are the file of some code, that code is read, unless memory runs out.
     ensures only { (form : FileForm) (code : List Insn) (len : ℕ) → IsFile form code len bytes.now → IfOk result (λ p. (p.0.items ≡ code) × (p.1 ≡ len) × (p.2 ≡ form)) × IfErr result (λ e. e ≡ Memory) }
     ensures refused { IfErr result (IsUnread bytes.now) }
 {
@@ -46,7 +46,8 @@ pub fn parts(alloc: Global, bytes: &[u8]) -> Result<(Vec<Insn>, u16, FileForm), 
     }
 }
 
-/// The image of a file of typable code. The first fault is named, in the order header, code, rules of the verifier.
+/// The image of a file of typable code. An error names the first fault, in the order header, code, rules of the
+/// verifier.
 pub fn load(alloc: Global, bytes: &[u8]) -> Result<AnyImage, ImageError>
     ensures found { IfOk result (λ image. IsFile (form_of image) (code_of image) (state_of image) bytes.now) }
     ensures typable { IfOk result (λ image. IsTypable (form_of image) (code_of image) (state_of image)) }

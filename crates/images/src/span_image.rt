@@ -17,7 +17,7 @@ use std::marker::Model;
 #[derive(Drop)]
 pub struct SpanImage {
     pub(crate) code: Vec<Insn>,
-    /// The encoding of the code, as its file has it.
+    /// The encoding of the code, as in its file.
     pub(crate) bytes: Vec<u8>,
     pub(crate) state_len: u16,
 }
@@ -48,7 +48,7 @@ impl SpanImage {
     ghost use Rattle.images.specs.Typed.{IsTypable};
     ghost use Rattle.span_verifier.specs.Verdict.{IsFramesOf};
 
-    /// How many instructions it has. A wide one counts once.
+    /// The number of instructions. A wide one counts once.
     pub fn count(&self) -> usize
         ensures { result ≡ length self.now.code }
     {
@@ -73,15 +73,15 @@ impl SpanImage {
         self.code.as_slice()
     }
 
-    /// The bytes of its instructions, as its file has them.
+    /// The bytes of its instructions, as in its file.
     pub fn bytes(&self) -> &[u8]
         ensures { result.now ≡ encoding self.now.code }
     {
         self.bytes.as_slice()
     }
 
-    /// What is known at each slot of registers and of the stack's words: the least typing. It is found
-    /// anew, and takes memory only as long as the caller keeps it.
+    /// What is known at each slot of registers and of the stack's words: the least typing. Each call computes it anew;
+    /// it takes memory only as long as the caller keeps it.
     pub fn frames(&self, alloc: Global) -> Result<Frames, AllocError>
         ensures { IfOk result (λ frames. IsFramesOf self.now.code self.now.len frames) }
     {
@@ -93,7 +93,7 @@ impl SpanImage {
     }
 }
 
-/// The image of instructions whose bytes are at hand, if they are typable.
+/// The image of instructions whose encoding the caller has, if they are typable.
 pub fn verified(
     alloc: Global,
     code: Vec<Insn>,

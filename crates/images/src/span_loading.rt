@@ -15,9 +15,9 @@ use verifier::ImageError;
 
 /// The instructions of an image file of form 3, and the length of its state. The code is not verified.
 pub fn span_parts(alloc: Global, bytes: &[u8]) -> Result<(Vec<Insn>, u16), ImageError>
-    // What is read is written so.
+    // The file of what was read has these bytes.
     ensures found { IfOk result (λ p. IsFile p.0.items p.1 bytes.now) }
-    // What is written so is read, unless memory runs out.
+    // If the bytes are the file of some code, that code is read, unless memory runs out.
     ensures only { (code : List Insn) (len : ℕ) → IsFile code len bytes.now → IfOk result (λ p. (p.0.items ≡ code) × (p.1 ≡ len)) × IfErr result (λ e. e ≡ Memory) }
     ensures refused { IfErr result (IsUnread bytes.now) }
 {
@@ -56,7 +56,7 @@ fn image_of(
     }
 }
 
-/// The image of a file of form 3 of typable code. The first fault is named, in the order header, code, rules of
+/// The image of a file of form 3 of typable code. An error names the first fault, in the order header, code, rules of
 /// the verifier.
 pub fn load_span(alloc: Global, bytes: &[u8]) -> Result<SpanImage, ImageError>
     ensures found { IfOk result (λ image. IsFile image.code image.len bytes.now) }

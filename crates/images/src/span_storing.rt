@@ -10,8 +10,8 @@ use regtypes::ImageForm;
 use std::alloc::Global;
 use verifier::{ImageError, file};
 
-/// The image file of form 3 of these instructions with a state of this length, at most 1,024 bytes. They are
-/// not verified; `span_parts` gives them back. It is the file of form 2 but for its fourth byte.
+/// The image file of form 3 with these instructions and this length of the state, at most 1,024 bytes. The instructions
+/// are not verified; `span_parts` gives them back. It differs from the file of form 2 only in its fourth byte.
 pub fn span_file(alloc: Global, code: &[Insn], state_len: u16) -> Result<Vec<u8>, ImageError>
     requires { state_len ≤ STATE_BYTES }
     ensures written { IfOk result (λ v. IsFile code.now state_len v.items) }

@@ -12,8 +12,8 @@ use regtypes::ImageForm;
 use std::alloc::Global;
 use verifier::ImageError;
 
-/// The image file of this form, of these instructions with a state of this length, at most 1,024 bytes. They are
-/// not verified; `parts` gives them back.
+/// The image file with this form, these instructions and this length of the state, at most 1,024 bytes. The
+/// instructions are not verified; `parts` gives them back.
 pub fn file(
     alloc: Global,
     form: FileForm,

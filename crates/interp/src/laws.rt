@@ -1,14 +1,14 @@
-//! What holds of every step, and of every call, of typable code.
+//! Laws of every step and every call of typable code.
 
 ghost use Rattle.interp.specs.Laws.{IsEntered, IsExited, IsFound, IsOneCall, IsPreserved, IsWordEntered, IsWordKept};
 
-/// A step from a configuration that fits its frame is no fault: it exits, or goes to a later slot,
-/// whose frame its configuration fits, with the same message.
+/// A step from a configuration that fits its frame is no fault: it exits, or goes to a later slot, whose frame the next
+/// configuration fits, with the same message.
 pub fn steps_fit()
     ensures { IsPreserved }
 {}
 
-/// A call begins in a configuration that fits the first slot's frame.
+/// The configuration at the entry fits the first slot's frame.
 pub fn calls_fit()
     ensures { IsEntered }
 {}
@@ -18,12 +18,12 @@ pub fn calls_exit()
     ensures { IsExited }
 {}
 
-/// A call leaves one state, one list of effects and one r0, in one number of steps.
+/// A call leaves only one state, one list of effects and one r0, in one number of steps.
 pub fn calls_are_one()
     ensures { IsOneCall }
 {}
 
-/// What a call leaves is found by as many steps as there are slots.
+/// The result of a call is found within as many steps as there are slots.
 pub fn calls_are_found()
     ensures { IsFound }
 {}

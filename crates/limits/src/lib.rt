@@ -1,7 +1,6 @@
-//! How much there can be at most, of what several crates speak of. The table of docs/FORMATS.md,
-//! "Limits", has the same numbers.
+//! The limits that several crates share. The table of docs/FORMATS.md, "Limits", has the same numbers.
 //!
-//! Code and contracts cite these names. A limit that only one crate speaks of stands there.
+//! Code and contracts cite these names. A limit that only one crate uses is defined in that crate.
 //!
 //! ```
 //! // a process has a number from 1 to limits::PROCESSES, and 0 is the outside, so a number of
@@ -12,7 +11,7 @@
 /// Processes of a session.
 pub const PROCESSES: usize = 15;
 
-/// Who sends and is sent to: the outside, 0, and the processes.
+/// Senders and receivers: the outside, which is number 0, and the processes.
 pub const PARTIES: usize = 16;
 
 /// Bytes of a message's payload.
@@ -36,20 +35,19 @@ pub const REGISTERS: usize = 11;
 /// Slots of an image, of eight bytes each.
 pub const SLOTS: usize = 1024;
 
-/// Messages of one handler call, and outputs of one.
+/// Messages that one handler call may send, and outputs that it may give.
 pub const EFFECTS: usize = 8;
 
-/// Entries of a journal, one for each open job among them.
+/// Entries of a journal, counting one for each open job.
 pub const ENTRIES: usize = 65_536;
 
 /// Messages that a process receives: each is an entry of the journal.
 pub const RECEIPTS: usize = 65_536;
 
-/// Messages from one process to one destination: so many come of as many receipts.
+/// Messages from one process to one destination: 8 for each of its receipts.
 pub const SENDS: usize = 524_288;
 
-/// Packets on the wire, one for each open job of an arrived message among them. Their keys are
-/// below it.
+/// Packets on the wire, counting one for each open job of an arrived message. Their keys are below this number.
 pub const PACKETS: usize = 4096;
 
 /// Workers of a run.
@@ -58,7 +56,7 @@ pub const WORKERS: usize = 16;
 /// Seats of a session: one for nobody, worker 0, and one for each worker.
 pub const SEATS: usize = 17;
 
-// What one limit is of others.
+// How the limits depend on one another.
 const _: () = prove!(PARTIES == PROCESSES + 1);
 
 const _: () = prove!(MEMORY_BYTES == PAYLOAD_BYTES + STATE_BYTES + STACK_BYTES);

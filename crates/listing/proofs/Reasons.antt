@@ -25,7 +25,7 @@ unknown_at (w ∷ whys) (suc r) h = unknown_at whys r h.1
 pub none_yet : (r : ℕ) → get_or eleven r Unknown ≡ Unknown
 none_yet r = unknown_at eleven r (refl, (refl, (refl, (refl, (refl, (refl, (refl, (refl, (refl, (refl, (refl, tt)))))))))))
 
--- of a register that isn't set; of one that is; and where no way leads
+-- a register that isn't set, one that is, and a slot that no way reaches
 pub of_unset : (s : Study) (r here : ℕ) (f : Frame) (why : Why) → frame_at s.table.items here ≡ Some f → kind_at f.kinds r ≡ Unset → IsWhy s r why here → Explains s r why here
 of_unset s r here f why there unset is = record { unset = λ _. is; set = λ other. absurd (other (record { frame = f; there = there; unset = unset })) }
 

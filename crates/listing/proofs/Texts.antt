@@ -1,4 +1,4 @@
--- Texts one behind the other.
+-- Texts, one after the other.
 use Rattle.std.proofs.Common.{◌≡◌, ◌∙◌, ℕ, ◌+◌, List, ◌++◌, sym, ap, add-one, append_assoc, append-nil}
 use Rattle.listing.specs.Listing.{texts_below}
 
@@ -13,6 +13,6 @@ pub texts_none : (text : ℕ → List ℕ) (start : List ℕ) → start ≡ star
 unfolding texts_below
 texts_none text start = sym (append-nil start)
 
--- one text behind another
+-- one text after another
 pub joined : (old a mid b new text : List ℕ) → mid ≡ old ++ a → new ≡ mid ++ b → a ++ b ≡ text → new ≡ old ++ text
 joined old a mid b new text e h t = h ∙ ap (λ x. x ++ b) e ∙ append_assoc old a b ∙ ap (λ x. old ++ x) t

@@ -29,7 +29,7 @@ passes_one s r at n found x set why each one goes k passed =
     let same : x ≡ k = let both : Some x ≡ Some k = sym one ∙ each k passed in cc in
     subst (λ (y : Kind). GoesWith set why y) same goes
 
--- where nothing is set so far, nothing was passed on; with a reason, nothing is to go together any more
+-- if nothing is set so far, nothing was passed on; with a reason, nothing has to agree any more
 pub none_before : (set : Option (ℕ × Kind)) (why : Why) (k : Kind) → GoesWith None why k → GoesWith set why k
 none_before set why k goes = absurd goes
 
@@ -39,7 +39,7 @@ with_reason x why told k other goes = (goes.0, λ unknown. absurd (other unknown
 pub first_kind : (p : ℕ) (k : Kind) (why : Why) → k ≢ kind.Unset → GoesWith (Some (p, k)) why k
 first_kind p k why set = (set, λ unknown clash. clash.differ refl)
 
--- at the end no reason is found only where there is none
+-- at the end no reason is found only if there is none
 pub agree : (s : Study) (r at : ℕ) (set : Option (ℕ × Kind)) (why : Why) → 0 < at → why ≡ Unknown → GoTogether s r at at set why → Agree s r at
 agree s r at None why later unknown all = record { kind = kind.Unset; entry = λ first. absurd (omega (arith, later, first)); all = λ p k lt passed. absurd (all p k lt passed) }
 agree s r at (Some x) why later unknown all = record { kind = x.1; entry = λ first. absurd (omega (arith, later, first)); all = λ p k lt passed. ((all p k lt passed).0, (all p k lt passed).1 unknown) }

@@ -19,7 +19,7 @@ use Rattle.listing.specs.Why.{Leaves, Passes}
 at_slot : (p q : ℕ) → pos p ≡ pos q → p ≡ q
 at_slot p q same = cc
 
--- a slot where an instruction leads is an exit, and the registers are the same on both ways
+-- a slot to which an instruction leads is an exit, and the registers are the same on both ways
 is_exit : (p t : ℕ) (fl : Flow) (nx tk : Frame) → nx.kinds ≡ tk.kinds → LeadsTo fl p t → (g : Frame) × Contains (exits_by p fl nx tk) (pos t, g) × (g.kinds ≡ nx.kinds)
 is_exit p t Ends nx tk same to = absurd to
 is_exit p t (Leaps d) nx tk same to = (tk, (0, omega arith, ap (λ (z : ℤ). (z, tk)) to), sym same)
@@ -27,7 +27,7 @@ is_exit p t (Forks d) nx tk same (inl to) = (tk, (0, omega arith, ap (λ (z : �
 is_exit p t (Forks d) nx tk same (inr to) = (nx, (1, omega arith, ap (λ (k : ℕ). (pos k, nx)) (sym to)), refl)
 is_exit p t (Falls n) nx tk same to = (nx, (0, omega arith, ap (λ (k : ℕ). (pos k, nx)) (sym to)), refl)
 
--- an exit is a slot where an instruction leads
+-- an exit is a slot to which an instruction leads
 exit_at : (p t : ℕ) (fl : Flow) (nx tk g : Frame) → nx.kinds ≡ tk.kinds → (k : ℕ) → k < length (exits_by p fl nx tk) → slice_index_or (exits_by p fl nx tk) k (pos t, g) ≡ (pos t, g)
     → LeadsTo fl p t × (g.kinds ≡ nx.kinds)
 exit_at p t Ends nx tk g same k within is = absurd (omega (arith, within))
@@ -39,7 +39,7 @@ exit_at p t (Forks d) nx tk g same (suc (suc k)) within is = absurd (omega (arit
 exit_at p t (Falls n) nx tk g same zero within is = (sym (at_slot (p + n) t (ap (λ (x : ℤ × Frame). x.0) is)), sym (ap (λ (x : ℤ × Frame). x.1.kinds) is))
 exit_at p t (Falls n) nx tk g same (suc k) within is = absurd (omega (arith, within))
 
--- what an instruction leaves where it leads
+-- what an instruction leaves at the slot to which it leads
 pub leaves : (s : Study) (r p t : ℕ) (i : Insn) (f : Frame) → insn_at s.slots.items p ≡ Some i → frame_at s.table.items p ≡ Some f → LeadsTo (flow_of i) p t
     → Leaves s r p t (kind_at (after i f.kinds) r)
 leaves s r p t i f begins there to =

@@ -21,6 +21,6 @@ no_text text x y old is e = sym (ap (λ t. old ++ t) (ap text is ∙ e) ∙ appe
 pub with_number : {T E : Type 0} (r : Result T E) (new old before after : List ℕ) (k n : ℕ) → k ≡ n → OnOk r (new ≡ old ++ (before ++ (decimal k ++ after))) → OnOk r (new ≡ old ++ (before ++ (decimal n ++ after)))
 with_number r new old before after k n is h = subst (λ z. OnOk r (new ≡ old ++ (before ++ (decimal z ++ after)))) is h
 
--- one text behind another, of which the call before has written the first
+-- one text after another, of which the call before has written the first
 pub behind : {T E : Type 0} (r : Result T E) (old a mid b new text : List ℕ) → mid ≡ old ++ a → a ++ b ≡ text → OnOk r (new ≡ mid ++ b) → OnOk r (new ≡ old ++ text)
 behind r old a mid b new text e t h = on_ok_weaker r (λ k. joined old a mid b new text e k t) h

@@ -1,4 +1,4 @@
--- What breaks a rule at a slot, in a sentence, and what to do about it.
+-- What breaks a rule at a slot, as a sentence, and what to do about it.
 use Rattle.std.specs.Prelude.{ℕ, ◌+◌, ◌++◌, ◌∷◌, [], Bool, List, Option, Some, None, ℤ, pos, ◌+ℤ◌, codes, decimal, if◌then◌else◌}
 use Rattle.std.specs.Fmt.{signed_decimal}
 use Rattle.decode.specs.declared.insn.Reg.{Reg}
@@ -20,43 +20,43 @@ use Rattle.regtypes.specs.Frame.{form_number, is_num, kind_at}
 use Rattle.regtypes.specs.Rules.{Argument, Number, Payload, Sized, arguments_of, base_of, has, is_place, is_unset, moved_of}
 use Rattle.listing.specs.Kinds.{place_text, reg_text}
 
--- the first of these registers that has such a kind
+-- the first of these registers whose kind passes the test
 abbrev pub first_with : (Kind → Bool) → List Kind → List (Option Reg) → Option Reg
 first_with p f [] = None
 first_with p f (r ∷ rs) = if has p f r then r else first_with p f rs
 
--- a register, if there is one, and what is the matter with it
+-- a register, if there is one, and what is wrong with it
 abbrev pub about : Option Reg → List ℕ → List ℕ
 about None text = []
 about (Some r) text = reg_text r ++ text
 
--- V1: the slot that a jump leads to
+-- V1: the slot to which a jump leads
 abbrev pub jump_cause : ℕ → ℕ → ℤ → List ℕ
 jump_cause slots s d =
     codes "the jump leads to slot " ++ signed_decimal (pos (s + 1) +ℤ d) ++ codes " of " ++ decimal slots ++ codes ", and has to lead to a later one at which an instruction begins"
 
--- V1: where the instruction jumps to; what jumps nowhere breaks another rule
+-- V1: the jump of an instruction. An instruction that doesn't jump breaks another rule
 abbrev pub flow_cause : ℕ → ℕ → Flow → List ℕ
 flow_cause slots s Ends = []
 flow_cause slots s (Leaps d) = jump_cause slots s d
 flow_cause slots s (Forks d) = jump_cause slots s d
 flow_cause slots s (Falls n) = []
 
--- V3: the first register that is read and isn't set
+-- V3: the first register that is read but not set
 abbrev pub unset_cause : List Kind → Attributes → List ℕ
 unset_cause f a =
     about (first_with is_unset f (a.number ∷ a.operand ∷ a.copied ∷ base_of a.access ∷ moved_of a.moved ∷ [])) (codes " is read and isn't set")
 
--- V5: the first register that is read as a number and holds a place, or the base of the access, which holds a number
+-- V5: the first register that is read as a number but holds a place, or the base of the access, which holds a number
 abbrev pub mixed_cause : Option Reg → Option Access → List ℕ
 mixed_cause (Some r) a = about (Some r) (codes " is read as a number and holds a place")
 mixed_cause None a = about (base_of a) (codes " is the base of a load or store and holds a number")
 
--- V6: the bytes that are reached, or the place that is moved and by how much
+-- V6: which bytes an access reaches at a place
 abbrev pub bytes_cause : ℕ → List ℕ → List ℕ
 bytes_cause n place = codes "not all of the " ++ decimal n ++ codes " bytes at " ++ place ++ codes " lie there"
 
--- V6: the bytes that are reached from the place in the base
+-- V6: which bytes an access reaches from the place in its base
 abbrev pub reach_cause : Frame → ℕ → ℕ → ℤ → Kind → List ℕ
 reach_cause f len n o (Place r z) = bytes_cause n (place_text f.low len r (z +ℤ o))
 reach_cause f len n o k = []
@@ -70,7 +70,7 @@ abbrev pub move_cause : Option (Reg × ℤ) → List ℕ
 move_cause None = []
 move_cause (Some m) = distance_cause m.0 m.1
 
--- V6: the bytes that a load or store reaches, or where there is none, the place that is moved
+-- V6: which bytes a load or store reaches, or for any other instruction which place is moved
 abbrev pub out_cause : Frame → ℕ → Attributes → Option Access → List ℕ
 out_cause f len a None = move_cause a.moved
 out_cause f len a (Some x) = reach_cause f len x.bytes x.offset (kind_at f.kinds x.base.number)
@@ -84,20 +84,20 @@ abbrev pub helper_cause : ImageForm → Insn → List ℕ
 helper_cause form (Call helper) = number_cause form helper
 helper_cause form i = []
 
--- an argument that is to be a number
+-- V9: an argument that has to be a number
 abbrev pub count_cause : ℕ → List ℕ
 count_cause r = codes "r" ++ decimal r ++ codes " is to be a number"
 
--- an argument that is to be a place of 64 bytes
+-- V9: an argument that has to be a place with 64 bytes
 abbrev pub payload_cause : ℕ → List ℕ
 payload_cause r = codes "r" ++ decimal r ++ codes " is to be a place, with 64 bytes from there on in its region"
 
--- arguments that are to be a place and a length
+-- V9: arguments that have to be a place and a length
 abbrev pub sized_cause : ℕ → ℕ → List ℕ
 sized_cause r n =
     codes "r" ++ decimal r ++ codes " is to be a place with 256 bytes from there on in its region, and r" ++ decimal n ++ codes " a number; or they the message and its length"
 
--- V9: the first argument of a helper that is to be a number and isn't; or else its place
+-- V9: the first argument of a helper that has to be a number and isn't; or else its place
 abbrev pub argument_cause : Frame → List Argument → List ℕ
 argument_cause f [] = []
 argument_cause f (Number r ∷ xs) =
@@ -105,7 +105,7 @@ argument_cause f (Number r ∷ xs) =
 argument_cause f (Payload r ∷ xs) = payload_cause r
 argument_cause f (Sized r n ∷ xs) = sized_cause r n
 
--- V9: the argument that is wrong, where the arguments of the helper are known
+-- V9: the argument that is wrong, if the helper's arguments are known
 abbrev pub given_cause : Frame → Option (List Argument) → List ℕ
 given_cause f None = []
 given_cause f (Some xs) = argument_cause f xs
@@ -115,7 +115,7 @@ abbrev pub call_cause : ImageForm → Frame → Insn → List ℕ
 call_cause form f (Call helper) = given_cause f (arguments_of form helper)
 call_cause form f i = []
 
--- what breaks a rule at a slot, under its frame, in code of so many slots
+-- what breaks a rule at a slot, under its frame, in code of this many slots
 abbrev pub cause : ImageForm → ℕ → ℕ → ℕ → Insn → Frame → Rule → List ℕ
 cause form len slots s i f V1 = flow_cause slots s (flow_of i)
 cause form len slots s i f V2 = codes "nothing follows this instruction"
@@ -129,7 +129,7 @@ cause form len slots s i f V8 = helper_cause form i
 cause form len slots s i f V9 = call_cause form f i
 cause form len slots s i f V10 = codes "r0 is to be a number at the end"
 
--- what to do about it
+-- what to do about a broken rule
 abbrev pub advice : Rule → List ℕ
 advice V1 = codes "jump forward, to where an instruction begins; unroll a loop"
 advice V2 = codes "end each way with exit"

@@ -13,12 +13,12 @@ region_text Message = codes "message"
 region_text State = codes "state"
 region_text Stack = codes "stack"
 
--- a number behind its sign
+-- a number with its sign before it
 abbrev pub signed_text : ℤ → List ℕ
 signed_text (pos n) = codes "+" ++ decimal n
 signed_text (negsuc n) = codes "-" ++ decimal (suc n)
 
--- a place: its region, where it is in bytes from the region's first, and how many the region has at least
+-- a place: its region, its distance from the region's first byte, and the least size of the region
 abbrev pub place_text : ℕ → ℕ → Region → ℤ → List ℕ
 place_text low len r z = region_text r ++ signed_text z ++ codes " of " ++ decimal (region_len low len r)
 

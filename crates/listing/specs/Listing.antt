@@ -20,7 +20,7 @@ use Rattle.listing.specs.Reads.{is_read}
 use Rattle.listing.specs.Study.{IsStudy}
 use Rattle.listing.specs.Why.{AreWhys}
 
--- the texts of 0 to n - 1, one behind the other
+-- the texts of 0 to n - 1, one after the other
 unfoldable pub texts_below : (ℕ → List ℕ) → ℕ → List ℕ
 texts_below text zero = []
 texts_below text (suc n) = texts_below text n ++ text n
@@ -34,7 +34,7 @@ why_text Never = codes ": never set on a way that leads here"
 why_text (Lost p) = codes ": lost behind the helper at slot " ++ decimal p
 why_text (Differs p q t) = codes ": slots " ++ decimal p ++ codes " and " ++ decimal q ++ codes " leave different things in it where they meet, at slot " ++ decimal t
 
--- the reason stands behind a register that is unset, and behind no other
+-- the reason after a register that is unset. Any other has none
 abbrev pub reason_text : Kind → Why → List ℕ
 reason_text Unset why = why_text why
 reason_text Num why = []
@@ -46,19 +46,19 @@ abbrev pub register_text : Study → List Why → Insn → Frame → ℕ → Lis
 register_text s whys i f r =
     if is_read s.form i r then codes "    r" ++ decimal r ++ codes " " ++ kind_text f.low s.state_len (kind_at f.kinds r) ++ reason_text (kind_at f.kinds r) (slice_index_or whys r Unknown) ++ codes "\n" else []
 
--- what is known of the registers that an instruction reads, in ascending order; or that no way leads to it
+-- what is known of the registers that an instruction reads, in ascending order; or that no path reaches it
 abbrev pub known_text : Study → List Why → Insn → Option Frame → List ℕ
 known_text s whys i None = codes "    no way leads here\n"
 known_text s whys i (Some f) = texts_below (register_text s whys i f) REGISTERS
 
 -- ---- slots
 
--- the rule, and what breaks it
+-- the broken rule, and what breaks it
 abbrev pub broken_text : Study → Rule → ℕ → Insn → Frame → List ℕ
 broken_text s rule slot i f =
     codes "    refused by V" ++ decimal (rule_number rule) ++ codes ": " ++ cause s.form s.state_len (length s.slots.items) slot i f rule
 
--- the line that says what to do about a rule
+-- the line about what to do for a rule
 abbrev pub advice_text : Rule → List ℕ
 advice_text rule = codes "\n    to do: " ++ advice rule ++ codes "\n"
 
@@ -67,29 +67,29 @@ abbrev pub refusal_text : Study → Rule → ℕ → Insn → Option Frame → L
 refusal_text s rule slot i None = []
 refusal_text s rule slot i (Some f) = broken_text s rule slot i f ++ advice_text rule
 
--- what is said under an instruction: of slots behind the one that is refused, nothing
+-- the lines under an instruction. Slots after the one that is refused have none
 abbrev pub notes_text : Study → List Why → ℕ → Insn → Option Frame → Option (Rule × ℕ) → List ℕ
 notes_text s whys slot i f None = known_text s [] i f
 notes_text s whys slot i f (Some (rule, at)) =
     if nat_lt slot at then known_text s [] i f else if slot == at then known_text s whys i f ++ refusal_text s rule slot i f else []
 
--- an instruction behind the number of its slot, and what is said under it
+-- the number of a slot, its instruction, and the lines under it
 abbrev pub insn_text : Study → List Why → ℕ → Option Insn → List ℕ
 insn_text s whys slot None = []
 insn_text s whys slot (Some i) =
     decimal slot ++ codes ": " ++ text_of (i ∷ []) ++ notes_text s whys slot i (frame_at s.table.items slot) s.refusal
 
--- what is said of a slot; nothing of the second slot of a wide instruction
+-- the lines of a slot. The second slot of an instruction of two slots has none
 abbrev pub slot_text : Study → List Why → ℕ → List ℕ
 slot_text s whys slot = insn_text s whys slot (insn_at s.slots.items slot)
 
 -- ---- the whole
 
--- the verdict on code that is refused: the line that `check` tells
+-- the verdict on refused code, as check prints it
 abbrev pub refused_text : Rule → ℕ → List ℕ
 refused_text rule slot = codes "verify refused V" ++ decimal (rule_number rule) ++ codes " at slot " ++ decimal slot ++ codes "\n"
 
--- the last line: the verdict, in the words of `check`
+-- the last line: the verdict, as check prints it
 abbrev pub verdict_text : ℕ → Option (Rule × ℕ) → List ℕ
 verdict_text count None = codes "accepted " ++ decimal count ++ codes " instructions\n"
 verdict_text count (Some (rule, slot)) = refused_text rule slot

@@ -8,29 +8,29 @@ use Rattle.regtypes.specs.declared.image_form.ImageForm.{ImageForm}
 use Rattle.regtypes.specs.Attributes.{attributes_of}
 use Rattle.regtypes.specs.Rules.{Argument, Number, Payload, Sized, arguments_of, base_of, moved_of}
 
--- the register with this number
+-- whether this is the register with the number r
 abbrev pub is_numbered : ℕ → Option Reg → Bool
 is_numbered r None = false
 is_numbered r (Some x) = x.number == r
 
--- the instruction reads the register, by its attributes
+-- whether the instruction reads the register, by its attributes
 abbrev pub is_named : ℕ → Attributes → Bool
 is_named r a =
     is_numbered r a.number || (is_numbered r a.operand || (is_numbered r a.copied || (is_numbered r (base_of a.access) || is_numbered r (moved_of a.moved))))
 
--- a helper that takes these arguments is given the register
+-- whether a helper with these arguments takes the register
 abbrev pub is_argument : ℕ → List Argument → Bool
 is_argument r [] = false
 is_argument r (Number n ∷ xs) = n == r || is_argument r xs
 is_argument r (Payload n ∷ xs) = n == r || is_argument r xs
 is_argument r (Sized n m ∷ xs) = n == r || (m == r || is_argument r xs)
 
--- no helper has the number: none of its arguments is known
+-- whether a helper takes the register. None is a number without a helper
 abbrev pub is_given : ℕ → Option (List Argument) → Bool
 is_given r None = false
 is_given r (Some xs) = is_argument r xs
 
--- a helper reads its arguments, the end reads r0
+-- whether the instruction reads the register. A call reads its arguments, and an exit reads r0
 abbrev pub is_read : ImageForm → Insn → ℕ → Bool
 is_read form (Call helper) r = is_given r (arguments_of form helper)
 is_read form Exit r = r == 0

@@ -14,7 +14,7 @@ use Rattle.listing.specs.declared.span_cause.WordFault.{WordFault}
 use Rattle.listing.specs.declared.span_cause.WordFault.TheVariants as word
 use Rattle.listing.specs.SpanKinds.{places_text, range_text, word_text}
 
--- what is the matter with a register
+-- what is wrong with a register
 abbrev pub register_words : RegisterFault → List ℕ
 register_words register.Unset = codes " is read and isn't set"
 register_words register.PlaceAsNumber = codes " is read as a number and holds a place"
@@ -22,14 +22,14 @@ register_words register.NumberAsBase = codes " is the base of a load or store an
 register_words register.PlaceStored = codes " holds a place, which only a whole word of the stack can keep"
 register_words register.Message = codes " is a place of the message, which is for reading"
 
--- what is the matter with a word of the stack
+-- what is wrong with a word of the stack
 abbrev pub word_words : WordFault → List ℕ
 word_words word.Unset = codes " is read and isn't set"
 word_words word.NoNumber = codes " is to be a number"
 word_words (word.Read n) = codes " holds a place, of which " ++ decimal n ++ codes " bytes " ++ codes "are read"
 word_words (word.Written n) = codes " holds a place, of which " ++ decimal n ++ codes " bytes " ++ codes "are written"
 
--- what breaks a rule at a slot, in code of so many slots, with a state of `state` bytes
+-- what breaks a rule at a slot, in code of this many slots, with a state of this many bytes
 abbrev pub cause_text : ℕ → ℕ → ℕ → Cause → List ℕ
 cause_text state slots s Nothing = []
 cause_text state slots s (Jump d) = jump_cause slots s d
@@ -67,22 +67,22 @@ word_advice (word.Written n) = codes "compare the index of the local array with 
 abbrev pub index_advice : List ℕ
 index_advice = codes "compare the index with a number (if (i >= N) return 1;), or mask it (i & (N - 1), N a power of two), on each way that leads here, before it is added; % bounds nothing where its divisor may be 0, or where clang makes div, mul and sub of it; where the C does so already, within(index, most); right above the access does so anew"
 
--- the same of an index that can be any number
+-- what to do about an index that can be any number
 abbrev pub any_index_advice : List ℕ
 any_index_advice = codes "compare the index with a number (if (i >= N) return 1;), or mask it (i & (N - 1), N a power of two), on each way that leads here, before it is added; % bounds nothing where its divisor may be 0, or where clang makes div, mul and sub of it; where the C does so already, within(index, most); right above the access does so anew; one of a signed type, as int, may be negative: make it a u64, and compare that"
 
--- what to do about a place that no index moves
+-- what to do about an access outside a region, if no index moves its place
 abbrev pub region_advice : List ℕ
 region_advice = codes "stay inside the region: the message has 512 bytes with the zeros behind it, the local variables have 512, the state has as many as --state says"
 
--- the same in the state
+-- what to do about an access outside the state, with an index and without
 abbrev pub state_index_advice : List ℕ
 state_index_advice = codes "compare the index with a number (if (i >= N) return 1;), or mask it (i & (N - 1), N a power of two), on each way that leads here, before it is added; % bounds nothing where its divisor may be 0, or where clang makes div, mul and sub of it; where the C does so already, within(index, most); right above the access does so anew; or --state is too small"
 
 abbrev pub state_advice : List ℕ
 state_advice = codes "stay inside the state, which has as many bytes as --state says, or pack it with a greater one"
 
--- what to do about an access that reaches out of its region, from one distance to another
+-- what to do about an access that reaches out of its region, at distances from lo to hi
 abbrev pub outside_advice : Region → ℤ → ℤ → List ℕ
 outside_advice Message lo hi = if int_le hi lo then region_advice else index_advice
 outside_advice State lo hi = if int_le hi lo then state_advice else state_index_advice

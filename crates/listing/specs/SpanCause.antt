@@ -27,14 +27,14 @@ use Rattle.listing.specs.declared.span_cause.WordFault.TheVariants as word
 use Rattle.listing.specs.declared.flaw.Flaw.TheVariants.{Missing, Pointing, NotNumber}
 use Rattle.listing.specs.Flaw.{first_flawed, flawed_word, reached_word}
 
--- V1: where the instruction jumps to; what jumps nowhere breaks another rule
+-- V1: the jump of an instruction. An instruction that doesn't jump breaks another rule
 abbrev pub jump_of : Flow → Cause
 jump_of Ends = Nothing
 jump_of (Leaps d) = Jump d
 jump_of (Forks d) = Jump d
 jump_of (Falls n) = Nothing
 
--- V3: a register that is read and isn't set, or else a word of the stack
+-- V3: a register that is read but not set, or else a word of the stack
 abbrev pub by_missing : Option Reg → Option ℕ → Cause
 by_missing (Some r) w = OfRegister r register.Unset
 by_missing None (Some c) = OfWord c word.Unset
@@ -44,34 +44,34 @@ abbrev pub unset_cause : Frame → Attributes → Cause
 unset_cause f a =
     by_missing (first_flawed Missing f (a.number ∷ a.operand ∷ a.copied ∷ base_of a.access ∷ moved_of a.moved ∷ [])) (reached_word Missing f a.access)
 
--- V5: a word of the stack that holds a place, of which so many bytes are read or written
+-- V5: a word of the stack that holds a place, of which this many bytes are read or written
 abbrev pub part_cause : Access → Option ℕ → Cause
 part_cause x None = Nothing
 part_cause x (Some c) = OfWord c (if x.stores then word.Written x.bytes else word.Read x.bytes)
 
--- V5: an access through a base of this kind, which stores a place where there is such a register
+-- V5: an access through a base of this kind. stored is the register whose place it stores, if there is one
 abbrev pub access_cause : Frame → Access → Option Reg → Kind → Cause
 access_cause f x stored Unset = Nothing
 access_cause f x stored (Num s) = OfRegister x.base register.NumberAsBase
 access_cause f x (Some r) (Place q s) = OfRegister r register.PlaceStored
 access_cause f x None (Place q s) = part_cause x (flawed_word Pointing f (Place q s) x.offset x.bytes)
 
--- V5: the first register that is read as a number and holds a place, or else what is wrong with the access
+-- V5: the first register that is read as a number but holds a place, or else what is wrong with the access
 abbrev pub mixed_by : Frame → Option Access → Option Reg → Cause
 mixed_by f None None = Nothing
 mixed_by f None (Some r) = OfRegister r register.PlaceAsNumber
 mixed_by f (Some x) stored = access_cause f x stored (f x.base.number)
 
--- V5: the same by what the instruction reads
+-- V5: the same, by the attributes of the instruction
 abbrev pub mixed_of : Frame → Attributes → Cause
 mixed_of f a = mixed_by f a.access (first_flawed Pointing f (a.number ∷ a.operand ∷ []))
 
--- V5: two registers that are added, or else another cause
+-- V5: a sum of two registers, or else another cause
 abbrev pub sum_or : Insn → Cause → Cause
 sum_or (Alu alu.Add W64 dst (operand.Reg src)) other = SumOfPlaces dst src
 sum_or i other = other
 
--- V5: places that are added to one another, or else by the registers and the access
+-- V5: a sum of places, or else a cause by the registers and the access
 abbrev pub mixed_cause : Insn → Frame → Cause
 mixed_cause i f = sum_or i (mixed_of f (attributes_of i))
 
@@ -81,24 +81,24 @@ moved_cause dst src (Place r s) (Num t) = MovedBy dst t
 moved_cause dst src (Num s) (Place r t) = MovedBy src s
 moved_cause dst src a b = Nothing
 
--- V6: the bytes that an access reaches through a base of this kind
+-- V6: which bytes an access reaches through a base of this kind
 abbrev pub reach_cause : Access → Kind → Cause
 reach_cause x (Place r s) = Outside x.bytes r (s.lo +ℤ x.offset) (s.hi +ℤ x.offset)
 reach_cause x Unset = Nothing
 reach_cause x (Num s) = Nothing
 
--- V6: the bytes that an access reaches, or else the register that is moved by an immediate
+-- V6: which bytes an access reaches, or else the register that an immediate moves
 abbrev pub out_by : Frame → Option Access → Option (Reg × ℤ) → Cause
 out_by f (Some x) moved = reach_cause x (f x.base.number)
 out_by f None (Some m) = ShiftedBy m.0 m.1
 out_by f None None = Nothing
 
--- V6: by what a register moves another that it is added to, or else another cause
+-- V6: a register that moves another to which it is added, or else another cause
 abbrev pub moved_or : Insn → Frame → Cause → Cause
 moved_or (Alu alu.Add W64 dst (operand.Reg src)) f other = moved_cause dst src (f dst.number) (f src.number)
 moved_or i f other = other
 
--- V6: a sum of two registers, or else what is reached, or moved by an immediate
+-- V6: a sum of two registers, or else an access, or a move by an immediate
 abbrev pub out_cause : Insn → Frame → Cause
 out_cause i f = moved_or i f (out_by f (attributes_of i).access (attributes_of i).moved)
 
@@ -112,12 +112,12 @@ abbrev pub helper_cause : Insn → Cause
 helper_cause (Call helper) = NoHelper helper
 helper_cause i = Nothing
 
--- V9: a word of the payload that is no number
+-- V9: a word of the payload that isn't known to be a number
 abbrev pub payload_word : Option ℕ → Cause
 payload_word None = Nothing
 payload_word (Some c) = OfWord c word.NoNumber
 
--- V9: the place in r of n bytes, of this kind
+-- V9: the register r, of this kind, which has to be a place with n bytes
 abbrev pub payload_cause : Frame → ℕ → ℕ → Kind → Cause
 payload_cause f r n Unset = NoPayload r n
 payload_cause f r n (Num s) = NoPayload r n
@@ -126,17 +126,17 @@ payload_cause f r n (Place State s) = NoPayload r n
 payload_cause f r n (Place Stack s) =
     if is_inside 512 s (pos 0) n then payload_word (flawed_word NotNumber f (Place Stack s) (pos 0) n) else NoPayload r n
 
--- V9: the same of as many bytes as r' says, by its kind
+-- V9: the same with as many bytes as the register r', of this kind, says
 abbrev pub sized_cause : Frame → ℕ → ℕ → Kind → Cause
 sized_cause f r r' Unset = NoCount r'
 sized_cause f r r' (Num s) = payload_cause f r (min s.hi 256) (f r)
 sized_cause f r r' (Place q s) = NoCount r'
 
--- V9: the process, or else the payload
+-- V9: the receiver of a send, or else the payload's cause
 abbrev pub send_cause : Frame → Cause → Cause
 send_cause f other = if is_num (f 1) then other else NoCount 1
 
--- V9: what a helper is given
+-- V9: the argument that isn't what a helper takes
 abbrev pub given_cause : Frame → ℤ → Cause
 given_cause f (pos (suc zero)) = send_cause f (payload_cause f 2 64 (f 2))
 given_cause f (pos (suc (suc zero))) = payload_cause f 1 64 (f 1)

@@ -8,27 +8,27 @@ use Rattle.spans.specs.Access.{region_size}
 use Rattle.spans.specs.declared.span.Span.{Span}
 use Rattle.listing.specs.Kinds.{region_text, signed_text}
 
--- one number, or those from one to another
+-- one number, or the first and last of several
 abbrev pub range_text : Span → List ℕ
 range_text s = if s.lo == s.hi then decimal s.lo else decimal s.lo ++ codes " to " ++ decimal s.hi
 
--- all words are among its numbers
+-- whether a span has all numbers of 64 bits
 abbrev pub is_whole : Span → Bool
 is_whole s = s.lo == 0 && s.hi == 2 ^ 64 - 1
 
--- of a number that can be any word nothing more is said
+-- a space and the numbers of a span; nothing if it has all of them
 abbrev pub span_text : Span → List ℕ
 span_text s = if is_whole s then [] else codes " " ++ range_text s
 
--- one distance from a region's first byte, or those from one to another
+-- one distance from a region's first byte, or the first and last of several
 abbrev pub distances_text : ℤ → ℤ → List ℕ
 distances_text lo hi = if int_le hi lo then signed_text lo else signed_text lo ++ codes " to " ++ signed_decimal hi
 
--- places of a region, and how many bytes it has
+-- places of a region, and the region's size
 abbrev pub places_text : ℕ → Region → ℤ → ℤ → List ℕ
 places_text state r lo hi = region_text r ++ distances_text lo hi ++ codes " of " ++ decimal (region_size state r)
 
--- nothing, a number, or a place; the state has `state` bytes
+-- what is known of a register or word: nothing, a number, or a place. The state has state bytes
 abbrev pub kind_text : ℕ → Kind → List ℕ
 kind_text state Unset = codes "unset"
 kind_text state (Num s) = codes "number" ++ span_text s

@@ -7,7 +7,7 @@ use Rattle.span_verifier.specs.Typing.{table_of}
 use Rattle.span_verifier.specs.Verdict.{IsJudged}
 use Rattle.listing.specs.declared.span_study.SpanStudy.{SpanStudy}
 
--- what is known at a slot, if a way leads there
+-- what is known at a slot, if a path reaches it
 abbrev pub frame_at : SpanStudy → ℕ → Option Frame
 frame_at s slot = table_of s.frames.table.items slot
 

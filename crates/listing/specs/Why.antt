@@ -1,4 +1,4 @@
--- Why a register isn't set at a slot. A way goes from slot to slot, each behind an instruction that leads to the next one.
+-- Why a register isn't set at a slot. A path goes from slot to slot, each after an instruction that leads to the next one.
 use Rattle.std.specs.Prelude.{◌≡◌, ◌≢◌, ◌<◌, ◌&&◌, ℕ, false, List, [], ◌∷◌, Some, None, pos, ℤ, slice_index_or}
 use Rattle.std.specs.List.{Contains}
 use Rattle.limits.specs.declared.TheConstants.{REGISTERS}
@@ -26,7 +26,7 @@ pub record Leaves (s : Study) (r p t : ℕ) (k : Kind) : Type 0 where
   pub leads : Contains (exits p insn frame) (pos t, left)
   pub kind : k ≡ kind_at left.kinds r
 
--- at slot p a helper is called, and the register holds something there
+-- at slot p a helper is called, and the register is set there
 pub record Calls (s : Study) (r p : ℕ) : Type 0 where
   pub helper : ℤ
   pub calls : insn_at s.slots.items p ≡ Some (Call helper)
@@ -34,17 +34,18 @@ pub record Calls (s : Study) (r p : ℕ) : Type 0 where
   pub there : frame_at s.table.items p ≡ Some frame
   pub held : kind_at frame.kinds r ≢ Unset
 
--- a way from slot p over these slots, the last of which is t: the register is unset all along, and no call on the way found anything in it
+-- a path from slot p over these slots, the last of which is t. The register is unset all along, and no call on the path found it
+-- set
 abbrev pub StaysUnset : Study → ℕ → ℕ → List ℕ → ℕ → Type 0
 StaysUnset s r p [] t = p ≡ t
 StaysUnset s r p (q ∷ rest) t = Leaves s r p q Unset × (¬ Calls s r p) × StaysUnset s r q rest t
 
--- both kinds say something, and nothing together
+-- both kinds are set, and their join isn't
 pub record Clash (a b : Kind) : Type 0 where
   pub differ : a ≢ b
   pub numbers : is_num a && is_num b ≡ false
 
--- slots p and q both lead to slot t, and each leaves something in the register that clashes with what the other leaves
+-- slots p and q both lead to slot t, and what they leave in the register clashes
 pub record Disagree (s : Study) (r p q t : ℕ) : Type 0 where
   pub first : Kind
   pub one : Leaves s r p t first
@@ -59,21 +60,22 @@ pub record Passes (s : Study) (r p t : ℕ) (k : Kind) : Type 0 where
   pub leaves : Leaves s r p t k
   pub kept : first_broken (tests_of s.form s.state_len leaves.insn leaves.frame) ≡ None
 
--- each earlier slot that passes on to slot t leaves something in the register, and nothing that clashes with one kind: a register that
--- comes there by a jump, behind a conditional jump or from the instruction before is among them. As a call begins, at slot 0, it is set
+-- each earlier slot that passes on to slot t leaves the register set, and with nothing that clashes with one kind. That includes
+-- slots that jump there, the fall-through of a conditional jump, and the slot before. When a call begins, at slot 0, the register
+-- is set
 pub record Agree (s : Study) (r t : ℕ) : Type 0 where
   pub kind : Kind
   pub entry : t ≡ 0 → kind_at (entry_frame s.form).kinds r ≢ Unset
   pub all : (p : ℕ) (k : Kind) → p < t → Passes s r p t k → (k ≢ Unset) × ¬ Clash kind k
 
--- the reason lies at slot t; none is found only where there is none
+-- the reason is at slot t. Unknown is answered only if there is no reason
 abbrev pub IsReason : Study → ℕ → Why → ℕ → Type 0
 IsReason s r Unknown t = Agree s r t
 IsReason s r Never t = (t ≡ 0) × (kind_at (entry_frame s.form).kinds r ≡ Unset)
 IsReason s r (Lost p) t = Calls s r p × Leaves s r p t Unset
 IsReason s r (Differs p q at) t = (at ≡ t) × Disagree s r p q t
 
--- the reason lies at a slot from which a way leads here on which the register stays unset
+-- the reason is at a slot from which a path leads here, on which the register stays unset
 abbrev pub IsWhy : Study → ℕ → Why → ℕ → Type 0
 IsWhy s r why here = (t : ℕ) × (way : List ℕ) × IsReason s r why t × StaysUnset s r t way here
 
@@ -83,11 +85,11 @@ pub record IsUnsetAt (s : Study) (r here : ℕ) : Type 0 where
   pub there : frame_at s.table.items here ≡ Some frame
   pub unset : kind_at frame.kinds r ≡ Unset
 
--- a reason where the register isn't set at a slot, and none where it is, or no way leads there
+-- there is a reason if the register isn't set at a slot, and none if it is or no path reaches the slot
 pub record Explains (s : Study) (r : ℕ) (why : Why) (here : ℕ) : Type 0 where
   pub unset : IsUnsetAt s r here → IsWhy s r why here
   pub set : ¬ IsUnsetAt s r here → why ≡ Unknown
 
--- the same for each register
+-- each register is explained
 abbrev pub AreWhys : Study → List Why → ℕ → Type 0
 AreWhys s whys here = (r : ℕ) → r < REGISTERS → Explains s r (slice_index_or whys r Unknown) here

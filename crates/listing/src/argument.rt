@@ -11,7 +11,7 @@ use regtypes::Region;
 use span_verifier::is_inside;
 use spans::{Cells, Kind};
 
-/// A word of a payload that is no number.
+/// The cause at a payload's word that isn't known to be a number.
 fn payload_word(word: Option<usize>) -> Cause
     ensures { result ≡ payload_word word }
 {
@@ -21,7 +21,7 @@ fn payload_word(word: Option<usize>) -> Cause
     }
 }
 
-/// A place with bytes behind it.
+/// The cause at a register that is to be a place with this many bytes.
 fn payload_cause(frame: &Cells, reg: u8, bytes: u16, kind: Kind) -> Cause
     ensures { result ≡ payload_cause (kind_at frame.now.kinds) reg bytes kind }
 {
@@ -33,7 +33,7 @@ fn payload_cause(frame: &Cells, reg: u8, bytes: u16, kind: Kind) -> Cause
     }
 }
 
-/// A place with as many bytes behind it as a number says.
+/// The cause at a register that is to be a place with as many bytes as another register says.
 fn sized_cause(frame: &Cells, reg: u8, count_reg: u8, count: Kind) -> Cause
     requires { reg < 11 }
     ensures { result ≡ sized_cause (kind_at frame.now.kinds) reg count_reg count }
@@ -47,7 +47,7 @@ fn sized_cause(frame: &Cells, reg: u8, count_reg: u8, count: Kind) -> Cause
     }
 }
 
-/// The process that is sent to, or else the payload.
+/// The cause at the receiver of a send, or else the payload's.
 fn send_cause(frame: &Cells, other: Cause) -> Cause
     ensures { result ≡ send_cause (kind_at frame.now.kinds) other }
 {
@@ -70,7 +70,7 @@ fn given_cause(frame: &Cells, helper: i32) -> Cause
     }
 }
 
-/// V9: what a helper is given.
+/// V9: the argument that isn't what a helper takes.
 pub fn argument_cause(insn: &Insn, frame: &Cells) -> Cause
     ensures { result ≡ argument_cause insn.now (kind_at frame.now.kinds) }
 {

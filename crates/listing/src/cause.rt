@@ -1,4 +1,4 @@
-//! What breaks a rule at a slot, in a sentence, and what to do about it.
+//! What breaks a rule at a slot, as a sentence, and what to do about it.
 
 ghost use Rattle.std.specs.Prelude.{◌≡◌, ◌<◌, ◌≤◌, ◌+◌, ◌+ℤ◌, pos, ◌++◌, ◌∷◌, [], OnOk, length, string_bytes};
 ghost use Rattle.regtypes.specs.Flow.{flow_of};
@@ -34,7 +34,7 @@ fn is_place(frame: &Frame, reg: Option<Reg>) -> bool
     }
 }
 
-/// The first register that is read and isn't set.
+/// The first register that is read but not set.
 fn first_unset(frame: &Frame, what: &Attributes) -> Option<Reg>
     ensures { result ≡ first_with is_unset frame.now.kinds (what.now.number ∷ what.now.operand ∷ what.now.copied ∷ base_of what.now.access ∷ moved_of what.now.moved ∷ []) }
 {
@@ -56,7 +56,7 @@ fn first_unset(frame: &Frame, what: &Attributes) -> Option<Reg>
     None
 }
 
-/// The first register that is read as a number and holds a place.
+/// The first register that is read as a number but holds a place.
 fn first_place(frame: &Frame, what: &Attributes) -> Option<Reg>
     ensures { result ≡ first_with is_place frame.now.kinds (what.now.number ∷ what.now.operand ∷ []) }
 {
@@ -69,7 +69,7 @@ fn first_place(frame: &Frame, what: &Attributes) -> Option<Reg>
     None
 }
 
-/// Writes a register and what is the matter with it.
+/// Writes a register, if there is one, and what is wrong with it.
 fn push_about(out: &mut String, reg: Option<Reg>, text: &str) -> Result<(), AllocError>
     ensures { OnOk result (string_bytes out.new ≡ string_bytes out.old ++ about reg text.now) }
 {
@@ -82,7 +82,7 @@ fn push_about(out: &mut String, reg: Option<Reg>, text: &str) -> Result<(), Allo
     }
 }
 
-/// The slot that a jump leads to, which may not be there.
+/// The slot to which a jump leads. It may not be there.
 fn target_of(slot: usize, distance: i32) -> i64
     requires { slot < SLOTS }
     ensures { result ≡ pos (slot + 1) +ℤ distance }
@@ -90,7 +90,7 @@ fn target_of(slot: usize, distance: i32) -> i64
     slot as i64 + 1 + i64::from(distance)
 }
 
-/// Writes where a jump leads.
+/// Writes to which slot a jump leads.
 pub fn push_jump_cause(
     out: &mut String,
     slots: usize,
@@ -126,7 +126,7 @@ fn push_flow_cause(
     }
 }
 
-/// Writes which register is taken for what it isn't.
+/// Writes which register is a place where a number is needed, or the other way round.
 fn push_mixed_cause(out: &mut String, frame: &Frame, what: &Attributes) -> Result<(), AllocError>
     ensures { OnOk result (string_bytes out.new ≡ string_bytes out.old ++ mixed_cause (first_with is_place frame.now.kinds (what.now.number ∷ what.now.operand ∷ [])) what.now.access) }
 {
@@ -158,7 +158,7 @@ fn push_move_cause(out: &mut String, moved: Option<(Reg, i64)>) -> Result<(), Al
     }
 }
 
-/// Writes how many bytes are reached at a place.
+/// Writes how many bytes at a place an access reaches.
 fn push_bytes_cause(
     out: &mut String,
     bytes: u8,
@@ -174,7 +174,7 @@ fn push_bytes_cause(
     out.push_str(" lie there")
 }
 
-/// Writes which bytes are reached, or which place is moved.
+/// Writes which bytes an access reaches, or which place is moved.
 fn push_out_cause(
     out: &mut String,
     frame: &Frame,
@@ -211,7 +211,7 @@ fn push_helper_cause(out: &mut String, form: ImageForm, insn: &Insn) -> Result<(
     }
 }
 
-/// Writes that an argument is to be a number.
+/// Writes that an argument has to be a number.
 pub fn push_count_cause(out: &mut String, number: usize) -> Result<(), AllocError>
     ensures { OnOk result (string_bytes out.new ≡ string_bytes out.old ++ count_cause number) }
 {

@@ -9,8 +9,9 @@ use images::{FileForm, parts};
 use std::alloc::Global;
 use verifier::ImageError;
 
-/// The listing of an image file, of code that the verifier accepts and of code that it refuses, by the rules of the
-/// file's form. A file that can't be read is refused with its first fault in the order header, code.
+/// The listing of an image file, by the rules of its form, whether the verifier accepts its code or
+/// refuses it. A file that can't be read is refused with its first fault, of the header or then of
+/// the code.
 pub fn explain_file(alloc: Global, bytes: &[u8]) -> Result<String, ImageError>
     ensures listing { IfOk result (λ text. IsFileExplained bytes.now (string_bytes text)) }
     ensures refused { IfErr result (IsUnread bytes.now) }

@@ -9,7 +9,7 @@ use decode::Reg;
 use regtypes::{Access, Region};
 use spans::{Cells, Kind, Reach};
 
-/// What may be wrong with a register or a word of the stack.
+/// What can be wrong with a register or a word of the stack.
 #[derive(Clone, Copy)]
 pub enum Flaw {
     /// Nothing is known of it.
@@ -33,7 +33,7 @@ fn has_flaw(flaw: Flaw, kind: Kind) -> bool
     }
 }
 
-/// Whether a register has a flaw, where there is one.
+/// Whether a register has a flaw. `None` has none.
 pub fn is_flawed(flaw: Flaw, frame: &Cells, reg: Option<Reg>) -> bool
     ensures { result ≡ is_flawed flaw (kind_at frame.now.kinds) reg }
 {
@@ -43,14 +43,14 @@ pub fn is_flawed(flaw: Flaw, frame: &Cells, reg: Option<Reg>) -> bool
     }
 }
 
-/// A distance that an offset changes.
+/// A distance plus an offset.
 pub fn distance_at(at: i16, offset: i16) -> i64
     ensures { result ≡ at +ℤ offset }
 {
     i64::from(at) + i64::from(offset)
 }
 
-/// Where bytes end that begin at an offset from a place.
+/// The end of the bytes that begin at an offset from a place.
 fn end(at: i16, offset: i16, bytes: u16) -> i64
     ensures { result ≡ at +ℤ offset +ℤ pos bytes }
 {
@@ -70,7 +70,7 @@ fn reaches(reach: Reach, offset: i16, bytes: u16, cell: u16) -> bool
         && distance_at(reach.lo, offset) < i64::from(first + 8)
 }
 
-/// The cell, where an access may reach its word and it has the flaw.
+/// The cell, if an access may reach its word and it has the flaw.
 fn flawed_cell(
     flaw: Flaw,
     frame: &Cells,
@@ -89,7 +89,7 @@ fn flawed_cell(
     }
 }
 
-/// The first cell with a flaw of those that an access of the stack may reach.
+/// The first cell with a flaw among those that an access to the stack may reach.
 fn first_word(flaw: Flaw, frame: &Cells, reach: Reach, offset: i16, bytes: u16) -> Option<usize>
     ensures { result ≡ first_word 64 flaw (kind_at frame.now.kinds) reach offset bytes }
 {
@@ -100,7 +100,7 @@ fn first_word(flaw: Flaw, frame: &Cells, reach: Reach, offset: i16, bytes: u16) 
     found
 }
 
-/// The same of an access through a base of this kind.
+/// The first such cell for an access through a base of this kind.
 pub fn flawed_word(flaw: Flaw, frame: &Cells, base: Kind, offset: i16, bytes: u16) -> Option<usize>
     ensures { result ≡ flawed_word flaw (kind_at frame.now.kinds) base offset bytes }
 {
@@ -110,7 +110,7 @@ pub fn flawed_word(flaw: Flaw, frame: &Cells, base: Kind, offset: i16, bytes: u1
     }
 }
 
-/// The same of the access of an instruction.
+/// The first such cell for the access of an instruction.
 pub fn reached_word(flaw: Flaw, frame: &Cells, access: Option<Access>) -> Option<usize>
     ensures { result ≡ reached_word flaw (kind_at frame.now.kinds) access }
 {

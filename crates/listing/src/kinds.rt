@@ -10,7 +10,7 @@ use limits::STACK_BYTES;
 use regtypes::{Kind, Region};
 use std::alloc::AllocError;
 
-/// How many bytes a region has at least: the message of `low`, the state of `state_len`.
+/// The least size of a region in bytes: of the message `low`, of the state `state_len`.
 fn region_len(region: Region, low: u16, state_len: u16) -> u16
     ensures { result ≡ region_len low state_len region }
 {
@@ -32,7 +32,7 @@ pub fn region_word(region: Region) -> &'static str
     }
 }
 
-/// Writes a number behind its sign.
+/// Writes a number with its sign before it.
 pub fn push_signed(out: &mut String, number: i64) -> Result<(), AllocError>
     ensures { OnOk result (string_bytes out.new ≡ string_bytes out.old ++ signed_text number) }
 {

@@ -1,15 +1,18 @@
-//! Listings of image files for those who write handlers.
+//! Listings of image files for writers of handlers.
 //!
-//! [`explain_file`] writes the code of an image file of any form slot by slot. Under each instruction that a path leads to
-//! stands what is known of the registers that it reads; in form 3 also of the word of the stack that it loads or keeps a
-//! place in. If the verifier refuses the code, the slot that it names has the rule that is broken, what breaks it, and what
-//! to do about it. A register that is not set there has the reason. [`explain`] does so for forms 1 and 2 alone.
+//! [`explain_file`] writes the code of an image file of any form, slot by slot. Under each
+//! instruction that a path reaches, it says what is known of the registers that the instruction
+//! reads. In form 3 it also says so of the stack's word that the instruction loads, or in which it
+//! keeps a place. If the verifier refuses the code, the slot that it names has the broken rule,
+//! what breaks it, and what to do about that. A register that is not set there has the reason.
+//! [`explain`] does the same for forms 1 and 2 only.
 //!
-//! The promise: the text is the listing of the frames and of the verdict that the verifier has for the code of the file:
-//! `verifier::frames_of` of forms 1 and 2, `span_verifier::frames_of` of form 3. So a file is called refused by a rule at a
-//! slot exactly where it is refused so when it is loaded, and what is said of a register or of a word is what the least
-//! typing says; of code that is refused, that of the slots up to the one that is named. Of a register that isn't set a
-//! reason is named only where it holds (`specs/Why.antt`).
+//! The text is the listing of the verifier's frames and verdict for the file's code: those of
+//! `verifier::frames_of` for forms 1 and 2, and of `span_verifier::frames_of` for form 3. So a file
+//! is listed as refused by a rule at a slot exactly if it is refused so when it is loaded. What the
+//! listing says of a register or a word is what the least typing says; for refused code, up to the
+//! slot that is named. A reason why a register isn't set is given only if it holds
+//! (`specs/Why.antt`).
 //!
 //! ```text
 //! let text = explain_file(alloc, &bytes)?;

@@ -63,7 +63,7 @@ fn push_register(
     out.push('\n')
 }
 
-/// Writes the registers that an instruction reads.
+/// Writes what is known of the registers that an instruction reads.
 fn push_known(
     out: &mut String,
     study: &Study,
@@ -82,7 +82,7 @@ fn push_known(
     Ok(())
 }
 
-/// Writes which rule is broken at a slot, and by what.
+/// Writes which rule is broken at a slot, and what breaks it.
 fn push_broken(
     out: &mut String,
     study: &Study,
@@ -128,7 +128,7 @@ fn push_refusal(
     push_advice(out, rule)
 }
 
-/// Writes what is said under an instruction.
+/// Writes the lines under an instruction.
 fn push_notes(
     out: &mut String,
     study: &Study,
@@ -151,7 +151,7 @@ fn push_notes(
     }
 }
 
-/// Writes the instruction that begins at a slot, if one does, and what is said of it.
+/// Writes the instruction that begins at a slot, if there is one, and the lines under it.
 fn push_slot(
     alloc: Global,
     out: &mut String,
@@ -178,7 +178,7 @@ fn push_refused(out: &mut String, rule: Rule, slot: usize) -> Result<(), AllocEr
     writeln!(out, "{slot}")
 }
 
-/// Writes the verdict, in the words of `check`.
+/// Writes the verdict as `check` prints it.
 pub fn push_verdict(
     out: &mut String,
     count: usize,
@@ -201,7 +201,7 @@ fn push_head(out: &mut String, study: &Study) -> Result<(), AllocError>
     writeln!(out, "{state_len} bytes of state")
 }
 
-/// Why the registers are unset that are so at the slot that is refused.
+/// Why registers are unset at the slot that is refused.
 fn reasons_of(study: &Study) -> [Why; REGISTERS]
     ensures { AreReasons study.now result study.now.refusal }
 {
@@ -211,7 +211,7 @@ fn reasons_of(study: &Study) -> [Why; REGISTERS]
     }
 }
 
-/// The listing of a study (docs/FORMATS.md, "Listing"). Only memory can run out.
+/// The listing of a study (docs/FORMATS.md, "Listing"). The only error is lack of memory.
 pub fn listing_of(alloc: Global, study: &Study) -> Result<String, AllocError>
     requires { length study.now.slots.items ≤ SLOTS }
     ensures { IfOk result (λ text. IsListing study.now (string_bytes text)) }
@@ -226,8 +226,8 @@ pub fn listing_of(alloc: Global, study: &Study) -> Result<String, AllocError>
     Ok(out)
 }
 
-/// The listing of an image file, of code that the verifier accepts and of code that it refuses. A file that can't be
-/// read is refused with its first fault in the order header, code.
+/// The listing of an image file, whether the verifier accepts its code or refuses it. A file that
+/// can't be read is refused with its first fault, of the header or then of the code.
 pub fn explain(alloc: Global, bytes: &[u8]) -> Result<String, ImageError>
     ensures listing { IfOk result (λ text. IsExplained bytes.now (string_bytes text)) }
     ensures refused { IfErr result (IsUnread bytes.now) }

@@ -1,4 +1,5 @@
-//! What is said under an instruction: what is known of what it reads, and which of its ways nothing takes.
+//! The lines under an instruction: what is known of what it reads, and which branch no number
+//! takes.
 
 ghost use Rattle.std.specs.Prelude.{◌≡◌, ◌<◌, ◌≤◌, ◌++◌, Some, OnOk, string_bytes};
 ghost use Rattle.std.specs.Option.{option_map};
@@ -35,7 +36,7 @@ fn push_register(
     out.push_str("\n")
 }
 
-/// What is known of a cell; nothing behind the last.
+/// What is known of a cell. Of cells after the last nothing is known.
 fn kind_in(frame: &Cells, cell: usize) -> Kind
     ensures { result ≡ kind_at frame.now.kinds cell }
 {
@@ -46,7 +47,7 @@ fn kind_in(frame: &Cells, cell: usize) -> Kind
     }
 }
 
-/// The cell of a word of the stack that an access takes as a whole.
+/// The cell of the stack's word that an access reads or writes as a whole.
 fn word_at(base: Kind, offset: i16, bytes: u8) -> Option<usize>
     ensures { result ≡ word_at base offset bytes }
 {
@@ -58,7 +59,7 @@ fn word_at(base: Kind, offset: i16, bytes: u8) -> Option<usize>
     }
 }
 
-/// Writes a word of the stack with a kind.
+/// Writes a word of the stack and what is known of it.
 fn push_word_line(
     out: &mut String,
     state_len: u16,
@@ -102,7 +103,7 @@ fn push_kept(
     }
 }
 
-/// Writes the word of the stack that a load reads, or that keeps the place that is stored.
+/// Writes the word of the stack that a load reads, or in which a store keeps a place.
 fn push_stack(
     out: &mut String,
     state_len: u16,
@@ -152,7 +153,7 @@ pub fn push_known(
     push_stack(out, state_len, insn, frame)
 }
 
-/// Writes which way of a jump nothing takes.
+/// Writes which branch of a jump no number takes.
 fn push_dead(
     out: &mut String,
     next: Option<(Span, Span)>,
@@ -190,7 +191,8 @@ fn push_jump(out: &mut String, insn: &Insn, frame: &Cells) -> Result<(), AllocEr
     }
 }
 
-/// The same at a slot, if a way leads there.
+/// Writes whether all numbers take the conditional jump at a slot, or none, if a path reaches the
+/// slot.
 pub fn push_ways(out: &mut String, insn: &Insn, frame: &Option<Cells>) -> Result<(), AllocError>
     ensures { OnOk result (string_bytes out.new ≡ string_bytes out.old ++ ways_known insn.now (option_map frame_of frame.now)) }
 {

@@ -8,7 +8,7 @@ ghost use Rattle.listing.specs.Reads.{is_given, is_named, is_numbered, is_read};
 use decode::{Insn, Reg};
 use regtypes::{Access, Attributes, ImageForm, attributes_from};
 
-/// Whether this is the register with a number.
+/// Whether this is the register with this number.
 fn is_numbered(reg: Option<Reg>, number: u8) -> bool
     ensures { result ≡ is_numbered number reg }
 {
@@ -18,7 +18,7 @@ fn is_numbered(reg: Option<Reg>, number: u8) -> bool
     }
 }
 
-/// The register at which an access begins.
+/// The base register of an access.
 pub fn base(access: Option<Access>) -> Option<Reg>
     ensures { result ≡ base_of access }
 {
@@ -48,7 +48,7 @@ fn is_named(what: &Attributes, number: u8) -> bool
                     || is_numbered(shifted(what.moved), number))))
 }
 
-/// Whether a helper is given a register.
+/// Whether a helper takes this register as an argument.
 fn is_given(form: ImageForm, helper: i32, number: u8) -> bool
     ensures { result ≡ is_given number (arguments_of form helper) }
 {
@@ -61,7 +61,7 @@ fn is_given(form: ImageForm, helper: i32, number: u8) -> bool
     }
 }
 
-/// Whether an instruction reads the register with a number.
+/// Whether an instruction reads the register with this number.
 pub fn is_read(form: ImageForm, insn: &Insn, number: u8) -> bool
     ensures { result ≡ is_read form insn.now number }
 {

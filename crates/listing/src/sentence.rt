@@ -28,7 +28,7 @@ fn register_words(fault: RegisterFault) -> &'static str
     }
 }
 
-/// Writes what is the matter with a word of the stack.
+/// Writes what is wrong with a word of the stack.
 fn push_word_words(out: &mut String, fault: WordFault) -> Result<(), AllocError>
     ensures { OnOk result (string_bytes out.new ≡ string_bytes out.old ++ word_words fault) }
 {
@@ -54,7 +54,7 @@ fn push_word_words(out: &mut String, fault: WordFault) -> Result<(), AllocError>
     }
 }
 
-/// Writes two registers that are added.
+/// Writes which two registers are added.
 fn push_sum(out: &mut String, first: Reg, second: Reg) -> Result<(), AllocError>
     ensures { OnOk result (string_bytes out.new ≡ string_bytes out.old ++ (reg_text first ++ codes " and " ++ reg_text second ++ codes " are added, and both hold places")) }
 {
@@ -67,7 +67,7 @@ fn push_sum(out: &mut String, first: Reg, second: Reg) -> Result<(), AllocError>
     )
 }
 
-/// Writes the bytes that are reached.
+/// Writes which bytes an access reaches.
 fn push_outside(
     out: &mut String,
     bytes: u8,
@@ -83,7 +83,7 @@ fn push_outside(
     out.push_str(" lie there")
 }
 
-/// Writes by what a place is moved.
+/// Writes by how much a place is moved.
 fn push_moved(out: &mut String, reg: Reg, span: Span) -> Result<(), AllocError>
     ensures { OnOk result (string_bytes out.new ≡ string_bytes out.old ++ (reg_text reg ++ codes " is moved by " ++ range_text span ++ codes ", out of the places from -32768 to 32767")) }
 {
@@ -92,7 +92,7 @@ fn push_moved(out: &mut String, reg: Reg, span: Span) -> Result<(), AllocError>
     out.push_str(", out of the places from -32768 to 32767")
 }
 
-/// Writes what an argument is to be.
+/// Writes what an argument has to be.
 fn push_payload(out: &mut String, reg: u8, bytes: u16) -> Result<(), AllocError>
     ensures { OnOk result (string_bytes out.new ≡ string_bytes out.old ++ (codes "r" ++ decimal reg ++ codes " is to be a place, with " ++ decimal bytes ++ codes " bytes from there on in its region")) }
 {
@@ -100,7 +100,7 @@ fn push_payload(out: &mut String, reg: u8, bytes: u16) -> Result<(), AllocError>
     push_with(out, "", bytes.into(), " bytes from there on in its region")
 }
 
-/// Writes a word of the stack and what is the matter with it.
+/// Writes a word of the stack and what is wrong with it.
 fn push_word_cause(out: &mut String, cell: usize, fault: WordFault) -> Result<(), AllocError>
     ensures { OnOk result (string_bytes out.new ≡ string_bytes out.old ++ (codes "the word at " ++ word_text cell ++ word_words fault)) }
 {
@@ -181,19 +181,19 @@ const INDEX: &str =
 const ANY_INDEX: &str =
     "compare the index with a number (if (i >= N) return 1;), or mask it (i & (N - 1), N a power of two), on each way that leads here, before it is added; % bounds nothing where its divisor may be 0, or where clang makes div, mul and sub of it; where the C does so already, within(index, most); right above the access does so anew; one of a signed type, as int, may be negative: make it a u64, and compare that";
 
-/// What to do about a place that no index moves.
+/// What to do about an access outside a region, if no index moves its place.
 const REGION: &str =
     "stay inside the region: the message has 512 bytes with the zeros behind it, the local variables have 512, the state has as many as --state says";
 
-/// What to do about an index in the state.
+/// What to do about an index into the state.
 const STATE_INDEX: &str =
     "compare the index with a number (if (i >= N) return 1;), or mask it (i & (N - 1), N a power of two), on each way that leads here, before it is added; % bounds nothing where its divisor may be 0, or where clang makes div, mul and sub of it; where the C does so already, within(index, most); right above the access does so anew; or --state is too small";
 
-/// What to do about a place in the state that no index moves.
+/// What to do about an access outside the state, if no index moves its place.
 const STATE: &str =
     "stay inside the state, which has as many bytes as --state says, or pack it with a greater one";
 
-/// What to do about an access that reaches out of its region, from one distance to another.
+/// What to do about an access that reaches out of its region, at distances from `lo` to `hi`.
 fn outside_advice(region: Region, lo: i64, hi: i64) -> &'static str
     ensures { result.now ≡ outside_advice region lo hi }
 {

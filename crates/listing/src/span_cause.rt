@@ -1,4 +1,4 @@
-//! What breaks a rule at a slot.
+//! What breaks a rule of form 3 at a slot.
 
 ghost use Rattle.std.specs.Prelude.{◌≡◌, ◌∷◌, []};
 ghost use Rattle.regtypes.specs.Flow.{flow_of};
@@ -15,67 +15,67 @@ use decode::{AluOp, Insn, Operand, Reg, Width};
 use regtypes::{Access, Attributes, Flow, Region, Rule, attributes_from, flow_from};
 use spans::{Cells, Kind, Span};
 
-/// What is the matter with a register.
+/// What is wrong with a register.
 #[derive(Clone, Copy)]
 pub enum RegisterFault {
-    /// It is read and isn't set.
+    /// It is read but not set.
     Unset,
-    /// It is read as a number and holds a place.
+    /// It is read as a number but holds a place.
     PlaceAsNumber,
-    /// It is the base of a load or store and holds a number.
+    /// It is the base of a load or store but holds a number.
     NumberAsBase,
-    /// It holds a place, and is stored where none can be kept.
+    /// It holds a place, and is stored where no place can be kept.
     PlaceStored,
-    /// It is a place of the message, and is stored to.
+    /// It is a place in the message, and is stored to.
     Message,
 }
 
-/// What is the matter with a word of the stack.
+/// What is wrong with a word of the stack.
 #[derive(Clone, Copy)]
 pub enum WordFault {
-    /// It is read and isn't set.
+    /// It is read but not set.
     Unset,
-    /// It is no number, and a helper is given it.
+    /// A helper takes it as a number, and it isn't known to be one.
     NoNumber,
-    /// It holds a place, of which so many bytes are read.
+    /// It holds a place, and this many of its bytes are read.
     Read(u8),
-    /// It holds a place, of which so many bytes are written.
+    /// It holds a place, and this many of its bytes are written.
     Written(u8),
 }
 
 /// What breaks a rule.
 #[derive(Clone, Copy)]
 pub enum Cause {
-    /// Nothing that is known.
+    /// No cause is known.
     Nothing,
-    /// A jump by so many slots.
+    /// A jump by this many slots.
     Jump(i32),
-    /// There is no instruction behind.
+    /// No instruction follows.
     NothingFollows,
     /// r10 is written.
     FramePointer,
-    /// r0 is no number at the end.
+    /// r0 is no number at the exit.
     NoAnswer,
     OfRegister(Reg, RegisterFault),
     /// A word of the stack, by its cell.
     OfWord(usize, WordFault),
-    /// Two registers are added that hold places.
+    /// Two registers are added, and both hold places.
     SumOfPlaces(Reg, Reg),
-    /// So many bytes are reached in a region, from one of these distances to the other.
+    /// An access of this many bytes to a region, at distances from the first to the second number.
     Outside(u8, Region, i64, i64),
-    /// A place is moved by such a number, too far.
+    /// A place is moved too far by this number.
     MovedBy(Reg, Span),
-    /// A place is moved by an immediate, too far.
+    /// A place is moved too far by an immediate.
     ShiftedBy(Reg, i64),
-    /// There is no helper of this number.
+    /// There is no helper with this number.
     NoHelper(i32),
-    /// A helper's argument in this register is to be a number.
+    /// The argument of a helper in this register has to be a number.
     NoCount(u8),
-    /// One in this register is to be a place with so many bytes.
+    /// The argument in this register has to be a place with this many bytes.
     NoPayload(u8, u16),
 }
 
-/// V1: where an instruction jumps to.
+/// V1: the jump of an instruction.
 fn jump_of(flow: Flow) -> Cause
     ensures { result ≡ jump_of flow }
 {
@@ -86,7 +86,7 @@ fn jump_of(flow: Flow) -> Cause
     }
 }
 
-/// The first register that is read and isn't set.
+/// The first register that is read but not set.
 fn first_unset(frame: &Cells, what: &Attributes) -> Option<Reg>
     ensures { result ≡ first_flawed Missing (kind_at frame.now.kinds) (what.now.number ∷ what.now.operand ∷ what.now.copied ∷ base_of what.now.access ∷ moved_of what.now.moved ∷ []) }
 {
@@ -118,7 +118,7 @@ fn by_missing(reg: Option<Reg>, word: Option<usize>) -> Cause
     }
 }
 
-/// V3: what is read and isn't set.
+/// V3: the register or word that is read but not set.
 fn unset_cause(frame: &Cells, what: &Attributes) -> Cause
     ensures { result ≡ unset_cause (kind_at frame.now.kinds) what.now }
 {
@@ -126,7 +126,7 @@ fn unset_cause(frame: &Cells, what: &Attributes) -> Cause
     by_missing(first_unset(frame, what), word)
 }
 
-/// The first register that is read as a number and holds a place.
+/// The first register that is read as a number but holds a place.
 fn first_place(frame: &Cells, what: &Attributes) -> Option<Reg>
     ensures { result ≡ first_flawed Pointing (kind_at frame.now.kinds) (what.now.number ∷ what.now.operand ∷ []) }
 {
@@ -185,7 +185,7 @@ fn mixed_of(frame: &Cells, what: &Attributes) -> Cause
     mixed_by(frame, what.access, first_place(frame, what))
 }
 
-/// Two registers that are added, or else another cause.
+/// A sum of two registers, or else another cause.
 fn sum_or(insn: &Insn, other: Cause) -> Cause
     ensures { result ≡ sum_or insn.now other }
 {
@@ -200,7 +200,7 @@ fn sum_or(insn: &Insn, other: Cause) -> Cause
     }
 }
 
-/// V5: what is taken for what it isn't.
+/// V5: a number where a place is needed, or a place where a number is needed.
 fn mixed_cause(insn: &Insn, frame: &Cells) -> Cause
     ensures { result ≡ mixed_cause insn.now (kind_at frame.now.kinds) }
 {
@@ -241,7 +241,7 @@ fn out_by(frame: &Cells, access: Option<Access>, moved: Option<(Reg, i64)>) -> C
     }
 }
 
-/// By what a register moves another that it is added to, or else another cause.
+/// A register that moves another to which it is added, or else another cause.
 fn moved_or(insn: &Insn, frame: &Cells, other: Cause) -> Cause
     ensures { result ≡ moved_or insn.now (kind_at frame.now.kinds) other }
 {
@@ -256,7 +256,7 @@ fn moved_or(insn: &Insn, frame: &Cells, other: Cause) -> Cause
     }
 }
 
-/// V6: what is reached outside of a region, or moved too far.
+/// V6: an access outside a region, or a place that is moved too far.
 fn out_cause(insn: &Insn, frame: &Cells) -> Cause
     ensures { result ≡ out_cause insn.now (kind_at frame.now.kinds) }
 {

@@ -10,7 +10,7 @@ use regtypes::Region;
 use spans::{Kind, Span};
 use std::alloc::AllocError;
 
-/// How many bytes a region has.
+/// The size of a region in bytes.
 fn region_size(region: Region, state_len: u16) -> u16
     ensures { result ≡ region_size state_len region }
 {
@@ -21,14 +21,14 @@ fn region_size(region: Region, state_len: u16) -> u16
     }
 }
 
-/// Whether all words are among a span's numbers.
+/// Whether a span has all numbers of 64 bits.
 fn is_whole(span: Span) -> bool
     ensures { result ≡ is_whole span }
 {
     span.lo == 0 && span.hi == u64::MAX
 }
 
-/// Writes one number, or those from one to another.
+/// Writes one number, or the first and last of several.
 pub fn push_range(out: &mut String, span: Span) -> Result<(), AllocError>
     ensures { OnOk result (string_bytes out.new ≡ string_bytes out.old ++ range_text span) }
 {
@@ -39,7 +39,7 @@ pub fn push_range(out: &mut String, span: Span) -> Result<(), AllocError>
     write!(out, "{lo} to {hi}")
 }
 
-/// Writes what is known of a number, behind a space.
+/// Writes a space and what is known of a number.
 fn push_span(out: &mut String, span: Span) -> Result<(), AllocError>
     ensures { OnOk result (string_bytes out.new ≡ string_bytes out.old ++ span_text span) }
 {
@@ -50,7 +50,7 @@ fn push_span(out: &mut String, span: Span) -> Result<(), AllocError>
     push_range(out, span)
 }
 
-/// Writes one distance, or those from one to another.
+/// Writes one distance, or the first and last of several.
 fn push_distances(out: &mut String, lo: i64, hi: i64) -> Result<(), AllocError>
     ensures { OnOk result (string_bytes out.new ≡ string_bytes out.old ++ distances_text lo hi) }
 {
@@ -77,7 +77,7 @@ pub fn push_places(
     push_with(out, " of ", size.into(), "")
 }
 
-/// Writes what is known.
+/// Writes what is known of a register or of a word of the stack.
 pub fn push_kind(out: &mut String, kind: Kind, state_len: u16) -> Result<(), AllocError>
     ensures { OnOk result (string_bytes out.new ≡ string_bytes out.old ++ kind_text state_len kind) }
 {
@@ -93,7 +93,7 @@ pub fn push_kind(out: &mut String, kind: Kind, state_len: u16) -> Result<(), All
     }
 }
 
-/// How many bytes before the end of the stack the word of a cell begins.
+/// How far before the end of the stack the word of a cell begins, in bytes.
 pub fn distance_of(cell: usize) -> usize
     ensures { result ≡ 600 - 8 * cell }
 {

@@ -21,7 +21,7 @@ use regtypes::Rule;
 use spans::Cells;
 use std::alloc::{AllocError, Global};
 
-/// Writes which rule is broken, by what, and what to do about that.
+/// Writes which rule is broken, what breaks it, and what to do about that.
 fn push_broken(
     out: &mut String,
     study: &SpanStudy,
@@ -58,7 +58,7 @@ fn push_refusal(
     }
 }
 
-/// Writes what is said under an instruction.
+/// Writes the lines under an instruction.
 fn push_notes(
     out: &mut String,
     study: &SpanStudy,
@@ -83,7 +83,7 @@ fn push_notes(
     }
 }
 
-/// Writes the instruction that begins at a slot, if one does, and what is said of it.
+/// Writes the instruction that begins at a slot, if there is one, and the lines under it.
 fn push_slot(
     alloc: Global,
     out: &mut String,
@@ -122,9 +122,9 @@ fn listing_of(alloc: Global, study: &SpanStudy) -> Result<String, AllocError>
     Ok(out)
 }
 
-/// The listing of code of form 3 with a state of so many bytes (docs/FORMATS.md, "Listing"), of code that the
-/// verifier accepts and of code that it refuses. The instructions are given in 1 to 1,024 slots. Only memory can
-/// run out.
+/// The listing of code of form 3, 1 to 1,024 slots, with a state of `state_len` bytes
+/// (docs/FORMATS.md, "Listing"), whether the verifier accepts the code or refuses it. The only
+/// error is lack of memory.
 pub fn explain(alloc: Global, code: &[Insn], state_len: u16) -> Result<String, AllocError>
     requires some { 0 < length code.now }
     requires slots { length (slots_of code.now) ≤ SLOTS }

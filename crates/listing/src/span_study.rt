@@ -1,4 +1,4 @@
-//! Code with what is known at each slot.
+//! Code of form 3, with what is known at each slot.
 
 ghost use Rattle.std.specs.Prelude.{◌≡◌, ◌<◌, ◌≤◌, IfOk, length};
 ghost use Rattle.std.specs.List.{AllByRecursion};
@@ -12,12 +12,12 @@ use span_verifier::{Frames, frames_of};
 use spans::Cells;
 use std::alloc::{AllocError, Global};
 
-/// Code slot by slot, with what the verifier's pass over it finds.
+/// The slots of code, with the verifier's results for it.
 #[derive(Drop)]
 pub struct SpanStudy {
     /// How many bytes the state has.
     pub state_len: u16,
-    /// How many instructions there are. A wide one counts once.
+    /// How many instructions there are. One of two slots counts once.
     pub count: usize,
     /// The slots, what is known at each, and the refusal, if there is one.
     pub frames: Frames,
@@ -40,7 +40,7 @@ impl SpanStudy {
         }
     }
 
-    /// What is known at a slot, if a way leads there.
+    /// What is known at a slot, if a path reaches it.
     pub fn cells_at(&self, slot: usize) -> Option<Cells>
         ensures { option_map frame_of result ≡ frame_at self.now slot }
     {
@@ -52,7 +52,7 @@ impl SpanStudy {
     }
 }
 
-/// Instructions with their frames and their verdict.
+/// The study of instructions.
 pub fn study_of(alloc: Global, code: &[Insn], state_len: u16) -> Result<SpanStudy, AllocError>
     requires some { 0 < length code.now }
     requires slots { length (slots_of code.now) ≤ SLOTS }

@@ -1,4 +1,4 @@
-//! Image files with what is known of the registers at each slot.
+//! Image files of forms 1 and 2, with what is known of the registers at each slot.
 
 ghost use Rattle.std.specs.Prelude.{IfErr, IfOk};
 ghost use Rattle.verifier.specs.ImageFile.{IsUnread};
@@ -9,20 +9,20 @@ use regtypes::{Frame, ImageForm, Rule};
 use std::alloc::Global;
 use verifier::{Frames, ImageError, frames_of, parts};
 
-/// The code of an image file slot by slot, with what the verifier's pass over it finds.
+/// The slots of an image file's code, with the verifier's results for it.
 #[derive(Debug, Drop)]
 pub struct Study {
     pub form: ImageForm,
     /// How many bytes the state has.
     pub state_len: u16,
-    /// How many instructions there are. A wide one counts once.
+    /// How many instructions there are. One of two slots counts once.
     pub count: usize,
     /// For each slot the instruction that begins there.
     pub slots: Vec<Option<Insn>>,
-    /// For each slot what is known of the registers, if a way leads there. Where the code is refused, that is final up
-    /// to the slot that is named.
+    /// For each slot what is known of the registers, if a path reaches it. If the code is refused,
+    /// that is final up to the slot that is named.
     pub table: Vec<Option<Frame>>,
-    /// The rule that is broken and the slot, where the verifier refuses the code.
+    /// The broken rule and its slot, if the verifier refuses the code.
     pub refusal: Option<(Rule, usize)>,
 }
 
@@ -41,7 +41,7 @@ impl Study {
         }
     }
 
-    /// What is known at a slot, if a way leads there.
+    /// What is known at a slot, if a path reaches it.
     pub fn frame_at(&self, slot: usize) -> Option<Frame>
         ensures { result ≡ frame_at self.now.table.items slot }
     {
@@ -52,8 +52,8 @@ impl Study {
     }
 }
 
-/// The code of an image file with its frames and its verdict. A file that can't be read is refused with its first fault
-/// in the order header, code; no rule of the verifier refuses one here.
+/// The study of an image file. A file that can't be read is refused with its first fault, of the
+/// header or then of the code. No rule of the verifier is a reason for that.
 pub fn study_of(alloc: Global, bytes: &[u8]) -> Result<Study, ImageError>
     ensures found { IfOk result (IsStudy bytes.now) }
     ensures refused { IfErr result (IsUnread bytes.now) }

@@ -15,29 +15,29 @@ use regtypes::{Flow, Frame, Kind, flow_from, transfer};
 pub enum Why {
     /// No reason was found.
     Unknown,
-    /// It is unset as a call begins, and never set on a way from there.
+    /// It is unset when a call begins, and some path from there never sets it.
     Never,
-    /// The helper that is called at this slot has unset it.
+    /// The call of a helper at this slot has unset it.
     Lost(usize),
-    /// What the first two slots leave in it differs where they both lead to the third.
+    /// The first two slots lead to the third, and what they leave in the register differs.
     Differs(usize, usize, usize),
 }
 
-/// How a register comes to a slot: unset from this slot, or there is the reason why it is unset.
+/// Why a register is unset at a slot: because it is so at an earlier slot, or for a reason.
 #[derive(Clone, Copy)]
 enum Arrival {
     Unset(usize),
     Reason(Why),
 }
 
-/// Whether a jump by this distance leads from a slot to another.
+/// Whether a jump by this distance leads from one slot to another.
 fn jumps(from: usize, distance: i32, to: usize) -> bool
     ensures { IsTrue result ↔ (pos (from + 1) +ℤ distance ≡ pos to) }
 {
     from as i128 + 1 + i128::from(distance) == to as i128
 }
 
-/// Whether an instruction leads from its slot to a later one. Behind a conditional jump there are two ways.
+/// Whether an instruction leads from its slot to a later one. A conditional jump leads to two.
 fn leads(flow: Flow, from: usize, to: usize) -> bool
     requires { from < to }
     ensures { IsTrue result ↔ LeadsTo flow from to }
@@ -50,15 +50,15 @@ fn leads(flow: Flow, from: usize, to: usize) -> bool
     }
 }
 
-/// What an instruction leaves in a register on its way to a later slot, if it leads there. That is the same on both ways
-/// of a conditional jump.
+/// What an instruction leaves in a register on its way to a later slot, if it leads there. A
+/// conditional jump leaves the same on both branches.
 fn kind_left(study: &Study, reg: Reg, from: usize, to: usize) -> Option<Kind>
     requires { from < to }
     ensures left { IfSome result (Leaves study.now reg.number from to) }
     ensures each { (k : Kind) → Passes study.now reg.number from to k → result ≡ Some k }
 {
     let insn = study.insn_at(from)?;
-    // Hardly any slot leads to this one: so that comes before what its instruction leaves is found.
+    // Few slots lead to this one, so this test comes first.
     if !leads(flow_from(&insn), from, to) {
         return None;
     }
@@ -69,7 +69,7 @@ fn kind_left(study: &Study, reg: Reg, from: usize, to: usize) -> Option<Kind>
     Some(left.next.kind(reg))
 }
 
-/// Whether a helper is called at a slot where the register holds something.
+/// Whether a helper is called at a slot at which the register is set.
 fn calls(study: &Study, reg: Reg, slot: usize) -> bool
     ensures { IsTrue result ↔ Calls study.now reg.number slot }
 {
@@ -82,7 +82,7 @@ fn calls(study: &Study, reg: Reg, slot: usize) -> bool
     }
 }
 
-/// Whether two kinds, of which both say something, say nothing together.
+/// Whether two kinds are both set, and their join isn't.
 fn clash(a: Kind, b: Kind) -> bool
     ensures { IsTrue result ↔ Clash a b }
 {
@@ -90,7 +90,7 @@ fn clash(a: Kind, b: Kind) -> bool
     a != b && !both
 }
 
-/// How a register that is unset comes to a slot.
+/// Why an unset register is unset at a slot.
 fn arrival_at(study: &Study, reg: Reg, at: usize) -> Arrival
     requires { 0 < at }
     ensures { Arrives study.now reg.number at result }
@@ -135,7 +135,7 @@ fn why_of(study: &Study, reg: Reg, slot: usize) -> Why
     }
 }
 
-/// Why each register is unset that is so at a slot.
+/// For each register that is unset at a slot, why it is.
 pub fn whys_at(study: &Study, slot: usize) -> [Why; REGISTERS]
     ensures { AreWhys study.now result slot }
 {

@@ -20,7 +20,7 @@ use Rattle.workers.specs.Shares.{AreServed}
 use Rattle.live.specs.declared.ended.Ended.{Ended}
 use Rattle.live.specs.Inside.{AreFresh, HasMemory, ended_of}
 use Rattle.live.specs.Live.{EndFrom, IsLive, answers_of}
-use Rattle.runner.specs.Results.{results_text}
+use Rattle.results.specs.Results.{results_text}
 
 -- ---- seats
 

@@ -9,7 +9,7 @@ use Rattle.scenario.specs.declared.order.Order.{Order}
 use Rattle.scenario.specs.declared.order.Order.TheVariants.{Input, Bytes}
 use Rattle.scenario.specs.declared.scenario.Step.{Step}
 use Rattle.live.specs.declared.ended.Ended.{Ended}
-use Rattle.runner.specs.Word.{message_word}
+use Rattle.results.specs.Word.{message_word}
 
 -- memory didn't run out for a worker
 abbrev pub HasMemory : {L : Type 0} → Share L → Type 0

@@ -8,7 +8,7 @@ use Rattle.world.specs.Legal.{Legal, world_of}
 use Rattle.sessions.specs.declared.share.End.TheVariants.{Budget, Refused}
 use Rattle.workers.specs.Continues.{are_allowed}
 use Rattle.live.specs.declared.ended.Ended.{Ended}
-use Rattle.runner.specs.Results.{results_text}
+use Rattle.results.specs.Results.{results_text}
 
 -- so ends the worker of this number that was given this budget: by the budget only where as many of its calls were accepted, with at
 -- most two more, and with none where the budget is none; and memory didn't run out for it

@@ -17,7 +17,7 @@ pub struct Ended {
     pub end: End,
 }
 
-/// How the workers of these shares ended, in their order.
+/// How the workers of these shares ended.
 pub(crate) fn ends_of<L: Ledger>(
     alloc: Global,
     shares: &[Share<L>],

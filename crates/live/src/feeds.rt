@@ -1,14 +1,14 @@
-//! Messages of the outside, as lines hand them in.
+//! The messages that a scenario hands in.
 
 ghost use Rattle.std.specs.Prelude.{◌≡◌, ◌+◌, IfOk, OnOk, length};
 ghost use Rattle.live.specs.Inside.{feed_of, feeds_of, with_feed};
 
-use runner::payload_of;
+use results::payload_of;
 use scenario::{Order, Step};
 use std::alloc::{AllocError, Global};
 use world::Feed;
 
-/// The message that an order hands in, with this number, if it does.
+/// The message that an order hands in, with this number.
 fn feed_of(order: &Order, number: u32) -> Option<Feed>
     ensures { result ≡ feed_of number order.now }
 {
@@ -27,8 +27,7 @@ fn feed_of(order: &Order, number: u32) -> Option<Feed>
     }
 }
 
-/// Puts the message that an order hands in behind these, with the next number. One above 2^32 - 1
-/// counts as want of memory.
+/// Appends the message that an order hands in, with the next number. After 2^32 - 1 it answers that memory ran out.
 fn push_feed(feeds: &mut Vec<Feed>, order: &Order) -> Result<(), AllocError>
     ensures { OnOk result (feeds.new.items ≡ with_feed feeds.old.items (feed_of (length feeds.old.items + 1) order.now)) }
 {

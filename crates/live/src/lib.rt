@@ -1,9 +1,9 @@
 //! Runs of a scenario's inputs by workers.
 //!
-//! [`live`] opens a session and runs workers on it, who are fed with the messages of the scenario. Its promise: it writes the
-//! trace and the report of a legal journal of the images that were given, whose entries are calls that workers may make; as
-//! many workers as were asked for ended, each within its budget, and the journal has as many entries as their calls were
-//! accepted; if memory runs out, nothing is written.
+//! [`live`] opens a session and runs workers on it, who hand in the messages of the scenario. Its promise: it writes the trace
+//! and the report of a legal journal of the given images, whose entries are calls that workers may make; as many workers ended
+//! as were asked for, each within its budget, and the journal has one entry for each of their accepted calls; if memory runs
+//! out, nothing is written.
 #![tactic(auto)]
 
 mod ended;

@@ -12,14 +12,14 @@ ghost use Rattle.workers.specs.Running.{CanRun, manned};
 ghost use Rattle.workers.specs.Shares.{AreServed};
 ghost use Rattle.live.specs.Inside.{HasMemory};
 ghost use Rattle.live.specs.Live.{IsLive};
-ghost use Rattle.runner.specs.Results.{results_text};
+ghost use Rattle.results.specs.Results.{results_text};
 
 use crate::ended::{Ended, ends_of};
 use crate::feeds::feeds_of;
 use handlers::Handler;
 use indexmap::IndexMap;
 use limits::{SEATS, WORKERS};
-use runner::{note_refused, push_results};
+use results::{note_refused, push_results};
 use scenario::{Process, Scenario};
 use sessions::{End, Session, Share};
 use std::alloc::{AllocError, Global};
@@ -37,8 +37,7 @@ fn have_memory<L: Ledger>(shares: &[Share<L>]) -> bool
     shares.iter().all(|share| !matches!(share.end, End::Refused(Refusal::Memory)))
 }
 
-/// Writes what a session came to that workers ran. Where memory ran out for one of them, nothing is
-/// written.
+/// Writes the trace and the report of a session that workers ran. If memory ran out for one of them, it writes nothing.
 fn push_closed<L: Ledger>(
     alloc: Global,
     out: &mut String,
@@ -56,7 +55,7 @@ fn push_closed<L: Ledger>(
     push_results(alloc, out, processes, closed.session.service())
 }
 
-// A session of this ledger, before the first call.
+/// A session of this ledger, before the first call.
 fn opened<L: Ledger>(
     alloc: Global,
     blank: Blank,
@@ -74,7 +73,7 @@ fn opened<L: Ledger>(
     }
 }
 
-// Runs workers on a session, which they can.
+/// Runs workers on a session.
 fn served<L: Ledger + Send + Sync, R: Threads + Wait + Sync>(
     rt: &R,
     alloc: Global,
@@ -100,7 +99,7 @@ fn served<L: Ledger + Send + Sync, R: Threads + Wait + Sync>(
     }
 }
 
-// Runs workers on a session of this ledger.
+/// Runs workers on a new session of this ledger.
 fn live_in<L: Ledger + Send + Sync, R: Threads + Wait + Sync>(
     rt: &R,
     alloc: Global,
@@ -129,11 +128,11 @@ fn live_in<L: Ledger + Send + Sync, R: Threads + Wait + Sync>(
     Ok(ended)
 }
 
-/// Runs so many workers, 1 to 16, on a session of these images, 1 to 15, as many as the scenario has
-/// processes. They are fed with the messages of its lines, numbered from 1; each ends where it made as
-/// many calls as the budget, and up to two more. It writes the trace and the report (docs/FORMATS.md)
-/// of the session that they leave, and answers how each ended, in the order of their numbers. Where
-/// memory runs out, also for one of them, nothing is written. The note is as `run` makes it.
+/// Runs workers, 1 to 16, on a session of these images, 1 to 15, one for each process of the scenario.
+/// They hand in the messages of its lines, numbered from 1; each ends after as many calls as the
+/// budget, and up to two more. Writes the trace and the report (docs/FORMATS.md) of the session that
+/// they leave, and answers how each ended, in the order of their numbers. If memory runs out, also for
+/// one of them, nothing is written. The note says what helpers refused.
 pub fn live<R: Threads + Wait + Sync>(
     rt: &R,
     alloc: Global,

@@ -11,23 +11,23 @@ use Rattle.lives.specs.Process.{Process, Up, Covered, Collects, Replays}
 use Rattle.lives.specs.System.{System, new_system, AreStored, Call, Did, Died, Calls, after_call, after_calls, StayExact, IsRunOf}
 use Rattle.lives.specs.Back.{HasBack, IsBack}
 
--- whether it is up, also where it waits for its checkpoint
+-- whether it is up, also while it waits for its checkpoint
 abbrev pub is_up : Process → Bool
 is_up (Up n) = true
 is_up (Covered n) = true
 is_up process = false
 
--- a process is killed only while all others are up. One that is down or comes back may be killed again, and the gateway at any moment
+-- a process is killed only while all others are up. One that is down or recovering may be killed again, and the gateway at any moment
 abbrev pub FailsAlone : ℕ → System → Call → Type 0
 FailsAlone n s (Died p) = (q : ℕ) → IsFirst n q → q ≢ p → is_up (s.processes q) ≡ true
 FailsAlone n s call = Unit {0}
 
--- each does: so at each moment all processes are up, but one at most
+-- this holds of each call: so at each moment all processes are up, except one at most
 abbrev pub OneAtATime : ℕ → System → List Call → Type 0
 OneAtATime n s [] = Unit {0}
 OneAtATime n s (k ∷ ks) = FailsAlone n s k × OneAtATime n (after_call s k) ks
 
--- then each process that is alive stays exact, whatever is handed over, late or twice
+-- then each process that is alive stays exact, whatever packets come late or twice
 abbrev pub LoneFailuresStayExact : Type 0
 LoneFailuresStayExact = (f : Answering) (n page tick : ℕ) (limits : ℕ → Limits) (len : ℕ → ℕ) (bytes : ℕ → List ℕ) (calls : List Call) → n ≤ 15 → AreStored n len bytes → Calls f n (new_system n limits len bytes page tick) calls
     → OneAtATime n (new_system n limits len bytes page tick) calls → StayExact n (new_system n limits len bytes page tick) calls
@@ -45,7 +45,7 @@ NothingIsLostAlone = (f : Answering) (n page tick : ℕ) (limits : ℕ → Limit
     → (after_calls (new_system n limits len bytes page tick) (calls ++ more)).processes p ≡ Up b
     → HasBack n (handlers_of f len) (after_calls (new_system n limits len bytes page tick) calls) (after_calls (new_system n limits len bytes page tick) (calls ++ more)) p a b
 
--- and what recovers keeps what it had
+-- a process that recovers keeps what it had
 abbrev pub RecoversExactlyAlone : Type 0
 RecoversExactlyAlone = (f : Answering) (n page tick : ℕ) (limits : ℕ → Limits) (len : ℕ → ℕ) (bytes : ℕ → List ℕ) (calls more : List Call) (p : ℕ) (old : TheCollecting) (new : TheReplaying) → n ≤ 15 → AreStored n len bytes
     → Calls f n (new_system n limits len bytes page tick) (calls ++ Did p (Replays new) ∷ more) → OneAtATime n (new_system n limits len bytes page tick) (calls ++ Did p (Replays new) ∷ more)

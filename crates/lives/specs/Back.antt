@@ -1,4 +1,4 @@
--- What comes back of a process is what was lost
+-- The process that comes back is the one that was lost
 use Rattle.std.specs.Prelude.{◌≡◌, ℕ, ◌+◌, ◌≤◌, List, ◌∷◌, ◌++◌, length, take}
 use Rattle.world.specs.declared.message.Message.{Message}
 use Rattle.world.specs.Handlers.{Handlers}
@@ -20,9 +20,9 @@ use Rattle.lives.specs.System.{System, new_system, AreStored, Call, Did, Calls, 
 abbrev pub length_of : TheNode → ℕ
 length_of n = n.base + length n.receipts.senders
 
--- the process p is up as the node a in the system s, which goes on to t, and is up there as b. All stand in s and in t, so what p received is
--- its history of then, and the state is the one after that. Up to the number up to which all are acknowledged at a the two histories are the
--- same. So where all are, and b has no more, it has the state that was
+-- the process p is up as the node a in the system s, which goes on to t, where p is up as b. All agree with a cluster in s and in t, so
+-- what p received is its history then, and its state is the one after that. Up to the RSN up to which all are acknowledged at a, the two
+-- histories are the same. So if all are, and b has no more messages, it has the state of a
 pub record HasBack (n : ℕ) (f : Handlers) (s t : System) (p : ℕ) (a b : TheNode) : Type 0 where
   pub acts : List Act
   pub more : List Act
@@ -42,7 +42,7 @@ pub record HasBack (n : ℕ) (f : Handlers) (s t : System) (p : ℕ) (a b : TheN
   pub same : take (run_at a) is ≡ take (run_at a) was
   pub back : run_at a ≡ length_of a → length_of b ≡ length_of a → b.state ≡ a.state
 
--- whatever happens between the two moments, where each that is alive stays exact
+-- whatever happens between the two moments, if each process that is alive stays exact
 abbrev pub NothingIsLost : Type 0
 NothingIsLost = (f : Answering) (n page tick : ℕ) (limits : ℕ → Limits) (len : ℕ → ℕ) (bytes : ℕ → List ℕ) (calls more : List Call) (p : ℕ) (a b : TheNode) → n ≤ 15 → AreStored n len bytes → IsFirst n p
     → Calls f n (new_system n limits len bytes page tick) (calls ++ more) → StayExact n (new_system n limits len bytes page tick) (calls ++ more)
@@ -50,12 +50,12 @@ NothingIsLost = (f : Answering) (n page tick : ℕ) (limits : ℕ → Limits) (l
     → (after_calls (new_system n limits len bytes page tick) (calls ++ more)).processes p ≡ Up b
     → HasBack n (handlers_of f len) (after_calls (new_system n limits len bytes page tick) calls) (after_calls (new_system n limits len bytes page tick) (calls ++ more)) p a b
 
--- how many messages it keeps that recovers
+-- how many messages a process keeps that recovers
 abbrev pub kept_of : TheCollecting → TheReplaying → ℕ
 kept_of old new = old.own.base + length new.plan
 
--- p recovers in the system s, which goes on to t: it had received what it keeps, and all is among that which was acknowledged without a gap;
--- these stay its first messages; and where it is up with just as many, its state is the one that it had after them
+-- p recovers in the system s, which goes on to t: it had received what it keeps, and all that was acknowledged without a gap is among that;
+-- these stay its first messages; and when it is up with just these, its state is the one that it had after them
 pub record IsBack (n : ℕ) (f : Handlers) (s t : System) (p : ℕ) (old : TheCollecting) (new : TheReplaying) : Type 0 where
   pub acts : List Act
   pub more : List Act

@@ -1,4 +1,5 @@
--- A worked list of calls of two processes: one is killed while the other is up, and comes back by what that and the gateway answer
+-- A worked list of calls of two processes: one is killed while the other is up, and comes back from the answers of the other and the
+-- gateway
 use Rattle.std.specs.Prelude.{◌≡◌, ℕ, List, [], ◌∷◌, true, false}
 use Rattle.packets.specs.declared.packet.Body.{Body}
 use Rattle.packets.specs.declared.packet.Body.TheVariants.{Ask, Told, Resume, Restored}
@@ -27,21 +28,21 @@ use Rattle.lives.specs.Worked.{sent}
 abbrev pub packet : ℕ → ℕ → Body → Packet
 packet from to b = record { count = 2; from = from; to = to; body = b }
 
--- its questions in its second life
+-- its questions in its second incarnation
 abbrev pub ask : ℕ → Packet
 ask to = packet 1 to (Ask 2 0)
 
 abbrev pub resume : ℕ → Packet
 resume to = packet 1 to (Resume 2 0 0)
 
--- and what is answered: there is nothing
+-- the answers: there is nothing
 abbrev pub told : ℕ → Packet
 told from = packet from 1 (Told 2 1 0 (flags_of true false true) [])
 
 abbrev pub restored : ℕ → Packet
 restored from = packet from 1 (Restored 2 1 0 0 (flags_of true false true) [])
 
--- ---- the gateway, with a page and ticks of these sizes
+-- ---- the gateway, with this size of a page and of a tick
 
 abbrev pub asked : ℕ → ℕ → TheGateway
 asked page tick = gateways.handed (ask 0) (new_gateway 2 page tick)
@@ -49,7 +50,7 @@ asked page tick = gateways.handed (ask 0) (new_gateway 2 page tick)
 abbrev pub resumed : ℕ → ℕ → TheGateway
 resumed page tick = gateways.handed (resume 0) (sent (asked page tick))
 
--- ---- the second process, with a state of so many zeros
+-- ---- the second process, with a state of zeros
 
 abbrev pub without : TheNode → TheNode
 without n = record n { out = [] }
@@ -60,7 +61,7 @@ other_asked len = nodes.handed (ask 2) (new_node usual 2 2 len)
 abbrev pub other_resumed : ℕ → TheNode
 other_resumed len = nodes.handed (resume 2) (without (other_asked len))
 
--- ---- the first, with another
+-- ---- the first process
 
 -- it comes back, and its questions are taken
 abbrev pub comes : ℕ → TheCollecting
@@ -69,7 +70,7 @@ comes len = revived usual (kept_of (new_node usual 1 2 len)) 2
 abbrev pub asks : ℕ → List Packet → TheCollecting
 asks len out = record (comes len) { own = record (comes len).own { out = out } }
 
--- the gateway has told it, and then the other
+-- the gateway has answered it, and then the other process
 abbrev pub hears : ℕ → TheCollecting
 hears len = collecting.handed (told 0) (asks len [])
 
@@ -121,7 +122,7 @@ worked len page tick =
     ∷ Did 1 (Up (up (has_answers len)))
     ∷ []
 
--- they are such calls, and the first process dies alone; then it is up in its second incarnation, as the other is in its first
+-- they are such calls, and the first process dies alone; then it is up in its second incarnation, and the other in its first
 pub record IsWorked (f : Answering) (len page tick : ℕ) (bytes : ℕ → List ℕ) : Type 0 where
   pub calls : Calls f 2 (new_system 2 (λ _. usual) (λ _. len) bytes page tick) (worked len page tick)
   pub alone : OneAtATime 2 (new_system 2 (λ _. usual) (λ _. len) bytes page tick) (worked len page tick)

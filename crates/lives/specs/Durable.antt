@@ -1,4 +1,4 @@
--- Durable processes, whatever fails and meets
+-- Durable processes, whatever fails
 use Rattle.std.specs.Prelude.{◌≡◌, ◌≢◌, ℕ, ◌≤◌, List, [], ◌∷◌, ◌++◌, length, map, drop, Some, Bool, true, ◌==◌, if◌then◌else◌}
 use Rattle.world.specs.declared.message.Message.{Message}
 use Rattle.world.specs.History.{Payload, nth}
@@ -23,12 +23,12 @@ use Rattle.lives.specs.System.{System, new_system, AreStored, Call, Gave, Did, R
 
 -- ---- what is stored
 
--- a log holds these messages, but the first, which it has dropped
+-- a log holds these messages, except the first ones, which it has dropped
 pub record IsRest (q : TheQueue) (xs : List Payload) : Type 0 where
   pub within : q.dropped ≤ length xs
   pub rest : drop q.dropped xs ≡ q.payloads
 
--- what is kept of the process p of n is what it has after these messages: how many there are, its state, and by destination what they send,
+-- the kept state of the process p is what it has after these messages: how many there are, its state, and by destination what they send,
 -- without what its log had dropped by then
 pub record IsAfter (n : ℕ) (f : Handlers) (p : ℕ) (h : List Message) (k : Kept) : Type 0 where
   pub me : k.me ≡ p
@@ -41,14 +41,14 @@ pub record IsAfter (n : ℕ) (f : Handlers) (p : ℕ) (h : List Message) (k : Ke
 abbrev pub AreAfter : ℕ → Handlers → ℕ → List Message → List ℕ → Type 0
 AreAfter n f p h bytes = (k : Kept) × (IsKept k bytes × IsAfter n f p h k)
 
--- ---- what is given, and handed out
+-- ---- what processes and the gateway gave
 
--- the message that a packet bears is, by its number, what was sent to its receiver. Of other packets this says nothing
+-- the message that a packet carries is, by its SSN, one that was sent to its receiver. Nothing is said of other packets
 abbrev pub IsOf : List Payload → Body → Type 0
 IsOf sent (Delivery i ssn x) = nth sent ssn ≡ Some x
 IsOf sent body = Unit {0}
 
--- these messages make p send the one that the packet bears
+-- these messages make p send the one that the packet carries
 abbrev pub IsSentBy : Handlers → ℕ → List Message → Packet → Type 0
 IsSentBy f p h x = IsOf (f.sends p h x.to) x.body
 
@@ -58,15 +58,15 @@ given_by p [] = []
 given_by p (Gave q x new ∷ ks) = if q == p then x ∷ given_by p ks else given_by p ks
 given_by p (k ∷ ks) = given_by p ks
 
--- all that it handed out
+-- all outputs that the gateway gave
 abbrev pub outputs_of : System → List Call → List Output
 outputs_of s [] = []
 outputs_of s (DidOut new ∷ ks) = handed_out s.gateway new ++ outputs_of (after_call s (DidOut new)) ks
 outputs_of s (k ∷ ks) = outputs_of (after_call s k) ks
 
--- ---- what is asked
+-- ---- premises
 
--- a process that replays goes on where all is replayed, as its function's contract says
+-- a process that replays goes on when all is replayed, as its function's contract says
 abbrev pub ReplaysAll : Process → Process → Type 0
 ReplaysAll (Replays n) (Replayed m) = is_over n ≡ true
 ReplaysAll old new = Unit {0}
@@ -76,30 +76,31 @@ abbrev pub ReplaysWhole : System → Call → Type 0
 ReplaysWhole s (Did q new) = ReplaysAll (s.processes q) new
 ReplaysWhole s call = Unit {0}
 
--- and by each of these
+-- so by each of these calls
 abbrev pub ReplayWhole : System → List Call → Type 0
 ReplayWhole s [] = Unit {0}
 ReplayWhole s (k ∷ ks) = ReplaysWhole s k × ReplayWhole (after_call s k) ks
 
--- where p comes back, it does as a durable one
+-- if p comes back by this call, it comes back as durable
 abbrev pub KeepsDurable : ℕ → System → Call → Type 0
 KeepsDurable p s (Revived q life new) = p ≡ q → new.own.limits.durable ≡ true
 KeepsDurable p s call = Unit {0}
 
--- each time
+-- so by each of these calls
 abbrev pub StaysDurable : ℕ → System → List Call → Type 0
 StaysDurable p s [] = Unit {0}
 StaysDurable p s (k ∷ ks) = KeepsDurable p s k × StaysDurable p (after_call s k) ks
 
 -- ---- what is promised
 
--- a node that is up has what it has after these messages, or more
+-- a node that is up has what it has after these messages, or after more
 pub record HasAfter (f : Handlers) (p : ℕ) (h : List Message) (m : TheNode) : Type 0 where
   pub rest : List Message
   pub many : length (h ++ rest) ≡ length_of m
   pub state : f.state p (h ++ rest) ≡ m.state
 
--- of p there was stored what it has after some messages, and later what it has after these, or more; and where it is up then, it has no less
+-- what was stored of p is what it has after some messages, and later what it has after these or more; and when it is up then, it has no
+-- less
 pub record Stays (n : ℕ) (f : Handlers) (p : ℕ) (s t : System) : Type 0 where
   pub was : List Message
   pub more : List Message
@@ -107,13 +108,13 @@ pub record Stays (n : ℕ) (f : Handlers) (p : ℕ) (s t : System) : Type 0 wher
   pub stored_is : AreAfter n f p (was ++ more) (t.stored p)
   pub up : (m : TheNode) → t.processes p ≡ Up m → HasAfter f p (was ++ more) m
 
--- whatever happens between the two moments: each may be killed at any moment, all at once too, and those that come back may meet
+-- whatever happens between the two moments: processes may be killed at any moment, all at once too, and recoveries may meet
 abbrev pub StoredStays : Type 0
 StoredStays = (f : Answering) (n page tick : ℕ) (limits : ℕ → Limits) (len : ℕ → ℕ) (bytes : ℕ → List ℕ) (calls more : List Call) (p : ℕ) → AreStored n len bytes → IsFirst n p
     → Calls f n (new_system n limits len bytes page tick) (calls ++ more) → ReplayWhole (new_system n limits len bytes page tick) (calls ++ more)
     → Stays n (handlers_of f len) p (after_calls (new_system n limits len bytes page tick) calls) (after_calls (new_system n limits len bytes page tick) (calls ++ more))
 
--- of a durable process all that it gave is besides what the messages of then make it send, each in its place
+-- at each of two moments the messages that are stored of a durable process send all that it gave by then, each in its place
 pub record Lasts (n : ℕ) (f : Handlers) (p : ℕ) (s t : System) (before after : List Packet) : Type 0 where
   pub was : List Message
   pub more : List Message
@@ -130,13 +131,14 @@ DurableLast = (f : Answering) (n page tick : ℕ) (limits : ℕ → Limits) (len
 
 -- ---- what is received
 
--- these messages of a process are each its sender's next; and those of a durable process what is stored of that makes it send to this one
+-- each of these messages of a process is the next of its sender; and what is stored of a durable process sends those that came from it
 pub record Knows (f : Handlers) (durable : ℕ → Bool) (stored : ℕ → List Message) (p : ℕ) (h : List Message) : Type 0 where
   pub ordered : InOrderFrom (λ q. 0) h
   pub known : Each (λ (m : Message). durable m.sender ≡ true → nth (f.sends m.sender (stored m.sender) p) m.ssn ≡ Some m.payload) h
 
--- of each process there is stored what it has after these messages, and what it received by them is what is stored of durable ones to be sent
--- to it; so is what one received that is up. What a durable one ever gave, and what was ever handed out of it, is that too
+-- of each process there is stored what it has after these messages, and what is stored of durable processes sends those that came from
+-- them; so it is with what a process received that is up, with what a durable process ever gave, and with the outputs of it that the
+-- gateway ever gave
 pub record Keep (n : ℕ) (f : Handlers) (durable : ℕ → Bool) (s : System) (outputs : List Output) : Type 0 where
   pub messages : ℕ → List Message
   pub stored : (p : ℕ) → IsFirst n p → AreAfter n f p (messages p) (s.stored p)

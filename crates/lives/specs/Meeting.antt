@@ -1,4 +1,4 @@
--- A worked list of calls of two durable processes, which are killed at once and meet: no failures that come one at a time
+-- A worked list of calls of two durable processes that are killed at once and whose recoveries meet: these failures overlap
 use Rattle.std.specs.Prelude.{◌≡◌, ℕ, List, [], ◌∷◌, true, false}
 use Rattle.packets.specs.declared.packet.Body.TheVariants.{Ask, Told}
 use Rattle.packets.specs.declared.packet.Packet.{Packet}
@@ -18,21 +18,21 @@ use Rattle.lives.specs.Beside.{packet}
 abbrev pub lasting : Limits
 lasting = record usual { durable = true }
 
--- the question of a process in its second life, and the answer of the first one that all is lost
+-- the question of a process in its second incarnation, and the answer of the first process that all is lost
 abbrev pub ask : ℕ → ℕ → Packet
 ask from to = packet from to (Ask 2 0)
 
 abbrev pub loss : Packet
 loss = packet 1 2 (Told 2 2 0 (flags_of true true false) [])
 
--- it comes back; and these are what it has still to give
+-- it comes back; and the packets that it has still to give
 abbrev pub comes : ℕ → ℕ → TheCollecting
 comes len p = revived lasting (kept_of (new_node usual p 2 len)) 2
 
 abbrev pub gives : TheCollecting → List Packet → TheCollecting
 gives n out = record n { own = record n.own { out = out } }
 
--- the first one hears that the other comes back too; and that learns it
+-- the first process hears that the other is recovering too; and the other hears of the first
 abbrev pub hears : ℕ → TheCollecting
 hears len = handed (ask 2 1) (comes len 1)
 
@@ -58,7 +58,7 @@ met len =
 abbrev pub opening : ℕ → ℕ → ℕ → (ℕ → List ℕ) → System
 opening len page tick bytes = new_system 2 (λ _. lasting) (λ _. len) bytes page tick
 
--- they are such calls, along which both stay durable; and then one of them isn't exact
+-- they are such calls, and both stay durable; in the end one of them isn't exact
 pub record IsMet (f : Answering) (len page tick : ℕ) (bytes : ℕ → List ℕ) : Type 0 where
   pub calls : Calls f 2 (opening len page tick bytes) (met len)
   pub whole : ReplayWhole (opening len page tick bytes) (met len)

@@ -1,5 +1,5 @@
--- A worked list of calls with messages: the only process of a cluster receives three, keeps a checkpoint behind the first, is killed when two
--- are acknowledged, and comes back with all, of which it replays two
+-- A worked list of calls with messages: the only process of a cluster receives three, keeps a checkpoint after the first, is killed when
+-- two are acknowledged, and comes back with all, of which it replays two
 use Rattle.std.specs.Prelude.{◌≡◌, ℕ, List, [], ◌∷◌, Some, true, false}
 use Rattle.packets.specs.declared.packet.Body.TheVariants.{Delivery, Number, Acknowledgement, Saved, Ask, Told, Resume, Restored}
 use Rattle.packets.specs.declared.packet.Packet.{Packet}
@@ -30,7 +30,7 @@ use Rattle.lives.specs.Back.{length_of}
 use Rattle.lives.specs.Durable.{ReplayWhole}
 use Rattle.lives.specs.Worked.{from_process, from_gateway, sent}
 
--- the state of the handler is what came last, and it gives nothing
+-- the state of the handler is the last message, and it sends nothing
 abbrev pub last : Answering
 last p state m = record { state = m.payload; given = [] }
 
@@ -46,7 +46,7 @@ answer k = record { state = input k; given = [] }
 abbrev pub delivery : ℕ → Packet
 delivery k = from_gateway (Delivery 1 k (input k))
 
--- the k-th message has the number k
+-- the k-th message has the RSN k
 abbrev pub number : ℕ → Packet
 number k = from_process (Number 1 k k)
 
@@ -112,14 +112,14 @@ works k n = nodes.did_work (input k) [] n.working n
 abbrev pub n0 : TheNode
 n0 = new_node usual 1 1 1
 
--- the first message comes, and it works on that
+-- the first message comes, and the handler runs on it
 abbrev pub n1 : TheNode
 n1 = nodes.handed (delivery 1) n0
 
 abbrev pub n2 : TheNode
 n2 = works 1 n1
 
--- its number is acknowledged, and a checkpoint is made
+-- its RSN is acknowledged, and a checkpoint is made
 abbrev pub n3 : TheNode
 n3 = nodes.handed (acknowledgement 1) (quiet n2)
 
@@ -129,7 +129,7 @@ n4 = saving.froze n3
 abbrev pub n5 : TheNode
 n5 = saving.saved n4
 
--- the second comes, and the third
+-- the second message comes, and the third
 abbrev pub n6 : TheNode
 n6 = nodes.handed (delivery 2) (quiet n5)
 
@@ -142,11 +142,11 @@ n8 = nodes.handed (delivery 3) (quiet n7)
 abbrev pub n9 : TheNode
 n9 = works 3 n8
 
--- that of the second is acknowledged
+-- the RSN of the second is acknowledged
 abbrev pub n10 : TheNode
 n10 = nodes.handed (acknowledgement 2) (quiet n9)
 
--- ---- and as it comes back
+-- ---- the process while it comes back
 
 abbrev pub comes : TheCollecting
 comes = revived usual (kept_of n4) 2
@@ -180,7 +180,7 @@ has_answer = restoring.handed restored resumes
 
 -- ---- the calls
 
--- up to its death, where these bytes are its checkpoint
+-- up to its death, if its checkpoint has these bytes
 abbrev pub before : List ℕ → List Call
 before bytes =
     DidOut g1
@@ -238,12 +238,12 @@ behind =
     ∷ Did 1 (Up (up has_answer))
     ∷ []
 
--- where the process is opened, with these bytes of its opening
+-- the process is opened, with these bytes of its opening
 abbrev pub opened : (ℕ → List ℕ) → System
 opened stored = new_system 1 (λ _. usual) (λ _. 1) stored PAGE TICK
 
--- they are such calls, along which it stays exact. When it is killed it has three messages, of which two are acknowledged without a gap; and
--- then it is up in its second incarnation, with these three and the state that it had
+-- they are such calls, and it stays exact. When it is killed it has three messages, of which two are acknowledged without a gap; in the end
+-- it is up in its second incarnation, with these three and the state that it had
 pub record IsWorked (stored : ℕ → List ℕ) (bytes : List ℕ) : Type 0 where
   pub calls : Calls last 1 (opened stored) (before bytes)
   pub more : Calls last 1 (after_calls (opened stored) (before bytes)) behind

@@ -1,4 +1,4 @@
--- A process in the stages of its life, and what its calls make of it
+-- A process in each stage, and its calls
 use Rattle.std.specs.Prelude.{◌≡◌, ◌⊎◌, ℕ, List, Some, Bool, true, false}
 use Rattle.cluster.specs.Cluster.{Cluster, Dead}
 use Rattle.cluster.specs.Rules.{Keeps, May, does, IsNode}
@@ -32,18 +32,18 @@ use Rattle.restoring.specs.Stands as restoring
 
 pub data Process : Type 0 where
   Up : TheNode → Process
-  -- a node that waits for its checkpoint: that is durable, and it wasn't told so
+  -- a node that waits for its checkpoint, which is durable; the node wasn't told so yet
   Covered : TheNode → Process
-  -- it came back, and asks its peers what their logs hold
+  -- it came back, and asks its peers what their logs hold for it
   Collects : TheCollecting → Process
   -- it recovered, and its handler runs again on what it keeps
   Replays : TheReplaying → Process
   Replayed : TheReplayed → Process
-  -- it asks its peers under which numbers they have its messages
+  -- it asks its peers under which RSNs they have its messages
   Restores : TheRestoring → Process
   Killed : Process
 
--- what it holds is what the cluster has of p, and one that was killed is dead there
+-- it agrees with the cluster as p; a process that was killed is dead there
 abbrev pub StandsAs : Process → Cluster → ℕ → Type 0
 StandsAs (Up n) c p = nodes.Stands n c p
 StandsAs (Covered n) c p = (n.frozen ≡ true) × nodes.Stands n c p
@@ -53,12 +53,12 @@ StandsAs (Replayed n) c p = StandsReplayed n c p
 StandsAs (Restores n) c p = restoring.StandsRestoring n c p
 StandsAs Killed c p = IsNode c p × (c.stage p ≡ Dead)
 
--- this is what its checkpoint covers, or will cover where that is durable and the node wasn't told so
+-- this is what its checkpoint covers, or what it will cover once the node is told that it is durable
 abbrev pub IsStoredOf : Kept → Process → Cluster → ℕ → Type 0
 IsStoredOf k (Covered n) c p = May c (Keeps p) × IsKeptOf k (does c (Keeps p)) p
 IsStoredOf k process c p = IsKeptOf k c p
 
--- as far as it knows, failures came one at a time; one that was killed knows nothing
+-- as far as it knows, failures came one at a time; a process that was killed knows nothing
 abbrev pub is_exact : Process → Bool
 is_exact (Up n) = n.exact
 is_exact (Covered n) = n.exact
@@ -70,7 +70,7 @@ is_exact Killed = true
 
 -- ---- its calls, each as its function's contract says
 
--- it becomes this process, as one of the stage that is named, of which this holds
+-- it becomes a process in the stage that is named, and P holds of that
 abbrev pub Becomes : {X : Type 0} → (X → Process) → Process → (X → Type 0) → Type 0
 Becomes {X} stage new P = (it : X) × ((new ≡ stage it) × P it)
 
@@ -94,7 +94,7 @@ Hears x (Replayed n) new = Becomes Replayed new (λ m. (m ≡ record n { own = m
 Hears x (Restores n) new = Becomes Restores new (λ m. (m ≡ restores.handed x n) × restoring.IsHanded x n m)
 Hears x Killed new = ⊥
 
--- the answer is that of the handler, where a message is to be replayed
+-- the answer is that of the handler, if there is a message to replay
 abbrev pub IsAnswerAgain : Answering → ℕ → TheReplaying → Answer → Type 0
 IsAnswerAgain f p n a = (j : OpenJob) → next_job n ≡ Some j → a ≡ f p n.own.state (nodes.job_of j)
 
@@ -105,13 +105,13 @@ Works f p a (Covered n) new = Becomes Covered new (λ m. m ≡ did_work a.state 
 Works f p a (Replays n) new = IsAnswerAgain f p n a × Becomes Replays new (λ m. (m ≡ did_replay a.state a.given (next_job n) n) × replaying.Owes (replaying.Handles a.state a.given n) n m)
 Works f p a process new = ⊥
 
--- all have told one that collects, and it recovers
+-- all peers have told a process that collects, and it recovers
 pub record Recovers (n : TheCollecting) (r : TheReplaying) : Type 0 where
   pub all : has_all n ≡ true
   pub is : Recovered n r
   pub acts : replaying.ComesBack n r
 
--- it sent again what isn't answered, or made a checkpoint; or it went on to its next stage
+-- it sent again what isn't answered, or made a checkpoint; or went on to its next stage
 abbrev pub Acts : Process → Process → Type 0
 Acts (Up n) new = Becomes Up new (λ m. ((m ≡ ticked n) ⊎ (m ≡ froze n)) × nodes.Acts n m)
 Acts (Covered n) new = Becomes Covered new (λ m. (m ≡ ticked n) ⊎ (m ≡ froze n))
@@ -121,11 +121,11 @@ Acts (Replayed n) new = Becomes Restores new (λ m. (m ≡ begun n) × restoring
 Acts (Restores n) new = Becomes Restores new (λ m. (m ≡ restores.asked n) × restoring.Acts n m) ⊎ Becomes Up new (λ m. (m ≡ up n) × restoring.IsUp n m)
 Acts Killed new = ⊥
 
--- these bytes are what a node gave to be kept
+-- these bytes are a node's kept state
 abbrev pub AreOf : List ℕ → TheNode → Type 0
 AreOf bytes n = IsKept (kept_of n) bytes × Covers (kept_of n) n
 
--- it waits for its checkpoint, and these bytes are that
+-- it waits for its checkpoint, and these are its bytes
 abbrev pub WaitsFor : List ℕ → Process → Type 0
 WaitsFor bytes (Up n) = (n.frozen ≡ true) × AreOf bytes n
 WaitsFor bytes (Covered n) = AreOf bytes n
@@ -136,7 +136,7 @@ abbrev pub covered : Process → Process
 covered (Up n) = Covered n
 covered process = process
 
--- it was told that its checkpoint is durable. One that waits for none is as it was
+-- it was told that its checkpoint is durable. If it waits for none it doesn't change
 abbrev pub IsTold : Process → Process → Type 0
 IsTold (Up n) new = (n.frozen ≡ false) × Becomes Up new (λ m. nodes.Saves n m)
 IsTold (Covered n) new = Becomes Up new (λ m. (m ≡ saved n) × nodes.Saves n m)
@@ -146,6 +146,6 @@ abbrev pub IsKilled : Process → Type 0
 IsKilled Killed = Unit {0}
 IsKilled process = ⊥
 
--- what these bytes are of came back in this incarnation, with some limits
+-- a process came back from these bytes in this incarnation, with some limits
 abbrev pub ComesFrom : List ℕ → ℕ → TheCollecting → Type 0
 ComesFrom bytes life n = (k : Kept) × (IsKept k bytes × (((limits : Limits) × (n ≡ collects.revived limits k life)) × collecting.Revives k life n))

@@ -26,8 +26,8 @@ use Rattle.gateway.specs.Since.{revived, StandsFor}
 use Rattle.together.specs.Together.{IsFirst}
 use Rattle.lives.specs.Process.{Process, Up, Collects, Killed, StandsAs, IsStoredOf, is_exact, Gives, Hears, Works, Acts, WaitsFor, covered, IsTold, IsKilled, ComesFrom}
 
--- the processes by number; of each the bytes that are stored durably, and the greatest incarnation; the gateway, as what it is durable, and
--- the outputs that it handed out, of which it isn't durable that they were taken; and the packets that were given
+-- the processes by number; for each the bytes that are stored, and the greatest incarnation; the gateway, and the gateway that its store
+-- gives; the outputs that it gave without having stored so; and the packets that were given
 pub record System : Type 0 where
   pub processes : ℕ → Process
   pub stored : ℕ → List ℕ
@@ -50,60 +50,60 @@ new_system n limits len bytes page tick =
       given = [];
     }
 
--- of each of them its bytes are stored before it opens. They don't hold its limits
+-- before a process opens, its bytes are stored. They don't hold its limits
 abbrev pub AreStored : ℕ → (ℕ → ℕ) → (ℕ → List ℕ) → Type 0
 AreStored n len bytes = (p : ℕ) → IsFirst n p → IsKept (kept_of (new_node usual p n (len p))) (bytes p)
 
--- a call that isn't refused, and what the process or the gateway is then; or what happens to it
+-- a call that isn't refused, and the process or the gateway after it; or something that happens to one of them
 pub data Call : Type 0 where
   -- a process gave this packet
   Gave : ℕ → Packet → Process → Call
-  -- it was handed this packet
+  -- a process was handed this packet
   Handed : ℕ → Packet → Process → Call
-  -- its handler answered
+  -- the handler of a process answered
   Worked : ℕ → Answer → Process → Call
-  -- it sent again what isn't answered, made a checkpoint, or went on to its next stage
+  -- a process sent again what isn't answered, made a checkpoint, or went on to its next stage
   Did : ℕ → Process → Call
-  -- these bytes, which it gave, are stored durably in place of the others
+  -- these bytes, which a process gave, are stored in place of the earlier ones
   Stored : ℕ → List ℕ → Call
-  -- and it was told so
+  -- a process was told that its checkpoint is durable
   Saved : ℕ → Process → Call
-  -- it was killed
+  -- a process was killed
   Died : ℕ → Call
-  -- it came back in this incarnation
+  -- a process came back in this incarnation
   Revived : ℕ → ℕ → TheCollecting → Call
   -- the gateway gave this packet
   GaveOut : Packet → TheGateway → Call
-  -- it was handed this packet
+  -- the gateway was handed this packet
   HandedOut : Packet → TheGateway → Call
-  -- it took an input, gave an output, sent again what isn't answered, or told what happened
+  -- the gateway took an input, gave an output, sent again what isn't answered, or told its changes
   DidOut : TheGateway → Call
-  -- all that happened to it is stored durably
+  -- all changes of the gateway are stored
   StoredOut : Call
-  -- all is, but of the outputs that it handed out no more than the first so many are as taken
+  -- all changes are stored, except that of the outputs that it gave only the first ones count as taken
   StoredBut : ℕ → Call
-  -- it was killed, and came back from what is
+  -- the gateway was killed, and came back from its store
   RevivedOut : TheGateway → Call
 
--- the outputs that the gateway hands out by a call
+-- the outputs that the gateway gives in a call
 abbrev pub handed_out : TheGateway → TheGateway → List Output
 handed_out old new = take (length old.store.outputs - length new.store.outputs) old.store.outputs
 
--- the gateway, had these outputs, which it handed out, not been taken
+-- the gateway as if these outputs, which it gave, were not taken
 abbrev pub untaken : List Output → TheGateway → TheGateway
 untaken outputs g = record g { store = record g.store { outputs = outputs ++ g.store.outputs } }
 
--- an input for one of its processes came
+-- an input for a process came
 abbrev pub PutIn : TheGateway → TheGateway → Type 0
 PutIn g new = (p : ℕ) × ((x : List ℕ) × ((new ≡ puts_in p x g) × IsOf p g.store))
 
--- the gateway took an input, gave an output, sent again what isn't answered, or told what happened
+-- the gateway took an input, gave an output, sent again what isn't answered, or told its changes
 abbrev pub Deals : TheGateway → TheGateway → Type 0
 Deals g new = PutIn g new ⊎ ((new ≡ hands_out g) ⊎ ((new ≡ ticked g) ⊎ (new ≡ record g { changes = [] })))
 
--- each call does what the contract of its function says. What is handed over was given, whenever, or is handed over again. What comes back
--- does so from the bytes that are stored, in an incarnation above all that were. What the gateway gives is sent once all that happened to
--- its store is durable, but which outputs were taken
+-- each call does what the contract of its function says. A packet that is handed over was given, at any time, and may be handed over again.
+-- A process comes back from its stored bytes, in an incarnation above all that were stored. What the gateway gives is sent once all changes
+-- of its store are stored, except which outputs were taken
 abbrev pub DoesIt : Answering → ℕ → System → Call → Type 0
 DoesIt f n s (Gave p x new) = IsFirst n p × Gives x (s.processes p) new
 DoesIt f n s (Handed p x new) = IsFirst n p × (IsOne x s.given × Hears x (s.processes p) new)
@@ -136,11 +136,11 @@ after_call s StoredOut = record s { durable = s.gateway; taken = [] }
 after_call s (StoredBut k) = record s { durable = untaken (drop k s.taken) s.gateway; taken = drop k s.taken }
 after_call s (RevivedOut new) = record s { gateway = new; durable = new; taken = [] }
 
--- nodes that are up and the gateway drop a packet that says that all is lost, as their functions say
+-- as their functions say, nodes that are up and the gateway drop a packet that says that all is lost
 abbrev pub LossIsDropped : Type 0
 LossIsDropped = ((x : Packet) (n : TheNode) → is_loss x.body ≡ true → nodes.handed x n ≡ n) × ((x : Packet) (g : TheGateway) → is_loss x.body ≡ true → outside.handed x g ≡ g)
 
--- calls one after another
+-- calls, one after another
 abbrev pub Calls : Answering → ℕ → System → List Call → Type 0
 Calls f n s [] = Unit {0}
 Calls f n s (k ∷ ks) = DoesIt f n s k × Calls f n (after_call s k) ks
@@ -149,7 +149,7 @@ abbrev pub after_calls : System → List Call → System
 after_calls s [] = s
 after_calls s (k ∷ ks) = after_calls (after_call s k) ks
 
--- each process that is alive is exact, at the end of each of these calls
+-- at the end of each of these calls each process that is alive is exact
 abbrev pub AreExact : ℕ → System → Type 0
 AreExact n s = (p : ℕ) → IsFirst n p → is_exact (s.processes p) ≡ true
 
@@ -161,18 +161,18 @@ StayExact n s (k ∷ ks) = AreExact n (after_call s k) × StayExact n (after_cal
 abbrev pub AreStoredOf : List ℕ → Process → Cluster → ℕ → Type 0
 AreStoredOf bytes process c p = (k : Kept) × (IsKept k bytes × IsStoredOf k process c p)
 
--- in a cluster of n all these processes stand, what is stored of each is what its checkpoint covers, and no incarnation was opened above those
--- that are stored; the gateway stands as it is durable, and by acts of its own it is what it is
+-- all these processes agree with a cluster of n, what is stored of each is what its checkpoint covers, and no incarnation above the stored
+-- ones was opened; the gateway of the store agrees with it, and acts of its own make it the gateway of now
 pub record AllStand (n : ℕ) (s : System) (c : Cluster) : Type 0 where
   pub processes : (p : ℕ) → IsFirst n p → StandsAs (s.processes p) c p
   pub stored : (p : ℕ) → IsFirst n p → AreStoredOf (s.stored p) (s.processes p) c p
   pub lives : (p : ℕ) → IsFirst n p → c.stored p ≤ s.lives p
   pub durable : gateways.Stands s.durable c
   pub gateway : gateways.Goes s.gateway c
-  -- what the gateway counts as shown of a process is what was shown of it
+  -- the gateway counts as many outputs of a process as were shown of it
   pub shown : (p : ℕ) → IsFirst n p → (peer_of p s.durable).shown ≡ count_of p c.shown
 
--- the cluster runs from its opening to one in which all stand; and what is promised of runs holds of it
+-- the cluster runs from its opening to one with which all agree; and the promises of runs hold of it
 pub record IsRunOf (n : ℕ) (f : Handlers) (s : System) : Type 0 where
   pub acts : List Act
   pub run : Run (opening n f) acts
@@ -181,8 +181,8 @@ pub record IsRunOf (n : ℕ) (f : Handlers) (s : System) : Type 0 where
   pub output_once : OutputOnce (after_run (opening n f) acts)
   pub received_once : ReceivedOnce (after_run (opening n f) acts)
 
--- calls of processes and the gateway in any order, with packets handed over late, twice or never, and each killed and brought back at any
--- moment, are a run of a cluster, where each that is alive stays exact
+-- calls of processes and the gateway in any order, with packets that come late, twice or never, and processes killed and brought back at
+-- any moment, are a run of a cluster, if each that is alive stays exact
 abbrev pub LivesRun : Type 0
 LivesRun = (f : Answering) (n page tick : ℕ) (limits : ℕ → Limits) (len : ℕ → ℕ) (bytes : ℕ → List ℕ) (calls : List Call) → n ≤ 15 → AreStored n len bytes → Calls f n (new_system n limits len bytes page tick) calls
     → StayExact n (new_system n limits len bytes page tick) calls → IsRunOf n (handlers_of f len) (after_calls (new_system n limits len bytes page tick) calls)

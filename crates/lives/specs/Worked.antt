@@ -23,7 +23,7 @@ use Rattle.lives.specs.Durable.{ReplayWhole}
 
 -- ---- its packets
 
--- of the process to the gateway, and back
+-- from the process to the gateway, and back
 abbrev pub from_process : Body → Packet
 from_process b = record { count = 1; from = 1; to = 0; body = b }
 
@@ -42,7 +42,7 @@ resume = from_process (Resume 2 0 0)
 abbrev pub restored : Packet
 restored = from_gateway (Restored 2 1 0 0 (flags_of true false true) [])
 
--- ---- the gateway, with a page and ticks of these sizes
+-- ---- the gateway, with this size of a page and of a tick
 
 abbrev pub sent : TheGateway → TheGateway
 sent g = record g { out = [] }
@@ -53,7 +53,7 @@ asked page tick = gateways.handed ask (new_gateway 1 page tick)
 abbrev pub resumed : ℕ → ℕ → TheGateway
 resumed page tick = gateways.handed resume (sent (asked page tick))
 
--- ---- the process, with a state of so many zeros
+-- ---- the process, with a state of zeros
 
 -- it comes back, and its question is taken
 abbrev pub comes : ℕ → TheCollecting
@@ -62,7 +62,7 @@ comes len = revived usual (kept_of (new_node usual 1 1 len)) 2
 abbrev pub asks : ℕ → TheCollecting
 asks len = record (comes len) { own = record (comes len).own { out = [] } }
 
--- the gateway has told it that there is nothing
+-- the gateway has told it that its log is empty
 abbrev pub has_all : ℕ → TheCollecting
 has_all len = collecting.handed told (asks len)
 
@@ -75,7 +75,7 @@ begins len = begun (replayed_of (replays len))
 abbrev pub resumes : ℕ → TheRestoring
 resumes len = record (begins len) { own = record (begins len).own { out = [] } }
 
--- the gateway has told it that it has nothing
+-- the gateway has answered that it has nothing
 abbrev pub has_answer : ℕ → TheRestoring
 has_answer len = restoring.handed restored (resumes len)
 
@@ -101,7 +101,8 @@ worked len page tick =
     ∷ Did 1 (Up (up (has_answer len)))
     ∷ []
 
--- they are such calls, where it fails alone and goes on once all is replayed, along which it stays exact; and then it is up in its second incarnation, with the state of zeros
+-- they are such calls, in which it fails alone, goes on once all is replayed, and stays exact; in the end it is up in its second
+-- incarnation, with the state of zeros
 pub record IsWorked (f : Answering) (len page tick : ℕ) (bytes : ℕ → List ℕ) : Type 0 where
   pub calls : Calls f 1 (new_system 1 (λ _. usual) (λ _. len) bytes page tick) (worked len page tick)
   pub alone : OneAtATime 1 (new_system 1 (λ _. usual) (λ _. len) bytes page tick) (worked len page tick)

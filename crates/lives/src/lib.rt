@@ -1,17 +1,21 @@
-//! Processes in all their lives, and the gateway: what holds of their calls together.
+//! What holds of processes and the gateway through crashes and recoveries.
 //!
-//! A process is a [`node::Node`] while it is up. It may be killed at any moment, and comes back from
-//! the bytes that are stored of it, stage by stage: [`recovery::Collecting`], [`recovery::Replaying`],
-//! [`restoring::Restoring`], until it is a node again. Each call of a stage owes acts of that process,
-//! in any cluster in which it stands. Here these come together: calls of processes in any stage and of
-//! a [`gateway::Gateway`], in any order, with packets handed over late, twice or never, and each of
-//! them killed and brought back at any moment, are a run of a cluster ([`lives_run`]), as long as each
-//! process that is alive tells that it is exact. So its promises are promises of this code, and what
-//! comes back is the process that was lost ([`nothing_is_lost`], [`recovers_exactly`]). Where one at a
-//! time fails all tell that they are ([`lone_failures_stay_exact`]). Whatever fails, and exact or not,
-//! what is stored of a process only gets more ([`stored_stays`]), and nobody has anything of a durable
-//! one but what is stored of it to be sent ([`durable_keep`]). What the gateway hands out comes in order,
-//! and of it none is left out, also where it is killed ([`outputs_in_order`], [`outputs_without_gap`]).
+//! A process is a [`node::Node`] while it is up. It may be killed at any moment. It comes back from
+//! its stored bytes, stage by stage, as [`recovery::Collecting`], [`recovery::Replaying`] and
+//! [`restoring::Restoring`], until it is a node again. Each call of a stage owes acts of that
+//! process, in any cluster with which it agrees.
+//!
+//! Together, calls of processes in any stage and of a [`gateway::Gateway`] are a run of a cluster
+//! ([`lives_run`]), as long as each process that is alive says that it is exact. The calls may be
+//! in any order, packets may come late, twice or never, and each process may be killed and brought
+//! back at any moment. So the promises of clusters hold of this code, and the process that comes
+//! back is the one that was lost ([`nothing_is_lost`], [`recovers_exactly`]). If processes fail one
+//! at a time, all are exact ([`lone_failures_stay_exact`]).
+//!
+//! Whatever fails, exact or not, what is stored of a process only grows ([`stored_stays`]), and all
+//! that anyone has from a durable process is sent by what is stored of it ([`durable_keep`]). The
+//! gateway gives outputs in order and leaves none out, also if it is killed ([`outputs_in_order`],
+//! [`outputs_without_gap`]).
 #![tactic(auto)]
 
 mod laws;

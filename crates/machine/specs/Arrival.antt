@@ -1,4 +1,4 @@
--- What an arrival answers, and what a result that comes back has to be
+-- What an arrival answers, and which result a finish takes
 use Rattle.std.specs.Prelude.{◌≡◌, ℕ, ◌+◌, ◌<◌, List, Option, Some, None, Result, Ok, Err, true}
 use Rattle.decode.specs.declared.insn.Insn.{Insn}
 use Rattle.images.specs.declared.file_form.FileForm.{FileForm}
@@ -21,7 +21,7 @@ use Rattle.machine.specs.declared.arrival.Arrival.TheVariants.{Started, Duplicat
 use Rattle.machine.specs.declared.arrival.Finished.{Finished}
 use Rattle.machine.specs.declared.arrival.Finished.TheVariants.{Committed, Replayed}
 
--- an arrival as the journal's answer: of the job that it started, the serial number alone
+-- an arrival as the journal's answer. Of the job that it started, that is the serial number only
 abbrev pub answer_of : Arrival → Answer
 answer_of (Started task) = answers.Started task.serial
 answer_of (Duplicate key) = answers.Duplicate key
@@ -33,22 +33,22 @@ answer_of Acknowledged = answers.Acknowledged
 answer_of Unreachable = answers.Unreachable
 answer_of Stale = answers.Stale
 
--- a result that was taken in, as the journal's answer: of a live job, or of a replayed one
+-- a committed result as the journal's answer, of a live or a replayed job
 abbrev pub finished_of : Finished → Answer
 finished_of (Committed rsn key) = answers.Committed rsn key
 finished_of (Replayed rsn) = answers.Replayed rsn
 
--- the image that was found has this code; None, for a number without a process, has none
+-- the image that was found has this code. None, for a number without a process, has none
 abbrev pub HasCode : Option TheImage → List Insn → Type 0
 HasCode None code = ⊥
 HasCode (Some image) code = image.code ≡ code
 
--- the image that was found has this form, `SBI1`, `SBI2` or `SBI3`; None, for a number without a process, has none
+-- the image that was found has this form, `SBI1`, `SBI2` or `SBI3`. None, for a number without a process, has none
 abbrev pub HasForm : Option TheImage → FileForm → Type 0
 HasForm None form = ⊥
 HasForm (Some image) form = image.form ≡ form
 
--- the task is that of the job that its process has open in this world, live or replayed, in all that a result is compared by
+-- the task is that of the open job of its process in this world, live or replayed, in all by which a result is compared
 pub record IsOpen (images : List TheImage) (t : TheTask) (w : World) : Type 0 where
   pub inside : is_inside w t.who.me ≡ true
   pub incarnation : t.incarnation ≡ w.incarnation t.who.me
@@ -60,27 +60,27 @@ pub record IsOpen (images : List TheImage) (t : TheTask) (w : World) : Type 0 wh
   pub code : HasCode (nth images t.who.me) t.image.code
   pub form : HasForm (nth images t.who.me) t.image.form
 
--- the task is that of an open job of each world that the machine stands for
+-- in each world that the machine stands for, the task is that of an open job
 abbrev pub IsHandedOut : TheMachine → TheTask → Type 0
 IsHandedOut m task = (w : World) → Stands m w → IsOpen m.images task w
 
--- the job that is handed out is open
+-- the job that an arrival hands out is open
 abbrev pub IsJobOf : TheMachine → Arrival → Type 0
 IsJobOf m (Started task) = IsHandedOut m task
 IsJobOf m other = Unit {0}
 
--- and it is one of the process that the packet is a message for
+-- the job that an arrival hands out is of the process for which the packet is a message
 abbrev pub IsJobFor : Option Packet → Arrival → Type 0
 IsJobFor found (Started task) = (d : ℕ) (m : Message) → 0 < d → found ≡ Some (Delivery d m) → task.who.me ≡ d
 IsJobFor found other = Unit {0}
 
--- a result is refused where it isn't of the open job, or where memory runs out
+-- a result is refused if it isn't of the open job (`StaleJob`), or if memory runs out
 abbrev pub Told : Refusal → Type 0 → Type 0
 Told Memory P = P
 Told StaleJob P = ¬ P
 Told other P = ⊥
 
--- what a finish owes. With a refusal the result comes back
+-- what a finish guarantees. With a refusal the result comes back
 abbrev pub Finishes : TheMachine → TheMachine → TheTask → Result Finished (Refusal × TheTask) → Type 0
 Finishes old new task (Ok c) = (w : World) → Stands old w → IsOpen old.images task w × Steps old new 0 (Finish task.who.me) (finished_of c) w
 Finishes old new task (Err r) = (r.1 ≡ task) × (new ≡ old) × ((w : World) → Stands old w → Told r.0 (IsOpen old.images task w))

@@ -17,19 +17,19 @@ use Rattle.machine.specs.Fields.{IsCarried}
 use Rattle.machine.specs.Wire.{Puts}
 use Rattle.machine.specs.Simulation.{TheMachine, Stands, process_at, log_at, is_up_at}
 
--- the world judges the message so too. A process knows the number of one that it has
+-- the world gives the message the same verdict. A process knows the RSN of a message that it has
 abbrev pub IsJudged : World → ℕ → Message → Judgement → Type 0
 IsJudged w d m judgements.Next = judge w d m ≡ Next
 IsJudged w d m (judgements.Duplicate k) = (judge w d m ≡ Known) × (0 < d → rsn_of (w.history d) m.sender m.ssn ≡ Some k)
 IsJudged w d m judgements.Early = judge w d m ≡ Ahead
 
--- a number that is told is one of 1, 2, ..
+-- an RSN that is told is one of 1, 2, ..
 abbrev pub IsNumbered : Judgement → Type 0
 IsNumbered judgements.Next = Unit {0}
 IsNumbered (judgements.Duplicate k) = 0 < k
 IsNumbered judgements.Early = Unit {0}
 
--- this packet lies under the key, may be taken, and its target is up
+-- this packet is under the key, may be taken, and its receiver is up
 pub record MayArrive (m : TheMachine) (room key : ℕ) (packet : Packet) : Type 0 where
   pub found : slice_index_or m.slots key None ≡ Some packet
   pub carried : IsCarried (length m.processes) packet
@@ -42,7 +42,7 @@ pub record Drops (old new : TheMachine) (key : ℕ) : Type 0 where
   pub wire : Puts old.slots new.slots key (slice_index_or old.slots key None) None
   pub others : new ≡ record old { slots = new.slots; calls = old.calls + 1 }
 
--- the log of this sender has the number for its message of this SSN
+-- the log of this sender, with the RSN for its message with this SSN
 abbrev pub numbered : TheLog → ℕ → ℕ → ℕ → TheLog
 numbered l receiver ssn rsn = with_queue receiver (recorded ssn rsn (queue_of receiver l)) l
 

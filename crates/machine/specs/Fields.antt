@@ -1,4 +1,4 @@
--- The fields behind what clauses see of a machine
+-- The fields of a machine, which clauses don't see
 use Rattle.std.specs.Prelude.{◌≡◌, ◌≢◌, ℕ, suc, ◌+◌, ◌<◌, ◌≤◌, List, length, map, Option, Some, None, is_some, true, false, slice_index_or}
 use Rattle.std.specs.List.{list_all}
 use Rattle.limits.specs.declared.TheConstants.{ENTRIES, PACKETS, PROCESSES, STATE_BYTES}
@@ -14,31 +14,31 @@ use Rattle.machine.specs.Mode.{is_live, is_lost, IsInPlan}
 use Rattle.machine.specs.Simulation.{TheMachine}
 use Rattle.machine.specs.declared.machine.Machine.TheInside.{Inside}
 
--- a machine as clauses see it: no capacities, and images by value, whether or not processes share them
+-- a machine as clauses see it: without capacities, and with images by value, whether or not processes share them
 abbrev pub view_of : Inside → TheMachine
 view_of m = record { images = map image_in m.images.items; processes = m.processes.items; outside = m.outside; slots = m.wire; started = m.started; calls = m.calls }
 
--- a packet that n processes may have on the wire: a message of one, or of the outside, for another; a number that a process
--- gave to a message of another, or of the outside; or the acknowledgement of such a number
+-- a packet that n processes may have on the wire: a message from one, or the outside, to another; an RSN that a process gave to a
+-- message of another, or of the outside; or the acknowledgement of such an RSN
 abbrev pub IsCarried : ℕ → Packet → Type 0
 IsCarried n (Delivery d m) = (d ≤ n) × (m.sender ≤ n) × (m.sender ≢ d) × (0 < m.ssn)
 IsCarried n (Number r s i k incarnation) = (0 < r) × (r ≤ n) × (s ≤ n) × (s ≢ r) × (0 < k)
 IsCarried n (Acknowledgement s r k incarnation) = (0 < r) × (r ≤ n) × (0 < k)
 
--- each packet on the wire, whatever its key, is one that n processes may have there
+-- each packet on the wire is one that n processes may have there
 abbrev pub AreCarried : List (Option Packet) → ℕ → Type 0
 AreCarried slots n = (key : ℕ) (k : Packet) → slice_index_or slots key None ≡ Some k → IsCarried n k
 
--- the log of this number among n processes
+-- this is the log of the number me among n processes
 pub record IsLogOf (n me : ℕ) (l : TheLog) : Type 0 where
   pub owner : l.owner ≡ me
   pub width : length l.queues ≡ suc n
 
--- a message that is worked on counts as received
+-- how many messages it received, with the one that it works on
 abbrev pub begun : TheProcess → ℕ
 begun x = received x + one_if (is_some x.working)
 
--- one of n processes, with this number, an image of this state length, after so many calls
+-- one of n processes, with this number, with an image of this state length, after this many calls
 pub record IsSoundAt (n me len calls : ℕ) (x : TheProcess) : Type 0 where
   pub short : len ≤ STATE_BYTES
   pub state : is_lost x.mode ≡ false → length x.state ≡ len
@@ -53,7 +53,7 @@ pub record IsSoundAt (n me len calls : ℕ) (x : TheProcess) : Type 0 where
   pub saved_state : length x.saved.state ≡ len
   pub saved_by : length x.saved.senders ≤ calls
 
--- the sizes, and who is named on the wire
+-- sizes are within their limits, and packets name processes that exist
 pub record IsSound (m : Inside) : Type 0 where
   pub some : 0 < length m.processes.items
   pub few : length m.processes.items ≤ PROCESSES

@@ -1,4 +1,4 @@
--- Open jobs, as the fields tell them
+-- Open jobs, as the fields show them
 use Rattle.std.specs.Prelude.{◌≡◌, ◌≢◌, ◌<◌, ◌≤◌, ℕ, ◌+◌, ◌-◌, length, Some, false, slice_index_or, slice_set}
 use Rattle.limits.specs.declared.TheConstants.{ENTRIES}
 use Rattle.handlers.specs.Image.{TheImage}
@@ -8,7 +8,7 @@ use Rattle.machine.specs.Process.{received}
 use Rattle.machine.specs.Mode.{is_lost, IsNextFor}
 use Rattle.machine.specs.Simulation.{TheMachine, process_at}
 
--- a message of another for a process that isn't down, and where one is replayed, the next of the plan
+-- a message of another for a process that isn't down. If the process replays, it is the next of the plan
 pub record MayBegin (m : TheMachine) (me : ℕ) (message : Message) : Type 0 where
   pub inside : 0 < me
   pub within : me ≤ length m.processes
@@ -29,7 +29,7 @@ pub record Begins (old new : TheMachine) (me : ℕ) (message : Message) (task : 
   pub message_is : task.message ≡ message
   pub who : task.who ≡ record { me = me; from = message.sender; count = length old.processes }
 
--- the task is that of the job that its process has open
+-- the task is that of the open job of its process
 pub record Matches (m : TheMachine) (t : TheTask) : Type 0 where
   pub inside : 0 < t.who.me
   pub within : t.who.me ≤ length m.processes

@@ -10,7 +10,7 @@ use Rattle.world.specs.World.{opening}
 use Rattle.machine.specs.Process.{TheProcess, idle_process}
 use Rattle.machine.specs.Simulation.{TheMachine, Stands}
 
--- for each image, whose state has at most 1,024 bytes, a process among n that received nothing, numbered from 1
+-- for each image, whose state has at most 1,024 bytes, one of n processes that received nothing, numbered from 1
 pub record AreIdle (n : ℕ) (images : List TheImage) (processes : List TheProcess) : Type 0 where
   pub count : length processes ≡ length images
   pub short : All (λ (i : TheImage). i.len ≤ STATE_BYTES) images
@@ -20,7 +20,7 @@ pub record AreIdle (n : ℕ) (images : List TheImage) (processes : List TheProce
 abbrev pub AreFew : List TheImage → Type 0
 AreFew images = (0 < length images) × (length images ≤ PROCESSES)
 
--- the machine of these images stands for the world where nothing was received; or there are none or too many; or memory ran out
+-- the machine of these images stands for the opening world; or there are no images or too many; or memory ran out
 abbrev pub Opens : List TheImage → Result TheMachine Refusal → Type 0
 Opens images (Ok m) = AreFew images × (m.images ≡ images) × (m.calls ≡ 0) × Stands m (opening (length images) (handlers_of images))
 Opens images (Err NoSuchProcess) = ¬ AreFew images

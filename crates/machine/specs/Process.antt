@@ -17,7 +17,7 @@ use Rattle.machine.specs.declared.mode.Mode.{Mode}
 use Rattle.machine.specs.declared.mode.Peers.{Peers}
 use Rattle.machine.specs.declared.mode.Mode.TheVariants.{Live, Down, Replaying, Resync}
 
--- its state, its incarnation, what it received, what it sent, the message that it works on, its checkpoint, and what else it does
+-- its state, incarnation, receipts, sent messages, the message that it works on, its checkpoint, and its phase
 pub record TheProcess : Type 0 where
   pub state : List ℕ
   pub incarnation : ℕ
@@ -40,18 +40,18 @@ idle_process me n len =
 abbrev pub received : TheProcess → ℕ
 received x = length x.receipts.senders
 
--- its outbox was given the effects of each message that it received, and what waits was sent on one of these
+-- its outbox was given the effects of each message that it received, and each send that waits was made for one of these
 pub record HasSent (x : TheProcess) : Type 0 where
   pub made : x.outbox.made ≡ received x
   pub waiting : All (λ (h : Held). h.rsn ≤ received x) x.outbox.gate.waiting
 
--- the message with this number is acknowledged, and what may leave then is released
+-- the message with this RSN is acknowledged, and the sends that may leave then are released
 pub record Acknowledges (rsn : ℕ) (old new : TheProcess) : Type 0 where
   pub receipts : new.receipts ≡ acknowledged rsn old.receipts
   pub releases : Releases (run_of (acknowledged rsn old.receipts).acknowledged) old.outbox.gate new.outbox.gate
   pub others : new ≡ record old { receipts = new.receipts; outbox = record old.outbox { gate = new.outbox.gate } }
 
--- the result of this task is taken in
+-- the result of this task is committed
 pub record Commits (t : TheTask) (old new : TheProcess) : Type 0 where
   pub state : new.state ≡ (answer_of t).state
   pub receipts : new.receipts ≡ accepted t.message.sender old.receipts
@@ -65,7 +65,7 @@ pub record Commits (t : TheTask) (old new : TheProcess) : Type 0 where
 abbrev pub all_acknowledged : Received → Received
 all_acknowledged x = record { senders = x.senders; acknowledged = replicate (length x.senders) true }
 
--- its checkpoint is this one, which counts as the acknowledgement of all that it received, and what waited is released
+-- it has this checkpoint, which acknowledges all that it received, and what waited is released
 pub record IsSaved (s : TheSaved) (old new : TheProcess) : Type 0 where
   pub releases : Releases (received old) old.outbox.gate new.outbox.gate
   pub others : new ≡ record old { receipts = all_acknowledged old.receipts; outbox = record old.outbox { gate = new.outbox.gate }; saved = s }
@@ -74,18 +74,18 @@ pub record IsSaved (s : TheSaved) (old new : TheProcess) : Type 0 where
 abbrev pub crashed : TheOutbox → TheProcess → TheProcess
 crashed outbox x = record { state = []; incarnation = x.incarnation + 1; receipts = nothing_received; outbox = outbox; working = None; saved = x.saved; mode = Down }
 
--- it is back as its checkpoint says, and has the plan before it
+-- it is restored from its checkpoint, and begins to replay the plan
 abbrev pub restored : ThePlan → Bool → TheProcess → TheProcess
 restored plan alone x = record { state = x.saved.state; incarnation = x.incarnation; receipts = receipts_again x.saved; outbox = outbox_again x.saved; working = None; saved = x.saved; mode = Replaying plan alone }
 
--- so many more messages of the plan are replayed
+-- one more message of the plan is replayed
 abbrev pub advanced : Mode → Mode
 advanced Live = Live
 advanced Down = Down
 advanced (Replaying plan alone) = Replaying (record plan { replayed = plan.replayed + 1 }) alone
 advanced (Resync peers) = Resync peers
 
--- the result of this task, which the process was called for before, is taken in
+-- the result of this task, which is replayed, is committed
 pub record Recalls (t : TheTask) (old new : TheProcess) : Type 0 where
   pub state : new.state ≡ (answer_of t).state
   pub receipts : new.receipts ≡ acknowledged (received old + 1) (accepted t.message.sender old.receipts)
@@ -95,19 +95,19 @@ pub record Recalls (t : TheTask) (old new : TheProcess) : Type 0 where
   pub saved : new.saved ≡ old.saved
   pub mode : new.mode ≡ advanced old.mode
 
--- it has these peers to do, or where there is none, is up, and all that it sent is released
+-- it restores its RSNs from these peers. If there are none, it is up and all that it sent is released
 pub record Settles (peers : Peers) (old new : TheProcess) : Type 0 where
   pub some : has_no_peer peers ≡ false → new ≡ record old { mode = Resync peers }
   pub none : has_no_peer peers ≡ true → ReleasesAll old.outbox new.outbox × (new ≡ record old { outbox = new.outbox; mode = Live })
 
--- the message that the task is for is the next of the plan, where one is replayed
+-- if the process replays, the task's message is the next of the plan
 abbrev pub IsNextAt : Mode → TheTask → Type 0
 IsNextAt Live t = Unit {0}
 IsNextAt Down t = Unit {0}
 IsNextAt (Replaying plan alone) t = next_of plan ≡ Some (t.rsn, t.message)
 IsNextAt (Resync peers) t = Unit {0}
 
--- the numbers above this one of its messages to a destination are forgotten
+-- its messages to a destination have no RSNs above this one
 abbrev pub unnumbered_at : ℕ → ℕ → TheProcess → TheProcess
 unnumbered_at d k x = record x { outbox = with_messages d (unnumbered k (queue_of d x.outbox.log)) x.outbox }
 

@@ -1,4 +1,4 @@
--- What is read of a process
+-- What can be read of a process
 use Rattle.std.specs.Prelude.{◌≡◌, ◌≢◌, ℕ, suc, ◌<◌, ◌≤◌, [], length, map, take, true, false, slice_index_or}
 use Rattle.rsn.specs.Receipts.{Received}
 use Rattle.sender_log.specs.Queue.{no_queue}
@@ -10,14 +10,14 @@ use Rattle.world.specs.World.{World}
 use Rattle.world.specs.Logs.{length_of, sent, run_of}
 use Rattle.machine.specs.Simulation.{Keeps, Holds, sent_by}
 
--- receipts have the sender of each message that p has received, and whether it is acknowledged. While p is down they are none
+-- receipts have the sender of each message that p has received, and whether it is acknowledged. While p is down there are none
 pub record ReceiptsStand (w : World) (p : ℕ) (r : Received) : Type 0 where
   pub senders : is_down (w.phase p) ≡ false → r.senders ≡ map (λ (m : Message). m.sender) (take (length_of w p) (w.history p))
   pub none : is_down (w.phase p) ≡ true → r.senders ≡ []
   pub flags : length r.acknowledged ≡ length r.senders
   pub acknowledged : (k : ℕ) → k < length r.senders → slice_index_or r.acknowledged k false ≡ w.acknowledged p (suc k)
 
--- a log keeps for each other number what p sent there and hasn't dropped, with the numbers that came back. While p is down it is empty
+-- a log keeps for each other number what p sent there and hasn't dropped, with the RSNs that came back. While p is down it is empty
 abbrev pub LogStands : World → ℕ → TheLog → Type 0
 LogStands w p l =
     (d : ℕ) → d ≤ w.count → p ≢ d →
@@ -26,7 +26,8 @@ LogStands w p l =
       none : is_down (w.phase p) ≡ true → queue_of d l ≡ no_queue;
     }
 
--- a gate let out to each other number what p released there, and the rest of what p sent waits. While p isn't up nothing is released
+-- to each other number a gate has released what p released there, and the rest of what p sent waits. While p isn't up nothing is
+-- released
 abbrev pub GateStands : World → ℕ → TheGate → Type 0
 GateStands w p g =
     (d : ℕ) → d ≤ w.count → p ≢ d →

@@ -1,4 +1,4 @@
--- Crashed processes, and how they come back
+-- Crashed processes, and how they recover
 use Rattle.std.specs.Prelude.{◌≡◌, ℕ, ◌-◌, ◌<◌, ◌≤◌, List, ◌∷◌, length, map, Option, Some, None, Bool, true, false, not, ◌&&◌, ◌||◌, ◌==◌, nat_lt, nat_le, if◌then◌else◌, slice_index_or, slice_set}
 use Rattle.limits.specs.declared.TheConstants.{ENTRIES, PARTIES}
 use Rattle.sender_log.specs.Queue.{unnumbered}
@@ -22,7 +22,7 @@ use Rattle.machine.specs.declared.recovering.Remains.{Remains}
 use Rattle.machine.specs.Mode.{is_lost}
 use Rattle.machine.specs.Sending.{busy}
 
--- why one that may come back doesn't
+-- why p would not recover, whatever the other processes do
 abbrev pub returning : TheMachine → ℕ → ℕ → Option Refusal
 returning m room p = if is_lost (process_at m p).mode then (if nat_le room (busy m) then Some JournalFull else None) else Some NotDown
 
@@ -30,12 +30,12 @@ returning m room p = if is_lost (process_at m p).mode then (if nat_le room (busy
 abbrev pub logs_of : TheMachine → List TheLog
 logs_of m = m.outside.log ∷ map (λ (x : TheProcess). x.outbox.log) m.processes
 
--- the call by which p comes back
+-- the call by which p recovers
 abbrev pub recovery_of : ℕ → Bool → Call
 recovery_of p true = RecoverAlone p
 recovery_of p false = Recover p
 
--- p is down, and may come back
+-- p is down and may recover
 pub record MayRecover (m : TheMachine) (room p : ℕ) (alone : Bool) : Type 0 where
   pub inside : 0 < p
   pub within : p ≤ length m.processes
@@ -43,7 +43,7 @@ pub record MayRecover (m : TheMachine) (room p : ℕ) (alone : Bool) : Type 0 wh
   pub accepted : (w : World) → Stands m w → refusal_of w room (recovery_of p alone) ≡ None
   pub calls : m.calls < ENTRIES
 
--- this is left of p: what its checkpoint has, and a plan of the messages behind it that the logs have
+-- what is left of p: what its checkpoint has, and a plan of the later messages that logs have
 pub record IsLeftOf (m : TheMachine) (p : ℕ) (r : Remains) : Type 0 where
   pub state : r.state.items ≡ (process_at m p).saved.state
   pub receipts : r.receipts ≡ receipts_again (process_at m p).saved
@@ -54,7 +54,7 @@ pub record IsLeftOf (m : TheMachine) (p : ℕ) (r : Remains) : Type 0 where
   pub before : r.plan.before ≡ length (process_at m p).saved.senders
   pub fresh : r.plan.replayed ≡ 0
 
--- all senders forget the numbers above k of their messages to p
+-- all senders forget the RSNs above k of their messages to p
 abbrev pub forgotten : ℕ → ℕ → TheMachine → TheMachine
 forgotten p k m =
     record m {
@@ -62,14 +62,14 @@ forgotten p k m =
       processes = map (unnumbered_at p k) m.processes;
     }
 
--- by number, the peers of p that restore its numbers: all others, or where it came back alone those that are up
+-- whether q is a peer from which p restores its RSNs: any other, or if p came back alone one that is up
 abbrev pub is_peer_of : TheMachine → ℕ → Bool → ℕ → Bool
 is_peer_of m p alone q = nat_lt 0 q && nat_le q (length m.processes) && not (q == p) && (not alone || is_up_at m q)
 
 abbrev pub ArePeersOf : TheMachine → ℕ → Bool → Peers → Type 0
 ArePeersOf m p alone peers = (length peers.todo ≡ PARTIES) × ((q : ℕ) → slice_index_or peers.todo q false ≡ is_peer_of m p alone q)
 
--- p isn't down, has no job open, and all that it received is acknowledged
+-- p isn't down, has no open job, and all that it received is acknowledged
 pub record MaySettle (m : TheMachine) (p : ℕ) : Type 0 where
   pub inside : 0 < p
   pub within : p ≤ length m.processes
@@ -77,7 +77,7 @@ pub record MaySettle (m : TheMachine) (p : ℕ) : Type 0 where
   pub idle : (process_at m p).working ≡ None
   pub whole : run_of (process_at m p).receipts.acknowledged ≡ received (process_at m p)
 
--- p has these peers to do, or where there is none, is up
+-- p restores its RSNs from these peers, or if there are none is up
 pub record SettlesAt (p : ℕ) (alone : Bool) (old new : TheMachine) : Type 0 where
   pub peers : Peers
   pub are : ArePeersOf old p alone peers

@@ -1,4 +1,4 @@
--- Checkpoints, and what is dropped for them
+-- Checkpoints, and what is dropped after them
 use Rattle.std.specs.Prelude.{◌≡◌, ℕ, zero, suc, ◌+◌, ◌-◌, List, take, count_by, Bool, not, ◌==◌, ◌&&◌, if◌then◌else◌, slice_set}
 use Rattle.checkpoint.specs.declared.form.Form.TheVariants.{Second}
 use Rattle.checkpoint.specs.Format.{IsCheckpoint}
@@ -23,11 +23,11 @@ pub record IsSavedOf (w : World) (p : ℕ) (bytes : List ℕ) : Type 0 where
 abbrev pub covered_at : TheMachine → ℕ → ℕ → ℕ
 covered_at m s d = if d == 0 then count_of s m.outside.shown else count_by (λ x. x == s) (process_at m d).saved.senders
 
--- whether s drops some of its messages to d: it is another, and up
+-- whether s drops messages to d: it is another, and up
 abbrev pub drops : TheMachine → ℕ → ℕ → Bool
 drops m d s = not (s == d) && is_up_at m s
 
--- how many it drops
+-- how many messages to d the sender s drops
 abbrev pub dropped_by : TheMachine → ℕ → ℕ → ℕ
 dropped_by m d s = if drops m d s then count_up_to (covered_at m s d) (queue_of d (log_at m s)) else 0
 
@@ -35,7 +35,7 @@ dropped_by m d s = if drops m d s then count_up_to (covered_at m s d) (queue_of 
 abbrev pub trimmed_log : ℕ → ℕ → TheLog → TheLog
 trimmed_log d i l = with_queue d (trimmed (count_up_to i (queue_of d l)) (queue_of d l)) l
 
--- the machine where s has dropped the messages that d has for good
+-- the machine after s has dropped the messages that d has for good
 abbrev pub without_covered : TheMachine → ℕ → ℕ → TheMachine
 without_covered m d s =
     if drops m d s
@@ -44,12 +44,12 @@ without_covered m d s =
     else record m { processes = slice_set m.processes (s - 1) (trimmed_at d (covered_at m s d) (process_at m s)) })
     else m
 
--- where each sender below k has, in turn
+-- the machine after each sender below k has dropped them in turn
 abbrev pub trimmed_to : ℕ → TheMachine → ℕ → TheMachine
 trimmed_to d m zero = m
 trimmed_to d m (suc k) = without_covered (trimmed_to d m k) d k
 
--- and how many were dropped
+-- how many messages the senders below k drop
 abbrev pub dropped_to : ℕ → TheMachine → ℕ → ℕ
 dropped_to d m zero = 0
 dropped_to d m (suc k) = dropped_by (trimmed_to d m k) d k + dropped_to d m k

@@ -1,4 +1,4 @@
--- Which worlds a machine stands for, and what a call owes
+-- Which worlds a machine stands for, and what a call guarantees
 use Rattle.std.specs.Prelude.{◌≡◌, ◌≢◌, ℕ, suc, ◌+◌, ◌-◌, ◌<◌, ◌≤◌, List, [], length, map, take, Option, Some, None, Result, Ok, Err, Bool, true, false, ◌==◌, ◌||◌, nat_le, if◌then◌else◌, slice_index_or}
 use Rattle.std.specs.List.{filter}
 use Rattle.handlers.specs.Image.{TheImage}
@@ -30,7 +30,7 @@ use Rattle.machine.specs.Stable.{Saves}
 use Rattle.machine.specs.Mode.{is_live, is_lost, held_by, phase_of, MayWork}
 use Rattle.machine.specs.Queue.{IsRest}
 
--- what clauses see of a machine: no capacities. The processes and their images are those of numbers 1, 2, ..
+-- what clauses see of a machine: no capacities. Processes and images are those of the numbers 1, 2, ..
 pub record TheMachine : Type 0 where
   pub images : List TheImage
   pub processes : List TheProcess
@@ -43,11 +43,11 @@ pub record TheMachine : Type 0 where
 abbrev pub process_at : TheMachine → ℕ → TheProcess
 process_at m p = slice_index_or m.processes (p - 1) (idle_process 0 0 0)
 
--- the log of this number: of the outside, its inputs
+-- the log of this number. That of the outside has its inputs
 abbrev pub log_at : TheMachine → ℕ → TheLog
 log_at m p = if p == 0 then m.outside.log else (process_at m p).outbox.log
 
--- the gate of the process of this number, from 1; the outside has none, since its inputs never wait
+-- the gate of the process with this number, from 1. The outside has none, since its inputs never wait
 abbrev pub gate_at : TheMachine → ℕ → TheGate
 gate_at m p = (process_at m p).outbox.gate
 
@@ -55,8 +55,8 @@ gate_at m p = (process_at m p).outbox.gate
 abbrev pub is_up_at : TheMachine → ℕ → Bool
 is_up_at m p = (p == 0) || is_live (process_at m p).mode
 
--- what is kept of the process me of n stands for what it received, what it does, and what its checkpoint covers. While it is down its
--- state and its logs are gone
+-- what the machine keeps of the process me of n agrees with what it received, what it does, and what its checkpoint covers. While
+-- it is down, its state and its logs are gone
 pub record StandsAt (n me : ℕ) (kept : TheProcess) (state : List Message → List ℕ) (sends : List Message → ℕ → List Payload) (history : List Message) (phase : Phase) (incarnation : ℕ) (acknowledged : ℕ → Bool) (saved : ℕ) (saved_trims : ℕ → ℕ) : Type 0 where
   pub state_is : is_lost kept.mode ≡ false → kept.state ≡ state (held_by kept.mode saved history)
   pub gone : is_lost kept.mode ≡ true → (kept.state ≡ []) × (kept.outbox ≡ empty_outbox me n)
@@ -69,15 +69,15 @@ pub record StandsAt (n me : ℕ) (kept : TheProcess) (state : List Message → L
   pub incarnation_is : incarnation ≡ kept.incarnation
   pub saves : Saves n me kept.saved (state (take saved history)) (take saved history) saved_trims (sends (take saved history))
 
--- of these messages so many are dropped, and a queue keeps the others, with their numbers by SSN
+-- the first of these messages are dropped, and a queue keeps the others, with their RSNs by SSN
 pub record Keeps (q : TheQueue) (dropped : ℕ) (payloads : List Payload) (numbers : ℕ → Option ℕ) : Type 0 where
   pub first : q.first ≡ suc dropped
   pub rest : IsRest dropped q.payloads payloads
   pub as_many : length q.numbers ≡ length q.payloads
   pub numbers_are : (i : ℕ) → i < length q.payloads → slice_index_or q.numbers i None ≡ numbers (suc (dropped + i))
 
--- to a destination d a gate let out what is released, and what waits follows it: with the sends of the first k of n messages, from
--- the run on, it has let out or holds as many as these messages send
+-- a gate has let out to the destination d what is released, and what waits follows it: counting the sends for the first k of n
+-- messages, k from the run on, it has let out or holds as many as these messages send
 pub record Holds (d : ℕ) (g : TheGate) (run n released : ℕ) (sent_by : ℕ → ℕ) : Type 0 where
   pub released_is : slice_index_or g.released d 0 ≡ released
   pub waits : (k : ℕ) → run ≤ k → k ≤ n → released + count_to d (filter (λ h. nat_le h.rsn k) g.waiting) ≡ sent_by k
@@ -100,7 +100,7 @@ pub record Shows (m : TheMachine) (w : World) : Type 0 where
   pub started : w.started ≡ m.started
   pub outside : w.phase 0 ≡ Up
 
--- the machine stands for this world, in which what every call keeps holds
+-- the machine stands for this world, and what every call keeps holds there
 pub record Stands (m : TheMachine) (w : World) : Type 0 where
   pub shows : Shows m w
   pub sound : Sound w
@@ -116,7 +116,7 @@ pub record Steps (old new : TheMachine) (room : ℕ) (call : Call) (answer : Ans
   pub stands : Stands new (after w call answer)
   pub images : new.images ≡ old.images
 
--- what every call owes, for each world that the machine stands for. A refusal changes nothing, and tells the least cause
+-- what every call guarantees in each world that the machine stands for. A refusal changes nothing, and tells the least cause
 abbrev pub Simulates : TheMachine → TheMachine → ℕ → Call → Result Answer Refusal → Type 0
 Simulates old new room call (Ok answer) = (w : World) → Stands old w → Steps old new room call answer w
 Simulates old new room call (Err refusal) = (new ≡ old) × ((w : World) → Stands old w → refusal_of w room call ≡ cause_of refusal)
@@ -126,7 +126,7 @@ abbrev pub answering : {X : Type 0} → (X → Answer) → Result X Refusal → 
 answering f (Ok x) = Ok (f x)
 answering f (Err r) = Err r
 
--- a cause is one of the world's: never want of memory
+-- a cause is one of the world's, never lack of memory
 abbrev pub IsTold : Option Refusal → Type 0
 IsTold None = Unit {0}
 IsTold (Some refusal) = refusal ≢ Memory

@@ -11,11 +11,11 @@ pub record IsStable (s : TheSaved) (counts : List ℕ) : Type 0 where
   pub counts_are : (x : ℕ) → x < PARTIES → slice_index_or counts x 0 ≡ count_by (λ y. y == x) s.senders
   pub sent : (d : ℕ) → (slice_index_or s.queues d nothing_kept).first + length (slice_index_or s.queues d nothing_kept).payloads ≤ EFFECTS * length s.senders + 1
 
--- a process that received nothing, with a state of so many zeros
+-- the checkpoint of a process that received nothing, with a state of len zeros
 abbrev pub idle_saved : ℕ → ℕ → ℕ → TheSaved
 idle_saved me n len = record { me = me; count = n; state = replicate len 0; senders = []; queues = replicate (n + 1) nothing_kept }
 
--- for each destination so many messages are dropped of those that were sent, and the others are saved
+-- for each destination the first sent messages are dropped, as many as trims says, and the others are saved
 pub record Saves (n me : ℕ) (s : TheSaved) (state : List ℕ) (history : List Message) (trims : ℕ → ℕ) (sent : ℕ → List Payload) : Type 0 where
   pub state_is : s.state ≡ state
   pub senders_are : s.senders ≡ map (λ (m : Message). m.sender) history

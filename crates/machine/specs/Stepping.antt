@@ -1,4 +1,4 @@
--- Calls by their values, and the jobs that they start
+-- Calls that are given as values, and the jobs that they start
 use Rattle.std.specs.Prelude.{◌≡◌, ℕ, Option, Some, None}
 use Rattle.replay.specs.Task.{TheTask}
 use Rattle.world.specs.declared.packet.Packet.{Packet}
@@ -14,7 +14,7 @@ use Rattle.machine.specs.declared.arrival.Arrival.{Arrival}
 use Rattle.machine.specs.declared.arrival.Arrival.TheVariants as arrivals
 use Rattle.machine.specs.declared.stepping.Reply.{Reply}
 
--- the call takes no result back: any but a finish
+-- the call takes no result: it is any but a finish
 abbrev pub TakesNoResult : Call → Type 0
 TakesNoResult (Finish p) = ⊥
 TakesNoResult other = Unit {0}
@@ -26,18 +26,18 @@ IsJobless (Finish p) = ⊥
 IsJobless (ReplayBegin p) = ⊥
 IsJobless other = Unit {0}
 
--- whose job the answer to a packet tells as started
+-- the process whose job starts, if this is the answer to this packet
 abbrev pub begun_by : Answer → Option Packet → Option ℕ
 begun_by (Started n) (Some (Delivery d m)) = Some d
 begun_by answer packet = None
 
--- the process whose job a call started
+-- the process whose job a call starts
 abbrev pub job_of : World → Call → Answer → Option ℕ
 job_of w (Arrive key) answer = begun_by answer (w.wire key)
 job_of w (ReplayBegin p) answer = Some p
 job_of w call answer = None
 
--- the job that is handed out is open, and this process's; or none is
+-- the job that is handed out is open and of this process; or there is none
 abbrev pub Opened : TheMachine → Option ℕ → Option TheTask → Type 0
 Opened m p None = p ≡ None
 Opened m p (Some task) = (p ≡ Some task.who.me) × IsHandedOut m task

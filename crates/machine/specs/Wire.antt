@@ -1,4 +1,4 @@
--- What clauses see of the wire: what lies under each key, if anything does
+-- What clauses see of the wire: the packet under each key, if there is one
 use Rattle.std.specs.Prelude.{◌≡◌, ◌≢◌, ℕ, ◌<◌, List, length, Option, Some, None, IsSome, Contains, slice_index_or}
 use Rattle.world.specs.declared.packet.Packet.{Packet}
 
@@ -8,7 +8,7 @@ pub record Puts (old new : List (Option Packet)) (key : ℕ) (was is : Option Pa
   pub now : slice_index_or new key None ≡ is
   pub others : (other : ℕ) → other ≢ key → slice_index_or new other None ≡ slice_index_or old other None
 
--- each of these keys is below the next
+-- each key is below the next
 abbrev pub Ascend : List ℕ → Type 0
 Ascend keys = (i j : ℕ) → i < j → j < length keys → slice_index_or keys i 0 < slice_index_or keys j 0
 

@@ -1,4 +1,4 @@
-//! What a packet does where it arrives.
+//! What an arriving packet did, and what a finished job gave.
 
 ghost use Rattle.std.specs.Prelude.{◌≡◌};
 ghost use Rattle.machine.specs.Arrival.{answer_of, finished_of};
@@ -6,31 +6,32 @@ ghost use Rattle.machine.specs.Arrival.{answer_of, finished_of};
 use replay::Job;
 use world::Answer;
 
-/// What a packet did where it arrived.
+/// What an arriving packet did.
 #[derive(Drop)]
 pub enum Arrival {
-    /// The message is the next of its sender, and this job is open.
+    /// The message is the next of its sender, and opened this job.
     Started(Job),
-    /// The process has the message: the key of the packet that tells its number again.
+    /// The process already has the message. This is the key of the packet that tells its number
+    /// again.
     Duplicate(usize),
-    /// A message before this one is missing.
+    /// An earlier message of the same sender is missing.
     Early,
     /// The outside was shown this output, by its SSN.
     Shown(u32),
-    /// The outside was shown this output before.
+    /// The outside was already shown this output.
     ShownBefore,
-    /// The number is recorded: the key of the packet that acknowledges it.
+    /// The number is recorded. This is the key of the packet that acknowledges it.
     Numbered(usize),
-    /// The number is acknowledged, and what may leave then is released.
+    /// The number is acknowledged, and the sends that waited for it are released.
     Acknowledged,
-    /// The packet speaks of what is past.
+    /// The number or acknowledgement is of an earlier incarnation, or of no logged message.
     Stale,
-    /// Its target isn't up.
+    /// The receiver isn't up.
     Unreachable,
 }
 
 impl Arrival {
-    /// What a journal keeps of it: of a job its serial number alone.
+    /// The answer that a journal keeps. Of a job that is its serial number only.
     pub fn answer(&self) -> Answer
         ensures { result ≡ answer_of self.now }
     {
@@ -48,17 +49,17 @@ impl Arrival {
     }
 }
 
-/// What a finished job gave.
+/// What a finished job did.
 #[derive(Clone, Copy, PartialEq, Eq, Debug)]
 pub enum Finished {
-    /// The message is received: its number, and the key of the packet that tells it.
+    /// The message is received: its RSN, and the key of the packet that tells it.
     Committed { rsn: u32, key: usize },
-    /// The message with this number is replayed.
+    /// The message with this RSN is replayed.
     Replayed(u32),
 }
 
 impl Finished {
-    /// What a journal keeps of it.
+    /// The answer that a journal keeps.
     pub fn answer(self) -> Answer
         ensures { result ≡ finished_of self }
     {

@@ -1,4 +1,4 @@
-//! What arrives.
+//! Arrivals: packets that reach their receivers.
 
 ghost use Rattle.std.specs.Prelude.{◌≡◌, ◌≢◌, ℕ, ◌+◌, ◌<◌, ◌≤◌, ◌↔◌, length, IfNone, IfOk, IsSome, OnOk, OnErr, Ok, Err, Some, None, true, false, slice_index_or, option_and_then};
 ghost use Rattle.sender_log.specs.Queue.{is_logged};
@@ -20,7 +20,7 @@ use sender_log::LogError;
 use world::{Call, Message, Packet, Refusal};
 
 impl Machine {
-    // What a message is to its receiver: of the outside, by what it was shown.
+    // What a message is to its receiver. The outside judges by what it was shown.
     fn judge(&self, to: u8, message: &Message) -> Judgement
         requires to { to ≤ length self.now.processes }
         requires up { is_up_at self.now to ≡ true }
@@ -44,7 +44,7 @@ impl Machine {
         Judgement::Early
     }
 
-    // How many jobs the packet would start: one, or none.
+    // How many jobs the packet would start: one or none.
     fn started_by(&self, packet: &Packet) -> u32
         requires { IsCarried (length self.now.processes) packet.now }
         ensures value { (w : World) → Stands self.now w → result ≡ one_if (starts w (Some packet.now)) }
@@ -74,7 +74,7 @@ impl Machine {
         self.take_cause(room, packet)
     }
 
-    // Why a packet that lies on the wire would not be taken.
+    // Why this packet on the wire would not be taken.
     fn take_cause(&self, room: u32, packet: &Packet) -> Option<Refusal>
         requires { IsCarried (length self.now.processes) packet.now }
         ensures none { IfNone result (0 < room) }
@@ -85,7 +85,7 @@ impl Machine {
             return Some(Refusal::Busy);
         }
         let jobs = self.open_jobs();
-        // A packet starts one job at most: it is judged only where one place is left.
+        // A packet starts at most one job, so it is judged only if one place is left.
         if room > jobs + 1 {
             return None;
         }
@@ -95,7 +95,7 @@ impl Machine {
         None
     }
 
-    // Whether the packet is a message for a process that works.
+    // Whether the packet is a message for a process with an open job.
     fn is_to_busy(&self, packet: &Packet) -> bool
         requires { IsCarried (length self.now.processes) packet.now }
         ensures { (w : World) → Stands self.now w → result ≡ is_to_busy w (Some packet.now) }
@@ -106,7 +106,7 @@ impl Machine {
         }
     }
 
-    /// Takes a packet from the wire to whom it is for.
+    /// Takes a packet from the wire to its receiver.
     pub fn arrive(&mut self, room: u32, key: usize) -> Result<Arrival, Refusal>
         requires { self.old.calls + room ≤ ENTRIES }
         ensures step { Simulates self.old self.new room (Call.Arrive key) (answering answer_of result) }
@@ -175,7 +175,7 @@ impl Machine {
     {
         match self.judge(to, &message) {
             Judgement::Next => {
-                // (jobs.rt)
+                // See jobs.rt.
                 let job = self.begin(to, message)?;
                 self.wire.remove(key);
                 Ok(Arrival::Started(job))
@@ -199,7 +199,7 @@ impl Machine {
         }
     }
 
-    // A packet arrives and leaves nothing behind.
+    // A packet leaves the wire, and nothing else changes.
     fn drop_packet(&mut self, key: usize)
         requires { self.old.calls < ENTRIES }
         ensures { Drops self.old self.new key }
@@ -264,7 +264,7 @@ impl Machine {
         }
     }
 
-    // An acknowledgement arrives at the receiver, whose sends that waited for it are released
+    // An acknowledgement arrives at the receiver, which releases the sends that waited for it
     // (`Process::acknowledge`).
     fn acknowledge(&mut self, room: u32, key: usize, packet: Packet) -> Arrival
         requires may { MayArrive self.old room key packet }
@@ -294,7 +294,7 @@ impl Machine {
     }
 }
 
-// Whom a packet is for.
+// The receiver of a packet.
 fn target(packet: &Packet) -> u8
     ensures { result ≡ target_of packet.now }
 {

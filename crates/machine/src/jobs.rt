@@ -1,4 +1,4 @@
-//! Jobs: begun, run, compared and finished.
+//! Jobs: how they are begun, run, compared and finished.
 
 ghost use Rattle.std.specs.Prelude.{◌≡◌, ◌+◌, ◌≤◌, ◌↔◌, true, false, IsTrue, IfOk, IfErr, OnOk};
 ghost use Rattle.world.specs.declared.refusal.Refusal.TheVariants.{Memory};
@@ -15,7 +15,7 @@ use std::sync::Arc;
 use world::{Message, Packet, Refusal};
 
 impl Machine {
-    // Opens a job of a process on a message. The growths come first.
+    // Opens a job of a process on a message. It takes its memory first.
     pub(crate) fn begin(&mut self, me: u8, message: Message) -> Result<Job, Refusal>
         requires { MayBegin self.old me message }
         ensures ok { IfOk result (λ job. Begins self.old self.new me message job) }
@@ -30,7 +30,7 @@ impl Machine {
             incarnation: process.incarnation(),
             rsn: process.length() + 1,
         };
-        // (the job has copies of the message and of the state)
+        // The job has copies of the message and of the state.
         let given = &message;
         let handed = *given;
         let spare = self.spare.take();
@@ -43,8 +43,8 @@ impl Machine {
         Ok(job)
     }
 
-    /// Calls the handler of a job that the machine made (replay/src/job.rt). It takes no machine, so
-    /// none changes meanwhile.
+    /// Calls the handler of a job (replay/src/job.rt). It takes no machine, so no machine changes
+    /// meanwhile.
     pub fn run(job: Job) -> Done
         ensures { result ≡ job }
     {
@@ -58,8 +58,8 @@ impl Machine {
         done.task().process()
     }
 
-    /// Whether what came back is of the job that its process has open. All that the job took is
-    /// compared, but not its serial number.
+    /// Whether this is the result of the job that its process has open. All that the job took is
+    /// compared, except its serial number.
     pub fn is_open(&self, done: &Done) -> bool
         ensures { IsTrue result ↔ Matches self.now done.now }
     {
@@ -83,7 +83,7 @@ impl Machine {
         task.is_call_of(image)
     }
 
-    /// Takes in what a handler left, if it is the result of the open job.
+    /// Commits the result of the open job. Any other result is refused.
     pub fn finish(&mut self, done: Done) -> Result<Finished, (Refusal, Done)>
         requires { self.old.calls ≤ ENTRIES }
         ensures step { Finishes self.old self.new done result }
@@ -98,8 +98,9 @@ impl Machine {
         self.recall(done)
     }
 
-    // A message is received: the process takes the receipt, logs what the handler sent and holds it back
-    // until the number is acknowledged, has the new state, and puts the number on the wire to the sender.
+    // Receives the message of a job: the process accepts the receipt, logs the handler's sends and
+    // holds them until the RSN is acknowledged, takes the new state, and puts the RSN on the wire
+    // to the sender.
     fn commit(&mut self, done: Done) -> Result<Finished, (Refusal, Done)>
         requires calls { self.old.calls ≤ ENTRIES }
         requires matches { Matches self.old done }
@@ -119,7 +120,7 @@ impl Machine {
             incarnation: task.incarnation(),
         };
         let process = &mut self.processes[me as usize - 1];
-        // (the process lays the packet on the wire too)
+        // The process also puts the packet on the wire.
         let Ok(key) = process.commit(&done, &mut self.wire, number) else {
             return Err((Refusal::Memory, done));
         };
@@ -128,8 +129,9 @@ impl Machine {
         Ok(Finished::Committed { rsn, key })
     }
 
-    // A message is replayed: the process takes the receipt, logs what the handler sent, as acknowledged
-    // and without numbers, and has the new state. Behind the last one it restores its numbers, or is up.
+    // Replays the message of a job: the process accepts the receipt, logs the handler's sends as
+    // acknowledged and without RSNs, and takes the new state. After the last message it restores
+    // its RSNs, or is up.
     fn recall(&mut self, done: Done) -> Result<Finished, (Refusal, Done)>
         requires calls { self.old.calls ≤ ENTRIES }
         requires matches { Matches self.old done }
@@ -144,7 +146,7 @@ impl Machine {
             return Err((Refusal::Memory, done));
         }
         if let Some(alone) = process.mode().is_replayed() {
-            // (recovering.rt)
+            // See recovering.rt.
             self.settle(me, alone);
         }
         self.calls += 1;

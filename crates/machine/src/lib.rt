@@ -1,11 +1,11 @@
-//! The processes, the outside and the wire of a session, without its journal.
+//! A session without its journal: the processes, the outside and the wire.
 //!
-//! A [`Machine`] keeps bytes and forgets histories: of each process its state, receipts, log, gate
-//! and open job; of the outside its inputs and what it was shown; and the packets on the wire. It
-//! *stands for* the worlds that agree with that. Each call that it accepts is a step of every world
-//! that it stands for, and leaves it standing for the world after the step. Each refusal changes
-//! nothing and tells the least number whose cause holds there. The calls take `room`, the free
-//! places of the journal, so that a full journal is refused in its turn.
+//! A [`Machine`] keeps bytes and forgets histories. Of each process it keeps state, receipts, log,
+//! gate and open job; of the outside its inputs and what it was shown; and the packets on the wire.
+//! It *stands for* the worlds that agree with these. Each call that it accepts is a step of every
+//! world that it stands for, and afterwards it stands for the world after the step. A refusal
+//! changes nothing and tells the least number whose cause holds there. The calls take `room`, the
+//! free places of the journal, so that they can refuse for a full journal.
 //!
 //! ```text
 //! let mut machine = Machine::open(alloc, images)?;
@@ -15,7 +15,7 @@
 //! | File | Methods of a machine |
 //! |---|---|
 //! | `machine` | `open`, and what reads it |
-//! | `stepping` | `cause` and `step`: those of any call, by the method of its name |
+//! | `stepping` | `cause` and `step` of any call, by the method of its name |
 //! | `sending` | `input`, `transmit`, `copy`, `lose` |
 //! | `arriving` | `arrive` |
 //! | `jobs` | `run`, `finish`, `is_open`, `receiver_of` |
@@ -24,8 +24,8 @@
 //! | `replaying` | `replay_begin`, `resync` |
 //! | `picking` | `pick` |
 //!
-//! What the calls do to one process is in `process`, with its sends in `outbox` and `mail`; to the outside in `outside`; to
-//! the wire in `wire`.
+//! The calls change a process in `process`, its sends in `outbox` and `mail`, the outside in
+//! `outside`, and the wire in `wire`.
 #![tactic(auto)]
 
 mod arrival;

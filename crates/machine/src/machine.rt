@@ -1,4 +1,4 @@
-//! A machine, and what is read of it.
+//! A machine, and how it is read.
 
 ghost use Rattle.std.specs.Prelude.{◌≡◌, ℕ, ◌+◌, ◌<◌, ◌≤◌, ◌&&◌, [], true, false, IfOk, is_some, count_by, length, map, nat_lt, nat_le};
 ghost use Rattle.handlers.specs.Image.{image_in};
@@ -36,7 +36,7 @@ pub struct Machine {
     pub(crate) wire: Wire,
     pub(crate) started: u32,
     pub(crate) calls: u32,
-    /// The places of the job that was finished last.
+    /// The buffers of the job that was finished last.
     pub(crate) spare: Option<Spare>,
 }
 
@@ -67,7 +67,8 @@ fn idle_processes(alloc: Global, images: &[Arc<Handler>]) -> Result<Vec<Process>
 }
 
 impl Machine {
-    /// Processes with the handlers of these images, which received nothing. There are 1 to 15.
+    /// A machine of processes with the handlers of these images, 1 to 15. They have received
+    /// nothing.
     pub fn open(alloc: Global, images: Vec<Arc<Handler>>) -> Result<Machine, Refusal>
         ensures { Opens (map image_in images.items) result }
     {
@@ -127,7 +128,7 @@ impl Machine {
         self.process(p).state()
     }
 
-    /// How many messages its state has: while it is down, those of its checkpoint.
+    /// How many messages are in its state. While it is down, those of its checkpoint.
     pub fn length(&self, p: u8) -> u32
         requires { (1 ≤ p) × (p ≤ length self.now.processes) }
         ensures { (w : World) → Stands self.now w → result ≡ length_of w p }
@@ -162,7 +163,7 @@ impl Machine {
         self.process(p).incarnation()
     }
 
-    /// The senders of the messages that it received, and which of these are acknowledged.
+    /// The senders of the messages that it received, and which messages are acknowledged.
     pub fn receipts(&self, p: u8) -> &Receipts
         requires { (1 ≤ p) × (p ≤ length self.now.processes) }
         ensures { (w : World) → Stands self.now w → ReceiptsStand w p result.now }
@@ -170,7 +171,7 @@ impl Machine {
         self.process(p).receipts()
     }
 
-    /// The messages that it sent, with their numbers. 0 is the outside, which sent its inputs.
+    /// The messages that it sent, with their RSNs. 0 is the outside, which sent its inputs.
     pub fn log(&self, p: u8) -> &Log
         requires { p ≤ length self.now.processes }
         ensures value { result.now ≡ log_at self.now p }
@@ -182,7 +183,7 @@ impl Machine {
         self.process(p).outbox().log()
     }
 
-    /// Those of its messages that wait, and how many were released to each destination.
+    /// Its sends that wait, and how many were released to each destination.
     pub fn gate(&self, p: u8) -> &Gate
         requires { (1 ≤ p) × (p ≤ length self.now.processes) }
         ensures { (w : World) → Stands self.now w → GateStands w p result.now }
@@ -190,7 +191,7 @@ impl Machine {
         self.process(p).outbox().gate()
     }
 
-    // What is kept of the process of this number.
+    // The process with this number.
     pub(crate) fn process(&self, p: u8) -> &Process
         requires { (1 ≤ p) × (p ≤ length self.now.processes) }
         ensures value { result.now ≡ process_at self.now p }
@@ -199,14 +200,14 @@ impl Machine {
         &self.processes[p as usize - 1]
     }
 
-    // Whether this is a process, and not the outside.
+    // Whether this is a process and not the outside.
     pub(crate) fn is_inside(&self, p: u8) -> bool
         ensures { result ≡ (nat_lt 0 p && nat_le p (length self.now.processes)) }
     {
         p > 0 && p as usize <= self.processes.len()
     }
 
-    /// How many jobs are open, at most one a process.
+    /// How many jobs are open. A process has at most one.
     pub fn open_jobs(&self) -> u32
         ensures value { result ≡ count_by (λ x. is_some x.working) self.now.processes }
         ensures bound { result ≤ PROCESSES }
@@ -215,7 +216,7 @@ impl Machine {
         open.count() as u32
     }
 
-    // How many of these are of processes that are up.
+    // How many open jobs are of processes that are up.
     pub(crate) fn live_jobs(&self) -> u32
         ensures value { result ≡ live self.now }
         ensures bound { result ≤ PROCESSES }

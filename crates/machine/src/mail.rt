@@ -1,4 +1,4 @@
-//! Messages that were sent.
+//! Sent messages: logged, and held at the gate.
 
 ghost use Rattle.std.specs.Prelude.{◌≡◌, ◌<◌, ◌≤◌, length, slice_index_or, true, OnOk, OnErr};
 ghost use Rattle.std.specs.List.{All};
@@ -13,7 +13,7 @@ use send_gate::Gate;
 use sender_log::Log;
 use std::alloc::AllocError;
 
-/// Messages that were sent: the log keeps them, and the gate holds those that may not leave yet.
+/// Sent messages: the log keeps them, and the gate holds those that may not leave yet.
 #[derive(Drop)]
 pub struct Mail {
     pub log: Log,
@@ -21,8 +21,9 @@ pub struct Mail {
 }
 
 impl Mail {
-    /// Logs a message to a destination, and holds it until the message with this number is
-    /// acknowledged. One to any other number is passed over. A refusal changes nothing.
+    /// Logs a message to a destination, and holds it until the message with this RSN is
+    /// acknowledged. A message to a number that is no destination is dropped. A refusal changes
+    /// nothing.
     fn post(&mut self, dst: u8, rsn: u32, payload: &Payload) -> Result<(), AllocError>
         requires narrow { length self.old.log.queues ≤ PARTIES }
         requires order { All (λ h. h.rsn ≤ rsn) self.old.gate.waiting }
@@ -41,8 +42,8 @@ impl Mail {
         Ok(())
     }
 
-    /// Posts what a handler gave: its messages to processes, and its outputs to the outside. A
-    /// refusal leaves a part of it posted.
+    /// Posts the effects of a handler: its messages to processes, and its outputs to the outside. A
+    /// refusal leaves a part of them posted.
     pub fn post_all(&mut self, rsn: u32, effects: &Effects) -> Result<(), AllocError>
         requires narrow { length self.old.log.queues ≤ PARTIES }
         requires below { All (λ h. h.rsn < rsn) self.old.gate.waiting }
@@ -61,7 +62,7 @@ impl Mail {
         Ok(())
     }
 
-    /// Takes back what was posted under this number.
+    /// Takes back what was posted under this RSN.
     pub fn withdraw(&mut self, rsn: u32)
         requires { (m : Mail) × Follows rsn m self.old }
         ensures { (m : Mail) → Follows rsn m self.old → self.new ≡ m }
@@ -69,7 +70,7 @@ impl Mail {
         while self.withdraw_last(rsn) {}
     }
 
-    /// Takes the last message back, if it was posted under this number.
+    /// Takes the last message back, if it was posted under this RSN.
     fn withdraw_last(&mut self, rsn: u32) -> bool
         requires { (m : Mail) × Follows rsn m self.old }
         ensures { WithdrawsLast result rsn self.old self.new }

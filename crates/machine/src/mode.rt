@@ -1,4 +1,4 @@
-//! How far a process is between a crash and its return.
+//! Which part of a recovery a process is in.
 
 ghost use Rattle.std.specs.Prelude.{◌≡◌, ◌<◌, false, slice_index_or, slice_set, replicate};
 ghost use Rattle.machine.specs.Mode.{is_live, is_lost, is_replayed, next_job, has_no_peer};
@@ -7,17 +7,17 @@ use limits::PARTIES;
 use replay::Plan;
 use world::Message;
 
-/// What a process does but for its open job.
+/// The phase of a process, without its open job.
 #[derive(Drop)]
 pub enum Mode {
-    /// It was never down, or is back.
+    /// Up: it never crashed, or has come back.
     Live,
     /// It crashed.
     Down,
-    /// It receives again what checkpoint and logs kept. `alone`: it came back whatever the others
-    /// did.
+    /// It receives again what checkpoint and logs kept. `alone`: it came back alone, whatever the
+    /// others did.
     Replaying { plan: Plan, alone: bool },
-    /// It restores the numbers of its messages for these peers, of which one at least is to do.
+    /// It restores the RSNs of its messages to these peers, of which at least one is left.
     Resync(Peers),
 }
 
@@ -44,7 +44,7 @@ impl Mode {
         }
     }
 
-    /// Where the process has replayed all of its plan: whether it came back alone.
+    /// If the process has replayed all of its plan: whether it came back alone.
     pub fn is_replayed(&self) -> Option<bool>
         ensures { result ≡ is_replayed self.now }
     {
@@ -67,14 +67,14 @@ impl Mode {
     }
 }
 
-/// Processes by number: whether they are still to do.
+/// Processes by number: whether each is left to do.
 #[derive(Clone, Copy, PartialEq, Eq, Debug)]
 pub struct Peers {
     pub todo: [bool; PARTIES],
 }
 
 impl Peers {
-    /// None.
+    /// No peer.
     pub fn none() -> Peers
         ensures { result.todo ≡ replicate PARTIES false }
     {
@@ -83,21 +83,21 @@ impl Peers {
         }
     }
 
-    /// Whether this one is to do.
+    /// Whether this peer is left.
     pub fn has(&self, r: u8) -> bool
         ensures { result ≡ slice_index_or self.now.todo r false }
     {
         (r as usize) < self.todo.len() && self.todo[r as usize]
     }
 
-    /// Whether none is.
+    /// Whether no peer is left.
     pub fn is_empty(&self) -> bool
         ensures { result ≡ has_no_peer self.now }
     {
         self.todo.iter().all(|todo| !*todo)
     }
 
-    /// This one is to do, or isn't.
+    /// Sets whether this peer is left.
     pub fn set(&mut self, r: u8, todo: bool)
         requires { r < PARTIES }
         ensures { self.new.todo ≡ slice_set self.old.todo r todo }

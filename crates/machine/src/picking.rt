@@ -1,4 +1,4 @@
-//! Useful calls: those that bring the work on.
+//! Useful calls: those that bring the work forward.
 
 ghost use Rattle.std.specs.Prelude.{◌≡◌, ◌≢◌, ℕ, ◌+◌, ◌<◌, ◌≤◌, length, IfNone, IfSome, None, Some, true};
 ghost use Rattle.world.specs.History.{rsn_of};
@@ -17,10 +17,10 @@ use rsn::Judgement;
 use world::{Call, Message, Packet};
 
 impl Machine {
-    /// A call that is useful and isn't refused with so much room in the journal for another cause
-    /// than want of memory, and `None` only where there is none: a packet that can be taken from
-    /// the wire, else a message that is replayed, else numbers that are restored, else a message
-    /// that is put on the wire. Takes no memory.
+    /// A useful call that could be refused only for lack of memory, if the journal has this room;
+    /// `None` only if there is none. A packet that can arrive comes first, then a message that can
+    /// be replayed, then RSNs that can be restored, then a message that can go on the wire. Takes
+    /// no memory.
     pub fn pick(&self, room: u32) -> Option<Call>
         ensures some { IfSome result (λ call. (w : World) → Stands self.now w → IsPick w room call) }
         ensures none { IfNone result ((w : World) → Stands self.now w → (call : Call) → ¬ IsPick w room call) }
@@ -51,7 +51,7 @@ impl Machine {
         None
     }
 
-    // A process that can restore its numbers for a peer, and the peer.
+    // A process that can restore its RSNs from a peer, and the peer.
     fn pick_resync(&self, room: u32) -> Option<(u8, u8)>
         ensures some { IfSome result (λ x. (w : World) → Stands self.now w → IsPick w room (Call.Resync x.0 x.1)) }
         ensures none { IfNone result ((w : World) → Stands self.now w → (p r : ℕ) → ¬ IsPick w room (Call.Resync p r)) }
@@ -64,7 +64,7 @@ impl Machine {
         None
     }
 
-    // A peer for which this one can restore its numbers.
+    // A peer from which this process can restore its RSNs.
     fn resync_peer(&self, room: u32, p: u8) -> Option<u8>
         requires { (0 < p) × (p ≤ length self.now.processes) }
         ensures some { IfSome result (λ r. (w : World) → Stands self.now w → IsPick w room (Call.Resync p r)) }
@@ -91,7 +91,7 @@ impl Machine {
         None
     }
 
-    // A message that can be put on the wire with use.
+    // A message that it is useful to put on the wire.
     fn pick_transmit(&self, room: u32) -> Option<Call>
         ensures some { IfSome result (λ call. (w : World) → Stands self.now w → IsPick w room call) }
         ensures none { IfNone result ((w : World) → Stands self.now w → (p d i : ℕ) → ¬ IsPick w room (Call.Transmit p d i)) }
@@ -109,7 +109,7 @@ impl Machine {
         None
     }
 
-    // A message of this sender that can be put on the wire with use: its receiver and its SSN.
+    // A message of this sender that it is useful to put on the wire: its receiver and its SSN.
     fn wanted_of(&self, from: u8) -> Option<(u8, u32)>
         requires { from ≤ length self.now.processes }
         ensures some { IfSome result (λ x. ArePeers self.now from x.0 × IsWanted self.now from x.0 x.1) }
@@ -129,8 +129,8 @@ impl Machine {
         None
     }
 
-    // The SSN of one between these two: the next of its sender, or one that the receiver has under a
-    // number which isn't acknowledged.
+    // The SSN of one between these two: the sender's next, or one that the receiver has under an
+    // RSN that isn't acknowledged.
     fn wanted_between(&self, from: u8, to: u8) -> Option<u32>
         requires { ArePeers self.now from to }
         ensures some { IfSome result (λ ssn. IsWanted self.now from to ssn) }
@@ -146,8 +146,8 @@ impl Machine {
         self.wanted_again(from, to)
     }
 
-    // The SSN of one that the receiver has, the last one first. Those that are acknowledged without a
-    // gap, among the messages of this sender, aren't looked at.
+    // The SSN of one that the receiver has, the latest first. It doesn't look at the messages of
+    // this sender that are acknowledged without a gap.
     fn wanted_again(&self, from: u8, to: u8) -> Option<u32>
         requires peers { ArePeers self.now from to }
         requires inside { 0 < to }
@@ -166,7 +166,7 @@ impl Machine {
         None
     }
 
-    // Whether the message of this SSN can be put on the wire with use.
+    // Whether it is useful to put the message with this SSN on the wire.
     fn is_wanted(&self, from: u8, to: u8, ssn: u32) -> bool
         requires peers { ArePeers self.now from to }
         requires ssn { 0 < ssn }
@@ -181,7 +181,7 @@ impl Machine {
         !self.is_on_wire(from, to, ssn)
     }
 
-    // The SSN of the message that is next of this sender.
+    // The SSN of this sender's next message.
     fn next_ssn(&self, from: u8, to: u8) -> u32
         requires { ArePeers self.now from to }
         ensures value { (w : World) → Stands self.now w → result ≡ next_ssn w from to }
@@ -193,7 +193,7 @@ impl Machine {
         self.process(to).receipts().next(from)
     }
 
-    // Whether the receiver wants the message of this SSN.
+    // Whether the receiver wants the message with this SSN.
     fn wants(&self, from: u8, to: u8, ssn: u32) -> bool
         requires peers { ArePeers self.now from to }
         requires ssn { 0 < ssn }
@@ -212,7 +212,7 @@ impl Machine {
         }
     }
 
-    // The number under which a process has the message of this SSN.
+    // The RSN under which a process has the message with this SSN.
     fn number_of(&self, from: u8, to: u8, ssn: u32) -> Option<u32>
         requires inside { (0 < to) × (to ≤ length self.now.processes) }
         requires up { is_up_at self.now to ≡ true }
@@ -227,7 +227,7 @@ impl Machine {
         }
     }
 
-    // Whether a packet belongs to the message of this SSN.
+    // Whether a packet on the wire belongs to the message with this SSN.
     fn is_on_wire(&self, from: u8, to: u8, ssn: u32) -> bool
         requires peers { ArePeers self.now from to }
         requires ssn { 0 < ssn }
@@ -243,7 +243,8 @@ impl Machine {
         false
     }
 
-    // Whether this packet does: it is the message, or tells its present number, or acknowledges that.
+    // Whether this packet belongs to it: it is the message, tells its present RSN, or acknowledges
+    // that.
     fn belongs(&self, from: u8, to: u8, ssn: u32, packet: &Packet) -> bool
         requires peers { ArePeers self.now from to }
         requires ssn { 0 < ssn }
@@ -282,7 +283,7 @@ impl Machine {
     }
 }
 
-// Whether the message that is worked on is this one.
+// Whether the open job is on this message.
 fn works_on(working: Option<Message>, from: u8, ssn: u32) -> bool
     ensures { result ≡ works_on (phase_of 0 Live working) from ssn }
 {

@@ -1,4 +1,4 @@
-//! Crashes, and how processes come back.
+//! Crashes and recoveries.
 
 ghost use Rattle.std.specs.Prelude.{◌≡◌, ◌+◌, ◌<◌, ◌≤◌, length, map, true, false, IfNone, IfOk, OnOk, Ok, option_and_then};
 ghost use Rattle.world.specs.World.{World};
@@ -17,8 +17,8 @@ use rsn::Receipts;
 use std::alloc::{AllocError, Global};
 use world::{Answer, Call, Refusal};
 
-/// What is left of a process that crashed: what its checkpoint has, and the messages behind it that the
-/// logs have.
+/// What is left of a crashed process: what its checkpoint has, and the later messages that logs
+/// have.
 #[derive(Drop)]
 pub struct Remains {
     state: Vec<u8>,
@@ -49,7 +49,8 @@ impl Machine {
         None
     }
 
-    /// A process loses all but its checkpoint and its incarnation, which goes up: the new one.
+    /// A process loses all but its checkpoint and its incarnation, which goes up by one. Answers
+    /// the new incarnation.
     pub fn crash(&mut self, room: u32, p: u8) -> Result<u32, Refusal>
         requires { self.old.calls + room ≤ ENTRIES }
         ensures step { Simulates self.old self.new room (Call.Crash p) (answering Answer.Crashed result) }
@@ -78,7 +79,7 @@ impl Machine {
         true
     }
 
-    /// Why a process would not come back.
+    /// Why a process would not recover.
     pub fn recover_cause(&self, room: u32, p: u8) -> Option<Refusal>
         ensures none { IfNone result ((0 < p) × (p ≤ length self.now.processes) × (0 < room) × (is_lost (process_at self.now p).mode ≡ true)) }
         ensures cause { (w : World) → Stands self.now w → refusal_of w room (Call.Recover p) ≡ option_and_then cause_of result }
@@ -93,7 +94,7 @@ impl Machine {
         self.return_cause(room, p)
     }
 
-    /// Why a process would not come back alone.
+    /// Why a process would not recover alone.
     pub fn recover_alone_cause(&self, room: u32, p: u8) -> Option<Refusal>
         ensures none { IfNone result ((0 < p) × (p ≤ length self.now.processes) × (0 < room) × (is_lost (process_at self.now p).mode ≡ true)) }
         ensures cause { (w : World) → Stands self.now w → refusal_of w room (Call.RecoverAlone p) ≡ option_and_then cause_of result }
@@ -105,7 +106,7 @@ impl Machine {
         self.return_cause(room, p)
     }
 
-    // Why one that may come back doesn't.
+    // Why a process would not recover, whatever the other processes do.
     fn return_cause(&self, room: u32, p: u8) -> Option<Refusal>
         requires { (0 < p) × (p ≤ length self.now.processes) }
         ensures { result ≡ returning self.now room p }
@@ -119,8 +120,8 @@ impl Machine {
         None
     }
 
-    /// A process comes back as its checkpoint says, with the messages before it that senders logged
-    /// under the next numbers. Answers how many messages it keeps. All others have to be up.
+    /// A process restores its checkpoint, and plans to replay the messages that senders logged
+    /// under the next RSNs. Answers how many messages it keeps. All others have to be up.
     pub fn recover(&mut self, room: u32, p: u8) -> Result<u32, Refusal>
         requires { self.old.calls + room ≤ ENTRIES }
         ensures step { Simulates self.old self.new room (Call.Recover p) (answering Answer.Kept result) }
@@ -132,7 +133,7 @@ impl Machine {
         self.bring_back(room, p, false)
     }
 
-    /// As `recover`, whatever the other processes do.
+    /// As `recover`, but in whatever state the other processes are.
     pub fn recover_alone(&mut self, room: u32, p: u8) -> Result<u32, Refusal>
         requires { self.old.calls + room ≤ ENTRIES }
         ensures step { Simulates self.old self.new room (Call.RecoverAlone p) (answering Answer.Kept result) }
@@ -144,7 +145,7 @@ impl Machine {
         self.bring_back(room, p, true)
     }
 
-    // A process comes back. The growths come first.
+    // A process comes back. It takes its memory first.
     fn bring_back(&mut self, room: u32, p: u8, alone: bool) -> Result<u32, Refusal>
         requires { MayRecover self.old room p alone }
         ensures step { Simulates self.old self.new room (recovery_of p alone) (answering Answer.Kept result) }
@@ -173,7 +174,7 @@ impl Machine {
         })
     }
 
-    // A process is back with what is left of it. Answers how many messages it keeps.
+    // Puts a process back from what is left of it. Answers how many messages it keeps.
     fn put_back(&mut self, room: u32, p: u8, alone: bool, remains: Remains) -> u32
         requires may { MayRecover self.old room p alone }
         requires left { IsLeftOf self.old p remains }
@@ -198,8 +199,8 @@ impl Machine {
         kept
     }
 
-    // What the process replays after these receipts: the messages to it that any log has under the next
-    // numbers, up to the first gap.
+    // The plan of p after these receipts: the messages to p that any log has under the next RSNs,
+    // up to the first gap.
     fn plan(&self, p: u8, receipts: &Receipts) -> Result<Plan, AllocError>
         ensures plan { IfOk result (λ plan. IsPlan (found (logs_of self.now) p) receipts.now.senders plan.messages) }
         ensures start { IfOk result (λ plan. (plan.before ≡ length receipts.now.senders) × (plan.replayed ≡ 0)) }
@@ -211,7 +212,7 @@ impl Machine {
         collect_from(self.alloc, &logs[..self.processes.len() + 1], p, receipts)
     }
 
-    // All senders forget the numbers above this one of their messages to p.
+    // All senders forget the RSNs above this one of their messages to p.
     fn forget_after(&mut self, p: u8, rsn: u32)
         ensures { self.new ≡ forgotten p rsn self.old }
     {
@@ -221,7 +222,7 @@ impl Machine {
         }
     }
 
-    // A process has replayed all: it has its peers to do, or where there is none, is up.
+    // A process has replayed all. It begins to restore its RSNs, or if it has no peers is up.
     pub(crate) fn settle(&mut self, p: u8, alone: bool)
         requires { MaySettle self.old p }
         ensures { SettlesAt p alone self.old self.new }
@@ -231,8 +232,8 @@ impl Machine {
         self.processes[p as usize - 1].settle(alloc, peers);
     }
 
-    // The peers from whose receipts a process gets the numbers of its messages back: all others, or
-    // where it came back alone those that are up.
+    // The peers from whose receipts a process restores its RSNs: all others, or if it came back
+    // alone those that are up.
     fn peers(&self, p: u8, alone: bool) -> Peers
         ensures { ArePeersOf self.now p alone result }
     {

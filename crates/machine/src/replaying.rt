@@ -1,4 +1,4 @@
-//! Jobs that are replayed, and numbers that are restored.
+//! Replayed jobs and restored RSNs.
 
 ghost use Rattle.std.specs.Prelude.{◌≡◌, ◌+◌, ◌<◌, ◌≤◌, ◌&&◌, nat_lt, nat_le, length, true, IfNone, IfOk, OnOk, OnErr, option_and_then};
 ghost use Rattle.world.specs.World.{World};
@@ -62,7 +62,7 @@ impl Machine {
         self.begin(p, message)
     }
 
-    /// Whether a process has still to restore its numbers for this peer.
+    /// Whether a process still has to restore its RSNs from this peer.
     pub fn is_to_do(&self, p: u8, r: u8) -> bool
         requires { (1 ≤ p) × (p ≤ length self.now.processes) }
         ensures todo { (w : World) → Stands self.now w → result ≡ has (todo_of (w.phase p)) r }
@@ -74,7 +74,7 @@ impl Machine {
         }
     }
 
-    /// Why numbers would not be restored.
+    /// Why RSNs would not be restored.
     pub fn resync_cause(&self, room: u32, p: u8, r: u8) -> Option<Refusal>
         ensures none { IfNone result (MayResync self.now p r × (0 < room)) }
         ensures cause { (w : World) → Stands self.now w → refusal_of w room (Call.Resync p r) ≡ option_and_then cause_of result }
@@ -98,8 +98,8 @@ impl Machine {
         None
     }
 
-    /// Gives the messages of p to r the numbers under which r received them, and answers how many
-    /// got one. After the last peer p is up, and all that it sent is released.
+    /// Gives the messages of p to r the RSNs under which r received them, and answers how many got
+    /// one. After the last peer p is up, and all that it sent is released.
     pub fn resync(&mut self, room: u32, p: u8, r: u8) -> Result<u32, Refusal>
         requires { self.old.calls + room ≤ ENTRIES }
         ensures step { Simulates self.old self.new room (Call.Resync p r) (answering Answer.Restored result) }
@@ -116,7 +116,7 @@ impl Machine {
         Ok(count)
     }
 
-    // The peers for which a process has still to restore its numbers, but for this one.
+    // The peers that are left to a process, without this one.
     fn peers_left(&self, p: u8, r: u8) -> Peers
         requires { (1 ≤ p) × (p ≤ length self.now.processes) }
         ensures { ArePeersLeft self.now p r result }
@@ -128,7 +128,7 @@ impl Machine {
         left
     }
 
-    // Gives the messages of p to r their numbers.
+    // Gives the messages of p to r their RSNs.
     fn restore_numbers(&mut self, p: u8, r: u8) -> Result<u32, AllocError>
         requires { MayResync self.old p r }
         ensures count { IfOk result (λ n. n ≡ known (queue_of r (log_at self.new p)).numbers) }

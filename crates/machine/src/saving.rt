@@ -1,4 +1,4 @@
-//! Checkpoints, and what senders drop for them.
+//! Checkpoints, and the log entries that they make superfluous.
 
 ghost use Rattle.std.specs.Prelude.{◌≡◌, suc, ◌+◌, ◌<◌, ◌≤◌, length, true, None, IfNone, OnOk, option_and_then};
 ghost use Rattle.world.specs.World.{World};
@@ -53,12 +53,12 @@ impl Machine {
         requires { (1 ≤ p) × (p ≤ length self.now.processes) }
         ensures { (w : World) → Stands self.now w → IsSavedOf w p result.now }
     {
-        // For the proof: reading a field tells the invariant, here of each checkpoint.
+        // For the proof: a read of a field gives the invariant, here of each checkpoint.
         let _alloc = &self.alloc;
         self.process(p).stable().bytes()
     }
 
-    /// Why nothing would be dropped.
+    /// Why no log would be trimmed.
     pub fn trim_cause(&self, room: u32, d: u8) -> Option<Refusal>
         ensures none { IfNone result ((d ≤ length self.now.processes) × (0 < room)) }
         ensures cause { (w : World) → Stands self.now w → refusal_of w room (Call.Trim d) ≡ option_and_then cause_of result }
@@ -73,14 +73,14 @@ impl Machine {
         None
     }
 
-    /// Each sender that is up drops its messages to d that d's checkpoint covers, or for the
+    /// Each sender that is up drops its messages to d that d's checkpoint covers, or if d is the
     /// outside those that were shown. Answers how many. It takes no memory.
     pub fn trim(&mut self, room: u32, d: u8) -> Result<u32, Refusal>
         requires { self.old.calls + room ≤ ENTRIES }
         ensures step { Simulates self.old self.new room (Call.Trim d) (answering Answer.Trimmed result) }
         ensures calls { OnOk result (self.new.calls ≡ self.old.calls + 1) }
     {
-        // For the proof: reading a field tells the invariant, here how wide each log is.
+        // For the proof: a read of a field gives the invariant, here how wide each log is.
         let _alloc = &self.alloc;
         if let Some(refusal) = self.trim_cause(room, d) {
             return Err(refusal);

@@ -1,4 +1,4 @@
-//! Inputs, and what is put on the wire or taken from it without arriving.
+//! Inputs, and packets that are put on the wire or lost.
 
 ghost use Rattle.std.specs.Prelude.{◌≡◌, ◌≢◌, ◌+◌, ◌<◌, ◌≤◌, length, IfNone, OnOk, None, slice_index_or, option_and_then};
 ghost use Rattle.world.specs.World.{World};
@@ -44,7 +44,7 @@ impl Machine {
         Ok(ssn)
     }
 
-    // Why a packet more would not be put on the wire.
+    // Why one more packet would not be put on the wire.
     pub(crate) fn place_cause(&self, room: u32) -> Option<Refusal>
         ensures { result ≡ placing self.now room }
     {
@@ -82,7 +82,7 @@ impl Machine {
         self.place_cause(room)
     }
 
-    // How many messages are released: of the outside, all inputs.
+    // How many messages to this destination are released. The outside releases all its inputs.
     pub(crate) fn released(&self, from: u8, to: u8) -> u32
         requires { (from ≢ to) × (from ≤ length self.now.processes) × (to ≤ length self.now.processes) }
         ensures { result ≡ released_at self.now from to }
@@ -144,7 +144,7 @@ impl Machine {
         Ok(new)
     }
 
-    /// Why a packet would not be lost.
+    /// Why the wire would not lose a packet.
     pub fn lose_cause(&self, room: u32, key: usize) -> Option<Refusal>
         ensures none { IfNone result (0 < room) }
         ensures cause { (w : World) → Stands self.now w → refusal_of w room (Call.Lose key) ≡ option_and_then cause_of result }
@@ -159,7 +159,7 @@ impl Machine {
         None
     }
 
-    /// Takes a packet from the wire, which arrives nowhere.
+    /// The wire loses a packet, which arrives nowhere.
     pub fn lose(&mut self, room: u32, key: usize) -> Result<(), Refusal>
         requires { self.old.calls + room ≤ ENTRIES }
         ensures step { Simulates self.old self.new room (Call.Lose key) (answering (λ _. Answer.Lost) result) }

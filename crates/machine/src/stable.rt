@@ -1,4 +1,4 @@
-//! What outlives a crash.
+//! Stable storage of one process: what outlives a crash.
 
 ghost use Rattle.std.specs.Prelude.{◌≡◌, ◌+◌, ◌≤◌, ◌<◌, ◌==◌, true, length, count_by, IfOk};
 ghost use Rattle.std.specs.List.{list_all};
@@ -14,7 +14,7 @@ use rsn::Receipts;
 use std::alloc::{AllocError, Global};
 use std::marker::Model;
 
-/// The checkpoint of a process, kept as its bytes alone, and by sender how many messages it covers.
+/// The checkpoint of a process, kept as bytes, and how many messages of each sender it covers.
 #[derive(Drop)]
 pub struct Stable {
     saved: Stored,
@@ -33,8 +33,8 @@ impl Model for Stable {
 }
 
 impl Stable {
-    /// The checkpoint of the process `me` of `n`: its state, 0 to 1,024 bytes, its receipts, and of
-    /// what it sent the log.
+    /// The checkpoint of the process `me` of `n`: its state, 0 to 1,024 bytes, its receipts, and
+    /// the log of what it sent.
     pub fn of(
         alloc: Global,
         me: u8,
@@ -61,7 +61,7 @@ impl Stable {
         Ok(Stable { saved, counts })
     }
 
-    /// Its bytes, in the second form.
+    /// The checkpoint's bytes, in the second form.
     pub fn bytes(&self) -> &[u8]
         ensures { IsCheckpoint Second self.now result.now }
     {
@@ -82,7 +82,7 @@ impl Stable {
         ensures value { result ≡ count_by (λ s. s == sender) self.now.senders }
         ensures bound { result ≤ RECEIPTS }
     {
-        // For the proof: it covers at most 65,536 messages, and those of one sender are no more.
+        // For the proof: it covers at most 65,536 messages, and no more of one sender.
         let _covered = self.length();
         self.counts[sender as usize]
     }
@@ -94,8 +94,8 @@ impl Stable {
         self.saved.state()
     }
 
-    /// Receipts of what it covers, all acknowledged, and what was sent on that, without numbers and
-    /// behind a shut gate.
+    /// Receipts of what it covers, all acknowledged, and what was sent for that, without RSNs and
+    /// with a shut gate.
     pub fn restore(&self, alloc: Global) -> Result<(Receipts, Outbox), AllocError>
         ensures receipts { IfOk result (λ r. r.0 ≡ receipts_again self.now) }
         ensures outbox { IfOk result (λ r. r.1 ≡ outbox_again self.now) }

@@ -1,4 +1,4 @@
-//! Calls by their values.
+//! Calls that are given as values.
 
 ghost use Rattle.std.specs.Prelude.{◌≡◌, ◌+◌, ◌≤◌, IfOk, OnOk, option_and_then};
 ghost use Rattle.world.specs.World.{World};
@@ -14,7 +14,7 @@ use limits::ENTRIES;
 use replay::Job;
 use world::{Answer, Call, Feed, Refusal};
 
-/// What an accepted call gave: the answer that a journal keeps, and the job that it started.
+/// The result of an accepted call: the answer that a journal keeps, and the job that it started.
 #[derive(Drop)]
 pub struct Reply {
     pub answer: Answer,
@@ -22,7 +22,7 @@ pub struct Reply {
 }
 
 impl Reply {
-    // What an arrival gives.
+    // The reply to an arrival.
     fn of(arrival: Arrival) -> Reply
         ensures answer { result.answer ≡ answer_of arrival }
         ensures job { result.job ≡ job_in arrival }
@@ -37,7 +37,8 @@ impl Reply {
 }
 
 impl Machine {
-    /// Why a call would be refused, want of memory apart. A finish is refused by its result.
+    /// Why a call would be refused, lack of memory apart. It isn't for a finish, which is refused
+    /// by its result.
     pub fn cause(&self, room: u32, call: &Call) -> Option<Refusal>
         requires result { TakesNoResult call.now }
         requires room { room ≤ ENTRIES }
@@ -68,8 +69,8 @@ impl Machine {
         }
     }
 
-    /// Makes a call by the method of its name, and answers what the journal keeps of it and the job that it
-    /// starts. A finish takes a result: it is `finish`.
+    /// Makes a call by the method of its name, and answers what the journal keeps of it and the job
+    /// that it started. It isn't for a finish, which takes a result: see `finish`.
     pub fn step(&mut self, room: u32, call: &Call) -> Result<Reply, Refusal>
         requires result { TakesNoResult call.now }
         requires room { self.old.calls + room ≤ ENTRIES }
@@ -97,7 +98,7 @@ impl Machine {
         }
     }
 
-    // Makes a call that neither starts nor ends a job, and gives its answer.
+    // Makes a call that neither starts nor ends a job, and answers what the journal keeps of it.
     fn perform(&mut self, room: u32, call: &Call) -> Result<Answer, Refusal>
         requires jobless { IsJobless call.now }
         requires room { self.old.calls + room ≤ ENTRIES }
@@ -133,7 +134,7 @@ impl Machine {
         }
     }
 
-    /// Whether a call keeps to a single failure: no crash while another process isn't up, and no
+    /// Whether a call keeps failures single: no crash while another process isn't up, and no
     /// recovery alone.
     pub fn keeps_single(&self, call: &Call) -> bool
         ensures { (w : World) → Stands self.now w → result ≡ is_single w call.now }

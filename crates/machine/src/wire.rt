@@ -9,7 +9,7 @@ use std::alloc::{AllocError, Global};
 use std::marker::Model;
 use world::Packet;
 
-/// The packets on the wire. A new one gets the key that was vacated last, or the least fresh one.
+/// The packets on the wire. A new one gets the key that was vacated last, or the least unused one.
 #[derive(Drop)]
 pub struct Wire {
     slab: Slab<Packet>,
@@ -48,29 +48,29 @@ impl Wire {
         self.slab.len()
     }
 
-    /// The keys under which packets lie, the least one first.
+    /// The keys that have packets, in ascending order.
     pub fn keys(&self) -> &[usize]
         ensures { AreListed self.now result.now }
     {
         self.keys.as_slice()
     }
 
-    /// The packet under this key, where it lies.
+    /// The packet under this key.
     pub fn peek(&self, key: usize) -> Option<&Packet>
         ensures { option_copied result ≡ slice_index_or self.now key None }
     {
         self.slab.get(key)
     }
 
-    /// A copy of it.
+    /// A copy of the packet under this key.
     pub fn get(&self, key: usize) -> Option<Packet>
         ensures { result ≡ slice_index_or self.now key None }
     {
         self.slab.get(key).copied()
     }
 
-    /// Puts a packet under a vacant key. A table whose next key is past the last one has no place
-    /// for it.
+    /// Puts a packet under a vacant key. If all keys are in use, it is refused as for lack of
+    /// memory.
     pub fn place(&mut self, packet: Packet) -> Result<usize, AllocError>
         ensures key { IfOk result (λ key. key < PACKETS) }
         ensures puts { IfOk result (λ key. Puts self.old self.new key None (Some packet)) }
@@ -86,7 +86,7 @@ impl Wire {
         Ok(self.slab.insert_reserved(packet))
     }
 
-    /// Puts a packet in the place of the one under this key.
+    /// Replaces the packet under this key.
     pub fn replace(&mut self, key: usize, packet: Packet)
         requires { IsSome (slice_index_or self.old key None) }
         ensures { Puts self.old self.new key (slice_index_or self.old key None) (Some packet) }
@@ -95,7 +95,7 @@ impl Wire {
         self.slab.insert_reserved(packet);
     }
 
-    /// Takes the packet under a key away.
+    /// Takes away the packet under a key.
     pub fn remove(&mut self, key: usize)
         ensures { Puts self.old self.new key (slice_index_or self.old key None) None }
     {

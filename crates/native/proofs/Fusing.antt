@@ -81,20 +81,20 @@ module _ (tasks : List Task) (slot : ℕ) (i : Instr) (e : fused tasks slot ≡ 
       by_test true = refl
       by_test false = ap (λ t. sum_of t (task_at tasks (slot + 1 + 1))) fused_sum.second
 
--- a task that stands in the list is its slot's
+-- a task found in the list is the task of that slot
 pub found_at : (tasks : List Task) (k : ℕ) (t : Task) → slice_get tasks k ≡ Some t → task_at tasks k ≡ t
 found_at tasks k t f =
     let x : Some (task_at tasks k) ≡ Some t = sym (slice_get-get_or tasks k task.Dead (slice_get_within tasks k t f)) ∙ f in
     cc
 
--- a task that isn't the one past the end stands in the list
+-- a task other than `Dead` is found in the list
 found_in : (tasks : List Task) (k : ℕ) (t : Task) → task_at tasks k ≡ t → t ≢ task.Dead → slice_get tasks k ≡ Some t
 found_in tasks k t e n = ⊎_elim
     (λ l. slice_get-get_or tasks k task.Dead l ∙ ap Some e)
     (λ g. absurd (n (sym e ∙ get_or_past tasks k task.Dead g)))
     (cases_lt k (length tasks))
 
--- of their steps no more are counted behind them than there are
+-- after two fused slots at most two more steps are pending than before them
 pub fused_balanced : (tasks : List Task) (pends : List ℕ) (slot : ℕ) (i : Instr) → ArePends tasks pends → fused tasks slot ≡ Some i → slice_index pends (slot + 2) ≤ slice_index pends slot + 2
 fused_balanced tasks pends slot i a e =
     let s = fused_sum tasks slot i e in

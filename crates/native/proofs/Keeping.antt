@@ -109,6 +109,6 @@ keeps_all tasks s index h l k t f = let w = slice_get_within tasks k t f in h.ke
 pub keeps_is : (tasks : List Task) (s : Saved) (index : ℕ) → KeptTo tasks s index → length tasks ≤ index → s ≡ saved_in tasks
 keeps_is tasks s index h l = ap (and_tasks s) (sym (drop_all index tasks l)) ∙ h.is
 
--- what is kept beside changes nothing of that
+-- if more registers are saved, this still holds
 pub saves_more : (tasks : List Task) (s u : Saved) → Includes s u → SaveAll tasks s → SaveAll tasks u
 saves_more tasks s u i h k t f = writes_more s u t i (h k t f)

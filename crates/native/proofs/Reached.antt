@@ -36,7 +36,8 @@ use Rattle.regtypes.proofs.Monotone.{after_cases, none_holds}
 use Rattle.verifier.specs.Least.{IsLeastTyping}
 use Rattle.verifier.specs.Places.{target_of}
 use Rattle.verifier.specs.Dense.{position, payload_position, dense_of, helper_op, IsDense}
-use Rattle.verifier.proofs.RuleLemmas.{Keeps, kept, Rules, rules_of, target_forward}
+use Rattle.regtypes.proofs.RuleLemmas.{Keeps, kept, Rules, rules_of}
+use Rattle.verifier.proofs.RuleLemmas.{target_forward}
 use Rattle.dense.specs.declared.op.Op.{Op}
 use Rattle.dense.specs.declared.op.Op.TheVariants as op
 use Rattle.dense.specs.Acts.{IsWithin}

@@ -5,7 +5,7 @@ use Rattle.native.specs.declared.task.Task.{Task}
 use Rattle.native.specs.declared.task.Task.TheVariants as task
 use Rattle.native.specs.Saved.{and_register}
 
--- those that are kept, and the one that a task writes
+-- the saved registers, with the one that a task writes
 abbrev pub and_task : Saved → Task → Saved
 and_task s (task.Compute a w dst o) = and_register s dst.number
 and_task s (task.Extend x dst src) = and_register s dst.number
@@ -18,7 +18,7 @@ and_task s (task.LoadSxBy size dst base d) = and_register s dst.number
 and_task s (task.Wide dst value) = and_register s dst.number
 and_task s t = s
 
--- and those that tasks write
+-- the saved registers, with those that tasks write
 abbrev pub and_tasks : Saved → List Task → Saved
 and_tasks s [] = s
 and_tasks s (t ∷ ts) = and_tasks (and_task s t) ts
@@ -26,6 +26,6 @@ and_tasks s (t ∷ ts) = and_tasks (and_task s t) ts
 abbrev pub nothing : Saved
 nothing = record { rbx = false; rbp = false; r12 = false; r13 = false; r14 = false; r15 = false }
 
--- those that tasks need
+-- the registers to save for tasks
 abbrev pub saved_in : List Task → Saved
 saved_in ts = and_tasks nothing ts

@@ -1,4 +1,4 @@
--- How code begins, and what it keeps then.
+-- How code begins, and which registers it saves then.
 use Rattle.std.specs.Prelude.{List, [], ◌∷◌, ◌++◌}
 use Rattle.x86.specs.declared.instruction.Instr.{Instr}
 use Rattle.x86.specs.declared.instruction.Instr.TheVariants as instr
@@ -10,7 +10,7 @@ use Rattle.native.specs.Code.{clear, entering}
 use Rattle.native.specs.Needs.{saved_in}
 use Rattle.native.specs.Saved.{and_register}
 
--- the positions of message and state, to r1 and r2
+-- r1 and r2 get the positions of message and state
 abbrev pub placing : List Instr
 placing = clear 8 ∷ instr.MovImm 12 512 ∷ []
 
@@ -18,7 +18,7 @@ abbrev pub entering_by : Opening → Saved → List Instr
 entering_by opening.Bare saved = entering saved
 entering_by opening.Placed saved = entering saved ++ placing
 
--- the registers that tasks need, and r2's where the beginning writes it
+-- the registers to save for tasks, and r2's if the beginning writes it
 abbrev pub saved_for : Opening → List Task → Saved
 saved_for opening.Bare ts = saved_in ts
 saved_for opening.Placed ts = and_register (saved_in ts) 2

@@ -1,4 +1,4 @@
--- Which task an operation is.
+-- The task of each operation.
 use Rattle.std.specs.Prelude.{ℕ, ℤ, nat_lt, List, Option, Some, None, option_map, slice_index, length, if◌then◌else◌}
 use Rattle.decode.specs.declared.insn.AluOp.{AluOp}
 use Rattle.decode.specs.declared.insn.Width.{Width}
@@ -18,7 +18,7 @@ use Rattle.dense.specs.declared.op.Op.TheVariants as op
 use Rattle.native.specs.declared.task.Task.{Task}
 use Rattle.native.specs.declared.task.Task.TheVariants as task
 
--- the first of two, if there is one
+-- the first of two, or the second if there is no first
 abbrev pub first_of : Option Task → Option Task → Option Task
 first_of (Some t) u = Some t
 first_of None u = u
@@ -55,7 +55,7 @@ alu_imm (op.Arsh64Imm dst imm) = Some (alu.Arsh, W64, dst, imm)
 alu_imm (op.Arsh32Imm dst imm) = Some (alu.Arsh, W32, dst, imm)
 alu_imm o = None
 
--- and on two registers
+-- arithmetic on two registers
 abbrev pub alu_reg : Op → Option (AluOp × Width × Reg × Reg)
 alu_reg (op.Add64Reg dst src) = Some (alu.Add, W64, dst, src)
 alu_reg (op.Add32Reg dst src) = Some (alu.Add, W32, dst, src)
@@ -93,7 +93,7 @@ arithmetic o =
     first_of (option_map (λ x. task.Compute x.0 x.1 x.2 (operand.Imm x.3)) (alu_imm o))
     (option_map (λ x. task.Compute x.0 x.1 x.2 (operand.Reg x.3)) (alu_reg o))
 
--- a jump that compares a register with a number, and where it leads
+-- a jump that compares a register with a number, and its target
 abbrev pub jump_imm : Op → Option (Condition × Width × Reg × ℤ × ℕ)
 jump_imm (op.JEq64Imm dst to imm) = Some (condition.Equal, W64, dst, imm, to)
 jump_imm (op.JEq32Imm dst to imm) = Some (condition.Equal, W32, dst, imm, to)
@@ -119,7 +119,7 @@ jump_imm (op.JSle64Imm dst to imm) = Some (condition.SignedLessEqual, W64, dst, 
 jump_imm (op.JSle32Imm dst to imm) = Some (condition.SignedLessEqual, W32, dst, imm, to)
 jump_imm o = None
 
--- and with another
+-- a jump that compares two registers, and its target
 abbrev pub jump_reg : Op → Option (Condition × Width × Reg × Reg × ℕ)
 jump_reg (op.JEq64Reg dst src to) = Some (condition.Equal, W64, dst, src, to)
 jump_reg (op.JEq32Reg dst src to) = Some (condition.Equal, W32, dst, src, to)
@@ -151,7 +151,7 @@ jump o =
     first_of (option_map (λ x. task.Branch x.0 x.1 x.2 (operand.Imm x.3) x.4) (jump_imm o))
     (option_map (λ x. task.Branch x.0 x.1 x.2 (operand.Reg x.3) x.4) (jump_reg o))
 
--- what else is done to registers
+-- the other operations on registers
 abbrev pub of_registers : Op → Option Task
 of_registers (op.MovSxW32From8 dst src) = Some (task.Extend extension.W32From8 dst src)
 of_registers (op.MovSxW32From16 dst src) = Some (task.Extend extension.W32From16 dst src)
@@ -190,7 +190,7 @@ of_memory (op.StoreHalfImm at imm) = Some (task.StoreImm size.Half at imm)
 of_memory (op.StoreByteImm at imm) = Some (task.StoreImm size.Byte at imm)
 of_memory o = None
 
--- the others; none for a wide value that isn't in the pool
+-- the other operations; None for a wide value that isn't in the pool
 abbrev pub of_others : List ℕ → Op → Option Task
 of_others pool (op.Jump to) = Some (task.Leap to)
 of_others pool (op.Wide dst at) = if nat_lt at (length pool) then Some (task.Wide dst (slice_index pool at)) else None
@@ -204,6 +204,6 @@ of_others pool op.Exit = Some task.Exit
 of_others pool op.Dead = Some task.Dead
 of_others pool o = None
 
--- none for a wide value that isn't in the pool
+-- the task of an operation; None for a wide value that isn't in the pool
 abbrev pub task_for : List ℕ → Op → Option Task
 task_for pool o = first_of (arithmetic o) (first_of (jump o) (first_of (of_registers o) (first_of (of_memory o) (of_others pool o))))

@@ -1,18 +1,18 @@
--- How many steps aren't counted yet where each slot begins.
+-- How many steps are pending at each slot: executed, but not yet added to the count in r11.
 use Rattle.std.specs.Prelude.{ℕ, zero, suc, ◌+◌, Bool, false, ◌&&◌, ◌||◌, nat_lt, min, List, [], ◌∷◌, length, replicate, slice_index, slice_set, if◌then◌else◌}
 use Rattle.native.specs.declared.task.Task.{Task}
 use Rattle.native.specs.declared.task.Task.TheVariants as task
 use Rattle.native.specs.SlotTasks.{task_at}
 
--- more than any call counts
+-- more than the steps of any call
 abbrev pub far : ℕ
 far = 0x40000000
 
--- there is an element, and it is more
+-- the element exists, and is greater than v
 abbrev pub is_more : List ℕ → ℕ → ℕ → Bool
 is_more xs k v = nat_lt k (length xs) && nat_lt v (slice_index xs k)
 
--- then it is made less
+-- the list after the element is lowered to v, if it was greater
 abbrev pub lowered : List ℕ → ℕ → ℕ → List ℕ
 lowered xs k v = if is_more xs k v then slice_set xs k v else xs
 
@@ -20,19 +20,20 @@ lowered xs k v = if is_more xs k v then slice_set xs k v else xs
 abbrev pub least : List ℕ → ℕ → ℕ → ℕ → ℕ
 least xs j k v = min (min v (slice_index xs j)) (slice_index xs k)
 
--- one of two elements becomes less, by the least
+-- lowering two elements to the least changes one of them
 abbrev pub is_more_of_both : List ℕ → ℕ → ℕ → ℕ → Bool
 is_more_of_both xs j k v = is_more xs j (least xs j k v) || is_more (lowered xs j (least xs j k v)) k (least xs j k v)
 
--- and so they are
+-- the list after two elements are lowered to the least
 abbrev pub lowered_both : List ℕ → ℕ → ℕ → ℕ → List ℕ
 lowered_both xs j k v = lowered (lowered xs j (least xs j k v)) k (least xs j k v)
 
--- one more than where a slot begins
+-- the pending steps after the task of a slot
 abbrev pub one_more : List ℕ → ℕ → ℕ
 one_more xs slot = min (slice_index xs slot) far + 1
 
--- where a task leads no more is uncounted than behind it, and on both ways of a jump as much
+-- the list after the slots where a task leads are lowered: no more steps are pending there than after the task, and
+-- equally many on both ways of a jump
 abbrev pub lowered_behind : List ℕ → ℕ → Task → List ℕ
 lowered_behind xs slot (task.Branch x w dst o to) = lowered_both xs (slot + 1) to (one_more xs slot)
 lowered_behind xs slot (task.Leap to) = lowered xs to (one_more xs slot)
@@ -41,7 +42,7 @@ lowered_behind xs slot task.Dead = xs
 lowered_behind xs slot (task.Wide dst value) = lowered xs (slot + 2) (one_more xs slot)
 lowered_behind xs slot t = lowered xs (slot + 1) (one_more xs slot)
 
--- something became less there
+-- that lowers something
 abbrev pub is_more_behind : List ℕ → ℕ → Task → Bool
 is_more_behind xs slot (task.Branch x w dst o to) = is_more_of_both xs (slot + 1) to (one_more xs slot)
 is_more_behind xs slot (task.Leap to) = is_more xs to (one_more xs slot)
@@ -50,17 +51,17 @@ is_more_behind xs slot task.Dead = false
 is_more_behind xs slot (task.Wide dst value) = is_more xs (slot + 2) (one_more xs slot)
 is_more_behind xs slot t = is_more xs (slot + 1) (one_more xs slot)
 
--- the first n tasks, one after another
+-- the list after the first n tasks, one after another
 abbrev pub passed : List Task → List ℕ → ℕ → List ℕ
 passed tasks xs zero = xs
 passed tasks xs (suc n) = lowered_behind (passed tasks xs n) n (task_at tasks n)
 
--- something became less by them
+-- these lower something
 abbrev pub is_passed : List Task → List ℕ → ℕ → Bool
 is_passed tasks xs zero = false
 is_passed tasks xs (suc n) = is_passed tasks xs n || is_more_behind (passed tasks xs n) n (task_at tasks n)
 
--- so many passes at most, until nothing becomes less; else every step is counted at once
+-- at most n passes, until nothing is lowered; if that isn't enough, no step is ever pending: each is counted at once
 abbrev pub settled : List Task → ℕ → List ℕ → List ℕ
 settled tasks zero xs = []
 settled tasks (suc n) xs =

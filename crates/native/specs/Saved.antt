@@ -1,15 +1,15 @@
--- Which of the caller's registers code keeps on the stack.
+-- Which of the caller's registers the code saves on the stack.
 use Rattle.std.specs.Prelude.{ℕ, ◌==◌, Bool, true, ◌||◌, List, [], ◌∷◌, ◌++◌, slice_index_or, if◌then◌else◌}
 use Rattle.x86.specs.declared.instruction.Instr.{Instr}
 use Rattle.x86.specs.declared.instruction.Instr.TheVariants as instr
 use Rattle.native.specs.declared.saved.Saved.{Saved}
 
--- r0, r1, r3 and r4 stand in registers that no caller minds; r2 and r5 to r9 each in one of the caller's own, which are
--- written only where they are kept
+-- r0, r1, r3 and r4 are in registers that don't belong to the caller; r2 and r5 to r9 are in registers of the caller,
+-- and are written only if these are saved
 abbrev pub may_write : Saved → ℕ → Bool
 may_write s r = slice_index_or (true ∷ true ∷ s.r12 ∷ true ∷ true ∷ s.rbx ∷ s.rbp ∷ s.r13 ∷ s.r14 ∷ s.r15 ∷ []) r true
 
--- the register of one more is kept
+-- the saved registers, with the caller's register of one more
 abbrev pub and_register : Saved → ℕ → Saved
 and_register s r = record {
   rbx = s.rbx || (r == 5);
@@ -26,7 +26,7 @@ push_if kept r = if kept then instr.Push r ∷ [] else []
 abbrev pub pop_if : Bool → ℕ → List Instr
 pop_if kept r = if kept then instr.Pop r ∷ [] else []
 
--- those that are kept are pushed, and popped the other way round
+-- the saved registers are pushed, and popped in reverse order
 abbrev pub saving : Saved → List Instr
 saving s =
     push_if s.rbx 3 ++ (push_if s.rbp 5 ++ (push_if s.r12 12 ++ (push_if s.r13 13 ++ (push_if s.r14 14 ++ push_if s.r15 15))))

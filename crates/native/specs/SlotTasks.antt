@@ -25,7 +25,7 @@ helper_task len kinds (pos (suc (suc (suc (suc (suc zero)))))) = task.SendSized 
 helper_task len kinds (pos (suc (suc (suc (suc (suc (suc zero))))))) = task.OutputSized (payload_position len (kind_at kinds 1))
 helper_task len kinds z = task.Dead
 
--- the task of an instruction, by the state's length, what is known of the registers, and its slot
+-- the task of an instruction, by the state's length, the kinds of the registers, and its slot
 abbrev pub task_in : ℕ → List Kind → ℕ → Insn → Task
 task_in len kinds slot (Alu a w dst o) = task.Compute a w dst o
 task_in len kinds slot (MovSx x dst src) = task.Extend x dst src
@@ -42,7 +42,7 @@ task_in len kinds slot (StoreReg size dst src d) = task.Store size src (position
 task_in len kinds slot (StoreImm size dst d imm) = task.StoreImm size (position len (kind_at kinds dst.number) d) imm
 task_in len kinds slot (Wide dst value) = task.Wide dst value
 
--- the task of a slot by its frame and the instruction that begins there; nothing is done where no call comes to
+-- the task of a slot by its frame and the instruction that begins there; `Dead` if no call comes there
 abbrev pub task_there : ℕ → ℕ → Option Frame → Option Insn → Task
 task_there len slot (Some g) (Some i) = task_in len g.kinds slot i
 task_there len slot f i = task.Dead
@@ -52,7 +52,7 @@ abbrev pub tasks_in : List (Option Insn) → Table → ℕ → ℕ → List Task
 tasks_in slots table len zero = []
 tasks_in slots table len (suc n) = tasks_in slots table len n ++ task_there len n (frame_at table n) (insn_at slots n) ∷ []
 
--- this task is the slot's operation's, where a call may come to it
+-- if a call may come to the slot, this is the task of the slot's operation
 abbrev pub IsTold : Table → List Op → List ℕ → ℕ → Task → Type 0
 IsTold table ops pool slot told =
     (g : Frame) (o : Op) (t : Task) → frame_at table slot ≡ Some g → slice_get ops slot ≡ Some o → task_for pool o ≡ Some t
@@ -62,6 +62,6 @@ IsTold table ops pool slot told =
 abbrev pub task_at : List Task → ℕ → Task
 task_at tasks slot = slice_index_or tasks slot task.Dead
 
--- so is each slot's, of the slots below n
+-- this holds for each slot below n
 abbrev pub AreTold : Table → List Op → List ℕ → List Task → ℕ → Type 0
 AreTold table ops pool tasks n = (slot : ℕ) → slot < n → IsTold table ops pool slot (task_at tasks slot)

@@ -1,4 +1,4 @@
--- A call and a record, written down by the C calling convention and as C lays a struct out, and what a record tells.
+-- A call by the C calling convention, a record as C lays out its struct, and what a record tells.
 use Rattle.std.specs.Prelude.{◌≡◌, ℕ, ◌+◌, ◌-◌, ◌*◌, ◌^◌, ◌<◌, ◌≤◌, Option, Some, slice_get, List, [], ◌∷◌, ◌++◌, length, map, replicate}
 use Rattle.limits.specs.declared.TheConstants.{PAYLOAD_BYTES}
 use Rattle.decode.specs.declared.insn.Insn.{Insn}
@@ -14,7 +14,7 @@ use Rattle.native.specs.Correct.{IsCalled, IsReturned, Keeps}
 abbrev pub who : Who
 who = record { me = 1; from = 2; count = 3 }
 
--- uint64_t one behind the other
+-- uint64_t, one after another
 abbrev pub words : List ℕ → List ℕ
 words [] = []
 words (n ∷ ns) = le_bytes 8 n ++ words ns
@@ -45,14 +45,14 @@ IsLaidOut = Keeps who effects told
 abbrev pub AreWords : Emitted → Type 0
 AreWords e = (k : ℕ) (s : Sent) → slice_get e.sends k ≡ Some s → s.dst < 2 ^ 64
 
--- no two calls, and no two effects, have one record
+-- different calls or effects have different records
 abbrev pub TellsOne : Type 0
 TellsOne =
     (w v : Who) (e f : Emitted) (bytes : List ℕ) → Keeps w e bytes → Keeps v f bytes → AreWords e → AreWords f
     → (w ≡ v) × (e ≡ f)
 
--- code(array, record, m) in C: rdi, rsi, rdx. The other registers hold any words, xmm0 and the flags anything; of the
--- record C sets no more than the two counts and who is called: the steps and what comes after `count` are as they were
+-- code(array, record, m) in C: rdi, rsi, rdx. The other registers, xmm0 and the flags may hold anything. In the record
+-- C sets only the two counts and who is called; the steps and all that comes after `count` stay as they were
 abbrev pub called : Who → ℕ → (ℕ → ℕ) → List ℕ → Flags → List ℕ → ℕ → List ℕ → State
 called who m word long flags mem steps rest = record {
   regs =
@@ -65,7 +65,7 @@ called who m word long flags mem steps rest = record {
   pushed = [];
 }
 
--- whoever is called, and whatever is left open, this is a call
+-- any such call, with any open values, meets what the code requires
 abbrev pub CanBeCalled : Type 0
 CanBeCalled =
     (who : Who) (m : ℕ) (word : ℕ → ℕ) (long : List ℕ) (flags : Flags) (mem : List ℕ) (steps : ℕ) (rest : List ℕ)
@@ -76,11 +76,11 @@ CanBeCalled =
 abbrev pub callers : List ℕ
 callers = 3 ∷ 5 ∷ 12 ∷ 13 ∷ 14 ∷ 15 ∷ []
 
--- each of them is as it was at the call
+-- each of them is unchanged
 abbrev pub KeepsCallers : State → State → Type 0
 KeepsCallers c last = (k r : ℕ) → slice_get callers k ≡ Some r → value last r ≡ value c r
 
--- so it is after each return
+-- they are unchanged after each return
 abbrev pub ReturnsToC : Type 0
 ReturnsToC =
     (form : ImageForm) (slots : List (Option Insn)) (who : Who) (m len : ℕ) (c last : State)

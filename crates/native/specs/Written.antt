@@ -1,4 +1,4 @@
--- The code of an image: which bytes it is.
+-- The bytes of an image's code.
 use Rattle.std.specs.Prelude.{◌≡◌, ℕ, zero, suc, ◌+◌, ◌-◌, List, [], ◌++◌, Option, length, replicate, slice_set}
 use Rattle.decode.specs.declared.insn.Insn.{Insn}
 use Rattle.regtypes.specs.declared.image_form.ImageForm.{ImageForm}
@@ -13,8 +13,8 @@ use Rattle.native.specs.Openings.{entering_by, saved_for}
 use Rattle.native.specs.Code.{codes}
 use Rattle.native.specs.Laid.{ArePends, SaveAll, IsPiece, LaidFrom}
 
--- the code of the last n slots, and how long the code from each on is, or 0: that of the first of them goes by how long
--- those behind it are
+-- the code of the last n slots, and the length of the code from each of them on, 0 for the others; the code of the
+-- first of them depends on the lengths after it
 abbrev pub Stacks : Opening → List Task → ℕ → List ℕ → List ℕ → Type 0
 Stacks o tasks zero tails code = (tails ≡ replicate (length tasks + 1) 0) × (code ≡ [])
 Stacks o tasks (suc n) tails code =
@@ -22,19 +22,19 @@ Stacks o tasks (suc n) tails code =
     × IsPiece tasks (pends_in tasks) tails' (saved_for o tasks) (length tasks - suc n) (task_at tasks (length tasks - suc n)) piece
     × (tails ≡ slice_set tails' (length tasks - suc n) (length piece + length code')) × (code ≡ piece ++ code')
 
--- behind the entry stands the code of all tasks
+-- the code of all tasks comes after the entry
 pub record IsWritten (o : Opening) (tasks : List Task) (code : List ℕ) : Type 0 where
   pub tails : List ℕ
   pub rest : List ℕ
   pub stacks : Stacks o tasks (length tasks) tails rest
   pub is : code ≡ codes (entering_by o (saved_for o tasks)) ++ rest
 
--- the slots from this one on are laid, as they are stacked
+-- the slots from this one on are laid out, and their code is stacked
 pub record IsLaidFrom (o : Opening) (tasks : List Task) (tails code : List ℕ) (slot : ℕ) : Type 0 where
   pub laid : LaidFrom tasks (pends_in tasks) tails (saved_for o tasks) code slot
   pub stacks : Stacks o tasks (length tasks - slot) tails code
 
--- the code of all tasks is written, each slot's stands where it belongs, and no step and no register is forgotten
+-- the code of all tasks is written, each slot's code is at its place, each step is counted, and each register is saved
 pub record IsServed (o : Opening) (tasks : List Task) (code : List ℕ) : Type 0 where
   pub written : IsWritten o tasks code
   pub laid : LaidFrom tasks (pends_in tasks) written.tails (saved_for o tasks) written.rest 0
@@ -47,7 +47,7 @@ pub record IsCodeOf (form : ImageForm) (slots : List (Option Insn)) (len : ℕ) 
   pub least : IsLeastTyping form slots len table
   pub written : IsWritten opening.Bare (tasks_in slots table len (length slots)) code
 
--- slots have one machine code in a form, with a state of one length
+-- in one form, slots have one machine code with a state of one length
 abbrev pub IsOneCode : Type 0
 IsOneCode =
     (form : ImageForm) (slots : List (Option Insn)) (len : ℕ) (code code' : List ℕ)

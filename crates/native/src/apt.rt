@@ -1,4 +1,4 @@
-//! Which tasks there is code for.
+//! Which tasks have code.
 
 ghost use Rattle.std.specs.Prelude.{◌≡◌, ◌&&◌};
 ghost use Rattle.native.specs.Tasks as specs;
@@ -13,7 +13,7 @@ pub(crate) fn holds_word(reg: Reg) -> bool
     reg.number < 10
 }
 
-// Whether both hold.
+// Whether both are true.
 fn both(one: bool, other: bool) -> bool
     ensures { result ≡ one && other }
 {
@@ -38,7 +38,7 @@ fn is_read(op: AluOp, operand: Operand) -> bool
     }
 }
 
-/// Whether its registers hold words and its jump goes forward. No call performs a task of which that isn't so.
+/// Whether a task's registers hold words and its jump goes forward. No call performs any other task.
 pub(crate) fn is_apt(slot: usize, task: &Task) -> bool
     ensures { result ≡ specs.is_apt slot task.now }
 {

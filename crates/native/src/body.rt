@@ -20,7 +20,7 @@ pub(crate) enum Body {
     Three(Instr, Instr, Instr),
 }
 
-/// The processor's register of a register.
+/// The processor's register for a register of the handler.
 pub(crate) fn gpr(reg: Reg) -> u8
     ensures { result ≡ codes.gpr reg.number }
 {
@@ -28,14 +28,14 @@ pub(crate) fn gpr(reg: Reg) -> u8
     table[reg.number as usize]
 }
 
-/// A position in the array, seen from rdi.
+/// A position in the array, relative to rdi.
 pub(crate) fn seen(at: u64) -> u64
     ensures { result ≡ codes.seen at }
 {
     (at % 0x1_0000_0000 + 0xffff_fe80) % 0x1_0000_0000
 }
 
-/// An immediate, as the instructions hold it.
+/// An immediate, as instructions take it.
 pub(crate) fn number(imm: i32) -> u64
     ensures value { result ≡ word_of imm }
     ensures short { extended (word_of imm) ≡ word_of imm }
@@ -142,7 +142,7 @@ fn shift_code(op: Shift, width: Width, to: u8, operand: Operand) -> Body
     }
 }
 
-/// 0 to a register that holds a word.
+/// Sets a register that holds a word to 0.
 pub(crate) fn clear(to: u8) -> Instr
     ensures { result ≡ codes.clear to }
 {
@@ -215,14 +215,14 @@ fn compute_code(op: AluOp, width: Width, to: u8, operand: Operand) -> Body
         AluOp::Rsh => shift_code(Shift::Right, width, to, operand),
         AluOp::Arsh => shift_code(Shift::RightSigned, width, to, operand),
         _ => {
-            // Its clause says that the operand's number has 32 bits.
+            // For the proof: the contract of `alu_code` says that the operand's number fits 32 bits.
             let _short = alu_code(Alu::Add, width, to, operand);
             Body::Empty
         }
     }
 }
 
-// The least bits, as they are.
+// The low bits, in the order that they have.
 fn low_code(bits: SwapBits, to: u8) -> Body
     ensures { result ≡ codes.reorder_code ByteOrder.Little bits to }
 {
@@ -241,7 +241,7 @@ fn low_code(bits: SwapBits, to: u8) -> Body
     }
 }
 
-// Their bytes in the other order.
+// The low bits, with their bytes in reverse order.
 fn swap_code(bits: SwapBits, to: u8) -> Body
     ensures big { result ≡ codes.reorder_code ByteOrder.Big bits to }
     ensures swap { result ≡ codes.reorder_code ByteOrder.Swap bits to }
@@ -342,7 +342,7 @@ fn store_imm_code(size: Size, at: u16, imm: i32) -> Body
     })
 }
 
-// rdx: the address that a register's position and an offset make.
+// rdx gets the address that a register's position and an offset give.
 fn reach_code(base: Reg, offset: i16) -> Instr
     ensures value { result ≡ codes.reach_code base.number offset }
     ensures near { IsNear offset }
@@ -407,7 +407,7 @@ fn store_imm_by_code(size: Size, base: Reg, offset: i16, imm: i32) -> Body
     Body::Two(reach_code(base, offset), store)
 }
 
-// A word of the record to r0.
+// r0 gets a word of the record.
 fn told_code(at: u64) -> Body
     ensures { result ≡ codes.told_code at }
 {
@@ -470,7 +470,7 @@ pub(crate) fn body_of(task: Task) -> Body
         Task::Me => told_code(24),
         Task::From => told_code(32),
         Task::Branch { operand, .. } => {
-            // The same.
+            // For the proof, as above.
             let _short = alu_code(Alu::Add, Width::W64, 0, operand);
             Body::Empty
         }

@@ -1,4 +1,4 @@
-//! What a conditional jump compares, and what it asks of the flags.
+//! The comparison of a conditional jump, and the flags that it tests.
 
 ghost use Rattle.std.specs.Prelude.{◌≡◌};
 ghost use Rattle.native.specs.Code as codes;
@@ -57,7 +57,7 @@ pub(crate) fn compare_code(condition: Condition, width: Width, dst: Reg, operand
     }
 }
 
-/// What a conditional jump asks of the flags.
+/// The condition on the flags by which a jump is taken.
 pub(crate) fn condition_of(condition: Condition) -> x86::Condition
     ensures { result ≡ codes.condition_of condition }
 {

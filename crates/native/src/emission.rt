@@ -1,4 +1,4 @@
-//! Helpers that emit: their tests, what they do, and their answers.
+//! Helpers that emit: their tests, their effects and their answers.
 
 ghost use Rattle.std.specs.Prelude.{◌≡◌, ◌<◌, ◌≤◌, ◌^◌, ◌++◌, Some, None, OnOk};
 ghost use Rattle.native.specs.Code.{codes};
@@ -23,7 +23,7 @@ pub(crate) enum Helper {
     OutputSized,
 }
 
-// rcx: how many there are; eight are all.
+// rcx gets the count. If it is eight, jumps by `none`.
 fn write_room_test(code: &mut Vec<u8>, count_at: u64, none: u8) -> Result<(), AllocError>
     ensures { OnOk result (code.new.items ≡ code.old.items ++ codes (specs.room_test count_at none)) }
 {
@@ -50,7 +50,7 @@ fn write_room_test(code: &mut Vec<u8>, count_at: u64, none: u8) -> Result<(), Al
     )
 }
 
-// The destination is at least 1.
+// If the destination is 0, jumps by `none`.
 fn write_least_test(code: &mut Vec<u8>, none: u8) -> Result<(), AllocError>
     ensures { OnOk result (code.new.items ≡ code.old.items ++ codes (specs.least_test none)) }
 {
@@ -71,7 +71,7 @@ fn write_least_test(code: &mut Vec<u8>, none: u8) -> Result<(), AllocError>
     )
 }
 
-// It is at most the number of processes.
+// If the destination is above the number of processes, jumps by `none`.
 fn write_most_test(code: &mut Vec<u8>, none: u8) -> Result<(), AllocError>
     ensures { OnOk result (code.new.items ≡ code.old.items ++ codes (specs.most_test none)) }
 {
@@ -98,7 +98,7 @@ fn write_most_test(code: &mut Vec<u8>, none: u8) -> Result<(), AllocError>
     )
 }
 
-// It isn't the process itself.
+// If the destination is the process itself, jumps by `none`.
 fn write_other_test(code: &mut Vec<u8>, none: u8) -> Result<(), AllocError>
     ensures { OnOk result (code.new.items ≡ code.old.items ++ codes (specs.other_test none)) }
 {
@@ -125,7 +125,7 @@ fn write_other_test(code: &mut Vec<u8>, none: u8) -> Result<(), AllocError>
     )
 }
 
-// All three, each with its distance to the answer.
+// All three tests, each with its distance to the answer.
 fn write_peer_tests(code: &mut Vec<u8>, none: u8, beyond: u8, own: u8) -> Result<(), AllocError>
     ensures { OnOk result (code.new.items ≡ code.old.items ++ codes (specs.peer_tests none beyond own)) }
 {
@@ -134,7 +134,7 @@ fn write_peer_tests(code: &mut Vec<u8>, none: u8, beyond: u8, own: u8) -> Result
     write_other_test(code, own)
 }
 
-// A register holds at most 256.
+// If a register holds more than 256, jumps by `long`.
 fn write_length_test(code: &mut Vec<u8>, len: u8, long: u8) -> Result<(), AllocError>
     ensures { OnOk result (code.new.items ≡ code.old.items ++ codes (specs.length_test len long)) }
 {
@@ -183,7 +183,7 @@ fn write_output_sized_tests(code: &mut Vec<u8>, size: u8) -> Result<(), AllocErr
     write_length_test(code, 12, size)
 }
 
-/// The tests of a helper, which pass by so many bytes.
+/// The tests of a helper. A test that fails jumps over the effect, which has `size` bytes.
 pub(crate) fn write_tests(code: &mut Vec<u8>, helper: Helper, size: u8) -> Result<(), AllocError>
     requires { size ≤ 80 }
     ensures { OnOk result (code.new.items ≡ code.old.items ++ codes (specs.tests_of helper size)) }
@@ -196,7 +196,7 @@ pub(crate) fn write_tests(code: &mut Vec<u8>, helper: Helper, size: u8) -> Resul
     }
 }
 
-// rdx: the address of the next place; rcx: one more.
+// rdx gets the address of the next free place; rcx is increased by one.
 fn write_place(code: &mut Vec<u8>, base: u64) -> Result<(), AllocError>
     ensures { OnOk result (code.new.items ≡ code.old.items ++ codes (specs.place_code base)) }
 {
@@ -224,7 +224,7 @@ fn write_place(code: &mut Vec<u8>, base: u64) -> Result<(), AllocError>
     )
 }
 
-// The destination.
+// Stores the destination.
 fn write_aim(code: &mut Vec<u8>) -> Result<(), AllocError>
     ensures { OnOk result (code.new.items ≡ code.old.items ++ codes specs.aim_code) }
 {
@@ -239,7 +239,7 @@ fn write_aim(code: &mut Vec<u8>) -> Result<(), AllocError>
     )
 }
 
-// The length, and 64 bytes.
+// Stores the length, and copies 64 bytes.
 fn write_copy(code: &mut Vec<u8>, at: u64) -> Result<(), AllocError>
     requires { at < 2 ^ 16 }
     ensures { OnOk result (code.new.items ≡ code.old.items ++ codes (specs.copy_code at)) }
@@ -277,7 +277,8 @@ fn write_copy(code: &mut Vec<u8>, at: u64) -> Result<(), AllocError>
     )
 }
 
-// So many bytes, by how their number is written and counted and their address found.
+// Copies bytes to the place: `writes` stores their number, `counts` moves it to rcx, and `finds` moves their address to
+// rsi.
 fn write_moved(
     code: &mut Vec<u8>,
     writes: Instr,
@@ -308,7 +309,7 @@ fn write_moved(
     )
 }
 
-// The length, which a register has, to the place.
+// Stores a length in a register to the place.
 fn length_store(len: u8) -> Instr
     ensures { result ≡ Instr.Store Size.Double 2 8 len }
 {
@@ -320,7 +321,7 @@ fn length_store(len: u8) -> Instr
     }
 }
 
-// The length to rcx.
+// rcx gets a length in a register.
 fn length_move(len: u8) -> Instr
     ensures { result ≡ Instr.Mov Width.W64 1 len }
 {
@@ -331,7 +332,7 @@ fn length_move(len: u8) -> Instr
     }
 }
 
-// The address of a position that a register has to rsi.
+// rsi gets the address of a position in a register.
 fn position_code(at: u8) -> Instr
     ensures { result ≡ Instr.LeaBy 6 7 at (specs.seen 0) }
 {
@@ -343,7 +344,7 @@ fn position_code(at: u8) -> Instr
     }
 }
 
-// The length, which a register has, and so many bytes.
+// Stores a length in a register, and copies that many bytes.
 fn write_sized(code: &mut Vec<u8>, at: u64, len: u8) -> Result<(), AllocError>
     ensures { OnOk result (code.new.items ≡ code.old.items ++ codes (specs.sized_code at len)) }
 {
@@ -355,14 +356,14 @@ fn write_sized(code: &mut Vec<u8>, at: u64, len: u8) -> Result<(), AllocError>
     write_moved(code, length_store(len), length_move(len), finds)
 }
 
-// The same from a position that a register has.
+// The same from a position in a register.
 fn write_sized_by(code: &mut Vec<u8>, at: u8, len: u8) -> Result<(), AllocError>
     ensures { OnOk result (code.new.items ≡ code.old.items ++ codes (specs.sized_by_code at len)) }
 {
     write_moved(code, length_store(len), length_move(len), position_code(at))
 }
 
-// The length, and 64 bytes from there.
+// Stores the length, and copies 64 bytes from a position in a register.
 fn write_copy_by(code: &mut Vec<u8>, at: u8) -> Result<(), AllocError>
     ensures { OnOk result (code.new.items ≡ code.old.items ++ codes (specs.copy_by_code at)) }
 {
@@ -376,7 +377,7 @@ fn write_copy_by(code: &mut Vec<u8>, at: u8) -> Result<(), AllocError>
     write_moved(code, writes, counts, position_code(at))
 }
 
-// The new count and the answer, and past the other answers.
+// Stores the new count, sets r0 to 0, and jumps over the other answers.
 fn write_good_end(code: &mut Vec<u8>, count_at: u64, past: u8) -> Result<(), AllocError>
     ensures { OnOk result (code.new.items ≡ code.old.items ++ codes (specs.good_end count_at past)) }
 {
@@ -465,7 +466,7 @@ fn write_output_sized_by(code: &mut Vec<u8>) -> Result<(), AllocError>
     write_good_end(code, 8, 12)
 }
 
-// What it does from a position where its tests pass.
+// The effect of a helper after its tests, from a constant position.
 fn write_good_at(code: &mut Vec<u8>, helper: Helper, at: u64) -> Result<(), AllocError>
     requires { at < 2 ^ 16 }
     ensures { OnOk result (code.new.items ≡ code.old.items ++ codes (specs.good_of helper (Some at))) }
@@ -478,7 +479,7 @@ fn write_good_at(code: &mut Vec<u8>, helper: Helper, at: u64) -> Result<(), Allo
     }
 }
 
-// What it does from one that a register has.
+// The effect of a helper after its tests, from a position in a register.
 fn write_good_by(code: &mut Vec<u8>, helper: Helper) -> Result<(), AllocError>
     ensures { OnOk result (code.new.items ≡ code.old.items ++ codes (specs.good_of helper None)) }
 {
@@ -490,7 +491,7 @@ fn write_good_by(code: &mut Vec<u8>, helper: Helper) -> Result<(), AllocError>
     }
 }
 
-/// What it does where its tests pass, from a position or from one that a register has.
+/// The effect of a helper after its tests, from a constant position or from one in a register.
 pub(crate) fn write_good(
     code: &mut Vec<u8>,
     helper: Helper,
@@ -504,7 +505,7 @@ pub(crate) fn write_good(
     }
 }
 
-// The answers of a send of 64 bytes: the destination is no peer, there is no room.
+// The answers of a send of 64 bytes that fails: the destination is no peer; there is no room.
 fn write_send_end(code: &mut Vec<u8>) -> Result<(), AllocError>
     ensures { OnOk result (code.new.items ≡ code.old.items ++ codes specs.send_end) }
 {
@@ -518,14 +519,14 @@ fn write_send_end(code: &mut Vec<u8>) -> Result<(), AllocError>
     )
 }
 
-// That of an output of 64 bytes: there is no room.
+// The answer of an output of 64 bytes that fails: there is no room.
 fn write_output_end(code: &mut Vec<u8>) -> Result<(), AllocError>
     ensures { OnOk result (code.new.items ≡ code.old.items ++ codes specs.output_end) }
 {
     write_all(code, &[Instr::MovImm { to: 0, imm: 2 }])
 }
 
-// Those of a send of any length: it is too long, the destination is no peer, there is no room.
+// The answers of a send of any length that fails: it is too long; the destination is no peer; there is no room.
 fn write_send_sized_end(code: &mut Vec<u8>) -> Result<(), AllocError>
     ensures { OnOk result (code.new.items ≡ code.old.items ++ codes specs.send_sized_end) }
 {
@@ -541,7 +542,7 @@ fn write_send_sized_end(code: &mut Vec<u8>) -> Result<(), AllocError>
     )
 }
 
-// Those of an output of any length: it is too long, there is no room.
+// The answers of an output of any length that fails: it is too long; there is no room.
 fn write_output_sized_end(code: &mut Vec<u8>) -> Result<(), AllocError>
     ensures { OnOk result (code.new.items ≡ code.old.items ++ codes specs.output_sized_end) }
 {
@@ -555,7 +556,7 @@ fn write_output_sized_end(code: &mut Vec<u8>) -> Result<(), AllocError>
     )
 }
 
-/// The answers of a helper where a test fails.
+/// The answers of a helper if a test fails.
 pub(crate) fn write_end(code: &mut Vec<u8>, helper: Helper) -> Result<(), AllocError>
     ensures { OnOk result (code.new.items ≡ code.old.items ++ codes (specs.end_of helper)) }
 {

@@ -1,4 +1,4 @@
-//! Two slots that one instruction serves: a register is copied, and a number is added to the copy.
+//! Two tasks that one instruction does: a register is copied, and a number is added to the copy.
 
 ghost use Rattle.std.specs.Prelude.{◌≡◌, ◌<◌, ◌≤◌, true, false, length, replicate, slice_index_or, slice_set, IfOk};
 ghost use Rattle.limits.specs.declared.TheConstants.{SLOTS};
@@ -12,7 +12,7 @@ use limits::SLOTS;
 use std::alloc::{AllocError, Global};
 use x86::Instr;
 
-// The task of a slot of the list.
+// The task of a slot; `Dead` after the end.
 pub(crate) fn task_at(tasks: &[Task], slot: usize) -> Task
     ensures { result ≡ slice_index_or tasks.now slot Task.Dead }
 {
@@ -23,7 +23,7 @@ pub(crate) fn task_at(tasks: &[Task], slot: usize) -> Task
     }
 }
 
-// So many slots, none of them marked.
+// `count` slots, none of them marked.
 fn unmarked(alloc: Global, count: usize) -> Result<Vec<bool>, AllocError>
     ensures { IfOk result (λ targets. targets.items ≡ replicate count false) }
 {
@@ -42,7 +42,7 @@ fn mark(targets: &mut Vec<bool>, slot: usize)
     }
 }
 
-// Marks where a task leads to, if that isn't the next slot.
+// Marks the slot where a task leads, if it isn't the next one.
 fn mark_behind(targets: &mut Vec<bool>, slot: usize, task: Task)
     requires { slot < SLOTS }
     ensures { targets.new.items ≡ specs.marked_by targets.old.items slot task }
@@ -55,7 +55,7 @@ fn mark_behind(targets: &mut Vec<bool>, slot: usize, task: Task)
     }
 }
 
-/// Which slots a call may come to but from the slot in front.
+/// Which slots a call may come to from elsewhere than the slot before.
 pub(crate) fn targets_of(alloc: Global, tasks: &[Task]) -> Result<Vec<bool>, AllocError>
     requires { length tasks.now ≤ SLOTS }
     ensures { IfOk result (λ targets. targets.items ≡ specs.targets_in tasks.now) }
@@ -77,7 +77,7 @@ fn is_target(targets: &[bool], slot: usize) -> bool
     }
 }
 
-// The sum of a register and a number, if it stands in the register's copy.
+// The sum of a register and a number, if the number is added to the register's copy.
 fn sum_by(dst: Reg, src: Reg, again: Reg, imm: i32) -> Option<Instr>
     ensures { result ≡ specs.sum_by dst.number src.number again.number imm }
 {
@@ -120,7 +120,7 @@ fn sum_of(first: Task, second: Task) -> Option<Instr>
     }
 }
 
-/// The one instruction of a slot and the next, where that is only come to from the slot.
+/// The one instruction of a slot and the next, if a call comes to the next only from this slot.
 pub(crate) fn fused(tasks: &[Task], targets: &[bool], slot: usize) -> Option<Instr>
     requires few { slot < SLOTS }
     requires targets { targets.now ≡ specs.targets_in tasks.now }
@@ -133,7 +133,7 @@ pub(crate) fn fused(tasks: &[Task], targets: &[bool], slot: usize) -> Option<Ins
     }
 }
 
-/// Whether the instruction of the slot in front does this slot's task too.
+/// Whether the instruction of the slot before also does this slot's task.
 pub(crate) fn is_covered(tasks: &[Task], targets: &[bool], slot: usize) -> bool
     requires few { slot < SLOTS }
     requires targets { targets.now ≡ specs.targets_in tasks.now }

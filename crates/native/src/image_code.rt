@@ -26,7 +26,7 @@ use std::alloc::{AllocError, Global};
 use verifier::Image;
 use x86::Instr;
 
-// So many zeros.
+// `count` zeros.
 fn zeros(alloc: Global, count: usize) -> Result<Vec<u64>, AllocError>
     ensures { IfOk result (λ list. list.items ≡ replicate count 0) }
 {
@@ -37,7 +37,7 @@ fn zeros(alloc: Global, count: usize) -> Result<Vec<u64>, AllocError>
     Ok(list)
 }
 
-// The code of a slot, and none where no call comes to it or the slot in front serves it.
+// The code of a slot; none if no call comes to it, or if the instruction of the slot before does its task.
 fn write_piece(
     alloc: Global,
     piece: &mut Vec<u8>,
@@ -67,8 +67,8 @@ fn write_piece(
     Ok(())
 }
 
-// Puts the code of a slot in front of the code of those behind it, all of it backward, and keeps how long it is then.
-// It is written in a place of its own.
+// Puts the code of a slot before that of the later slots, and keeps the length of both together. `back` has the code in
+// reverse; `piece` is room for the slot's own code.
 fn lay_slot(
     alloc: Global,
     piece: &mut Vec<u8>,
@@ -121,7 +121,7 @@ fn write_entry(code: &mut Vec<u8>, opening: Opening, saved: Saved) -> Result<(),
     }
 }
 
-/// The machine code of tasks, one a slot, of a call that begins so. Only memory can want.
+/// The machine code of tasks, one for each slot, with this opening. It fails only if memory runs out.
 pub fn write_tasks(alloc: Global, opening: Opening, tasks: &[Task]) -> Result<Vec<u8>, AllocError>
     requires { length tasks.now ≤ SLOTS }
     ensures { IfOk result (λ code. IsServed opening tasks.now code.items) }
@@ -155,18 +155,18 @@ pub fn write_tasks(alloc: Global, opening: Opening, tasks: &[Task]) -> Result<Ve
     Ok(code)
 }
 
-/// The machine code of an image. Only memory can want.
+/// The machine code of an image. It fails only if memory runs out.
 pub fn compile(alloc: Global, image: &Image) -> Result<Vec<u8>, AllocError>
     ensures native { IfOk result (λ code. IsNative image.now.form image.now.slots image.now.len code.items) }
     ensures one { IfOk result (λ code. IsCodeOf image.now.form image.now.slots image.now.len code.items) }
 {
-    // Their clauses say what an image is: a typing, the least, its slots and its bounds.
+    // For the proof: their contracts say what an image is: it has a least typing, its slots and its bounds.
     let begin = image.begin();
     let _frame = image.kinds_at(begin);
     let (ops, pool) = image.operations();
     let tasks = tasks_of(alloc, image, ops, pool)?;
     let code = write_tasks(alloc, Opening::Bare, tasks.as_slice())?;
-    // A vector's length is below 2 to the 64th.
+    // For the proof: a vector's length is below 2 ^ 64.
     let _fits = code.len();
     Ok(code)
 }

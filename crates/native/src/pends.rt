@@ -1,4 +1,4 @@
-//! How many steps aren't counted yet where a slot begins.
+//! How many steps are pending at each slot: executed, but not yet added to the count in r11.
 
 ghost use Rattle.std.specs.Prelude.{◌≡◌, ◌<◌, ◌≤◌, ◌+◌, false, ℕ, length, slice_index, IfOk};
 ghost use Rattle.limits.specs.declared.TheConstants.{SLOTS};
@@ -12,13 +12,13 @@ use crate::task::Task;
 use limits::SLOTS;
 use std::alloc::{AllocError, Global};
 
-// More than any call counts.
+// More than the steps of any call.
 const FAR: u64 = 0x4000_0000;
 
-// How often what isn't counted is made less, at most.
+// The most passes over the slots.
 const PASSES: usize = 16;
 
-// Makes an element less, if there is one that is more.
+// Lowers an element to a value, if the element exists and is greater. Answers whether it did.
 fn lower(list: &mut Vec<u64>, index: usize, value: u64) -> bool
     ensures list { list.new.items ≡ specs.lowered list.old.items index value }
     ensures more { result ≡ specs.is_more list.old.items index value }
@@ -34,7 +34,8 @@ fn lower(list: &mut Vec<u64>, index: usize, value: u64) -> bool
     }
 }
 
-// What isn't counted where a jump comes from, it comes to two slots with.
+// Lowers both slots of a conditional jump to the least of their pending steps and a value: both need the same number.
+// Answers whether either became less.
 fn lower_both(pends: &mut Vec<u64>, next: usize, to: usize, value: u64) -> bool
     ensures list { pends.new.items ≡ specs.lowered_both pends.old.items next to value }
     ensures more { result ≡ specs.is_more_of_both pends.old.items next to value }
@@ -51,7 +52,7 @@ fn lower_both(pends: &mut Vec<u64>, next: usize, to: usize, value: u64) -> bool
     first || second
 }
 
-// Makes less what isn't counted where a task leads. Whether anything became less.
+// Lowers the pending steps of the slots where a task leads. Answers whether any became less.
 fn lower_behind(pends: &mut Vec<u64>, slot: usize, task: Task) -> bool
     requires { slot < SLOTS }
     ensures list { pends.new.items ≡ specs.lowered_behind pends.old.items slot task }
@@ -71,7 +72,7 @@ fn lower_behind(pends: &mut Vec<u64>, slot: usize, task: Task) -> bool
     }
 }
 
-// From each slot on, its step isn't counted where the call goes on, or less. Whether anything became less.
+// One pass over all slots. Answers whether any pending steps became less.
 fn pass(pends: &mut Vec<u64>, tasks: &[Task]) -> bool
     requires { length tasks.now ≤ SLOTS }
     ensures list { pends.new.items ≡ specs.passed tasks.now pends.old.items (length tasks.now) }
@@ -88,8 +89,8 @@ fn pass(pends: &mut Vec<u64>, tasks: &[Task]) -> bool
     changed
 }
 
-// How many steps are not counted yet where a slot begins: no more than on any way there, and as many on both ways of a
-// jump. Where that isn't found soon, every step is counted at once.
+// The pending steps at each slot: at most one more than at a slot from which it is reached, and the same on both ways
+// of a jump. If the passes find no such numbers, no step is ever pending: each is counted at once.
 pub(crate) fn pends_of(alloc: Global, tasks: &[Task]) -> Result<Vec<u64>, AllocError>
     requires { length tasks.now ≤ SLOTS }
     ensures value { IfOk result (λ pends. pends.items ≡ specs.pends_in tasks.now) }

@@ -11,7 +11,7 @@ use decode::{Operand, Reg, Width};
 use std::alloc::AllocError;
 use x86::{Alu, Condition, Instr};
 
-/// The divisor to rcx.
+/// rcx gets the divisor.
 pub(crate) fn divisor_code(width: Width, operand: Operand) -> Instr
     ensures value { result ≡ specs.divisor_code width operand }
     ensures short { IsShort operand }
@@ -32,7 +32,7 @@ pub(crate) fn divisor_code(width: Width, operand: Operand) -> Instr
     }
 }
 
-// Past so many bytes where the divisor is this number.
+// If the divisor is `imm`, jumps by `past`.
 fn write_divisor_test(
     code: &mut Vec<u8>,
     width: Width,
@@ -58,7 +58,7 @@ fn write_divisor_test(
     )
 }
 
-// How many bytes a width takes.
+// How many bytes a width adds to an instruction.
 fn width_size(width: Width) -> u8
     ensures value { result ≡ specs.width_size width }
     ensures few { result ≤ 1 }
@@ -69,7 +69,7 @@ fn width_size(width: Width) -> u8
     }
 }
 
-/// How many bytes an instruction of one register has, or of one and the same twice.
+/// How many bytes an instruction with one register has, or with the same register twice.
 pub(crate) fn two_size(width: Width, reg: u8) -> u8
     ensures value { result ≡ specs.two_size width reg }
     ensures few { result ≤ 3 }
@@ -80,7 +80,7 @@ pub(crate) fn two_size(width: Width, reg: u8) -> u8
     }
 }
 
-// The division by itself: its result is in rax or rdx, and goes to a register.
+// The division itself: its result is in rax or rdx, and is moved to a register.
 fn write_division(
     code: &mut Vec<u8>,
     to: u8,
@@ -116,7 +116,7 @@ fn write_division(
     )
 }
 
-// The divisor, and past so many bytes where it is 0.
+// The divisor, and a jump by `past` if it is 0.
 fn write_divisor(code: &mut Vec<u8>, first: Instr, width: Width, past: u8) -> Result<(), AllocError>
     ensures { OnOk result (code.new.items ≡ code.old.items ++ codes (first ∷ specs.divisor_test width 0 past)) }
 {
@@ -124,7 +124,7 @@ fn write_divisor(code: &mut Vec<u8>, first: Instr, width: Width, past: u8) -> Re
     write_divisor_test(code, width, 0, past)
 }
 
-/// A quotient or a remainder.
+/// An unsigned quotient or remainder.
 pub(crate) fn write_quotient(
     code: &mut Vec<u8>,
     first: Instr,
@@ -147,7 +147,7 @@ pub(crate) fn write_quotient(
     write_all(code, &[Instr::JumpShort { distance: size }, none])
 }
 
-/// What is done where the divisor is -1, and how long it is, and where it is 0.
+/// The code for the divisor -1, the code for the divisor 0, and how long each is.
 #[derive(Clone, Copy)]
 pub(crate) struct Ways {
     pub(crate) minus: Instr,
@@ -156,7 +156,7 @@ pub(crate) struct Ways {
     pub(crate) none_size: u8,
 }
 
-// The divisor, and past the division where it is 0 or -1.
+// The divisor, and jumps over the division if it is 0 or -1.
 fn write_signed_tests(
     code: &mut Vec<u8>,
     first: Instr,
@@ -173,7 +173,7 @@ fn write_signed_tests(
     Ok(())
 }
 
-// The division, and the two other ways.
+// The division, and the code for the divisors -1 and 0.
 fn write_signed_ways(
     code: &mut Vec<u8>,
     width: Width,

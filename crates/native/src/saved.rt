@@ -15,7 +15,8 @@ use decode::Reg;
 use std::alloc::AllocError;
 use x86::Instr;
 
-/// Which of the registers that belong to the caller code keeps: r5, r6, r2, r7, r8 and r9 stand in them.
+/// Which of the caller's registers the code saves. The handler's r5, r6, r2, r7, r8 and r9 are in rbx, rbp, r12, r13,
+/// r14 and r15.
 #[derive(Clone, Copy)]
 pub struct Saved {
     rbx: bool,
@@ -26,7 +27,7 @@ pub struct Saved {
     r15: bool,
 }
 
-/// Whether one of the two holds.
+/// Whether at least one of the two is true.
 pub(crate) fn either(one: bool, other: bool) -> bool
     ensures { result ≡ one || other }
 {
@@ -34,7 +35,7 @@ pub(crate) fn either(one: bool, other: bool) -> bool
 }
 
 impl Saved {
-    // The same and the register in which this one stands.
+    // The same, with the caller's register in which this one is.
     fn and_register(self, reg: Reg) -> Saved
         ensures value { result ≡ specs.and_register self reg.number }
         ensures writes { may_write result reg.number ≡ true }
@@ -51,7 +52,7 @@ impl Saved {
         }
     }
 
-    // The same and the one that a task writes.
+    // The same, with the register that a task writes.
     fn and_task(self, task: &Task) -> Saved
         ensures value { result ≡ and_task self task.now }
         ensures writes { WritesWithin result task.now }
@@ -72,7 +73,7 @@ impl Saved {
     }
 }
 
-/// What tasks need.
+/// The registers to save for these tasks.
 fn saved_of(tasks: &[Task]) -> Saved
     ensures value { result ≡ saved_in tasks.now }
     ensures all { SaveAll tasks.now result }
@@ -91,7 +92,7 @@ fn saved_of(tasks: &[Task]) -> Saved
     saved
 }
 
-/// What tasks need, and what the code's beginning writes.
+/// The registers to save for these tasks and the code's beginning.
 pub(crate) fn saved_for(opening: Opening, tasks: &[Task]) -> Saved
     ensures value { result ≡ openings.saved_for opening tasks.now }
     ensures all { SaveAll tasks.now result }
@@ -123,7 +124,7 @@ fn pop_if(code: &mut Vec<u8>, kept: bool, reg: u8) -> Result<(), AllocError>
     }
 }
 
-/// Pushes what is kept.
+/// Pushes the saved registers.
 pub(crate) fn write_saving(code: &mut Vec<u8>, saved: Saved) -> Result<(), AllocError>
     ensures { OnOk result (code.new.items ≡ code.old.items ++ codes (specs.saving saved)) }
 {
@@ -135,7 +136,7 @@ pub(crate) fn write_saving(code: &mut Vec<u8>, saved: Saved) -> Result<(), Alloc
     push_if(code, saved.r15, 15)
 }
 
-/// Pops it.
+/// Pops them.
 pub(crate) fn write_restoring(code: &mut Vec<u8>, saved: Saved) -> Result<(), AllocError>
     ensures { OnOk result (code.new.items ≡ code.old.items ++ codes (specs.restoring saved)) }
 {

@@ -23,14 +23,14 @@ use limits::SLOTS;
 use std::alloc::{AllocError, Global};
 use x86::Instr;
 
-// The number at an index, 0 behind the end.
+// The number at an index; 0 after the end.
 pub(crate) fn at(list: &[u64], index: usize) -> u64
     ensures { result ≡ slice_index list.now index }
 {
     if index < list.len() { list[index] } else { 0 }
 }
 
-// How much is added to the steps where the call goes on at another slot.
+// How many steps are added to the count when the call goes on at another slot.
 fn count(pends: &[u64], slot: usize, to: usize) -> u64
     requires small { slice_index pends.now slot < 2 ^ 31 - 1 }
     requires less { slice_index pends.now to ≤ slice_index pends.now slot + 1 }
@@ -39,7 +39,7 @@ fn count(pends: &[u64], slot: usize, to: usize) -> u64
     at(pends, slot) + 1 - at(pends, to)
 }
 
-// How far it is from behind a slot's code to a later one's.
+// The distance from the end of a slot's code to the code of a later slot.
 fn distance(tails: &[u64], slot: usize, to: usize) -> u64
     requires few { slot < SLOTS }
     requires later { slot < to }
@@ -78,7 +78,7 @@ fn jump_if_code(condition: x86::Condition, distance: u64) -> Instr
     }
 }
 
-// Adds to the steps.
+// Adds to the count of steps.
 fn flush(code: &mut Vec<u8>, k: u64) -> Result<(), AllocError>
     ensures { OnOk result (code.new.items ≡ code.old.items ++ codes (flushed k)) }
 {
@@ -94,7 +94,7 @@ fn flush(code: &mut Vec<u8>, k: u64) -> Result<(), AllocError>
     }
 }
 
-// Jumps past a wide instruction's second slot, where something stands there.
+// Jumps over a wide instruction's second slot, if that has code.
 fn skip(code: &mut Vec<u8>, distance: u64) -> Result<(), AllocError>
     ensures { OnOk result (code.new.items ≡ code.old.items ++ codes (skipped distance)) }
 {
@@ -123,7 +123,7 @@ fn write_three(code: &mut Vec<u8>, i: Instr, j: Instr, k: Instr) -> Result<(), A
     write_all(code, &[i, j, k])
 }
 
-// The instructions of a task without jumps.
+// The instructions of a body.
 fn emit_body(code: &mut Vec<u8>, body: Body) -> Result<(), AllocError>
     ensures { OnOk result (Emits (IsBody body) code.old.items code.new.items) }
 {
@@ -135,7 +135,7 @@ fn emit_body(code: &mut Vec<u8>, body: Body) -> Result<(), AllocError>
     }
 }
 
-// Those of a task.
+// The instructions of a task that has no jump.
 fn emit_body_of(code: &mut Vec<u8>, task: Task) -> Result<(), AllocError>
     ensures { OnOk result (Emits (IsBody (specs.body_of task)) code.old.items code.new.items) }
 {
@@ -175,7 +175,7 @@ fn emit_quotient(
     write_quotient(code, first, width, gpr(dst), from, none, size)
 }
 
-// A signed one.
+// A signed quotient or remainder.
 fn emit_signed(
     code: &mut Vec<u8>,
     width: Width,
@@ -273,7 +273,7 @@ fn emit_compute(
     }
 }
 
-// What a task that always goes on does.
+// The instructions of a task that always goes on.
 fn emit_done(alloc: Global, code: &mut Vec<u8>, task: Task) -> Result<(), AllocError>
     ensures { OnOk result (Emits (IsDone task) code.old.items code.new.items) }
 {
@@ -325,7 +325,7 @@ fn emit_plain(
     let next = slot + taken(task);
     let steps = count(pends, slot, next);
     let past = distance(tails, slot, next);
-    // Its clause says that the task's number has 32 bits.
+    // For the proof: the contract of `body_of` says that the task's number fits 32 bits.
     let _short = body_of(task);
     emit_done(alloc, code, task)?;
     flush(code, steps)?;
@@ -350,7 +350,7 @@ fn emit_fused(
     let next = slot + 2;
     let steps = at(pends, slot) + 2 - at(pends, next);
     let past = distance(tails, slot, next);
-    // Its clause says that the task's number has 32 bits.
+    // For the proof: the contract of `body_of` says that the task's number fits 32 bits.
     let _short = body_of(second);
     write_all(code, &[instr])?;
     flush(code, steps)?;
@@ -404,7 +404,7 @@ fn emit_leap(
     write_all(code, &[jump_code(distance)])
 }
 
-/// The end.
+/// The end of a call.
 fn emit_exit(code: &mut Vec<u8>, pends: &[u64], saved: Saved, slot: usize) -> Result<(), AllocError>
     requires { slice_index pends.now slot < 2 ^ 31 - 1 }
     ensures { OnOk result (Emits (Ends pends.now saved slot) code.old.items code.new.items) }
@@ -413,7 +413,7 @@ fn emit_exit(code: &mut Vec<u8>, pends: &[u64], saved: Saved, slot: usize) -> Re
     emit_leaving(code, saved)
 }
 
-// Tells the steps, and returns.
+// Stores the count of steps, and returns.
 fn emit_leaving(code: &mut Vec<u8>, saved: Saved) -> Result<(), AllocError>
     ensures { OnOk result (code.new.items ≡ code.old.items ++ codes (leaving saved)) }
 {
@@ -428,7 +428,7 @@ fn emit_leaving(code: &mut Vec<u8>, saved: Saved) -> Result<(), AllocError>
     Instr::Return.write(code)
 }
 
-/// The begin.
+/// The beginning of a call.
 pub(crate) fn emit_entry(code: &mut Vec<u8>, saved: Saved) -> Result<(), AllocError>
     ensures { OnOk result (code.new.items ≡ code.old.items ++ codes (entering saved)) }
 {
@@ -481,7 +481,7 @@ fn emit_task(
     }
 }
 
-/// The code of a slot that the slot in front doesn't serve.
+/// The code of a slot whose task the slot before doesn't do.
 pub(crate) fn emit(
     alloc: Global,
     code: &mut Vec<u8>,

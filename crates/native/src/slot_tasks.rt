@@ -48,14 +48,14 @@ fn is_reached(image: &Image, slot: usize) -> bool
     }
 }
 
-// The task, or nothing to do.
+// The task if the slot is reached, else `Dead`.
 fn only_if(reached: bool, task: Task) -> Task
     ensures { result ≡ if reached then task else Task.Dead }
 {
     if reached { task } else { Task::Dead }
 }
 
-// The task of a slot, where a call may come to it.
+// The task of a slot, if a call may come to it.
 fn task_there(image: &Image, ops: &[Op], pool: &[u64], slot: usize) -> Task
     requires { IsDense image.now.slots image.now.table image.now.len ops.now pool.now }
     ensures value { result ≡ specs.task_there image.now.len slot (frame_at image.now.table slot) (insn_at image.now.slots slot) }

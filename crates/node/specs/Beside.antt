@@ -1,4 +1,4 @@
--- Nodes beside one another
+-- Several nodes together
 use Rattle.std.specs.Prelude.{◌≡◌, ◌≢◌, ℕ, ◌<◌, ◌≤◌, List}
 use Rattle.world.specs.World.{put}
 use Rattle.cluster.specs.Cluster.{Cluster}
@@ -6,20 +6,20 @@ use Rattle.cluster.specs.Rules.{Act, Run, after_run}
 use Rattle.node.specs.Node.{TheNode}
 use Rattle.node.specs.Stands.{Each, Stands, Goes, actor}
 
--- a node stands after the acts of another
+-- a node still agrees with the cluster after the acts of another
 abbrev pub OthersStand : Type 0
 OthersStand = (n : TheNode) (p q : ℕ) (acts : List Act) (c : Cluster) → q ≢ p → Each (λ (a : Act). actor a ≡ q) acts → Stands n c p → Stands n (after_run c acts) p
 
--- the nodes of a cluster, by number: each stands in it
+-- the nodes of a cluster, by number: each agrees with it
 abbrev pub AllStand : (ℕ → TheNode) → Cluster → Type 0
 AllStand nodes c = (p : ℕ) → 0 < p → p ≤ c.count → Stands (nodes p) c p
 
--- the cluster runs on to one in which these nodes stand
+-- the cluster runs on to one with which these nodes agree
 pub record RunsOn (c : Cluster) (nodes : ℕ → TheNode) : Type 0 where
   pub acts : List Act
   pub run : Run c acts
   pub stand : AllStand nodes (after_run c acts)
 
--- where a call at one node does what it owes, the cluster of all runs on
+-- if a call at one node does what it owes, the cluster of all runs on
 abbrev pub NodesRun : Type 0
 NodesRun = (nodes : ℕ → TheNode) (c : Cluster) (p : ℕ) (new : TheNode) → AllStand nodes c → Goes p new c → RunsOn c (put nodes p new)

@@ -13,6 +13,6 @@ IsTaken (Ok u) = ⊤
 IsTaken (Err Memory) = ⊤
 IsTaken (Err (Fault f)) = ⊥
 
--- what is given are the bytes of the packet that waited first, and the node is without it
+-- the bytes are those of the first packet that waited, and the node no longer has it
 abbrev pub GivesBytes : List ℕ → TheNode → TheNode → Type 0
 GivesBytes bytes old new = (x : Packet) × IsPacket x bytes × Takes (Some x) old new

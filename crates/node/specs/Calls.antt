@@ -1,4 +1,4 @@
--- What the calls make of a node
+-- A node after each of its calls
 use Rattle.std.specs.Prelude.{ℕ, ◌+◌, ◌-◌, List, length, Option, Some, None, is_some, Bool, false, not, ◌&&◌, ◌||◌, ◌==◌, nat_lt, nat_le, if◌then◌else◌, slice_index_or, slice_set}
 use Rattle.rsn.specs.Receipts.{numbers_of}
 use Rattle.packets.specs.declared.packet.Body.{Body}
@@ -13,11 +13,11 @@ use Rattle.node.specs.Node.{TheNode, log_at, posts, worked, number_of, numbered,
 use Rattle.node.specs.Sending.{released}
 use Rattle.node.specs.Asking.{asked_by, resumed_by}
 
--- whether there is room for one message more
+-- whether the limits allow one message more
 abbrev pub takes_more : TheNode → Bool
 takes_more n = nat_lt n.waiting n.limits.numbers && nat_lt (length n.receipts.senders) n.limits.receipts && nat_lt (n.base + length n.receipts.senders) MOST_RECEIVED
 
--- a message of a sender comes: it is dropped, answered where it was received before, or a job is open
+-- takes a message of a sender: drops it, answers it if it was received before, or opens a job
 abbrev pub delivered : ℕ → ℕ → ℕ → List ℕ → TheNode → TheNode
 delivered from life ssn x n =
     let place = ssn - covered_of from n - 1 in
@@ -28,20 +28,19 @@ delivered from life ssn x n =
     else if (place == known) && takes_more n then record n { working = Some (record { sender = from; ssn = ssn; payload = x }) }
     else n
 
--- a number comes: where it is of an entry, and of the incarnation that was heard of, it is recorded and acknowledged
+-- takes an RSN: if it is of an entry and of the incarnation that was heard, records and acknowledges it
 abbrev pub recorded_by : ℕ → ℕ → ℕ → ℕ → TheNode → TheNode
 recorded_by from life ssn k n =
     if (life == slice_index_or n.heard from 0) && is_kept ssn (log_at n.logs from) then posts from (Acknowledgement life k) (numbered from ssn k n) else n
 
--- an acknowledgement comes: where it is of this life, and of a number behind the checkpoint, that counts as acknowledged, and what it let go
--- is released
+-- takes an acknowledgement: if it is of this incarnation and of an RSN after the checkpoint, counts it, and releases what waited for it
 abbrev pub acknowledged_by : ℕ → ℕ → TheNode → TheNode
 acknowledged_by life k n =
     if (life == n.life) && nat_lt n.base k && nat_le k (n.base + length n.receipts.senders) && not (slice_index_or n.receipts.acknowledged (k - n.base - 1) false)
     then released (counted (k - n.base) n)
     else n
 
--- a receiver says that so many messages to it are covered for good: the log drops them
+-- the first messages to a receiver are covered for good: drops them from the log
 abbrev pub dropped_by : ℕ → ℕ → TheNode → TheNode
 dropped_by from k n = record n { logs = slice_set n.logs from (dropped_to k (log_at n.logs from)) }
 
@@ -50,7 +49,7 @@ abbrev pub did_work : List ℕ → List Given → Option OpenJob → TheNode →
 did_work state given None n = n
 did_work state given (Some j) n = posts j.sender (number_of j n) (worked j state given n)
 
--- another one says this: what isn't named is dropped
+-- takes what another node says; a body that isn't named here is dropped
 abbrev pub told : ℕ → Body → TheNode → TheNode
 told from (Delivery i ssn x) n = delivered from i ssn x n
 told from (Number i ssn k) n = recorded_by from i ssn k n
@@ -60,10 +59,10 @@ told from (Ask i k) n = asked_by from i k n
 told from (Resume i k s) n = resumed_by from i k s n
 told from body n = n
 
--- a packet is of another node of this cluster to this one, which takes what arrives, and each field is in its range
+-- a packet is from another node of this cluster to this one, each field is in range, and the node takes what arrives
 abbrev pub is_for : TheNode → Packet → Bool
 is_for n x = not n.frozen && (x.count == n.count) && (x.to == n.me) && nat_le x.from n.count && not (x.from == n.me) && in_range x.body
 
--- a packet comes
+-- takes a packet
 abbrev pub handed : Packet → TheNode → TheNode
 handed x n = if is_for n x then told x.from x.body n else n

@@ -6,11 +6,11 @@ use Rattle.node.specs.declared.limit.Limits.{Limits}
 use Rattle.node.specs.declared.limit.TheConstants.{PAGE, TICK}
 use Rattle.node.specs.declared.node.TheConstants.{WINDOW}
 
--- those of a node of which nothing else is said
+-- the default limits
 abbrev pub usual : Limits
 usual = record { page = PAGE; tick = TICK; numbers = WINDOW; receipts = LIMIT; durable = false }
 
--- each is in its range
+-- each limit is in range
 pub record AreAllowed (l : Limits) : Type 0 where
   pub page : (LEAST_PAGE ≤ l.page) × (l.page < 2 ^ 16)
   pub tick : 1 ≤ l.tick

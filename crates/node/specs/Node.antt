@@ -1,4 +1,4 @@
--- What clauses see of a node
+-- A node as clauses see it
 use Rattle.std.specs.Prelude.{◌≡◌, ◌≢◌, ℕ, suc, ◌+◌, ◌-◌, ◌*◌, ◌^◌, ◌<◌, ◌≤◌, List, [], ◌∷◌, length, Option, Some, None, is_some, Bool, true, false, slice_get, slice_index_or, slice_set, replicate, sum}
 use Rattle.std.specs.List.{AllByRecursion}
 use Rattle.rsn.specs.Receipts.{Received, accepted, acknowledged, numbers_of}
@@ -16,7 +16,7 @@ use Rattle.node.specs.declared.job.OpenJob.{OpenJob}
 use Rattle.node.specs.declared.job.Given.{Given}
 use Rattle.node.specs.declared.node.TheConstants.{MOST_GIVEN, MOST_RECEIVED}
 
--- the job is on a message of another
+-- the job is on a message of a peer
 abbrev pub OfPeer : ℕ → ℕ → Option OpenJob → Type 0
 OfPeer me count None = Unit {0}
 OfPeer me count (Some j) = (j.sender ≤ count) × (j.sender ≢ me)
@@ -25,7 +25,7 @@ OfPeer me count (Some j) = (j.sender ≤ count) × (j.sender ≢ me)
 abbrev pub IsPeer : ℕ → ℕ → ℕ → Type 0
 IsPeer me count q = (q ≤ count) × (q ≢ me)
 
--- a number of something, of which one more has room
+-- a number that counts from 1; one more still fits
 abbrev pub IsPositive : ℕ → Type 0
 IsPositive n = (0 < n) × (n < 2 ^ 63)
 
@@ -34,16 +34,16 @@ abbrev pub HasSsn : Option OpenJob → Type 0
 HasSsn None = Unit {0}
 HasSsn (Some j) = IsPositive j.ssn
 
--- what it received is of its peers: all that its checkpoint covers, and each message behind
+-- what it received is from its peers: all that its checkpoint covers, and each message since
 pub record FromPeers (me count base : ℕ) (covered senders : List ℕ) : Type 0 where
   pub total : sum covered ≡ base
   pub none_own : slice_index_or covered me 0 ≡ 0
   pub behind : AllByRecursion (IsPeer me count) senders
 
--- its limits; its number, and how many processes there are; its incarnation; its state; how many messages its checkpoint covers, and how many of
--- these are of each sender; what it received behind these; by destination the messages that it keeps; how many of its numbers aren't
--- acknowledged; by peer the greatest incarnation that it heard of, and whether it obeyed the Resume of that one; whether failures came one
--- at a time, as far as it knows; the open job; whether it waits until its checkpoint is durable; the packets to be taken
+-- its limits; its number, and how many processes there are; its incarnation; its state; how many messages its checkpoint covers, and how
+-- many of these came from each sender; what it received since; by destination the messages that it keeps; how many of its RSNs aren't
+-- acknowledged; by peer the greatest incarnation that it heard, and whether it obeyed the Resume of that one; whether failures came one at
+-- a time, as far as it knows; the open job; whether it waits until its checkpoint is durable; the packets that wait
 pub record TheNode : Type 0 where
   pub limits : Limits
   pub me : ℕ
@@ -66,8 +66,8 @@ pub record TheNode : Type 0 where
 abbrev pub log_at : List TheQueue → ℕ → TheQueue
 log_at logs d = slice_index_or logs d no_queue
 
--- what the node's own numbers keep, whatever the cluster is: no more than sixteen messages to each for each that was received; and no job is
--- open while it is frozen
+-- what always holds of a node's own numbers, whatever the cluster is: for each received message at most sixteen were sent to each
+-- destination; and no job is open while it is frozen
 pub record IsWithin (limits : Limits) (me count base : ℕ) (covered heard : List ℕ) (resumed : List Bool) (receipts : Received) (logs : List TheQueue) (working : Option OpenJob) (frozen : Bool) (waiting life : ℕ) (out : List Packet) : Type 0 where
   pub allowed : AreAllowed limits
   pub inside : 1 ≤ me
@@ -91,7 +91,7 @@ pub record IsWithin (limits : Limits) (me count base : ℕ) (covered heard : Lis
   -- each packet that waits can be written
   pub fit : AllByRecursion Fits out
 
--- this node's numbers do
+-- this holds of the node's numbers
 abbrev pub Within : TheNode → Type 0
 Within n = IsWithin n.limits n.me n.count n.base n.covered n.heard n.resumed n.receipts n.logs n.working n.frozen n.waiting n.life n.out
 
@@ -99,35 +99,35 @@ Within n = IsWithin n.limits n.me n.count n.base n.covered n.heard n.resumed n.r
 abbrev pub covered_of : ℕ → TheNode → ℕ
 covered_of q n = slice_index_or n.covered q 0
 
--- a packet of the node's
+-- a packet from the node
 abbrev pub packet_of : TheNode → ℕ → Body → Packet
 packet_of n to body = record { count = n.count; from = n.me; to = to; body = body }
 
--- this can be said to one: it is a peer, and each field is in its range
+-- the node may say this to a peer, and each field is in range
 pub record CanSay (n : TheNode) (to : ℕ) (body : Body) : Type 0 where
   pub peer : IsPeer n.me n.count to
   pub room : HasRoom body
   pub range : in_range body ≡ true
 
--- one more packet waits to be taken, where there is room
+-- puts one more packet into the outbox, if there is room
 abbrev pub posts : ℕ → Body → TheNode → TheNode
 posts to body n = record n { out = pushed (packet_of n to body) n.out }
 
--- what a handler gives may be sent: it isn't much, and each is to another
+-- a handler may send these: there aren't too many, and each is to a peer
 pub record MaySend (n : TheNode) (given : List Given) : Type 0 where
   pub few : length given ≤ MOST_GIVEN
   pub others : (i : ℕ) (s : Given) → slice_get given i ≡ Some s → (s.to ≤ n.count) × (s.to ≢ n.me)
 
--- one message is logged, which waits for the number k
+-- logs one message, which waits for the RSN k
 abbrev pub logged : ℕ → Given → List TheQueue → List TheQueue
 logged k s logs = slice_set logs s.to (appended s.payload k (log_at logs s.to))
 
--- these are, one after another
+-- logs these, one after another
 abbrev pub given_to : ℕ → List Given → List TheQueue → List TheQueue
 given_to k [] logs = logs
 given_to k (s ∷ given) logs = given_to k given (logged k s logs)
 
--- the number that the message of a job gets
+-- the RSN that the message of a job gets
 abbrev pub next_number : TheNode → ℕ
 next_number n = n.base + (length n.receipts.senders + 1)
 
@@ -139,19 +139,19 @@ worked j state given n = record n { state = state; receipts = accepted j.sender 
 abbrev pub number_of : OpenJob → TheNode → Body
 number_of j n = Number n.life j.ssn (next_number n)
 
--- a sender is told the number of a message of its that is behind the checkpoint
+-- tells a sender the RSN of its message, which came after the checkpoint
 abbrev pub tells : ℕ → ℕ → TheNode → TheNode
 tells to ssn n = posts to (Number n.life ssn (n.base + slice_index_or (numbers_of to n.receipts) (ssn - covered_of to n - 1) 0)) n
 
--- the message to d with this SSN gets a number
+-- the message to d with this SSN gets an RSN
 abbrev pub numbered : ℕ → ℕ → ℕ → TheNode → TheNode
 numbered d ssn k n = record n { logs = slice_set n.logs d (recorded ssn k (log_at n.logs d)) }
 
--- the number that is so far behind the checkpoint is acknowledged
+-- acknowledges the RSN at this distance from the checkpoint
 abbrev pub counted : ℕ → TheNode → TheNode
 counted k n = record n { receipts = acknowledged k n.receipts; waiting = n.waiting - 1 }
 
--- a node with these limits that received nothing, with a state of so many zeros
+-- a node with these limits that received nothing, with a state of zeros
 abbrev pub new_node : Limits → ℕ → ℕ → ℕ → TheNode
 new_node limits me count len =
     record {

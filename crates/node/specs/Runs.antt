@@ -1,4 +1,4 @@
--- Calls of nodes, one after another, with a gateway beside them
+-- Calls of nodes, one after another, together with a gateway
 use Rattle.std.specs.Prelude.{◌≡◌, ◌⊎◌, ℕ, zero, ◌<◌, ◌≤◌, List, [], ◌∷◌, ◌++◌, Option, Some, None, replicate}
 use Rattle.world.specs.declared.message.Message.{Message}
 use Rattle.world.specs.History.{Payload}
@@ -17,7 +17,7 @@ use Rattle.node.specs.Stands.{PutOut, Owes, Acts, Saves, Handles, Takes, IsHande
 use Rattle.pages.specs.Says.{body_of}
 use Rattle.node.specs.Beside.{AllStand}
 
--- the state that a handler leaves, and the messages that it gives
+-- the state that a handler leaves, and the messages that it sends
 pub record Answer : Type 0 where
   pub state : List ℕ
   pub given : List Given
@@ -31,16 +31,16 @@ abbrev pub state_from : Answering → ℕ → List ℕ → List Message → List
 state_from f p s [] = s
 state_from f p s (m ∷ h) = state_from f p (f p s m).state h
 
--- and what it sent to d by then
+-- what p sent to d by then
 abbrev pub sends_from : Answering → ℕ → List ℕ → List Message → ℕ → List Payload
 sends_from f p s [] d = []
 sends_from f p s (m ∷ h) d = payloads_to d (f p s m).given ++ sends_from f p (f p s m).state h d
 
--- the handlers that answer so, and begin with states of so many zeros
+-- the handlers that answer so, from states of zeros
 abbrev pub handlers_of : Answering → (ℕ → ℕ) → Handlers
 handlers_of f len = record { state = λ p h. state_from f p (replicate (len p) 0) h; sends = λ p h d. sends_from f p (replicate (len p) 0) h d }
 
--- the nodes by number; a cluster as the gateway sees it: of itself it has all, of the others what they gave it or each other; and the
+-- the nodes by number; a cluster as the gateway sees it: all of itself, and of the nodes what they gave to it or to each other; and the
 -- packets that they gave
 pub record System : Type 0 where
   pub nodes : ℕ → TheNode
@@ -51,7 +51,7 @@ pub record System : Type 0 where
 abbrev pub new_system : ℕ → (ℕ → Limits) → (ℕ → ℕ) → Handlers → System
 new_system n limits len f = record { nodes = λ p. new_node (limits p) p n (len p); outside = opening n f; given = [] }
 
--- a call of a node that isn't refused, and what the node is then; or an act of the gateway
+-- a call of a node that isn't refused, and the node after it; or an act of the gateway
 pub data Call : Type 0 where
   -- it gave this packet
   Gave : ℕ → Packet → TheNode → Call
@@ -67,7 +67,7 @@ pub data Call : Type 0 where
   Thawed : ℕ → TheNode → Call
   Acted : Act → Call
 
--- the gateway acts: it is handed an input, puts out a message or an answer, shows a message, or takes what came
+-- the gateway acts: it gets an input, sends a message or an answer, shows a message, or takes a packet
 abbrev pub IsGateway : Act → Type 0
 IsGateway (Input d x) = Unit {0}
 IsGateway (Puts zero d (Ask i k)) = ⊥
@@ -80,7 +80,7 @@ IsGateway (Hears p zero i k) = Unit {0}
 IsGateway (Obeys p zero i k s) = Unit {0}
 IsGateway act = ⊥
 
--- the answer is that of the handler, where a job is open
+-- the answer is that of the handler, if a job is open
 abbrev pub IsAnswer : Answering → ℕ → TheNode → Answer → Type 0
 IsAnswer f p n a = (j : OpenJob) → n.working ≡ Some j → a ≡ f p n.state (job_of j)
 
@@ -89,12 +89,12 @@ abbrev pub IsOne : Packet → List Packet → Type 0
 IsOne x [] = ⊥
 IsOne x (y ∷ ys) = (x ≡ y) ⊎ IsOne x ys
 
--- a packet came from somewhere: a node gave it, or the gateway put it out
+-- a node gave the packet, or the gateway sent it
 abbrev pub CameFrom : System → Packet → Type 0
 CameFrom s x = IsOne x s.given ⊎ PutOut s.outside.count s.outside.parcels x.from x
 
--- each call does what the contract of its function says: `take`; `receive`, handed a packet that a node or the gateway put out, whenever,
--- or again; `work`, with the handler's answer; `tick`; `checkpoint`; and `saved`. The gateway does what it may by what it sees
+-- each call does what the contract of its function says: `take`; `receive`, with a packet that a node or the gateway sent, at any time and
+-- also again; `work`, with the handler's answer; `tick`; `checkpoint`; and `saved`. The gateway does what the rules allow for what it sees
 abbrev pub DoesIt : Answering → System → Call → Type 0
 DoesIt f s (Gave p x new) = (0 < p) × (p ≤ s.outside.count) × Takes (Some x) (s.nodes p) new
 DoesIt f s (Handed p x new) = (0 < p) × (p ≤ s.outside.count) × CameFrom s x × IsHanded x (s.nodes p) new
@@ -104,7 +104,7 @@ DoesIt f s (Froze p new) = (0 < p) × (p ≤ s.outside.count) × Acts (s.nodes p
 DoesIt f s (Thawed p new) = (0 < p) × (p ≤ s.outside.count) × Saves (s.nodes p) new
 DoesIt f s (Acted act) = IsGateway act × May s.outside act
 
--- what a packet says is among the parcels that the gateway may take: none of these is a page
+-- what a packet says becomes a parcel that the gateway may take: none of these is a page
 abbrev pub with_said : Packet → Option Body → List Parcel → List Parcel
 with_said x None ps = ps
 with_said x (Some b) ps = parcel x.from x.to b ∷ ps
@@ -118,7 +118,7 @@ after_call s (Froze p new) = record s { nodes = put s.nodes p new }
 after_call s (Thawed p new) = record s { nodes = put s.nodes p new }
 after_call s (Acted act) = record s { outside = does s.outside act }
 
--- calls one after another
+-- calls, one after another
 abbrev pub Calls : Answering → System → List Call → Type 0
 Calls f s [] = Unit {0}
 Calls f s (k ∷ ks) = DoesIt f s k × Calls f (after_call s k) ks
@@ -127,8 +127,8 @@ abbrev pub after_calls : System → List Call → System
 after_calls s [] = s
 after_calls s (k ∷ ks) = after_calls (after_call s k) ks
 
--- the cluster runs from its opening to one in which all these nodes stand, with the gateway's inputs and what it showed; and what is
--- promised of runs holds of it
+-- the cluster runs from its opening to one with which all these nodes agree, with the gateway's inputs and the outputs that it showed; and
+-- the promises of runs hold of it
 pub record IsRunOf (n : ℕ) (f : Handlers) (s : System) : Type 0 where
   pub acts : List Act
   pub run : Run (opening n f) acts
@@ -139,7 +139,7 @@ pub record IsRunOf (n : ℕ) (f : Handlers) (s : System) : Type 0 where
   pub output_once : OutputOnce (after_run (opening n f) acts)
   pub received_once : ReceivedOnce (after_run (opening n f) acts)
 
--- calls of nodes in any order, some of them durable or none, with packets handed over late, twice or never, are a run of a cluster
+-- calls of nodes in any order, durable or not, with packets that come late, twice or never, are a run of a cluster
 abbrev pub CallsRun : Type 0
 CallsRun = (f : Answering) (n : ℕ) (limits : ℕ → Limits) (len : ℕ → ℕ) (calls : List Call) → n ≤ 15 → Calls f (new_system n limits len (handlers_of f len)) calls
     → IsRunOf n (handlers_of f len) (after_calls (new_system n limits len (handlers_of f len)) calls)

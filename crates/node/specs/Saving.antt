@@ -9,11 +9,11 @@ use Rattle.node.specs.Sending.{released}
 abbrev pub may_freeze : TheNode → Bool
 may_freeze n = not n.frozen && is_none n.working
 
--- it makes one, where it can, and waits
+-- makes one if it can, and waits
 abbrev pub froze : TheNode → TheNode
 froze n = if may_freeze n then record n { frozen = true } else n
 
--- how many messages it received of each peer, from q on, where so many are covered
+-- how many messages it received from each peer, from q on, if the checkpoint covers this many
 abbrev pub counts_from : ℕ → Received → List ℕ → List ℕ
 counts_from q r [] = []
 counts_from q r (k ∷ ks) = (k + length (numbers_of q r)) ∷ counts_from (suc q) r ks
@@ -29,16 +29,16 @@ thawed n =
       frozen = false;
     }
 
--- a peer is told how many of its messages the checkpoint covers, if it covers any
+-- tells a peer how many of its messages the checkpoint covers, if it covers any
 abbrev pub says_covered : ℕ → TheNode → TheNode
 says_covered to n = if nat_lt 0 (covered_of to n) then posts to (Saved (covered_of to n)) n else n
 
--- so is each peer below d
+-- tells each peer below d
 abbrev pub says_below : ℕ → ℕ → TheNode → TheNode
 says_below me zero n = n
 says_below me (suc d) n = if d == me then says_below me d n else says_covered d (says_below me d n)
 
--- the checkpoint for which it waits is durable: what waited is released, the first of it is sent, and all are told
+-- the checkpoint for which it waits is durable: releases what waited, sends the first of it, and tells all peers
 abbrev pub thaws : TheNode → TheNode
 thaws n = let m = released (thawed n) in says_below m.me (m.count + 1) m
 

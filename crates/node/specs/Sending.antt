@@ -5,44 +5,44 @@ use Rattle.packets.specs.declared.packet.Body.TheVariants.{Delivery}
 use Rattle.node.specs.Queue.{TheQueue, payload_of, number_of, released_by}
 use Rattle.node.specs.Node.{TheNode, log_at, posts, tells, covered_of}
 
--- a message that is kept is sent
+-- sends a message that is kept
 abbrev pub delivers : ℕ → ℕ → TheNode → TheNode
 delivers to ssn n = posts to (Delivery n.life ssn (payload_of ssn (log_at n.logs to))) n
 
--- the k messages behind this SSN are
+-- sends the k messages after this SSN
 abbrev pub sends : ℕ → ℕ → ℕ → TheNode → TheNode
 sends to first zero n = n
 sends to first (suc k) n = delivers to (first + k + 1) (sends to first k n)
 
--- behind which message those begin that are kept and lie above an SSN; and how many of them are released, but no more than one call sends
+-- the SSN after which the kept messages above an SSN begin; and how many of them are released, at most as many as one call sends
 abbrev pub first_to_send : ℕ → TheQueue → ℕ
 first_to_send above q = max q.dropped above
 
 abbrev pub many_to_send : ℕ → ℕ → TheQueue → ℕ
 many_to_send tick above q = min (q.released - first_to_send above q) tick
 
--- these are sent
+-- sends these
 abbrev pub sends_on : ℕ → ℕ → TheNode → TheNode
 sends_on to above n = sends to (first_to_send above (log_at n.logs to)) (many_to_send n.limits.tick above (log_at n.logs to)) n
 
--- all numbers up to this one are acknowledged
+-- all RSNs up to this one are acknowledged
 abbrev pub run_at : TheNode → ℕ
 run_at n = n.base + run_of n.receipts.acknowledged
 
--- what the messages up to this number sent may leave: of a durable node those that its checkpoint covers, of another those whose numbers are
+-- the RSN up to which messages release what they sent: of a durable node those that its checkpoint covers, of another those whose RSNs are
 -- acknowledged
 abbrev pub freed : TheNode → ℕ
 freed n = if n.limits.durable then n.base else run_at n
 
--- what waits for these is released
+-- releases what waits for these
 abbrev pub unlocked : ℕ → TheNode → TheNode
 unlocked to n = record n { logs = slice_set n.logs to (released_by (freed n) (log_at n.logs to)) }
 
--- and the first of it is sent
+-- and sends the first of it
 abbrev pub released_to : ℕ → TheNode → TheNode
 released_to to n = sends_on to (log_at n.logs to).released (unlocked to n)
 
--- so for each destination below d but the node itself
+-- does so for each destination below d except the node itself
 abbrev pub released_below : ℕ → ℕ → TheNode → TheNode
 released_below me zero n = n
 released_below me (suc d) n = if d == me then released_below me d n else released_to d (released_below me d n)
@@ -50,33 +50,33 @@ released_below me (suc d) n = if d == me then released_below me d n else release
 abbrev pub released : TheNode → TheNode
 released n = released_below n.me (n.count + 1) n
 
--- of the k messages behind SSN s those without a number are sent, the first of them, as many as are left
+-- of the k messages after SSN s sends the first without an RSN, as many as are left
 abbrev pub resends : ℕ → ℕ → ℕ → ℕ → TheNode → TheNode
 resends to s zero left n = n
 resends to s (suc k) zero n = n
 resends to s (suc k) (suc left) n =
     if is_none (number_of (s + 1) (log_at n.logs to)) then resends to (s + 1) k left (delivers to (s + 1) n) else resends to (s + 1) k (suc left) n
 
--- those that are released are sent again
+-- sends those that are released again
 abbrev pub resent : ℕ → TheNode → TheNode
 resent to n = resends to (log_at n.logs to).dropped ((log_at n.logs to).released - (log_at n.logs to).dropped) n.limits.tick n
 
--- whether the number of a peer's message is acknowledged
+-- whether the RSN of a peer's message is acknowledged
 abbrev pub is_told_at : ℕ → ℕ → TheNode → Bool
 is_told_at to place n = slice_index_or n.receipts.acknowledged (slice_index_or (numbers_of to n.receipts) place 0 - 1) false
 
--- of the numbers of k messages of a peer, from this place on, those that aren't acknowledged are told, the first of them, as many as are left
+-- of the RSNs of k messages of a peer, from this place on, tells the first that aren't acknowledged, as many as are left
 abbrev pub renumbers : ℕ → ℕ → ℕ → ℕ → TheNode → TheNode
 renumbers to place zero left n = n
 renumbers to place (suc k) zero n = n
 renumbers to place (suc k) (suc left) n =
     if is_told_at to place n then renumbers to (place + 1) k (suc left) n else renumbers to (place + 1) k left (tells to (covered_of to n + place + 1) n)
 
--- a peer's numbers are told again
+-- tells a peer's RSNs again
 abbrev pub renumbered : ℕ → TheNode → TheNode
 renumbered to n = renumbers to (run_of (acknowledged_of to n.receipts)) (length (numbers_of to n.receipts) - run_of (acknowledged_of to n.receipts)) n.limits.tick n
 
--- what isn't answered is sent again, to each peer below d
+-- sends again what isn't answered, to each peer below d
 abbrev pub ticked_below : ℕ → ℕ → TheNode → TheNode
 ticked_below me zero n = n
 ticked_below me (suc d) n = if d == me then ticked_below me d n else renumbered d (resent d (ticked_below me d n))

@@ -1,4 +1,4 @@
--- How a node stands
+-- The status of a node
 use Rattle.std.specs.Prelude.{ℕ, ◌+◌, ◌-◌, ◌^◌, List, length, min, sum_by, Option, Some, None, Bool, true, false}
 use Rattle.node.specs.declared.job.OpenJob.{OpenJob}
 use Rattle.node.specs.declared.standing.Stage.{Stage}
@@ -22,11 +22,11 @@ stage_at true o = Frozen
 stage_at false None = Up
 stage_at false (Some j) = Busy
 
--- how many messages its logs keep, at most the greatest number
+-- how many messages its logs keep, or the greatest number if there are more
 abbrev pub entries_kept : List TheQueue → ℕ
 entries_kept logs = min (sum_by (λ (q : TheQueue). length q.payloads) logs) (2 ^ 64 - 1)
 
--- what a host can read of a node that is up: it has nothing to replay, and waits for nobody
+-- the status of a node that is up: it has nothing to replay, and waits for no peer
 abbrev pub standing_of : TheNode → Standing
 standing_of n =
     record {

@@ -1,4 +1,4 @@
--- Which clusters a node stands in, and what a call owes
+-- When a node agrees with a cluster, and what a call owes
 use Rattle.std.specs.Prelude.{◌≡◌, ◌≢◌, ℕ, suc, ◌+◌, ◌<◌, ◌≤◌, max, List, [], ◌∷◌, ◌++◌, length, map, take, Option, Some, None, Bool, true, false, slice_index_or, replicate, ◌==◌, if◌then◌else◌}
 use Rattle.rsn.specs.Receipts.{Received}
 use Rattle.world.specs.declared.message.Message.{Message}
@@ -17,12 +17,12 @@ use Rattle.node.specs.Queue.{TheQueue, leading}
 use Rattle.node.specs.Node.{TheNode, log_at}
 use Rattle.pages.specs.Says.{WasSaid}
 
--- it holds of each
+-- P holds of each
 abbrev pub Each : {X : Type 0} → (X → Type 0) → List X → Type 0
 Each P [] = Unit {0}
 Each P (x ∷ xs) = P x × Each P xs
 
--- the packet is of the process p of so many, and was put out
+-- the packet is from the process p of a cluster of `count`, and was sent
 pub record PutOut (count : ℕ) (parcels : List Parcel) (p : ℕ) (x : Packet) : Type 0 where
   pub count_is : x.count ≡ count
   pub from : x.from ≡ p
@@ -32,28 +32,28 @@ pub record PutOut (count : ℕ) (parcels : List Parcel) (p : ℕ) (x : Packet) :
 abbrev pub job_of : OpenJob → Message
 job_of j = message j.sender j.ssn j.payload
 
--- what it does, with this open job
+-- the phase of a node with this open job
 abbrev pub phase_of : Option OpenJob → Phase
 phase_of None = Up
 phase_of (Some j) = Busy (job_of j)
 
--- whether it takes what arrives, or waits until its checkpoint is durable
+-- its stage: it runs, or waits until its checkpoint is durable
 abbrev pub stage_of : Bool → Stage
 stage_of false = Live
 stage_of true = Frozen
 
--- each message is the next of its sender, where so many of each came before
+-- each message is the next of its sender, if this many of each sender came before
 abbrev pub InOrderFrom : (ℕ → ℕ) → List Message → Type 0
 InOrderFrom c [] = Unit {0}
 InOrderFrom c (m ∷ ms) = (m.ssn ≡ suc (c m.sender)) × InOrderFrom (put c m.sender (suc (c m.sender))) ms
 
--- the message that is worked on is the next of its sender
+-- the message of the open job is the next of its sender
 abbrev pub IsNextAfter : List Message → Option OpenJob → Type 0
 IsNextAfter h None = Unit {0}
 IsNextAfter h (Some j) = j.ssn ≡ suc (count_of j.sender h)
 
--- of a history, each message of which is the next of its sender, the first messages, as many as base, are known by their count of each
--- sender, and those behind by their senders
+-- in the history each message is the next of its sender; of the first `base` messages the count by sender is known, and of those after them
+-- the sender of each
 pub record HasReceived (count base : ℕ) (covered : List ℕ) (receipts : Received) (history : List Message) (acknowledged : ℕ → Bool) : Type 0 where
   pub before : List Message
   pub behind : List Message
@@ -68,7 +68,7 @@ pub record HasReceived (count base : ℕ) (covered : List ℕ) (receipts : Recei
   pub below : (k : ℕ) → k < base → acknowledged (suc k) ≡ true
   pub above : (k : ℕ) → length history < k → acknowledged k ≡ false
 
--- of these messages so many are dropped, and a queue keeps the others, with their numbers by SSN; what isn't sent has no number
+-- of these messages the first ones are dropped, and the queue keeps the others, with their RSNs by SSN; what isn't sent yet has no RSN
 pub record KeepsOf (q : TheQueue) (dropped : ℕ) (payloads : List Payload) (numbers : ℕ → Option ℕ) : Type 0 where
   pub before : List Payload
   pub many : length before ≡ q.dropped
@@ -82,21 +82,22 @@ pub record KeepsOf (q : TheQueue) (dropped : ℕ) (payloads : List Payload) (num
 abbrev pub sent_by : Handlers → ℕ → List Message → ℕ → ℕ → ℕ
 sent_by f p h d k = length (f.sends p (take k h) d)
 
--- the number up to which the messages let go what they sent: of a durable node those that its checkpoint covers, of another those that are
+-- the RSN up to which messages release what they sent: of a durable node those that its checkpoint covers, of another those that are
 -- acknowledged without a gap
 abbrev pub freed_in : Bool → Cluster → ℕ → ℕ
 freed_in durable c p = if durable then c.saved p else run_to (c.acknowledged p) (length (c.history p))
 
--- and how many to d it may have released: of a durable node those that its checkpoint covers sent, whatever else is acknowledged
+-- how many messages to d it may have released: a durable node those that the messages covered by its checkpoint sent, whatever else is
+-- acknowledged
 abbrev pub most_released : Bool → Cluster → ℕ → ℕ → ℕ
 most_released durable c p d = if durable then sent_by c.handlers p (c.history p) d (c.saved p) else c.released p d
 
--- a queue has released no more than the first k of n messages let go, where these are acknowledged, nor will it
+-- if a queue also releases all that waits for RSNs up to k, it has released no more than the cluster has, or than the first k messages sent
 pub record IsShut (q : TheQueue) (n released : ℕ) (sent : ℕ → ℕ) : Type 0 where
   pub within : q.released + length q.held ≤ q.dropped + length q.payloads
   pub waits : (k : ℕ) → k ≤ n → q.released + leading k q.held ≤ max released (sent k)
 
--- what a node holds is what the cluster has of the process p. It says nothing of others
+-- what a node holds is what the cluster has of the process p. Nothing is said of other processes
 pub record Stands (n : TheNode) (c : Cluster) (p : ℕ) : Type 0 where
   pub me : n.me ≡ p
   pub count : n.count ≡ c.count
@@ -112,14 +113,14 @@ pub record Stands (n : TheNode) (c : Cluster) (p : ℕ) : Type 0 where
   pub waits : waiting c p ≡ n.waiting
   pub logs : (d : ℕ) → d ≤ c.count → d ≢ p → KeepsOf (log_at n.logs d) (c.trims p d) (c.handlers.sends p (c.history p) d) (c.numbers p d)
   pub gates : (d : ℕ) → d ≤ c.count → d ≢ p → IsShut (log_at n.logs d) (length (c.history p)) (most_released n.limits.durable c p d) (sent_by c.handlers p (c.history p) d)
-  -- what is let go is released in the cluster
+  -- what the node may release is released in the cluster
   pub free : (d : ℕ) → sent_by c.handlers p (c.history p) d (freed_in n.limits.durable c p) ≤ c.released p d
   pub heard : (q : ℕ) → q ≤ c.count → c.heard p q ≡ slice_index_or n.heard q 0
   pub resumed : (q : ℕ) → q ≤ c.count → c.resumed p q ≡ slice_index_or n.resumed q true
-  -- what waits to be taken was put out
+  -- the packets that wait were sent in the cluster
   pub out : Each (PutOut c.count c.parcels p) n.out
 
--- whose step an act is
+-- the process that acts
 abbrev pub actor : Act → ℕ
 actor (Input d x) = 0
 actor (Puts p d x) = p
@@ -143,57 +144,58 @@ actor (Thaws p) = p
 actor (Dies p) = p
 actor (Opens p n) = p
 
--- by acts of its own the node's process goes from the cluster c to one in which the new node stands
+-- acts of the process p lead from the cluster c to one with which the new node agrees
 pub record Goes (p : ℕ) (new : TheNode) (c : Cluster) : Type 0 where
   pub acts : List Act
   pub run : Run c acts
   pub by : Each (λ (a : Act). actor a ≡ p) acts
   pub stands : Stands new (after_run c acts) p
 
--- whose act it is, unless it changes what is stored durably
+-- the process that acts, if the act doesn't change stable storage
 abbrev pub own_act : Act → Option ℕ
 own_act (Keeps p) = None
 own_act (Opens p n) = None
 own_act act = Some (actor act)
 
--- by acts of its own that leave what is stored durably, the process p goes from the cluster c to one of which this holds
+-- acts of the process p that don't change stable storage lead from the cluster c to one for which P holds
 pub record GoesTo (p : ℕ) (P : Cluster → Type 0) (c : Cluster) : Type 0 where
   pub acts : List Act
   pub run : Run c acts
   pub by : Each (λ (a : Act). own_act a ≡ Some p) acts
   pub stands : P (after_run c acts)
 
--- to one in which the new node stands
+-- to one with which the new node agrees
 abbrev pub GoesOn : ℕ → TheNode → Cluster → Type 0
 GoesOn p new c = GoesTo p (λ d. Stands new d p) c
 
--- what a call owes, in each cluster in which the node stands, and which this holds of
+-- what a call owes, in each cluster with which the node agrees and for which `given` holds
 abbrev pub Owes : (Cluster → Type 0) → TheNode → TheNode → Type 0
 Owes given old new = (c : Cluster) → Stands old c old.me → given c → GoesOn old.me new c
 
--- what one owes that is handed a packet of another that says this
+-- what a call owes that is handed a packet that says this
 abbrev pub Receives : ℕ → Body → TheNode → TheNode → Type 0
 Receives from body old new = Owes (λ c. In (parcel from old.me body) c.parcels) old new
 
--- what one owes that is told nothing
+-- what a call owes that is handed nothing
 abbrev pub Acts : TheNode → TheNode → Type 0
 Acts old new = Owes (λ c. Unit {0}) old new
 
--- what one owes that is told that its checkpoint is durable: where it waits for that, that may be, and it goes on from there
+-- what a call owes that is told that its checkpoint is durable: if the node waits for it, it may become durable, and the node goes on from
+-- there
 abbrev pub Saves : TheNode → TheNode → Type 0
 Saves old new = (old.frozen ≡ false → new ≡ old) × (old.frozen ≡ true → (c : Cluster) → Stands old c old.me → May c (Keeps old.me) × GoesOn old.me new (does c (Keeps old.me)))
 
--- the payloads of what a handler gives
+-- the payloads that a handler sends to d
 abbrev pub payloads_to : ℕ → List Given → List Payload
 payloads_to d [] = []
 payloads_to d (s ∷ given) = (if d == s.to then s.payload ∷ [] else []) ++ payloads_to d given
 
--- the handler of p leaves this state on its next message, and gives this
+-- on the message m the handler of p leaves this state, and sends these messages
 pub record Answers (c : Cluster) (p : ℕ) (m : Message) (state : List ℕ) (given : List Given) : Type 0 where
   pub state_is : c.handlers.state p (c.history p ++ m ∷ []) ≡ state
   pub sends_are : (d : ℕ) → c.handlers.sends p (c.history p ++ m ∷ []) d ≡ c.handlers.sends p (c.history p) d ++ payloads_to d given
 
--- it does so on the message that the node works on
+-- so does it on the message of the open job
 abbrev pub Handles : List ℕ → List Given → TheNode → Cluster → Type 0
 Handles state given n c = (j : OpenJob) → n.working ≡ Some j → Answers c n.me (job_of j) state given
 
@@ -202,11 +204,11 @@ pub record BeginsWith (f : Handlers) (p len : ℕ) : Type 0 where
   pub state_is : f.state p [] ≡ replicate len 0
   pub sends_are : (d : ℕ) → f.sends p [] d ≡ []
 
--- what it owes that is handed a packet, if that says what was put out
+-- what a call owes that is handed a packet, if that says what was sent
 abbrev pub IsHanded : Packet → TheNode → TheNode → Type 0
 IsHanded x old new = Owes (λ c. WasSaid c.parcels x.from x.to x.body) old new
 
--- what take owes: the packet that waited first, which was put out; the node is without it
+-- what `take` owes: it gives the first packet that waited, which was sent, and the node no longer has it
 abbrev pub Takes : Option Packet → TheNode → TheNode → Type 0
 Takes None old new = (old.out ≡ []) × (new ≡ old)
 Takes (Some x) old new = (old ≡ record new { out = x ∷ new.out }) × ((c : Cluster) → Stands old c old.me → PutOut c.count c.parcels old.me x × Stands new c old.me)

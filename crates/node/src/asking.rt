@@ -1,4 +1,4 @@
-//! What a node does that is up for one that comes back.
+//! A node that is up answers a recovering peer.
 
 ghost use Rattle.std.specs.Prelude.{◌≡◌, ◌≤◌, ◌<◌, ◌^◌, OnOk, OnErr};
 ghost use Rattle.node.specs.Node.{IsPeer, IsPositive};
@@ -8,8 +8,8 @@ use crate::node::Node;
 use std::alloc::{AllocError, Global};
 
 impl Node {
-    /// `from`, which comes back in its incarnation `life`, asks what the log holds for it above this
-    /// number. A refusal changes nothing.
+    /// Takes an Ask: `from`, which is recovering in its incarnation `life`, asks what the log holds
+    /// for it above this RSN. A refusal changes nothing.
     pub(crate) fn receive_ask(
         &mut self,
         alloc: Global,
@@ -32,7 +32,7 @@ impl Node {
         Ok(())
     }
 
-    /// It hears of a newer incarnation.
+    /// Hears a newer incarnation of a peer.
     fn hear(&mut self, from: u8, life: u64)
         requires { from ≤ self.old.count }
         ensures { self.new ≡ hears from life self.old }
@@ -43,8 +43,8 @@ impl Node {
         }
     }
 
-    /// `from`, which comes back in its incarnation `life`, keeps so many messages, and asks which of its
-    /// own behind this SSN the node has. A refusal changes nothing.
+    /// Takes a Resume: `from`, which is recovering in its incarnation `life`, keeps this many
+    /// messages, and asks which of its own after this SSN the node has. A refusal changes nothing.
     pub(crate) fn receive_resume(
         &mut self,
         alloc: Global,
@@ -78,7 +78,7 @@ impl Node {
         }
     }
 
-    /// `from` keeps so many messages: its numbers above that are forgotten, once in each of its lives.
+    /// Forgets the RSNs of `from` above what it keeps, once in each of its incarnations.
     fn obey(&mut self, from: u8, kept: u64)
         requires { from ≤ self.old.count }
         ensures { self.new ≡ obeys from kept self.old }

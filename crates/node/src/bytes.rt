@@ -13,14 +13,14 @@ use packets::{PacketError, decode, encode, one_packet};
 use std::alloc::{AllocError, Global};
 
 impl Node {
-    /// Bytes came. Those of a packet are taken as [`Node::receive`] takes it; any others are refused by
-    /// the first of their faults. A refusal changes nothing.
+    /// Takes the bytes of a packet as [`Node::receive`] takes the packet. Any other bytes are
+    /// refused by the first of their faults. A refusal changes nothing.
     pub fn receive_bytes(&mut self, alloc: Global, bytes: &[u8]) -> Result<(), PacketError>
-        // What is taken are the bytes of a packet, and of one only.
+        // Bytes that are taken are those of one packet.
         ensures found { OnOk result ((p : Packet) × IsPacket p bytes.now) }
         ensures value { OnOk result ((p : Packet) → IsPacket p bytes.now → self.new ≡ handed p self.old) }
         ensures acts { OnOk result ((p : Packet) → IsPacket p bytes.now → IsHanded p self.old self.new) }
-        // Those of a packet are taken, unless memory runs out.
+        // The bytes of a packet are taken, unless memory runs out.
         ensures only { (p : Packet) → IsPacket p bytes.now → IsTaken result }
         ensures refused { IfErr result (λ e. IsReason e bytes.now) }
         ensures err { OnErr result (self.new ≡ self.old) }
@@ -31,8 +31,8 @@ impl Node {
         Ok(())
     }
 
-    /// The bytes of the packet that [`Node::take`] would give, which is taken; none, if none waits. A
-    /// refusal, for want of memory, changes nothing.
+    /// Takes the first packet that waits, if there is one, as bytes. A refusal, which is by memory,
+    /// changes nothing.
     pub fn take_bytes(&mut self, alloc: Global) -> Result<Option<Vec<u8>>, AllocError>
         ensures none { IfOk result (λ o. IfNone o (Takes None self.old self.new)) }
         ensures some { IfOk result (λ o. IfSome o (λ v. GivesBytes v.items self.old self.new)) }

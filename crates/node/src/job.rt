@@ -1,8 +1,8 @@
-//! What a handler is run on, and what it gives.
+//! What a handler is called with, and what it sends.
 
 use helpers::Payload;
 
-/// A message that arrived and wasn't worked on yet.
+/// A message that arrived and that the handler hasn't finished.
 #[derive(Clone, Copy)]
 pub struct OpenJob {
     pub sender: u8,
@@ -10,7 +10,7 @@ pub struct OpenJob {
     pub payload: Payload,
 }
 
-/// A message that a handler gives for another node, or for the gateway, 0.
+/// A message that a handler sends to another process, or to the gateway, 0.
 #[derive(Clone, Copy)]
 pub struct Given {
     pub to: u8,

@@ -1,28 +1,28 @@
-//! What holds of nodes beside one another.
+//! What holds of several nodes together.
 
 ghost use Rattle.node.specs.Beside.{NodesRun, OthersStand};
 ghost use Rattle.node.specs.Kept.{KeptStays};
 ghost use Rattle.node.specs.Runs.{CallsRun};
 
-/// A node stands after the acts of another one.
+/// A node still agrees with the cluster after the acts of another.
 pub fn others_stand()
     ensures { OthersStand }
 {}
 
-/// Where all nodes stand and one makes a call that does what it owes, the cluster runs on to one in
-/// which all stand.
+/// If all nodes agree with a cluster and one makes a call that does what it owes, the cluster runs
+/// on to one with which all agree.
 pub fn nodes_run()
     ensures { NodesRun }
 {}
 
 /// What is kept of a process is what its checkpoint covers until a newer one is durable, whatever
-/// happens: also if it dies.
+/// happens, also if it dies.
 pub fn kept_stays()
     ensures { KeptStays }
 {}
 
-/// Calls of nodes from their opening on, in any order, with packets handed over late, twice or never
-/// and a gateway beside them, are a run of a cluster. So no message of it is an orphan, and each
+/// Calls of nodes from their opening on, in any order, with packets that come late, twice or never,
+/// together with a gateway, are a run of a cluster. So no message of it is an orphan, and each
 /// output is shown once.
 pub fn calls_run()
     ensures { CallsRun }

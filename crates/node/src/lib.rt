@@ -1,22 +1,22 @@
-//! A node: one process of a cluster, as a value that its host calls.
+//! A node that is up: one process of a cluster, as a value that its host calls.
 //!
-//! A [`Node`] knows no clock, socket, file or thread. Its host hands it the packets that came
+//! A [`Node`] knows no clock, socket, file or thread. Its host hands it the packets that arrive
 //! ([`Node::receive`]), sends those that it gives ([`Node::take`]), runs its handler
-//! ([`Node::work`]), now and then lets it send again what isn't answered ([`Node::tick`]), and keeps
-//! its checkpoints: [`Node::checkpoint`] makes one, of which [`Node::kept_bytes`] are the bytes, and
-//! [`Node::saved`] says that it is durable. Packets come and go as bytes, too
-//! ([`Node::receive_bytes`], [`Node::take_bytes`]), and [`Node::standing`] tells how it stands.
+//! ([`Node::work`]), now and then has it send again what isn't answered ([`Node::tick`]), and keeps
+//! its checkpoints: [`Node::checkpoint`] makes one, [`Node::kept_bytes`] gives its bytes, and
+//! [`Node::saved`] says that it is durable. Packets can be taken and given as bytes
+//! ([`Node::receive_bytes`], [`Node::take_bytes`]), and [`Node::standing`] tells its status.
 //!
-//! The promise: each call is none, one or more acts of the node's process that the rules of crate
-//! `cluster` allow, and what the node then holds is what the cluster has of that process. Acts of
-//! one node leave what the others stand for. So calls of nodes, in any order and with packets that
-//! come late, twice or never, are a run of a cluster, of which the promises of `cluster` hold.
+//! Each call is zero or more acts of the node's process that the rules of crate `cluster` allow,
+//! and the node then holds what the cluster has of that process. The acts of one node change
+//! nothing of another. So calls of nodes, in any order and with packets that come late, twice or
+//! never, are a run of a cluster, of which the promises of `cluster` hold.
 //!
-//! A node keeps the [`Limits`] with which it is opened. One that is durable sends only what its durable
+//! A node keeps the [`Limits`] with which it is opened. A durable node sends only what its durable
 //! checkpoint covers: [`Node::saved`] releases it, and acknowledgements don't.
 //!
-//! A node answers peers that come back, by pages of its log and of what it received. It doesn't come
-//! back itself here.
+//! A node answers recovering peers by pages of its log and of what it received. Its own recovery is
+//! in the crates `recovery` and `restoring`.
 //!
 //! ```text
 //! let mut node = Node::open(alloc, Limits::usual(), 1, 2, 8)?;

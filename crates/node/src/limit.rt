@@ -6,30 +6,30 @@ ghost use Rattle.node.specs.Limit.{usual, AreAllowed};
 use crate::node::WINDOW;
 use pages::LEAST_PAGE;
 
-/// So many bytes the largest packet has, unless it is said otherwise.
+/// The size of the largest packet in bytes, by default.
 pub const PAGE: u16 = 60_000;
 
-/// So many packets for a peer one tick or one release makes, unless it is said otherwise.
+/// How many packets to a peer one tick or one release sends, by default.
 pub const TICK: u32 = 8;
 
-/// What a node keeps to all its life. What is kept of it doesn't hold them: it may come back with
-/// others.
+/// The limits of a node for all its life. Kept state doesn't hold them: a process may come back
+/// with others.
 #[derive(Clone, Copy, Debug, PartialEq, Eq)]
 pub struct Limits {
-    /// The bytes of its largest packet, at least [`LEAST_PAGE`].
+    /// The size of its largest packet in bytes, at least [`LEAST_PAGE`].
     pub page: u16,
-    /// How many packets for a peer one tick or one release makes, at least 1.
+    /// How many packets to a peer one tick or one release sends, at least 1.
     pub tick: u32,
-    /// With so many numbers that aren't acknowledged it takes no message: 1 to [`WINDOW`].
+    /// With this many RSNs that aren't acknowledged it takes no message: 1 to [`WINDOW`].
     pub numbers: u32,
-    /// Nor does it with so many messages behind its checkpoint: 1 to 65,536.
+    /// With this many messages since its checkpoint it takes no message: 1 to 65,536.
     pub receipts: u32,
-    /// What it sends leaves when a durable checkpoint covers it, and not before.
+    /// Its sends leave when a durable checkpoint covers them, and not before.
     pub durable: bool,
 }
 
 impl Limits {
-    /// Those of a node of which nothing else is said. It isn't durable.
+    /// The default limits, of a node that isn't durable.
     pub fn usual() -> Limits
         ensures { result ≡ usual }
     {
@@ -42,7 +42,7 @@ impl Limits {
         }
     }
 
-    /// Whether each is in its range.
+    /// Whether each limit is in range.
     pub fn are_allowed(&self) -> bool
         ensures { IsTrue result ↔ AreAllowed self.now }
     {

@@ -1,4 +1,4 @@
-//! What a node holds in memory.
+//! The state of a node in memory.
 
 ghost use Rattle.std.specs.Prelude.{◌≡◌, ◌≤◌, replicate, true, IfOk};
 ghost use Rattle.node.specs.Limit.{AreAllowed};
@@ -17,15 +17,15 @@ use rsn::Receipts;
 use std::alloc::{AllocError, Global};
 use std::marker::Model;
 
-/// With so many numbers that aren't acknowledged no node takes a message, whatever its limits are.
+/// With this many RSNs that aren't acknowledged no node takes a message, whatever its limits are.
 pub const WINDOW: u32 = 256;
 
-/// So many messages one message makes a handler give, at most: to others, and to the outside.
+/// How many messages a handler sends in one call at most, outputs included.
 pub const MOST_GIVEN: usize = 16;
 
 const _: () = prove!(MOST_GIVEN == 2 * limits::EFFECTS);
 
-/// So many messages a process receives in all its lives, at most.
+/// How many messages a process receives in all its lives at most.
 pub const MOST_RECEIVED: u64 = 0x0400_0000_0000_0000;
 
 /// One process of a cluster.
@@ -36,23 +36,24 @@ pub struct Node {
     pub(crate) count: u8,
     pub(crate) life: u64,
     pub(crate) state: Vec<u8>,
-    /// How many messages its checkpoint covers, and how many of these are of each sender.
+    /// How many messages its checkpoint covers, and how many of these came from each sender.
     pub(crate) base: u64,
     pub(crate) covered: Vec<u64>,
-    /// What it received behind these.
+    /// What it received since then.
     pub(crate) receipts: Receipts,
-    /// How many of its numbers aren't acknowledged.
+    /// How many of its RSNs aren't acknowledged.
     pub(crate) waiting: u32,
-    /// By destination what it sent.
+    /// By destination: what it sent.
     pub(crate) logs: Vec<Queue>,
-    /// By peer the greatest incarnation that it heard of.
+    /// By peer: the greatest incarnation that it heard.
     pub(crate) heard: Vec<u64>,
-    /// By peer whether it obeyed the Resume of that incarnation.
+    /// By peer: whether it obeyed the Resume of that incarnation.
     pub(crate) resumed: Vec<bool>,
-    /// Failures came one at a time, as far as it knows.
+    /// Whether failures came one at a time, as far as it knows.
     pub(crate) exact: bool,
     pub(crate) working: Option<OpenJob>,
-    /// It waits until its checkpoint is durable, and takes, does and sends nothing until then.
+    /// Whether it waits until its checkpoint is durable. Until then it takes, does and sends
+    /// nothing.
     pub(crate) frozen: bool,
     pub(crate) out: Outbox,
 }
@@ -68,8 +69,8 @@ impl Model for Node {
 }
 
 impl Node {
-    /// The process `me` of `count`, which received nothing, with a state of so many zeros. It keeps
-    /// these limits for life.
+    /// The process `me` of `count`, which received nothing, with a state of `state_len` zeros. It
+    /// keeps these limits for life.
     pub fn open(
         alloc: Global,
         limits: Limits,
@@ -111,14 +112,14 @@ impl Node {
         })
     }
 
-    /// A packet that is to be sent, the first that waits; none, if there is none.
+    /// Takes the first packet that waits to be sent, if there is one.
     pub fn take(&mut self) -> Option<Packet>
         ensures { Takes result self.old self.new }
     {
         self.out.pop()
     }
 
-    /// Its number.
+    /// The number of its process.
     pub(crate) fn me(&self) -> u8
         ensures value { result ≡ self.now.me }
         ensures within { (1 ≤ result) × (result ≤ self.now.count) }
@@ -126,7 +127,7 @@ impl Node {
         self.me
     }
 
-    /// How many processes there are.
+    /// The number of processes.
     pub(crate) fn count(&self) -> u8
         ensures value { result ≡ self.now.count }
         ensures few { result ≤ 15 }
@@ -134,7 +135,7 @@ impl Node {
         self.count
     }
 
-    /// A packet waits to be taken.
+    /// Puts a packet into the outbox.
     pub(crate) fn put(&mut self, to: u8, body: Body)
         requires { CanSay self.old to body }
         ensures { self.new ≡ posts to body self.old }
@@ -149,7 +150,7 @@ impl Node {
     }
 }
 
-/// So many bytes that are zero.
+/// `many` zero bytes.
 fn zeros(alloc: Global, many: usize) -> Result<Vec<u8>, AllocError>
     ensures { IfOk result (λ v. v.items ≡ replicate many 0) }
 {
@@ -158,7 +159,7 @@ fn zeros(alloc: Global, many: usize) -> Result<Vec<u8>, AllocError>
     Ok(bytes)
 }
 
-/// So many times this number.
+/// `many` times this number.
 fn numbers(alloc: Global, many: usize, number: u64) -> Result<Vec<u64>, AllocError>
     ensures { IfOk result (λ v. v.items ≡ replicate many number) }
 {
@@ -167,7 +168,7 @@ fn numbers(alloc: Global, many: usize, number: u64) -> Result<Vec<u64>, AllocErr
     Ok(numbers)
 }
 
-/// So many flags that are set.
+/// `many` flags that are set.
 fn flags(alloc: Global, many: usize) -> Result<Vec<bool>, AllocError>
     ensures { IfOk result (λ v. v.items ≡ replicate many true) }
 {
@@ -176,7 +177,7 @@ fn flags(alloc: Global, many: usize) -> Result<Vec<bool>, AllocError>
     Ok(flags)
 }
 
-/// So many queues that nothing was put in.
+/// `many` empty queues.
 fn queues(alloc: Global, many: usize) -> Result<Vec<Queue>, AllocError>
     ensures { IfOk result (λ v. v.items ≡ replicate many no_queue) }
 {

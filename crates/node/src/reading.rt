@@ -1,4 +1,4 @@
-//! What a host, and who holds a node for one, reads of it.
+//! What the host of a node, or its owner, reads of it.
 
 ghost use Rattle.std.specs.Prelude.{◌≡◌, ◌∷◌, [], List, MatchOption};
 ghost use Rattle.packets.specs.declared.packet.Packet.{Packet};
@@ -12,23 +12,23 @@ use helpers::Who;
 use packets::Packet;
 
 impl Node {
-    /// The packet that waits first; none, if there is none.
+    /// The first packet that waits, if there is one.
     pub fn front(&self) -> Option<&Packet>
         ensures { MatchOption result (self.now.out ≡ []) (λ x. ((rest : List Packet) × (self.now.out ≡ x.now ∷ rest)) × Fits x.now) }
     {
-        // For the proof: reading a field tells the invariant.
+        // For the proof: reading a field gives the invariant.
         let _me = self.me;
         self.out.front()
     }
 
-    /// The open job; none, if none is open.
+    /// The open job, if there is one.
     pub fn job(&self) -> Option<OpenJob>
         ensures { result ≡ self.now.working }
     {
         self.working
     }
 
-    /// Who is called on a message of this sender.
+    /// The caller's identity for a handler call on a message of this sender.
     pub fn who(&self, from: u8) -> Who
         ensures { result ≡ record { me = self.now.me; from = from; count = self.now.count } }
     {
@@ -40,7 +40,7 @@ impl Node {
     }
 }
 
-/// How many messages these queues keep; the greatest number, where there are more.
+/// How many messages these queues keep, or the greatest number if there are more.
 pub fn entries(logs: &[Queue]) -> u64
     ensures { result ≡ entries_kept logs.now }
 {

@@ -1,4 +1,4 @@
-//! What a node does with a packet.
+//! A node takes a packet.
 
 ghost use Rattle.std.specs.Prelude.{◌≡◌, ◌≤◌, ◌<◌, ◌+◌, ◌-◌, length, false, OnOk, OnErr};
 ghost use Rattle.rsn.specs.Receipts.{numbers_of};
@@ -13,15 +13,15 @@ use packets::{Body, Packet};
 use std::alloc::{AllocError, Global};
 
 impl Node {
-    /// A packet came. One that isn't of another node of this cluster to this one is dropped, one with a
-    /// field out of its range, and any while the node waits until its checkpoint is durable. A refusal
-    /// changes nothing.
+    /// Takes a packet. It drops one that isn't from another node of this cluster to this one, or
+    /// has a field out of range; and any packet while the node waits until its checkpoint is
+    /// durable. A refusal changes nothing.
     pub fn receive(&mut self, alloc: Global, packet: &Packet) -> Result<(), AllocError>
         ensures value { OnOk result (self.new ≡ handed packet.now self.old) }
         ensures acts { OnOk result (IsHanded packet.now self.old self.new) }
         ensures err { OnErr result (self.new ≡ self.old) }
     {
-        // For the proof: reading a field tells the invariant.
+        // For the proof: reading a field gives the invariant.
         let _me = self.me;
         self.hand(alloc, packet)
     }
@@ -63,8 +63,8 @@ impl Node {
         Ok(())
     }
 
-    /// Whether a packet is of another node of this cluster to this one, which takes what arrives, and
-    /// has each field in its range.
+    /// Whether a packet is from another node of this cluster to this one, each field is in range,
+    /// and the node takes what arrives.
     fn accepts(&self, packet: &Packet) -> bool
         ensures { result ≡ is_for self.now packet.now }
     {
@@ -76,7 +76,7 @@ impl Node {
             && packet.body.is_in_range()
     }
 
-    /// A message of `from`, in its incarnation `life`, came.
+    /// Takes a message of `from`, in its incarnation `life`.
     fn receive_delivery(&mut self, from: u8, life: u64, ssn: u64, payload: Payload)
         requires peer { IsPeer self.old.me self.old.count from }
         requires live { self.old.frozen ≡ false }
@@ -103,7 +103,7 @@ impl Node {
         }
     }
 
-    /// Whether there is room for one message more.
+    /// Whether the limits allow one message more.
     fn takes_more(&self) -> bool
         ensures { result ≡ takes_more self.now }
     {
@@ -113,7 +113,7 @@ impl Node {
             && self.base + u64::from(behind) < MOST_RECEIVED
     }
 
-    /// Tells a sender the number of a message of its, which is behind the checkpoint.
+    /// Tells a sender the RSN of its message, which came after the checkpoint.
     pub(crate) fn tell(&mut self, to: u8, ssn: u64)
         requires to { IsPeer self.old.me self.old.count to }
         requires above { covered_of to self.old < ssn }
@@ -133,7 +133,7 @@ impl Node {
         );
     }
 
-    /// A number came: `from`, in its incarnation `life`, received this message of the node's under it.
+    /// Takes an RSN, which `from` in its incarnation `life` gave the node's message.
     fn receive_number(&mut self, from: u8, life: u64, ssn: u64, rsn: u64)
         requires peer { IsPeer self.old.me self.old.count from }
         requires life { IsPositive life }
@@ -153,8 +153,8 @@ impl Node {
         );
     }
 
-    /// An acknowledgement came: the number `rsn` is in the log of its sender. What waited for it is
-    /// released, unless the node is durable.
+    /// Takes an acknowledgement: the RSN `rsn` is in the log of its sender. Releases what waited
+    /// for it, unless the node is durable.
     fn receive_acknowledgement(&mut self, life: u64, rsn: u64)
         ensures { self.new ≡ acknowledged_by life rsn self.old }
     {
@@ -169,7 +169,7 @@ impl Node {
         }
     }
 
-    /// The number that is so far behind the checkpoint is acknowledged.
+    /// Acknowledges the RSN at this distance from the checkpoint.
     fn acknowledge(&mut self, behind: u32)
         requires { (1 ≤ behind) × (behind ≤ length self.old.receipts.senders) }
         ensures { self.new ≡ counted behind self.old }
@@ -178,7 +178,7 @@ impl Node {
         self.waiting = self.waiting.saturating_sub(1);
     }
 
-    /// The first messages to `from` are covered for good: the log drops them.
+    /// Drops the first messages to `from`, which are covered for good.
     fn receive_saved(&mut self, from: u8, covered: u64)
         requires { from ≤ self.old.count }
         ensures { self.new ≡ dropped_by from covered self.old }

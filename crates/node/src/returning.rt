@@ -1,4 +1,4 @@
-//! A process that came back is a node again.
+//! A process that came back becomes a node.
 
 ghost use Rattle.std.specs.Prelude.{◌≡◌, map};
 ghost use Rattle.node.specs.Queue.{released_again};
@@ -10,8 +10,8 @@ use crate::queue::Queue;
 use outbox::Outbox;
 use rsn::Receipts;
 
-/// What a process has that came back: the numbers that its peers gave are in its logs again, and all
-/// that it received is acknowledged.
+/// A process that has finished its recovery: the RSNs that its peers gave are in its logs again,
+/// and all that it received is acknowledged.
 #[derive(Drop)]
 pub struct Returned {
     pub limits: Limits,
@@ -19,25 +19,25 @@ pub struct Returned {
     pub count: u8,
     pub life: u64,
     pub state: Vec<u8>,
-    /// How many messages its checkpoint covers, and how many of these are of each sender.
+    /// How many messages its checkpoint covers, and how many of these came from each sender.
     pub base: u64,
     pub covered: Vec<u64>,
-    /// What it received behind these.
+    /// What it received since then.
     pub receipts: Receipts,
-    /// By destination what it sent.
+    /// By destination: what it sent.
     pub logs: Vec<Queue>,
-    /// By peer the greatest incarnation that it heard of.
+    /// By peer: the greatest incarnation that it heard.
     pub heard: Vec<u64>,
-    /// By peer whether it obeyed the Resume of that incarnation.
+    /// By peer: whether it obeyed the Resume of that incarnation.
     pub resumed: Vec<bool>,
-    /// Failures came one at a time, as far as it knows.
+    /// Whether failures came one at a time, as far as it knows.
     pub exact: bool,
     pub out: Outbox,
 }
 
 impl Node {
-    /// The node of a process that came back: it is up, and what it sent is released, all of it, or if
-    /// it is durable what its checkpoint covers.
+    /// The node of a process that came back. It is up, and what it sent is released: all of it, or
+    /// if it is durable, what its checkpoint covers.
     pub fn returned(process: Returned) -> Node
         requires { AreWithin process }
         ensures { result ≡ node_of process }
@@ -79,7 +79,7 @@ impl Node {
     }
 }
 
-/// What waits in these queues is released, unless the node is durable.
+/// Releases all messages of these queues, unless the node is durable.
 fn release_again(logs: &mut Vec<Queue>, durable: bool)
     ensures { logs.new.items ≡ map (released_again durable) logs.old.items }
 {

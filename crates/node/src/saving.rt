@@ -1,4 +1,4 @@
-//! What a node does when its checkpoint is made, and when it is durable.
+//! A node makes a checkpoint, which becomes durable.
 
 ghost use Rattle.std.specs.Prelude.{◌≡◌, ◌≤◌, ◌<◌, ◌+◌, ◌^◌, ℕ, [], length, slice_index_or, true, OnOk, OnErr, IfOk};
 ghost use Rattle.rsn.specs.Receipts.{numbers_of};
@@ -12,15 +12,15 @@ use rsn::Receipts;
 use std::alloc::{AllocError, Global};
 
 impl Node {
-    /// A checkpoint of what the node has received and sent is made: it takes, does and sends nothing
-    /// until [`Node::saved`] says that it is durable. Answers whether one was made: none is while a
-    /// job is open, or while the node waits for an earlier one.
+    /// Makes a checkpoint of what the node has received and sent. The node takes, does and sends
+    /// nothing until [`Node::saved`] says that it is durable. Answers whether a checkpoint was
+    /// made: none is while a job is open, or while the node waits for an earlier one.
     pub fn checkpoint(&mut self) -> bool
         ensures made { result ≡ may_freeze self.old }
         ensures value { self.new ≡ froze self.old }
         ensures acts { Acts self.old self.new }
     {
-        // For the proof: reading a field tells the invariant.
+        // For the proof: reading a field gives the invariant.
         let _me = self.me;
         self.freeze()
     }
@@ -36,16 +36,16 @@ impl Node {
         may
     }
 
-    /// The checkpoint that was made is durable. It covers all that the node received: what waited is
-    /// released, and its peers are told. Answers whether the node waited for it. A refusal changes
-    /// nothing.
+    /// The checkpoint that was made is durable. It covers all that the node received: releases what
+    /// waited, and tells its peers. Answers whether the node waited for a checkpoint. A refusal
+    /// changes nothing.
     pub fn saved(&mut self, alloc: Global) -> Result<bool, AllocError>
         ensures waited { IfOk result (λ b. b ≡ self.old.frozen) }
         ensures value { OnOk result (self.new ≡ saved self.old) }
         ensures acts { OnOk result (Saves self.old self.new) }
         ensures err { OnErr result (self.new ≡ self.old) }
     {
-        // For the proof: reading a field tells the invariant.
+        // For the proof: reading a field gives the invariant.
         let _me = self.me;
         self.thaw(alloc)
     }
@@ -65,7 +65,7 @@ impl Node {
         Ok(true)
     }
 
-    /// The checkpoint covers what was received. Nothing is behind it.
+    /// The checkpoint covers all that was received; nothing was since.
     fn cover(&mut self, none: Receipts)
         requires { none ≡ record { senders = []; acknowledged = [] } }
         ensures { self.new ≡ thawed self.old }
@@ -78,7 +78,7 @@ impl Node {
         self.frozen = false;
     }
 
-    /// Each peer is told how many of its messages the checkpoint covers.
+    /// Tells each peer how many of its messages the checkpoint covers.
     fn say_covered(&mut self)
         ensures { self.new ≡ says_below self.old.me (self.old.count + 1) self.old }
     {
@@ -101,7 +101,7 @@ impl Node {
     }
 }
 
-/// Counts what was received by its sender.
+/// Adds the received messages to the counts by sender.
 pub(crate) fn count(covered: &mut Vec<u64>, receipts: &Receipts)
     requires few { length covered.old.items ≤ 16 }
     requires room { (q : ℕ) → slice_index_or covered.old.items q 0 + length (numbers_of q receipts.now) < 2 ^ 64 }

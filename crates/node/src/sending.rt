@@ -11,14 +11,14 @@ use crate::node::{MOST_RECEIVED, Node};
 use packets::Body;
 
 impl Node {
-    /// What isn't answered yet is sent again: for each peer the first messages that are released and
-    /// have no number, and the first of its numbers that aren't acknowledged. Nothing is while the node
+    /// Sends again what isn't answered: to each peer the first messages that are released and have
+    /// no RSN, and the first of its RSNs that aren't acknowledged. It sends nothing while the node
     /// waits until its checkpoint is durable.
     pub fn tick(&mut self)
         ensures value { self.new ≡ ticked self.old }
         ensures acts { Acts self.old self.new }
     {
-        // For the proof: reading a field tells the invariant.
+        // For the proof: reading a field gives the invariant.
         let _me = self.me;
         self.send_again();
     }
@@ -38,7 +38,7 @@ impl Node {
         }
     }
 
-    /// What is let go is released, and the first of it is sent.
+    /// Releases what no longer waits, and sends the first of it.
     pub(crate) fn release(&mut self)
         ensures { self.new ≡ released self.old }
     {
@@ -58,7 +58,7 @@ impl Node {
         self.send(to, above);
     }
 
-    /// What is let go to a destination is released. Answers how many were before.
+    /// Releases what no longer waits to one destination. Answers how many were released before.
     fn unlock(&mut self, to: u8) -> u64
         requires { to ≤ self.old.count }
         ensures before { result ≡ (log_at self.old.logs to).released }
@@ -70,8 +70,8 @@ impl Node {
         before
     }
 
-    /// The number up to which messages let go what they sent: of a durable node those that its
-    /// checkpoint covers, of another those whose numbers are acknowledged.
+    /// The RSN up to which messages release what they sent: of a durable node those that its
+    /// checkpoint covers, of another those whose RSNs are acknowledged.
     fn freed(&self) -> u64
         ensures { result ≡ freed self.now }
     {
@@ -81,7 +81,7 @@ impl Node {
         self.base + u64::from(self.receipts.run_length())
     }
 
-    /// The first messages behind this SSN are sent, as far as they are released.
+    /// Sends the first released messages after this SSN.
     fn send(&mut self, to: u8, above: u64)
         requires { IsPeer self.old.me self.old.count to }
         ensures { self.new ≡ sends_on to above self.old }
@@ -92,7 +92,7 @@ impl Node {
         }
     }
 
-    /// Behind which message they begin, and how many there are.
+    /// The SSN after which they begin, and how many there are.
     fn to_be_sent(&self, to: u8, above: u64) -> (u64, u64)
         requires { to ≤ self.now.count }
         ensures first { result.0 ≡ first_to_send above (log_at self.now.logs to) }
@@ -107,14 +107,14 @@ impl Node {
         (first, many)
     }
 
-    /// A message that is kept is sent.
+    /// Sends a message that is kept.
     fn deliver(&mut self, to: u8, ssn: u64)
         requires to { IsPeer self.old.me self.old.count to }
         requires kept { is_kept ssn (log_at self.old.logs to) ≡ true }
         ensures { self.new ≡ delivers to ssn self.old }
     {
         let payload = self.logs[to as usize].payload(ssn);
-        // For the proof: its length tells the bound.
+        // For the proof: this gives the limit of its length.
         let _bytes = payload.len();
         let incarnation = self.life;
         self.put(
@@ -127,7 +127,7 @@ impl Node {
         );
     }
 
-    /// The first messages that are released and have no number are sent again.
+    /// Sends the first released messages without an RSN again.
     fn resend(&mut self, to: u8)
         requires { IsPeer self.old.me self.old.count to }
         ensures { self.new ≡ resent to self.old }
@@ -157,7 +157,7 @@ impl Node {
         (queue.dropped(), queue.released())
     }
 
-    /// The number of a message that is kept, where it's known.
+    /// The RSN of a message that is kept, if it is known.
     fn number_of(&self, to: u8, ssn: u64) -> Option<u64>
         requires to { to ≤ self.now.count }
         requires kept { is_kept ssn (log_at self.now.logs to) ≡ true }
@@ -166,7 +166,7 @@ impl Node {
         self.logs[to as usize].number(ssn)
     }
 
-    /// The first of a peer's numbers that aren't acknowledged are told again.
+    /// Tells the first of a peer's RSNs that aren't acknowledged again.
     fn renumber(&mut self, to: u8)
         requires { IsPeer self.old.me self.old.count to }
         ensures { self.new ≡ renumbered to self.old }
@@ -184,8 +184,8 @@ impl Node {
         }
     }
 
-    /// How many of a peer's messages are acknowledged without a gap, how many there are, and how many
-    /// the checkpoint covers.
+    /// How many of a peer's messages are acknowledged without a gap, how many there are, and how
+    /// many the checkpoint covers.
     fn told_span(&self, to: u8) -> (u32, u32, u64)
         requires { to ≤ self.now.count }
         ensures first { result.0 ≡ run_of (acknowledged_of to self.now.receipts) }
@@ -198,7 +198,7 @@ impl Node {
         (first, last, self.covered[to as usize])
     }
 
-    /// Whether the number of a peer's message is acknowledged.
+    /// Whether the RSN of a peer's message is acknowledged.
     fn is_told_at(&self, to: u8, place: u32) -> bool
         requires to { to ≤ self.now.count }
         requires known { place < length (numbers_of to self.now.receipts) }

@@ -1,23 +1,23 @@
-//! How a node stands.
+//! The status of a node.
 
 ghost use Rattle.std.specs.Prelude.{◌≡◌};
 
 use crate::node::Node;
 
-/// What a process does. A node that is up is in one of the first three.
+/// What a process is doing. A node that is up is in one of the first three stages.
 #[derive(Clone, Copy, Debug, PartialEq, Eq)]
 pub enum Stage {
     /// It takes messages.
     Up,
-    /// It works on one.
+    /// It works on a message.
     Busy,
     /// It waits until its checkpoint is durable.
     Frozen,
     /// It asks its peers what their logs hold for it.
     Collecting,
-    /// It works on what they told.
+    /// It replays the messages that it keeps.
     Replaying,
-    /// It asks which of its messages they have.
+    /// It asks its peers which of its messages they have.
     Resuming,
 }
 
@@ -39,7 +39,7 @@ impl Stage {
     }
 }
 
-/// What a host can read of a node.
+/// The status of a node, for its host.
 #[derive(Clone, Copy, Debug, PartialEq, Eq)]
 pub struct Standing {
     /// How many messages it received, and how many of these its checkpoint covers.
@@ -47,24 +47,24 @@ pub struct Standing {
     pub base: u64,
     pub incarnation: u64,
     pub stage: Stage,
-    /// Failures came one at a time, as far as it knows.
+    /// Whether failures came one at a time, as far as it knows.
     pub exact: bool,
-    /// Messages behind its checkpoint.
+    /// Messages since its checkpoint.
     pub receipts: u64,
-    /// Messages that its log keeps; the greatest number, where there are more.
+    /// Messages in its logs, or the greatest number if there are more.
     pub entries: u64,
     /// Packets that wait to be taken.
     pub packets: u64,
-    /// Messages that it still has to replay.
+    /// Messages that it has still to replay.
     pub replays: u64,
-    /// Peers whose answers it waits for: bit q of peer q.
+    /// Peers whose answers it waits for: bit q is peer q.
     pub waited_for: u64,
 }
 
 impl Node {
     ghost use Rattle.node.specs.Standing.{standing_of, entries_kept, stage_at};
 
-    /// How it stands. One that is up has nothing to replay, and waits for nobody.
+    /// The status of the node. One that is up has nothing to replay, and waits for no peer.
     pub fn standing(&self) -> Standing
         ensures { result ≡ standing_of self.now }
     {

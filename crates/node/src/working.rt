@@ -1,4 +1,4 @@
-//! What a node does when its handler has run.
+//! What a node does after its handler has run.
 
 ghost use Rattle.std.specs.Prelude.{◌≡◌, ◌+◌, ◌<◌, ◌≤◌, ◌^◌, ℕ, List, length, Some, None, slice_get, OnOk, OnErr};
 ghost use Rattle.node.specs.Queue.{TheQueue};
@@ -14,15 +14,15 @@ use packets::Body;
 use std::alloc::AllocError;
 
 impl Node {
-    /// The handler ran on the message of the open job: this is the state that it left, and what it
-    /// gave. Where no job is open nothing happens. A refusal changes nothing.
+    /// The handler ran on the message of the open job: `state` is the state that it left, `given`
+    /// what it sent. Does nothing if no job is open. A refusal changes nothing.
     pub fn work(&mut self, state: Vec<u8>, given: &[Given]) -> Result<(), AllocError>
         requires { MaySend self.old given.now }
         ensures value { OnOk result (self.new ≡ did_work state.items given.now self.old.working self.old) }
         ensures acts { OnOk result (Owes (Handles state.items given.now self.old) self.old self.new) }
         ensures err { OnErr result (self.new ≡ self.old) }
     {
-        // For the proof: reading a field tells the invariant.
+        // For the proof: reading a field gives the invariant.
         let _me = self.me;
         self.finish(state, given)
     }
@@ -58,7 +58,7 @@ impl Node {
     }
 }
 
-/// Logs what a handler gave, under the number of its message. A refusal changes nothing.
+/// Logs what a handler sent, under the RSN of its message. A refusal changes nothing.
 pub fn log(logs: &mut Vec<Queue>, given: &[Given], number: u64) -> Result<(), AllocError>
     requires to { (i : ℕ) (s : Given) → slice_get given.now i ≡ Some s → s.to < length logs.old.items }
     requires few { length given.now ≤ MOST_GIVEN }

@@ -47,7 +47,7 @@ xor-bit_xor n a b h k =
 pub and-test : (n a b : ℕ) → a < 2 ^ n → not (nat_eq (bit_and a b) 0) ≡ not (nat_eq (computed And n a b) 0)
 and-test n a b h = ap (λ x. not (nat_eq x 0)) (and-bit_and n a b h)
 
--- a bit below n does not see what stands from n on
+-- a bit below n doesn't depend on the bits from n on
 pub bit_at-low : (n c i : ℕ) → i < n → bit_at (c % 2 ^ n) i ≡ bit_at c i
 bit_at-low n c i h =
     let parts : n ≡ n - i + i = omega arith in

@@ -13,8 +13,7 @@ abbrev pub low_of : Width → ℕ → ℕ
 low_of W32 a = a % 2 ^ 32
 low_of W64 a = a
 
--- a word of n bits read as signed, in two's complement: from the half of 2 ^ n on it stands for a - 2 ^ n (RFC 9669
--- section 2.1)
+-- a word of n bits read as signed, in two's complement: from half of 2 ^ n on, a means a - 2 ^ n (RFC 9669 section 2.1)
 abbrev pub signed_of : ℕ → ℕ → ℤ
 signed_of n a = if nat_lt a (2 ^ (n - 1)) then pos a else negsuc (2 ^ n - suc a)
 

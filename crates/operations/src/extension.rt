@@ -6,7 +6,7 @@ ghost use Rattle.operations.specs.Operations.{extension_of, sign_extension_of, w
 use crate::word::low;
 use decode::{Extension, SignedSize};
 
-/// What MOVSX leaves in its destination, where its source holds `a` (RFC 9669 section 4.1).
+/// What MOVSX leaves in its destination if its source holds `a` (RFC 9669 section 4.1).
 pub fn extended(extension: Extension, a: u64) -> u64
     ensures { result ≡ extension_of extension a }
 {
@@ -21,7 +21,7 @@ pub fn extended(extension: Extension, a: u64) -> u64
     }
 }
 
-/// What a sign-extending load leaves in its destination, where `value` was read (RFC 9669 section 5.2).
+/// What a sign-extending load leaves in its destination after it read `value` (RFC 9669 section 5.2).
 pub fn sign_extended(size: SignedSize, value: u64) -> u64
     ensures { result ≡ sign_extension_of size value }
 {

@@ -1,4 +1,4 @@
-//! What the standard says of the results, apart from code.
+//! Laws of the results, in the standard's words.
 
 ghost use Rattle.std.specs.Prelude.{◌≡◌, ℕ, ◌+◌, ◌-◌, ◌*◌, ◌%◌, ◌^◌, ◌<◌, ◌≤◌, ◌↔◌, max, IsTrue, ℤ, pos, negsuc, ◌+ℤ◌, ◌*ℤ◌, ◌≤ℤ◌, ◌<ℤ◌, nat_abs, int_div, int_rem};
 ghost use Rattle.std.specs.Int.{bit_at, byte_at, int_div_euclid};
@@ -25,7 +25,7 @@ pub fn differences_undo_sums()
     ensures negation { (width : Width) (a : ℕ) → a < 2 ^ 64 → (negation_of width a + low_of width a) % 2 ^ bits_of width ≡ 0 }
 {}
 
-/// DIV gives the quotient and MOD what it leaves; by zero they give 0 and the dividend (RFC 9669 section 4.1).
+/// DIV gives the quotient and MOD the remainder; by zero they give 0 and the dividend (RFC 9669 section 4.1).
 pub fn division_is_the_quotient()
     ensures quotient { (n a b : ℕ) → 0 < b → (computed op.Div n a b * b ≤ a) × (a < (computed op.Div n a b + 1) * b) }
     ensures rest { (n a b : ℕ) → 0 < b → computed op.Div n a b * b + computed op.Mod n a b ≡ a }
@@ -33,7 +33,7 @@ pub fn division_is_the_quotient()
     ensures whole { (n a : ℕ) → computed op.Mod n a 0 ≡ a }
 {}
 
-/// A signed quotient is truncated toward zero: what it leaves is smaller than the divisor and has the dividend's sign
+/// A signed quotient is truncated toward zero: the remainder is smaller than the divisor and has the dividend's sign
 /// (RFC 9669 section 4.1).
 pub fn signed_division_truncates()
     ensures sum { (a b : ℤ) → int_div a b *ℤ b +ℤ int_rem a b ≡ a }
@@ -49,7 +49,7 @@ pub fn results_by_bits()
     ensures xor { (n a b i : ℕ) → i < n → bit_at (computed op.Xor n a b) i ≡ (bit_at a i + bit_at b i) % 2 }
 {}
 
-/// JSET is taken where there is a common bit (RFC 9669 section 4.3).
+/// JSET is taken if both words have a bit in common (RFC 9669 section 4.3).
 pub fn jset_is_a_common_bit()
     ensures { (n a b : ℕ) → IsTrue (compared Set n a b) ↔ ((i : ℕ) × ((i < n) × (bit_at a i ≡ 1) × (bit_at b i ≡ 1))) }
 {}
@@ -74,7 +74,7 @@ pub fn arsh_rounds_down()
     ensures high { (a : ℤ) (m : ℕ) → 0 < m → a <ℤ ((int_div_euclid a (pos m) +ℤ pos 1) *ℤ pos m) }
 {}
 
-/// A swap puts each byte as far from the top as it stood from the bottom (RFC 9669 section 4.2).
+/// A swap reverses the order of the bytes (RFC 9669 section 4.2).
 pub fn swaps_reverse_bytes()
     ensures { (n a i : ℕ) → i < n → byte_at i (reversed n a) ≡ byte_at (n - 1 - i) a }
 {}

@@ -1,9 +1,9 @@
 //! The results of BPF operations on registers of 64 bits (RFC 9669 sections 4 and 5).
 //!
-//! Each function computes by the machine's operators, and promises the result that `specs/Operations.antt` defines over
-//! whole numbers in the standard's words. Every input has a result: a division by zero, the least number divided by -1
-//! and a shift count beyond the width included. No function takes memory. `laws` proves of the definitions what the
-//! standard says of them, such as that DIV is the quotient rounded down and AND goes bit by bit.
+//! Each function computes with the machine's operators, and promises the result that `specs/Operations.antt` defines
+//! over whole numbers in the standard's words. Every input has a result, also a division by zero, the least number
+//! divided by -1 and a shift count beyond the width. No function takes memory. `laws` proves that the definitions are
+//! what the standard says, for example that DIV is the quotient rounded down and that AND goes bit by bit.
 //!
 //! ```
 //! // an addition of 32 bits wraps, and leaves no upper half

@@ -10,7 +10,8 @@ use Rattle.spans.specs.Configuration.{At, Configuration, Number, Value}
 use Rattle.spans.specs.Step.{Ends, Fault, Goes, Leaps, Outcome, answers, branches, ends_with, gives_value, goes_on, operand_value, step}
 use Rattle.span_calls.specs.Typing.{Code, target}
 use Rattle.span_calls.specs.Calls.{Last, Replies, Request, after, call_by, call_from, more, noted, replied, request}
-use Rattle.ordered_images.specs.Placement.{Arrives, ArrivesBy, IsPlacement, Places, WaysArrive, with_distance}
+use Rattle.ordered_images.specs.Placement.{Arrives, ArrivesBy, IsPlacement, Places, WaysArrive}
+use Rattle.decode.specs.Distance.{with_distance}
 use Rattle.ordered_images.specs.Laws.{AreMovedRunsKept, EndsAs}
 use Rattle.ordered_images.specs.Order.{code_of}
 

@@ -3,7 +3,7 @@ use Rattle.std.specs.Prelude.{ℕ, List, [], ◌++◌, codes, decimal}
 use Rattle.ordered_images.specs.declared.blocks.Blocks.{Blocks}
 use Rattle.ordered_images.specs.declared.blocks.Blocks.TheVariants.{Kept, Moved, Loops, Unknown}
 
--- a line, or nothing of blocks that stand as they were given
+-- a line, or nothing for blocks that are as given
 abbrev pub blocks_text : Blocks → List ℕ
 blocks_text Kept = []
 blocks_text Moved = codes "the blocks stand in another order, in which each jump goes forward; slots are counted in it\n"

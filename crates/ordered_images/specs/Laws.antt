@@ -1,4 +1,4 @@
--- Why code in another order does the same, and so the code of such a file.
+-- Why code in another order does the same, and so does the code of its file.
 use Rattle.std.specs.Prelude.{◌≡◌, ℕ, ◌+◌, ◌≤◌, List}
 use Rattle.decode.specs.declared.insn.Insn.{Insn}
 use Rattle.images.specs.declared.file_form.FileForm.{FileForm}
@@ -9,8 +9,8 @@ use Rattle.ordered_images.specs.Order.{code_of}
 use Rattle.ordered_images.specs.Ordered.{Stands}
 use Rattle.ordered_images.specs.declared.blocks.Blocks.{Blocks}
 
--- where the first call ends, the second does, within so many steps of those, with the same r0, the same requests and the same
--- registers and memory; and where it fails, it fails
+-- if the first call ends, the second does, within the steps that the bound gives for the first one's, with the same r0,
+-- the same requests and the same registers and memory; and if the first fails, the second fails
 abbrev pub EndsAs : (ℕ → ℕ) → Last → Last → Type 0
 EndsAs within (Ended k r q c) (Ended j x p d) = (j ≤ within k) × (r ≡ x) × (q ≡ p) × (c ≡ d)
 EndsAs within (Ended k r q c) Failed = ⊥
@@ -20,8 +20,8 @@ EndsAs within Failed (Ended k r q c) = ⊥
 EndsAs within Failed Tired = ⊥
 EndsAs within Tired l = Unit {0}
 
--- calls of code and of other code that has its instructions at other slots, from slot 0 and any registers, memory and requests on: each ends or fails
--- where the other does, and the other takes at most twice as many steps
+-- calls of code and of other code that has its instructions at other slots, from slot 0 with any registers, memory and
+-- requests: each ends or fails if the other does, and the other takes at most twice as many steps
 abbrev pub AreMovedRunsKept : Type 0
 AreMovedRunsKept =
     (code other : List Insn) (at : Places) (state n : ℕ) (reply : Replies) (c : Configuration) (q : List Request)
@@ -29,7 +29,7 @@ AreMovedRunsKept =
     → EndsAs (λ k. k + k) (call_from state (code_of code) reply n 0 c q) (call_from state (code_of other) reply (n + n) 0 c q)
     × EndsAs (λ k. k) (call_from state (code_of other) reply n 0 c q) (call_from state (code_of code) reply n 0 c q)
 
--- the same of calls of code and of what is written of it
+-- the same for calls of code and of what is written of it
 abbrev pub AreRunsKept : Type 0
 AreRunsKept =
     (form : FileForm) (code written : List Insn) (state : ℕ) (blocks : Blocks) (n : ℕ) (reply : Replies) (c : Configuration) (q : List Request)

@@ -1,4 +1,4 @@
--- What becomes of the order of blocks.
+-- The result for the order of blocks.
 use Rattle.std.specs.Prelude.{◌≡◌, ◌⊎◌, ℕ, ◌+◌, ◌-◌, ◌<◌, ◌≤◌, pos, ◌+ℤ◌, ◌≤ℤ◌, List, length, slice_index, Some}
 use Rattle.std.specs.List.{AllByRecursion}
 use Rattle.limits.specs.declared.TheConstants.{SLOTS}
@@ -7,7 +7,8 @@ use Rattle.decode.specs.Slots.{insn_at, slots, slots_of}
 use Rattle.regtypes.specs.declared.flow.Flow.{Flow}
 use Rattle.regtypes.specs.declared.flow.Flow.TheVariants.{Ends, Leaps, Forks, Falls}
 use Rattle.regtypes.specs.Flow.{flow_of}
-use Rattle.span_calls.specs.Typing.{Code, distance}
+use Rattle.span_calls.specs.Typing.{Code}
+use Rattle.decode.specs.Distance.{distance}
 use Rattle.ordered_images.specs.Placement.{IsPlacement, place_at}
 use Rattle.ordered_images.specs.declared.placing.Placed.{Placed}
 use Rattle.ordered_images.specs.declared.order.Order.{Order}
@@ -40,7 +41,7 @@ Leads code s t = (i : Insn) × (code s ≡ Some i) × LeadsBy s (flow_of i) t
 abbrev pub IsWalk : Code → List ℕ → Type 0
 IsWalk code walk = (k : ℕ) → k + 1 < length walk → Leads code (slice_index walk k) (slice_index walk (k + 1))
 
--- ways lead from slot 0 to `to` and on to `from`, which jumps back to `to`
+-- ways lead from slot 0 to `to`, and from there to `from`, which jumps back to `to`
 pub record IsLoop (code : Code) (from to : ℕ) : Type 0 where
   pub walk : List ℕ
   pub leads : IsWalk code walk
@@ -52,7 +53,7 @@ pub record IsLoop (code : Code) (from to : ℕ) : Type 0 where
   pub back : Leads code from to
   pub behind : to ≤ from
 
--- the instructions that a call can come to stand in another order, in which each jump goes forward, with as many slots as
+-- the instructions that a call can come to, in another order, in which each jump goes forward, with as many slots as
 -- code may have
 pub record IsMoved (code : List Insn) (moved : Placed) : Type 0 where
   pub placed : IsPlacement (code_of code) (code_of moved.insns.items) (place_at moved.places.items)
@@ -60,7 +61,7 @@ pub record IsMoved (code : List Insn) (moved : Placed) : Type 0 where
   pub some : 0 < slots moved.insns.items
   pub short : slots moved.insns.items ≤ SLOTS
 
--- each jump goes forward as it is; or another order in which it does; or a loop; or no order was found
+-- each jump already goes forward; or there is another order in which it does; or there is a loop; or no order was found
 abbrev pub IsOrder : List Insn → Order → Type 0
 IsOrder code Forward = IsForward code
 IsOrder code (Moved moved) = ¬ IsForward code × IsMoved code moved

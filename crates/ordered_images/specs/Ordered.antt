@@ -1,4 +1,4 @@
--- The image file of code, its blocks in another order where that helps.
+-- The image file of code, with its blocks in another order if that helps.
 use Rattle.std.specs.Prelude.{◌≡◌, ℕ, List}
 use Rattle.decode.specs.declared.insn.Insn.{Insn}
 use Rattle.regtypes.specs.declared.rule.Rule.TheVariants.{V1}
@@ -16,17 +16,17 @@ use Rattle.ordered_images.specs.declared.storing.Ordered.{Ordered}
 abbrev pub BreaksV1 : List Insn → ℕ → Type 0
 BreaksV1 code state = (slot : ℕ) × IsFault code state V1 slot
 
--- an order is asked for: in form 3, where V1 refuses the code
+-- an order is needed: in form 3, if V1 refuses the code
 abbrev pub WantsOrder : FileForm → List Insn → ℕ → Type 0
 WantsOrder Sbi1 code state = ⊥
 WantsOrder Sbi2 code state = ⊥
 WantsOrder Sbi3 code state = BreaksV1 code state
 
--- an order is asked for, and a jump goes back
+-- an order is needed, and a jump goes back
 abbrev pub GoesBack : FileForm → List Insn → ℕ → Type 0
 GoesBack form code state = WantsOrder form code state × ¬ IsForward code
 
--- the blocks of the code stand so in what is written
+-- what was done with the blocks of the code in what is written
 abbrev pub Stands : FileForm → List Insn → ℕ → List Insn → Blocks → Type 0
 Stands form code state written Kept = (written ≡ code) × ¬ GoesBack form code state
 Stands form code state written Moved =
@@ -34,12 +34,12 @@ Stands form code state written Moved =
 Stands form code state written (Loops from to) = (written ≡ code) × GoesBack form code state × IsLoop (code_of code) from to
 Stands form code state written Unknown = (written ≡ code) × GoesBack form code state
 
--- the bytes are the file of this form of the code, with a state of this length, and its blocks stand so
+-- the bytes are the file of this form of the code, with a state of this length, and this was done with its blocks
 pub record IsFileOf (form : FileForm) (code : List Insn) (state : ℕ) (bytes : List ℕ) (blocks : Blocks) : Type 0 where
   pub written : List Insn
   pub file : IsFile form written state bytes
   pub stands : Stands form code state written blocks
 
--- the same of what is answered
+-- the same for the answer
 abbrev pub IsOrdered : FileForm → List Insn → ℕ → Ordered → Type 0
 IsOrdered form code state o = IsFileOf form code state o.bytes.items o.blocks

@@ -1,25 +1,25 @@
-//! How the blocks of an image's code stand.
+//! What was done with the blocks of an image's code.
 
 use std::fmt;
 
-/// What is said of code in another order.
+/// The line for code in another order.
 const MOVED: &str =
     "the blocks stand in another order, in which each jump goes forward; slots are counted in it\n";
 
-/// What is said where no order was found.
+/// The line for code for which no order was found.
 const UNKNOWN: &str =
     "V1 refuses the code, and no order of its blocks was found in which each jump goes forward\n";
 
-/// How the blocks of an image's code stand. It prints as a line, or as nothing where they are kept.
+/// What was done with the blocks of an image's code. It prints as a line, or as nothing if they were kept.
 #[derive(Clone, Copy, Debug, PartialEq, Eq)]
 pub enum Blocks {
-    /// As they were given.
+    /// They are as given.
     Kept,
-    /// In another order, in which each jump goes forward.
+    /// They are in another order, in which each jump goes forward.
     Moved,
-    /// As they were given: slot `from` jumps back to slot `to`, from where ways lead to `from` again.
+    /// They are as given: slot `from` jumps back to slot `to`, and ways lead from there to `from` again.
     Loops { from: usize, to: usize },
-    /// As they were given: a jump goes back, and no order was found in which none does.
+    /// They are as given: a jump goes back, and no order was found in which none does.
     Unknown,
 }
 

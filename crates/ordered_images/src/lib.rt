@@ -1,16 +1,14 @@
-//! Image files of code whose blocks may have to stand in another order.
+//! Image files of code whose blocks may need another order.
 //!
-//! A compiler lays out some blocks so that a jump goes back though there is no loop, and the verifier of
-//! form 3 refuses such code by V1. [`order_blocks`] puts blocks in an order in which each jump goes forward,
-//! or names a jump back of a loop. [`ordered_file`] writes the image file of code; in form 3, where V1
-//! refuses the code as it was given, the file of the same code in such an order, if one is found, and says
-//! so. All other code is written as it was given.
+//! A compiler lays out some blocks so that a jump goes back though there is no loop, and the verifier of form 3 refuses
+//! such code by V1. [`order_blocks`] finds an order of the blocks in which each jump goes forward, or names the jump
+//! back of a loop. [`ordered_file`] writes the image file of code. In form 3, if V1 refuses the code as given and an
+//! order is found, it writes the file of the code in that order, and says so. It writes all other code as given.
 //!
-//! The promise: what is found is judged, slot by slot, before it is answered. So a call of the code in
-//! its new order, and of a file's code, ends as a call of the code that was given does, with the same
-//! registers, memory and requests of helpers ([`moved_runs_are_kept`], [`runs_are_kept`]); a loop that is
-//! named is one; and what is said of the blocks holds. That an order is found wherever there is one isn't
-//! promised.
+//! The promise: each result of the search is checked, slot by slot, before it is answered. So a call of the code in its
+//! new order, and of a file's code, ends as a call of the given code does, with the same registers, memory and requests
+//! of helpers ([`moved_runs_are_kept`], [`runs_are_kept`]). A loop that is named is a loop, and what is said of the
+//! blocks is true. It isn't promised that an order is found whenever there is one.
 //!
 //! ```text
 //! let file = ordered_file(alloc, FileForm::Sbi3, &code, 64)?;

@@ -14,14 +14,14 @@ use limits::SLOTS;
 use span_verifier::lay_out;
 use std::alloc::{AllocError, Global};
 
-/// What becomes of the order of blocks.
+/// The result for the order of blocks.
 #[derive(Drop)]
 pub enum Order {
-    /// Each jump goes to a later slot as it is.
+    /// Each jump already goes to a later slot.
     Forward,
-    /// The code in another order, in which each jump does.
+    /// The code in another order, in which each jump goes to a later slot.
     Moved(Placed),
-    /// The instruction at slot `from` jumps back to slot `to`, from where ways lead to `from` again.
+    /// The instruction at slot `from` jumps back to slot `to`, and ways lead from there to `from` again.
     Loops { from: usize, to: usize },
     /// No order was found.
     Unknown,
@@ -35,7 +35,7 @@ fn goes_forward(insns: &[Insn]) -> bool
     count > 0 && count <= SLOTS && is_forward(insns)
 }
 
-/// Whether each instruction of the other code stands there as it has to.
+/// Whether each instruction of the other code is there with its ways.
 fn is_moved(
     alloc: Global,
     code: &[Insn],
@@ -55,7 +55,7 @@ fn is_moved(
     }
 }
 
-/// The code as a search has left it, if each instruction stands there as it has to.
+/// The code in the order of a search, if each instruction is there with its ways.
 fn moved(
     alloc: Global,
     code: &[Insn],
@@ -78,7 +78,7 @@ fn moved(
     }
 }
 
-/// A way from slot 0 and a part of it again.
+/// A way from slot 0, followed by a part of it again.
 fn twice(alloc: Global, way: &[usize], from: usize, to: usize) -> Result<Vec<usize>, AllocError>
     requires from { from ≤ to }
     requires to { to ≤ length way.now }
@@ -88,7 +88,7 @@ fn twice(alloc: Global, way: &[usize], from: usize, to: usize) -> Result<Vec<usi
     Ok(walk)
 }
 
-/// The jump back on a cycle: a way from slot 0, whose last slot leads to the one at this place of it.
+/// The jump back on a cycle. The way begins at slot 0, and its last slot leads to the slot at this place of the way.
 fn jump_back(
     alloc: Global,
     slots: &[Option<Insn>],
@@ -107,7 +107,7 @@ fn jump_back(
     Ok(None)
 }
 
-/// The loop that the jump back on a cycle makes.
+/// The loop with the jump back on a cycle.
 fn looped(
     alloc: Global,
     code: &[Insn],
@@ -126,7 +126,7 @@ fn looped(
     }
 }
 
-/// The order of the blocks of code as a search has found it.
+/// The order that a search found.
 fn order_of(
     alloc: Global,
     code: &[Insn],
@@ -153,8 +153,9 @@ fn order_slots(alloc: Global, code: &[Insn], slots: &[Option<Insn>]) -> Result<O
     order_of(alloc, code, slots, &found)
 }
 
-/// The order of the blocks of code. Where a jump goes back and there is no loop, the answer is another order if one is found:
-/// from slot 0 on each block in front of those that it leads to, and right in front of the one behind it where it can.
+/// The order of the blocks of code. If a jump goes back and there is no loop, the answer is another order, if one is
+/// found: from slot 0 on, each block comes before those that it leads to, and right before the next one in the code if
+/// it can.
 pub fn order_blocks(alloc: Global, code: &[Insn]) -> Result<Order, AllocError>
     ensures { IfOk result (IsOrder code.now) }
 {

@@ -1,17 +1,17 @@
-//! Whether code is other code, with its instructions at other slots.
+//! Whether code is other code with its instructions at other slots.
 
 ghost use Rattle.std.specs.Prelude.{◌≡◌, ◌+◌, IfOk, IsTrue};
 ghost use Rattle.decode.specs.Slots.{insn_at};
-ghost use Rattle.span_calls.specs.Typing.{distance};
-ghost use Rattle.ordered_images.specs.Placement.{Arrives, ArrivesBy, IsPlacement, Stands, WaysArrive, place_at, with_distance};
+ghost use Rattle.decode.specs.Distance.{distance, with_distance};
+ghost use Rattle.ordered_images.specs.Placement.{Arrives, ArrivesBy, IsPlacement, Stands, WaysArrive, place_at};
 
-use crate::insns::{distance_of, with_distance};
 use crate::slots::{insn_at, place_at, target};
 use decode::{Insn, encode};
 use regtypes::{Flow, flow_from};
 use std::alloc::{AllocError, Global};
 
-/// Whether a slot of the other code leads to where the instruction of `to` stands: by itself, or by a jump.
+/// Whether a slot of the other code leads to the place of the instruction of `to`: it is that place, or has a jump to
+/// it.
 fn arrives(other: &[Option<Insn>], places: &[Option<usize>], slot: usize, to: usize) -> bool
     ensures { IsTrue result → Arrives (insn_at other.now) (place_at places.now) slot to }
 {
@@ -30,7 +30,7 @@ fn arrives(other: &[Option<Insn>], places: &[Option<usize>], slot: usize, to: us
     }
 }
 
-/// Whether a jump of the other code, from a place by a distance, leads to where one from a slot led.
+/// Whether a jump of the other code, from a place by a distance, leads to where a jump from a slot led.
 fn arrives_by(
     other: &[Option<Insn>],
     places: &[Option<usize>],
@@ -47,7 +47,7 @@ fn arrives_by(
     }
 }
 
-/// Whether the slot so many behind a place of the other code leads to where that behind a slot stands.
+/// Whether the slot after a place of the other code leads to the place of the instruction after a slot.
 fn arrives_behind(
     other: &[Option<Insn>],
     places: &[Option<usize>],
@@ -85,7 +85,7 @@ fn ways_arrive(
     }
 }
 
-/// Whether two instructions are one: their bytes say so.
+/// Whether two instructions are the same; it compares their bytes.
 fn is_one(alloc: Global, insn: &Insn, other: &Insn) -> Result<bool, AllocError>
     ensures { IfOk result (λ same. IsTrue same → other.now ≡ insn.now) }
 {
@@ -99,17 +99,17 @@ fn is_one(alloc: Global, insn: &Insn, other: &Insn) -> Result<bool, AllocError>
     }
 }
 
-/// Whether the second instruction is the first but for the distance by which it jumps.
+/// Whether two instructions are the same except for the distance by which they jump.
 fn is_same(alloc: Global, insn: &Insn, other: &Insn) -> Result<bool, AllocError>
     ensures { IfOk result (λ same. IsTrue same → other.now ≡ with_distance insn.now (distance other.now)) }
 {
-    match with_distance(insn, distance_of(other)) {
+    match insn.with_distance(other.distance()) {
         Some(same) => is_one(alloc, &same, other),
         None => Ok(false),
     }
 }
 
-/// Whether the instruction at a slot stands at this place of the other code, with its ways.
+/// Whether the instruction at a slot is at this place of the other code, with its ways.
 fn stands(
     alloc: Global,
     code: &[Option<Insn>],
@@ -127,7 +127,7 @@ fn stands(
         Ok(true) => {}
         refused => return refused,
     }
-    let by = distance_of(&moved);
+    let by = moved.distance();
     let flow = flow_from(&insn);
     Ok(ways_arrive(other, places, slot, flow, place, by))
 }

@@ -2,7 +2,6 @@
 
 ghost use Rattle.std.specs.Prelude.{◌≤◌};
 
-use crate::insns::with_distance;
 use crate::slots::{insn_at, place_at, ways, ways_at};
 use decode::Insn;
 use limits::SLOTS;
@@ -12,14 +11,14 @@ use std::alloc::Global;
 #[derive(Drop)]
 pub struct Placed {
     pub insns: Vec<Insn>,
-    /// For each slot of the code the one at which its instruction stands now; `None` where no call comes.
+    /// For each slot of the code the new slot of its instruction; `None` if no call comes to it.
     pub places: Vec<Option<usize>>,
 }
 
 /// Why code can't be put in another order.
 #[derive(Drop)]
 pub(crate) enum Misplaced {
-    /// An instruction has no room, or the jump behind it.
+    /// An instruction has no room, or the jump after it has none.
     NoRoom,
     Memory,
 }
@@ -33,13 +32,13 @@ fn from_end(slots: &[usize], k: usize) -> Option<usize> {
     }
 }
 
-/// The slot behind one in the code, where another follows it in the order: a jump has to lead there.
+/// The next slot in the code, if another slot follows in the order: then a jump has to lead there.
 fn parted(code: &[Option<Insn>], slot: usize, follower: Option<usize>) -> Option<usize> {
     let next = ways_at(code, slot).1;
     if next == follower { None } else { next }
 }
 
-/// How many slots the instruction of a slot takes, with the jump behind it.
+/// How many slots the instruction of a slot takes, with the jump after it.
 fn room_of(code: &[Option<Insn>], slot: usize, follower: Option<usize>) -> usize
     ensures { result ≤ 3 }
 {
@@ -53,7 +52,7 @@ fn room_of(code: &[Option<Insn>], slot: usize, follower: Option<usize>) -> usize
     }
 }
 
-/// Sets where the instruction of each slot stands, if all have room.
+/// Sets the place of each slot's instruction, if all have room.
 fn set_places(places: &mut [Option<usize>], code: &[Option<Insn>], finished: &[usize]) {
     let mut place = 0;
     for k in 0..finished.len() {
@@ -65,17 +64,17 @@ fn set_places(places: &mut [Option<usize>], code: &[Option<Insn>], finished: &[u
     }
 }
 
-/// A jump at a place to a later one, if both are there.
+/// A jump from a place to a later one, if there are both.
 fn led_to(insn: &Insn, place: Option<usize>, to: Option<usize>) -> Option<Insn> {
     match (place, to) {
         (Some(place), Some(to)) if to > place && to - place <= SLOTS => {
-            with_distance(insn, (to - place - 1) as i32)
+            insn.with_distance((to - place - 1) as i32)
         }
         _ => None,
     }
 }
 
-/// The instruction of a slot as it stands at its place.
+/// The instruction of a slot with the distance that it needs at its place.
 fn moved(code: &[Option<Insn>], places: &[Option<usize>], slot: usize) -> Option<Insn> {
     let insn = insn_at(code, slot)?;
     match ways(&insn, slot).0 {
@@ -84,7 +83,7 @@ fn moved(code: &[Option<Insn>], places: &[Option<usize>], slot: usize) -> Option
     }
 }
 
-/// The jump behind the instruction of a slot that leads to where another stands.
+/// The jump after the instruction of a slot that leads to the place of another.
 fn jump_to(
     code: &[Option<Insn>],
     places: &[Option<usize>],
@@ -98,7 +97,7 @@ fn jump_to(
     led_to(&Insn::Jump { offset: 0 }, behind, place_at(places, to))
 }
 
-/// Puts an instruction behind the others, if it has room.
+/// Appends an instruction, if it has room.
 fn put(insns: &mut Vec<Insn>, insn: Option<Insn>) -> Result<(), Misplaced> {
     match insn {
         Some(insn) => match insns.push(insn) {
@@ -109,7 +108,7 @@ fn put(insns: &mut Vec<Insn>, insn: Option<Insn>) -> Result<(), Misplaced> {
     }
 }
 
-/// Puts the instruction of a slot behind those in front of it, and behind it the jump that it may need.
+/// Appends the instruction of a slot, and after it the jump that it may need.
 fn append(
     insns: &mut Vec<Insn>,
     code: &[Option<Insn>],
@@ -124,7 +123,7 @@ fn append(
     }
 }
 
-/// Puts all instructions in their order.
+/// Appends all instructions in their order.
 fn append_all(
     insns: &mut Vec<Insn>,
     code: &[Option<Insn>],
@@ -138,7 +137,7 @@ fn append_all(
     Ok(())
 }
 
-/// The code in the order in which a search has left it, the last slot first.
+/// The code in the order of a search, which has the last slot first.
 pub(crate) fn place(
     alloc: Global,
     code: &[Option<Insn>],

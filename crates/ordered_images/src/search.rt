@@ -1,33 +1,33 @@
-//! A search for an order. What it finds is judged elsewhere.
+//! A search for an order. Its result is checked elsewhere.
 
 use crate::slots::ways_at;
 use decode::Insn;
 use std::alloc::{AllocError, Global};
 
-/// How far the search is with a slot.
+/// How far the search of a slot is.
 #[derive(Clone, Copy)]
 enum Mark {
     New,
-    /// It lies on the way from slot 0, at this place of it.
+    /// It is on the way from slot 0, at this place of it.
     Open(usize),
     /// All that it leads to has been found.
     Done,
 }
 
-/// A search in depth from slot 0 on.
+/// A depth-first search from slot 0 on.
 #[derive(Drop)]
 pub struct Search {
     marks: Vec<Mark>,
     /// The slots on the way from slot 0.
     pub open: Vec<usize>,
-    /// The slots that a call can come to, each behind those that it leads to.
+    /// The slots that a call can come to, each after those that it leads to.
     pub finished: Vec<usize>,
-    /// The place on the way to which its last slot leads, where the search has ended at a cycle.
+    /// If the search ended at a cycle: the place on the way to which its last slot leads.
     pub cycle: Option<usize>,
 }
 
 impl Search {
-    /// The mark of a slot; one behind the end leads nowhere.
+    /// The mark of a slot; a slot after the end leads nowhere.
     fn mark(&self, slot: usize) -> Mark {
         match self.marks.get(slot) {
             Some(mark) => *mark,
@@ -58,7 +58,8 @@ impl Search {
         Ok(())
     }
 
-    /// Goes on from the last slot of the way to one to which it leads, if that is new; else back, or to the end at a cycle.
+    /// Goes on from the last slot of the way to one to which it leads, if that is new; else goes back, or ends at a
+    /// cycle.
     fn go(&mut self, last: usize, to: usize) -> Result<(), AllocError> {
         match self.mark(to) {
             Mark::New => self.enter(to),
@@ -70,7 +71,7 @@ impl Search {
         }
     }
 
-    /// Whether nothing is to be found by a way.
+    /// Whether this way leads to nothing new.
     fn is_done(&self, way: Option<usize>) -> bool {
         match way {
             Some(to) => matches!(self.mark(to), Mark::Done),
@@ -78,7 +79,7 @@ impl Search {
         }
     }
 
-    /// Goes on from the last slot of the way to the first that is new, the jump's first; or back, where none is.
+    /// Goes on from the last slot of the way to the first new one, by the jump first; or goes back if there is none.
     fn step(&mut self, last: usize, slots: &[Option<Insn>]) -> Result<(), AllocError> {
         let (jump, next) = ways_at(slots, last);
         let way = if self.is_done(jump) { next } else { jump };
@@ -88,7 +89,7 @@ impl Search {
         }
     }
 
-    /// The slot to go on from; none at the end.
+    /// The slot to go on from; none at the end of the search.
     fn last(&self) -> Option<usize> {
         match (self.open.last(), self.cycle) {
             (Some(last), None) => Some(*last),
@@ -110,7 +111,7 @@ impl Search {
     }
 }
 
-/// Searches all that slot 0 leads to, the way that falls through last.
+/// Searches all that slot 0 leads to, by jumps first.
 pub(crate) fn search_slots(alloc: Global, slots: &[Option<Insn>]) -> Result<Search, AllocError> {
     let mut search = Search {
         marks: Vec::from_elem(alloc, Mark::New, slots.len())?,

@@ -17,7 +17,7 @@ pub fn insn_at(slots: &[Option<Insn>], slot: usize) -> Option<Insn>
     }
 }
 
-/// Where the instruction of a slot stands.
+/// The place of the instruction of a slot.
 pub fn place_at(places: &[Option<usize>], slot: usize) -> Option<usize>
     ensures { result ≡ place_at places.now slot }
 {
@@ -40,7 +40,7 @@ pub fn target(slot: usize, distance: i32) -> Option<usize>
     }
 }
 
-/// The slots that the instruction at a slot leads to: by its jump, and to the one behind it.
+/// The slots that the instruction at a slot leads to: by its jump, and the next one.
 pub(crate) fn ways(insn: &Insn, slot: usize) -> (Option<usize>, Option<usize>) {
     match flow_from(insn) {
         Flow::Ends => (None, None),
@@ -50,7 +50,7 @@ pub(crate) fn ways(insn: &Insn, slot: usize) -> (Option<usize>, Option<usize>) {
     }
 }
 
-/// The same of a slot; nowhere, where no instruction begins.
+/// The same for a slot; none if no instruction begins there.
 pub(crate) fn ways_at(slots: &[Option<Insn>], slot: usize) -> (Option<usize>, Option<usize>) {
     match insn_at(slots, slot) {
         Some(insn) => ways(&insn, slot),

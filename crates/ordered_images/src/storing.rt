@@ -1,4 +1,4 @@
-//! Code to image files, its blocks in another order where that helps.
+//! Code to image files, with its blocks in another order if that helps.
 
 ghost use Rattle.std.specs.Prelude.{◌<◌, ◌≤◌, ◌↔◌, IfErr, IfOk, IsTrue, length};
 ghost use Rattle.std.specs.List.{AllByRecursion};
@@ -21,7 +21,7 @@ use span_verifier::{VerifyError, verify};
 use std::alloc::{AllocError, Global};
 use verifier::ImageError;
 
-/// An image file, and how the blocks of its code stand.
+/// An image file, and what was done with the blocks of its code.
 #[derive(Debug, Drop)]
 pub struct Ordered {
     pub bytes: Vec<u8>,
@@ -66,7 +66,7 @@ fn moved_file(
     }
 }
 
-/// The file of form 3 of code that V1 refuses and whose blocks are in this order.
+/// The file of form 3 of code that V1 refuses, by the result for the order of its blocks.
 fn file_in(
     alloc: Global,
     code: &[Insn],
@@ -90,7 +90,7 @@ fn file_in(
     Ok(Ordered { bytes, blocks })
 }
 
-/// The file of form 3, where that of the code as it was given has these bytes.
+/// The file of form 3; `bytes` is the file of the code as given.
 fn span_file(
     alloc: Global,
     code: &[Insn],
@@ -118,8 +118,9 @@ fn span_file(
     }
 }
 
-/// The image file of this form, of code with a state of this length, at most 1,024 bytes. In form 3 the blocks of code that V1
-/// refuses stand in another order, if one is found in which each jump goes forward; all other code stands as it was given.
+/// The image file of this form, of code with a state of this length, at most 1,024 bytes. In form 3, if V1 refuses the
+/// code and an order is found in which each jump goes forward, the blocks are in that order; all other code is as
+/// given.
 pub fn ordered_file(
     alloc: Global,
     form: FileForm,

@@ -16,7 +16,7 @@ fn jumps(from: usize, distance: i32, to: usize) -> bool
     target(from, distance) == Some(to)
 }
 
-/// Whether a slot is so many behind another.
+/// Whether a slot is `size` slots after another.
 fn falls(from: usize, size: usize, to: usize) -> bool
     ensures { IsTrue result → LeadsBy from (Flow.Falls size) to }
 {
@@ -50,7 +50,7 @@ fn is_walk(slots: &[Option<Insn>], walk: &[usize]) -> bool
     true
 }
 
-/// The slot where such a walk ends and the first of its slots to which that one jumps back.
+/// The slot where such a walk ends, and the first of its slots to which that one jumps back.
 pub fn loop_of(slots: &[Option<Insn>], walk: &[usize]) -> Option<(usize, usize)>
     ensures { IfSome result (λ jump. IsLoop (insn_at slots.now) jump.0 jump.1) }
 {

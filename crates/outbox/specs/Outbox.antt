@@ -3,16 +3,16 @@ use Rattle.std.specs.Prelude.{◌≡◌, Option, Some, None, ℕ, ◌≤◌, Lis
 use Rattle.packets.specs.declared.packet.Packet.{Packet}
 use Rattle.outbox.specs.declared.outbox.TheConstants.{OUTBOX}
 
--- one packet more, where there is room
+-- one packet more, if there is room
 abbrev pub pushed : Packet → List Packet → List Packet
 pushed x xs = if nat_lt (length xs) OUTBOX then xs ++ x ∷ [] else xs
 
--- the first packet leaves; none, if there is none
+-- takes the first packet, if there is one
 abbrev pub Pops : Option Packet → List Packet → List Packet → Type 0
 Pops None old new = (old ≡ []) × (new ≡ [])
 Pops (Some x) old new = old ≡ x ∷ new
 
--- there are no more, and all have room
+-- not more than the limit wait, and there is memory for that many
 pub record HasRoom (len capacity : ℕ) : Type 0 where
   pub few : len ≤ OUTBOX
   pub room : OUTBOX ≤ capacity

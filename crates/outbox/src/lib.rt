@@ -1,7 +1,7 @@
-//! Of a cluster: what waits to be sent by a node or the gateway.
+//! The outbox of a node or the gateway: packets that wait to be sent.
 //!
-//! An [`Outbox`] takes packets as long as there is room for them, and gives them in the order in
-//! which they came. One that finds no room is lost, as any packet may be.
+//! An [`Outbox`] takes packets while it has room, and gives them back in the order in which they
+//! came. A packet that finds no room is lost, as any packet may be.
 //!
 //! ```text
 //! let mut out = Outbox::new(alloc)?;

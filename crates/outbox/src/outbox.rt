@@ -9,11 +9,11 @@ use std::alloc::{AllocError, Global};
 use std::collections::VecDeque;
 use std::marker::Model;
 
-/// So many packets wait at most.
+/// This many packets wait at most.
 pub const OUTBOX: usize = 4096;
 
-/// Packets in the order in which they came. There is room for all of them from the beginning on, and
-/// one more than that is lost, as any packet may be.
+/// Packets in the order in which they came. The memory for all of them is taken at the start. A
+/// packet that finds no room is lost, as any packet may be.
 #[derive(Drop)]
 pub struct Outbox {
     packets: VecDeque<Packet>,
@@ -33,7 +33,7 @@ impl Model for Outbox {
 }
 
 impl Outbox {
-    /// An empty one.
+    /// An empty outbox.
     pub fn new(alloc: Global) -> Result<Outbox, AllocError>
         ensures { IfOk result (λ o. o ≡ []) }
     {
@@ -50,7 +50,7 @@ impl Outbox {
         self.packets.is_empty()
     }
 
-    /// A packet waits behind the others, where there is room.
+    /// Appends a packet, if there is room.
     pub fn push(&mut self, packet: Packet)
         ensures { self.new ≡ pushed packet self.old }
     {
@@ -59,28 +59,28 @@ impl Outbox {
         }
     }
 
-    /// The first packet leaves; none, if there is none.
+    /// Takes the first packet, if there is one.
     pub fn pop(&mut self) -> Option<Packet>
         ensures { Pops result self.old self.new }
     {
         self.packets.pop_front()
     }
 
-    /// The first packet; none, if there is none.
+    /// The first packet, if there is one.
     pub fn front(&self) -> Option<&Packet>
         ensures { MatchOption result (self.now ≡ []) (λ x. (rest : List Packet) × (self.now ≡ x.now ∷ rest)) }
     {
         self.packets.front()
     }
 
-    /// None waits any more.
+    /// Drops all packets.
     pub fn clear(&mut self)
         ensures { self.new ≡ [] }
     {
         self.packets.clear();
     }
 
-    /// How many wait.
+    /// How many packets wait.
     pub fn len(&self) -> usize
         ensures { result ≡ length self.now }
     {

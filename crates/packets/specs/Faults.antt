@@ -28,13 +28,13 @@ fault_number Range = 8
 abbrev pub fields_of : List ℕ → List ℕ
 fields_of bytes = slice_range bytes 8 (length bytes - 4)
 
--- the body has the kind of these bytes, and is spelled by their fields
+-- the body has the kind in these bytes, and their fields are its
 pub record Spells (b : Body) (bytes : List ℕ) : Type 0 where
   pub kind : kind_number (kind_of b) ≡ slice_index bytes 4
   pub room : HasRoom b
   pub fields : fields_of bytes ≡ body_bytes b
 
--- what each fault says of the bytes, whatever else is wrong with them
+-- what each fault says of the bytes, whatever other faults they have
 abbrev pub HasFault : PacketFault → List ℕ → Type 0
 HasFault Short bytes = length bytes < 12
 HasFault Magic bytes = take 4 bytes ≢ magic
@@ -55,7 +55,7 @@ abbrev pub IsReason : PacketError → List ℕ → Type 0
 IsReason Memory bytes = ⊤
 IsReason (Fault f) bytes = IsFirst f bytes
 
--- what was read is this packet, unless memory ran out
+-- this packet was read, unless memory ran out
 abbrev pub Reads : Result Packet PacketError → Packet → Type 0
 Reads (Ok q) p = q ≡ p
 Reads (Err Memory) p = ⊤

@@ -25,19 +25,19 @@ short_bytes n = little_bytes 2 n
 unfoldable pub long_bytes : ℕ → List ℕ
 long_bytes n = little_bytes 8 n
 
--- a payload behind its length
+-- a payload after its length
 abbrev pub payload_bytes : List ℕ → List ℕ
 payload_bytes payload = short_bytes (length payload) ++ payload
 
--- the number, the SSN and the payload
+-- the RSN, the SSN and the payload
 abbrev pub entry_bytes : Entry → List ℕ
 entry_bytes e = long_bytes e.number ++ (long_bytes e.ssn ++ payload_bytes e.payload)
 
--- the SSN and the number
+-- the SSN and the RSN
 abbrev pub pair_bytes : Pair → List ℕ
 pair_bytes p = long_bytes p.ssn ++ long_bytes p.number
 
--- how many there are, and each
+-- the number of items, and each
 abbrev pub page_bytes : {A : Type 0} → (A → List ℕ) → List A → List ℕ
 page_bytes spell xs = short_bytes (length xs) ++ flat_map spell xs
 
@@ -60,7 +60,7 @@ unsealed p = magic ++ (kind_number (kind_of p.body) ∷ p.count ∷ p.from ∷ p
 unfoldable pub checksum_bytes : List ℕ → List ℕ
 checksum_bytes bytes = little_bytes 4 (crc32c bytes)
 
--- some bytes, and their checksum behind them
+-- some bytes, and after them their checksum
 abbrev pub sealed : List ℕ → List ℕ
 sealed bytes = bytes ++ checksum_bytes bytes
 
@@ -68,9 +68,9 @@ sealed bytes = bytes ++ checksum_bytes bytes
 abbrev pub packet_bytes : Packet → List ℕ
 packet_bytes p = sealed (unsealed p)
 
--- ---- what can be spelled
+-- ---- what can be written
 
--- it has room in eight bytes
+-- it fits eight bytes
 abbrev pub IsLong : ℕ → Type 0
 IsLong n = n < 2 ^ 64
 
@@ -78,19 +78,19 @@ IsLong n = n < 2 ^ 64
 abbrev pub IsPayload : List ℕ → Type 0
 IsPayload payload = length payload ≤ PAYLOAD_BYTES
 
--- an entry's numbers and its payload have room
+-- an entry's numbers and its payload fit
 abbrev pub IsEntry : Entry → Type 0
 IsEntry e = IsLong e.number × (IsLong e.ssn × IsPayload e.payload)
 
--- a pair's numbers have room
+-- a pair's numbers fit
 abbrev pub IsPair : Pair → Type 0
 IsPair p = IsLong p.ssn × IsLong p.number
 
--- so many that their count has room, and each as P says
+-- the number of items fits, and P holds of each
 abbrev pub IsPage : {A : Type 0} → (A → Type 0) → List A → Type 0
 IsPage P xs = (length xs < 2 ^ 16) × AllByRecursion P xs
 
--- each field has room in its bytes, and no payload is too long
+-- each field fits its bytes, and no payload is too long
 abbrev pub HasRoom : Body → Type 0
 HasRoom (Delivery i ssn payload) = IsLong i × (IsLong ssn × IsPayload payload)
 HasRoom (Number i ssn k) = IsLong i × (IsLong ssn × IsLong k)
@@ -101,7 +101,7 @@ HasRoom (Resume i kept s) = IsLong i × (IsLong kept × IsLong s)
 HasRoom (Restored i j c s flags pairs) = IsLong i × (IsLong j × (IsLong c × (IsLong s × ((flags.bits < 256) × IsPage IsPair pairs))))
 HasRoom (Saved c) = IsLong c
 
--- what can be sent
+-- a packet that can be sent
 pub record Fits (p : Packet) : Type 0 where
   pub some : 1 ≤ p.count
   pub few : p.count ≤ PROCESSES

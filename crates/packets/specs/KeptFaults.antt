@@ -1,4 +1,4 @@
--- The faults of kept bytes, each by itself, and the first of them
+-- The faults of bytes of kept state, each by itself, and the first of them
 use Rattle.std.specs.Prelude.{◌≡◌, ◌≢◌, ℕ, ◌-◌, ◌<◌, ◌≤◌, List, length, take, drop, slice_index, true, ⊤, Result, Ok, Err}
 use Rattle.limits.specs.declared.TheConstants.{PROCESSES, STATE_BYTES}
 use Rattle.byteorder.specs.Endian.{little_number}
@@ -22,11 +22,11 @@ kept_fault_number State = 6
 kept_fault_number Fields = 7
 kept_fault_number Range = 8
 
--- the length of the state, as the head says it
+-- the length of the state, as the head gives it
 abbrev pub state_length : List ℕ → ℕ
 state_length bytes = little_number 2 (take 2 (drop 6 bytes))
 
--- head and fields are this one's
+-- the head and the fields are those of k
 pub record SpellsKept (k : Kept) (bytes : List ℕ) : Type 0 where
   pub me : k.me ≡ slice_index bytes 4
   pub count : k.count ≡ slice_index bytes 5
@@ -34,7 +34,7 @@ pub record SpellsKept (k : Kept) (bytes : List ℕ) : Type 0 where
   pub room : KeptHasRoom k
   pub fields : fields_of bytes ≡ kept_fields k
 
--- what each fault says of the bytes, whatever else is wrong with them
+-- what each fault says of the bytes, whatever other faults they have
 abbrev pub HasKeptFault : KeptFault → List ℕ → Type 0
 HasKeptFault Short bytes = length bytes < 20
 HasKeptFault Magic bytes = take 4 bytes ≢ kept_magic
@@ -55,12 +55,12 @@ abbrev pub IsKeptReason : KeptError → List ℕ → Type 0
 IsKeptReason Memory bytes = ⊤
 IsKeptReason (Fault f) bytes = IsFirstKept f bytes
 
--- what was read is this, unless memory ran out
+-- k was read, unless memory ran out
 abbrev pub ReadsKept : Result Kept KeptError → Kept → Type 0
 ReadsKept (Ok q) k = q ≡ k
 ReadsKept (Err Memory) k = ⊤
 ReadsKept (Err (Fault f)) k = ⊥
 
--- bytes are kept of one process in one state
+-- bytes are those of one kept state at most
 abbrev pub IsOneKept : Type 0
 IsOneKept = (k l : Kept) (bytes : List ℕ) → IsKept k bytes → IsKept l bytes → k ≡ l

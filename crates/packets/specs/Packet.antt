@@ -28,7 +28,7 @@ kind_at n =
     if n == 1 then Some kinds.Delivery else if n == 2 then Some kinds.Number else if n == 3 then Some kinds.Acknowledgement else if n == 4 then Some kinds.Ask
     else if n == 5 then Some kinds.Told else if n == 6 then Some kinds.Resume else if n == 7 then Some kinds.Restored else if n == 8 then Some kinds.Saved else None
 
--- what a body says, without the fields
+-- the kind of a body
 abbrev pub kind_of : Body → Kind
 kind_of (Delivery i ssn payload) = kinds.Delivery
 kind_of (Number i ssn k) = kinds.Number
@@ -53,7 +53,7 @@ is_lost f = f.bits / 2 % 2 == 1
 abbrev pub is_exact : Flags → Bool
 is_exact f = f.bits / 4 % 2 == 1
 
--- the flags that say so
+-- the flags that say this
 abbrev pub flags_of : Bool → Bool → Bool → Flags
 flags_of done lost exact = record { bits = (if done then 1 else 0) + (if lost then 2 else 0) + (if exact then 4 else 0) }
 
@@ -63,7 +63,7 @@ flags_of done lost exact = record { bits = (if done then 1 else 0) + (if lost th
 abbrev pub is_number : ℕ → Bool
 is_number n = nat_lt n (2 ^ 63)
 
--- a number of something: they count from 1
+-- a number that counts from 1
 abbrev pub is_positive : ℕ → Bool
 is_positive n = nat_lt 0 n && nat_lt n (2 ^ 63)
 
@@ -71,7 +71,7 @@ is_positive n = nat_lt 0 n && nat_lt n (2 ^ 63)
 abbrev pub ascends : {A : Type 0} → (A → A → Bool) → List A → Bool
 ascends before xs = list_all (λ p. before p.0 p.1) (zip xs (drop 1 xs))
 
--- by their numbers, and where these are the same by SSN
+-- by RSN, and by SSN if that is the same
 abbrev pub entry_before : Entry → Entry → Bool
 entry_before a b = nat_lt a.number b.number || (a.number == b.number && nat_lt a.ssn b.ssn)
 
@@ -79,29 +79,29 @@ entry_before a b = nat_lt a.number b.number || (a.number == b.number && nat_lt a
 abbrev pub pair_before : Pair → Pair → Bool
 pair_before a b = nat_lt a.ssn b.ssn
 
--- what a page above a number can have
+-- an entry that a page above an RSN can have
 abbrev pub is_entry_above : ℕ → Entry → Bool
 is_entry_above above e = is_positive e.number && is_positive e.ssn && nat_lt above e.number
 
--- what a page above an SSN can have
+-- a pair that a page above an SSN can have
 abbrev pub is_pair_above : ℕ → Pair → Bool
 is_pair_above above p = is_positive p.number && is_positive p.ssn && nat_lt above p.ssn
 
--- a page that isn't done has an entry
+-- a page that isn't the last has an entry
 abbrev pub goes_on : {A : Type 0} → Flags → List A → Bool
 goes_on flags xs = is_done flags || not (length xs == 0)
 
--- the flags and the entries of a page above a number
+-- the flags and the entries of a page above an RSN
 unfoldable pub entries_in_range : ℕ → Flags → List Entry → Bool
 entries_in_range above flags xs =
     nat_lt flags.bits 8 && goes_on flags xs && list_all (is_entry_above above) xs && ascends entry_before xs
 
--- the flags and the pairs of a page above an SSN, on which nobody is lost
+-- the flags and the pairs of a page above an SSN; its teller lost nothing
 unfoldable pub pairs_in_range : ℕ → Flags → List Pair → Bool
 pairs_in_range above flags xs =
     nat_lt flags.bits 8 && not (is_lost flags) && goes_on flags xs && list_all (is_pair_above above) xs && ascends pair_before xs
 
--- each field is in its range
+-- each field is in range
 abbrev pub in_range : Body → Bool
 in_range (Delivery i ssn payload) = is_positive i && is_positive ssn
 in_range (Number i ssn k) = is_positive i && is_positive ssn && is_positive k

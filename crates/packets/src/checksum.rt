@@ -15,7 +15,7 @@ pub fn crc32c(bytes: &[u8]) -> u32
     !behind_bytes(behind_words(u32::MAX, words), rest)
 }
 
-/// The remainder behind so many words more.
+/// The remainder after these words more.
 fn behind_words(before: u32, words: &[[u8; 8]]) -> u32
     ensures { result ≡ fold next_remainder before (flat_map (flat_map byte_bits) words.now) }
 {
@@ -26,7 +26,8 @@ fn behind_words(before: u32, words: &[[u8; 8]]) -> u32
     remainder
 }
 
-/// The remainder behind eight bytes more. Each is looked up by itself, so that none waits for the one before.
+/// The remainder after eight more bytes. Each byte is looked up on its own, so that no look-up
+/// waits for another.
 fn behind_word(remainder: u32, word: &[u8; 8]) -> u32
     ensures { result ≡ fold next_remainder remainder (flat_map byte_bits word.now) }
 {
@@ -44,7 +45,7 @@ fn behind_word(remainder: u32, word: &[u8; 8]) -> u32
         ^ left_by(word[7] as u32)
 }
 
-/// The remainder behind so many bytes more.
+/// The remainder after these bytes more.
 fn behind_bytes(before: u32, bytes: &[u8]) -> u32
     ensures { result ≡ fold next_remainder before (flat_map byte_bits bytes.now) }
 {
@@ -55,7 +56,7 @@ fn behind_bytes(before: u32, bytes: &[u8]) -> u32
     remainder
 }
 
-/// The remainder behind one byte more.
+/// The remainder after one more byte.
 fn behind(remainder: u32, byte: u8) -> u32
     ensures { result ≡ fold next_remainder remainder (byte_bits byte) }
 {
@@ -63,7 +64,7 @@ fn behind(remainder: u32, byte: u8) -> u32
     left_by(place) ^ (remainder >> 8)
 }
 
-/// The remainder that a byte leaves, behind eight zeros.
+/// The remainder that a byte leaves after eight zeros.
 fn left_by(byte: u32) -> u32
     requires { byte < 256 }
     ensures { result ≡ slice_index TABLE byte }
@@ -71,7 +72,7 @@ fn left_by(byte: u32) -> u32
     TABLE[byte as usize]
 }
 
-/// Behind sixteen zeros.
+/// After sixteen zeros.
 fn second_by(byte: u32) -> u32
     requires { byte < 256 }
     ensures { result ≡ slice_index SECOND byte }
@@ -79,7 +80,7 @@ fn second_by(byte: u32) -> u32
     SECOND[byte as usize]
 }
 
-/// Behind twenty-four zeros.
+/// After twenty-four zeros.
 fn third_by(byte: u32) -> u32
     requires { byte < 256 }
     ensures { result ≡ slice_index THIRD byte }
@@ -87,7 +88,7 @@ fn third_by(byte: u32) -> u32
     THIRD[byte as usize]
 }
 
-/// Behind thirty-two zeros.
+/// After thirty-two zeros.
 fn fourth_by(byte: u32) -> u32
     requires { byte < 256 }
     ensures { result ≡ slice_index FOURTH byte }
@@ -95,7 +96,7 @@ fn fourth_by(byte: u32) -> u32
     FOURTH[byte as usize]
 }
 
-/// Behind forty zeros.
+/// After forty zeros.
 fn fifth_by(byte: u32) -> u32
     requires { byte < 256 }
     ensures { result ≡ slice_index FIFTH byte }
@@ -103,7 +104,7 @@ fn fifth_by(byte: u32) -> u32
     FIFTH[byte as usize]
 }
 
-/// Behind forty-eight zeros.
+/// After forty-eight zeros.
 fn sixth_by(byte: u32) -> u32
     requires { byte < 256 }
     ensures { result ≡ slice_index SIXTH byte }
@@ -111,7 +112,7 @@ fn sixth_by(byte: u32) -> u32
     SIXTH[byte as usize]
 }
 
-/// Behind fifty-six zeros.
+/// After fifty-six zeros.
 fn seventh_by(byte: u32) -> u32
     requires { byte < 256 }
     ensures { result ≡ slice_index SEVENTH byte }
@@ -119,7 +120,7 @@ fn seventh_by(byte: u32) -> u32
     SEVENTH[byte as usize]
 }
 
-/// Behind sixty-four zeros.
+/// After sixty-four zeros.
 fn eighth_by(byte: u32) -> u32
     requires { byte < 256 }
     ensures { result ≡ slice_index EIGHTH byte }

@@ -1,4 +1,4 @@
-//! Why bytes are no packet.
+//! Why bytes are not a packet.
 
 ghost use Rattle.std.specs.Prelude.{◌≡◌};
 ghost use Rattle.packets.specs.declared.fault.PacketError.TheVariants.{Memory};
@@ -6,7 +6,7 @@ ghost use Rattle.packets.specs.declared.fault.PacketError.TheVariants.{Memory};
 use std::alloc::{AllocError, AllocFailed};
 use thiserror::Error;
 
-/// The first fault of bytes that are no packet, in the order of their numbers.
+/// The first fault of bytes that are not a packet, in the order of their numbers.
 #[derive(Clone, Copy, Debug, PartialEq, Eq, Error)]
 pub enum PacketFault {
     /// 1: fewer than 12 bytes.
@@ -18,19 +18,19 @@ pub enum PacketFault {
     /// 3: the last four bytes are not the checksum of the others.
     #[error("the checksum is wrong")]
     Checksum,
-    /// 4: there is no such kind.
+    /// 4: no packet has this kind.
     #[error("no kind of packet")]
     Kind,
-    /// 5: the number of processes is out of its range.
+    /// 5: the number of processes is out of range.
     #[error("the number of processes is out of range")]
     Count,
-    /// 6: it isn't from one node to another one.
+    /// 6: it isn't from one node to another.
     #[error("not from one node to another one")]
     Ends,
     /// 7: the fields are not those of the kind, or a payload is too long.
     #[error("the fields do not take just the bytes that are there")]
     Fields,
-    /// 8: a field is out of its range.
+    /// 8: a field is out of range.
     #[error("a field is out of range")]
     Range,
 }
@@ -56,13 +56,13 @@ impl PacketFault {
     }
 }
 
-/// Why a packet was not read.
+/// Why a packet could not be read.
 #[derive(Debug, Drop, PartialEq, Eq, Error)]
 pub enum PacketError {
     /// Memory ran out.
     #[error("out of memory")]
     Memory,
-    /// The bytes are no packet.
+    /// The bytes are not a packet.
     #[error("packet: {0}")]
     Fault(PacketFault),
 }

@@ -1,4 +1,4 @@
-//! The fields of a packet, from bytes.
+//! Reads the fields of a packet.
 
 ghost use Rattle.std.specs.Prelude.{◌≡◌, ◌≤◌, length, IfOk};
 ghost use Rattle.packets.specs.Inside.Reading.{Gives, bytes_at, byte_at, number_at, both, payload_at, entry_at, pair_at, times, page_at};
@@ -10,7 +10,7 @@ use helpers::Payload;
 use limits::PAYLOAD_BYTES;
 use std::alloc::Global;
 
-/// So many bytes, and those after them.
+/// The first `len` bytes, and the bytes after them.
 pub fn bytes_of(len: usize, bytes: &[u8]) -> Result<(&[u8], &[u8]), PacketError>
     ensures exact { Gives (λ x. (x.0.now, x.1.now)) result (bytes_at len bytes.now) }
     ensures len { IfOk result (λ x. length x.0.now ≡ len) }
@@ -88,7 +88,7 @@ pub fn three_of(bytes: &[u8]) -> Result<(u64, u64, u64, &[u8]), PacketError>
     Ok((a, b, c, &bytes[24..]))
 }
 
-/// A payload behind its length.
+/// A payload after its length.
 #[tactic(auto, unfolding(crate::specs::Inside::Reading::payload_at))]
 pub fn payload_of(bytes: &[u8]) -> Result<(&[u8], &[u8]), PacketError>
     ensures exact { Gives (λ x. (x.0.now, x.1.now)) result (payload_at bytes.now) }
@@ -130,7 +130,7 @@ pub fn entries_of(alloc: Global, bytes: &[u8]) -> Result<(Page<Entry>, &[u8]), P
     so_many_entries(alloc, count, rest)
 }
 
-/// So many entries.
+/// `count` entries, and the bytes after them.
 fn so_many_entries(
     alloc: Global,
     count: u16,
@@ -162,7 +162,7 @@ pub fn pairs_of(alloc: Global, bytes: &[u8]) -> Result<(Page<Pair>, &[u8]), Pack
     so_many_pairs(alloc, count, rest)
 }
 
-/// So many pairs.
+/// `count` pairs, and the bytes after them.
 fn so_many_pairs(
     alloc: Global,
     count: u16,

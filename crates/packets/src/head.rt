@@ -18,7 +18,7 @@ pub const HEAD_LEN: usize = 8;
 /// How many bytes the checksum has.
 pub const CHECKSUM_LEN: usize = 4;
 
-/// What stands before the fields.
+/// The fields of the head.
 #[derive(Clone, Copy)]
 pub struct Head {
     pub kind: Kind,
@@ -27,7 +27,7 @@ pub struct Head {
     pub to: u8,
 }
 
-/// The bytes of the fields, where magic and checksum are right.
+/// The bytes of the fields, if magic and checksum are right.
 #[tactic(auto, unfolding(crate::specs::Inside::Reading::fields_at))]
 pub fn fields_of(bytes: &[u8]) -> Result<&[u8], PacketError>
     ensures exact { Gives (λ x. x.now) result (fields_at bytes.now) }

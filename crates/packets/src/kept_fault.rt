@@ -1,4 +1,4 @@
-//! Why bytes are not what is kept of a process.
+//! Why bytes are not the kept state of a process.
 
 ghost use Rattle.std.specs.Prelude.{◌≡◌};
 ghost use Rattle.packets.specs.declared.kept_fault.KeptError.TheVariants.{Memory};
@@ -6,7 +6,8 @@ ghost use Rattle.packets.specs.declared.kept_fault.KeptError.TheVariants.{Memory
 use std::alloc::{AllocError, AllocFailed};
 use thiserror::Error;
 
-/// The first fault of bytes that are not what is kept of a process, in the order of their numbers.
+/// The first fault of bytes that are not the kept state of a process, in the order of their
+/// numbers.
 #[derive(Clone, Copy, Debug, PartialEq, Eq, Error)]
 pub enum KeptFault {
     /// 1: fewer than 20 bytes.
@@ -18,7 +19,7 @@ pub enum KeptFault {
     /// 3: the last four bytes are not the checksum of the others.
     #[error("the checksum is wrong")]
     Checksum,
-    /// 4: the number of processes is out of its range.
+    /// 4: the number of processes is out of range.
     #[error("the number of processes is out of range")]
     Count,
     /// 5: the process is none of these.
@@ -27,10 +28,10 @@ pub enum KeptFault {
     /// 6: the state is too long.
     #[error("the state is too long")]
     State,
-    /// 7: what follows ends early or too late, or a payload is too long.
+    /// 7: the fields end early or too late, or a payload is too long.
     #[error("the fields do not take just the bytes that are there")]
     Fields,
-    /// 8: a number is out of its range, or the counts are not those of all that was received.
+    /// 8: a number is out of range, or the counts don't add up to the messages received.
     #[error("a field is out of range")]
     Range,
 }
@@ -56,13 +57,13 @@ impl KeptFault {
     }
 }
 
-/// Why what is kept of a process was not read.
+/// Why the kept state of a process could not be read.
 #[derive(Debug, Drop, PartialEq, Eq, Error)]
 pub enum KeptError {
     /// Memory ran out.
     #[error("out of memory")]
     Memory,
-    /// The bytes are not what is kept of a process.
+    /// The bytes are not the kept state of a process.
     #[error("kept bytes: {0}")]
     Fault(KeptFault),
 }

@@ -1,6 +1,6 @@
 //! The kinds of packets.
 
-/// What a packet says, without its fields.
+/// The kind of a packet, without its fields.
 #[derive(Clone, Copy, Debug, PartialEq, Eq)]
 pub enum Kind {
     Delivery,
@@ -33,7 +33,7 @@ impl Kind {
         }
     }
 
-    /// The kind of this byte, if there is one.
+    /// The kind with this byte, if there is one.
     pub fn of(number: u8) -> Option<Kind>
         ensures { result ≡ kind_at number }
     {

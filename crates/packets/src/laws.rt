@@ -17,7 +17,7 @@ use crate::reading::decode;
 use crate::writing::encode;
 use std::alloc::Global;
 
-/// Bytes are one packet's, if they are one's.
+/// Bytes are those of one packet at most.
 pub fn one_packet()
     ensures { IsOnePacket }
 {}
@@ -31,7 +31,7 @@ pub fn there_and_back(alloc: Global, packet: &Packet) -> Result<Packet, PacketEr
     decode(alloc, &bytes)
 }
 
-/// What is read is written again as the same bytes, unless memory runs out.
+/// What is read is written as the same bytes, unless memory runs out.
 pub fn back_and_there(alloc: Global, bytes: &[u8]) -> Result<Vec<u8>, PacketError>
     ensures { IfOk result (λ v. v.items ≡ bytes.now) }
 {
@@ -39,12 +39,12 @@ pub fn back_and_there(alloc: Global, bytes: &[u8]) -> Result<Vec<u8>, PacketErro
     encode(alloc, &packet).map_err(PacketError::from)
 }
 
-/// Bytes are kept of one process in one state, if they are kept of one.
+/// Bytes are those of one kept state at most.
 pub fn one_kept()
     ensures { IsOneKept }
 {}
 
-/// What is written of a process is read back, unless memory runs out.
+/// Kept state that is written is read back, unless memory runs out.
 pub fn kept_again(alloc: Global, kept: &Kept) -> Result<Kept, KeptError>
     requires { KeptFits kept.now }
     ensures { ReadsKept result kept.now }
@@ -53,7 +53,7 @@ pub fn kept_again(alloc: Global, kept: &Kept) -> Result<Kept, KeptError>
     decode_kept(alloc, &bytes)
 }
 
-/// What is read of a process is written again as the same bytes, unless memory runs out.
+/// Kept state that is read is written as the same bytes, unless memory runs out.
 pub fn same_bytes_again(alloc: Global, bytes: &[u8]) -> Result<Vec<u8>, KeptError>
     ensures { IfOk result (λ v. v.items ≡ bytes.now) }
 {

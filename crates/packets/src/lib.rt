@@ -1,12 +1,13 @@
-//! What nodes tell each other and what they keep: eight packets, kept state and logs, and their bytes.
+//! The packets of nodes and the state that a node keeps in stable storage, as values and as bytes.
 //!
-//! A [`Packet`] is from one node of a cluster to another one: process 1 to `count`, or 0, the
-//! gateway. Its [`Body`] is one of eight. [`encode`] writes it as `SBP1`: magic, kind, ends, the
-//! fields, and a CRC-32C of all that. [`decode`] reads it.
+//! A [`Packet`] goes from one node of a cluster to another: a process, 1 to `count`, or the
+//! gateway, 0. Its [`Body`] is one of eight kinds. [`encode`] writes it as `SBP1`: magic, kind,
+//! number of processes, both ends, fields, and a CRC-32C of all that. [`decode`] reads it.
 //!
-//! The promise: `decode` reads bytes exactly where they are those of a packet whose fields are in
-//! their ranges, and of one only; any other bytes are refused by the first of eight faults that
-//! they have. So what `encode` wrote is read back, and what was read is written as the same bytes.
+//! `decode` accepts exactly the bytes of packets whose fields are in range, and bytes are those of
+//! one packet at most. It refuses any other bytes by the first of their faults, of which there are
+//! eight. So a packet that `encode` wrote is read back, and one that was read is written as the
+//! same bytes.
 //!
 //! ```
 //! let body = Body::Saved { covered: 3 };
@@ -15,11 +16,11 @@
 //! let again = decode(alloc, &bytes)?;
 //! ```
 //!
-//! What a process keeps durably is a [`Kept`]: its state, how many messages it received of each peer,
-//! and those that it sent and still keeps. [`encode_kept`] writes it as `SBN1`, [`decode_kept`] reads
-//! it, and the same holds of these bytes.
+//! A process keeps a [`Kept`] in stable storage: its state, how many messages it received from each
+//! peer, and those that it sent and still keeps. [`encode_kept`] writes it as `SBN1`,
+//! [`decode_kept`] reads it, and the same holds of these bytes.
 //!
-//! The fields, and the checksum behind them, are for crate `stores` too, which has bytes of this form.
+//! Crate `stores` uses the fields and the checksum too.
 #![tactic(auto)]
 
 mod checksum;

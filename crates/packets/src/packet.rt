@@ -8,10 +8,10 @@ use crate::kind::Kind;
 use crate::page::{Entry, Flags, Page, Pair};
 use helpers::Payload;
 
-/// Each number is below this.
+/// Each number is less than this.
 pub const NUMBER_LIMIT: u64 = 0x8000_0000_0000_0000;
 
-/// What one node tells another one. The processes are 1 to `count`, 0 is the gateway.
+/// A packet from one node to another. The processes are 1 to `count`, 0 is the gateway.
 #[derive(Drop)]
 pub struct Packet {
     pub count: u8,
@@ -20,33 +20,33 @@ pub struct Packet {
     pub body: Body,
 }
 
-/// What a packet says. An SSN numbers the messages of a sender to a receiver, a number those that
-/// a process received.
+/// What a packet says. An SSN numbers the messages of one sender to one receiver; a `number` is an
+/// RSN, which numbers all messages that a process received.
 #[derive(Drop)]
 pub enum Body {
-    /// A message of a sender in this incarnation.
+    /// A message, and the incarnation of its sender.
     Delivery {
         incarnation: u64,
         ssn: u64,
         payload: Payload,
     },
-    /// The message has this number at the receiver, which is in this incarnation.
+    /// The RSN that the receiver gave the message, and the receiver's incarnation.
     Number {
         incarnation: u64,
         ssn: u64,
         number: u64,
     },
-    /// This number is in the sender's log.
+    /// This RSN is recorded in the sender's log.
     Acknowledgement {
         incarnation: u64,
         number: u64,
     },
-    /// What does your log hold for me under numbers above this one?
+    /// What does your log hold for me under RSNs above this one?
     Ask {
         incarnation: u64,
         above: u64,
     },
-    /// What the log holds, by number and SSN: a page of it.
+    /// A page of the teller's log, by RSN and SSN.
     Told {
         incarnation: u64,
         teller: u64,
@@ -54,13 +54,13 @@ pub enum Body {
         flags: Flags,
         entries: Page<Entry>,
     },
-    /// I keep so many messages. Which of mine have you, behind this SSN?
+    /// I keep this many messages. Which of mine do you have after this SSN?
     Resume {
         incarnation: u64,
         kept: u64,
         above: u64,
     },
-    /// The first messages are covered for good, these are the next ones, by SSN: a page of them.
+    /// The first messages are covered for good; a page of the next ones that were received, by SSN.
     Restored {
         incarnation: u64,
         teller: u64,
@@ -69,14 +69,14 @@ pub enum Body {
         flags: Flags,
         pairs: Page<Pair>,
     },
-    /// So many of your messages are covered for good.
+    /// This many of your messages are covered for good.
     Saved {
         covered: u64,
     },
 }
 
 impl Body {
-    /// What it says, without the fields.
+    /// Its kind, without the fields.
     pub fn kind(&self) -> Kind
         ensures { result ≡ kind_of self.now }
     {
@@ -92,7 +92,7 @@ impl Body {
         }
     }
 
-    /// Whether each field is in its range.
+    /// Whether each field is in range.
     pub fn is_in_range(&self) -> bool
         ensures { result ≡ in_range self.now }
     {
@@ -145,35 +145,35 @@ impl Body {
     }
 }
 
-/// Whether it is a number.
+/// Whether it is below the limit.
 fn is_number(n: u64) -> bool
     ensures { result ≡ is_number n }
 {
     n < NUMBER_LIMIT
 }
 
-/// Whether it is a number that isn't zero.
+/// Whether it is below the limit and not zero.
 fn is_positive(n: u64) -> bool
     ensures { result ≡ is_positive n }
 {
     n > 0 && n < NUMBER_LIMIT
 }
 
-/// Whether both are numbers.
+/// Whether both are below the limit.
 fn are_numbers(a: u64, b: u64) -> bool
     ensures { result ≡ (is_number a && is_number b) }
 {
     is_number(a) && is_number(b)
 }
 
-/// Whether both are numbers that aren't zero.
+/// Whether both are below the limit and not zero.
 fn are_positive(a: u64, b: u64) -> bool
     ensures { result ≡ (is_positive a && is_positive b) }
 {
     is_positive(a) && is_positive(b)
 }
 
-/// Whether these are the flags and the entries of a page above this number.
+/// Whether these can be the flags and the entries of a page above this RSN.
 #[tactic(auto, unfolding(crate::specs::Packet::entries_in_range))]
 fn are_entries(above: u64, flags: Flags, entries: &[Entry]) -> bool
     ensures { result ≡ entries_in_range above flags entries.now }
@@ -184,7 +184,7 @@ fn are_entries(above: u64, flags: Flags, entries: &[Entry]) -> bool
         && entries_ascend(entries)
 }
 
-/// Whether each entry has numbers, and the number is above this one.
+/// Whether the numbers of each entry are in range, and its RSN is above this one.
 fn are_entries_above(above: u64, entries: &[Entry]) -> bool
     ensures { result ≡ list_all (is_entry_above above) entries.now }
 {
@@ -201,14 +201,14 @@ fn entries_ascend(entries: &[Entry]) -> bool
         .all(|(a, b)| is_before(a, b))
 }
 
-/// Whether an entry is before another one: by number, and where that is the same by SSN.
+/// Whether one entry is before another: by RSN, and by SSN if that is the same.
 fn is_before(a: &Entry, b: &Entry) -> bool
     ensures { result ≡ entry_before a.now b.now }
 {
     a.number < b.number || a.number == b.number && a.ssn < b.ssn
 }
 
-/// Whether these are the flags and the pairs of a page above this SSN.
+/// Whether these can be the flags and the pairs of a page above this SSN.
 #[tactic(auto, unfolding(crate::specs::Packet::pairs_in_range))]
 fn are_pairs(above: u64, flags: Flags, pairs: &[Pair]) -> bool
     ensures { result ≡ pairs_in_range above flags pairs.now }
@@ -220,7 +220,7 @@ fn are_pairs(above: u64, flags: Flags, pairs: &[Pair]) -> bool
         && pairs_ascend(pairs)
 }
 
-/// Whether each pair has numbers, and the SSN is above this one.
+/// Whether the numbers of each pair are in range, and its SSN is above this one.
 fn are_pairs_above(above: u64, pairs: &[Pair]) -> bool
     ensures { result ≡ list_all (is_pair_above above) pairs.now }
 {

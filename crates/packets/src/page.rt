@@ -1,10 +1,10 @@
-//! What a page tells of a log, and other lists.
+//! Pages of a log, and other lists.
 
 use helpers::Payload;
 use std::alloc::{AllocError, Global};
 use std::marker::Model;
 
-/// A message of a log: its number at the receiver, its SSN and what it says.
+/// A message of a log: its RSN, its SSN and its payload.
 #[derive(Clone, Copy, Debug, PartialEq, Eq)]
 pub struct Entry {
     pub number: u64,
@@ -12,14 +12,14 @@ pub struct Entry {
     pub payload: Payload,
 }
 
-/// A message that the receiver has: its SSN and its number there.
+/// A message that the receiver has: its SSN and its RSN.
 #[derive(Clone, Copy, Debug, PartialEq, Eq)]
 pub struct Pair {
     pub ssn: u64,
     pub number: u64,
 }
 
-/// Things in order: as many entries or pairs as fit a packet, or what is kept of a process.
+/// A list: entries or pairs that fit a packet, or a part of what a process keeps.
 #[derive(Drop)]
 pub struct Page<T> {
     items: Vec<T>,
@@ -45,7 +45,7 @@ impl<T> Page<T> {
         }
     }
 
-    /// What is on it.
+    /// Its items.
     pub fn as_slice(&self) -> &[T]
         ensures { result.now ≡ self.now }
     {
@@ -56,7 +56,7 @@ impl<T> Page<T> {
 impl<T: Drop> Page<T> {
     ghost use Rattle.std.specs.Prelude.{◌≡◌, ◌++◌, ◌∷◌, [], OnOk};
 
-    /// One more behind the others.
+    /// Appends an item.
     pub fn push(&mut self, item: T) -> Result<(), AllocError>
         ensures { OnOk result (self.new ≡ self.old ++ item ∷ []) }
     {
@@ -70,7 +70,7 @@ impl<T: Drop> Page<T> {
 impl Page<u8> {
     ghost use Rattle.std.specs.Prelude.{◌≡◌, IfOk};
 
-    /// The same bytes.
+    /// A page of the same bytes.
     pub fn copied(alloc: Global, bytes: &[u8]) -> Result<Page<u8>, AllocError>
         ensures { IfOk result (λ p. p ≡ bytes.now) }
     {
@@ -80,7 +80,7 @@ impl Page<u8> {
     }
 }
 
-/// What a page says of itself.
+/// The flags of a page.
 #[derive(Clone, Copy, Debug, PartialEq, Eq)]
 pub struct Flags {
     pub bits: u8,
@@ -90,7 +90,8 @@ impl Flags {
     ghost use Rattle.std.specs.Prelude.{◌≡◌};
     ghost use Rattle.packets.specs.Packet.{is_done, is_lost, is_exact, flags_of};
 
-    /// All was told, what tells is coming back itself, failures came one at a time as far as it knows.
+    /// Flags: the page is the last, the teller is recovering itself, failures came one at a time as
+    /// far as the teller knows.
     pub fn new(done: bool, lost: bool, exact: bool) -> Flags
         ensures { result ≡ flags_of done lost exact }
     {
@@ -107,21 +108,21 @@ impl Flags {
         Flags { bits }
     }
 
-    /// Whether all was told.
+    /// Whether the page is the last one.
     pub fn done(self) -> bool
         ensures { result ≡ is_done self }
     {
         self.bits % 2 == 1
     }
 
-    /// Whether what tells is coming back itself.
+    /// Whether the teller is recovering itself.
     pub fn lost(self) -> bool
         ensures { result ≡ is_lost self }
     {
         self.bits / 2 % 2 == 1
     }
 
-    /// Whether failures came one at a time, as far as what tells knows.
+    /// Whether failures came one at a time, as far as the teller knows.
     pub fn exact(self) -> bool
         ensures { result ≡ is_exact self }
     {

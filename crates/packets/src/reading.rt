@@ -1,4 +1,4 @@
-//! Bytes to a packet.
+//! Reads a packet.
 
 ghost use Rattle.std.specs.Prelude.{IfOk, IfErr};
 ghost use Rattle.packets.specs.declared.packet.Packet.{Packet};
@@ -17,19 +17,19 @@ use byteorder::{ByteOrder, LittleEndian};
 use helpers::Payload;
 use std::alloc::Global;
 
-/// The packet of these bytes. The first fault is named by its number.
+/// The packet in these bytes. A refusal names the first fault by its number.
 pub fn decode(alloc: Global, bytes: &[u8]) -> Result<Packet, PacketError>
-    // What is read is written so.
+    // `encode` writes what is read as these bytes.
     ensures found { IfOk result (λ p. IsPacket p bytes.now) }
-    // What is written so is read, unless memory runs out.
+    // Whatever `encode` writes is read, unless memory runs out.
     ensures only { (p : Packet) → IsPacket p bytes.now → Reads result p }
-    // Each refusal names a fault of the bytes, and none before it is one of theirs.
+    // A refusal names a fault of the bytes, and no lesser fault is theirs.
     ensures refused { IfErr result (λ e. IsReason e bytes.now) }
 {
     packet_of(alloc, bytes)
 }
 
-/// The packet of these bytes, by its parts.
+/// The packet in these bytes, read field by field.
 #[tactic(auto, unfolding(crate::specs::Inside::Reading::reading))]
 fn packet_of(alloc: Global, bytes: &[u8]) -> Result<Packet, PacketError>
     ensures { Gives (λ x. x) result (reading bytes.now) }
@@ -49,7 +49,7 @@ fn packet_of(alloc: Global, bytes: &[u8]) -> Result<Packet, PacketError>
     Ok(packet)
 }
 
-/// Reads the fields of a kind into a body: it is written where it stays, since the longest is 280 bytes.
+/// Reads the fields of a kind into a body, in place, since a body can take 280 bytes.
 fn read_body(alloc: Global, kind: Kind, bytes: &[u8], body: &mut Body) -> Result<(), PacketError>
     ensures { Gives (λ _. body.new) result (body_at kind bytes.now) }
 {
@@ -65,7 +65,7 @@ fn read_body(alloc: Global, kind: Kind, bytes: &[u8], body: &mut Body) -> Result
     }
 }
 
-/// Two numbers of eight bytes, and nothing behind them.
+/// Two numbers of eight bytes, with nothing after them.
 fn two_alone(bytes: &[u8]) -> Result<(u64, u64), PacketError>
     ensures { Gives (λ x. x) result (whole (both (number_at 8) (number_at 8)) bytes.now) }
 {
@@ -77,7 +77,7 @@ fn two_alone(bytes: &[u8]) -> Result<(u64, u64), PacketError>
     Ok((a, b))
 }
 
-/// Three numbers of eight bytes, and nothing behind them.
+/// Three numbers of eight bytes, with nothing after them.
 fn three_alone(bytes: &[u8]) -> Result<(u64, u64, u64), PacketError>
     ensures { Gives (λ x. (x.0, (x.1, x.2))) result (whole (both (number_at 8) (both (number_at 8) (number_at 8))) bytes.now) }
 {
@@ -90,7 +90,7 @@ fn three_alone(bytes: &[u8]) -> Result<(u64, u64, u64), PacketError>
     Ok((a, b, c))
 }
 
-/// Flags and a page of entries, and nothing behind them.
+/// Flags and a page of entries, with nothing after them.
 fn entries_alone(alloc: Global, bytes: &[u8]) -> Result<(u8, Page<Entry>), PacketError>
     ensures { Gives (λ x. x) result (whole (both byte_at (page_at entry_at)) bytes.now) }
 {
@@ -102,7 +102,7 @@ fn entries_alone(alloc: Global, bytes: &[u8]) -> Result<(u8, Page<Entry>), Packe
     Ok((bits, entries))
 }
 
-/// Flags and a page of pairs, and nothing behind them.
+/// Flags and a page of pairs, with nothing after them.
 fn pairs_alone(alloc: Global, bytes: &[u8]) -> Result<(u8, Page<Pair>), PacketError>
     ensures { Gives (λ x. x) result (whole (both byte_at (page_at pair_at)) bytes.now) }
 {

@@ -1,6 +1,6 @@
-//! What each byte leaves of a remainder.
+//! The remainder that each byte leaves.
 
-/// The remainder that each byte leaves, behind eight zeros.
+/// The remainder that each byte leaves, after eight zeros.
 pub(crate) const TABLE: [u32; 256] = [
     0x00000000, 0xf26b8303, 0xe13b70f7, 0x1350f3f4, 0xc79a971f, 0x35f1141c, 0x26a1e7e8, 0xd4ca64eb,
     0x8ad958cf, 0x78b2dbcc, 0x6be22838, 0x9989ab3b, 0x4d43cfd0, 0xbf284cd3, 0xac78bf27, 0x5e133c24,
@@ -36,7 +36,7 @@ pub(crate) const TABLE: [u32; 256] = [
     0x79b737ba, 0x8bdcb4b9, 0x988c474d, 0x6ae7c44e, 0xbe2da0a5, 0x4c4623a6, 0x5f16d052, 0xad7d5351,
 ];
 
-/// Behind sixteen zeros.
+/// After sixteen zeros.
 pub(crate) const SECOND: [u32; 256] = [
     0x00000000, 0x13a29877, 0x274530ee, 0x34e7a899, 0x4e8a61dc, 0x5d28f9ab, 0x69cf5132, 0x7a6dc945,
     0x9d14c3b8, 0x8eb65bcf, 0xba51f356, 0xa9f36b21, 0xd39ea264, 0xc03c3a13, 0xf4db928a, 0xe7790afd,
@@ -72,7 +72,7 @@ pub(crate) const SECOND: [u32; 256] = [
     0xd98eedc6, 0xca2c75b1, 0xfecbdd28, 0xed69455f, 0x97048c1a, 0x84a6146d, 0xb041bcf4, 0xa3e32483,
 ];
 
-/// Behind twenty-four zeros.
+/// After twenty-four zeros.
 pub(crate) const THIRD: [u32; 256] = [
     0x00000000, 0xa541927e, 0x4f6f520d, 0xea2ec073, 0x9edea41a, 0x3b9f3664, 0xd1b1f617, 0x74f06469,
     0x38513ec5, 0x9d10acbb, 0x773e6cc8, 0xd27ffeb6, 0xa68f9adf, 0x03ce08a1, 0xe9e0c8d2, 0x4ca15aac,
@@ -108,7 +108,7 @@ pub(crate) const THIRD: [u32; 256] = [
     0xe5f54fc1, 0x40b4ddbf, 0xaa9a1dcc, 0x0fdb8fb2, 0x7b2bebdb, 0xde6a79a5, 0x3444b9d6, 0x91052ba8,
 ];
 
-/// Behind thirty-two zeros.
+/// After thirty-two zeros.
 pub(crate) const FOURTH: [u32; 256] = [
     0x00000000, 0xdd45aab8, 0xbf672381, 0x62228939, 0x7b2231f3, 0xa6679b4b, 0xc4451272, 0x1900b8ca,
     0xf64463e6, 0x2b01c95e, 0x49234067, 0x9466eadf, 0x8d665215, 0x5023f8ad, 0x32017194, 0xef44db2c,
@@ -144,7 +144,7 @@ pub(crate) const FOURTH: [u32; 256] = [
     0x31035088, 0xec46fa30, 0x8e647309, 0x5321d9b1, 0x4a21617b, 0x9764cbc3, 0xf54642fa, 0x2803e842,
 ];
 
-/// Behind forty zeros.
+/// After forty zeros.
 pub(crate) const FIFTH: [u32; 256] = [
     0x00000000, 0x38116fac, 0x7022df58, 0x4833b0f4, 0xe045beb0, 0xd854d11c, 0x906761e8, 0xa8760e44,
     0xc5670b91, 0xfd76643d, 0xb545d4c9, 0x8d54bb65, 0x2522b521, 0x1d33da8d, 0x55006a79, 0x6d1105d5,
@@ -180,7 +180,7 @@ pub(crate) const FIFTH: [u32; 256] = [
     0x081e60e7, 0x300f0f4b, 0x783cbfbf, 0x402dd013, 0xe85bde57, 0xd04ab1fb, 0x9879010f, 0xa0686ea3,
 ];
 
-/// Behind forty-eight zeros.
+/// After forty-eight zeros.
 pub(crate) const SIXTH: [u32; 256] = [
     0x00000000, 0xef306b19, 0xdb8ca0c3, 0x34bccbda, 0xb2f53777, 0x5dc55c6e, 0x697997b4, 0x8649fcad,
     0x6006181f, 0x8f367306, 0xbb8ab8dc, 0x54bad3c5, 0xd2f32f68, 0x3dc34471, 0x097f8fab, 0xe64fe4b2,
@@ -216,7 +216,7 @@ pub(crate) const SIXTH: [u32; 256] = [
     0x37f2d291, 0xd8c2b988, 0xec7e7252, 0x034e194b, 0x8507e5e6, 0x6a378eff, 0x5e8b4525, 0xb1bb2e3c,
 ];
 
-/// Behind fifty-six zeros.
+/// After fifty-six zeros.
 pub(crate) const SEVENTH: [u32; 256] = [
     0x00000000, 0x68032cc8, 0xd0065990, 0xb8057558, 0xa5e0c5d1, 0xcde3e919, 0x75e69c41, 0x1de5b089,
     0x4e2dfd53, 0x262ed19b, 0x9e2ba4c3, 0xf628880b, 0xebcd3882, 0x83ce144a, 0x3bcb6112, 0x53c84dda,
@@ -252,7 +252,7 @@ pub(crate) const SEVENTH: [u32; 256] = [
     0x60f48dc6, 0x08f7a10e, 0xb0f2d456, 0xd8f1f89e, 0xc5144817, 0xad1764df, 0x15121187, 0x7d113d4f,
 ];
 
-/// Behind sixty-four zeros.
+/// After sixty-four zeros.
 pub(crate) const EIGHTH: [u32; 256] = [
     0x00000000, 0x493c7d27, 0x9278fa4e, 0xdb448769, 0x211d826d, 0x6821ff4a, 0xb3657823, 0xfa590504,
     0x423b04da, 0x0b0779fd, 0xd043fe94, 0x997f83b3, 0x632686b7, 0x2a1afb90, 0xf15e7cf9, 0xb86201de,

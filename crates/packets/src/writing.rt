@@ -1,4 +1,4 @@
-//! A packet to bytes.
+//! Writes a packet.
 
 ghost use Rattle.std.specs.Prelude.{◌≡◌, ◌++◌, ◌∷◌, [], ◌<◌, ◌≤◌, ◌^◌, length, IfOk, OnOk};
 ghost use Rattle.std.specs.List.{flat_map, AllByRecursion};
@@ -12,7 +12,7 @@ use byteorder::{ByteOrder, LittleEndian};
 use limits::PAYLOAD_BYTES;
 use std::alloc::{AllocError, Global};
 
-/// What is asked for at once: as many bytes as the longest packet without a page has, a Delivery.
+/// The bytes reserved first: those of the longest packet without a page, a Delivery.
 const WITHOUT_A_PAGE: usize = 286;
 
 /// The bytes of a packet.
@@ -25,7 +25,7 @@ pub fn encode(alloc: Global, packet: &Packet) -> Result<Vec<u8>, AllocError>
     Ok(out)
 }
 
-/// Appends what comes before the checksum, and the checksum of all that is there then.
+/// Appends the head and the fields, and then their checksum.
 fn put_packet(out: &mut Vec<u8>, packet: &Packet) -> Result<(), AllocError>
     requires { HasRoom packet.now.body }
     ensures { OnOk result (out.new.items ≡ sealed (out.old.items ++ unsealed packet.now)) }
@@ -187,7 +187,7 @@ pub fn put_u16(out: &mut Vec<u8>, n: u16) -> Result<(), AllocError>
     out.extend_from_slice(&bytes)
 }
 
-/// Appends the checksum of what is there.
+/// Appends the checksum of what was appended.
 #[tactic(auto, unfolding(crate::specs::Format::checksum_bytes))]
 pub fn put_checksum(out: &mut Vec<u8>) -> Result<(), AllocError>
     ensures { OnOk result (out.new.items ≡ sealed out.old.items) }
@@ -207,7 +207,7 @@ pub fn put_u64(out: &mut Vec<u8>, n: u64) -> Result<(), AllocError>
     out.extend_from_slice(&bytes)
 }
 
-/// Appends a payload behind its length.
+/// Appends a payload after its length.
 pub fn put_payload(out: &mut Vec<u8>, payload: &[u8]) -> Result<(), AllocError>
     requires { length payload.now ≤ PAYLOAD_BYTES }
     ensures { OnOk result (out.new.items ≡ out.old.items ++ payload_bytes payload.now) }
@@ -216,14 +216,14 @@ pub fn put_payload(out: &mut Vec<u8>, payload: &[u8]) -> Result<(), AllocError>
     out.extend_from_slice(payload)
 }
 
-/// Appends the number, the SSN and the payload of an entry.
+/// Appends the RSN, the SSN and the payload of an entry.
 fn put_entry(out: &mut Vec<u8>, entry: &Entry) -> Result<(), AllocError>
     ensures { OnOk result (out.new.items ≡ out.old.items ++ entry_bytes entry.now) }
 {
     put_message(out, entry.number, entry.ssn, entry.payload.as_slice())
 }
 
-/// Appends how many entries there are, and each.
+/// Appends the number of entries, and each.
 fn put_entries(out: &mut Vec<u8>, entries: &[Entry]) -> Result<(), AllocError>
     requires { length entries.now < 2 ^ 16 }
     ensures { OnOk result (out.new.items ≡ out.old.items ++ page_bytes entry_bytes entries.now) }
@@ -235,14 +235,14 @@ fn put_entries(out: &mut Vec<u8>, entries: &[Entry]) -> Result<(), AllocError>
     Ok(())
 }
 
-/// Appends the SSN and the number of a pair.
+/// Appends the SSN and the RSN of a pair.
 fn put_pair(out: &mut Vec<u8>, pair: &Pair) -> Result<(), AllocError>
     ensures { OnOk result (out.new.items ≡ out.old.items ++ pair_bytes pair.now) }
 {
     put_two(out, pair.ssn, pair.number)
 }
 
-/// Appends how many pairs there are, and each.
+/// Appends the number of pairs, and each.
 fn put_pairs(out: &mut Vec<u8>, pairs: &[Pair]) -> Result<(), AllocError>
     requires { length pairs.now < 2 ^ 16 }
     ensures { OnOk result (out.new.items ≡ out.old.items ++ page_bytes pair_bytes pairs.now) }

@@ -1,7 +1,7 @@
 -- What a call gives, and what it is answered.
 use Rattle.std.specs.Prelude.{◌≡◌, ◌≢◌, ◌⊎◌, ℕ, ◌<◌, ◌≤◌, Bool, false, List, [], ◌++◌, length, drop, Option, None, Some, string_bytes}
 use Rattle.std.specs.Str.{bytes_eq, IsUtf8}
-use Rattle.tracer.specs.Hints.{has_hints}
+use Rattle.image_commands.specs.Hints.{has_hints}
 use Rattle.tracer.specs.Program.{IsDone, IsTold}
 use Rattle.page_calls.specs.declared.answer.Answer.{Answer}
 use Rattle.page_calls.specs.declared.misfit.Misfit.{Misfit}

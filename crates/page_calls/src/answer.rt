@@ -1,4 +1,4 @@
-//! What a command line came to.
+//! The answer to a command line.
 
 ghost use Rattle.std.specs.Prelude.{◌≡◌, IfErr, IfOk};
 ghost use Rattle.page_calls.specs.Calls.{written_bytes, whole_of};
@@ -8,7 +8,7 @@ use crate::misfit::Misfit;
 use crate::shelf::Written;
 use std::alloc::Global;
 
-/// What a command line came to.
+/// The status, what went to the two streams, and the file that was written.
 #[derive(Drop)]
 pub struct Answer {
     pub status: u8,
@@ -19,7 +19,7 @@ pub struct Answer {
 }
 
 impl Answer {
-    /// The bytes of the file that was written, none if none was.
+    /// The bytes of the file that was written, or none.
     pub fn file(&self) -> &[u8]
         ensures { result.now ≡ written_bytes self.now.written }
     {
@@ -29,7 +29,7 @@ impl Answer {
         }
     }
 
-    /// What was printed, what was told and the file, one behind the other.
+    /// What was printed, what was told and the file, one after the other.
     pub fn whole(&self, alloc: Global) -> Result<Vec<u8>, Misfit>
         ensures whole { IfOk result (λ v. v.items ≡ whole_of self.now) }
         ensures fault { IfErr result (λ e. e ≡ Memory) }

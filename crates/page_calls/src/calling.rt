@@ -10,7 +10,7 @@ use std::alloc::Global;
 use std::marker::{Brand, PhantomData};
 use tracer::sblog_alone;
 
-// Carries out a command line over files that are those of `S`.
+/// Carries out a command line over the files of `S`.
 fn carry_out_in<S: Stock>(
     alloc: Global,
     words: Vec<String>,

@@ -9,7 +9,7 @@ use std::alloc::AllocError;
 /// Why a call is not answered.
 #[derive(Clone, Copy, Debug, PartialEq, Eq)]
 pub enum Misfit {
-    /// Bytes don't fit their lengths, words or names are no text, or there are not as many files as names.
+    /// Bytes don't fit their lengths, words or names are no text, or there are more files than names or fewer.
     Shape,
     Memory,
     /// The buffer is too short for the answer.
@@ -17,7 +17,7 @@ pub enum Misfit {
 }
 
 impl Misfit {
-    /// Its code, above those that are the program's status.
+    /// Its code, above the program's statuses.
     pub fn number(self) -> u32
         ensures { result ≡ code_of self }
     {

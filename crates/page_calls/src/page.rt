@@ -50,8 +50,7 @@ fn answer(
     Ok(carry_out(alloc, all_words, all_names, all_files))
 }
 
-/// Writes an answer in front of a buffer, and how long its parts are. A buffer that is too short is left
-/// as it was.
+/// Writes an answer to the front of a buffer, and the lengths of its parts. A buffer that is too short stays as it was.
 fn put(alloc: Global, answer: &Answer, out: &mut [u8], sizes: &mut Sizes) -> Result<(), Misfit>
     ensures { MatchResult result (λ _. IsPut answer.now out.old out.new sizes.new) (IsNotPut answer.now out.old out.new sizes.old sizes.new) }
 {
@@ -66,10 +65,10 @@ fn put(alloc: Global, answer: &Answer, out: &mut [u8], sizes: &mut Sizes) -> Res
     Ok(())
 }
 
-/// Carries out a command line, given without the program's own name, over files in memory. Words,
-/// names and files stand one behind the other, each as long as its length says. Answers the status of
-/// the program, and writes what went to standard output, to standard error and into a file, one
-/// behind the other. Without room for it (18), `sizes` says how much is wanted.
+/// Carries out a command line, without the program's own name, over files in memory. Words, names and
+/// files come one after the other, each as long as its length says. Answers the status of the program,
+/// and writes what went to standard output, to standard error and into a file, one after the other. If
+/// there is no room (18), `sizes` says how much is needed.
 pub fn answer_call(
     alloc: Global,
     words: &[u8],

@@ -1,4 +1,4 @@
-//! Parts that stand one behind the other, each as long as its length says.
+//! Parts that come one after the other, each as long as its length says.
 
 ghost use Rattle.std.specs.Prelude.{◌≡◌, ◌≢◌, ◌++◌, IfErr, OnOk, length, map, string_bytes};
 ghost use Rattle.std.specs.Str.{IsUtf8};

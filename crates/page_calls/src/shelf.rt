@@ -2,8 +2,8 @@
 
 ghost use Rattle.std.specs.Prelude.{◌≡◌, IfErr, IfOk, map, option_map, string_bytes};
 ghost use Rattle.std.specs.Str.{bytes_eq};
-ghost use Rattle.tracer.specs.Files.{up_to};
-ghost use Rattle.tracer.specs.declared.files.Failure.TheVariants.{Memory};
+ghost use Rattle.image_commands.specs.Files.{up_to};
+ghost use Rattle.image_commands.specs.declared.files.Failure.TheVariants.{Memory};
 ghost use Rattle.page_calls.specs.Shelf.{content_of, content_with};
 
 use std::alloc::Global;
@@ -34,8 +34,8 @@ pub struct Written {
     pub bytes: Vec<u8>,
 }
 
-/// Files in memory by their names, of which the first with a name counts, and in front of them the one that was
-/// written. They stay those that the call gave.
+/// Files in memory by their names, of which the first with a name counts, and before them the one that was written. The call's
+/// files never change.
 #[derive(Drop)]
 pub struct Shelf<S: Stock> {
     pub alloc: Global,
@@ -63,7 +63,7 @@ fn find<'a>(names: &[String], files: &'a [Vec<u8>], path: &str) -> Option<&'a Ve
     find(names, files, path)
 }
 
-/// As many of the bytes as may be read.
+/// The bytes, at most as many as the limit.
 fn some_of(alloc: Global, bytes: &[u8], limit: Option<usize>) -> Result<Vec<u8>, Failure>
     ensures some { IfOk result (λ v. v.items ≡ up_to limit bytes.now) }
     ensures fault { IfErr result (λ e. e ≡ Memory) }
@@ -107,7 +107,7 @@ impl<S: Stock> Files for Shelf<S> {
         some_of(alloc, bytes.as_slice(), limit)
     }
 
-    /// No more than one file is written.
+    /// Writes a file, but no second one.
     fn write(&mut self, path: &str, bytes: &[u8]) -> Result<(), Failure> {
         if self.written.is_some() {
             self.failed = true;

@@ -1,4 +1,4 @@
--- What a packet says
+-- The meaning of packets
 use Rattle.std.specs.Prelude.{◌≡◌, ℕ, ◌<◌, List, [], ◌∷◌, map, Option, Some, None, true, false, ◌==◌, if◌then◌else◌}
 use Rattle.world.specs.declared.message.Message.{Message}
 use Rattle.cluster.specs.Parcels.{Body, Delivery, Number, Acknowledgement, Ask, Told, Resume, Restored, Saved, Parcel, parcel, In, reaches}
@@ -10,7 +10,7 @@ use Rattle.packets.specs.declared.page.Flags.{Flags}
 use Rattle.packets.specs.declared.packet.Body as bodies
 use Rattle.packets.specs.declared.packet.Body.TheVariants as packets
 
--- what a packet says that is no page
+-- the meaning of a packet without a page
 abbrev pub body_of : bodies.Body → Option Body
 body_of (packets.Delivery i ssn x) = Some (Delivery i ssn x)
 body_of (packets.Number i ssn k) = Some (Number i ssn k)
@@ -21,7 +21,7 @@ body_of (packets.Resume i k s) = Some (Resume i k s)
 body_of (packets.Restored i j n s flags pairs) = None
 body_of (packets.Saved n) = Some (Saved n)
 
--- the last of some numbers, behind k
+-- the last of some numbers, or k if there is none
 abbrev pub last_behind : ℕ → List ℕ → ℕ
 last_behind k [] = k
 last_behind k (x ∷ xs) = last_behind x xs
@@ -30,24 +30,24 @@ last_behind k (x ∷ xs) = last_behind x xs
 abbrev pub page_end : Flags → ℕ → List ℕ → Option ℕ
 page_end flags k keys = if is_done flags then None else Some (last_behind k keys)
 
--- the message that a page of p's has under the number m, the first of them
+-- the first message of p that a page has with the RSN m
 abbrev pub first_told : ℕ → List Entry → ℕ → Option Message
 first_told p [] m = None
 first_told p (e ∷ es) m = if e.number == m then Some (message p e.ssn e.payload) else first_told p es m
 
--- the number that a page has for an SSN
+-- the RSN that a page has for an SSN
 abbrev pub first_number : List Pair → ℕ → Option ℕ
 first_number [] ssn = None
 first_number (x ∷ xs) ssn = if x.ssn == ssn then Some x.number else first_number xs ssn
 
--- up to where it goes
+-- how far the page goes
 abbrev pub told_end : Flags → ℕ → List Entry → Option ℕ
 told_end flags k entries = page_end flags k (map (λ (e : Entry). e.number) entries)
 
 abbrev pub restored_end : Flags → ℕ → List Pair → Option ℕ
 restored_end flags s pairs = page_end flags s (map (λ (x : Pair). x.ssn) pairs)
 
--- a packet of p says this. A page says it of its numbers, so far as it goes: it has no more of them, and none of what is covered for good
+-- a packet of p says this. A page says every answer that agrees with it in the numbers that it reaches and that are not covered for good
 abbrev pub Says : ℕ → bodies.Body → Body → Type 0
 Says p (packets.Told i j k flags entries) b =
     (f : ℕ → Option Message) × (b ≡ Told i j k (told_end flags k entries) f) × (is_lost flags ≡ false)
@@ -57,6 +57,6 @@ Says p (packets.Restored i j n s flags pairs) b =
     × ((ssn : ℕ) → s < ssn → n < ssn → reaches (restored_end flags s pairs) ssn ≡ true → f ssn ≡ first_number pairs ssn)
 Says p body b = body_of body ≡ Some b
 
--- a packet from p to d with this body says what was put out, where these parcels were
+-- a packet from p to d with this body says one of these parcels
 abbrev pub WasSaid : List Parcel → ℕ → ℕ → bodies.Body → Type 0
 WasSaid parcels p d body = (b : Body) × Says p body b × In (parcel p d b) parcels

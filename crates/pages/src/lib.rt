@@ -1,9 +1,10 @@
-//! The pages that a node or the gateway tells to a node that comes back, and what a packet says.
+//! The pages of a log that a node or the gateway tells to a recovering node, and the meaning of
+//! packets.
 //!
-//! What a log holds under numbers above one is told in the order of these numbers, and where they are
-//! the same by SSN: [`insert`] puts an entry where it belongs, and [`page_of`] takes as many of the
-//! first ones as fit a packet. `specs/Says` has what a packet says in the words of crate `cluster`: a
-//! page says each answer that agrees with it as far as it goes.
+//! A log's entries above an RSN are told in the order of their RSNs, and of their SSNs if these are
+//! the same. [`insert`] puts an entry in its place, and [`page_of`] takes as many of the first
+//! entries as fit a packet. `specs/Says` gives the meaning of a packet in the words of crate
+//! `cluster`: a page says every answer that agrees with it as far as the page goes.
 #![tactic(auto)]
 
 mod page;

@@ -1,4 +1,4 @@
--- How much a process holds in memory at most, in any stage, however long it runs
+-- How much memory a process needs at most, in any stage, however long it runs
 use Rattle.std.specs.Prelude.{◌≡◌, ℕ, suc, ◌+◌, ◌*◌, ◌<◌, ◌≤◌, List, [], ◌∷◌, length, is_some, Bool, true, false}
 use Rattle.rsn.specs.Receipts.{Received}
 use Rattle.rsn.specs.declared.receipts.TheConstants.{LIMIT}
@@ -18,7 +18,7 @@ use Rattle.process.specs.Packets.{Writes}
 
 -- ---- what a host reads
 
--- its messages behind its checkpoint, with those that it still has to replay; the messages that its logs keep; the packets that wait
+-- its messages since its checkpoint, with those that it has still to replay; the messages in its logs; the packets that wait
 pub record IsBounded (s : Standing) : Type 0 where
   pub receipts : s.receipts + s.replays ≤ LIMIT
   pub entries : s.entries ≤ MOST_STORED + MOST_GIVEN * s.receipts
@@ -31,16 +31,16 @@ unacknowledged [] = 0
 unacknowledged (true ∷ flags) = unacknowledged flags
 unacknowledged (false ∷ flags) = suc (unacknowledged flags)
 
--- of its numbers behind its checkpoint. One that collects has none, and one that replays waits for none
+-- how many of its RSNs since its checkpoint aren't. A process that collects has none, and one that replays waits for none
 abbrev pub waiting_of : Course → ℕ
 waiting_of (Up n) = unacknowledged n.receipts.acknowledged
 waiting_of (Replayed n) = unacknowledged n.receipts.acknowledged
 waiting_of (Restoring n) = unacknowledged n.receipts.acknowledged
 waiting_of other = 0
 
--- ---- what it keeps by its type
+-- ---- limits that its type keeps
 
--- a node that is up: its receipts, of which its job takes one more; its numbers that wait, and how it counts them; and its packets
+-- of a node that is up: its receipts, with one more for its job; its RSNs that wait, and their count; and its packets
 pub record NodeNumbers (n : TheNode) : Type 0 where
   pub allowed : AreAllowed n.limits
   pub receipts : length n.receipts.senders ≤ LIMIT
@@ -51,17 +51,17 @@ pub record NodeNumbers (n : TheNode) : Type 0 where
   pub rests : n.frozen ≡ true → is_some n.working ≡ false
   pub packets : length n.out ≤ OUTBOX
 
--- logs keep no more than what is stored of a process and what its messages behind that gave
+-- logs keep at most what is stored of a process and what its messages since then sent
 abbrev pub LogsHold : ℕ → ℕ → Type 0
 LogsHold entries receipts = entries ≤ MOST_STORED + MOST_GIVEN * receipts
 
--- a node's do, and fewer than can be stored while it waits for its checkpoint
+-- the logs of a node do so, and have room in a checkpoint while it waits for one
 pub record NodeHolds (n : TheNode) : Type 0 where
   pub numbers : NodeNumbers n
   pub logs : LogsHold (entries_kept n.logs) (length n.receipts.senders)
   pub stored : n.frozen ≡ true → entries_kept n.logs < MOST_KEPT
 
--- one that comes back, and received so many messages behind its checkpoint
+-- the logs of a recovering process do so, which received this many messages since its checkpoint
 pub record OwnHolds (o : TheOwn) (receipts : ℕ) : Type 0 where
   pub allowed : AreAllowed o.limits
   pub logs : LogsHold (entries_kept o.logs) receipts
@@ -82,7 +82,7 @@ Holds (Replayed n) = OwnHolds n.own (length n.receipts.senders) × ReceiptsHold 
 Holds (Restoring n) = OwnHolds n.own (length n.receipts.senders) × ReceiptsHold n.receipts
 Holds Passing = Unit {0}
 
--- it isn't between two stages, holds no more, and what it sends can be written
+-- it isn't between two stages, keeps these limits, and its packets can be written
 pub record IsWithin (c : Course) : Type 0 where
   pub settled : is_settled c ≡ true
   pub holds : Holds c

@@ -1,4 +1,4 @@
--- What the calls of a process are, by its stage: each is the call of that stage
+-- The calls of a process: each is the call of its stage
 use Rattle.std.specs.Prelude.{◌≡◌, [], ◌∷◌, Option, Some, None, Bool, true, false, ◌&&◌, nat_lt}
 use Rattle.packets.specs.declared.packet.Packet.{Packet}
 use Rattle.node.specs.declared.standing.Standing.{Standing}
@@ -24,7 +24,7 @@ use Rattle.process.specs.declared.course.Course.TheVariants.{Up, Collecting, Rep
 use Rattle.process.specs.Process.{TheProcess}
 use Rattle.process.specs.Passing.{Passes}
 
--- a packet comes
+-- takes a packet
 abbrev pub IsHanded : Packet → Course → Course → Type 0
 IsHanded x (Up old) (Up new) = (new ≡ up.handed x old) × up_owes.IsHanded x old new
 IsHanded x (Collecting old) (Collecting new) = (new ≡ collecting.handed x old) × collecting_owes.IsHanded x old new
@@ -34,7 +34,7 @@ IsHanded x (Replayed old) (Replayed new) = (new ≡ record old { own = meeting.h
 IsHanded x Passing new = new ≡ Passing
 IsHanded x old new = ⊥
 
--- what isn't answered is sent again
+-- sends again what isn't answered
 abbrev pub Ticks : Course → Course → Type 0
 Ticks (Up old) (Up new) = (new ≡ ticked old) × up_owes.Acts old new
 Ticks (Collecting old) (Collecting new) = (new ≡ collecting.asked old) × collecting_owes.Acts old new
@@ -44,19 +44,19 @@ Ticks (Replayed old) new = new ≡ Replayed old
 Ticks Passing new = new ≡ Passing
 Ticks old new = ⊥
 
--- one call of the stage, and then it passes on; the image stays
+-- one call of the stage, after which it may go on to the next; the image stays
 pub record Calls (Does : Course → Course → Type 0) (old new : TheProcess) : Type 0 where
   pub image : new.image ≡ old.image
   pub mid : Course
   pub does : Does old.course mid
   pub passes : Passes mid new.course
 
--- one call of the stage, which it stays in; the image stays
+-- one call of the stage, in which it stays; the image stays
 pub record Stays (Does : Course → Course → Type 0) (old new : TheProcess) : Type 0 where
   pub image : new.image ≡ old.image
   pub does : Does old.course new.course
 
--- the packet that waits first is taken. One that has replayed all owes nothing beside
+-- takes the first packet that waits. A process that has finished its replay owes nothing else
 abbrev pub Takes : Option Packet → Course → Course → Type 0
 Takes o (Up old) (Up new) = up_owes.Takes o old new
 Takes o (Collecting old) (Collecting new) = collecting_owes.Takes o old new
@@ -67,21 +67,21 @@ Takes o (Restoring old) (Restoring new) = restoring_owes.Takes o old new
 Takes o Passing new = (o ≡ None) × (new ≡ Passing)
 Takes o old new = ⊥
 
--- its logs keep no more than a checkpoint can hold
+-- its logs fit a checkpoint
 abbrev pub is_storable : TheNode → Bool
 is_storable n = nat_lt (entries_kept n.logs) MOST_KEPT
 
--- a checkpoint can be made: it is up, with no job open, waits for none, and its logs keep no more than one can hold
+-- a checkpoint can be made: it is up, with no job open, waits for no checkpoint, and its logs fit one
 abbrev pub may_freeze : Course → Bool
 may_freeze (Up n) = saving.may_freeze n && is_storable n
 may_freeze other = false
 
--- it waits for one
+-- it waits for a checkpoint
 abbrev pub is_frozen : Course → Bool
 is_frozen (Up n) = n.frozen
 is_frozen other = false
 
--- one is made, where it can hold what the logs keep
+-- makes a checkpoint, if the logs fit one
 abbrev pub FreezesAs : Bool → TheNode → TheNode → Type 0
 FreezesAs true old new = (new ≡ saving.froze old) × up_owes.Acts old new
 FreezesAs false old new = new ≡ old
@@ -91,13 +91,13 @@ Freezes (Up old) (Up new) = FreezesAs (is_storable old) old new
 Freezes (Up old) new = ⊥
 Freezes old new = new ≡ old
 
--- that one is durable
+-- the checkpoint is durable
 abbrev pub Thaws : Course → Course → Type 0
 Thaws (Up old) (Up new) = (new ≡ saving.saved old) × up_owes.Saves old new
 Thaws (Up old) new = ⊥
 Thaws old new = new ≡ old
 
--- how it stands
+-- its status
 abbrev pub standing_at : Course → Standing
 standing_at (Up n) = standing_of n
 standing_at (Collecting n) = collecting_standing n

@@ -1,4 +1,4 @@
--- How many messages a process keeps, and how many more each call makes it keep
+-- How many messages a process keeps, and how many more after each call
 use Rattle.std.specs.Prelude.{◌≡◌, ◌+◌, ◌-◌, ◌≤◌, ℕ, List, length, Option, true}
 use Rattle.packets.specs.declared.packet.Body.TheVariants.{Saved}
 use Rattle.packets.specs.declared.packet.Packet.{Packet}
@@ -16,12 +16,12 @@ use Rattle.process.specs.Job.{TakesBack}
 abbrev pub entries_of : TheProcess → ℕ
 entries_of p = (standing_at p.course).entries
 
--- a call makes it keep no more
+-- the process keeps no more after a call
 abbrev pub KeepsNoMore : TheProcess → TheProcess → Type 0
 KeepsNoMore old new = entries_of new ≤ entries_of old
 
--- no call makes a process keep more messages, but that its handler works on one, or on one that is replayed: then as many more, at most, as
--- that gives. A call passes on through any stages
+-- a process keeps more messages only if its handler runs on one, also in a replay: then at most as many more as that sends. This includes
+-- all stages that the call goes through
 pub record EntriesAreGiven : Type 0 where
   pub received : (x : Packet) (old new : TheProcess) → Calls (IsHanded x) old new → KeepsNoMore old new
   pub ticked : (old new : TheProcess) → Calls Ticks old new → KeepsNoMore old new
@@ -30,16 +30,16 @@ pub record EntriesAreGiven : Type 0 where
   pub saved : (old new : TheProcess) → Stays Thaws old new → KeepsNoMore old new
   pub worked : (state : List ℕ) (given : List Given) (old new : TheProcess) → TakesBack state given old new → entries_of new ≤ entries_of old + length given
 
--- how many messages a log is of, with those that it dropped
+-- how many messages a log has, with those that it dropped
 abbrev pub sent_in : TheQueue → ℕ
 sent_in q = q.dropped + length q.payloads
 
--- a node that is up is told that so many messages to a receiver are covered for good: its log for that one keeps none of these
+-- a node that is up is told that the first messages to a receiver are covered for good: its log for that one keeps none of these
 pub record CoveredAreDropped : Type 0 where
   pub dropped : (x : Packet) (k : ℕ) (n : TheNode) (old new : TheProcess) → old.course ≡ Up n → x.body ≡ Saved k → is_for n x ≡ true → Calls (IsHanded x) old new
       → (m : TheNode) × (new.course ≡ Up m) × (length (log_at m.logs x.from).payloads ≤ sent_in (log_at n.logs x.from) - k)
 
--- the checkpoint for which a process waits is durable: it covers all that it received, so nothing is behind it, and no number waits
+-- the checkpoint for which a process waits is durable: it covers all that the process received, so it keeps no receipt, and no RSN waits
 pub record SavedDrops : Type 0 where
   pub none : (old new : TheProcess) → is_frozen old.course ≡ true → Stays Thaws old new
       → ((standing_at new.course).receipts ≡ 0) × (((standing_at new.course).base ≡ (standing_at old.course).length) × (waiting_of new.course ≡ 0))

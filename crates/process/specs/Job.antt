@@ -1,4 +1,4 @@
--- Calls of a process's handler that are made outside of it
+-- Handler calls that are made outside of the process
 use Rattle.std.specs.Prelude.{◌≡◌, ◌≢◌, ℕ, List, length, slice_range, Some}
 use Rattle.helpers.specs.declared.effects.Who.{Who}
 use Rattle.helpers.specs.Effects.{Emitted}
@@ -23,7 +23,7 @@ use Rattle.process.specs.Passing.{Passes}
 use Rattle.process.specs.Calls.{standing_at}
 use Rattle.process.specs.Working.{job_at, given_of, answer_to, TakesIn, Rests, Works}
 
--- which job it is; the image whose handler is called, as whom, on which message and state
+-- which job it is; the image whose handler is called, the identity that it is called with, and the message and state
 pub record TheJob : Type 0 where
   pub ticket : Ticket
   pub image : AnyImage
@@ -31,37 +31,37 @@ pub record TheJob : Type 0 where
   pub payload : List ℕ
   pub state : List ℕ
 
--- one that was made, and what the handler answered
+-- a job that was made, and what the handler answered
 pub record TheDone : Type 0 where
   pub job : TheJob
   pub answer : Handled
 
--- the handler's answer to a job: that of the run of its form
+-- the handler's answer to a job, by the rules of its form
 abbrev pub IsAnswerTo : TheJob → Handled → Type 0
 IsAnswerTo j h = answer_by j.image j.who j.state j.payload ≡ Some h
 
--- which job of the process the next one is
+-- the ticket of the next job
 abbrev pub ticket_at : Course → Ticket
 ticket_at c = record { incarnation = (standing_at c).incarnation; received = (standing_at c).length }
 
--- the handler can be called as this one on this state: that is as long as the image's
+-- the handler can be called with this identity on this state: the state has the image's length
 pub record IsCallable (image : AnyImage) (who : Who) (state : List ℕ) : Type 0 where
   pub long : length state ≡ image_state image
   pub may : MayRunAs image who
 
--- a message is next, on which the handler can be called
+-- this message is next, and the handler can be called on it
 pub record IsNext (p : TheProcess) (message : OpenJob) (who : Who) : Type 0 where
   pub next : job_at p.course ≡ Some (message, who)
   pub callable : IsCallable p.image who (state_of p.course)
 
--- the job is this one, as this one, on this message and state
+-- the job has this ticket, this identity, this message and this state
 pub record IsSame (j : TheJob) (ticket : Ticket) (who : Who) (payload state : List ℕ) : Type 0 where
   pub ticket_is : j.ticket ≡ ticket
   pub who_is : j.who ≡ who
   pub payload_is : j.payload ≡ payload
   pub state_is : j.state ≡ state
 
--- of two images the form and the instructions are the same
+-- two images have the same form and the same instructions
 pub record HasSameCode (one other : AnyImage) : Type 0 where
   pub form : form_of one ≡ form_of other
   pub code : code_of one ≡ code_of other
@@ -70,7 +70,7 @@ pub record HasSameCode (one other : AnyImage) : Type 0 where
 abbrev pub IsCallOf : TheProcess → OpenJob → Who → TheJob → Type 0
 IsCallOf p message who j = IsSame j (ticket_at p.course) who message.payload (state_of p.course) × HasSameCode p.image j.image
 
--- it is that on the message that is next
+-- it is the job of the next message
 pub record IsJobOf (p : TheProcess) (j : TheJob) : Type 0 where
   pub message : OpenJob
   pub is_next : IsNext p message j.who
@@ -79,37 +79,37 @@ pub record IsJobOf (p : TheProcess) (j : TheJob) : Type 0 where
 
 -- ---- the array of a call
 
--- how many bytes it has
+-- its size in bytes
 abbrev pub array_size : AnyImage → ℕ
 array_size (Flat image) = MEMORY_BYTES
 array_size (Span image) = ARRAY_BYTES
 
--- what the handler is shown of a message
+-- what the handler sees of a message
 abbrev pub shown_by : AnyImage → List ℕ → List ℕ
 shown_by image payload = shown (form_of image) payload
 
--- of form 3 it holds what a call begins with: the message at 0, the state at 512, and the stack of zeros behind it
+-- in form 3 it holds the message at 0, the state at 512, and after that the stack of zeros
 pub record IsSpanLaid (len : ℕ) (state payload array : List ℕ) : Type 0 where
   pub entry_is : HoldsEntry len (slice_range array 0 (length payload)) (state_in len array) array
   pub message_is : slice_range array 0 (length payload) ≡ payload
   pub state_is : state_in len array ≡ state
 
--- so it does of any form: in forms 1 and 2 the state stands at 256
+-- the same of any form: in forms 1 and 2 the state is at 256
 abbrev pub IsLaid : AnyImage → List ℕ → List ℕ → List ℕ → Type 0
 IsLaid (Flat image) state payload array =
     Holds (length (shown_by (Flat image) payload)) image.len (entry image.form state (shown_by (Flat image) payload)) array
 IsLaid (Span image) state payload array = IsSpanLaid image.len state payload array
 
--- ---- what comes of an answer
+-- ---- answers
 
--- this state and these messages and outputs are taken in as the handler's, and the process passes on; the image stays
+-- this state and these messages and outputs are taken as the handler's, and the process goes on; the image stays
 pub record TakesBack (state : List ℕ) (given : List Given) (old new : TheProcess) : Type 0 where
   pub mid : Course
   pub image : new.image ≡ old.image
   pub takes : TakesIn state given old.course mid
   pub passes : Passes mid new.course
 
--- they are taken in as the answer to the message that is next, of this ticket, whatever the handler would have answered
+-- they are taken as the answer to the next message, of this ticket, whatever the handler would have answered
 pub record IsAnswered (ticket : Ticket) (state : List ℕ) (e : Emitted) (old new : TheProcess) : Type 0 where
   pub message : OpenJob
   pub who : Who
@@ -117,7 +117,7 @@ pub record IsAnswered (ticket : Ticket) (state : List ℕ) (e : Emitted) (old ne
   pub ticket_is : ticket_at old.course ≡ ticket
   pub taken : TakesBack state (given_of who e) old new
 
--- where the handler answers just that, it has worked
+-- if the handler answers the same, the process has worked
 abbrev pub WorksAs : List ℕ → Emitted → TheProcess → TheProcess → Type 0
 WorksAs state e old new =
     (message : OpenJob) (who : Who) (h : Handled) → job_at old.course ≡ Some (message, who) → answer_to old.image who (state_of old.course) message ≡ Some h
@@ -129,14 +129,14 @@ WorksAs state e old new =
 abbrev pub HasNext : TheProcess → Type 0
 HasNext p = (message : OpenJob) × (who : Who) × IsNext p message who
 
--- why what comes of a job isn't taken: there is nothing to run on, or it isn't the next job
+-- why an answer isn't taken: there is nothing to run on, or it isn't of the next job
 abbrev pub IsUndone : TheProcess → TheJob → Undone → Type 0
 IsUndone p j why.Memory = HasNext p
 IsUndone p j why.Absent = Rests p
 IsUndone p j why.Other = HasNext p × ¬ IsJobOf p j
 IsUndone p j why.State = ⊥
 
--- the same of a job that only its ticket and the state that it left tell of
+-- the same of an answer of which only the ticket and the state are known
 abbrev pub IsUnanswered : TheProcess → Ticket → List ℕ → Undone → Type 0
 IsUnanswered p ticket state why.Memory = HasNext p × (ticket_at p.course ≡ ticket) × (length state ≡ image_state p.image)
 IsUnanswered p ticket state why.Absent = Rests p

@@ -16,7 +16,7 @@ use Rattle.process.specs.declared.course.Course.TheVariants.{Collecting, Replayi
 use Rattle.process.specs.Process.{TheProcess, out_of}
 use Rattle.process.specs.Calls.{Takes, Stays}
 
--- a question of one that comes back, or an answer that has no entries
+-- a question of a recovering process, or an answer without entries
 abbrev pub is_brief : Body → Bool
 is_brief (Ask i k) = true
 is_brief (Resume i k s) = true
@@ -28,7 +28,7 @@ abbrev pub is_written : Packet → Bool
 is_written x =
     nat_le 1 x.count && nat_le x.count PROCESSES && nat_le x.from x.count && nat_le x.to x.count && not (x.from == x.to) && is_brief x.body && in_range x.body
 
--- of what a process has that comes back the numbers are in their ranges, and each packet that waits can be written
+-- the numbers of a recovering process are in range, and each packet that waits can be written
 pub record OwnWrites (o : TheOwn) : Type 0 where
   pub inside : 1 ≤ o.me
   pub within : o.me ≤ o.count
@@ -37,7 +37,7 @@ pub record OwnWrites (o : TheOwn) : Type 0 where
   pub young : o.base ≤ MOST_RECEIVED
   pub out : Each (λ x. is_written x ≡ true) o.out
 
--- in each stage; and so can the questions be that it asks next. Of one that is up its node says so
+-- so it is in each stage; and the questions that it asks next can be written too. A node that is up has this by its type
 abbrev pub Writes : Course → Type 0
 Writes (Collecting n) = OwnWrites n.own × ((q : ℕ) → is_number (told_of n.told q).cursor ≡ true)
 Writes (Replaying n) = OwnWrites n.own
@@ -45,10 +45,10 @@ Writes (Replayed n) = OwnWrites n.own
 Writes (Restoring n) = OwnWrites n.own × ((q : ℕ) → is_number (above_of q n) ≡ true) × (has_answered n.own.me n ≡ true)
 Writes other = Unit {0}
 
--- these are the bytes of the packet that waits first
+-- these are the bytes of the first packet that waits
 abbrev pub IsFront : TheProcess → List ℕ → Type 0
 IsFront p bytes = (x : Packet) × IsPacket x bytes × ((rest : List Packet) × (out_of p.course ≡ x ∷ rest))
 
--- these are, and that packet is taken
+-- so they are, and that packet is taken
 abbrev pub GivesBytes : List ℕ → TheProcess → TheProcess → Type 0
 GivesBytes bytes old new = (x : Packet) × IsPacket x bytes × Stays (Takes (Some x)) old new

@@ -15,30 +15,30 @@ use Rattle.restoring.specs.Stands.{Begins, IsUp}
 use Rattle.process.specs.declared.course.Course.{Course}
 use Rattle.process.specs.declared.course.Course.TheVariants.{Up, Collecting, Replaying, Replayed, Restoring}
 
--- where all peers have told all, one that collects recovers, with no more messages than a process takes; or memory is refused, or it keeps too
--- much
+-- if all peers have told a process that collects, it recovers with at most as many messages as a process takes; or memory is refused, or
+-- there are too many
 abbrev pub Recovers : Course → Course → Type 0
 Recovers (Collecting n) (Replaying r) = (has_all n ≡ true) × Recovered n r × ComesBack n r × (length r.plan ≤ LIMIT)
 Recovers old new = new ≡ old
 
--- where nothing is left to be replayed, one that replays has replayed all
+-- if nothing is left to replay, its replay is over
 abbrev pub Finishes : Course → Course → Type 0
 Finishes (Replaying n) (Replayed r) = (is_over n ≡ true) × (r ≡ replayed_of n) × Ends n r
 Finishes (Replaying n) new = (is_over n ≡ false) × (new ≡ Replaying n)
 Finishes old new = new ≡ old
 
--- one that has replayed all asks its peers for its numbers; or memory is refused
+-- after its replay it asks its peers for its RSNs; or memory is refused
 abbrev pub Begun : Course → Course → Type 0
 Begun (Replayed r) (Restoring n) = (n ≡ begun r) × Begins r n
 Begun old new = new ≡ old
 
--- where all peers have answered, it is up, and sends at once what it released: the first messages for each peer that have no number
+-- if all peers have answered, it is up, and sends at once what it released: the first messages for each peer that have no RSN
 abbrev pub Returns : Course → Course → Type 0
 Returns (Restoring n) (Up m) = (is_up n ≡ true) × ((first : TheNode) × ((first ≡ up n) × IsUp n first × (m ≡ ticked first) × Acts first m))
 Returns (Restoring n) new = (is_up n ≡ false) × (new ≡ Restoring n)
 Returns old new = new ≡ old
 
--- it passes on as far as it can: each stage once, in their order
+-- it goes on as far as it can, at most once through each stage, in their order
 pub record Passes (old new : Course) : Type 0 where
   pub told : Course
   pub ran : Course
@@ -48,17 +48,17 @@ pub record Passes (old new : Course) : Type 0 where
   pub begins : Begun ran asks
   pub returns : Returns asks new
 
--- its peers have told all, and it collects still
+-- all peers have told it, and it still collects
 abbrev pub has_heard : Course → Bool
 has_heard (Collecting n) = has_all n
 has_heard other = false
 
--- it has replayed all, and asks for no number yet
+-- its replay is over, and it hasn't asked for RSNs yet
 abbrev pub has_run : Course → Bool
 has_run (Replayed r) = true
 has_run other = false
 
--- its stage is over, and it is in it still
+-- its stage is over, and it is still in it
 abbrev pub is_held : Course → Bool
 is_held c = has_heard c || has_run c
 

@@ -1,11 +1,11 @@
--- What clauses see of a process
+-- A process as clauses see it
 use Rattle.std.specs.Prelude.{ℕ, List, [], Bool, true, false}
 use Rattle.images.specs.declared.any_image.AnyImage.{AnyImage}
 use Rattle.packets.specs.declared.packet.Packet.{Packet}
 use Rattle.process.specs.declared.course.Course.{Course}
 use Rattle.process.specs.declared.course.Course.TheVariants.{Up, Collecting, Replaying, Replayed, Restoring, Passing}
 
--- the image of its handler; and its stage, with what it holds then
+-- the image of its handler; and its stage, with what it holds there
 pub record TheProcess : Type 0 where
   pub image : AnyImage
   pub course : Course
@@ -15,7 +15,7 @@ abbrev pub is_settled : Course → Bool
 is_settled Passing = false
 is_settled other = true
 
--- the state that its handler left last; of one that collects, the state that its checkpoint kept
+-- the state that its handler left last; while it collects, the state of its checkpoint
 abbrev pub state_of : Course → List ℕ
 state_of (Up n) = n.state
 state_of (Collecting n) = n.own.state
@@ -24,7 +24,7 @@ state_of (Replayed n) = n.own.state
 state_of (Restoring n) = n.own.state
 state_of Passing = []
 
--- the packets to be taken
+-- the packets that wait
 abbrev pub out_of : Course → List Packet
 out_of (Up n) = n.out
 out_of (Collecting n) = n.own.out

@@ -1,4 +1,4 @@
--- Processes that begin
+-- Processes that are opened or come back
 use Rattle.std.specs.Prelude.{◌≡◌, ◌≢◌, ◌⊎◌, ℕ, List, length, true, false, ⊤}
 use Rattle.images.specs.declared.any_image.AnyImage.{AnyImage}
 use Rattle.images.specs.AnyImage.{state_of}
@@ -20,19 +20,19 @@ use Rattle.process.specs.declared.fault.Unrevived.{Unrevived}
 use Rattle.process.specs.declared.fault.Unrevived.TheVariants as why
 use Rattle.process.specs.Process.{TheProcess}
 
--- a process that received nothing: it stands in the opening, where its handler begins with a state of zeros
+-- a process that received nothing: it agrees with the opening, in which its handler has a state of zeros
 pub record IsOpened (image : AnyImage) (limits : Limits) (me count : ℕ) (p : TheProcess) : Type 0 where
   pub image_is : p.image ≡ image
   pub course_is : p.course ≡ Up (new_node limits me count (state_of image))
   pub stands : (f : Handlers) → BeginsWith f me (state_of image) → Stands (new_node limits me count (state_of image)) (opening count f) me
 
--- these bytes keep a process that may come back, with a state as long as the image's
+-- a process may come back from these bytes, with a state as long as the image's
 pub record IsKeptFor (image : AnyImage) (k : Kept) (bytes : List ℕ) : Type 0 where
   pub bytes_are : IsKept k bytes
   pub comes : comes_back k ≡ true
   pub long : length k.state ≡ state_of image
 
--- what they keep comes back
+-- the process that comes back from them
 pub record IsRevived (image : AnyImage) (limits : Limits) (bytes : List ℕ) (life : ℕ) (p : TheProcess) : Type 0 where
   pub kept : Kept
   pub is_kept : IsKeptFor image kept bytes
@@ -40,17 +40,17 @@ pub record IsRevived (image : AnyImage) (limits : Limits) (bytes : List ℕ) (li
   pub course_is : p.course ≡ Collecting (revived limits kept life)
   pub revives : Revives kept life (revived limits kept life)
 
--- they keep something that doesn't come back: more than a process can have received or sent
+-- no process comes back from them: they have more messages than a process can have received or sent
 abbrev pub IsOver : List ℕ → Type 0
 IsOver bytes = (k : Kept) × IsKept k bytes × (comes_back k ≡ false)
 
--- why bytes aren't what is kept of a process that comes back
+-- why no process comes back from these bytes
 abbrev pub IsUnread : List ℕ → Unrevived → Type 0
 IsUnread bytes why.Memory = ⊤
 IsUnread bytes (why.Kept f) = IsFirstKept f bytes ⊎ ((f ≡ Range) × IsOver bytes)
 IsUnread bytes other = ⊥
 
--- why nothing comes back
+-- why no process comes back
 abbrev pub IsUnrevived : AnyImage → List ℕ → ℕ → Unrevived → Type 0
 IsUnrevived image bytes life why.Memory = ⊤
 IsUnrevived image bytes life (why.Kept f) = IsPositive life × IsUnread bytes (why.Kept f)

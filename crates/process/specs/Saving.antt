@@ -9,14 +9,14 @@ use Rattle.process.specs.declared.course.Course.TheVariants.{Up}
 use Rattle.process.specs.Process.{state_of}
 use Rattle.process.specs.Calls.{may_freeze, standing_at}
 
--- a checkpoint of it can be made and written: it is up, works on nothing and waits for none, and neither its state nor what its logs keep
--- is too much for the bytes
+-- a checkpoint can be made and written: the process is up, works on nothing and waits for no checkpoint, and its state and its logs fit the
+-- bytes
 pub record IsSavable (c : Course) : Type 0 where
   pub may : may_freeze c ≡ true
   pub state : length (state_of c) ≤ STATE_BYTES
   pub entries : (standing_at c).entries < MOST_KEPT
 
--- the bytes are what is to be kept of its node, and cover what that has
+-- the bytes are those of its node's kept state, and cover what the node has
 abbrev pub Keeps : Course → List ℕ → Type 0
 Keeps (Up n) bytes = IsKept (kept_of n) bytes × Covers (kept_of n) n
 Keeps other bytes = ⊥

@@ -1,4 +1,4 @@
--- What the handler of a process is run on, and what comes of it
+-- The next message of a process's handler, and its answer
 use Rattle.std.specs.Prelude.{◌≡◌, ◌≢◌, ◌⊎◌, ℕ, List, [], ◌∷◌, ◌++◌, length, map, Option, Some, None, Bool, not, nat_lt, nat_le, ◌&&◌, ◌==◌, if◌then◌else◌}
 use Rattle.helpers.specs.declared.effects.Who.{Who}
 use Rattle.helpers.specs.declared.effects.Sent.{Sent}
@@ -21,12 +21,12 @@ use Rattle.process.specs.declared.course.Course.TheVariants.{Up, Replaying}
 use Rattle.process.specs.Process.{TheProcess, state_of}
 use Rattle.process.specs.Passing.{Passes}
 
--- a message that the handler is to run on, and as whom
+-- a message that the handler is to run on, and the identity that it is called with
 abbrev pub job_as : ℕ → ℕ → Option OpenJob → Option (OpenJob × Who)
 job_as me count None = None
 job_as me count (Some j) = Some (j, record { me = me; from = j.sender; count = count })
 
--- that of the open job, or the next one that is replayed
+-- the message of the open job, or the next one of the replay
 abbrev pub job_at : Course → Option (OpenJob × Who)
 job_at (Up n) = job_as n.me n.count n.working
 job_at (Replaying n) = job_as n.own.me n.own.count (next_job n)
@@ -36,7 +36,7 @@ job_at other = None
 abbrev pub is_other : Who → ℕ → Bool
 is_other who to = nat_lt 0 to && nat_le to who.count && not (to == who.me)
 
--- the messages that a handler gives for others
+-- the messages that a handler sends to other processes
 abbrev pub sent_by : Who → List Sent → List Given
 sent_by who [] = []
 sent_by who (s ∷ sends) = (if is_other who s.dst then record { to = s.dst; payload = s.payload } ∷ [] else []) ++ sent_by who sends
@@ -45,15 +45,15 @@ sent_by who (s ∷ sends) = (if is_other who s.dst then record { to = s.dst; pay
 abbrev pub shown_of : Payload → Given
 shown_of x = record { to = 0; payload = x }
 
--- the outputs that it gives; the gateway gives itself none
+-- the outputs that a handler shows; the gateway sends itself none
 abbrev pub shown_by : Who → List Payload → List Given
 shown_by who outputs = if who.me == 0 then [] else map shown_of outputs
 
--- what a handler gives: its messages, and behind them its outputs
+-- what a handler sends: its messages, and after them its outputs
 abbrev pub given_of : Who → Emitted → List Given
 given_of who e = sent_by who e.sends ++ shown_by who e.outputs
 
--- the handler left this state, and gave this
+-- the handler left this state, and sent this
 abbrev pub TakesIn : List ℕ → List Given → Course → Course → Type 0
 TakesIn state given (Up old) (Up new) = (new ≡ did_work state given old.working old) × up_owes.Owes (up_owes.Handles state given old) old new
 TakesIn state given (Replaying old) (Replaying new) =
@@ -62,25 +62,25 @@ TakesIn state given (Up old) new = ⊥
 TakesIn state given (Replaying old) new = ⊥
 TakesIn state given old new = new ≡ old
 
--- what is given may be sent
+-- these may be sent
 abbrev pub MayTakeIn : Course → List Given → Type 0
 MayTakeIn (Up n) given = MaySend n given
 MayTakeIn (Replaying n) given = MayGive n.own given
 MayTakeIn other given = Unit {0}
 
--- a message is next, and the handler may not be run as this process: which is only said of one of form 3
+-- a message is next, and the handler may not be run as this process, which can be only in form 3
 abbrev pub IsNone : TheProcess → Type 0
 IsNone p = (job : OpenJob) × (who : Who) × (job_at p.course ≡ Some (job, who)) × ¬ MayRunAs p.image who
 
--- there is nothing to run on, its state isn't that of the image, or it isn't a process that its handler may be run as
+-- there is nothing to run on, the state doesn't have the image's length, or the handler may not be run as this process
 abbrev pub Rests : TheProcess → Type 0
 Rests p = (job_at p.course ≡ None) ⊎ (length (state_of p.course) ≢ image_state p.image) ⊎ IsNone p
 
--- what the handler answers to a message, where it is run as this one on this state
+-- what the handler answers to a message, called with this identity on this state
 abbrev pub answer_to : AnyImage → Who → List ℕ → OpenJob → Option Handled
 answer_to image who state j = answer_by image who state j.payload
 
--- the handler ran on the message that was next, and its answer is taken in; then the process passes on
+-- the handler ran on the next message, and its answer is taken; then the process goes on
 pub record Works (old new : TheProcess) : Type 0 where
   pub job : OpenJob
   pub who : Who

@@ -1,4 +1,4 @@
-//! What a process gives to whoever runs its handler outside, and takes back.
+//! Handler calls that are made outside of the process.
 
 ghost use Rattle.std.specs.Prelude.{◌≡◌, ◌≤◌, ◌+◌, ◌↔◌, IfOk, IfErr, IfNone, IfSome, OnOk, OnErr, IsTrue};
 ghost use Rattle.process.specs.Process.{TheProcess};
@@ -19,9 +19,9 @@ use std::alloc::{AllocError, Global};
 use std::sync::Arc;
 
 impl Process {
-    /// The call of the handler that is next, for whoever makes it outside: on the message of the open job, or on
-    /// the next one that is replayed; none, where [`Process::work`] would run none. It stays next until what
-    /// comes of it is handed back.
+    /// The next call of the handler, to be made outside: on the message of the open job, or on the
+    /// next one of the replay. There is none if [`Process::work`] would run none. It stays the next
+    /// call until its answer is handed back.
     pub fn job(&self, alloc: Global) -> Result<Option<Job>, AllocError>
         ensures some { IfOk result (λ o. IfSome o (IsJobOf self.now)) }
         ensures none { IfOk result (λ o. IfNone o (Rests self.now)) }
@@ -47,8 +47,8 @@ impl Process {
         }))
     }
 
-    /// The call was made: what it left is taken in, just as where [`Process::work`] makes it. A refusal changes
-    /// nothing.
+    /// Takes the answer of a call that was made, as if [`Process::work`] had made it. A refusal
+    /// changes nothing.
     pub fn done(&mut self, alloc: Global, done: &Done) -> Result<(), Undone>
         ensures ok { OnOk result (Works self.old self.new) }
         ensures few { OnOk result (entries_of self.new ≤ entries_of self.old + MOST_GIVEN) }
@@ -67,9 +67,9 @@ impl Process {
         Ok(())
     }
 
-    /// A call was made, of machine code or of something else that nothing is proved of: whatever state and
-    /// messages and outputs it left are taken in. Where the handler would leave these, it has worked. A refusal
-    /// changes nothing.
+    /// Takes the state, messages and outputs that a call left, whatever they are: of machine code,
+    /// or of anything of which nothing is proved. If the handler would leave the same, the process
+    /// has worked. A refusal changes nothing.
     pub fn done_unchecked(
         &mut self,
         alloc: Global,
@@ -98,7 +98,7 @@ impl Process {
         Ok(())
     }
 
-    /// Which of its jobs the next one is.
+    /// The ticket of the next job.
     fn ticket(&self) -> Ticket
         ensures { result ≡ ticket_at self.now.course }
     {

@@ -1,4 +1,4 @@
-//! All that a call of a process's handler takes.
+//! A call of a process's handler, with all that it takes.
 
 ghost use Rattle.std.specs.Prelude.{◌≡◌, ◌↔◌, length, IsTrue};
 ghost use Rattle.std.specs.Arc.{arc_value};
@@ -11,7 +11,7 @@ use helpers::{Payload, Who};
 use std::marker::Model;
 use std::sync::Arc;
 
-/// Which of a process's jobs a job is.
+/// Which job of a process it is.
 #[derive(Clone, Copy, PartialEq, Eq, Debug)]
 pub struct Ticket {
     /// The incarnation of the process.
@@ -20,7 +20,7 @@ pub struct Ticket {
     pub received: u64,
 }
 
-/// All that a call takes.
+/// The arguments of a call.
 #[derive(Drop)]
 pub struct Call {
     pub(crate) ticket: Ticket,
@@ -46,7 +46,7 @@ impl Model for Call {
 impl Call {
     ghost use Rattle.process.specs.Job.{IsSame};
 
-    /// Whether it is this job, on this message and state, of a handler with the same code.
+    /// Whether it is this job, with this message and state, and a handler with the same code.
     pub(crate) fn is(&self, ticket: Ticket, who: Who, payload: &Payload, state: &[u8]) -> bool
         ensures { IsTrue result ↔ IsSame self.now ticket who payload.now state.now }
     {

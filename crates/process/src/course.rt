@@ -1,4 +1,4 @@
-//! The stages of a process, and how it passes from one to the next.
+//! The stages of a process, and the way from one to the next.
 
 ghost use Rattle.std.specs.Prelude.{◌≡◌, true, false, IfOk, IfErr};
 ghost use Rattle.process.specs.Process.{is_node};
@@ -9,24 +9,24 @@ use recovery::{Cause, Collecting, Replayed, Replaying};
 use restoring::Restoring;
 use std::alloc::Global;
 
-/// What a process is, by its stage.
+/// A process in its stage.
 #[derive(Drop)]
 pub enum Course {
     /// It is up.
     Up(Node),
     /// It asks its peers what their logs hold for it.
     Collecting(Collecting),
-    /// Its handler runs again on what they told.
+    /// It replays the messages that it keeps.
     Replaying(Replaying),
-    /// It has replayed all, and there was no memory to go on.
+    /// Its replay is over, and memory was refused for the next stage.
     Replayed(Replayed),
-    /// It asks its peers under which numbers they have its messages.
+    /// It asks its peers under which RSNs they have its messages.
     Restoring(Restoring),
-    /// It is between two stages, which it is only inside a call.
+    /// It is between two stages. This occurs only inside a call.
     Passing,
 }
 
-/// What couldn't pass on, and why.
+/// The process that couldn't go on to the next stage, and why.
 #[derive(Drop)]
 pub(crate) struct Held {
     pub(crate) course: Course,
@@ -48,7 +48,7 @@ impl Course {
         }
     }
 
-    /// It passes on as far as it can, unless memory is refused.
+    /// Goes on as many stages as it can, unless memory is refused.
     pub(crate) fn passed(self, alloc: Global) -> Result<Course, Held>
         ensures passed { IfOk result (λ c. Passes self c × (is_held c ≡ false)) }
         ensures held { IfErr result (λ h. Passes self h.course × IsHeld h.cause h.course) }
@@ -59,7 +59,7 @@ impl Course {
         Ok(asks.returned())
     }
 
-    /// Where all peers have told all, it replays what it keeps.
+    /// If all peers have told all, it replays what it keeps.
     fn recovered(self, alloc: Global) -> Result<Course, Held>
         ensures told { IfOk result (λ c. Recovers self c × (has_heard c ≡ false)) }
         ensures held { IfErr result (λ h. (h.course ≡ self) × (has_heard self ≡ true) × IsHeld h.cause self) }
@@ -81,7 +81,7 @@ impl Course {
         }
     }
 
-    /// Where nothing is left to be replayed, it has replayed all.
+    /// If nothing is left to replay, its replay is over.
     fn finished(self) -> Course
         ensures { Finishes self result }
     {
@@ -96,7 +96,7 @@ impl Course {
         }
     }
 
-    /// Where it has replayed all, it asks its peers for its numbers.
+    /// If its replay is over, it asks its peers for its RSNs.
     fn begun(self, alloc: Global) -> Result<Course, Held>
         ensures begun { IfOk result (λ c. Begun self c × (has_run c ≡ false)) }
         ensures held { IfErr result (λ h. (h.course ≡ self) × (has_run self ≡ true) × IsHeld h.cause self) }
@@ -113,7 +113,7 @@ impl Course {
         }
     }
 
-    /// Where all peers have answered, it is up, and sends what it released.
+    /// If all peers have answered, it is up, and sends what it released.
     fn returned(self) -> Course
         ensures { Returns self result }
     {

@@ -1,4 +1,4 @@
-//! Calls of a process's handler that were made outside of it.
+//! Answers of handler calls that were made outside of the process.
 
 ghost use Rattle.std.specs.Prelude.{◌≡◌};
 ghost use Rattle.std.specs.Box.{box_value};
@@ -8,7 +8,7 @@ use helpers::Effects;
 use interp::CallEnd;
 use std::marker::Model;
 
-/// A call of a process's handler that was made, and what the handler answered. Only `Job::run` makes one.
+/// The answer of a handler call. Only `Job::run` makes one.
 #[derive(Drop)]
 pub struct Done {
     pub(crate) call: Call,
@@ -43,14 +43,14 @@ impl Done {
         self.next.as_slice()
     }
 
-    /// The messages and outputs that it gave.
+    /// The messages and outputs that the handler sent.
     pub fn effects(&self) -> &Effects
         ensures { result.now ≡ self.now.answer.effects }
     {
         &self.effects
     }
 
-    /// What it had in r0 at its exit, and the steps that it took.
+    /// The value of r0 at its exit, and how many steps it took.
     pub fn end(&self) -> CallEnd
         ensures r0 { result.r0 ≡ self.now.answer.r0 }
         ensures steps { result.steps ≡ self.now.answer.steps }

@@ -1,4 +1,4 @@
-//! Why a process doesn't come back, and why what comes of a call isn't taken.
+//! Why a process doesn't come back, and why an answer isn't taken.
 
 ghost use Rattle.std.specs.Prelude.{◌≡◌};
 ghost use Rattle.process.specs.declared.fault.Undone.TheVariants.{Memory};
@@ -7,34 +7,34 @@ use packets::KeptFault;
 use std::alloc::AllocError;
 use thiserror::Error;
 
-/// Why nothing comes back from bytes.
+/// Why no process comes back from bytes.
 #[derive(Debug, Drop, PartialEq, Eq, Error)]
 pub enum Unrevived {
     /// Memory ran out.
     #[error("out of memory")]
     Memory,
-    /// The bytes are not what is kept of a process. They are so too, by fault 8, where they keep more
-    /// messages than their process can have received or sent.
+    /// The bytes are not the kept state of a process. This is fault 8 if they keep more messages
+    /// than a process can have received or sent.
     #[error("kept bytes: {0}")]
     Kept(KeptFault),
     /// 9: the state is not as long as that of the image.
     #[error("the state is not as long as the image's")]
     State,
-    /// The incarnation is 0, or has no room.
+    /// The incarnation is 0, or doesn't fit.
     #[error("no incarnation")]
     Incarnation,
 }
 
-/// Why what comes of a call of the handler isn't taken.
+/// Why the answer of a handler call isn't taken.
 #[derive(Debug, Drop, PartialEq, Eq, Error)]
 pub enum Undone {
     /// Memory ran out.
     #[error("out of memory")]
     Memory,
-    /// There is nothing to run on.
+    /// There is no message to run on.
     #[error("there is nothing to run on")]
     Absent,
-    /// It is of another call than the next one: of an earlier one, or of another incarnation.
+    /// It is not the answer of the next call, but of an earlier one or of another incarnation.
     #[error("it is of another call")]
     Other,
     /// The state is not as long as that of the image.

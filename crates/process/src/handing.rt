@@ -1,4 +1,4 @@
-//! Packets that come and go, and what is sent again.
+//! Packets in and out, and what is sent again.
 
 ghost use Rattle.std.specs.Prelude.{◌≡◌, ◌∷◌, [], false, List, IfOk, IfErr, IfNone, IfSome, OnOk, OnErr, MatchOption};
 ghost use Rattle.packets.specs.declared.packet.Packet.{Packet};
@@ -18,13 +18,13 @@ use std::alloc::{AllocError, Global};
 use std::mem::replace;
 
 impl Process {
-    /// Bytes came. Those of a packet are taken as [`Process::receive`] takes it; any others are refused by
-    /// the first of their faults. A refusal changes nothing.
+    /// Takes the bytes of a packet as [`Process::receive`] takes the packet. Any other bytes are
+    /// refused by the first of their faults. A refusal changes nothing.
     pub fn receive_bytes(&mut self, alloc: Global, bytes: &[u8]) -> Result<(), PacketError>
-        // What is taken are the bytes of a packet, and of one only.
+        // Bytes that are taken are those of one packet.
         ensures found { OnOk result ((p : Packet) × IsPacket p bytes.now) }
         ensures calls { OnOk result ((p : Packet) → IsPacket p bytes.now → Calls (IsHanded p) self.old self.new) }
-        // Those of a packet are taken, unless memory runs out.
+        // The bytes of a packet are taken, unless memory runs out.
         ensures only { (p : Packet) → IsPacket p bytes.now → IsTaken result }
         ensures refused { IfErr result (λ e. IsReason e bytes.now) }
         ensures err { OnErr result (self.new ≡ self.old) }
@@ -35,8 +35,8 @@ impl Process {
         Ok(())
     }
 
-    /// A packet came. While messages are to be replayed it is dropped, but a peer that comes back too is
-    /// answered in each stage. A refusal changes nothing.
+    /// Takes a packet. While messages are to be replayed it drops it, but in each stage it answers
+    /// a peer that is recovering too. A refusal changes nothing.
     pub fn receive(&mut self, alloc: Global, packet: &Packet) -> Result<(), AllocError>
         ensures calls { OnOk result (Calls (IsHanded packet.now) self.old self.new) }
         ensures err { OnErr result (self.new ≡ self.old) }
@@ -46,8 +46,8 @@ impl Process {
         Ok(())
     }
 
-    /// What isn't answered is sent again. Where memory was refused when its stage was over, it tries again to pass
-    /// on; where it still can't, it says why.
+    /// Sends again what isn't answered. If memory was refused for the next stage, it tries again to
+    /// go on, and says why if it still can't.
     pub fn tick(&mut self, alloc: Global) -> Result<(), Cause>
         ensures calls { Calls Ticks self.old self.new }
         ensures on { OnOk result (is_held self.new.course ≡ false) }
@@ -57,15 +57,15 @@ impl Process {
         self.pass(alloc)
     }
 
-    /// A packet that is to be sent, the first that waits; none, if there is none.
+    /// Takes the first packet that waits to be sent, if there is one.
     pub fn take(&mut self) -> Option<Packet>
         ensures { Stays (Takes result) self.old self.new }
     {
         self.course.pop()
     }
 
-    /// The bytes of the packet that [`Process::take`] would give, which is taken; none, if none waits. A
-    /// refusal, which only memory can cause, changes nothing.
+    /// Takes the first packet that waits, if there is one, as bytes. A refusal, which is by memory,
+    /// changes nothing.
     pub fn take_bytes(&mut self, alloc: Global) -> Result<Option<Vec<u8>>, AllocError>
         ensures none { IfOk result (λ o. IfNone o ((self.new ≡ self.old) × (out_of self.old.course ≡ []))) }
         ensures some { IfOk result (λ o. IfSome o (λ v. GivesBytes v.items self.old self.new)) }
@@ -80,14 +80,14 @@ impl Process {
         }
     }
 
-    /// The packet that waits first is taken, and nobody gets it.
+    /// Drops the first packet that waits.
     fn discard(&mut self)
         ensures { (x : Packet) (rest : List Packet) → out_of self.old.course ≡ x ∷ rest → Stays (Takes (Some x)) self.old self.new }
     {
         let _packet = self.take();
     }
 
-    /// The bytes of the packet that waits first, which stays; none, if none waits.
+    /// The bytes of the first packet that waits, if there is one. It still waits.
     pub fn front_bytes(&self, alloc: Global) -> Result<Option<Vec<u8>>, AllocError>
         ensures none { IfOk result (λ o. IfNone o (out_of self.now.course ≡ [])) }
         ensures some { IfOk result (λ o. IfSome o (λ v. IsFront self.now v.items)) }
@@ -104,7 +104,7 @@ impl Process {
         }
     }
 
-    /// It passes on to the next stage where the one that it is in is over, or says why it can't.
+    /// Goes on to the next stage if its stage is over, or says why it can't.
     pub(crate) fn pass(&mut self, alloc: Global) -> Result<(), Cause>
         ensures passes { Stays Passes self.old self.new }
         ensures on { OnOk result (is_held self.new.course ≡ false) }
@@ -116,7 +116,7 @@ impl Process {
         self.pass_on(alloc)
     }
 
-    /// The same for one that isn't up, which is rare.
+    /// The same for a process that isn't up, which is rare.
     #[inline(never)]
     fn pass_on(&mut self, alloc: Global) -> Result<(), Cause>
         ensures passes { Stays Passes self.old self.new }
@@ -138,7 +138,7 @@ impl Process {
 }
 
 impl Course {
-    /// A packet came. A refusal changes nothing.
+    /// Takes a packet. A refusal changes nothing.
     fn hand(&mut self, alloc: Global, packet: &Packet) -> Result<(), AllocError>
         ensures ok { OnOk result (IsHanded packet.now self.old self.new) }
         ensures err { OnErr result (self.new ≡ self.old) }
@@ -162,7 +162,7 @@ impl Course {
         }
     }
 
-    /// What isn't answered is sent again.
+    /// Sends again what isn't answered.
     fn send_again(&mut self)
         ensures { Ticks self.old self.new }
     {
@@ -176,7 +176,7 @@ impl Course {
         }
     }
 
-    /// The packet that waits first leaves; none, if there is none.
+    /// Takes the first packet that waits, if there is one.
     fn pop(&mut self) -> Option<Packet>
         ensures { Takes result self.old self.new }
     {

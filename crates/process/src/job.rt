@@ -1,4 +1,4 @@
-//! Calls of a process's handler that are to be made outside of it.
+//! Handler calls that are to be made outside of the process.
 
 ghost use Rattle.std.specs.Prelude.{◌≡◌, length};
 ghost use Rattle.std.specs.Box.{box_value};
@@ -13,7 +13,7 @@ use limits::MEMORY_BYTES;
 use span_steps::ARRAY_BYTES;
 use std::marker::Model;
 
-/// A call of a process's handler that is to be made, with the places for what it leaves.
+/// A call of a process's handler that is to be made, with room for its answer.
 #[derive(Drop)]
 pub struct Job {
     pub(crate) call: Call,
@@ -40,14 +40,14 @@ impl Job {
         self.call.ticket
     }
 
-    /// As whom the handler is called, and by whose message.
+    /// The identity that the handler is called with, and the sender of the message.
     pub fn who(&self) -> Who
         ensures { result ≡ self.now.who }
     {
         self.call.who
     }
 
-    /// How many bytes the handler is shown of the message: 64 where its image is of form 1, else all.
+    /// The number of bytes of the message that the handler sees: 64 in form 1, all in other forms.
     pub fn message_len(&self) -> usize
         ensures { result ≡ length (shown_by self.now.image self.now.payload) }
     {
@@ -57,7 +57,7 @@ impl Job {
         }
     }
 
-    /// How many bytes the array has on which it runs.
+    /// The size in bytes of the array on which the handler runs.
     pub fn array_len(&self) -> usize
         ensures { result ≡ array_size self.now.image }
     {
@@ -67,7 +67,7 @@ impl Job {
         }
     }
 
-    /// Lays the array out on which it runs, by `call_flat` of its form or as machine code.
+    /// Writes message, state and stack into the array, for `call_flat` of its form or machine code.
     pub fn lay(&self, array: &mut [u8])
         requires { length array.old ≡ array_size self.now.image }
         ensures { IsLaid self.now.image self.now.state self.now.payload array.new }

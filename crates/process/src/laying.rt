@@ -1,4 +1,4 @@
-//! Arrays in which a handler is called.
+//! The arrays on which a handler runs.
 
 ghost use Rattle.std.specs.Prelude.{◌≡◌, length};
 ghost use Rattle.images.specs.FileForm.{file_form_of};
@@ -14,7 +14,7 @@ use span_interp::Program;
 use span_steps::ARRAY_BYTES;
 use verifier::Image;
 
-/// What a handler of form 1 or 2 sees of a payload.
+/// The bytes of a payload that a handler of form 1 or 2 sees.
 pub(crate) fn shown<'a>(image: &Image, payload: &'a Payload) -> &'a [u8]
     ensures value { result.now ≡ shown (file_form_of image.now.form) payload.now }
     ensures size { IsLong image.now.form (length result.now) }
@@ -25,7 +25,7 @@ pub(crate) fn shown<'a>(image: &Image, payload: &'a Payload) -> &'a [u8]
     }
 }
 
-/// Lays a call of a handler of form 1 or 2 out.
+/// Writes a call of a handler of form 1 or 2 into its array.
 pub(crate) fn lay_flat(image: &Image, state: &[u8], payload: &Payload, array: &mut [u8])
     requires state { length state.now ≡ image.now.len }
     requires array { length array.old ≡ MEMORY_BYTES }
@@ -36,7 +36,7 @@ pub(crate) fn lay_flat(image: &Image, state: &[u8], payload: &Payload, array: &m
     array.copy_from_slice(&mem);
 }
 
-/// The same of a handler of form 3.
+/// Writes a call of a handler of form 3 into its array.
 pub(crate) fn lay_span(program: &Program, state: &[u8], payload: &Payload, array: &mut [u8])
     requires state { length state.now ≡ program.now.len }
     requires array { length array.old ≡ ARRAY_BYTES }

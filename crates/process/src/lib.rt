@@ -1,19 +1,20 @@
-//! Of a cluster: a process as one value, through all its stages.
+//! One process of a cluster, as one value through all its stages, from its opening through crashes
+//! and recoveries.
 //!
-//! A [`Process`] holds the image of its handler and is a node that is up, or one that comes back:
-//! it collects what its peers' logs hold, replays that, and restores its numbers. Its host makes the
-//! same calls in each stage: it hands it the packets that came ([`Process::receive_bytes`]), sends those
-//! that it gives ([`Process::take_bytes`]), has its handler run ([`Process::work`]), now and then lets it
-//! send again what isn't answered ([`Process::tick`]), and keeps its checkpoints
-//! ([`Process::checkpoint`], [`Process::saved`]). What was kept comes back by [`Process::revive`]. In place
-//! of [`Process::work`] a host may call the handler itself: [`Process::job`] gives it the call that is
-//! next, and [`Process::done`] takes what comes of it.
+//! A [`Process`] holds the image of its handler. It is a node that is up, or it is recovering: it
+//! collects what its peers' logs hold, replays that, and restores its RSNs. Its host makes the same
+//! calls in each stage: it hands it the packets that arrive ([`Process::receive_bytes`]), sends
+//! those that it gives ([`Process::take_bytes`]), has its handler run ([`Process::work`]), now and
+//! then has it send again what isn't answered ([`Process::tick`]), and keeps its checkpoints
+//! ([`Process::checkpoint`], [`Process::saved`]). It comes back from its kept state by
+//! [`Process::revive`]. In place of [`Process::work`] a host may call the handler itself:
+//! [`Process::job`] gives it the next call, and [`Process::done`] takes the answer.
 //!
-//! The promise: each call is the call of the stage that the process is in, word for word, and then the
-//! process passes on to the next stage where that one is over: when all peers have told all it recovers,
-//! when nothing is left to replay it restores its numbers, when all have answered it is up. A refusal
-//! changes nothing. Where memory is refused when a stage is over, the process stays in it; each
-//! [`Process::tick`] tries again, and says so where it still can't pass on.
+//! Each call does exactly what the call of its stage does. Then the process goes on to the next
+//! stage if that one is over: when all peers have told all it recovers, when nothing is left to
+//! replay it restores its RSNs, when all have answered it is up. A refusal changes nothing. If
+//! memory is refused at the end of a stage, the process stays in it; each [`Process::tick`] tries
+//! again, and says why if it still can't go on.
 //!
 //! ```text
 //! let mut process = Process::revive(alloc, image, &kept, incarnation)?;

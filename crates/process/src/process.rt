@@ -19,14 +19,14 @@ use std::alloc::{AllocError, Global};
 use std::marker::Model;
 use std::sync::Arc;
 
-/// A process of a cluster, with its handler, which is that of an image of any form.
+/// A process of a cluster, and its handler, which has an image of any form.
 #[derive(Drop)]
 pub struct Process {
     pub(crate) image: Arc<Handler>,
     pub(crate) course: Course,
-    /// Room for what its handler gives, which is no part of what the process is.
+    /// Memory for what its handler sends, which is no part of its value.
     pub(crate) effects: Effects,
-    /// What helpers refused its handler in this life, which is no part of it either.
+    /// What helpers refused its handler in this incarnation, which is no part of its value either.
     pub(crate) refused: Refused,
 }
 
@@ -45,7 +45,7 @@ impl Model for Process {
 }
 
 impl Process {
-    /// The process `me` of `count`, which received nothing. It keeps to these limits.
+    /// The process `me` of `count`, which received nothing. It keeps these limits for life.
     pub fn open(
         alloc: Global,
         image: Arc<Handler>,
@@ -67,8 +67,8 @@ impl Process {
         })
     }
 
-    /// What these bytes keep of a process comes back in this incarnation; they count from 1. It keeps to
-    /// these limits, and all its peers are asked.
+    /// A process comes back from these bytes in this incarnation, which counts from 1. It keeps
+    /// these limits, and asks all its peers.
     pub fn revive(
         alloc: Global,
         image: Arc<Handler>,
@@ -99,7 +99,7 @@ impl Process {
     }
 }
 
-/// What bytes keep of a process, where that can come back.
+/// The kept state in these bytes, if a process can come back from it.
 fn kept_of(alloc: Global, bytes: &[u8]) -> Result<Kept, Unrevived>
     ensures kept { IfOk result (λ k. IsKept k bytes.now × (comes_back k ≡ true)) }
     ensures refused { IfErr result (IsUnread bytes.now) }

@@ -17,14 +17,14 @@ use node::{MOST_GIVEN, MOST_KEPT, Stage, Standing};
 use packets::Packet;
 use rsn::LIMIT;
 
-/// What is stored of a process has no more messages in its logs than this: fewer than [`node::MOST_KEPT`] for
-/// each peer.
+/// The stored state of a process has at most this many messages in its logs: fewer than
+/// [`node::MOST_KEPT`] for each peer.
 pub const MOST_STORED: usize = 0xF_0000_0000;
 
 const _: () = prove!(MOST_STORED == PROCESSES * MOST_KEPT);
 
-/// So many messages the logs of a process keep at most: those that are stored of it, and those that its
-/// messages behind its checkpoint gave.
+/// The logs of a process keep at most this many messages: those that are stored of it, and those
+/// that its messages since its checkpoint sent.
 pub const MOST_ENTRIES: usize = 0xF_0010_0000;
 
 const _: () = prove!(MOST_ENTRIES == MOST_STORED + MOST_GIVEN * LIMIT);
@@ -37,14 +37,14 @@ impl Process {
         &self.image
     }
 
-    /// How many sends and outputs helpers refused its handler since it was opened or revived, by cause. No contract
-    /// speaks of it: it is for people, and only tested. Of calls that a host made outside it has those of
-    /// [`Process::done`].
+    /// How many sends and outputs helpers refused its handler since it was opened or revived, by
+    /// cause. It is for people: no contract says anything of it, and it is only tested. It includes
+    /// the calls that a host handed back by [`Process::done`].
     pub fn refused(&self) -> Refused {
         self.refused
     }
 
-    /// The packet that waits first; none, if there is none.
+    /// The first packet that waits, if there is one.
     pub fn front(&self) -> Option<&Packet>
         ensures { MatchOption result (out_of self.now.course ≡ []) (λ x. (rest : List Packet) × (out_of self.now.course ≡ x.now ∷ rest)) }
     {
@@ -58,7 +58,7 @@ impl Process {
         }
     }
 
-    /// The state that its handler left last; while it collects, the state that its checkpoint kept.
+    /// The state that its handler left last; while it collects, the state of its checkpoint.
     pub fn state(&self) -> &[u8]
         ensures { result.now ≡ state_of self.now.course }
     {
@@ -72,9 +72,9 @@ impl Process {
         }
     }
 
-    /// How it stands. However long it runs, its messages behind its checkpoint, with those that it still has
-    /// to replay, the messages that its logs keep, the packets that wait, and the numbers that wait for their
-    /// acknowledgement are no more than these.
+    /// The status. However long the process runs, these numbers have limits: messages since its
+    /// checkpoint, with those that it has still to replay; messages in its logs; packets that wait;
+    /// and RSNs that wait for their acknowledgement.
     pub fn standing(&self) -> Standing
         ensures value { result ≡ standing_at self.now.course }
         ensures bounded { IsBounded result }
@@ -99,7 +99,7 @@ impl Course {
     }
 }
 
-/// How nothing stands.
+/// The status of nothing.
 const NONE: Standing = Standing {
     length: 0,
     base: 0,

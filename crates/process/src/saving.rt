@@ -13,8 +13,8 @@ use node::{MOST_KEPT, Node, Stage};
 use std::alloc::{AllocError, Global};
 
 impl Process {
-    /// The bytes that a checkpoint made now is to keep; none, where none can be made. Where one can be, only memory
-    /// can be wanting.
+    /// The bytes that a checkpoint made now has to keep, if one can be made. If one can be, only
+    /// memory can be refused.
     pub fn kept_bytes(&self, alloc: Global) -> Result<Option<Vec<u8>>, AllocError>
         ensures none { IfOk result (λ o. IfNone o (¬ IsSavable self.now.course)) }
         ensures some { IfOk result (λ o. IfSome o (λ v. IsSavable self.now.course × Keeps self.now.course v.items)) }
@@ -36,8 +36,9 @@ impl Process {
         }
     }
 
-    /// A checkpoint is made, and the process waits for it until [`Process::saved`]. Answers whether one was
-    /// made: it has to be up, with no job open, wait for none, and its logs keep no more than one can hold.
+    /// Makes a checkpoint; the process waits for it until [`Process::saved`]. Answers whether one
+    /// was made: the process has to be up, with no job open and waiting for no checkpoint, and its
+    /// logs must fit one.
     pub fn freeze(&mut self) -> bool
         ensures made { result ≡ may_freeze self.old.course }
         ensures stays { Stays Freezes self.old self.new }
@@ -48,8 +49,8 @@ impl Process {
         }
     }
 
-    /// A checkpoint is made, of which these are the bytes; none, where none can be made. Where one can be, only
-    /// memory can be wanting. A refusal changes nothing.
+    /// Makes a checkpoint and gives its bytes, if one can be made. If one can be, only memory can
+    /// be refused. A refusal changes nothing.
     pub fn checkpoint(&mut self, alloc: Global) -> Result<Option<Vec<u8>>, AllocError>
         ensures none { IfOk result (λ o. IfNone o (¬ IsSavable self.old.course × (self.new ≡ self.old))) }
         ensures some { IfOk result (λ o. IfSome o (λ v. IsSavable self.old.course × Keeps self.old.course v.items × Stays Freezes self.old self.new)) }
@@ -63,8 +64,8 @@ impl Process {
         Ok(bytes)
     }
 
-    /// The checkpoint that was made is durable. Answers whether the process waited for it. A refusal changes
-    /// nothing.
+    /// The checkpoint that was made is durable. Answers whether the process waited for it. A
+    /// refusal changes nothing.
     pub fn saved(&mut self, alloc: Global) -> Result<bool, AllocError>
         ensures waited { IfOk result (λ b. b ≡ is_frozen self.old.course) }
         ensures stays { OnOk result (Stays Thaws self.old self.new) }
@@ -77,7 +78,7 @@ impl Process {
     }
 }
 
-/// One is made of a node, where it can hold what the logs keep.
+/// Makes a checkpoint of a node, if its logs fit one.
 fn freeze(node: &mut Node) -> bool
     ensures made { result ≡ may_freeze (Up node.old) }
     ensures freezes { FreezesAs (is_storable node.old) node.old node.new }

@@ -1,4 +1,4 @@
-//! What a process does when its handler is to run.
+//! A process runs its handler.
 
 ghost use Rattle.std.specs.Prelude.{◌≡◌, ◌+◌, ◌++◌, ◌≤◌, None, Some, length, map, true, false, IfOk, IfNone, IfSome, OnOk, OnErr};
 ghost use Rattle.node.specs.declared.node.TheConstants.{MOST_GIVEN};
@@ -14,8 +14,8 @@ use node::{Given, OpenJob};
 use std::alloc::{AllocError, Global};
 
 impl Process {
-    /// The message that the handler is to run on, and as whom: that of the open job, or the next one that is
-    /// replayed; none, if there is none.
+    /// The message that the handler is to run on, and the identity that it is called with: the
+    /// message of the open job, or the next one of the replay, if there is one.
     fn next_job(&self) -> Option<(OpenJob, Who)>
         ensures { result ≡ job_at self.now.course }
     {
@@ -32,13 +32,13 @@ impl Process {
         }
     }
 
-    /// The handler runs on the message of the open job, or on the next one that is replayed. Answers whether
-    /// there was one. A refusal changes nothing.
+    /// Runs the handler on the message of the open job, or on the next one of the replay. Answers
+    /// whether there was one. A refusal changes nothing.
     pub fn work(&mut self, alloc: Global) -> Result<bool, AllocError>
         ensures works { IfOk result (λ b. b ≡ true → Works self.old self.new) }
         ensures rests { IfOk result (λ b. b ≡ false → Rests self.old × (self.new ≡ self.old)) }
         ensures few { OnOk result (entries_of self.new ≤ entries_of self.old + MOST_GIVEN) }
-        // Where there is none, memory isn't wanting.
+        // If there is none, memory isn't refused.
         ensures memory { OnErr result (HasNext self.old) }
         ensures err { OnErr result (self.new ≡ self.old) }
     {
@@ -48,15 +48,15 @@ impl Process {
         self.run(alloc)
     }
 
-    /// Whether no message is there to run it on.
+    /// Whether there is no message to run on.
     fn is_idle(&self) -> bool
         ensures { result ≡ true → job_at self.now.course ≡ None }
     {
         self.next_job().is_none()
     }
 
-    /// The same as [`Process::work`]. A host asks more often than there is something to run on: so what takes room
-    /// stands here.
+    /// The same as [`Process::work`]. A host often asks when there is nothing to run on, so the
+    /// part that needs stack space is kept apart here.
     #[inline(never)]
     fn run(&mut self, alloc: Global) -> Result<bool, AllocError>
         ensures works { IfOk result (λ b. b ≡ true → Works self.old self.new) }
@@ -79,8 +79,9 @@ impl Process {
         Ok(true)
     }
 
-    /// The message that the handler is to run on, and as whom: that of the open job, or the next one that is
-    /// replayed; none, if there is none, the state isn't the image's, or it can't be run as this process.
+    /// The message that the handler is to run on, and the identity that it is called with, if there
+    /// is such a message, the state has the image's length, and the handler may be run as this
+    /// process.
     pub fn next_call(&self) -> Option<(OpenJob, Who)>
         ensures none { IfNone result (Rests self.now) }
         ensures next { IfSome result (λ c. IsNext self.now c.0 c.1) }
@@ -92,8 +93,8 @@ impl Process {
         Some((job, who))
     }
 
-    /// What a call left is taken in. A refusal changes nothing. What helpers refused is counted but in a replay, as
-    /// another life has it already.
+    /// Takes the answer of a call. A refusal changes nothing. What helpers refused is counted,
+    /// except in a replay, since an earlier incarnation counted it.
     pub(crate) fn take_back(
         &mut self,
         alloc: Global,
@@ -115,7 +116,7 @@ impl Process {
 }
 
 impl Course {
-    /// What was refused before, and in a call that isn't a replay this too.
+    /// The earlier count, plus this one unless the call was a replay.
     fn counted(&self, before: Refused, refused: Refused) -> Refused {
         let mut all = before;
         if self.is_up() {
@@ -124,7 +125,7 @@ impl Course {
         all
     }
 
-    /// The handler left this state, and gave this. A refusal changes nothing.
+    /// Takes the state that the handler left, and what it sent. A refusal changes nothing.
     fn take_in(&mut self, state: Vec<u8>, given: &[Given]) -> Result<(), AllocError>
         requires { MayTakeIn self.old given.now }
         ensures ok { OnOk result (TakesIn state.items given.now self.old self.new) }
@@ -138,7 +139,8 @@ impl Course {
     }
 }
 
-/// The messages that a handler gave for others, and behind them its outputs, which are for the gateway.
+/// The messages that a handler sent to other processes, and after them its outputs, for the
+/// gateway.
 pub(crate) fn given(alloc: Global, who: Who, effects: &Effects) -> Result<Vec<Given>, AllocError>
     ensures value { IfOk result (λ v. v.items ≡ given_of who effects.now) }
     ensures few { IfOk result (λ v. length v.items ≤ MOST_GIVEN) }
@@ -152,7 +154,7 @@ pub(crate) fn given(alloc: Global, who: Who, effects: &Effects) -> Result<Vec<Gi
     Ok(given)
 }
 
-/// Behind what was given, the messages for other processes.
+/// Appends the messages for other processes.
 fn add_sent(given: &mut Vec<Given>, who: Who, sends: &[Sent]) -> Result<(), AllocError>
     ensures { OnOk result (given.new.items ≡ given.old.items ++ sent_by who sends.now) }
 {
@@ -167,7 +169,7 @@ fn add_sent(given: &mut Vec<Given>, who: Who, sends: &[Sent]) -> Result<(), Allo
     Ok(())
 }
 
-/// Behind what was given, the outputs.
+/// Appends the outputs.
 fn add_shown(given: &mut Vec<Given>, outputs: &[Payload]) -> Result<(), AllocError>
     ensures { OnOk result (given.new.items ≡ given.old.items ++ map shown_of outputs.now) }
 {

@@ -1,4 +1,4 @@
--- A process that comes back, beside others
+-- A recovering process together with others
 use Rattle.std.specs.Prelude.{◌≡◌, ◌≢◌, ℕ, ◌<◌, List}
 use Rattle.cluster.specs.Cluster.{Cluster, Dead}
 use Rattle.cluster.specs.Rules.{Act, Dies, May, does, after_run, IsNode}
@@ -9,7 +9,7 @@ use Rattle.recovery.specs.Stands.{StandsCollecting, IsKeptOf, Reopens, Revives}
 use Rattle.recovery.specs.Replaying.{TheReplaying}
 use Rattle.recovery.specs.StandsReplaying.{StandsReplaying}
 
--- it stands after the acts of another
+-- a process that collects still agrees with the cluster after the acts of another
 abbrev pub OthersStand : Type 0
 OthersStand = (n : TheCollecting) (p q : ℕ) (acts : List Act) (c : Cluster) → q ≢ p → Each (λ (a : Act). actor a ≡ q) acts → StandsCollecting n c p → StandsCollecting n (after_run c acts) p
 
@@ -17,7 +17,7 @@ OthersStand = (n : TheCollecting) (p q : ℕ) (acts : List Act) (c : Cluster) �
 abbrev pub ReplayingStands : Type 0
 ReplayingStands = (n : TheReplaying) (p q : ℕ) (acts : List Act) (c : Cluster) → q ≢ p → Each (λ (a : Act). actor a ≡ q) acts → StandsReplaying n c p → StandsReplaying n (after_run c acts) p
 
--- where k is what is kept of a process, it may die, and is opened from k in an incarnation that wasn't stored yet: k stays what is kept
+-- a process with kept state k may die and be opened from k, in an incarnation that wasn't stored yet: k is still its kept state
 abbrev pub ComesBackAgain : Type 0
 ComesBackAgain = (k : Kept) (life : ℕ) (n : TheCollecting) (c : Cluster) → Revives k life n → IsNode c k.me → c.stage k.me ≢ Dead → c.stored k.me < life → IsKeptOf k c k.me
     → May c (Dies k.me) × Reopens k.me life (λ d. StandsCollecting n d k.me × IsKeptOf k d k.me) (does c (Dies k.me))

@@ -1,4 +1,4 @@
--- What a process is that recovered
+-- A process just after it recovered
 use Rattle.std.specs.Prelude.{◌≡◌, ℕ, ◌+◌, ◌≤◌, List, length, map, take, drop, true}
 use Rattle.world.specs.Handlers.{Handlers}
 use Rattle.theorems.specs.Growth.{Grows}
@@ -13,20 +13,20 @@ use Rattle.recovery.specs.Plan.{has_all, Plans}
 use Rattle.recovery.specs.Replaying.{TheReplaying}
 use Rattle.recovery.specs.StandsReplaying.{IsInOrder}
 
--- it has of its own what it had, keeps the messages of its plan, and has replayed none of them
+-- it is the same process, keeps the messages of its plan, and has replayed none of them
 pub record Recovered (n : TheCollecting) (r : TheReplaying) : Type 0 where
   pub own : r.own ≡ n.own
   pub plans : Plans n r.plan
   pub none : r.done ≡ 0
 
--- p had received these behind what its checkpoint covers, just so, and all is among them that was acknowledged without a gap
+-- p had received exactly these after its checkpoint, and all that was acknowledged without a gap is among them
 pub record HadReceived (c : Cluster) (p base : ℕ) (jobs : List OpenJob) : Type 0 where
   pub within : base + length jobs ≤ length (c.history p)
   pub same : map job_of jobs ≡ drop base (take (base + length jobs) (c.history p))
   pub acknowledged : (k : ℕ) → AllAcknowledged c p k → k ≤ base + length jobs
   pub in_order : IsInOrder c p
 
--- in each run what recovers keeps what it had received
+-- in each run a process that recovers keeps what it had received
 abbrev pub KeepsWhatItHad : Type 0
 KeepsWhatItHad = (count : ℕ) (f : Handlers) (acts : List Act) (n : TheCollecting) (r : TheReplaying) → count ≤ 15 → Grows f → Run (opening count f) acts
     → StandsCollecting n (after_run (opening count f) acts) n.own.me → has_all n ≡ true → Recovered n r → HadReceived (after_run (opening count f) acts) n.own.me n.own.base r.plan

@@ -1,4 +1,4 @@
--- What a host reads of a process that comes back
+-- What a host reads of a recovering process
 use Rattle.std.specs.Prelude.{ℕ, zero, suc, ◌+◌, ◌^◌, ◌-◌, length, Bool, not, ◌&&◌, ◌==◌, if◌then◌else◌}
 use Rattle.node.specs.declared.standing.Stage.{Stage}
 use Rattle.node.specs.declared.standing.Stage.TheVariants as stage
@@ -9,12 +9,12 @@ use Rattle.recovery.specs.Collecting.{TheCollecting, told_of}
 use Rattle.recovery.specs.Replaying.{TheReplaying}
 use Rattle.recovery.specs.Replayed.{TheReplayed}
 
--- a bit for each number below d of which this holds
+-- a bit for each number below d for which this holds
 abbrev pub bits_of : (ℕ → Bool) → ℕ → ℕ
 bits_of f zero = 0
 bits_of f (suc d) = bits_of f d + (if f d then 2 ^ d else 0)
 
--- how it stands in a stage, with so many messages behind its checkpoint, and so many to be replayed
+-- the status in a stage, with this many messages since its checkpoint, and this many to replay
 abbrev pub standing_in : Stage → ℕ → ℕ → TheOwn → Standing
 standing_in at receipts replays o =
     record {
@@ -34,11 +34,11 @@ standing_in at receipts replays o =
 abbrev pub is_asked : TheCollecting → ℕ → Bool
 is_asked n q = not (q == n.own.me) && not (told_of n.told q).done
 
--- one that collects waits for these
+-- the status while it collects: it waits for these peers
 abbrev pub collecting_standing : TheCollecting → Standing
 collecting_standing n = record (standing_in stage.Collecting 0 0 n.own) { waited_for = bits_of (is_asked n) (n.own.count + 1) }
 
--- what one that replays has replayed is behind its checkpoint
+-- the status while it replays: what it has replayed came after its checkpoint
 abbrev pub replaying_standing : TheReplaying → Standing
 replaying_standing n = standing_in stage.Replaying n.done (length n.plan - n.done) n.own
 

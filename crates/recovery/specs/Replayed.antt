@@ -1,4 +1,4 @@
--- A process that has replayed all that it keeps, and which clusters it stands in
+-- A process that has finished its replay, and when it agrees with a cluster
 use Rattle.std.specs.Prelude.{◌≡◌, ℕ, ◌+◌, ◌≤◌, [], length, None, true, false}
 use Rattle.std.specs.List.{AllByRecursion}
 use Rattle.rsn.specs.Receipts.{Received}
@@ -11,21 +11,21 @@ use Rattle.node.specs.Stands.{HasReceived}
 use Rattle.recovery.specs.Own.{TheOwn, IsShort}
 use Rattle.recovery.specs.Stands.{HasOwn}
 
--- what it has of its own, and what it received behind its checkpoint
+-- the process, and what it received after its checkpoint
 pub record TheReplayed : Type 0 where
   pub own : TheOwn
   pub receipts : Received
 
--- what its numbers keep: it received no more than a process does, all of its peers, and no more than sixteen messages to each were sent for
--- each of these
+-- what always holds of its numbers: it received no more than a process may, all of it from its peers, and for each at most sixteen messages
+-- were sent to each destination
 pub record IsReplayed (own : TheOwn) (receipts : Received) : Type 0 where
   pub young : own.base + length receipts.senders ≤ MOST_RECEIVED
   pub short : IsShort own.logs (own.base + length receipts.senders)
-  -- each is of another
+  -- each is from a peer
   pub peers : AllByRecursion (IsPeer own.me own.count) receipts.senders
 
--- it stands in a cluster in which p recovered and replayed: all that it keeps is acknowledged, it has no numbers of its peers, and waits
--- for those of all; where there are none, all that it sent is released
+-- it agrees with a cluster in which p recovered and replayed: all that it keeps is acknowledged, it has no RSNs from its peers, and waits
+-- for those of all; if there are none, all that it sent is released
 pub record StandsReplayed (n : TheReplayed) (c : Cluster) (p : ℕ) : Type 0 where
   pub stage : c.stage p ≡ Live
   pub greeted : c.greeted p ≡ false
@@ -39,6 +39,6 @@ pub record StandsReplayed (n : TheReplayed) (c : Cluster) (p : ℕ) : Type 0 whe
   pub restoring : (q : ℕ) → c.restoring p q ≡ 0
   pub released : peers (seen c) p false ≡ [] → (d : ℕ) → c.released p d ≡ sent_in_all (seen c) p d
 
--- what it owes that is handed a packet: it stands where it stood, or isn't exact any more
+-- what a call owes that is handed a packet: the process still agrees, or is no longer exact
 abbrev pub Stays : TheReplayed → TheReplayed → Type 0
 Stays old new = new.own.exact ≡ true → (c : Cluster) (p : ℕ) → StandsReplayed old c p → StandsReplayed new c p

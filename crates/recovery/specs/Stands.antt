@@ -1,4 +1,4 @@
--- Which clusters a process stands in that comes back, and what a call owes
+-- When a recovering process agrees with a cluster, and what a call owes
 use Rattle.std.specs.Prelude.{◌≡◌, ◌≢◌, ℕ, suc, ◌+◌, ◌<◌, ◌≤◌, List, [], ◌∷◌, length, take, Option, Some, None, Bool, true, false, slice_index_or}
 use Rattle.world.specs.declared.message.Message.{Message}
 use Rattle.world.specs.History.{count_of}
@@ -21,27 +21,27 @@ pub use Rattle.node.specs.Kept.{IsKeptOf}
 use Rattle.recovery.specs.Collected.{TheCollected}
 use Rattle.recovery.specs.Collecting.{TheCollecting, told_of}
 
--- what the packet says was put out, unless it says that all is lost: of that no cluster tells
+-- what the packet says was sent, unless it says that all is lost, which no packet of a cluster says
 abbrev pub IsSaid : List Parcel → ℕ → ℕ → Body → Type 0
 IsSaid parcels from to body = is_loss body ≡ false → WasSaid parcels from to body
 
--- it was put out, as a packet of the process p of so many, unless it says that
+-- it was sent, as a packet of the process p, unless it says that
 abbrev pub IsSent : ℕ → List Parcel → ℕ → Packet → Type 0
 IsSent count parcels p x = is_loss x.body ≡ false → PutOut count parcels p x
 
--- as far as it knows failures came one at a time, and so no peer told that what it had is lost
+-- as far as it knows failures came one at a time, so no peer said that it lost what it had
 pub record IsSure (count : ℕ) (lost : List Bool) (exact : Bool) : Type 0 where
   pub exact_is : exact ≡ true
   pub none_lost : (q : ℕ) → q ≤ count → slice_index_or lost q true ≡ false
 
--- of what n messages send to one, a queue has released what the first of them send, as many as base, and so what the checkpoint covers; the
--- rest waits, each for a number behind that
+-- of what n messages send to one destination, a queue has released what the first `base` of them send, and so what the checkpoint covers;
+-- the rest waits, each for a later RSN
 pub record IsHeldBack (q : TheQueue) (n base : ℕ) (sent : ℕ → ℕ) : Type 0 where
   pub released_is : q.released ≡ sent base
   pub shut : IsShut q n (sent base) sent
 
--- what a process has of its own is what the cluster has of p, whose state has the messages h, and its log these numbers, with so many
--- entries dropped
+-- the process is what the cluster has of p: its state is the one after the messages h, and its log has these RSNs, with this many entries
+-- dropped
 pub record HasOwn (o : TheOwn) (c : Cluster) (p : ℕ) (h : List Message) (trims : ℕ → ℕ) (numbers : ℕ → ℕ → Option ℕ) : Type 0 where
   pub me : o.me ≡ p
   pub count : o.count ≡ c.count
@@ -57,53 +57,54 @@ pub record HasOwn (o : TheOwn) (c : Cluster) (p : ℕ) (h : List Message) (trims
   pub sure : IsSure o.count o.lost o.exact
   pub out : Each (IsSent c.count c.parcels p) o.out
 
--- up to where a peer told: nothing goes anywhere
+-- whether what a peer told reaches m; with no page at all it counts as reaching every m
 abbrev pub reached : Option Collected → ℕ → Bool
 reached None m = true
 reached (Some t) m = reaches t.upto m
 
--- what is held of what a peer q told is what the cluster has of it, above the checkpoint: the entries, as far as they go, and what is asked
--- for next
+-- what the process holds from a peer q is what the cluster has of it above the checkpoint: the entries, as far as they go, and the RSN that
+-- is asked for next
 pub record IsTold (q base : ℕ) (x : TheCollected) (t : Option Collected) : Type 0 where
   pub asks : x.done ≡ false → Asks base t x.cursor
   pub all : x.done ≡ true → IsAll t
   pub low : x.done ≡ false → Each (λ (e : Entry). e.number ≤ x.cursor) x.entries
   pub entries : (m : ℕ) → base < m → reached t m ≡ true → entry_in t m ≡ first_told q x.entries m
 
--- a process that collects stands in a cluster in which p does
+-- a process that collects agrees with a cluster in which p collects
 pub record StandsCollecting (n : TheCollecting) (c : Cluster) (p : ℕ) : Type 0 where
   pub stage : c.stage p ≡ Collecting
   pub life : c.stored p ≡ n.own.life
   pub own : HasOwn n.own c p (take n.own.base (c.history p)) (c.saved_trims p) (λ _ _. None)
   pub told : (q : ℕ) → q ≤ c.count → IsTold q n.own.base (told_of n.told q) (c.told p q)
-  -- nor did it tell itself anything
+  -- it has told itself nothing
   pub alone : c.told p p ≡ None
 
--- p is opened in this incarnation, those before it are skipped that weren't stored yet, and it goes on from there
+-- p is opened in this incarnation, after those that were skipped and never stored, and goes on to a cluster for which P holds
 pub record Reopens (p life : ℕ) (P : Cluster → Type 0) (c : Cluster) : Type 0 where
   pub skipped : ℕ
   pub opens : May c (Opens p skipped)
   pub incarnation : suc (skipped + c.stored p) ≡ life
   pub goes : GoesTo p P (does c (Opens p skipped))
 
--- what it owes that comes back: where p is dead, what is kept is what its checkpoint covers, and no incarnation from this one on was
--- stored, it is opened in this one, and goes on to a cluster in which it stands
+-- what a process owes that comes back: if p is dead, the kept state is what its checkpoint covers, and no incarnation from this one on was
+-- stored, then it is opened in this one, and goes on to a cluster with which it agrees
 abbrev pub Revives : Kept → ℕ → TheCollecting → Type 0
 Revives k life n = (c : Cluster) → c.stage k.me ≡ Dead → c.stored k.me < life → IsKeptOf k c k.me → IsNode c k.me → Reopens k.me life (λ d. StandsCollecting n d k.me) c
 
--- what a call owes of one that collects: from each cluster in which it stood, and of which this holds, to one in which it stands
+-- what a call owes of a process that collects: from each cluster with which it agreed, and for which `given` holds, to one with which it
+-- agrees
 abbrev pub Owes : (Cluster → Type 0) → TheCollecting → TheCollecting → Type 0
 Owes given old new = (c : Cluster) → StandsCollecting old c old.own.me → given c → GoesTo old.own.me (λ d. StandsCollecting new d old.own.me) c
 
--- one that is told nothing
+-- what a call owes that is handed nothing
 abbrev pub Acts : TheCollecting → TheCollecting → Type 0
 Acts old new = Owes (λ c. Unit {0}) old new
 
--- one that is handed a packet, if that was put out; it owes nothing where it isn't exact any more
+-- what a call owes that is handed a packet, if that was sent; nothing if the process is no longer exact
 abbrev pub IsHanded : Packet → TheCollecting → TheCollecting → Type 0
 IsHanded x old new = new.own.exact ≡ true → Owes (λ c. IsSaid c.parcels x.from x.to x.body) old new
 
--- what take owes: the packet that waited first, which was put out; the process is without it
+-- what `take` owes: it gives the first packet that waited, which was sent, and the process no longer has it
 abbrev pub Takes : Option Packet → TheCollecting → TheCollecting → Type 0
 Takes None old new = (old.own.out ≡ []) × (new ≡ old)
 Takes (Some x) old new = (old ≡ record new { own = record new.own { out = x ∷ new.own.out } }) × ((c : Cluster) → StandsCollecting old c old.own.me → IsSent c.count c.parcels old.own.me x × StandsCollecting new c old.own.me)

@@ -1,4 +1,4 @@
-//! A process that asks its peers what their logs hold for it.
+//! A process that collects: it asks its peers what their logs hold for it.
 
 ghost use Rattle.std.specs.Prelude.{◌≡◌, ◌≢◌, ◌≤◌, ◌<◌, ◌+◌, ◌^◌, true, IfOk, OnOk, OnErr};
 ghost use Rattle.std.specs.List.{list_all};
@@ -15,7 +15,7 @@ use packets::{Body, Entry, Flags, Kept, KeptLog, Packet};
 use std::alloc::{AllocError, Global};
 use std::marker::Model;
 
-/// A process that came back, and what its peers told.
+/// A process that comes back, and what its peers have told.
 #[derive(Drop)]
 pub struct Collecting {
     pub(crate) own: Own,
@@ -32,8 +32,8 @@ impl Model for Collecting {
     ghost invariant = { λ n. IsCollecting n.own n.told.items };
 }
 
-/// Whether this can be what is kept of a process of a cluster: each number is in its range, and no
-/// more messages were sent than those make that were received.
+/// Whether a process can come back from this kept state: each number is in range, and no more
+/// messages were sent than its received messages can cause.
 pub fn comes_back(kept: &Kept) -> bool
     ensures { result ≡ comes_back kept.now }
 {
@@ -43,7 +43,7 @@ pub fn comes_back(kept: &Kept) -> bool
     are_short(MOST_GIVEN as u64 * kept.length + 2, kept.logs.as_slice())
 }
 
-/// Whether it is of a process of a cluster, with counts and logs for each peer.
+/// Whether it is the state of a process of a cluster, with counts and logs for each peer.
 fn is_process(kept: &Kept) -> bool
     ensures { result ≡ is_process kept.now }
 {
@@ -55,7 +55,7 @@ fn is_process(kept: &Kept) -> bool
         && kept.logs.as_slice().len() == peers
 }
 
-/// Whether each log has fewer messages than these, with those that were dropped.
+/// Whether each log has fewer messages than `most`, those that were dropped included.
 fn are_short(most: u64, logs: &[KeptLog]) -> bool
     requires { most < 2 ^ 63 }
     ensures { result ≡ list_all (is_short most) logs.now }
@@ -73,8 +73,8 @@ fn is_short(most: u64, log: &KeptLog) -> bool
 }
 
 impl Collecting {
-    /// What is kept of a process comes back in this incarnation; they count from 1. It keeps to these limits
-    /// from now on. All its peers are asked.
+    /// A process comes back from its kept state in this incarnation, which counts from 1. It keeps
+    /// these limits from now on, and asks all its peers.
     pub fn revive(
         alloc: Global,
         limits: Limits,
@@ -111,14 +111,14 @@ impl Collecting {
         Ok(Collecting { own, told })
     }
 
-    /// A packet that is to be sent, the first that waits; none, if there is none.
+    /// Takes the first packet that waits to be sent, if there is one.
     pub fn take(&mut self) -> Option<Packet>
         ensures { Takes result self.old self.new }
     {
         self.own.pop()
     }
 
-    /// The peers that haven't told all are asked again.
+    /// Asks the peers again that haven't told all.
     pub fn tick(&mut self)
         ensures value { self.new ≡ asked self.old }
         ensures acts { Acts self.old self.new }
@@ -126,14 +126,14 @@ impl Collecting {
         self.ask_all();
     }
 
-    /// A packet came. The answer of a peer to what was asked last is taken in, and the Ask of a peer that
-    /// comes back too is answered; anything else is dropped. A refusal changes nothing.
+    /// Takes a packet: the answer of a peer to the last question, or the Ask of a peer that is
+    /// recovering too, which it answers. It drops anything else. A refusal changes nothing.
     pub fn receive(&mut self, alloc: Global, packet: &Packet) -> Result<(), AllocError>
         ensures value { OnOk result (self.new ≡ handed packet.now self.old) }
         ensures acts { OnOk result (IsHanded packet.now self.old self.new) }
         ensures err { OnErr result (self.new ≡ self.old) }
     {
-        // For the proof: reading a field tells the invariant.
+        // For the proof: reading a field gives the invariant.
         let _known = self.told.len();
         self.hand(alloc, packet)
     }
@@ -189,7 +189,7 @@ impl Collecting {
         }
     }
 
-    /// Whether a page answers what was asked last.
+    /// Whether a page answers the last question to a peer.
     fn is_answer(&self, from: u8, life: u64, teller: u64, above: u64) -> bool
         requires { from ≤ self.now.own.count }
         ensures { result ≡ answers from life teller above self.now }
@@ -201,7 +201,7 @@ impl Collecting {
             && above == told.cursor
     }
 
-    /// A page is taken in, and the peer is asked for the next one.
+    /// Adds a page, and asks the peer for the next one.
     fn add(&mut self, from: u8, teller: u64, flags: Flags, page: &[Entry]) -> Result<(), AllocError>
         requires { IsPeer self.old.own.me self.old.own.count from }
         ensures ok { OnOk result (self.new ≡ took_page from teller flags page.now self.old) }
@@ -213,8 +213,9 @@ impl Collecting {
         Ok(())
     }
 
-    /// `from` comes back too, in its incarnation `life`, and asks what the log holds for it above this
-    /// number. It is told that all that is lost; one of an incarnation that is over is dropped.
+    /// Takes an Ask: `from` is recovering too, in its incarnation `life`, and asks what the log
+    /// holds for it above this RSN. Answers that all of it is lost; drops an Ask of an earlier
+    /// incarnation.
     fn receive_ask(&mut self, alloc: Global, from: u8, life: u64, above: u64)
         requires { IsPeer self.old.own.me self.old.own.count from }
         ensures { self.new ≡ asked_by from life above self.old }
@@ -229,7 +230,7 @@ impl Collecting {
         self.own.lose(alloc, from, life, above);
     }
 
-    /// A peer comes back in this incarnation, which is newer: it has told nothing yet, and is asked anew.
+    /// Hears a newer incarnation of a peer: it has told nothing yet, and is asked anew.
     fn ask_anew(&mut self, alloc: Global, from: u8, life: u64)
         requires { IsPeer self.old.own.me self.old.own.count from }
         ensures { self.new ≡ asks_anew from life self.old }

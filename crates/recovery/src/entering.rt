@@ -1,4 +1,4 @@
-//! What a process that has replayed takes in of its peers.
+//! What a process takes from its peers after its replay.
 
 ghost use Rattle.std.specs.Prelude.{◌≡◌, ◌≤◌, ◌+◌, suc, length, slice_index_or};
 ghost use Rattle.outbox.specs.Outbox.{Pops};
@@ -14,7 +14,7 @@ use packets::{Body, Flags, Packet, Pair};
 use std::alloc::Global;
 
 impl Replayed {
-    /// Its number.
+    /// The number of its process.
     pub fn me(&self) -> u8
         ensures value { result ≡ self.now.own.me }
         ensures within { (1 ≤ result) × (result ≤ self.now.own.count) }
@@ -22,7 +22,7 @@ impl Replayed {
         self.own.me()
     }
 
-    /// How many processes there are.
+    /// The number of processes.
     pub fn count(&self) -> u8
         ensures value { result ≡ self.now.own.count }
         ensures few { result ≤ 15 }
@@ -46,14 +46,14 @@ impl Replayed {
         self.own.base() + u64::from(self.receipts.length())
     }
 
-    /// Whether a packet is of another node of this cluster to this one.
+    /// Whether a packet is from another node of this cluster to this one.
     pub fn is_for(&self, packet: &Packet) -> bool
         ensures { result ≡ is_for self.now.own packet.now }
     {
         self.own.is_for(packet)
     }
 
-    /// The greatest incarnation of a peer that it heard of.
+    /// The greatest incarnation of a peer that it heard.
     pub fn heard(&self, peer: u8) -> u64
         requires { peer ≤ self.now.own.count }
         ensures { result ≡ slice_index_or self.now.own.heard peer 0 }
@@ -61,7 +61,7 @@ impl Replayed {
         self.own.heard(peer)
     }
 
-    /// It hears of this incarnation of a peer.
+    /// Hears this incarnation of a peer.
     pub fn hear(&mut self, peer: u8, life: u64)
         requires { peer ≤ self.old.own.count }
         ensures { self.new ≡ record self.old { own = hears peer life self.old.own } }
@@ -69,7 +69,7 @@ impl Replayed {
         self.own.hear(peer, life);
     }
 
-    /// By peer whether it told that what it had is lost.
+    /// By peer: whether it said that it lost what it had.
     pub fn lost(&self) -> &[bool]
         ensures { result.now ≡ self.now.own.lost }
     {
@@ -83,15 +83,15 @@ impl Replayed {
         self.own.exact
     }
 
-    /// A page came, which says whether its teller is exact.
+    /// Takes a page's word whether its teller is exact.
     pub fn trust(&mut self, flags: Flags)
         ensures { self.new ≡ record self.old { own = trusts flags self.old.own } }
     {
         self.own.exact = self.own.exact && flags.exact();
     }
 
-    /// A peer that comes back in its incarnation `life` asks what the log holds for it above this
-    /// number: it is told that all that is lost.
+    /// Takes an Ask: a peer is recovering in its incarnation `life`, and asks what the log holds
+    /// for it above this RSN. Answers that all of it is lost.
     pub fn receive_ask(&mut self, alloc: Global, from: u8, life: u64, above: u64)
         requires { from ≤ self.old.own.count }
         ensures { self.new ≡ record self.old { own = asked_by from life above self.old.own } }
@@ -108,7 +108,8 @@ impl Replayed {
         log.dropped() + log.len() as u64
     }
 
-    /// Its log for a peer drops what is covered for good, and gets the numbers of a page of that one.
+    /// Drops from its log for a peer what is covered for good, and enters the RSNs of a page of
+    /// that peer.
     pub fn take_in(&mut self, to: u8, covered: u64, pairs: &[Pair])
         requires to { to ≤ self.old.own.count }
         requires page { AscendFrom 0 pairs.now }
@@ -120,14 +121,14 @@ impl Replayed {
         note(log, pairs);
     }
 
-    /// A packet waits to be taken.
+    /// Puts a packet into the outbox.
     pub fn put(&mut self, to: u8, body: Body)
         ensures { self.new ≡ record self.old { own = posts to body self.old.own } }
     {
         self.own.put(to, body);
     }
 
-    /// The packet that waits first leaves; none, if there is none.
+    /// Takes the first packet that waits, if there is one.
     pub fn pop(&mut self) -> Option<Packet>
         ensures packet { Pops result self.old.own.out self.new.own.out }
         ensures rest { self.new ≡ record self.old { own = record self.old.own { out = self.new.own.out } } }
@@ -135,8 +136,9 @@ impl Replayed {
         self.own.pop()
     }
 
-    /// Its node, where its peers told their numbers: of which of them it obeyed the Resume. All that it
-    /// sent is released, or where it is durable what its checkpoint covers. The packets that wait are those of one that comes back, and are lost.
+    /// The node of the process, after its peers have told their RSNs; `resumed` says whose Resume
+    /// it obeyed. All that it sent is released, or if it is durable, what its checkpoint covers.
+    /// The packets that still wait are questions of its recovery, and are dropped.
     pub fn into_node(self, resumed: Vec<bool>) -> Node
         requires { length resumed.items ≡ suc self.own.count }
         ensures { result ≡ returns resumed.items self }
@@ -175,13 +177,13 @@ impl Replayed {
     }
 }
 
-/// The messages of a page get their numbers, as far as the log has them.
+/// Enters the RSNs of a page, as far as the log has these messages.
 fn note(log: &mut Queue, pairs: &[Pair])
     requires page { AscendFrom 0 pairs.now }
     requires numbers { AllByRecursion IsSmallPair pairs.now }
     ensures { log.new ≡ noted pairs.now log.old }
 {
-    // For the proof: as many numbers as messages.
+    // For the proof: there are as many RSNs as messages.
     let _known = log.len();
     for pair in pairs {
         if log.is_kept(pair.ssn) {

@@ -1,20 +1,21 @@
-//! Of a cluster: a process that comes back, from what is kept of it to a node that is up.
+//! The recovery of a process: it collects what its peers' logs hold for it, and replays that.
 //!
-//! It begins from the decoded bytes of its checkpoint and a new incarnation ([`Collecting::revive`]):
-//! it asks each peer what that one's log holds for it, and takes in what comes, page by page. Its
-//! host sends the packets that it gives, hands it those that came, and lets it ask again now and then.
-//! When all have told, it recovers ([`Collecting::recover`]): the handler runs again on the messages
-//! that it keeps ([`Replaying::job`], [`Replaying::work`]), and after the last of them it has replayed
-//! all ([`Replaying::finish`]).
+//! It begins from the decoded bytes of its checkpoint and a new incarnation
+//! ([`Collecting::revive`]). It asks each peer what that one's log holds for it, and takes the
+//! answers page by page. Its host sends the packets that it gives, hands it those that arrive, and
+//! has it ask again now and then. When all peers have told all, it recovers
+//! ([`Collecting::recover`]): the handler runs again on the messages that it keeps
+//! ([`Replaying::job`], [`Replaying::work`]), until the replay is over ([`Replaying::finish`]).
+//! Crate `restoring` goes on from there.
 //!
-//! The promise: each call is none, one or more acts of the process that the rules of crate `cluster`
-//! allow, and what it then holds is what the cluster has of it. A call that is refused memory changes
+//! Each call is zero or more acts of the process that the rules of crate `cluster` allow, and the
+//! process then holds what the cluster has of it. A call that is refused for lack of memory changes
 //! nothing.
 //!
-//! Two that come back at the same time meet: one that hears the Ask of another answers that all that
-//! its log held for it is lost, and the other doesn't wait for it. One that was told so isn't exact any
-//! more, nor is one that had recovered already when it heard of the other: it owes no acts then. Its
-//! calls stay what the definitions say.
+//! Two recoveries can meet. A recovering process that hears the Ask of another answers that all
+//! that its log held for it is lost, and the other doesn't wait for it. A process that was told so
+//! is no longer exact, and neither is one that had already recovered when it heard the other's Ask.
+//! From then on it owes no acts; its calls still do what the definitions say.
 //!
 //! ```text
 //! let mut node = Collecting::revive(alloc, &kept, incarnation)?;

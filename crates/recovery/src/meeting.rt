@@ -1,4 +1,4 @@
-//! What a process that comes back does for another that comes back at the same time.
+//! A recovering process answers a peer that is recovering too.
 
 ghost use Rattle.std.specs.Prelude.{◌≡◌, ℕ, ◌≤◌};
 ghost use Rattle.recovery.specs.Own.{posts, IsShort};
@@ -9,7 +9,7 @@ use packets::{Body, Flags, Packet, Page};
 use std::alloc::Global;
 
 impl Own {
-    /// A packet came to a process that has recovered. An Ask is answered, anything else is dropped.
+    /// A process that has recovered takes a packet: it answers an Ask, and drops anything else.
     pub(crate) fn receive(&mut self, alloc: Global, packet: &Packet)
         ensures value { self.new ≡ handed packet.now self.old }
         ensures same { (self.new.me ≡ self.old.me) × ((self.new.count ≡ self.old.count) × (self.new.base ≡ self.old.base)) }
@@ -26,8 +26,9 @@ impl Own {
         }
     }
 
-    /// `from`, which comes back in its incarnation `life`, asks what the log holds for it above this
-    /// number. All that is lost, and so it is told. One of an incarnation that is over is dropped.
+    /// Takes an Ask: `from` is recovering in its incarnation `life`, and asks what the log holds
+    /// for it above this RSN. Answers that all of it is lost; drops an Ask of an earlier
+    /// incarnation.
     pub(crate) fn receive_ask(&mut self, alloc: Global, from: u8, life: u64, above: u64)
         requires { from ≤ self.old.count }
         ensures value { self.new ≡ asked_by from life above self.old }
@@ -44,8 +45,8 @@ impl Own {
         self.lose(alloc, from, life, above);
     }
 
-    /// A peer comes back in this incarnation, which is newer: all its numbers are forgotten, and
-    /// failures didn't come one at a time.
+    /// Hears a newer incarnation of a peer: forgets all its RSNs. Failures overlap, so the process
+    /// is no longer exact.
     fn meet(&mut self, from: u8, life: u64)
         requires { from ≤ self.old.count }
         ensures value { self.new ≡ meets from life self.old }
@@ -56,8 +57,8 @@ impl Own {
         self.logs[from as usize].forget_above(0);
     }
 
-    /// A peer in its incarnation `life` is told that all is lost that the log held for it above this
-    /// number.
+    /// Tells a peer in its incarnation `life` that all is lost that the log held for it above this
+    /// RSN.
     pub(crate) fn lose(&mut self, alloc: Global, to: u8, life: u64, above: u64)
         ensures { self.new ≡ posts to (loss_of life above self.old) self.old }
     {

@@ -1,4 +1,4 @@
-//! The moment of recovery.
+//! A process recovers: from collecting to replaying.
 
 ghost use Rattle.std.specs.Prelude.{◌≡◌, ◌≤◌, ◌<◌, length, true, IfOk, IfErr};
 ghost use Rattle.node.specs.Stands.{Each};
@@ -14,16 +14,16 @@ use node::OpenJob;
 use rsn::{LIMIT, Receipts, SENDERS};
 use std::alloc::{AllocError, Global};
 
-/// Why a process doesn't recover.
+/// Why a process can't recover.
 #[derive(Clone, Copy, Debug, PartialEq, Eq)]
 pub enum Cause {
-    /// There is no memory.
+    /// Memory ran out.
     Memory,
     /// It would keep more messages than a process takes.
     TooMany,
 }
 
-/// A process that doesn't recover: it goes on collecting, as it was.
+/// A process that couldn't recover, unchanged, and why.
 #[derive(Drop)]
 pub struct Unrecovered {
     pub collecting: Collecting,
@@ -31,8 +31,8 @@ pub struct Unrecovered {
 }
 
 impl Collecting {
-    /// Where all peers have told all, the process keeps what its checkpoint covers and the messages of
-    /// its plan, which are to be replayed. What a refusal hands back goes on collecting.
+    /// If all peers have told all, the process keeps what its checkpoint covers and the messages of
+    /// its plan, which it replays. A refusal gives the process back.
     pub fn recover(self, alloc: Global) -> Result<Replaying, Unrecovered>
         requires { has_all self ≡ true }
         ensures value { IfOk result (λ r. Recovered self r) }
@@ -50,14 +50,14 @@ impl Collecting {
         }
     }
 
-    /// The messages of its plan, and receipts of them.
+    /// The messages of its plan, and their receipts.
     fn keep(&self, alloc: Global) -> Result<(Vec<OpenJob>, Receipts), Cause>
         ensures plans { IfOk result (λ k. Plans self.now k.0.items) }
         ensures fits { IfOk result (λ k. Fits self.now k.0.items) }
         ensures receipts { IfOk result (λ k. k.1 ≡ receipts_of k.0.items) }
         ensures cause { IfErr result (λ e. e ≡ TooMany → Overruns self.now) }
     {
-        // For the proof: asking tells that each sender has a place in receipts.
+        // For the proof: the count shows that each sender has a place in the receipts.
         let _few = self.own.count();
         let Ok(followed) = self.follow(alloc) else {
             return Err(Cause::Memory);
@@ -71,7 +71,7 @@ impl Collecting {
         }
     }
 
-    /// It goes on as one that replays these.
+    /// The process with these messages to replay.
     fn turn(self, plan: Vec<OpenJob>, receipts: Receipts) -> Replaying
         requires fits { Fits self plan.items }
         requires receipts { receipts ≡ receipts_of plan.items }

@@ -1,4 +1,4 @@
-//! What a process has of its own while it comes back.
+//! The part of a recovering process that all its stages share.
 
 ghost use Rattle.std.specs.Prelude.{◌≡◌, ℕ, ◌≤◌, ◌+◌, ◌++◌, ◌^◌, length, map, true, false, Some, slice_get, slice_index_or, slice_set, IfOk, OnOk, OnErr};
 ghost use Rattle.outbox.specs.Outbox.{Pops};
@@ -13,7 +13,8 @@ use packets::{Body, Flags, Kept, KeptLog, Packet};
 use std::alloc::{AllocError, Global};
 use std::marker::Model;
 
-/// The limits of the process, its number, how many there are, its incarnation, its state, and what its logs keep.
+/// The limits of the process, its number, the number of processes, its incarnation, its state, and
+/// its logs.
 #[derive(Drop)]
 pub(crate) struct Own {
     pub(crate) limits: Limits,
@@ -21,16 +22,16 @@ pub(crate) struct Own {
     pub(crate) count: u8,
     pub(crate) life: u64,
     pub(crate) state: Vec<u8>,
-    /// How many messages its checkpoint covers, and how many of these are of each sender.
+    /// How many messages its checkpoint covers, and how many of these came from each sender.
     pub(crate) base: u64,
     pub(crate) covered: Vec<u64>,
-    /// By destination what it sent.
+    /// By destination: what it sent.
     pub(crate) logs: Vec<Queue>,
-    /// By peer the greatest incarnation that it heard of.
+    /// By peer: the greatest incarnation that it heard.
     pub(crate) heard: Vec<u64>,
-    /// By peer whether it told that what it had is lost.
+    /// By peer: whether it said that it lost what it had.
     pub(crate) lost: Vec<bool>,
-    /// Failures came one at a time, as far as it knows.
+    /// Whether failures came one at a time, as far as it knows.
     pub(crate) exact: bool,
     pub(crate) out: Outbox,
 }
@@ -46,8 +47,8 @@ impl Model for Own {
 }
 
 impl Own {
-    /// What is kept of a process, with these limits, in this incarnation. Of the gateway it heard, of the
-    /// others it didn't.
+    /// From the kept state of a process, with these limits and in this incarnation. It has heard
+    /// the gateway, and no peer yet.
     pub(crate) fn kept(
         alloc: Global,
         limits: Limits,
@@ -85,7 +86,7 @@ impl Own {
         })
     }
 
-    /// Its number.
+    /// The number of its process.
     pub(crate) fn me(&self) -> u8
         ensures value { result ≡ self.now.me }
         ensures within { (1 ≤ result) × (result ≤ self.now.count) }
@@ -93,7 +94,7 @@ impl Own {
         self.me
     }
 
-    /// How many processes there are.
+    /// The number of processes.
     pub(crate) fn count(&self) -> u8
         ensures value { result ≡ self.now.count }
         ensures few { result ≤ 15 }
@@ -110,7 +111,7 @@ impl Own {
         self.base
     }
 
-    /// How many of these are of each sender.
+    /// How many of these came from each sender.
     pub(crate) fn covered(&self) -> &[u64]
         ensures value { result.now ≡ self.now.covered }
         ensures wide { length result.now ≡ self.now.count + 1 }
@@ -119,7 +120,7 @@ impl Own {
         self.covered.as_slice()
     }
 
-    /// Whether a packet is of another node of this cluster to this one.
+    /// Whether a packet is from another node of this cluster to this one.
     pub(crate) fn is_for(&self, packet: &Packet) -> bool
         ensures { result ≡ is_for self.now packet.now }
     {
@@ -129,7 +130,7 @@ impl Own {
             && packet.from != self.me
     }
 
-    /// The greatest incarnation of a peer that it heard of.
+    /// The greatest incarnation of a peer that it heard.
     pub(crate) fn heard(&self, peer: u8) -> u64
         requires { peer ≤ self.now.count }
         ensures { result ≡ slice_index_or self.now.heard peer 0 }
@@ -137,7 +138,7 @@ impl Own {
         self.heard[peer as usize]
     }
 
-    /// It hears of this incarnation of a peer.
+    /// Hears this incarnation of a peer.
     pub(crate) fn hear(&mut self, peer: u8, life: u64)
         requires { peer ≤ self.old.count }
         ensures { self.new ≡ hears peer life self.old }
@@ -145,7 +146,7 @@ impl Own {
         self.heard[peer as usize] = life;
     }
 
-    /// It hears of this incarnation of a peer, which hasn't told yet that anything is lost.
+    /// Hears this incarnation of a peer, which hasn't said yet that it lost anything.
     pub(crate) fn hear_anew(&mut self, peer: u8, life: u64)
         requires { peer ≤ self.old.count }
         ensures { self.new ≡ record (hears peer life self.old) { lost = slice_set self.old.lost peer false } }
@@ -154,8 +155,8 @@ impl Own {
         self.lost[peer as usize] = false;
     }
 
-    /// A Told of this incarnation of a peer came. Where what that had is lost, or it isn't exact, neither
-    /// is this one.
+    /// Takes the flags of a Told from this incarnation of a peer. If the peer lost what it had, or
+    /// isn't exact, this process isn't exact either.
     pub(crate) fn learn(&mut self, peer: u8, life: u64, flags: Flags)
         requires { peer ≤ self.old.count }
         ensures { self.new ≡ learns peer life flags self.old }
@@ -165,8 +166,8 @@ impl Own {
         self.lost[peer as usize] = flags.lost();
     }
 
-    /// The handler ran on the message with this number: its state is taken over, and what it gave is
-    /// logged. A refusal changes nothing.
+    /// The handler ran on the message with this RSN: takes its state, and logs what it sent. A
+    /// refusal changes nothing.
     pub(crate) fn run(
         &mut self,
         state: Vec<u8>,
@@ -184,7 +185,7 @@ impl Own {
         Ok(())
     }
 
-    /// The packet that waits first leaves; none, if there is none.
+    /// Takes the first packet that waits, if there is one.
     pub(crate) fn pop(&mut self) -> Option<Packet>
         ensures packet { Pops result self.old.out self.new.out }
         ensures rest { self.new ≡ record self.old { out = self.new.out } }
@@ -192,7 +193,7 @@ impl Own {
         self.out.pop()
     }
 
-    /// A packet waits to be taken.
+    /// Puts a packet into the outbox.
     pub(crate) fn put(&mut self, to: u8, body: Body)
         ensures { self.new ≡ posts to body self.old }
     {
@@ -206,7 +207,7 @@ impl Own {
     }
 }
 
-/// The counts by peer, and of the process itself none.
+/// The counts by peer, with 0 for the process itself.
 fn counts(alloc: Global, counts: &[u64], me: usize) -> Result<Vec<u64>, AllocError>
     requires { me ≤ length counts.now }
     ensures { IfOk result (λ v. v.items ≡ with_own 0 me counts.now) }
@@ -218,7 +219,7 @@ fn counts(alloc: Global, counts: &[u64], me: usize) -> Result<Vec<u64>, AllocErr
     Ok(all)
 }
 
-/// The logs by peer, and to the process itself none.
+/// The logs by peer, with an empty one for the process itself.
 fn queues(alloc: Global, logs: &[KeptLog], me: usize) -> Result<Vec<Queue>, AllocError>
     requires inside { me ≤ length logs.now }
     requires room { (i : ℕ) (l : KeptLog) → slice_get logs.now i ≡ Some l → (1 ≤ l.first) × (l.first + length l.payloads ≤ 2 ^ 63) }
@@ -232,7 +233,7 @@ fn queues(alloc: Global, logs: &[KeptLog], me: usize) -> Result<Vec<Queue>, Allo
     Ok(queues)
 }
 
-/// These logs behind the others.
+/// Appends these logs.
 fn add(alloc: Global, queues: &mut Vec<Queue>, logs: &[KeptLog]) -> Result<(), AllocError>
     requires { (i : ℕ) (l : KeptLog) → slice_get logs.now i ≡ Some l → (1 ≤ l.first) × (l.first + length l.payloads ≤ 2 ^ 63) }
     ensures { OnOk result (queues.new.items ≡ queues.old.items ++ map queue_of logs.now) }

@@ -1,4 +1,4 @@
-//! What a process keeps once all its peers have told all.
+//! The messages that a process keeps once all peers have told all.
 
 ghost use Rattle.std.specs.Prelude.{◌≡◌, ℕ, ◌≤◌, ◌<◌, ◌+◌, suc, List, length, map, option_map, slice_index_or, MatchOption, None, IfOk, IfSome};
 ghost use Rattle.node.specs.Node.{IsPeer};
@@ -22,10 +22,10 @@ impl Collecting {
         all
     }
 
-    /// The messages that the process keeps behind what its checkpoint covers: those that were told
-    /// under the next numbers, up to before the first number that no peer told, or whose message isn't
-    /// the next of its sender. There is no plan where these are more than a process receives between
-    /// two checkpoints, or in all.
+    /// The messages that the process keeps after those that its checkpoint covers: it takes those
+    /// that were told with the next RSNs, up to the first RSN that no peer told or whose message
+    /// isn't the next of its sender. There is no plan if they are more than a process receives
+    /// between two checkpoints, or in all.
     pub fn plan(&self, alloc: Global) -> Result<Option<Vec<OpenJob>>, AllocError>
         ensures plan { IfOk result (λ o. IfSome o (λ jobs. Plans self.now jobs.items)) }
         ensures recovers { IfOk result (λ o. IfSome o (λ jobs. Recovering self.now jobs.items)) }
@@ -55,7 +55,7 @@ impl Collecting {
         Ok(None)
     }
 
-    /// The message that was told under a number, where it is its sender's next behind so many of each.
+    /// The message that was told with an RSN, if it is the next of its sender by these counts.
     fn next(&self, counts: &[u64], number: u64) -> Option<OpenJob>
         requires { self.now.own.count < length counts.now }
         ensures value { option_map job_of result ≡ next_by counts.now (told_under self.now.told self.now.own.count number) }
@@ -69,7 +69,7 @@ impl Collecting {
         }
     }
 
-    /// The message that was told under a number: of two, that of the lesser peer.
+    /// The message that was told with an RSN; if two peers told one, that of the lesser peer.
     fn find(&self, number: u64) -> Option<OpenJob>
         ensures value { option_map job_of result ≡ told_under self.now.told self.now.own.count number }
         ensures sender { IfSome result (λ j. IsPeer self.now.own.me self.now.own.count j.sender) }

@@ -1,4 +1,4 @@
-//! What a host reads of a process that comes back.
+//! What a host reads of a recovering process.
 
 ghost use Rattle.std.specs.Prelude.{◌≡◌, ◌∷◌, [], List, ◌+◌, ◌≤◌, MatchOption};
 ghost use Rattle.packets.specs.declared.packet.Packet.{Packet};
@@ -14,7 +14,8 @@ use node::{Stage, Standing, entries};
 use packets::Packet;
 
 impl Own {
-    /// How it stands in a stage, with so many messages behind its checkpoint, and so many to be replayed.
+    /// The status in a stage, with this many messages since its checkpoint, and this many to
+    /// replay.
     pub(crate) fn standing(&self, stage: Stage, receipts: u64, replays: u64) -> Standing
         requires { receipts ≤ LIMIT }
         ensures { result ≡ standing_in stage receipts replays self.now }
@@ -36,21 +37,21 @@ impl Own {
 }
 
 impl Collecting {
-    /// The packet that waits first; none, if there is none.
+    /// The first packet that waits, if there is one.
     pub fn front(&self) -> Option<&Packet>
         ensures { MatchOption result (self.now.own.out ≡ []) (λ x. (rest : List Packet) × (self.now.own.out ≡ x.now ∷ rest)) }
     {
         self.own.out.front()
     }
 
-    /// The state that its checkpoint kept.
+    /// The state of its checkpoint.
     pub fn state(&self) -> &[u8]
         ensures { result.now ≡ self.now.own.state }
     {
         self.own.state.as_slice()
     }
 
-    /// How it stands: it waits for the peers that haven't told all.
+    /// The status: it waits for the peers that haven't told all.
     pub fn standing(&self) -> Standing
         ensures { result ≡ collecting_standing self.now }
     {
@@ -83,14 +84,14 @@ impl Collecting {
 }
 
 impl Replaying {
-    /// The packet that waits first; none, if there is none.
+    /// The first packet that waits, if there is one.
     pub fn front(&self) -> Option<&Packet>
         ensures { MatchOption result (self.now.own.out ≡ []) (λ x. (rest : List Packet) × (self.now.own.out ≡ x.now ∷ rest)) }
     {
         self.own.out.front()
     }
 
-    /// Who is called on a message of this sender.
+    /// The caller's identity for a handler call on a message of this sender.
     pub fn who(&self, from: u8) -> Who
         ensures { result ≡ record { me = self.now.own.me; from = from; count = self.now.own.count } }
     {
@@ -101,7 +102,7 @@ impl Replaying {
         }
     }
 
-    /// How it stands: what it has replayed is behind its checkpoint.
+    /// The status: the replayed messages came after its checkpoint.
     pub fn standing(&self) -> Standing
         ensures { result ≡ replaying_standing self.now }
     {
@@ -111,7 +112,7 @@ impl Replaying {
 }
 
 impl Replayed {
-    /// The packet that waits first; none, if there is none.
+    /// The first packet that waits, if there is one.
     pub fn front(&self) -> Option<&Packet>
         ensures { MatchOption result (self.now.own.out ≡ []) (λ x. (rest : List Packet) × (self.now.own.out ≡ x.now ∷ rest)) }
     {
@@ -125,7 +126,7 @@ impl Replayed {
         self.own.state.as_slice()
     }
 
-    /// How it stands: it has nothing left to replay.
+    /// The status: it has nothing left to replay.
     pub fn standing(&self) -> Standing
         ensures { result ≡ replayed_standing self.now }
     {

@@ -1,4 +1,4 @@
-//! A process that has replayed all that it keeps.
+//! A process that has finished its replay.
 
 ghost use Rattle.std.specs.Prelude.{◌≡◌};
 ghost use Rattle.recovery.specs.Meeting.{handed};
@@ -10,7 +10,7 @@ use rsn::Receipts;
 use std::alloc::Global;
 use std::marker::Model;
 
-/// What it has of its own, and what it received behind its checkpoint: all that is acknowledged.
+/// The process, and what it received after its checkpoint, all of it acknowledged.
 #[derive(Drop)]
 pub struct Replayed {
     pub(crate) own: Own,
@@ -28,7 +28,7 @@ impl Model for Replayed {
 }
 
 impl Replayed {
-    /// The process with this of its own, which received this behind its checkpoint.
+    /// From its parts.
     pub(crate) fn new(own: Own, receipts: Receipts) -> Replayed
         requires { IsReplayed own receipts }
         ensures { result ≡ record { own = own; receipts = receipts } }
@@ -36,8 +36,8 @@ impl Replayed {
         Replayed { own, receipts }
     }
 
-    /// A packet came. The Ask of a peer that comes back too is answered: what the log held for it is
-    /// lost. Anything else is dropped.
+    /// Takes a packet: answers the Ask of a peer that is recovering too, that what the log held for
+    /// it is lost, and drops anything else.
     pub fn receive(&mut self, alloc: Global, packet: &Packet)
         ensures value { self.new ≡ record self.old { own = handed packet.now self.old.own } }
         ensures stands { Stays self.old self.new }

@@ -1,4 +1,4 @@
-//! A process that replays what it keeps.
+//! A process that replays the messages that it keeps.
 
 ghost use Rattle.std.specs.Prelude.{◌≡◌, ◌-◌, length, true, OnOk, OnErr};
 ghost use Rattle.recovery.specs.Own.{MayGive};
@@ -14,8 +14,8 @@ use rsn::Receipts;
 use std::alloc::{AllocError, Global};
 use std::marker::Model;
 
-/// A process that recovered: its handler runs again on the messages that it keeps behind what its
-/// checkpoint covers. Of what comes it takes nothing meanwhile, but it answers a peer that comes back too.
+/// A process that recovered: its handler runs again on the messages that it keeps after its
+/// checkpoint. Meanwhile it takes no packet, except that it answers a peer that is recovering too.
 #[derive(Drop)]
 pub struct Replaying {
     pub(crate) own: Own,
@@ -37,14 +37,14 @@ impl Model for Replaying {
 }
 
 impl Replaying {
-    /// The message that the handler is to run on; none, where all are replayed.
+    /// The message that the handler is to run on, if one is left.
     pub fn job(&self) -> Option<OpenJob>
         ensures { result ≡ next_job self.now }
     {
         self.plan.get(self.done).copied()
     }
 
-    /// The state that it is to run on.
+    /// The state that the handler is to run on.
     pub fn state(&self) -> &[u8]
         ensures { result.now ≡ self.now.own.state }
     {
@@ -65,8 +65,8 @@ impl Replaying {
         self.left() == 0
     }
 
-    /// The handler ran on the next message: this is the state that it left, and what it gave, which is
-    /// logged and not sent. Where all are replayed nothing happens. A refusal, for want of memory,
+    /// The handler ran on the next message: `state` is the state that it left; what it sent is
+    /// logged, and not sent. Does nothing if no message is left. A refusal, which is by memory,
     /// changes nothing.
     pub fn work(&mut self, state: Vec<u8>, given: &[Given]) -> Result<(), AllocError>
         requires { MayGive self.old.own given.now }
@@ -74,20 +74,20 @@ impl Replaying {
         ensures acts { OnOk result (Owes (Handles state.items given.now self.old) self.old self.new) }
         ensures err { OnErr result (self.new ≡ self.old) }
     {
-        // For the proof: asking tells that each destination has a log.
+        // For the proof: the count shows that each destination has a log.
         let _count = self.own.count();
         self.replay(state, given)
     }
 
-    /// A packet that is to be sent, the first that waits; none, if there is none.
+    /// Takes the first packet that waits to be sent, if there is one.
     pub fn take(&mut self) -> Option<Packet>
         ensures { Takes result self.old self.new }
     {
         self.own.pop()
     }
 
-    /// A packet came. The Ask of a peer that comes back too is answered: what the log held for it is
-    /// lost. Anything else is dropped.
+    /// Takes a packet: answers the Ask of a peer that is recovering too, that what the log held for
+    /// it is lost, and drops anything else.
     pub fn receive(&mut self, alloc: Global, packet: &Packet)
         ensures value { self.new ≡ record self.old { own = handed packet.now self.old.own } }
         ensures stands { Stays self.old self.new }
@@ -95,7 +95,7 @@ impl Replaying {
         self.own.receive(alloc, packet);
     }
 
-    /// Where all are replayed, it is one that has replayed all.
+    /// The process after its replay, which has to be over.
     pub fn finish(self) -> Replayed
         requires { is_over self ≡ true }
         ensures value { result ≡ replayed_of self }

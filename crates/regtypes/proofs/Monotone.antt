@@ -299,7 +299,7 @@ written_kept f g x y (Some r) n le k = LeqKinds-set f g r.number x y n le k
 by_kept : (a : Attributes) (f g : List Kind) → length f ≡ length g → LeqKinds f g → AllSet g a → LeqKinds (after_by a f) (after_by a g)
 by_kept a f g n le s = written_kept f g (given f a) (given g a) a.written n le (given_kept f g a le s)
 
--- what leaves is by the attributes, but behind a helper
+-- the attributes give what leaves, except after a helper
 pub after_cases : (P : (List Kind → List Kind) → Type 0) (i : Insn) → P after_helper → P (after_by (attributes_of i)) → P (after i)
 after_cases P (Call helper) h a = h
 after_cases P (Alu op width dst o) h a = a

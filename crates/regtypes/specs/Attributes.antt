@@ -16,22 +16,23 @@ abbrev pub register_of : Operand → Option Reg
 register_of (operand.Imm n) = None
 register_of (operand.Reg r) = Some r
 
--- ---- rows: `number` and `operand` are read as numbers, `copied` whatever it holds, `moved` by so many bytes if it is a place
+-- ---- rows: `number` and `operand` are read as numbers; `copied` is read, whatever it holds; `moved` is moved by so
+-- many bytes if it is a place
 
 -- no register is read or written, and no bytes are reached
 abbrev pub nothing : Attributes
 nothing = record { number = None; operand = None; copied = None; moved = None; access = None; written = None }
 
--- dst gets a number; the registers that it is made of, where there are some, are read as numbers
+-- dst gets a number; the registers from which it is computed, if any, are read as numbers
 abbrev pub computes : Option Reg → Option Reg → Reg → Attributes
 computes number o dst = record nothing { number = number; operand = o; written = Some dst }
 
--- dst gets n bytes as a number; they begin `at` bytes from the place in base
+-- dst gets n bytes as a number; they begin `at` bytes after the place in base
 abbrev pub loads : ℕ → Reg → Reg → ℤ → Attributes
 loads n dst base at =
     record nothing { written = Some dst; access = Some (record { base = base; offset = at; bytes = n; stores = false }) }
 
--- n bytes are written `offset` bytes from the place in base; o is the register that is stored, None for an immediate
+-- n bytes are written `offset` bytes after the place in base; o is the stored register, None for an immediate
 abbrev pub stores : ℕ → Reg → ℤ → Option Reg → Attributes
 stores n base offset o =
     record nothing { operand = o; access = Some (record { base = base; offset = offset; bytes = n; stores = true }) }
@@ -43,7 +44,7 @@ alu_attributes (Moves z) dst o = record nothing { moved = Some (dst, z); written
 alu_attributes Sets dst o = computes None (register_of o) dst
 alu_attributes Computes dst o = computes (Some dst) (register_of o) dst
 
--- the arguments of a helper and what is left at the end are not among them
+-- the attributes of an instruction, without the arguments of a helper and without r0 at the end
 abbrev pub attributes_of : Insn → Attributes
 attributes_of (Alu op width dst o) = alu_attributes (form_of op width o) dst o
 attributes_of (MovSx extension dst src) = computes None (Some src) dst

@@ -8,7 +8,7 @@ use Rattle.regtypes.specs.declared.flow.Flow.{Flow}
 use Rattle.regtypes.specs.declared.flow.Flow.TheVariants.{Ends, Leaps, Forks, Falls}
 use Rattle.regtypes.specs.Leaving.{next, taken}
 
--- distances count slots from the slot behind the instruction (RFC 9669 section 4.3)
+-- distances count slots from the next slot (RFC 9669 section 4.3)
 abbrev pub flow_of : Insn → Flow
 flow_of (Jump offset) = Leaps offset
 flow_of (JumpLong distance) = Leaps distance
@@ -23,6 +23,6 @@ exits_by s (Leaps d) next taken = (pos (s + 1) +ℤ d, taken) ∷ []
 exits_by s (Forks d) next taken = (pos (s + 1) +ℤ d, taken) ∷ (pos (s + 1), next) ∷ []
 exits_by s (Falls n) next taken = (pos (s + n), next) ∷ []
 
--- the same of an instruction at slot s under a frame; that they are slots of the code is for V1 and V2 to say
+-- the same for an instruction at slot s under a frame; V1 and V2 say whether they are slots of the code
 abbrev pub exits : ℕ → Insn → Frame → List (ℤ × Frame)
 exits s i f = exits_by s (flow_of i) (next i f) (taken i f)

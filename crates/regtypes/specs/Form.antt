@@ -1,4 +1,4 @@
--- What arithmetic does to what is known of its destination.
+-- How arithmetic changes what is known of its destination.
 use Rattle.std.specs.Prelude.{neg_ℤ}
 use Rattle.decode.specs.declared.insn.AluOp.{AluOp}
 use Rattle.decode.specs.declared.insn.AluOp.TheVariants as alu
@@ -9,7 +9,7 @@ use Rattle.decode.specs.declared.insn.Operand.TheVariants as operand
 use Rattle.regtypes.specs.declared.form.Form.{Form}
 use Rattle.regtypes.specs.declared.form.Form.TheVariants.{Copies, Moves, Sets, Computes}
 
--- a 64-bit move copies a register, a place too; a 64-bit sum or difference with an immediate may move a place
+-- a 64-bit move copies a register, also a place; a 64-bit sum or difference with an immediate may move a place
 abbrev pub form_of : AluOp → Width → Operand → Form
 form_of alu.Mov W64 (operand.Reg src) = Copies src
 form_of alu.Mov width o = Sets

@@ -13,34 +13,34 @@ abbrev pub form_number : ImageForm → ℕ
 form_number Sbi1 = 1
 form_number Sbi2 = 2
 
--- what is known of the register of this number: nothing, where there is no such register
+-- what is known of the register of this number; nothing if there is no such register
 abbrev pub kind_at : List Kind → ℕ → Kind
 kind_at f r = slice_index_or f r Unset
 
--- the message's length is a number
+-- a number, which may be the message's length
 abbrev pub is_num : Kind → Bool
 is_num Num = true
 is_num Len = true
 is_num k = false
 
--- r1 is the message, r2 the state, r10 the end of the stack; of r3 this is known, and nothing else is set
+-- r1 is the message, r2 the state, r10 the end of the stack; r3 has this kind, and nothing else is set
 abbrev pub entry_kinds : Kind → List Kind
 entry_kinds third =
     Unset ∷ Place Message (pos 0) ∷ Place State (pos 0) ∷ third ∷ replicate 6 Unset ++ Place Stack (pos STACK_BYTES) ∷ []
 
--- in form 1 the message has 64 bytes; in form 2 it may have none, and r3 is how many it has
+-- in form 1 the message has 64 bytes; in form 2 it may have none, and r3 is its length
 abbrev pub entry_frame : ImageForm → Frame
 entry_frame Sbi1 = record { kinds = entry_kinds Unset; low = FORM_1_BYTES }
 entry_frame Sbi2 = record { kinds = entry_kinds Len; low = 0 }
 
--- what the second kind says of a register, the first says too
+-- the first kind says what the second says of a register
 abbrev pub LeqKind : Kind → Kind → Type 0
 LeqKind a Unset = Unit {0}
 LeqKind a Num = is_num a ≡ true
 LeqKind a Len = a ≡ Len
 LeqKind a (Place r k) = a ≡ Place r k
 
--- what the second frame says, the first says too: of each register, and how long the message is at least
+-- the first frame says what the second says, of each register and of the message's least length
 pub record Leq (f g : Frame) : Type 0 where
   pub kinds : (r : ℕ) → LeqKind (kind_at f.kinds r) (kind_at g.kinds r)
   pub low : g.low ≤ f.low

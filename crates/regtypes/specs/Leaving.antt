@@ -1,4 +1,4 @@
--- What is known behind an instruction, on each of its two ways.
+-- What is known after an instruction, on each of its two ways.
 use Rattle.std.specs.Prelude.{◌≡◌, length, ℕ, Bool, true, false, ◌&&◌, List, ◌∷◌, Option, Some, None, Result, Ok, Err, ℤ, pos, ◌+ℤ◌, nat_le, slice_set, drop, if◌then◌else◌}
 use Rattle.std.specs.Option.{option_map_or}
 use Rattle.limits.specs.declared.TheConstants.{PAYLOAD_BYTES}
@@ -22,25 +22,25 @@ use Rattle.regtypes.specs.Rules.{is_len, moved, first_broken, tests_of}
 
 -- ---- registers
 
--- what the register that is written holds then: a copied register's kind, a moved place, or else a number
+-- the kind of the written register: that of the copied register, a moved place, or else a number
 abbrev pub given : List Kind → Attributes → Kind
 given f a =
     option_map_or (λ (r : Reg). kind_at f r.number) a.copied
     (option_map_or (λ (m : Reg × ℤ). moved m.1 (kind_at f m.0.number)) a.moved Num)
 
--- what is known of the registers behind an instruction with these attributes: only the one that it writes changes
+-- what is known of the registers after an instruction with these attributes: only the written one changes
 abbrev pub after_by : Attributes → List Kind → List Kind
 after_by a f = option_map_or (λ (r : Reg). slice_set f r.number (given f a)) a.written f
 
--- what is known of the registers behind an instruction, on each of its ways; a helper gives r0, and doesn't keep r1 to r5
--- (the BPF calling convention)
+-- what is known of the registers after an instruction, on each of its ways; a helper sets r0 and loses r1 to r5 (the
+-- BPF calling convention)
 abbrev pub after : Insn → List Kind → List Kind
 after (Call helper) f = Num ∷ Unset ∷ Unset ∷ Unset ∷ Unset ∷ Unset ∷ drop 6 f
 after i f = after_by (attributes_of i) f
 
 -- ---- the message's length
 
--- a number is at least this where it meets the condition with c (true), or where it doesn't (false)
+-- the least value of a number that meets the condition with c (true), or that doesn't (false)
 abbrev pub least_shown : Bool → Condition → ℤ → Option ℤ
 least_shown true Equal c = Some c
 least_shown true Greater c = Some (c +ℤ pos 1)
@@ -50,7 +50,7 @@ least_shown false Less c = Some c
 least_shown false LessEqual c = Some (c +ℤ pos 1)
 least_shown met condition c = None
 
--- the length is at least this on a way of a 64-bit comparison with a number that the code names
+-- the least length of the message on a way of a 64-bit comparison of it with an immediate
 abbrev pub shown : Bool → Insn → List Kind → Option ℤ
 shown met (JumpIf condition W64 dst (operand.Imm c) offset) f =
     if is_len (kind_at f dst.number) then least_shown met condition c else None
@@ -63,15 +63,15 @@ raised low least = low
 
 -- ---- frames
 
--- what leaves to the instruction behind
+-- the frame that leaves to the next instruction
 abbrev pub next : Insn → Frame → Frame
 next i f = record { kinds = after i f.kinds; low = raised f.low (shown false i f.kinds) }
 
--- what leaves by a jump
+-- the frame that leaves by a jump
 abbrev pub taken : Insn → Frame → Frame
 taken i f = record { kinds = after i f.kinds; low = raised f.low (shown true i f.kinds) }
 
--- the frames that leave where no test holds, else the rule of the first test that holds
+-- the frames that leave if no test holds, else the rule of the first test that holds
 abbrev pub Leaves : ImageForm → ℕ → Insn → Frame → Result Leaving Rule → Type 0
 Leaves form len i f (Ok l) = (first_broken (tests_of form len i f) ≡ None) × (l.next ≡ next i f) × (l.taken ≡ taken i f)
 Leaves form len i f (Err r) = first_broken (tests_of form len i f) ≡ Some r

@@ -19,7 +19,7 @@ abbrev pub is_target : List (Option Insn) → ℕ → ℤ → Bool
 is_target slots s (pos t) = nat_lt s t && is_some (insn_at slots t)
 is_target slots s (negsuc n) = false
 
--- a jump goes to an instruction that begins at a later slot, and behind another instruction there is one
+-- a jump goes to an instruction that begins at a later slot, and after another instruction there is a slot
 abbrev pub flow_tests : List (Option Insn) → ℕ → Flow → Tests
 flow_tests slots s Ends = []
 flow_tests slots s (Leaps d) = (not (is_target slots s (pos (s + 1) +ℤ d)), V1) ∷ []
@@ -35,15 +35,15 @@ broken form slots len s i f = first_broken (flow_tests slots s (flow_of i) ++ te
 abbrev pub Table : Type 0
 Table = List (Option Frame)
 
--- the frame of a slot; None where the table has none for it, as for a slot that no path reaches
+-- the frame of a slot; None if the table has none, as for a slot that no path reaches
 abbrev pub frame_at : Table → ℕ → Option Frame
 frame_at table s = unwrap_or (slice_get table s) None
 
--- the slot has a frame, which says no more than the one that leaves on the way there
+-- the slot has a frame, and it says no more than the frame that leaves on the way there
 abbrev pub Enters : Table → ℤ × Frame → Type 0
 Enters table e = (t : ℕ) × (g : Frame) × (e.0 ≡ pos t) × (frame_at table t ≡ Some g) × Leq e.1 g
 
--- what enters a slot fits its frame, and below slot n no rule is broken under a frame
+-- the frames that enter a slot fit its frame, and below slot n no instruction breaks a rule under its frame
 pub record TypesBelow (form : ImageForm) (slots : List (Option Insn)) (len n : ℕ) (table : Table) : Type 0 where
   pub start : Enters table (pos 0, entry_frame form)
   pub whole : (s : ℕ) (g : Frame) → frame_at table s ≡ Some g → length g.kinds ≡ REGISTERS

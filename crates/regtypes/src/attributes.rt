@@ -7,7 +7,7 @@ ghost use Rattle.regtypes.specs.Attributes.{register_of, nothing, computes, load
 use crate::form::{Form, form_from};
 use decode::{Insn, Operand, Reg, SignedSize, Size};
 
-/// The bytes at a register and an offset that are read or written.
+/// The bytes that are read or written: at a register and an offset.
 #[derive(Clone, Copy, Debug, PartialEq, Eq)]
 pub struct Access {
     pub base: Reg,
@@ -16,8 +16,7 @@ pub struct Access {
     pub stores: bool,
 }
 
-/// What an instruction reads, writes and reaches. The arguments of a helper and what is left at
-/// the end are not among it.
+/// What an instruction reads, writes and reaches. It leaves out the arguments of a helper, and r0 at the end.
 #[derive(Clone, Copy, Debug, PartialEq, Eq)]
 pub struct Attributes {
     /// Read as a number.

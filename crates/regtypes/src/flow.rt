@@ -5,7 +5,7 @@ ghost use Rattle.regtypes.specs.Flow.{flow_of};
 
 use decode::Insn;
 
-/// Where an instruction leads. Distances count slots from the slot behind it.
+/// Where an instruction leads. Distances count slots from the next slot.
 #[derive(Clone, Copy, Debug, PartialEq, Eq)]
 pub enum Flow {
     /// Nowhere.
@@ -14,7 +14,7 @@ pub enum Flow {
     Leaps(i32),
     /// To another slot, or to the next one.
     Forks(i32),
-    /// To the instruction behind it, this many slots on.
+    /// To the next instruction, this many slots on.
     Falls(usize),
 }
 

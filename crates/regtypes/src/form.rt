@@ -1,11 +1,11 @@
-//! What arithmetic does to what is known of its destination.
+//! How arithmetic changes what is known of its destination.
 
 ghost use Rattle.std.specs.Prelude.{◌≡◌};
 ghost use Rattle.regtypes.specs.Form.{form_of};
 
 use decode::{AluOp, Operand, Reg, Width};
 
-/// What arithmetic does to what is known of its destination.
+/// How arithmetic changes what is known of its destination.
 #[derive(Clone, Copy, Debug, PartialEq, Eq)]
 pub enum Form {
     /// It becomes what this register holds, a place too.

@@ -18,8 +18,8 @@ pub enum Region {
     Stack,
 }
 
-/// What is known of a register: nothing, that it holds a number, that it holds the number of the
-/// message's bytes, or that it holds this place of a region, in bytes from the region's first one.
+/// What is known of a register: nothing; that it holds a number; that it holds the message's length; or that it holds
+/// this place of a region, in bytes from the region's first byte.
 #[derive(Clone, Copy, Debug, PartialEq, Eq)]
 pub enum Kind {
     Unset,
@@ -28,7 +28,7 @@ pub enum Kind {
     Place(Region, i16),
 }
 
-/// What is known of the eleven registers, r0 to r10, and how many bytes the message has at least.
+/// What is known of the eleven registers, r0 to r10, and the least number of bytes that the message has.
 #[derive(Clone, Copy, Debug, PartialEq, Eq)]
 pub struct Frame {
     pub kinds: [Kind; REGISTERS],
@@ -39,8 +39,8 @@ impl Frame {
     ghost use Rattle.std.specs.Prelude.{◌≡◌, slice_set};
     ghost use Rattle.regtypes.specs.Frame.{kind_at, entry_frame};
 
-    /// What is known as a call begins: r1 is the message, r2 the state, r10 the end of the stack.
-    /// In form 1 the message has 64 bytes; in form 2 r3 is how many it has.
+    /// The frame of the entry: r1 is the message, r2 the state, r10 the end of the stack. In form 1 the message has 64
+    /// bytes; in form 2 r3 is its length.
     pub fn entry(form: ImageForm) -> Frame
         ensures { result ≡ entry_frame form }
     {
@@ -67,7 +67,7 @@ impl Frame {
         self.kinds[reg.number as usize]
     }
 
-    /// How many bytes the message has at least, 0 to 256.
+    /// The least number of bytes that the message has, 0 to 256.
     pub fn low(&self) -> u16
         ensures { result ≡ self.now.low }
     {
@@ -117,7 +117,7 @@ fn join_kind(a: Kind, b: Kind) -> Kind
     }
 }
 
-/// Whether the first frame says all that the second says.
+/// Whether the first frame says everything that the second says.
 pub fn leq(a: &Frame, b: &Frame) -> bool
     ensures { IsTrue result ↔ Leq a.now b.now }
 {

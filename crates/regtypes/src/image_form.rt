@@ -1,7 +1,7 @@
 //! The two forms of an image.
 
-/// What a handler is told of its message. `Sbi1`: a message has 64 bytes. `Sbi2`: a message has 0
-/// to 256 bytes, r3 is their number as a call begins, and there are two more helpers.
+/// What a handler is told of its message. `Sbi1`: a message has 64 bytes. `Sbi2`: a message has 0 to 256 bytes, r3 is
+/// its length at the entry, and there are two more helpers.
 #[derive(Clone, Copy, Debug, PartialEq, Eq)]
 pub enum ImageForm {
     Sbi1,

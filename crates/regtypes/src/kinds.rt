@@ -36,7 +36,7 @@ fn is_message(kind: Kind) -> bool
     matches!(kind, Kind::Place(Region::Message, 0))
 }
 
-/// How many bytes a region has at least: the message of `low`, the state of `state_len`.
+/// The least size of a region: the message has at least `low` bytes, the state has `state_len`.
 fn region_len(region: Region, low: u16, state_len: u16) -> usize
     ensures { result ≡ region_len low state_len region }
 {
@@ -47,7 +47,7 @@ fn region_len(region: Region, low: u16, state_len: u16) -> usize
     }
 }
 
-/// Whether some bytes at a place and an offset lie in its region.
+/// Whether bytes at a place and an offset lie in its region.
 pub fn reaches(kind: Kind, offset: i16, bytes: u8, low: u16, state_len: u16) -> bool
     ensures { result ≡ has_bytes low state_len bytes (moved offset kind) }
 {
@@ -72,8 +72,7 @@ pub fn has_bytes(kind: Kind, bytes: u16, low: u16, state_len: u16) -> bool
     }
 }
 
-/// Whether these are a place and the count of its bytes: 256 bytes lie there, or they are the
-/// whole message.
+/// Whether these are a place and a length that a helper may take: 256 bytes lie there, or they are the whole message.
 pub fn is_sized(place: Kind, count: Kind, low: u16, state_len: u16) -> bool
     ensures { result ≡ is_sized low state_len place count }
 {
@@ -82,7 +81,7 @@ pub fn is_sized(place: Kind, count: Kind, low: u16, state_len: u16) -> bool
             || (is_message(place) && is_len(count)))
 }
 
-/// Whether a place that is moved stays one that a frame can name.
+/// Whether a frame can still name the place after it is moved.
 pub fn moves(kind: Kind, by: i64) -> bool
     ensures { result ≡ is_near (moved by kind) }
 {
@@ -95,7 +94,7 @@ pub fn moves(kind: Kind, by: i64) -> bool
     }
 }
 
-/// The kind after a number is added.
+/// The kind after a number is added to it.
 pub fn moved(kind: Kind, by: i64) -> Kind
     requires { IsTrue (is_near (moved by kind)) }
     ensures { result ≡ moved by kind }

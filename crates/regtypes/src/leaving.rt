@@ -1,4 +1,4 @@
-//! What is known behind an instruction, on each of its two ways.
+//! What is known after an instruction, on each of its two ways.
 
 ghost use Rattle.std.specs.Prelude.{◌≡◌, ℤ, ◌∷◌, drop, true, false, Some, None, MatchResult, IfOk};
 ghost use Rattle.regtypes.specs.declared.frame.Kind.TheVariants as kind;
@@ -19,16 +19,16 @@ use crate::rule::Rule;
 use decode::{Condition, Insn, Operand, Reg, Width};
 use limits::PAYLOAD_BYTES;
 
-/// What is known behind an instruction.
+/// What is known after an instruction.
 #[derive(Clone, Copy, Debug, PartialEq, Eq)]
 pub struct Leaving {
-    /// On the way to the instruction behind it.
+    /// On the way to the next instruction.
     pub next: Frame,
     /// On the way of a jump.
     pub taken: Frame,
 }
 
-/// What the register that is written holds then.
+/// The kind of the written register.
 fn given(frame: &Frame, what: &Attributes) -> Kind
     requires { moves_out frame.now.kinds what.now.moved ≡ false }
     ensures { result ≡ given frame.now.kinds what.now }
@@ -40,7 +40,7 @@ fn given(frame: &Frame, what: &Attributes) -> Kind
     }
 }
 
-/// What a helper leaves.
+/// The frame that a helper leaves.
 fn after_helper(frame: &Frame) -> Frame
     ensures { result ≡ record frame.now { kinds = kind.Num ∷ kind.Unset ∷ kind.Unset ∷ kind.Unset ∷ kind.Unset ∷ kind.Unset ∷ drop 6 frame.now.kinds } }
 {
@@ -57,7 +57,7 @@ fn after_helper(frame: &Frame) -> Frame
     }
 }
 
-/// What an instruction of these attributes leaves in the registers.
+/// The registers after an instruction of these attributes.
 fn after(insn: &Insn, what: &Attributes, frame: &Frame) -> Frame
     requires same { what.now ≡ attributes_of insn.now }
     requires moved { moves_out frame.now.kinds what.now.moved ≡ false }
@@ -94,7 +94,7 @@ fn least_unmet(condition: Condition, c: i32) -> Option<i64>
     }
 }
 
-/// The least length, where the length is at least a number. No message has more than 256 bytes.
+/// The least length of the message, if a test showed that it is at least a number. No message has more than 256 bytes.
 fn raised(low: u16, least: Option<i64>) -> u16
     ensures { result ≡ raised low least }
 {
@@ -110,7 +110,7 @@ fn raised(low: u16, least: Option<i64>) -> u16
     }
 }
 
-/// What a comparison of the message's length with a number leaves.
+/// The frames that a comparison of the message's length with a number leaves.
 fn compared(condition: Condition, c: i32, frame: &Frame) -> Leaving
     ensures next { result.next ≡ record frame.now { low = raised frame.now.low (least_shown false condition c) } }
     ensures taken { result.taken ≡ record frame.now { low = raised frame.now.low (least_shown true condition c) } }
@@ -127,7 +127,7 @@ fn compared(condition: Condition, c: i32, frame: &Frame) -> Leaving
     }
 }
 
-/// What leaves on each way.
+/// The frames that leave on each way.
 fn leave(insn: &Insn, what: &Attributes, frame: &Frame) -> Leaving
     requires same { what.now ≡ attributes_of insn.now }
     requires moved { moves_out frame.now.kinds what.now.moved ≡ false }
@@ -191,8 +191,8 @@ fn first_broken(
     Ok(())
 }
 
-/// The frames that leave an instruction, which differ only behind a comparison of the message's
-/// length, or the least of the rules V3 to V10 that it breaks.
+/// The frames that leave an instruction, or the least of the rules V3 to V10 that it breaks. The two frames differ only
+/// after a comparison of the message's length.
 pub fn transfer(
     form: ImageForm,
     insn: &Insn,

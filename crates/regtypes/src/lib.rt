@@ -1,14 +1,13 @@
-//! What is known of a handler's registers, and what an instruction does to it.
+//! What is known of a handler's registers in forms 1 and 2, and the local rules of the verifier.
 //!
-//! A [`Frame`] says of each of the eleven registers that it is not set, holds a number, holds the
-//! message's length, or holds one place in the message, the state or the stack; and how many bytes
-//! the message has at least. Images have two forms ([`ImageForm`]): in the first a message has 64
-//! bytes, in the second the handler is told how many. [`transfer`] applies the local rules V3 to V10
-//! of one instruction to a frame: it answers the frames that leave on the instruction's two ways, or
-//! the least rule that is broken. [`leq`] orders frames by what they say and [`join`] keeps what two
-//! of them both say, so that a pass over the code can join all that arrives at an instruction. The
-//! rules are monotone: a frame that says more breaks no more of them, and leaves on each way a frame
-//! that says more.
+//! A [`Frame`] says of each of the eleven registers that it is not set, holds a number, holds the message's length, or
+//! holds one place in the message, the state or the stack. It also says how many bytes the message has at least. An
+//! image has one of two forms ([`ImageForm`]): in the first a message has 64 bytes, in the second the handler is told
+//! how many. [`transfer`] applies the local rules V3 to V10 of one instruction to a frame. It answers the frames that
+//! leave on the instruction's two ways, or the least rule that is broken. [`leq`] orders frames by what they say, and
+//! [`join`] keeps what two frames both say, so a pass over the code can join all frames that arrive at an instruction.
+//! The rules are monotone: a frame that says more breaks no more of them, and on each way a frame leaves that says
+//! more.
 //!
 //! ```
 //! let entry = Frame::entry(ImageForm::Sbi1);

@@ -80,7 +80,7 @@ fn has_number_as_base(frame: &Frame, access: Option<Access>) -> bool
     }
 }
 
-/// V5: whether a place is read where a number is wanted, or a number is a base.
+/// V5: whether a place is read as a number, or a number is a base.
 pub fn mixes(frame: &Frame, what: &Attributes) -> bool
     ensures { result ≡ (has is_place frame.now.kinds what.now.number || (has is_place frame.now.kinds what.now.operand || has is_num frame.now.kinds (base_of what.now.access))) }
 {
@@ -104,7 +104,7 @@ pub fn reaches_out(frame: &Frame, access: Option<Access>, state_len: u16) -> boo
     }
 }
 
-/// V6: whether a place is moved out of 16 bits and a sign.
+/// V6: whether a place is moved so far that 16 bits and a sign can't hold its distance.
 pub fn moves_out(frame: &Frame, moved: Option<(Reg, i64)>) -> bool
     ensures { result ≡ moves_out frame.now.kinds moved }
 {
@@ -138,7 +138,7 @@ pub fn is_unknown(form: ImageForm, insn: &Insn) -> bool
     }
 }
 
-/// V9: whether a helper's argument isn't what it takes.
+/// V9: whether a helper gets an argument of the wrong kind.
 pub fn misgives(form: ImageForm, insn: &Insn, frame: &Frame, state_len: u16) -> bool
     ensures { result ≡ option_map_or (λ xs. not (list_all (takes state_len frame.now) xs)) (option_and_then (arguments_of form) (called insn.now)) false }
 {

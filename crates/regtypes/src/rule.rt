@@ -2,7 +2,7 @@
 
 use thiserror::Error;
 
-/// A rule that an instruction can break. The least one is named.
+/// A rule that an instruction can break. A refusal names the least one.
 #[derive(Clone, Copy, Debug, PartialEq, Eq, Error)]
 pub enum Rule {
     /// A jump doesn't lead to an instruction that begins at a later slot.
@@ -17,10 +17,10 @@ pub enum Rule {
     /// r10 is written.
     #[error("r10 is written")]
     V4,
-    /// A place is read where a number is wanted, or a number is the base of a load or store.
+    /// A place is read as a number, or a number is the base of a load or store.
     #[error("a place is read where a number is wanted, or a number is the base of a load or store")]
     V5,
-    /// A load or store leaves its region, or a place is moved out of 16 bits and a sign.
+    /// A load or store leaves its region, or a place is moved so far that 16 bits and a sign can't hold its distance.
     #[error("an access does not lie in its region, or a place is moved too far")]
     V6,
     /// The message is written.
@@ -29,8 +29,7 @@ pub enum Rule {
     /// No helper of the image's form has this number.
     #[error("the image's form has no helper of this number")]
     V8,
-    /// A helper's argument isn't the number, the place of 64 bytes, or the place with a length,
-    /// that it takes.
+    /// A helper's argument isn't what the helper takes: a number, the place of 64 bytes, or a place with a length.
     #[error("a helper's argument is not what it wants")]
     V9,
     /// r0 isn't a number at the end.

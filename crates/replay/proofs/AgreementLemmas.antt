@@ -78,13 +78,13 @@ and_false : (b : Bool) → (b && false) ≡ false
 and_false true = refl
 and_false false = refl
 
--- behind its last message a queue has none
+-- after its last message a queue has none
 logged_as-past : (q : TheQueue) (s m i : ℕ) → q.first + length q.payloads ≤ i → logged_as q s m i ≡ None
 logged_as-past q s m i h =
     let test : nat_lt (i - q.first) (length q.payloads) ≡ false = grind (arith, nat_tests) in
     rw (test, and_false (nat_le q.first i)) refl
 
--- nor has a log behind what was sent
+-- nor has a log after what was sent
 entry-past : (w : World) (s p m i : ℕ) → suc (length (sent w s p)) ≤ i → world.logged_as w p m s i ≡ None
 entry-past w s p m i h =
     let test : nat_le i (length (sent w s p)) ≡ false = grind (arith, nat_tests) in

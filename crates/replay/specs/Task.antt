@@ -1,4 +1,4 @@
--- All that a handler call takes, and its answer
+-- What a handler call takes, and its answer
 use Rattle.std.specs.Prelude.{◌≡◌, ◌≢◌, ◌≤◌, ℕ, List, [], length, Option, Some, None}
 use Rattle.limits.specs.declared.TheConstants.{PROCESSES}
 use Rattle.helpers.specs.declared.effects.Who.{Who}
@@ -7,7 +7,7 @@ use Rattle.handlers.specs.Image.{TheImage}
 use Rattle.handlers.specs.Answer.{HasRun, answered}
 use Rattle.world.specs.declared.message.Message.{Message}
 
--- which job it is, what is run, and on what
+-- which job it is, which image is called, and on what
 pub record TheTask : Type 0 where
   pub serial : ℕ
   pub incarnation : ℕ
@@ -26,7 +26,7 @@ pub record MayCall (image : TheImage) (state : List ℕ) (who : Who) : Type 0 wh
   pub sender : who.from ≤ who.count
   pub other : who.from ≢ who.me
 
--- what the run of the task's image on its state and message leaves; None where it faults or doesn't exit
+-- what a run of the task's image on its state and message leaves. None if it faults or doesn't exit
 abbrev pub handled : TheTask → Option Handled
 handled t = answered t.image t.who t.state t.message.payload
 
@@ -35,11 +35,11 @@ abbrev pub given : Option Handled → Handled
 given (Some h) = h
 given None = record { state = []; effects = record { sends = []; outputs = [] }; r0 = 0; steps = 0 }
 
--- the handler's answer to a task; where there is none, as the run faults or doesn't exit, an empty one
+-- the handler's answer to a task; an empty one if the run faults or doesn't exit
 abbrev pub answer_of : TheTask → Handled
 answer_of t = given (handled t)
 
--- the handler's answer to this task: that of a run from its entry to its exit, which makes at most as many steps as there are
+-- the handler's answer to this task: the one of a run from entry to exit, which makes at most as many steps as there are
 -- instructions
 pub record IsAnswer (t : TheTask) (h : Handled) : Type 0 where
   pub runs : HasRun t.image t.who t.state t.message.payload h

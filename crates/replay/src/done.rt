@@ -1,4 +1,4 @@
-//! Handler calls that were made.
+//! Finished handler calls.
 
 ghost use Rattle.std.specs.Prelude.{◌≡◌};
 ghost use Rattle.std.specs.Box.{box_value};
@@ -10,8 +10,7 @@ use helpers::Effects;
 use interp::CallEnd;
 use std::marker::Model;
 
-/// A handler call that was made: all that it took, and what the handler answered to that. Only
-/// `Job::run` makes one.
+/// A finished handler call: its task, and the handler's answer to that. Only `Job::run` makes one.
 #[derive(Drop)]
 pub struct Done {
     task: Task,
@@ -44,14 +43,14 @@ impl Done {
         }
     }
 
-    /// All that the call took.
+    /// The task of the call.
     pub fn task(&self) -> &Task
         ensures { result.now ≡ self.now }
     {
         &self.task
     }
 
-    /// The state that the handler left.
+    /// The state after the call.
     pub fn state(&self) -> &[u8]
         ensures value { result.now ≡ (answer_of self.now).state }
         ensures answer { IsAnswer self.now (answer_of self.now) }
@@ -59,7 +58,7 @@ impl Done {
         self.next.as_slice()
     }
 
-    /// The messages and outputs that the handler gave.
+    /// The messages and outputs of the call.
     pub fn effects(&self) -> &Effects
         ensures value { result.now ≡ (answer_of self.now).effects }
         ensures answer { IsAnswer self.now (answer_of self.now) }
@@ -67,7 +66,7 @@ impl Done {
         &self.effects
     }
 
-    /// What the handler had in r0 at its exit, and the steps that it took.
+    /// The value of r0 at the exit, and how many steps were taken.
     pub fn end(&self) -> CallEnd
         ensures r0 { result.r0 ≡ (answer_of self.now).r0 }
         ensures steps { result.steps ≡ (answer_of self.now).steps }
@@ -76,7 +75,7 @@ impl Done {
         self.end
     }
 
-    /// Its places, for a later job.
+    /// Its buffers, for a later job.
     pub fn into_spare(self) -> Spare {
         let Done {
             task,

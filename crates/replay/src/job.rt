@@ -1,4 +1,4 @@
-//! Handler calls that are to be made.
+//! Handler calls that wait to be made.
 
 ghost use Rattle.std.specs.Prelude.{◌≡◌, IfOk, OnOk};
 ghost use Rattle.handlers.specs.Image.{image_in};
@@ -14,7 +14,7 @@ use std::marker::Model;
 use std::sync::Arc;
 use world::Message;
 
-/// A handler call that is to be made, with the place for the state that it leaves.
+/// A handler call that waits to be made, with the buffer for the new state.
 #[derive(Drop)]
 pub struct Job {
     task: Task,
@@ -33,7 +33,7 @@ impl Model for Job {
     ghost invariant = { λ j. j.next.items ≡ j.task.state };
 }
 
-// Has a list the bytes of a state.
+// Makes a list hold the bytes of a state.
 fn refill(list: &mut Vec<u8>, state: &[u8]) -> Result<(), AllocError>
     ensures { OnOk result (list.new.items ≡ state.now) }
 {
@@ -42,8 +42,8 @@ fn refill(list: &mut Vec<u8>, state: &[u8]) -> Result<(), AllocError>
 }
 
 impl Job {
-    /// The call of a handler with a copy of this state. It takes over the places of an earlier job,
-    /// or makes them here, so that running takes no memory.
+    /// A call of a handler with a copy of this state. It takes over the buffers of an earlier job,
+    /// or allocates them here, so that `run` takes no memory.
     pub fn new(
         alloc: Global,
         spare: Option<Spare>,
@@ -77,14 +77,14 @@ impl Job {
         })
     }
 
-    /// All that the call takes.
+    /// The task of the call.
     pub fn task(&self) -> &Task
         ensures { result.now ≡ self.now }
     {
         &self.task
     }
 
-    /// Calls the handler. It takes no memory, and the result holds the same task.
+    /// Calls the handler. It takes no memory, and the result has the same task.
     pub fn run(self) -> Done
         ensures { result ≡ self }
     {

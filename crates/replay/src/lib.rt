@@ -1,17 +1,17 @@
-//! Handler calls that leave the session, and what a recovery replays.
+//! Handler calls as values that leave the session, and the plan of what a recovery replays.
 //!
 //! Every handler call of a session, live or replayed, is made here.
 //!
-//! A [`Job`] is a handler call that is to be made, and holds all that the call takes (its
-//! [`Task`]). [`Job::run`] makes the call without taking memory. The [`Done`] that it gives holds
-//! the same task with the new state, the effects and the end of the call, and its type keeps that
-//! these are the handler's answer to that task: so whoever takes a `Done` back has only to compare
-//! the task with what it handed out.
+//! A [`Job`] is a handler call that waits to be made; its [`Task`] is all that the call takes.
+//! [`Job::run`] makes the call without taking memory, and gives a [`Done`]: the same task with the
+//! new state, the effects and the end of the call. The type of `Done` keeps that these are the
+//! handler's answer to that task. So whoever takes a `Done` back has only to compare its task with
+//! the one that was handed out.
 //!
-//! A [`Plan`] is what a recovered process receives again: [`collect`] takes from the logs of all
-//! senders the messages with the numbers after those that the process still has, without a gap.
+//! A [`Plan`] is what a recovered process receives again. [`collect`] takes it from the logs of all
+//! senders: the messages with the RSNs after those that the process still has, without a gap.
 //! [`same_is_found`] and [`plan_is_gathered`] say that this is the plan of the protocol's
-//! definitions. The process's own log lost its numbers; [`resync`] restores them from a peer's
+//! definitions. The process's own log has lost its RSNs; [`resync`] restores them from a peer's
 //! receipts.
 //!
 //! ```text

@@ -8,8 +8,8 @@ use limits::{PARTIES, RECEIPTS, SENDS};
 use std::marker::Model;
 use world::Message;
 
-/// The messages that a process receives again, in order, by the numbers that it gave them before:
-/// from its checkpoint on, and without a gap. [`collect`](crate::collect) makes it.
+/// The messages that a process receives again after its checkpoint, in the order of their RSNs and
+/// without a gap. [`collect`](crate::collect) makes it.
 #[derive(Drop)]
 pub struct Plan {
     before: u32,
@@ -44,7 +44,7 @@ impl Plan {
         }
     }
 
-    /// The next message that is to be received again, behind its number (RSN). None at the end.
+    /// The RSN and the message that are replayed next. None at the end.
     pub fn next_job(&self) -> Option<(u32, Message)>
         ensures { result ≡ next_of self.now }
     {
@@ -53,7 +53,7 @@ impl Plan {
         Some((self.before + self.replayed + 1, message))
     }
 
-    /// Goes on behind the message whose handler call this was.
+    /// Goes on to the message after the one of this handler call.
     pub fn advance(&mut self, done: &Done)
         requires { next_of self.old ≡ Some (done.now.rsn, done.now.message) }
         ensures { self.new ≡ record self.old { replayed = self.old.replayed + 1 } }
@@ -68,14 +68,14 @@ impl Plan {
         self.messages.len() as u32
     }
 
-    /// Whether none was.
+    /// Whether no message was collected.
     pub fn is_empty(&self) -> bool
         ensures { result ≡ (length self.now.messages == 0) }
     {
         self.messages.is_empty()
     }
 
-    /// How often a log was asked for a number, while the messages were collected.
+    /// How often a log was asked for an RSN while the messages were collected.
     pub fn probes(&self) -> u32
         ensures { result ≡ self.now.probes }
     {

@@ -1,4 +1,4 @@
-//! How a log gets its numbers back.
+//! Restoring the RSNs of a log.
 
 ghost use Rattle.std.specs.Prelude.{◌≡◌, ◌<◌, ◌-◌, ℕ, true, slice_get, IfOk, OnOk, OnErr};
 ghost use Rattle.rsn.specs.Receipts.{numbers_of};
@@ -10,9 +10,8 @@ use rsn::Receipts;
 use sender_log::Log;
 use std::alloc::AllocError;
 
-/// Gives each message that the log of `me` keeps for a peer the number under which the peer
-/// received it, by the peer's receipts, and no number where the peer has not. Answers how many got
-/// one. A refusal changes nothing.
+/// Gives each message that the log of `me` keeps for a peer the RSN that the peer's receipts have
+/// for it, or none. Answers how many got one. A refusal changes nothing.
 pub fn resync(log: &mut Log, peer: u8, me: u8, receipts: &Receipts) -> Result<u32, AllocError>
     requires { me < PARTIES }
     ensures count { IfOk result (λ n. n ≡ known (queue_of peer log.new).numbers) }

@@ -1,11 +1,11 @@
-//! What a job leaves to a later one.
+//! The buffers of a finished job, for a later one.
 
 use helpers::{Effects, Payload};
 use std::alloc::{AllocError, Global};
 use world::Message;
 
-/// The places of a job that has ended: for its two states, for its message and for its effects,
-/// which take four kilobytes. A job that is made with them takes no memory for its own.
+/// The buffers of a finished job: for two states, a message, and its effects, which take four
+/// kilobytes. A job that is made with them allocates none of its own.
 #[derive(Drop)]
 pub struct Spare {
     pub(crate) state: Vec<u8>,
@@ -15,7 +15,7 @@ pub struct Spare {
 }
 
 impl Spare {
-    // Places for a first job.
+    // The buffers of a first job.
     pub(crate) fn new(alloc: Global) -> Result<Spare, AllocError> {
         let blank = Message {
             sender: 0,

@@ -1,4 +1,4 @@
-//! All that a handler call takes.
+//! What a handler call takes.
 
 ghost use Rattle.std.specs.Prelude.{◌≡◌, ◌↔◌, IsTrue};
 ghost use Rattle.handlers.specs.Image.{image_in, the_image};
@@ -11,14 +11,14 @@ use std::marker::Model;
 use std::sync::Arc;
 use world::Message;
 
-/// Which of a session's jobs a job is.
+/// What identifies a job in its session.
 #[derive(Clone, Copy, PartialEq, Eq, Debug)]
 pub struct Ticket {
-    /// Its place, from 1, among the jobs that the session started.
+    /// The job's number, from 1, among the jobs that the session started.
     pub serial: u32,
     /// The incarnation of its process.
     pub incarnation: u32,
-    /// The number that its message gets.
+    /// The RSN that its message gets.
     pub rsn: u32,
 }
 
@@ -72,13 +72,13 @@ impl Task {
         }
     }
 
-    // Its places for a state and a message.
+    // Its buffers for a state and a message.
     pub(crate) fn into_places(self) -> (Vec<u8>, Box<Message>) {
         let Task { state, message, .. } = self;
         (state, message)
     }
 
-    /// The job's place, from 1, among the jobs that the session started.
+    /// The job's number, from 1, among the jobs that the session started.
     pub fn serial(&self) -> u32
         ensures { result ≡ self.now.serial }
     {
@@ -99,7 +99,7 @@ impl Task {
         self.ticket.incarnation
     }
 
-    /// The number that the message gets at its process.
+    /// The RSN that the message gets.
     pub fn rsn(&self) -> u32
         ensures { result ≡ self.now.rsn }
     {
@@ -113,7 +113,7 @@ impl Task {
         &self.image
     }
 
-    /// Whether this handler has the form and the instructions of the one that is called.
+    /// Whether this handler has the same form and instructions as the one that is called.
     pub fn is_call_of(&self, handler: &Handler) -> bool
         ensures { IsTrue result ↔ ((the_image handler.now).form ≡ self.now.image.form) × ((the_image handler.now).code ≡ self.now.image.code) }
     {
@@ -127,28 +127,28 @@ impl Task {
         self.state.as_slice()
     }
 
-    /// The message, with its sender and SSN.
+    /// A copy of the message, with its sender and SSN.
     pub fn message(&self) -> Message
         ensures { result ≡ self.now.message }
     {
         *self.message
     }
 
-    /// The message, where it lies.
+    /// The message.
     pub fn message_ref(&self) -> &Message
         ensures { result.now ≡ self.now.message }
     {
         &self.message
     }
 
-    // What it says, where it lies.
+    // The bytes of the message.
     pub(crate) fn payload(&self) -> &Payload
         ensures { result.now ≡ self.now.message.payload }
     {
         &self.message.payload
     }
 
-    /// Who is called, by whose message, among how many.
+    /// Which process is called, for whose message, and among how many.
     pub fn who(&self) -> Who
         ensures value { result ≡ self.now.who }
         ensures callable { MayCall self.now.image self.now.state self.now.who }

@@ -1,4 +1,4 @@
--- A process that comes back, beside others
+-- A process that restores RSNs, together with others
 use Rattle.std.specs.Prelude.{◌≡◌, ◌≢◌, ℕ, List}
 use Rattle.cluster.specs.Cluster.{Cluster}
 use Rattle.cluster.specs.Rules.{Act, after_run}
@@ -7,10 +7,10 @@ use Rattle.recovery.specs.Replayed.{TheReplayed, StandsReplayed}
 use Rattle.restoring.specs.Restoring.{TheRestoring}
 use Rattle.restoring.specs.Stands.{StandsRestoring}
 
--- one that has replayed stands after the acts of another
+-- one that has finished its replay still agrees with the cluster after the acts of another
 abbrev pub ReplayedStands : Type 0
 ReplayedStands = (n : TheReplayed) (p q : ℕ) (acts : List Act) (c : Cluster) → q ≢ p → Each (λ (a : Act). actor a ≡ q) acts → StandsReplayed n c p → StandsReplayed n (after_run c acts) p
 
--- so does one that restores its numbers
+-- so does one that restores its RSNs
 abbrev pub RestoringStands : Type 0
 RestoringStands = (n : TheRestoring) (p q : ℕ) (acts : List Act) (c : Cluster) → q ≢ p → Each (λ (a : Act). actor a ≡ q) acts → StandsRestoring n c p → StandsRestoring n (after_run c acts) p

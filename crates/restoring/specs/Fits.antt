@@ -1,4 +1,4 @@
--- No page of a peer is dropped for what it tells of
+-- No page of a peer is dropped for what it tells
 use Rattle.std.specs.Prelude.{◌≡◌, ℕ, ◌≤◌, List, true, false}
 use Rattle.world.specs.Handlers.{Handlers}
 use Rattle.theorems.specs.Growth.{Grows}
@@ -13,8 +13,8 @@ use Rattle.recovery.specs.Entering.{sent_to}
 use Rattle.restoring.specs.Restoring.{TheRestoring, has_answered, last_ssn}
 use Rattle.restoring.specs.Stands.{StandsRestoring}
 
--- in each run of so many nodes: a page that a peer put out for the life of a process that still waits for it tells of no more messages than
--- were sent to that peer
+-- in each run: a page that a peer sent to this incarnation of a process that still waits for it tells of no more messages than were sent to
+-- that peer
 abbrev pub PagesFit : Type 0
 PagesFit = (count : ℕ) (f : Handlers) (acts : List Act) (n : TheRestoring) (from j covered s : ℕ) (flags : Flags) (pairs : List Pair) → count ≤ 15 → Grows f → Run (opening count f) acts
     → StandsRestoring n (after_run (opening count f) acts) n.own.me → from ≤ n.own.count → has_answered from n ≡ false → in_range (Restored n.own.life j covered s flags pairs) ≡ true

@@ -1,4 +1,4 @@
--- What a host reads of a process that restores its numbers
+-- What a host reads of a process that restores its RSNs
 use Rattle.std.specs.Prelude.{ℕ, ◌+◌, Bool, not}
 use Rattle.node.specs.declared.standing.Stage.TheVariants as stage
 use Rattle.node.specs.declared.standing.Standing.{Standing}
@@ -9,6 +9,6 @@ use Rattle.restoring.specs.Restoring.{TheRestoring, has_answered, replayed_of}
 abbrev pub is_asked : TheRestoring → ℕ → Bool
 is_asked n q = not (has_answered q n)
 
--- it waits for these
+-- the status: it waits for these peers
 abbrev pub restoring_standing : TheRestoring → Standing
 restoring_standing n = record (replayed_standing (replayed_of n)) { stage = stage.Resuming; waited_for = bits_of (is_asked n) (n.own.count + 1) }

@@ -1,4 +1,4 @@
--- Which clusters a process stands in that restores its numbers, and what a call owes
+-- When a process that restores RSNs agrees with a cluster, and what a call owes
 use Rattle.std.specs.Prelude.{◌≡◌, ℕ, ◌<◌, ◌≤◌, [], ◌∷◌, length, Option, Some, None, true, false}
 use Rattle.world.specs.Logs.{sent_in_all}
 use Rattle.world.specs.Calls.{phase_with}
@@ -10,8 +10,8 @@ use Rattle.recovery.specs.Stands.{HasOwn, IsSaid, IsSent, GoesTo}
 use Rattle.recovery.specs.Replayed.{TheReplayed, StandsReplayed}
 use Rattle.restoring.specs.Restoring.{TheRestoring, above_of, has_answered, left}
 
--- it stands in a cluster in which p restores its numbers, and waits for the same peers: all that p received is acknowledged; of one that it
--- waits for it has the numbers up to the SSN up to which that told; and where it waits for no process, all that it sent is released
+-- it agrees with a cluster in which p restores its RSNs and waits for the same peers: all that p received is acknowledged; from a peer that
+-- it waits for it has the RSNs up to the SSN up to which that told them; and if it waits for no process, all that it sent is released
 pub record StandsRestoring (n : TheRestoring) (c : Cluster) (p : ℕ) : Type 0 where
   pub stage : c.stage p ≡ Live
   pub greeted : c.greeted p ≡ has_answered 0 n
@@ -25,27 +25,27 @@ pub record StandsRestoring (n : TheRestoring) (c : Cluster) (p : ℕ) : Type 0 w
   pub restoring : (q : ℕ) → q ≤ c.count → c.restoring p q ≡ above_of q n
   pub released : left n ≡ [] → (d : ℕ) → c.released p d ≡ sent_in_all (seen c) p d
 
--- what it owes that begins: from each cluster in which it has replayed, to one in which it stands
+-- what the first call owes: from each cluster in which the process has finished its replay, to one with which it agrees
 abbrev pub Begins : TheReplayed → TheRestoring → Type 0
 Begins r n = (c : Cluster) → StandsReplayed r c r.own.me → GoesTo r.own.me (λ d. StandsRestoring n d r.own.me) c
 
--- what a call owes: from each cluster in which it stood, and of which this holds, to one in which it stands
+-- what a call owes: from each cluster with which it agreed, and for which `given` holds, to one with which it agrees
 abbrev pub Owes : (Cluster → Type 0) → TheRestoring → TheRestoring → Type 0
 Owes given old new = (c : Cluster) → StandsRestoring old c old.own.me → given c → GoesTo old.own.me (λ d. StandsRestoring new d old.own.me) c
 
--- one that is told nothing
+-- what a call owes that is handed nothing
 abbrev pub Acts : TheRestoring → TheRestoring → Type 0
 Acts old new = Owes (λ c. Unit {0}) old new
 
--- one that is handed a packet, if that was put out; it owes nothing where it isn't exact any more
+-- what a call owes that is handed a packet, if that was sent; nothing if the process is no longer exact
 abbrev pub IsHanded : Packet → TheRestoring → TheRestoring → Type 0
 IsHanded x old new = new.own.exact ≡ true → Owes (λ c. IsSaid c.parcels x.from x.to x.body) old new
 
--- what take owes: the packet that waited first, which was put out; the process is without it
+-- what `take` owes: it gives the first packet that waited, which was sent, and the process no longer has it
 abbrev pub Takes : Option Packet → TheRestoring → TheRestoring → Type 0
 Takes None old new = (old.own.out ≡ []) × (new ≡ old)
 Takes (Some x) old new = (old ≡ record new { own = record new.own { out = x ∷ new.own.out } }) × ((c : Cluster) → StandsRestoring old c old.own.me → IsSent c.count c.parcels old.own.me x × StandsRestoring new c old.own.me)
 
--- its node stands where it stood
+-- its node agrees with the same clusters
 abbrev pub IsUp : TheRestoring → TheNode → Type 0
 IsUp n node = (c : Cluster) → StandsRestoring n c n.own.me → Stands node c n.own.me

@@ -1,20 +1,20 @@
-//! Of a cluster: the last stage of a process that comes back. It has replayed all that it keeps, and
-//! asks its peers under which numbers they have its messages, until it is a node again.
+//! The end of a recovery: after its replay a process asks its peers for the RSNs of its messages,
+//! until it is a node again.
 //!
-//! It begins with what it has then ([`Restoring::begin`]): Resume goes to each peer and to the
-//! gateway. Their answers come by pages ([`Restoring::receive`]), and what isn't answered is asked
-//! again ([`Restoring::tick`]). When all have told all ([`Restoring::is_up`]), it is a node
-//! ([`Restoring::into_node`]), and all that it sent may go out.
+//! It begins after the replay ([`Restoring::begin`]), and sends its Resume to each peer and to the
+//! gateway. They answer by pages ([`Restoring::receive`]), and it asks again for what isn't
+//! answered ([`Restoring::tick`]). When all have told all ([`Restoring::is_up`]), it becomes a node
+//! ([`Restoring::into_node`]), and all that it sent is released.
 //!
-//! The promise: each call is none, one or more acts of the process that the rules of crate `cluster`
-//! allow, and what it then holds is what the cluster has of it. No call but the first needs memory;
-//! where that is refused, what was handed in is given back.
+//! Each call is zero or more acts of the process that the rules of crate `cluster` allow, and the
+//! process then holds what the cluster has of it. Only the first call needs memory; if that is
+//! refused, the process is given back.
 //!
-//! A packet that isn't the answer to what was asked last is dropped. A page that tells of more messages
-//! than were sent is taken, and the process isn't exact any more; while failures come one at a time no
-//! page of a peer does ([`pages_fit`]). But the Ask of a peer that comes back too is answered: what the
-//! log held for it is lost. Where that one wasn't known to come back it is waited for anew, and the
-//! process isn't exact any more: it owes no acts then.
+//! It drops any packet that isn't the answer to its last question, except an Ask. It takes a page
+//! that tells of more messages than were sent, but is no longer exact then; while failures come one
+//! at a time no page of a peer does that ([`pages_fit`]). It answers the Ask of a peer that is
+//! recovering too: what the log held for it is lost. If it didn't know yet that the peer is
+//! recovering, it waits for it anew and is no longer exact. From then on it owes no acts.
 //!
 //! ```text
 //! let mut node = Restoring::begin(alloc, replayed)?;

@@ -1,4 +1,4 @@
-//! What a host reads of a process that asks its peers under which numbers they have its messages.
+//! What a host reads of a process that restores its RSNs.
 
 ghost use Rattle.std.specs.Prelude.{◌≡◌, ◌∷◌, [], List, ◌+◌, ◌≤◌, MatchOption};
 ghost use Rattle.packets.specs.declared.packet.Packet.{Packet};
@@ -10,7 +10,7 @@ use node::{Stage, Standing};
 use packets::Packet;
 
 impl Restoring {
-    /// The packet that waits first; none, if there is none.
+    /// The first packet that waits, if there is one.
     pub fn front(&self) -> Option<&Packet>
         ensures { MatchOption result (self.now.own.out ≡ []) (λ x. (rest : List Packet) × (self.now.own.out ≡ x.now ∷ rest)) }
     {
@@ -24,7 +24,7 @@ impl Restoring {
         self.replayed.state()
     }
 
-    /// How it stands: it waits for the peers that haven't told all.
+    /// The status: it waits for the peers that haven't told all.
     pub fn standing(&self) -> Standing
         ensures { result ≡ restoring_standing self.now }
     {

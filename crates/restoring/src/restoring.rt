@@ -1,4 +1,4 @@
-//! A process that asks its peers under which numbers they have its messages.
+//! A process that restores its RSNs: it asks its peers under which RSNs they have its messages.
 
 ghost use Rattle.std.specs.Prelude.{◌≡◌, ◌≢◌, ◌≤◌, ◌<◌, ◌+◌, ◌&&◌, length, replicate, slice_set, nat_le, true, IfOk, IfErr};
 ghost use Rattle.std.specs.List.{AllByRecursion};
@@ -12,12 +12,12 @@ use recovery::Replayed;
 use std::alloc::{AllocError, Global};
 use std::marker::Model;
 
-/// A process that has replayed all that it keeps, and what its peers told since.
+/// A process after its replay, and what its peers have told since.
 #[derive(Drop)]
 pub struct Restoring {
     pub(crate) replayed: Replayed,
-    /// By peer the SSN up to which it told the numbers, and whether it told all. Of the process itself
-    /// there is nothing to tell.
+    /// By peer: the SSN up to which it told the RSNs, and whether it told all. For the process
+    /// itself there is nothing to tell.
     pub(crate) above: Vec<u64>,
     pub(crate) answered: Vec<bool>,
 }
@@ -33,8 +33,8 @@ impl Model for Restoring {
 }
 
 impl Restoring {
-    /// A process that has replayed all that it keeps. All its peers are asked, but those that told that
-    /// what they had is lost. Where memory is refused it is given back.
+    /// Begins after the replay, and asks all peers except those that said that they lost what they
+    /// had. If memory is refused, the process is given back.
     pub fn begin(alloc: Global, replayed: Replayed) -> Result<Restoring, Replayed>
         ensures value { IfOk result (λ n. n ≡ begun replayed) }
         ensures acts { IfOk result (λ n. Begins replayed n) }
@@ -56,43 +56,43 @@ impl Restoring {
         }
     }
 
-    /// A packet that is to be sent, the first that waits; none, if there is none.
+    /// Takes the first packet that waits to be sent, if there is one.
     pub fn take(&mut self) -> Option<Packet>
         ensures { Takes result self.old self.new }
     {
         self.replayed.pop()
     }
 
-    /// The peers that haven't told all are asked again.
+    /// Asks the peers again that haven't told all.
     pub fn tick(&mut self)
         ensures value { self.new ≡ asked self.old }
         ensures acts { Acts self.old self.new }
     {
-        // For the proof: reading a field tells the invariant.
+        // For the proof: reading a field gives the invariant.
         let _known = self.answered.len();
         self.ask_all();
     }
 
-    /// A packet came. The answer of a peer to what was asked last is taken in, and the Ask of a peer that
-    /// comes back too is answered; anything else is dropped.
+    /// Takes a packet: the answer of a peer to the last question, or the Ask of a peer that is
+    /// recovering too, which it answers. It drops anything else.
     pub fn receive(&mut self, alloc: Global, packet: &Packet)
         ensures value { self.new ≡ handed packet.now self.old }
         ensures acts { IsHanded packet.now self.old self.new }
     {
-        // For the proof: reading a field tells the invariant.
+        // For the proof: reading a field gives the invariant.
         let _known = self.answered.len();
         self.hand(alloc, packet);
     }
 
-    /// Whether all have told all, the gateway too.
+    /// Whether all peers have told all, the gateway too.
     pub fn is_up(&self) -> bool
         ensures { result ≡ is_up self.now }
     {
         self.answered.iter().all(|answered| *answered)
     }
 
-    /// Where all have told all, it is a node that is up. All that it sent is released: `Node::tick`
-    /// sends what has no number.
+    /// The node of the process, if all have told all. All that it sent is released: `Node::tick`
+    /// sends what has no RSN.
     pub fn into_node(self) -> Node
         requires { is_up self ≡ true }
         ensures value { result ≡ up self }
@@ -157,7 +157,7 @@ impl Restoring {
         }
     }
 
-    /// Whether a page answers what was asked last, whatever it tells of.
+    /// Whether a page answers the last question, whatever it tells.
     fn is_reply(&self, from: u8, life: u64, teller: u64, above: u64) -> bool
         requires { from ≤ self.now.own.count }
         ensures { result ≡ is_reply from life teller above self.now }
@@ -168,8 +168,8 @@ impl Restoring {
             && above == self.above[from as usize]
     }
 
-    /// The page of a peer. Where it tells of more than was sent, failures met, and the process isn't
-    /// exact any more: what it sent then is lost to it.
+    /// Takes the page of a peer. If it tells of more messages than were sent, failures overlapped,
+    /// and the process lost what it had sent then: it is no longer exact.
     fn take_page(
         &mut self,
         from: u8,
@@ -195,7 +195,7 @@ impl Restoring {
         }
     }
 
-    /// Whether a page answers what was asked last, and tells of no more than was sent.
+    /// Whether a page answers the last question, and tells of no more messages than were sent.
     fn is_answer(
         &self,
         from: u8,
@@ -213,7 +213,7 @@ impl Restoring {
             && last_ssn(0, pairs) <= self.replayed.sent(from)
     }
 
-    /// A page of a process: where it isn't the last one, the process is asked for the next.
+    /// Takes a page of a process, and asks for the next one if it isn't the last.
     fn tell(
         &mut self,
         from: u8,
@@ -239,7 +239,7 @@ impl Restoring {
         }
     }
 
-    /// The answer of the gateway: so many outputs were shown.
+    /// Takes the answer of the gateway: how many outputs were shown.
     fn greet(&mut self, covered: u64, flags: Flags)
         ensures { self.new ≡ greeted covered flags self.old }
     {
@@ -250,8 +250,8 @@ impl Restoring {
         }
     }
 
-    /// `from` comes back too, in its incarnation `life`, and asks what the log holds for it above this
-    /// number. It is told that all that is lost, and is waited for again.
+    /// Takes an Ask: `from` is recovering too, in its incarnation `life`, and asks what the log
+    /// holds for it above this RSN. Answers that all of it is lost, and waits for it again.
     fn receive_ask(&mut self, alloc: Global, from: u8, life: u64, above: u64)
         requires low { from ≤ self.old.own.count }
         requires other { from ≢ self.old.own.me }
@@ -273,8 +273,8 @@ impl Restoring {
     }
 }
 
-/// By peer that nothing was told, and of whom nothing is waited for: of the process itself, and of those
-/// that lost what they had.
+/// By peer: the SSN 0, and whether the peer isn't waited for, which is so for the process itself
+/// and for peers that lost what they had.
 fn none_told(
     alloc: Global,
     me: u8,
@@ -294,7 +294,7 @@ fn none_told(
     Ok((above, answered))
 }
 
-/// The SSN of the last pair, or where there is none this one.
+/// The SSN of the last pair, or `above` if there is none.
 fn last_ssn(above: u64, pairs: &[Pair]) -> u64
     ensures { result ≡ last_ssn above pairs.now }
 {

@@ -1,9 +1,9 @@
--- The page of a rule.
+-- The pages of the rules.
 use Rattle.std.specs.Prelude.{ℕ, List, cond, codes}
 use Rattle.std.specs.Str.{bytes_eq}
 use Rattle.rule_pages.specs.declared.text.TheConstants.{INDEX, V1, V2, V3, V4, V5, V6, V7, V8, V9, V10}
 
--- that of the rule of this name, or the list of all rules
+-- the page of the rule with this name, or the list of all rules
 abbrev pub page_text : List ℕ → List ℕ
 page_text rule =
     cond (bytes_eq rule (codes "V1")) V1.now (cond (bytes_eq rule (codes "V2")) V2.now (cond (bytes_eq rule (codes "V3")) V3.now

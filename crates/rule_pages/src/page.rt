@@ -5,7 +5,7 @@ ghost use Rattle.rule_pages.specs.Page.{page_text};
 
 use crate::text::{INDEX, V1, V2, V3, V4, V5, V6, V7, V8, V9, V10};
 
-/// The page of the rule of this name, `V1` to `V10`; of any other name the list of the rules.
+/// The page of the rule with this name, `V1` to `V10`; for any other name the list of the rules.
 pub fn page_of(rule: &str) -> &'static str
     ensures { result.now ≡ page_text rule.now }
 {

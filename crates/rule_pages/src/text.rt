@@ -1,8 +1,9 @@
 //! The pages, as texts.
 //!
-//! Each C that is shown as broken breaks the rule as clang 14 compiles it for images of form 3, and is accepted as it is mended.
+//! Compiled by clang 14 for images of form 3, each broken piece of C breaks its rule, and each
+//! mended one is accepted.
 
-/// What there is a page of.
+/// The list of all rules.
 pub const INDEX: &str = "\
 The rules of the verifier. `sblog explain --why V6` prints the page of one: what it means, and examples.
 

@@ -1,4 +1,3 @@
 mod Beginnings
 mod Carried
 mod Played
-mod ResultsLemmas

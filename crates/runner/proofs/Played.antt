@@ -15,7 +15,7 @@ use Rattle.scenario.specs.declared.order.Order.{Order}
 use Rattle.scenario.specs.declared.order.Order.TheVariants as order
 use Rattle.scenario.specs.declared.scenario.Step.{Step}
 use Rattle.runner.specs.Orders.{CarriesOut, BringsBack, HoldsJob, MakesCall, Position, beginning, held_for, with_entry, without_job, world_at}
-use Rattle.runner.specs.Results.{results_text}
+use Rattle.results.specs.Results.{results_text}
 use Rattle.runner.specs.Telling.{IsTelling, style_in, told_text}
 use Rattle.styles.specs.Style.{TheStyle}
 use Rattle.runner.specs.Inside.{AreNoted, ArePlayed, ArePlayedTo, IsNoted, IsPlayed, TheNotes}

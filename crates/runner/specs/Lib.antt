@@ -1,6 +1,6 @@
-pub mod Results
-pub mod Word
 pub mod Orders
 pub mod Run
 pub mod Telling
 pub mod Inside
+pub mod Rest
+pub mod Why

@@ -20,7 +20,7 @@ use Rattle.sessions.specs.Journal.{entry}
 use Rattle.sessions.specs.Driving.{Drives}
 use Rattle.scenario.specs.declared.order.Order.{Order}
 use Rattle.scenario.specs.declared.order.Order.TheVariants as order
-use Rattle.runner.specs.Word.{message_word}
+use Rattle.results.specs.Word.{message_word}
 
 -- where a run stands: the images of the processes 1, 2, .., the accepted calls, by process the job that is held, and how many
 -- messages the outside handed in

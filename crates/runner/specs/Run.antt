@@ -12,7 +12,7 @@ use Rattle.world.specs.World.{World}
 use Rattle.sessions.specs.Logged.{logged}
 use Rattle.scenario.specs.declared.scenario.Step.{Step}
 use Rattle.runner.specs.Orders.{CarriesOut, FindsNoMemory, Position, beginning, world_at}
-use Rattle.runner.specs.Results.{results_text}
+use Rattle.results.specs.Results.{results_text}
 
 -- the line of an order that is refused with this number, if it is, and stands in this line of the scenario
 abbrev pub refused_text : ℕ → Option ℕ → List ℕ

@@ -13,7 +13,7 @@ use Rattle.world.specs.Phases.{name_of}
 use Rattle.world.specs.World.{World}
 use Rattle.world.specs.declared.entry.Entry.{Entry}
 use Rattle.world.specs.declared.message.Message.{Message}
-use Rattle.runner.specs.Results.{numbered, shown_state}
+use Rattle.results.specs.Results.{numbered, shown_state}
 use Rattle.runner.specs.Run.{AreCarriedOut, Passage, moments_of}
 
 -- the lines of the orders among these moments that were refused

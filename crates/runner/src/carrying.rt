@@ -6,22 +6,20 @@ ghost use Rattle.runner.specs.Orders.{CarriesOut, BringsBack, FindsNoMemory, Han
 ghost use Rattle.runner.specs.Inside.{ComesTo, NoNumber, OnMemory, position_of};
 
 use crate::player::Player;
-use crate::word::payload_of;
 use helpers::Payload;
+use results::payload_of;
 use scenario::Order;
 use sessions::Service;
 use world::{Call, Refusal};
 
 impl Player {
-    /// Carries out an order as nobody. A refused order leaves all as it is, but that it has used
-    /// its feed number, or that a held job is dropped. Want of memory is told only where no number
-    /// refuses the order; behind it the run is to end.
+    /// Carries out an order. A refused order changes nothing, except that it uses up its feed number or
+    /// drops a held job. It answers that memory ran out only if no number refuses it; then the run ends.
     pub(crate) fn carry_out(&mut self, order: &Order) -> Result<(), Refusal>
         ensures done { ComesTo (CarriesOut (position_of self.old) order.now (position_of self.new)) result }
         ensures memory { OnMemory (FindsNoMemory (position_of self.old) order.now) result }
     {
         match *order {
-            // (the word is a payload's first 8 bytes, the least first; zeros follow)
             Order::Input { to, word } => self.hand_in(to, payload_of(word)),
             Order::Bytes { to, payload } => self.hand_in(to, payload),
             Order::Transmit { from, to, ssn } => self.make(&Call::Transmit { from, to, ssn }),
@@ -40,8 +38,7 @@ impl Player {
         }
     }
 
-    // Hands in a message, with the next feed number. There are fewer than 2^32 of them: one more
-    // finds no memory.
+    /// Hands in a message under the next feed number. After 2^32 - 1 of them it answers that memory ran out.
     fn hand_in(&mut self, to: u8, payload: Payload) -> Result<(), Refusal>
         ensures done { ComesTo (HandsIn (position_of self.old) to payload (position_of self.new)) result }
         ensures memory { OnMemory (NoNumber (HandsIn (position_of self.old) to payload) ⊎ (2 ^ 32 ≤ self.old.inputs + 1)) result }
@@ -53,13 +50,12 @@ impl Player {
         self.make(&Call::Input { to, feed, payload })
     }
 
-    // Makes a call, and holds the job that it starts.
+    /// Makes a call, and holds the job that it starts.
     fn make(&mut self, call: &Call) -> Result<(), Refusal>
         requires { TakesNoResult call.now }
         ensures done { ComesTo (MakesCall (position_of self.old) call.now (position_of self.new)) result }
         ensures memory { OnMemory (NoNumber (MakesCall (position_of self.old) call.now)) result }
     {
-        // (the session is a `Service`: sessions/src/service.rt)
         let reply = self.session.call(call)?;
         if let Some(job) = reply.job {
             self.hold(job);
@@ -67,7 +63,7 @@ impl Player {
         Ok(())
     }
 
-    // Runs the held job of a process, and brings its result back.
+    /// Runs the held job of a process, and brings its result back.
     fn finish(&mut self, process: u8) -> Result<(), Refusal>
         ensures done { ComesTo (BringsBack (without_job (position_of self.old) process) (held_for (position_of self.old) process) (position_of self.new)) result }
         ensures memory { OnMemory (NoNumber (BringsBack (without_job (position_of self.old) process) (held_for (position_of self.old) process))) result }
@@ -81,11 +77,10 @@ impl Player {
         }
     }
 
-    // Makes useful calls, as many as the budget.
+    /// Makes useful calls, at most as many as the budget.
     fn drive(&mut self, budget: u32) -> Result<(), Refusal>
         ensures { ComesTo (λ refused. IsDriven budget (position_of self.old) (position_of self.new) × (refused ≡ None)) result }
     {
-        // (sessions/src/driving.rt)
         self.session.drive(budget).and(Ok(()))
     }
 }

@@ -16,31 +16,30 @@ use std::alloc::{AllocError, Global};
 use std::sync::Arc;
 use world::{Call, Entry, Message, Refusal};
 
-/// A call that was accepted, or an order that was refused: the line that it is of, from 1, and the number that
-/// refused it.
+/// An accepted call or a refused order: its line, from 1, and the number that refused it.
 pub type Moment = (usize, Option<u8>);
 
-/// What a run came to, in the order of time.
+/// What a run did, in the order of time.
 #[derive(Drop)]
 pub struct Chronicle {
-    /// The calls that were accepted, with their answers.
+    /// The accepted calls, with their answers.
     pub entries: Vec<Entry>,
-    /// One of each of these, and one of each order that was refused.
+    /// One for each accepted call, and one for each refused order.
     pub moments: Vec<Moment>,
-    /// Of each of these calls what it put on the wire: what the message says, by the log of its sender.
+    /// The message that each accepted call put on the wire, by the log of its sender.
     pub sent: Vec<Option<Payload>>,
-    /// The outputs that were shown.
+    /// The outputs.
     pub shown: Vec<Message>,
 }
 
-/// What is noted of the orders so far.
+/// The moments of the orders so far, and what their calls put on the wire.
 #[derive(Drop)]
 pub(crate) struct Notes {
     pub(crate) moments: Vec<Moment>,
     pub(crate) sent: Vec<Option<Payload>>,
 }
 
-// Notes so many accepted calls of a line.
+/// Notes `count` accepted calls of a line.
 fn note_calls(moments: &mut Vec<Moment>, line: usize, count: usize) -> Result<(), AllocError>
     ensures { OnOk result (moments.new.items ≡ moments.old.items ++ replicate count (line, None)) }
 {
@@ -50,7 +49,7 @@ fn note_calls(moments: &mut Vec<Moment>, line: usize, count: usize) -> Result<()
     Ok(())
 }
 
-// Notes that the order of a line was refused, if it was.
+/// Notes that the order of a line was refused, if it was.
 fn note_refusal(
     moments: &mut Vec<Moment>,
     line: usize,
@@ -65,7 +64,7 @@ fn note_refusal(
 }
 
 impl Player {
-    // Carries out the order of a step, and answers the number that refused it, if one did.
+    /// Carries out the order of a step, and answers the number that refused it, if one did.
     fn heed(&mut self, step: &Step) -> Result<Option<u8>, AllocError>
         ensures { IfOk result (λ refused. CarriesOut (position_of self.old) step.now.order (position_of self.new) refused) }
     {
@@ -78,7 +77,7 @@ impl Player {
         }
     }
 
-    // What a call put on the wire, if it did, by the log of its sender.
+    /// The message that a call put on the wire, by the log of its sender.
     fn sent_by(&self, call: &Call) -> Option<Payload>
         ensures { result ≡ sent_by (world_at (position_of self.now)) call.now }
     {
@@ -88,7 +87,7 @@ impl Player {
         }
     }
 
-    // The accepted calls behind so many.
+    /// The accepted calls after the first `before`.
     fn added(&self, before: usize) -> &[Slip]
         ensures { result.now ≡ drop before (position_of self.now).entries }
     {
@@ -96,7 +95,7 @@ impl Player {
         &journal[before.min(journal.len())..]
     }
 
-    // Notes what these accepted calls put on the wire.
+    /// Notes what these accepted calls put on the wire.
     fn note_sent(&self, sent: &mut Vec<Option<Payload>>, slips: &[Slip]) -> Result<(), AllocError>
         ensures { OnOk result (sent.new.items ≡ sent.old.items ++ sent_in (world_at (position_of self.now)) slips.now) }
     {
@@ -107,7 +106,7 @@ impl Player {
         Ok(())
     }
 
-    // Carries out the order of a step, and notes what it came to.
+    /// Carries out the order of a step, and notes what it did.
     fn tell(&mut self, step: &Step, notes: &mut Notes) -> Result<(), AllocError>
         ensures { OnOk result (IsNoted step.now (position_of self.old) (position_of self.new) (notes_of notes.old) (notes_of notes.new)) }
     {
@@ -119,7 +118,7 @@ impl Player {
         self.note_sent(&mut notes.sent, self.added(before))
     }
 
-    // Carries out the orders of all steps, one after the other, and answers what they came to.
+    /// Carries out the orders of all steps, and notes what they did.
     pub(crate) fn tell_all(&mut self, alloc: Global, steps: &[Step]) -> Result<Notes, AllocError>
         ensures { IfOk result (λ notes. AreNoted steps.now (position_of self.old) (position_of self.new) (notes_of notes)) }
     {
@@ -134,15 +133,14 @@ impl Player {
     }
 }
 
-// A copy of these messages.
 fn copied_messages(alloc: Global, messages: &[Message]) -> Result<Vec<Message>, AllocError>
     ensures { IfOk result (λ v. v.items ≡ messages.now) }
 {
     messages.iter().copied().collect(alloc)
 }
 
-/// What a scenario comes to where its orders are carried out as [`run`](crate::run) does it, in a session of these
-/// images, 1 to 15. Only memory can run out.
+/// What a scenario does if its orders are carried out as by [`run`](crate::run), in a session of these images, 1 to 15. Only
+/// memory can run out.
 pub fn chronicle_of(
     alloc: Global,
     scenario: &Scenario,

@@ -8,7 +8,7 @@ use crate::player::Player;
 use sessions::Job;
 
 impl Player {
-    /// Holds a job, in place of one that is held for its process.
+    /// Holds a job, in place of an earlier one of its process.
     pub(crate) fn hold(&mut self, job: Job)
         ensures { position_of self.new ≡ record (position_of self.old) { held = slice_set self.old.held.items job.who.me (Some job) } }
     {
@@ -16,7 +16,7 @@ impl Player {
         self.held[place] = Some(job);
     }
 
-    /// The job that is held for a process, which is then held no more.
+    /// Gives up the job that is held for a process.
     pub(crate) fn take(&mut self, process: u8) -> Option<Job>
         ensures job { result ≡ held_for (position_of self.old) process }
         ensures rest { position_of self.new ≡ without_job (position_of self.old) process }

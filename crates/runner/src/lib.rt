@@ -1,14 +1,18 @@
 //! Runs of a scenario by one caller, and what they leave as text.
 //!
-//! [`run`] carries out the orders of a scenario, in order, in a session that it opens, and writes the line of each that was
-//! refused, the trace and the report. Its promise: what is written is that of `specs/Run.antt`, where each accepted call is a
-//! step of the world and each refused one tells the least number whose cause holds; only memory can run out, and then refused
-//! lines alone were written. [`chronicle_of`] gives the accepted calls of such a run, and which line made each and which were refused. [`push_results`] writes what a session came to, its trace and its report: the text of
-//! `specs/Results.antt`, which follows from the names, the images and the journal alone.
+//! [`run`] opens a session, carries out the orders of a scenario in it, and writes the line of each refused order, the trace and
+//! the report. Its promise: it writes the text of `specs/Run.antt`, in which each accepted call is a step of the world and each
+//! refused one tells the least number whose cause holds; only memory can run out, and then it wrote refused lines alone.
+//! [`tell`] does the same in another style: with names in place of numbers, or as lines of JSON. [`chronicle_of`] gives the
+//! accepted calls and the refused orders of such a run, with their lines.
 //!
-//! [`tell`] is [`run`] in another style: with names in place of numbers, or as lines of JSON.
+//! A run also notes hints for people: what helpers refused, why orders were refused, and what is left to do. [`why_of`] finds
+//! out why a session refused an order, and [`rest_of`] what is left. Their promise: each process, message and entry that they
+//! name is in the session as they say, and a call that they name can be made next.
 //!
-//! A run notes what helpers refused, process by process, for people: no contract speaks of that.
+//! ```text
+//! let why = why_of(&session, &order, refusal); // Why::Phase { process: 1, phase: PhaseName::Down }
+//! ```
 #![tactic(auto)]
 
 mod carrying;
@@ -16,15 +20,14 @@ mod chronicle;
 mod held;
 mod opening;
 mod player;
-mod refused;
-mod results;
+mod rest;
 mod running;
 mod telling;
-mod word;
+mod why;
 
 pub use chronicle::{Chronicle, Moment, chronicle_of};
-pub use refused::note_refused;
+pub use rest::rest_of;
 pub use results::push_results;
 pub use running::run;
 pub use telling::tell;
-pub use word::payload_of;
+pub use why::{keep_told, why_of};

@@ -15,7 +15,7 @@ use std::alloc::{AllocError, Global};
 use std::sync::Arc;
 use world::Refusal;
 
-/// Want of memory, which a refusal told.
+/// The error of a refusal that tells that memory ran out.
 pub(crate) fn want_of_memory(refusal: Refusal) -> AllocError
     requires { refusal ≡ Memory }
 {
@@ -25,7 +25,7 @@ pub(crate) fn want_of_memory(refusal: Refusal) -> AllocError
     }
 }
 
-// A place for the job of each process: its number. Nothing is held at place 0.
+/// A place for the job of each process, at its number. Place 0 stays empty.
 fn places(alloc: Global) -> Result<Vec<Option<Job>>, AllocError>
     ensures { IfOk result (λ v. v.items ≡ replicate PARTIES None) }
 {
@@ -37,7 +37,7 @@ fn places(alloc: Global) -> Result<Vec<Option<Job>>, AllocError>
 }
 
 impl Player {
-    /// Before the first order, over 1 to 15 images.
+    /// A player before the first order, over 1 to 15 images.
     pub(crate) fn open(alloc: Global, images: Vec<Arc<Handler>>) -> Result<Player, AllocError>
         requires { AreFew (map image_in images.items) }
         ensures { IfOk result (λ player. position_of player ≡ beginning (map image_in images.items)) }

@@ -9,11 +9,12 @@ ghost use Rattle.runner.specs.Inside.{ArePlayed, ArePlayedTo, IsPlayed, position
 ghost use Rattle.runner.specs.Run.{IsCut, IsRun, refused_text};
 
 use crate::player::Player;
-use crate::refused::note_refused;
-use crate::results::push_results;
+use crate::rest::rest_of;
+use crate::why::keep_told;
 use handlers::Handler;
-use hints::{Told, keep_told, note_run};
+use hints::{Told, note_run};
 use itoa::Buffer;
+use results::{note_refused, push_results};
 use scenario::{Scenario, Step};
 use std::alloc::{AllocError, Global};
 use std::sync::Arc;
@@ -22,7 +23,7 @@ use world::Refusal;
 /// How many bytes the line of a refused order has at most: 20 digits of its line, and 3 of a number.
 const LINE_BYTES: usize = 38;
 
-/// Makes room for a line of each of so many orders. Where there is none, nothing has changed.
+/// Makes room for a line of each of so many orders. If there is none, nothing changes.
 fn make_room(out: &mut String, orders: usize) -> Result<(), AllocError>
     ensures bytes { string_bytes out.new ≡ string_bytes out.old }
     ensures room { OnOk result (string_len out.new + LINE_BYTES * orders ≤ string_capacity out.new) }
@@ -33,7 +34,7 @@ fn make_room(out: &mut String, orders: usize) -> Result<(), AllocError>
     out.reserve(bytes)
 }
 
-// Puts a text behind one that has room for it.
+/// Appends a text to one that has room for it.
 fn push_reserved(out: &mut String, text: &str)
     requires { string_len out.old + length text.now ≤ string_capacity out.old }
     ensures bytes { string_bytes out.new ≡ string_bytes out.old ++ text.now }
@@ -46,7 +47,7 @@ fn push_reserved(out: &mut String, text: &str)
     }
 }
 
-/// Writes that the order of a line was refused, with the refusal's number, where there is room.
+/// Writes the line of a refused order, if there is room for it.
 fn push_refused(out: &mut String, line: usize, number: u8)
     requires { string_len out.old + LINE_BYTES ≤ string_capacity out.old }
     ensures written { string_bytes out.new ≡ string_bytes out.old ++ refused_text line (Some number) }
@@ -61,10 +62,9 @@ fn push_refused(out: &mut String, line: usize, number: u8)
     push_reserved(out, "\n");
 }
 
-// A player is a session of one caller (`Service`), the jobs that it holds, and how many inputs it handed in.
 impl Player {
-    // Carries out the order of a step, and writes its line where it is refused. It ends the run
-    // where the order finds no memory, and then writes nothing.
+    /// Carries out the order of a step, and writes its line if it is refused. If memory runs out, the run ends and nothing is
+    /// written.
     fn obey(
         &mut self,
         step: &Step,
@@ -91,7 +91,7 @@ impl Player {
         }
     }
 
-    // Carries out the orders of all steps, one after the other.
+    /// Carries out the orders of all steps.
     fn play(
         &mut self,
         steps: &[Step],
@@ -109,7 +109,7 @@ impl Player {
     }
 }
 
-// Carries out the orders in a session of these images, and answers where they led.
+/// Carries out the orders in a session of these images, and answers the player.
 fn played(
     alloc: Global,
     steps: &[Step],
@@ -127,13 +127,12 @@ fn played(
     Ok(player)
 }
 
-/// Carries out the orders of a scenario as nobody, in a session of these images, 1 to 15, as many
-/// as it has processes (docs/FORMATS.md, "Carrying out"). It writes the line of each order that was
-/// refused, and behind them the trace and the report. Where memory runs out, which counts for a
-/// message above 2^32 too, what it wrote are lines of refused orders alone: room for these is made
-/// before the first order, so an order that a number refuses never ends the run. If helpers refused
-/// sends or outputs, the note gets a line for each process and cause; then why orders were refused, and
-/// what is left to do.
+/// Carries out the orders of a scenario in a session of these images, 1 to 15, one for each process
+/// (docs/FORMATS.md, "Carrying out"). It writes the line of each refused order, then the trace and the
+/// report. If memory runs out, which counts for a message above 2^32 too, it wrote refused lines alone:
+/// it makes room for these before the first order, so an order that a number refuses never ends the
+/// run. The note gets a line for each process and cause for which helpers refused sends or outputs, then
+/// why orders were refused, and what is left to do.
 pub fn run(
     alloc: Global,
     scenario: &Scenario,
@@ -148,9 +147,10 @@ pub fn run(
 {
     let mut told = Vec::new(alloc);
     let player = played(alloc, scenario.steps.as_slice(), images, out, &mut told)?;
-    // The journal is told to be legal.
+    // This call has the clause that the journal is legal.
     let _journal = player.session.journal();
     note_refused(alloc, note, &scenario.processes, &player.session);
-    note_run(alloc, note, scenario, &player.session, &told);
+    let rest = rest_of(&player.session);
+    note_run(alloc, note, scenario, told.as_slice(), rest);
     push_results(alloc, out, &scenario.processes, &player.session)
 }

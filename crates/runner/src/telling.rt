@@ -6,7 +6,7 @@ ghost use Rattle.machine.specs.Opening.{AreFew};
 ghost use Rattle.scenario.specs.Process.{names_of};
 ghost use Rattle.sessions.specs.Journal.{world_at};
 ghost use Rattle.styles.specs.Style.{style_of};
-ghost use Rattle.runner.specs.Results.{numbered};
+ghost use Rattle.results.specs.Results.{numbered};
 ghost use Rattle.runner.specs.Telling.{IsTelling, outputs_told, process_told, refusals_told, told_text};
 
 use crate::chronicle::{Moment, Notes};
@@ -21,7 +21,7 @@ use styles::Style;
 use trace::name_at;
 use world::Message;
 
-/// Writes the line of each order that was refused.
+/// Writes the line of each refused order.
 fn push_refusals(out: &mut String, style: Style<'_>, moments: &[Moment]) -> Result<(), AllocError>
     ensures { OnOk result (string_bytes out.new ≡ string_bytes out.old ++ refusals_told (style_of style.entry) moments.now) }
 {
@@ -51,7 +51,7 @@ fn push_state(
     )
 }
 
-/// Writes a line a process, in the order of their numbers.
+/// Writes a line for each process, in the order of their numbers.
 fn push_states(
     out: &mut String,
     style: Style<'_>,
@@ -68,7 +68,7 @@ fn push_states(
     Ok(())
 }
 
-/// Writes a line an output, in the order in which they were shown.
+/// Writes a line for each output, in the order in which they were shown.
 fn push_shown(
     out: &mut String,
     style: Style<'_>,
@@ -84,7 +84,7 @@ fn push_shown(
     Ok(())
 }
 
-/// What a session came to: the refused orders among these moments, the trace of its journal, and its report.
+/// The lines of the refused orders among these moments, the trace of the session's journal, and its report.
 fn told(
     alloc: Global,
     style: Style<'_>,
@@ -105,7 +105,7 @@ fn told(
     Ok(text)
 }
 
-/// The processes whose names are told, if they are.
+/// The processes, if they are told by their names.
 fn names_if(
     named: bool,
     processes: &IndexMap<String, Process>,
@@ -115,8 +115,8 @@ fn names_if(
     if named { Some(processes) } else { None }
 }
 
-/// Carries out the orders of a scenario as [`run`](crate::run) does, and gives what it prints in another style: as lines of
-/// JSON, or with names in place of numbers, or both. Only memory can run out.
+/// Carries out the orders of a scenario as [`run`](crate::run) does, and gives its text in another style: as lines of JSON, or
+/// with names in place of numbers, or both. Only memory can run out.
 pub fn tell(
     alloc: Global,
     scenario: &Scenario,
@@ -130,7 +130,7 @@ pub fn tell(
 {
     let mut player = Player::open(alloc, images)?;
     let Notes { moments, sent: _ } = player.tell_all(alloc, scenario.steps.as_slice())?;
-    // The journal is told to be legal.
+    // This call has the clause that the journal is legal.
     let _journal = player.session.journal();
     let style = Style {
         json,

@@ -1,12 +1,7 @@
 //! The program `sblog`: the library's function over the real files, streams and arguments.
 #![tactic(auto)]
 
-mod place;
-mod streams;
-mod system;
-
-use crate::streams::{Faults, Reports};
-use crate::system::SystemFiles;
+use image_commands::{Faults, Reports, SystemFiles};
 use std::alloc::Global;
 use std::cell::Cell;
 use std::process::ExitCode;
@@ -22,7 +17,7 @@ fn arguments(rt: &HostRuntime) -> io::Result<Vec<String>> {
     Ok(words)
 }
 
-/// The fault of arguments that could not be read. Beside want of memory that is one that is not UTF-8.
+/// The fault of arguments that could not be read: memory ran out, or one is not UTF-8.
 fn argument_fault(alloc: Global, e: io::Error) -> Fault {
     if e.kind() == io::ErrorKind::OutOfMemory {
         return Fault::Memory;

@@ -46,7 +46,7 @@ pub process_lacks : Lacks 32 (codes "process")
 process_lacks = bytes_lack (codes "process") refl
 
 module _ (text word operands : List ℕ) (whole : text ≡ word ++ 32 ∷ operands) (first : Lacks 32 word) where
-  -- a declaration's word and operands are what stands around its first space
+  -- a declaration's word and operands are the parts before and after its first space
   pub declared_parts : (n p : List ℕ) → text ≡ declaration_text n p → (word ≡ codes "process") × (operands ≡ n ++ 32 ∷ p)
   declared_parts n p is = one_cut 32 word operands (codes "process") (n ++ 32 ∷ p) first process_lacks (sym whole ∙ is)
 
@@ -75,7 +75,7 @@ module _ (text word operands : List ℕ) (whole : text ≡ word ++ 32 ∷ operan
     pub name_taken : (names : List (List ℕ)) (begun : Bool) → (IsFresh name names → ⊥) → ReadsDeclaration names begun text None
     name_taken names begun bad n p may is = bad (subst (λ (t : List ℕ). IsFresh t names) (sym (both_parts n p may.named is).0) may.fresh)
 
-    -- the word of a declaration, and a name and a path behind it
+    -- the word of a declaration, and a name and a path after it
     pub declares : word ≡ codes "process" → text ≡ declaration_text name path
     declares is = whole ∙ (λ k. is k ++ 32 ∷ cut k)
 
@@ -135,7 +135,7 @@ rows_cond : (b : Bool) (p : ℕ × List ℕ) (x z : List (ℕ × List ℕ)) → 
 rows_cond true p x z = refl
 rows_cond false p x z = refl
 
--- the rows of more lines are numbered on behind those of the first
+-- the rows of more lines are numbered after those of the first
 pub rows_append : (n : ℕ) (a b : List (List ℕ)) → rows n (a ++ b) ≡ rows n a ++ rows (n + length a) b
 rows_append n [] b = let at : n ≡ n + 0 = omega arith in ap (λ k. rows k b) at
 rows_append n (l ∷ ls) b =
@@ -246,7 +246,7 @@ module _ (allowed : Allowed) (text : List ℕ) (here : Bor (List ℕ)) (line : L
             (process_more allowed h.before line es ss d.entry h.fine speaks (omega (arith, d.line_is, h.number_is)) is_bytes may_bytes);
       }
 
-  -- an order that may not stand here
+  -- an order that may not be here
   takes_verb : (o p : Order) → verb_of o ≡ verb_of p → takes allowed o ≡ takes allowed p
   takes_verb o p same = by allowed
     where

@@ -1,4 +1,4 @@
--- Names stand in the order of the processes.
+-- Names are in the order of the processes.
 use Rattle.std.proofs.Common.{◌≡◌, ◌≢◌, ◌<◌, ◌≤◌, ◌-◌, ◌+◌, ℕ, zero, suc, Bool, true, false, List, [], ◌∷◌, length, map, get_or, Option, Some, None, refl, sym, ap, ◌∙◌, arith, rules, cond}
 use Rattle.std.specs.Prelude.{◌&&◌, nat_lt, not, codes, String}
 use Rattle.std.specs.declared.alloc.Global.{Global}
@@ -21,7 +21,7 @@ and_both false b e = absurd cc
 no_space : (c : ℕ) → is_name_byte c ≡ true → c ≢ 32
 no_space c e is = absurd (let wrong : is_name_byte 32 ≡ true = ap is_name_byte (sym is) ∙ e in cc)
 
--- bytes of which each may stand in a name have no space among them
+-- bytes that may each be in a name have no space among them
 pub bytes_lack : (cs : List ℕ) → list_all is_name_byte cs ≡ true → Lacks 32 cs
 bytes_lack [] e = tt
 bytes_lack (c ∷ cs) e = let both = and_both (is_name_byte c) (list_all is_name_byte cs) e in (no_space c both.0, bytes_lack cs both.1)
@@ -94,7 +94,7 @@ not_true : (b : Bool) → not b ≡ true → b ≡ true → ⊥
 not_true true e f = absurd cc
 not_true false e f = absurd cc
 
--- where no place is found, no place has the name
+-- if no place is found, no place has the name
 pub missing : (names : List (List ℕ)) (t : List ℕ) → position (bytes_eq t) names ≡ None → (i : ℕ) → i < length names → t ≢ get_or names i []
 missing names t none i lt is =
     let long = beyond (position_or_len (bytes_eq t) names) (length names) (none_so _ _ none) in

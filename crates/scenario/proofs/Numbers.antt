@@ -64,7 +64,7 @@ numeral_ok {E = E} k bs r n small e parses is =
     decimal-digits_value own bs more.1 good.0.0 (λ zero. alone bs more.0 zero good.0.0) (small (digits_value 10 bs) good.0.1) in
     (sym value ∙ ap decimal (sym good.1), subst (λ (m : ℕ). m < 2 ^ k) (sym good.1) good.0.1)
 
--- what `parse` refuses is no number of so many bits
+-- what `parse` refuses is no number of k bits
 pub numeral_out : {E : Type 0} (k : ℕ) (bs : List ℕ) (r : Result ℕ E) (x : E) → ((m : ℕ) → m < 2 ^ k → m < 2 ^ 64) → ParsesUnsigned k 10 bs r → r ≡ Err x
     → (n : ℕ) → n < 2 ^ k → bs ≢ decimal n
 numeral_out k bs r x small parses is n lt e = absurd (let ok : r ≡ Ok n = parse-decimal k n bs r lt (small n lt) e parses in cc)

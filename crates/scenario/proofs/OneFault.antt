@@ -16,7 +16,7 @@ use Rattle.scenario.specs.Laws.{NoFault, OneFault, shown_process}
 use Rattle.scenario.proofs.Lines.{rows_append}
 use Rattle.scenario.proofs.OneScenario.{AreOrders, are_orders, head_is, lines_one, no_declaration, same_declaration, tail_is}
 
--- the row is that of a process which may stand behind these processes
+-- the row is that of a process that may come after these processes
 record IsProcessRow (es fs : List (String Global × Process)) (xs : List Step) (r : ℕ × List ℕ) : Type 0 where
   pub entry : String Global × Process
   pub none : xs ≡ []
@@ -26,7 +26,7 @@ record IsProcessRow (es fs : List (String Global × Process)) (xs : List Step) (
   pub fresh : IsFresh (string_bytes entry.0) (names_in es)
   pub among : (t : List ℕ) → AllByRecursion (λ x. x ≢ t) (names_in fs) → string_bytes entry.0 ≢ t
 
--- the row is that of an order which may stand behind these processes
+-- the row is that of an order that may come after these processes
 record IsStepRow (allowed : Allowed) (names : List (List ℕ)) (n : ℕ) (es fs : List (String Global × Process)) (r : ℕ × List ℕ) : Type 0 where
   pub step : Step
   pub is : r ≡ step_row names step
@@ -50,7 +50,7 @@ module _ (allowed : Allowed) (names : List (List ℕ)) (n : ℕ) where
   step_behind (y ∷ ys) [] rest r ranged taken e = record { step = y; is = sym (head_is _ _ _ _ e); ranged = ranged.0; taken = taken.0; same = refl }
   step_behind (y ∷ ys) (q ∷ front) rest r ranged taken e = step_behind ys front rest r ranged.1 taken.1 (tail_is _ _ _ _ e)
 
-  -- what stands behind rows of processes and steps, among rows that are fine
+  -- what comes after rows of processes and steps, among valid rows
   row_behind : (es fs : List (String Global × Process)) (own : List (List ℕ)) (xs ys : List Step) (rest : List (ℕ × List ℕ)) (r : ℕ × List ℕ) → AllByRecursion IsDeclared es
       → AllByRecursion IsDeclared fs → AreDifferent (names_in fs) → AreRanged ys → AreTaken ys
       → map process_row fs ++ map (step_row names) ys ≡ map process_row es ++ (map (step_row own) xs ++ r ∷ rest)

@@ -28,7 +28,7 @@ skip false x y h = refl
 
 -- ---- operands
 
--- what stands before the first space, and behind it
+-- the parts before and after the first space
 before_space : List ℕ → List ℕ
 before_space [] = []
 before_space (c ∷ cs) = if c == 32 then [] else c ∷ before_space cs

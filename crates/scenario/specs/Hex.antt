@@ -12,7 +12,7 @@ pair_text b = digit_char (b / 16) ∷ digit_char (b % 16) ∷ []
 abbrev pub pairs_text : List ℕ → List ℕ
 pairs_text bytes = flat_map pair_text bytes
 
--- the same, or `-` where there is none
+-- each byte as two digits, or `-` if there are none
 abbrev pub hex_text : List ℕ → List ℕ
 hex_text [] = codes "-"
 hex_text (b ∷ rest) = pairs_text (b ∷ rest)

@@ -1,3 +1,3 @@
--- What the functions of this crate say to one another.
+-- What the crate's own functions say to one another.
 pub mod Loop
 pub mod Reads

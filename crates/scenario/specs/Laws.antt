@@ -1,4 +1,4 @@
--- A text is one scenario, or has one fault.
+-- A text is at most one scenario, or has one fault.
 use Rattle.std.specs.Prelude.{◌≡◌, ℕ, List, map, String}
 use Rattle.std.specs.declared.alloc.Global.{Global}
 use Rattle.std.specs.String.{string_bytes}
@@ -12,15 +12,15 @@ use Rattle.scenario.specs.Scenario.{IsRefusal, IsScenario}
 abbrev pub shown_process : String Global × Process → List ℕ × ℕ × List ℕ
 shown_process e = (string_bytes e.0, e.1.line, string_bytes e.1.path)
 
--- a text is of the same processes and the same steps, however it is read
+-- two scenarios that a text is have the same processes and the same steps
 abbrev pub OneScenario : Type 0
 OneScenario = (allowed : Allowed) (text : List ℕ) (s t : Scenario) → IsScenario allowed text s → IsScenario allowed text t
     → (map shown_process s.processes.entries ≡ map shown_process t.processes.entries) × (s.steps.items ≡ t.steps.items)
 
--- a text has one fault at most
+-- a text has at most one fault
 abbrev pub OneFault : Type 0
 OneFault = (allowed : Allowed) (text : List ℕ) (m n : ℕ) → IsRefusal allowed text (Line m) → IsRefusal allowed text (Line n) → m ≡ n
 
--- and with a fault it is no scenario
+-- a text with a fault is no scenario
 abbrev pub NoFault : Type 0
 NoFault = (allowed : Allowed) (text : List ℕ) (s : Scenario) (n : ℕ) → IsScenario allowed text s → IsRefusal allowed text (Line n) → ⊥

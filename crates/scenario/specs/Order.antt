@@ -16,31 +16,31 @@ use Rattle.scenario.specs.declared.process.TheConstants.{NAME_LIMIT}
 abbrev pub is_letter : ℕ → Bool
 is_letter c = nat_le 97 c && nat_le c 122
 
--- the same, or `0` to `9`
+-- `a` to `z` or `0` to `9`
 abbrev pub is_name_byte : ℕ → Bool
 is_name_byte c = is_letter c || (nat_le 48 c && nat_le c 57)
 
--- a letter first
+-- whether the first byte is a letter
 abbrev pub begins_with_letter : List ℕ → Bool
 begins_with_letter [] = false
 begins_with_letter (c ∷ cs) = is_letter c
 
--- 1 to 16 letters and digits, the first a letter; `outside` is no name
+-- a name: 1 to 16 letters and digits, the first a letter. `outside` is no name
 pub record IsName (text : List ℕ) : Type 0 where
   pub begins : begins_with_letter text ≡ true
   pub bytes : list_all is_name_byte text ≡ true
   pub short : length text ≤ NAME_LIMIT
   pub other : text ≢ codes "outside"
 
--- the number of a process, where there are n
+-- p is the number of one of n processes
 abbrev pub IsProcess : ℕ → ℕ → Type 0
 IsProcess n p = (1 ≤ p) × (p ≤ n)
 
--- the name of a process by its number: names stand in the order of the processes
+-- the name of a process by its number. Names are in the order of the processes
 abbrev pub process_text : List (List ℕ) → ℕ → List ℕ
 process_text names p = get_or names (p - 1) []
 
--- the same, with 0 for the outside
+-- the name of a process or of the outside, which is 0
 abbrev pub party_text : List (List ℕ) → ℕ → List ℕ
 party_text names zero = codes "outside"
 party_text names (suc p) = get_or names p []
@@ -94,7 +94,7 @@ abbrev pub takes : Allowed → Order → Bool
 takes All o = true
 takes Inputs o = is_input (verb_of o)
 
--- what stands behind its word and a space
+-- what follows an order's word and a space
 abbrev pub operands_text : List (List ℕ) → Order → List ℕ
 operands_text names (order.Input to word) = process_text names to ++ 32 ∷ decimal word
 operands_text names (order.Bytes to payload) = process_text names to ++ 32 ∷ hex_text payload
@@ -116,7 +116,7 @@ operands_text names (order.Drive budget) = decimal budget
 abbrev pub order_text : List (List ℕ) → Order → List ℕ
 order_text names o = verb_text (verb_of o) ++ 32 ∷ operands_text names o
 
--- its processes are among n, and its numbers have 32 bits, a word 64; a payload has at most 256 bytes
+-- the order's processes are among n, its numbers have 32 bits, a word has 64, and a payload has at most 256 bytes
 abbrev pub IsInRange : ℕ → Order → Type 0
 IsInRange n (order.Input to word) = IsProcess n to × (word < 2 ^ 64)
 IsInRange n (order.Bytes to payload) = IsProcess n to × IsPayload payload

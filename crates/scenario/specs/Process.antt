@@ -12,7 +12,7 @@ use Rattle.scenario.specs.Order.{IsName}
 abbrev pub names_in : List (String Global × Process) → List (List ℕ)
 names_in entries = map (λ e. string_bytes e.0) entries
 
--- the same of the map that a scenario keeps, whose first entry is process 1
+-- the names in the map of a scenario, whose first entry is process 1
 abbrev pub names_of : {S : Type 0} → IndexMap (String Global) Process S → List (List ℕ)
 names_of processes = names_in processes.entries
 
@@ -33,16 +33,16 @@ declaration_text name path = codes "process" ++ 32 ∷ (name ++ 32 ∷ path)
 abbrev pub IsDeclared : String Global × Process → Type 0
 IsDeclared e = IsName (string_bytes e.0) × IsPath (string_bytes e.1.path)
 
--- no name is this one
+-- no process has this name
 abbrev pub IsFresh : List ℕ → List (List ℕ) → Type 0
 IsFresh name names = AllByRecursion (λ x. x ≢ name) names
 
--- no name is there twice
+-- all names are different
 abbrev pub AreDifferent : List (List ℕ) → Type 0
 AreDifferent [] = Unit {0}
 AreDifferent (x ∷ xs) = IsFresh x xs × AreDifferent xs
 
--- the next process may have this name and this path: no order was given yet, and there are fewer than 15
+-- the next process may have this name and this path: no order came yet, and there are fewer than 15 processes
 pub record MayDeclare (names : List (List ℕ)) (begun : Bool) (name path : List ℕ) : Type 0 where
   pub first : begun ≡ false
   pub room : length names < PROCESSES

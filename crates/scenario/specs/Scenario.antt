@@ -1,4 +1,4 @@
--- Which texts are scenarios, and which line of another is the first faulty one (docs/FORMATS.md, "Scenario").
+-- Which texts are scenarios, and which line of any other is the first faulty one (docs/FORMATS.md, "Scenario").
 use Rattle.std.specs.Prelude.{◌≡◌, ◌≢◌, ◌≤◌, ◌+◌, ◌==◌, ℕ, zero, suc, Bool, true, false, List, [], ◌∷◌, ◌++◌, map, length, nat_lt, if◌then◌else◌, String}
 use Rattle.std.specs.List.{AllByRecursion, slice_split}
 use Rattle.std.specs.declared.alloc.Global.{Global}
@@ -14,7 +14,7 @@ use Rattle.scenario.specs.declared.scenario.ScenarioError.TheVariants.{Memory, L
 use Rattle.scenario.specs.Order.{order_text, takes, IsInRange}
 use Rattle.scenario.specs.Process.{names_in, declaration_text, IsDeclared, AreDifferent, MayDeclare}
 
--- the lines, without their line feeds; what stands after the last line feed is one too
+-- the lines without their line feeds. The text after the last line feed is a line too
 abbrev pub lines_of : List ℕ → List (List ℕ)
 lines_of text = slice_split (λ c. c == 10) text
 
@@ -23,21 +23,21 @@ abbrev pub is_silent : List ℕ → Bool
 is_silent [] = true
 is_silent (c ∷ cs) = c == 35
 
--- the other lines, each with its number, where the first has this one
+-- the lines that aren't silent, each with its number, if the first line has the number n
 abbrev pub rows : ℕ → List (List ℕ) → List (ℕ × List ℕ)
 rows n [] = []
 rows n (line ∷ rest) = if is_silent line then rows (n + 1) rest else (n, line) ∷ rows (n + 1) rest
 
--- the line of a process, behind the number that it has in the text, from 1
+-- the number that the line of a process has in the text, from 1, and the line
 abbrev pub process_row : String Global × Process → ℕ × List ℕ
 process_row e = (e.1.line, declaration_text (string_bytes e.0) (string_bytes e.1.path))
 
--- the line of a step, behind the number that it has in the text; names are those of the processes 1, 2, ..
+-- the number that the line of a step has in the text, from 1, and the line. names are those of the processes 1, 2, ..
 abbrev pub step_row : List (List ℕ) → Step → ℕ × List ℕ
 step_row names x = (x.line, order_text names x.order)
 
--- the lines are those of at most 15 processes with different names, and then of orders that may stand there and speak of these
--- processes alone
+-- the lines declare at most 15 processes with different names. Then come orders that may be there, and that name only these
+-- processes
 pub record AreLines (allowed : Allowed) (lines : List (List ℕ)) (entries : List (String Global × Process)) (steps : List Step) : Type 0 where
   pub few : length entries ≤ PROCESSES
   pub declared : AllByRecursion IsDeclared entries
@@ -51,18 +51,17 @@ pub record IsScenario (allowed : Allowed) (text : List ℕ) (s : Scenario) : Typ
   pub lines : AreLines allowed (lines_of text) s.processes.entries s.steps.items
   pub some : s.processes.entries ≢ []
 
--- whether an order was given
+-- whether an order came
 abbrev pub has_begun : List Step → Bool
 has_begun steps = nat_lt 0 (length steps)
 
--- behind these processes and steps, the line is neither that of a process that may be declared there nor that of an order that may
--- stand there
+-- after these processes and steps, the line is neither a process that may be declared there nor an order that may be there
 pub record IsFaulty (allowed : Allowed) (entries : List (String Global × Process)) (steps : List Step) (line : List ℕ) : Type 0 where
   pub speaks : is_silent line ≡ false
   pub no_process : (name path : List ℕ) → MayDeclare (names_in entries) (has_begun steps) name path → line ≢ declaration_text name path
   pub no_order : (o : Order) → IsInRange (length (names_in entries)) o → takes allowed o ≡ true → line ≢ order_text (names_in entries) o
 
--- what stands before the line of this number is fine, and that line is faulty
+-- all lines before the one of this number are valid, and that line is faulty
 pub record IsFault (allowed : Allowed) (text : List ℕ) (number : ℕ) : Type 0 where
   pub before : List (List ℕ)
   pub line : List ℕ

@@ -1,4 +1,4 @@
-//! The lines above one of a text, and the processes that they declare.
+//! The lines above a line, and the processes that they declare.
 
 use std::fmt;
 
@@ -48,7 +48,7 @@ fn push_name<W: fmt::Write>(f: &mut fmt::Formatter<W>, is_first: bool, name: &st
     f.write_str(name)
 }
 
-/// What the lines declare: the names, with commas between them.
+/// Prints the names that the lines declare, with commas between them.
 impl fmt::Display for Above<'_> {
     fn fmt<W: fmt::Write>(&self, f: &mut fmt::Formatter<W>) -> fmt::Result {
         if self.processes() == 0 {

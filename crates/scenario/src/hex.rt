@@ -1,4 +1,4 @@
-//! Bytes in hexadecimal, read.
+//! Reading bytes in hexadecimal.
 
 ghost use Rattle.scenario.specs.Hex.{IsPayload, hex_text, pairs_text};
 ghost use Rattle.scenario.specs.Inside.Reads.{Reads, ReadsDigit};
@@ -17,7 +17,7 @@ fn digit_of(byte: u8) -> Option<u8>
     }
 }
 
-/// The payload of pairs of digits, or of `-` for none.
+/// The payload that pairs of digits spell, or `-` for none.
 pub fn payload_of(text: &str) -> Option<Payload>
     ensures { Reads hex_text IsPayload text.now result }
 {
@@ -30,7 +30,7 @@ pub fn payload_of(text: &str) -> Option<Payload>
     pairs_of(text.as_bytes())
 }
 
-/// The payload of pairs of digits.
+/// The payload that pairs of digits spell.
 fn pairs_of(text: &[u8]) -> Option<Payload>
     ensures { Reads pairs_text IsPayload text.now result }
 {

@@ -1,8 +1,9 @@
-//! Runs as text: scenarios.
+//! Scenarios: runs as text.
 //!
-//! [`parse`] reads a scenario: processes by their names, and then what is to be done with them, a line each. Its promise:
-//! what is read is written so, line by line, and where a text is refused the line that is named is the first faulty one,
-//! or 0 where no line is faulty and there is no process.
+//! [`parse`] reads a scenario: processes by their names, and then what to do with them, one order a
+//! line. The lines of the text are exactly those of the scenario that is read. If a text is
+//! refused, the error names its first faulty line, or 0 if no line is faulty and there is no
+//! process.
 //!
 //! ```text
 //! let text = "process a adder.sbi\ninput a 5\ndrive 10\n";

@@ -12,7 +12,7 @@ use crate::split::split_at_space;
 use indexmap::IndexMap;
 use limits::PROCESSES;
 
-/// What a line is.
+/// What a line says.
 pub enum Line<'a> {
     /// An empty line, or a comment.
     Silent,
@@ -21,7 +21,7 @@ pub enum Line<'a> {
     Order(Order),
 }
 
-/// What a line is behind these processes; an order has begun if one was given.
+/// What a line says after these processes; `begun` tells whether an order came before it.
 pub fn line_of<'a>(
     processes: &IndexMap<String, Process>,
     begun: bool,
@@ -42,14 +42,14 @@ pub fn line_of<'a>(
     }
 }
 
-/// Whether a line says nothing.
+/// Whether a line is empty or a comment.
 fn is_silent(line: &[u8]) -> bool
     ensures { result ≡ is_silent line.now }
 {
     line.is_empty() || line[0] == b'#'
 }
 
-/// Whether the text is a path: not empty, and with no blank in it.
+/// Whether the text is a path: not empty, and without a blank.
 fn is_path(text: &str) -> bool
     ensures { IsTrue result ↔ IsPath text.now }
 {

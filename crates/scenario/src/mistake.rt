@@ -11,70 +11,70 @@ use limits::PROCESSES;
 /// The word of a line that declares a process.
 pub(crate) const PROCESS: &str = "process";
 
-/// What is wrong with a line, and what can stand there. It prints as a sentence, without a line's end.
+/// What is wrong with a line, and what it may say. It prints as a sentence, without a line end.
 #[derive(Clone, Copy)]
 pub enum Mistake<'a> {
     /// No line declares a process.
     NoProcess,
-    /// A byte order mark at the beginning.
+    /// There is a byte order mark at the beginning.
     Mark,
     CarriageReturn,
-    /// A NUL, as each second letter of a text in UTF-16 is.
+    /// There is a NUL, as every second byte of a text in UTF-16 is.
     Null,
-    /// The text is of a cluster.
+    /// The text describes a cluster.
     Cluster,
-    /// The first word would begin a line, but for a capital letter.
+    /// The first word would begin a line if it had no capital letter.
     Capital { word: &'a str },
-    /// The first word begins no line, and no line of the text looks like the one of a process.
+    /// The first word begins no line, and no line of the text looks like a process.
     Foreign { word: &'a str },
     Tab,
-    /// A space at the beginning or at the end, or two in a row.
+    /// There is a space at the beginning or at the end, or two in a row.
     Space,
-    /// A semicolon at the end.
+    /// There is a semicolon at the end.
     Semicolon,
-    /// A semicolon between two orders.
+    /// There is a semicolon between two orders.
     Several,
-    /// Something that looks like a comment, behind an order or in its place.
+    /// There is something that looks like a comment, after an order or in its place.
     Comment,
-    /// A control character, at this place, counted from 1.
+    /// There is a control character at this place, counted from 1.
     Control { letter: char, place: usize },
-    /// A letter that isn't ASCII, at this place, counted from 1.
+    /// There is a letter that isn't ASCII at this place, counted from 1.
     Letter { letter: char, place: usize },
     /// The first word begins no line.
     Verb { word: &'a str },
-    /// Too many words or too few: behind this one stand these operands.
+    /// There are too many words or too few. The first word takes these operands.
     Words(&'static str, &'static str),
-    /// A path with a space in it, or what looks like one.
+    /// A path has a space in it, or what looks like one.
     Path,
-    /// A process behind the first order.
+    /// A process is declared after the first order.
     Late,
-    /// A process more than there can be.
+    /// There are too many processes.
     Full,
     /// No process can have this name.
     Name { name: &'a str },
     /// A process above has this name.
     Taken { name: &'a str },
-    /// An order that hands in nothing, where the text may have inputs alone.
+    /// An order hands in nothing, in a text that may only have inputs.
     InputsAlone,
     /// No process above has this name.
     Unknown { name: &'a str, above: Above<'a> },
-    /// The number of a process in place of its name.
+    /// There is a process's number in place of its name.
     Numbered { name: &'a str, above: Above<'a> },
-    /// The number of the outside in place of its name.
+    /// There is the outside's number in place of its name.
     Zero { above: Above<'a> },
-    /// The outside in place of a process.
+    /// There is the outside in place of a process.
     Outside { above: Above<'a> },
-    /// A word that is no number of so many bits.
+    /// The word is no number of this many bits.
     Number { word: &'a str, bits: u8 },
-    /// A letter that is no digit of bytes.
+    /// The letter is no digit of bytes.
     Digit { letter: char },
-    /// Digits of bytes that are no pairs.
+    /// The digits of bytes are no pairs.
     Odd { digits: usize },
-    /// More bytes than a message has.
+    /// There are more bytes than a message can have.
     Long { bytes: usize },
 }
 
-/// What stands behind the word of an order.
+/// An operand of an order.
 #[derive(Clone, Copy)]
 enum Operand {
     Process,
@@ -85,8 +85,9 @@ enum Operand {
     Bytes,
 }
 
-/// What is wrong with the line of this number, the first faulty one of a text that may have such orders; line 0 is that
-/// there is no process. `None` is said of a line that isn't faulty.
+/// What is wrong with the line of this number, which is the first faulty one of a text that may
+/// have these orders. For line 0 that is that there is no process. `None` for a line that isn't
+/// faulty.
 pub fn mistake_of(text: &str, number: usize, allowed: Allowed) -> Option<Mistake<'_>> {
     if number == 0 {
         return Some(Mistake::NoProcess);
@@ -117,7 +118,7 @@ fn wording<'a>(
     }
 }
 
-/// What is wrong with a line that another program wrote otherwise.
+/// What is wrong with a line that another program wrote in its own way.
 fn writing(line: &str) -> Option<Mistake<'_>> {
     if line.starts_with('\u{feff}') {
         return Some(Mistake::Mark);
@@ -136,13 +137,14 @@ fn is_line_word(word: &str) -> bool {
     word == PROCESS || verb_named(word).is_some()
 }
 
-/// Whether the first word of a line is one that a line of a scenario begins with.
+/// Whether the first word of a line is one with which a line of a scenario begins.
 pub fn is_begun(line: &str) -> bool {
     let (word, _) = line.split_once(' ').unwrap_or((line, ""));
     is_line_word(word)
 }
 
-/// What is meant by a word that begins no line, where the word or the whole text is of another kind.
+/// What is wrong with a first word that begins no line, if the word or the whole text is of another
+/// kind.
 fn meaning<'a>(text: &'a str, word: &'a str) -> Option<Mistake<'a>> {
     if is_line_word(word) {
         return None;
@@ -159,7 +161,7 @@ fn meaning<'a>(text: &'a str, word: &'a str) -> Option<Mistake<'a>> {
     Some(Mistake::Foreign { word })
 }
 
-/// Whether lines begin with this word, but for capital letters.
+/// Whether lines begin with this word in lower case.
 fn is_capital(word: &str) -> bool {
     word.eq_ignore_ascii_case(PROCESS)
         || VERBS
@@ -167,7 +169,7 @@ fn is_capital(word: &str) -> bool {
             .any(|verb| word.eq_ignore_ascii_case(verb.word()))
 }
 
-/// Whether some line of a text looks like the one of a process.
+/// Whether some line of a text looks like a process.
 fn is_declaring(text: &str) -> bool {
     text.split('\n').any(|line| {
         let line = line.trim_start();
@@ -175,7 +177,7 @@ fn is_declaring(text: &str) -> bool {
     })
 }
 
-/// What is wrong with what stands between a line's words, and with its letters.
+/// What is wrong with the blanks, marks or letters of a line.
 fn spacing(line: &str) -> Option<Mistake<'_>> {
     if line.contains('\t') {
         return Some(Mistake::Tab);
@@ -186,7 +188,8 @@ fn spacing(line: &str) -> Option<Mistake<'_>> {
     marking(line).or(lettering(line))
 }
 
-/// What is wrong with a mark behind an order, or in its place; in the line of a process it is one of its path.
+/// What is wrong with a mark after an order, or in its place. In the line of a process it belongs
+/// to the path.
 fn marking(line: &str) -> Option<Mistake<'_>> {
     if line.starts_with("process ") {
         return None;
@@ -208,14 +211,15 @@ fn marking(line: &str) -> Option<Mistake<'_>> {
     None
 }
 
-/// Whether the word of a line stands behind a semicolon.
+/// Whether the word of a line comes after a semicolon.
 fn has_order_behind(line: &str) -> bool {
     line.split(';')
         .skip(1)
         .any(|part| is_begun(part.trim_start()))
 }
 
-/// The first letter of a line that isn't ASCII, or that no terminal shows, but of a path.
+/// The first letter of a line that isn't ASCII, or that no terminal shows. A path may have any
+/// letters.
 fn lettering(line: &str) -> Option<Mistake<'_>> {
     match declared(line) {
         Some(name) if name.is_ascii() => return None,
@@ -266,7 +270,7 @@ fn declaring<'a>(above: Above<'a>, operands: &'a str) -> Option<Mistake<'a>> {
     None
 }
 
-/// What is wrong with a path in which a space stands.
+/// What is wrong with a path that has a space.
 fn following(path: &str) -> Mistake<'_> {
     if path.contains(" #") || path.contains(" //") || path.contains(" ;") {
         return Mistake::Comment;
@@ -294,7 +298,7 @@ fn ordering<'a>(above: Above<'a>, verb: Verb, operands: &'a str) -> Option<Mista
     None
 }
 
-/// How the operands of an order are written, and what they are.
+/// How the operands of an order are written, and what each is.
 fn operands_of(verb: Verb) -> (&'static str, &'static [Operand]) {
     match verb {
         Verb::Input => ("NAME WORD", &[Operand::Process, Operand::Word]),
@@ -343,7 +347,7 @@ fn naming<'a>(above: Above<'a>, is_party: bool, name: &'a str) -> Mistake<'a> {
     Mistake::Unknown { name, above }
 }
 
-/// What is wrong with a word that is no bytes.
+/// What is wrong with a word that spells no bytes.
 fn spelling(word: &str) -> Mistake<'_> {
     for letter in word.chars() {
         if !matches!(letter, '0'..='9' | 'a'..='f') {

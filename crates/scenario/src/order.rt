@@ -13,11 +13,11 @@ use crate::verb::{Verb, verb_named};
 use helpers::Payload;
 use indexmap::IndexMap;
 
-/// What a line asks for. Processes stand by their numbers, from 1 in the order of their lines; 0 is
-/// the outside.
+/// What a line asks for. Processes are numbered from 1, in the order of their lines; 0 is the
+/// outside.
 #[derive(Clone, Copy, PartialEq, Eq)]
 pub enum Order {
-    /// The outside hands in a word: 8 bytes, little-endian, and 56 zeros.
+    /// The outside hands in a word: 8 bytes, little-endian, and then 56 zeros.
     Input { to: u8, word: u64 },
     /// The outside hands in these bytes.
     Bytes { to: u8, payload: Payload },
@@ -25,7 +25,7 @@ pub enum Order {
     Copy { key: u32 },
     Lose { key: u32 },
     Arrive { key: u32 },
-    /// The job of the process that is held is run, and its result handed in.
+    /// The held job of the process is run, and its result is handed in.
     Finish { process: u8 },
     Checkpoint { process: u8 },
     Trim { to: u8 },
@@ -34,7 +34,7 @@ pub enum Order {
     RecoverAlone { process: u8 },
     ReplayBegin { process: u8 },
     Resync { process: u8, peer: u8 },
-    /// Useful calls are made, as many as the budget at most.
+    /// Useful calls are made, at most as many as the budget.
     Drive { budget: u32 },
 }
 
@@ -141,7 +141,7 @@ fn transmit_of(processes: &IndexMap<String, Process>, text: &str) -> Option<Orde
     Some(Order::Transmit { from, to, ssn })
 }
 
-/// The order that gives messages for a peer their numbers back.
+/// The order that gives messages to a peer their RSNs back.
 fn resync_of(processes: &IndexMap<String, Process>, text: &str) -> Option<Order>
     requires { AreNamed processes.now }
     ensures { ReadsOperands (names_of processes.now) Verb.Resync text.now result }

@@ -46,7 +46,7 @@ pub fn two_processes(processes: &IndexMap<String, Process>, text: &str) -> Optio
     Some((process, peer))
 }
 
-/// A receiver and a message's number.
+/// A receiver and an SSN.
 fn party_and_number(processes: &IndexMap<String, Process>, text: &str) -> Option<(u8, u32)>
     requires { AreNamed processes.now }
     ensures { ReadsReceiver (names_of processes.now) text.now result }
@@ -57,7 +57,7 @@ fn party_and_number(processes: &IndexMap<String, Process>, text: &str) -> Option
     Some((party, ssn))
 }
 
-/// A sender, a receiver and a message's number.
+/// A sender, a receiver and an SSN.
 pub fn party_and_message(
     processes: &IndexMap<String, Process>,
     text: &str,

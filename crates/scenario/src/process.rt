@@ -11,12 +11,12 @@ use indexmap::IndexMap;
 /// The most bytes of a name.
 pub(crate) const NAME_LIMIT: usize = 16;
 
-/// What a scenario says of a process beside its name.
+/// What a scenario says of a process, without its name.
 #[derive(Drop)]
 pub struct Process {
     /// The number of its line, from 1.
     pub line: usize,
-    /// Where its image lies.
+    /// The path of its image.
     pub path: String,
 }
 
@@ -46,7 +46,7 @@ pub fn is_name(text: &str) -> bool
         && text != "outside"
 }
 
-/// The number of the process of this name.
+/// The number of the process with this name.
 pub fn named_process(processes: &IndexMap<String, Process>, text: &str) -> Option<u8>
     requires { AreNamed processes.now }
     ensures { Reads (process_text (names_of processes.now)) (IsProcess (length (names_of processes.now))) text.now result }
@@ -55,7 +55,7 @@ pub fn named_process(processes: &IndexMap<String, Process>, text: &str) -> Optio
     Some(index as u8 + 1)
 }
 
-/// The same, with 0 for the outside.
+/// The number of the process with this name, or 0 for the outside.
 pub fn party_of(processes: &IndexMap<String, Process>, text: &str) -> Option<u8>
     requires { AreNamed processes.now }
     ensures { Reads (party_text (names_of processes.now)) (IsParty (length (names_of processes.now))) text.now result }

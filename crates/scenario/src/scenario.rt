@@ -1,4 +1,4 @@
-//! A text to a scenario.
+//! From a text to a scenario.
 
 ghost use Rattle.std.specs.Prelude.{◌≡◌, ◌≤◌, ◌∷◌, IfOk, IfErr, OnOk, length};
 ghost use Rattle.scenario.specs.Inside.Loop.{Declares, left, lines_left};
@@ -22,7 +22,7 @@ pub struct Step {
 }
 
 /// A run as it is asked for: 1 to 15 processes by their names, in the order of their numbers, and
-/// what is to be done with them.
+/// what to do with them.
 #[derive(Drop)]
 pub struct Scenario {
     pub processes: IndexMap<String, Process>,
@@ -32,7 +32,7 @@ pub struct Scenario {
 /// Why a text is no scenario.
 #[derive(Debug, Drop, PartialEq, Eq, Error)]
 pub enum ScenarioError {
-    /// The first faulty line, from 1; or 0, where no line is faulty and there is no process.
+    /// The first faulty line, from 1; or 0 if no line is faulty and there is no process.
     #[error("scenario refused at line {0}")]
     Line(usize),
     /// Memory ran out.
@@ -56,8 +56,8 @@ impl<T: Drop> From<AllocFailed<T>> for ScenarioError {
     }
 }
 
-/// The scenario that a text with these orders is (docs/FORMATS.md, "Scenario"). The whole text is
-/// checked; the error names the first faulty line.
+/// The scenario of a text that may have these orders (docs/FORMATS.md, "Scenario"). The whole text
+/// is checked. The error names the first faulty line.
 pub fn parse(alloc: Global, text: &str, allowed: Allowed) -> Result<Scenario, ScenarioError>
     ensures found { IfOk result (IsScenario allowed text.now) }
     ensures refused { IfErr result (IsRefusal allowed text.now) }
@@ -102,7 +102,7 @@ fn read_lines(alloc: Global, text: &str, allowed: Allowed) -> Result<Scenario, S
     Ok(Scenario { processes, steps })
 }
 
-/// Adds a process behind those that are there.
+/// Adds a process after those that are there.
 fn declare(
     alloc: Global,
     processes: &mut IndexMap<String, Process>,

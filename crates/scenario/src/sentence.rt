@@ -1,4 +1,4 @@
-//! The sentence that a mistake prints as.
+//! The sentence as which a mistake prints.
 
 use crate::above::Above;
 use crate::mistake::{Mistake, PROCESS};
@@ -9,7 +9,7 @@ use std::fmt;
 /// The most letters of a word that are shown.
 const SHOWN_LIMIT: usize = 40;
 
-/// What bytes are.
+/// How bytes are written.
 const PAIRS: &str = "bytes are pairs of 0 to 9 and a to f, at most 256 pairs, or - for none";
 
 /// A part of a sentence.
@@ -20,15 +20,16 @@ enum Part<'a> {
     Word(&'a str),
     Count(usize),
     Letter(char),
-    /// A letter by its number.
+    /// A letter, printed by its number.
     Code(char),
     /// The processes that are declared above.
     Declared(Above<'a>),
-    /// What lines begin with.
+    /// All words with which lines begin.
     Verbs,
 }
 
-/// Writes a word as it is shown: no letter that could move the cursor of a terminal, and not too long.
+/// Writes a word so that no letter can move a terminal's cursor, and at most `SHOWN_LIMIT` letters
+/// of it.
 fn show_word<W: fmt::Write>(f: &mut fmt::Formatter<W>, word: &str) -> fmt::Result {
     for letter in word.chars().take(SHOWN_LIMIT) {
         show_letter(f, letter)?;
@@ -40,7 +41,7 @@ fn show_word<W: fmt::Write>(f: &mut fmt::Formatter<W>, word: &str) -> fmt::Resul
     })
 }
 
-/// Writes a letter as it is shown.
+/// Writes a letter so that it can't move a terminal's cursor.
 fn show_letter<W: fmt::Write>(f: &mut fmt::Formatter<W>, letter: char) -> fmt::Result {
     f.write_char(if letter.is_ascii_graphic() {
         letter
@@ -49,7 +50,7 @@ fn show_letter<W: fmt::Write>(f: &mut fmt::Formatter<W>, letter: char) -> fmt::R
     })
 }
 
-/// Writes a letter that isn't ASCII by its number.
+/// Writes the number of a letter that isn't ASCII.
 fn show_code<W: fmt::Write>(f: &mut fmt::Formatter<W>, letter: char) -> fmt::Result {
     let number = letter as u32;
     match number {
@@ -59,7 +60,7 @@ fn show_code<W: fmt::Write>(f: &mut fmt::Formatter<W>, letter: char) -> fmt::Res
     }
 }
 
-/// Writes what lines begin with.
+/// Writes all words with which lines begin.
 fn name_verbs<W: fmt::Write>(f: &mut fmt::Formatter<W>) -> fmt::Result {
     f.write_str(PROCESS)?;
     for verb in VERBS {
@@ -92,7 +93,7 @@ impl<'a> Sentence<'a> {
         Sentence(begin, part, end, Part::Fixed(""), "")
     }
 
-    /// What is said of the letter at a place.
+    /// A sentence about the letter at a place.
     fn of_letter(place: usize, letter: char, end: &'static str) -> Sentence<'a> {
         Sentence(
             "letter ",
@@ -103,7 +104,7 @@ impl<'a> Sentence<'a> {
         )
     }
 
-    /// The sentence with a part at its end.
+    /// The sentence with this part as its last.
     fn ending(self, part: Part<'a>) -> Sentence<'a> {
         Sentence(self.0, self.1, self.2, part, self.4)
     }
@@ -120,7 +121,7 @@ impl fmt::Display for Sentence<'_> {
 }
 
 impl<'a> Mistake<'a> {
-    /// The words of a mistake that are always the same.
+    /// The sentence of a mistake that has nothing of the text.
     fn fixed(self) -> Option<&'static str> {
         match self {
             Mistake::NoProcess => Some("no line declares a process: process NAME PATH"),
@@ -154,7 +155,7 @@ impl<'a> Mistake<'a> {
         }
     }
 
-    /// The sentence that has something of the text.
+    /// The sentence of a mistake that shows something of the text.
     fn sentence(self) -> Sentence<'a> {
         match self {
             Mistake::Foreign { word } => Sentence::of(
@@ -191,7 +192,7 @@ impl<'a> Mistake<'a> {
         }
     }
 
-    /// The sentence of a name.
+    /// The sentence of a mistake in a name.
     fn name(self) -> Sentence<'a> {
         match self {
             Mistake::Full => Sentence::of(
@@ -230,7 +231,7 @@ impl<'a> Mistake<'a> {
         }
     }
 
-    /// The sentence of a number, or of bytes.
+    /// The sentence of a mistake in a number or in bytes.
     fn number(self) -> Sentence<'a> {
         match self {
             Mistake::Number { word, bits } => Sentence::of(

@@ -69,7 +69,7 @@ impl Verb {
     }
 }
 
-/// The kind of orders with this word.
+/// The kind of order with this word.
 #[tactic(auto, using(crate::proofs::Orders::every_verb))]
 pub fn verb_named(word: &str) -> Option<Verb>
     ensures { ReadsVerb word.now result }
@@ -77,7 +77,7 @@ pub fn verb_named(word: &str) -> Option<Verb>
     first_named(&VERBS, word)
 }
 
-/// The first of these whose word it is.
+/// The first of these kinds with this word.
 fn first_named(all: &[Verb], word: &str) -> Option<Verb>
     ensures { MatchOption result (AllByRecursion (λ v. word.now ≢ verb_text v) all.now) (λ v. word.now ≡ verb_text v) }
 {

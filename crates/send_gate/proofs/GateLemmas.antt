@@ -63,7 +63,7 @@ module _ (k : ℕ) (h : Held) (hs : List Held) (early : h.rsn ≤ k) where
   pub counts-next : (d : ℕ) → count_to d (filter (λ (x : Held). nat_le x.rsn k) (h ∷ hs)) ≡ cond (h.dst == d) 1 0 + count_to d (filter (λ (x : Held). nat_le x.rsn k) hs)
   counts-next d = let e : nat_le h.rsn k ≡ true = grind (arith, nat_tests) in rw e (count_to-cons d h (filter (λ (x : Held). nat_le x.rsn k) hs))
 
--- one more is released to d where d is the destination
+-- one more is released to d if d is the destination
 pub released-next : (released : List ℕ) (dst d : ℕ) → dst < length released → get_or (set released dst (get_or released dst 0 + 1)) d 0 ≡ get_or released d 0 + cond (dst == d) 1 0
 released-next released dst d inside = by_dst (dst == d) refl
   where
@@ -71,7 +71,7 @@ released-next released dst d inside = by_dst (dst == d) refl
     by_dst true e = let same : dst ≡ d = grind (arith, nat_tests) in rw (← same) (get_or-set_same released dst (get_or released dst 0 + 1) 0 inside)
     by_dst false e = let apart : d ≢ dst = (λ same. grind (arith, nat_tests)) in get_or-set_other released dst d (get_or released dst 0 + 1) 0 apart ∙ omega arith
 
--- where all positions are above the run nothing leaves
+-- if all positions are above the run, nothing leaves
 pub stays-all : (k : ℕ) (hs : List Held) → All (λ (h : Held). k < h.rsn) hs → filter (λ (x : Held). nat_lt k x.rsn) hs ≡ hs
 stays-all k [] above = refl
 stays-all k (h ∷ hs) above =
@@ -79,7 +79,7 @@ stays-all k (h ∷ hs) above =
     let e : nat_lt k h.rsn ≡ true = grind (arith, nat_tests) in
     rw e (ap (λ l. h ∷ l) (stays-all k hs (All-tail (λ (x : Held). k < x.rsn) h hs above)))
 
--- where all that is held is above k, none of it leaves
+-- if all that is held is above k, none of it leaves
 pub leaves-none : (k : ℕ) (hs : List Held) → All (λ (h : Held). k < h.rsn) hs → filter (λ (x : Held). nat_le x.rsn k) hs ≡ []
 leaves-none k [] above = refl
 leaves-none k (h ∷ hs) above =
@@ -119,7 +119,7 @@ onward-next k start now next any o (h, is, early, inside, counted) = record {
   left = sym (ap (λ l. any || list_any (λ (x : Held). nat_le x.rsn k) l) is ∙ ap (λ b. any || b) (any-next k h next.waiting early) ∙ or_true any) ∙ o.left;
 }
 
--- where none is left to leave, it is known whether any left
+-- once none is left to leave, it is known whether any left
 pub any-end : (k : ℕ) (start now last : TheGate) (any : Bool) → Onward k start now any → ReleasesNext false k now last → any ≡ list_any (λ (x : Held). nat_le x.rsn k) start.waiting
 any-end k start now last any o (is, above) = sym (ap (λ b. any || b) (any-none k now.waiting above) ∙ or_false any) ∙ o.left
 

@@ -10,7 +10,7 @@ use std::alloc::{AllocError, Global};
 use std::collections::VecDeque;
 use std::marker::Model;
 
-/// A send that waits: to whom, and its position.
+/// A send that waits: its destination, and the RSN of the message that caused it.
 #[derive(Clone, Copy, Debug, PartialEq, Eq)]
 pub struct Held {
     pub dst: u8,
@@ -50,8 +50,8 @@ impl Gate {
         }
     }
 
-    /// Holds a send to this destination, made while the process worked on the message with this
-    /// number.
+    /// Holds a send to this destination. The process made it while it worked on the message with
+    /// this RSN.
     pub fn hold(&mut self, dst: u8, rsn: u32) -> Result<(), AllocError>
         requires dst { dst < PARTIES }
         requires order { All (λ h. h.rsn ≤ rsn) self.old.waiting }
@@ -70,15 +70,14 @@ impl Gate {
         self.waiting.back().copied()
     }
 
-    /// Takes the send back that was held last, if any waits: what `hold` did is undone.
+    /// Undoes the last `hold`. If no send waits, nothing changes.
     pub fn retract(&mut self)
         ensures { self.new ≡ record { waiting = take (length self.old.waiting - 1) self.old.waiting; released = self.old.released } }
     {
         let _ = self.waiting.pop_back();
     }
 
-    /// Counts the sends to a destination as released up to this many, as after a recovery. None
-    /// waits.
+    /// Sets how many sends to a destination were released, as after a recovery. No send may wait.
     pub fn restore(&mut self, dst: u8, count: u32)
         requires dst { dst < PARTIES }
         requires none { self.old.waiting ≡ [] }
@@ -88,15 +87,15 @@ impl Gate {
         self.released[dst as usize] = count;
     }
 
-    /// Whether a send with this position may leave: all numbers up to it are acknowledged.
+    /// Whether a send at this position may leave: all RSNs up to it are acknowledged.
     pub fn is_open(&self, rsn: u32, receipts: &Receipts) -> bool
         ensures { result ≡ nat_le rsn (run_of receipts.now.acknowledged) }
     {
         rsn <= receipts.run_length()
     }
 
-    /// Releases the sends that may leave: those whose number and all below it are acknowledged. Answers
-    /// whether there were any.
+    /// Releases the sends that may leave: those at whose position, and below, all RSNs are
+    /// acknowledged. Answers whether there were any.
     pub fn release(&mut self, receipts: &Receipts) -> bool
         ensures value { result ≡ list_any (λ h. nat_le h.rsn (run_of receipts.now.acknowledged)) self.old.waiting }
         ensures after { Releases (run_of receipts.now.acknowledged) self.old self.new }

@@ -1,10 +1,10 @@
-//! Which of a process's sends may leave it.
+//! The gate that holds a process's sends until they may leave.
 //!
-//! A send that a process made while it worked on the message with number r may leave only when all
-//! numbers from 1 to r are acknowledged: r is its *position*. [`Gate`] holds sends by destination
-//! and position, and counts for each destination those that were released. Positions never fall, so
-//! what may leave is always at the front, and a release doesn't look at what stays. `hold` takes
-//! memory, and [`Gate::retract`] undoes it without.
+//! A send that a process made while it worked on the message with RSN r may leave only when all
+//! RSNs from 1 to r are acknowledged: r is its *position*. [`Gate`] holds sends by destination and
+//! position, and counts how many were released to each destination. Positions never fall, so what
+//! may leave is always at the front, and a release doesn't scan what stays. `hold` takes memory;
+//! [`Gate::retract`] undoes it without.
 //!
 //! ```
 //! let mut gate = Gate::new(alloc);

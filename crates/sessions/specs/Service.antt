@@ -12,19 +12,19 @@ use Rattle.theorems.specs.Orphans.{NoOrphan, ShownBegin}
 use Rattle.sessions.specs.Seats.{TheSeat}
 use Rattle.sessions.specs.Journal.{TheSession, Adds, IsExact, IsLegal, ReturnsTo, world_at}
 
--- the seat that the calls of this worker stand for, which was answered for each entry
+-- a seat for a call of this worker, with as many accepted calls as the journal has entries
 abbrev pub seat_of : ℕ → TheSession → TheSeat
 seat_of worker s = record { worker = worker; answered = length s.entries }
 
--- that of the one caller: nobody's
+-- the seat of the one caller, who is nobody
 abbrev pub own_seat : TheSession → TheSeat
 own_seat s = seat_of 0 s
 
--- what a call of this worker owes: what a session's call by that seat does
+-- what a call as this worker guarantees: the same as a session's call by that seat
 abbrev pub OwesAs : ℕ → TheSession → TheSession → Call → Result Answer Refusal → Type 0
 OwesAs worker old new call r = Adds old new (seat_of worker old) (seat_of worker new) call r
 
--- what a call of the one caller owes
+-- what a call of the one caller guarantees
 abbrev pub Owes : TheSession → TheSession → Call → Result Answer Refusal → Type 0
 Owes old new call r = OwesAs 0 old new call r
 
@@ -36,15 +36,15 @@ alone s = record s { seats = [] }
 abbrev pub Returns : TheSession → TheSession → Call → Answer → Type 0
 Returns old new call answer = (p k : ℕ) → call ≡ Recover p → answer ≡ Kept k → ReturnsTo old new p k
 
--- a session of these images with an empty journal and no seats; or there are none or too many; or memory ran out
+-- a session of these images with an empty journal and no seats; or there are no images or too many; or memory ran out
 abbrev pub OpensAlone : List TheImage → Result TheSession Refusal → Type 0
 OpensAlone images (Ok s) = AreFew images × (s ≡ record { images = images; entries = []; seats = [] })
 OpensAlone images (Err NoSuchProcess) = ¬ AreFew images
 OpensAlone images (Err Memory) = AreFew images
 OpensAlone images (Err r) = ⊥
 
--- what is promised of a session: its journal is legal; and where failures came one at a time, each message that was received or shown
--- is sent by its sender's history, and what was shown is, in order and each once, a beginning of the outputs
+-- what is promised of a session: its journal is legal. If failures came one at a time, its sender's history sends each message that
+-- was received or shown, and what was shown is, in order and each once, a beginning of the outputs
 pub record KeepsPromises (s : TheSession) : Type 0 where
   pub legal : IsLegal s
   pub no_orphan : IsExact s → NoOrphan (world_at s)

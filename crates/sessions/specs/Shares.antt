@@ -1,4 +1,4 @@
--- What workers hand back
+-- What workers hand back at their end
 use Rattle.std.specs.Prelude.{ℕ, List, sum_by}
 use Rattle.sessions.specs.declared.share.Share.{Share}
 

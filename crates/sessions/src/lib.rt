@@ -1,11 +1,11 @@
-//! Sessions: processes that receive messages, with the journal of all that was done.
+//! Sessions: processes that exchange messages, and the journal of their calls.
 //!
 //! A [`Service`] takes calls one at a time. A call that it accepts adds one entry to its journal; a
 //! call that it refuses changes nothing and tells the least number whose cause holds. Its type
-//! keeps that the journal is legal, so that each entry is a step of the world from the opening on,
-//! and that it leads to where the session is: states, lengths and phases are those of the world
-//! after the journal's last entry. But for `drive`, handlers don't run in it: a call hands out the
-//! job that it starts, and `finish` takes its result back.
+//! keeps that the journal is legal, so that each entry is a step of the world from the opening, and
+//! that the journal leads to where the session is: states, lengths and phases are those of the
+//! world after the last entry. Handlers run outside of it: a call hands out the job that it starts,
+//! and `finish` takes the result back. Only `drive` does both itself.
 //!
 //! ```text
 //! let mut service = Service::open(alloc, images)?;
@@ -17,12 +17,12 @@
 //! let accepted = service.drive(65_536)?;
 //! ```
 //!
-//! Each call has a method of its name, with an answer of its own. `call` takes any of them as the
-//! journal keeps it.
+//! Each call has a method of its name, with an answer of its own. `call` takes any of them as a
+//! value.
 //!
-//! A [`Session`] is a service that many threads call. A call is made by a [`Seat`], whose worker the
-//! entry bears and which counts it. The seats hold the parts of a ledger whose book, beside the
-//! service, has the journal's length as total: so no entry comes without a seat that was answered,
+//! A [`Session`] is a service that many threads call. A [`Seat`] makes each call: the entry has its
+//! worker, and the seat counts it. The seats hold the parts of a ledger whose book, kept next to
+//! the service, has the journal's length as its total. So each entry was counted by a seat,
 //! whichever threads hold the seats.
 //!
 //! ```text

@@ -1,5 +1,5 @@
-//! The calls of a session of one caller, by their names. What each refuses, and in which order,
-//! docs/FORMATS.md says ("Refusals of a session").
+//! The calls of a session of one caller, each by its name. docs/FORMATS.md, "Refusals of a
+//! session", says what each refuses, and in which order.
 
 ghost use Rattle.std.specs.Prelude.{◌≡◌, IfOk};
 ghost use Rattle.machine.specs.Arrival.{IsJobFor, answer_of};
@@ -62,7 +62,7 @@ impl Service {
         Ok(copy)
     }
 
-    /// Takes a packet from the wire, which reaches nobody.
+    /// The wire loses a packet, which reaches nobody.
     ///
     /// ```text
     /// service.lose(copy)?;
@@ -74,7 +74,7 @@ impl Service {
         Ok(())
     }
 
-    /// Takes a packet from the wire to whom it is for, and answers what it did there. A message that
+    /// Takes a packet from the wire to its receiver, and answers what it did there. A message that
     /// is the next of its sender starts a job at a process.
     ///
     /// ```text
@@ -105,8 +105,8 @@ impl Service {
         Ok(length)
     }
 
-    /// Each sender that is up drops its messages to this one that its checkpoint covers, or for the
-    /// outside (0) those that were shown. Answers how many.
+    /// Each sender that is up drops its messages to this one that its checkpoint covers, or if it
+    /// is the outside (0) those that were shown. Answers how many.
     ///
     /// ```text
     /// let dropped = service.trim(1)?;
@@ -152,7 +152,8 @@ impl Service {
         Ok(kept)
     }
 
-    /// As `recover`, whatever the other processes do. Failures don't come one at a time then.
+    /// As `recover`, but in whatever state the other processes are. After it failures didn't come
+    /// one at a time.
     ///
     /// ```text
     /// let kept = service.recover_alone(1)?;
@@ -167,7 +168,7 @@ impl Service {
         Ok(kept)
     }
 
-    /// Starts the next job of a process that is replayed.
+    /// Starts the next job of a process that replays.
     ///
     /// ```text
     /// let job = service.replay_begin(1)?;
@@ -180,7 +181,7 @@ impl Service {
         self.replay_begin_of(0, p)
     }
 
-    /// Gives the messages that a process sent to a peer the numbers under which the peer received
+    /// Gives the messages that a process sent to a peer the RSNs under which the peer received
     /// them, and answers how many got one.
     ///
     /// ```text

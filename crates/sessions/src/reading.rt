@@ -1,4 +1,4 @@
-//! What is read of a session of one caller.
+//! What can be read of a session of one caller.
 
 ghost use Rattle.std.specs.Prelude.{◌≡◌, ◌≤◌, [], true, false, drop, length};
 ghost use Rattle.world.specs.Phases.{name_of, is_down};
@@ -38,11 +38,11 @@ impl Service {
         self.journal.as_slice()
     }
 
-    /// What its type keeps of it, whatever was called before. It does nothing.
+    /// States what its type keeps, whatever was called before. It does nothing.
     pub fn promises(&self)
         ensures { KeepsPromises self.now }
     {
-        // For the proof: the contract of `journal` tells each of the promises.
+        // For the proof: the contract of `journal` has each of the promises.
         let _entries = self.journal();
     }
 
@@ -55,7 +55,7 @@ impl Service {
         self.machine.state(p)
     }
 
-    /// How many messages its state has: while it is down, those of its checkpoint.
+    /// How many messages are in its state. While it is down, those of its checkpoint.
     pub fn length(&self, p: u8) -> u32
         requires { (1 ≤ p) × (p ≤ length self.now.images) }
         ensures { result ≡ length_of (world_at self.now) p }
@@ -78,8 +78,8 @@ impl Service {
         self.machine.phase(p)
     }
 
-    /// The outputs that the outside was shown, in order: each once, and none that its sender doesn't
-    /// send, where failures came one at a time.
+    /// The outputs that the outside was shown, in order. If failures came one at a time, each is
+    /// there once, and its sender's history sends it.
     pub fn shown(&self) -> &[Message]
         ensures value { result.now ≡ (world_at self.now).shown }
         ensures no_orphan { IsExact self.now → NoOrphan (world_at self.now) }
@@ -88,7 +88,7 @@ impl Service {
         self.machine.shown()
     }
 
-    /// Those that were shown, without the first `since`.
+    /// The outputs that were shown, without the first `since`.
     pub fn shown_since(&self, since: usize) -> &[Message]
         ensures value { result.now ≡ drop since (world_at self.now).shown }
         ensures no_orphan { IsExact self.now → NoOrphan (world_at self.now) }
@@ -98,8 +98,8 @@ impl Service {
         &shown[since.min(shown.len())..]
     }
 
-    /// What the message of one process to another with this SSN says, where the log of its sender has it.
-    /// Either may be the outside (0), whose messages are its inputs.
+    /// The payload of the message from one process to another with this SSN, if the log of its
+    /// sender has it. Either may be the outside (0), whose messages are its inputs.
     pub fn logged(&self, from: u8, to: u8, ssn: u32) -> Option<Payload>
         ensures { result ≡ logged (world_at self.now) from to ssn }
     {
@@ -127,9 +127,9 @@ impl Service {
         self.exact
     }
 
-    /// How many sends and outputs the handler of a process was refused by its helpers, by cause, in
-    /// the calls whose messages it received. A replay makes the same calls again and isn't counted.
-    /// No contract speaks of it: it is only tested.
+    /// How many sends and outputs of a process's handler the helpers refused, by cause, in the
+    /// calls whose messages it received. A replay makes the same calls again and doesn't count. No
+    /// contract covers it: it is only tested.
     pub fn refused(&self, process: u8) -> Refused {
         self.refused.of(process)
     }

@@ -1,13 +1,13 @@
-//! What helpers refused the handlers of a session.
+//! Effects that the helpers refused to handlers.
 
 use helpers::Refused;
 use limits::PARTIES;
 use machine::Finished;
 
-/// How many effects the handler of each process was refused, by cause. No contract speaks of it.
+/// How many effects of each process's handler were refused, by cause. No contract covers it.
 #[derive(Drop)]
 pub(crate) struct RefusedEffects {
-    /// By the number of the process: none has number 0.
+    /// By the number of the process. There is no process 0.
     counts: [Refused; PARTIES],
 }
 
@@ -18,7 +18,7 @@ impl RefusedEffects {
         }
     }
 
-    /// Counts what a finished call of a process was refused. A replayed one was counted when its
+    /// Counts what a finished call of a process was refused. A replayed call was counted when its
     /// message was received.
     pub(crate) fn count(&mut self, process: u8, finished: Finished, refused: Refused) {
         let Finished::Committed { .. } = finished else {

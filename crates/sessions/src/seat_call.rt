@@ -1,5 +1,5 @@
-//! The calls of a session by a seat, by their names. What each refuses, and in which order,
-//! docs/FORMATS.md says ("Refusals of a session").
+//! The calls of a session by a seat, each by its name. docs/FORMATS.md, "Refusals of a session",
+//! says what each refuses, and in which order.
 
 ghost use Rattle.std.specs.Prelude.{◌≡◌, IfOk, true};
 ghost use Rattle.machine.specs.Arrival.{IsJobFor, answer_of};
@@ -77,7 +77,7 @@ impl<L: Ledger> Session<L> {
         Ok(copy)
     }
 
-    /// Takes a packet from the wire, which reaches nobody.
+    /// The wire loses a packet, which reaches nobody.
     ///
     /// ```text
     /// session.lose(&mut seat, copy)?;
@@ -91,7 +91,7 @@ impl<L: Ledger> Session<L> {
         Ok(())
     }
 
-    /// Takes a packet from the wire to whom it is for, and answers what it did there. A message that
+    /// Takes a packet from the wire to its receiver, and answers what it did there. A message that
     /// is the next of its sender starts a job at a process.
     ///
     /// ```text
@@ -128,8 +128,8 @@ impl<L: Ledger> Session<L> {
         Ok(length)
     }
 
-    /// Each sender that is up drops its messages to this one that its checkpoint covers, or for the
-    /// outside (0) those that were shown. Answers how many.
+    /// Each sender that is up drops its messages to this one that its checkpoint covers, or if it
+    /// is the outside (0) those that were shown. Answers how many.
     ///
     /// ```text
     /// let dropped = session.trim(&mut seat, 1)?;
@@ -181,7 +181,8 @@ impl<L: Ledger> Session<L> {
         Ok(kept)
     }
 
-    /// As `recover`, whatever the other processes do. Failures don't come one at a time then.
+    /// As `recover`, but in whatever state the other processes are. After it failures didn't come
+    /// one at a time.
     ///
     /// ```text
     /// let kept = session.recover_alone(&mut seat, 1)?;
@@ -198,7 +199,7 @@ impl<L: Ledger> Session<L> {
         Ok(kept)
     }
 
-    /// Starts the next job of a process that is replayed.
+    /// Starts the next job of a process that replays.
     ///
     /// ```text
     /// let job = session.replay_begin(&mut seat, 1)?;
@@ -215,7 +216,7 @@ impl<L: Ledger> Session<L> {
         Ok(job)
     }
 
-    /// Gives the messages that a process sent to a peer the numbers under which the peer received
+    /// Gives the messages that a process sent to a peer the RSNs under which the peer received
     /// them, and answers how many got one.
     ///
     /// ```text

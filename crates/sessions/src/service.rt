@@ -1,4 +1,4 @@
-//! Sessions of one caller, and their calls.
+//! Sessions of one caller.
 
 ghost use Rattle.std.specs.Prelude.{◌≡◌, ◌≤◌, IfOk, [], true, length, map};
 ghost use Rattle.handlers.specs.Image.{image_in};
@@ -20,7 +20,7 @@ use std::marker::Model;
 use std::sync::Arc;
 use world::{Call, Refusal};
 
-/// Processes 1 to n, with the journal of the calls that led to where they are. Its caller is
+/// Processes 1 to n, with the journal of the calls that led to their present state. Its caller is
 /// nobody, who may make any call.
 #[derive(Drop)]
 pub struct Service {
@@ -43,9 +43,9 @@ impl Model for Service {
 }
 
 impl Service {
-    /// Processes 1 to n with the handlers of these images, of any form, each up, with a state of zeros and in its first
-    /// incarnation, and an empty journal. It refuses no images or more than 15 (`NoSuchProcess`),
-    /// and want of memory.
+    /// Processes 1 to n with the handlers of these images, of any form. Each is up, in its first
+    /// incarnation, with a state of zeros; the journal is empty. Refuses no images or more than 15
+    /// (`NoSuchProcess`), and lack of memory.
     pub fn open(alloc: Global, images: Vec<Arc<Handler>>) -> Result<Service, Refusal>
         ensures { OpensAlone (map image_in images.items) result }
     {
@@ -59,14 +59,14 @@ impl Service {
         })
     }
 
-    /// Makes a call, and answers what the journal keeps of it and the job that it started. What it
-    /// refuses, and in which order, docs/FORMATS.md says for each call ("Refusals of a session"). A
-    /// finish takes a result: it is `finish`.
+    /// Makes a call, and answers what the journal keeps of it and the job that it started.
+    /// docs/FORMATS.md, "Refusals of a session", says what each call refuses, and in which order.
+    /// It isn't for a finish, which takes a result: see `finish`.
     ///
-    /// A `Recover` answers how many messages the process keeps. Where failures come one at a time,
-    /// that is the end of the longest unbroken run of messages that checkpoint and logs held with
-    /// their numbers; and whatever comes after, when it has as many messages again, its state is
-    /// the one that it had after them.
+    /// A `Recover` answers how many messages the process keeps. If failures come one at a time,
+    /// these are the longest unbroken run of messages that checkpoint and logs held with their
+    /// RSNs. Whenever the process has as many messages again, its state is the one that it had
+    /// after them.
     pub fn call(&mut self, call: &Call) -> Result<Reply, Refusal>
         requires { TakesNoResult call.now }
         ensures adds { Owes self.old self.new call.now (answering answer_in result) }
@@ -76,24 +76,25 @@ impl Service {
         self.call_of(0, call)
     }
 
-    /// Calls the handler of a job that a call started. It takes no session, so none changes meanwhile.
+    /// Calls the handler of a job that a call started. It takes no session, so no session changes
+    /// meanwhile.
     pub fn run(job: Job) -> Done
         ensures { result ≡ job }
     {
-        // (machine/src/jobs.rt)
+        // See machine/src/jobs.rt.
         Machine::run(job)
     }
 
-    /// Takes in the result of the open job of its process: the message is received, and the packet
-    /// that tells its number is put on the wire; or it is replayed. It refuses a result that isn't
-    /// the open job's (`StaleJob`), and want of memory. The result comes back with a refusal.
+    /// Commits the result of the open job of its process: the message is received, and its RSN goes
+    /// on the wire; or the message is replayed. Refuses a result that isn't the open job's
+    /// (`StaleJob`), and lack of memory. With a refusal the result comes back.
     pub fn finish(&mut self, done: Done) -> Result<Finished, (Refusal, Done)>
         ensures { Takes self.old self.new (own_seat self.old) (own_seat self.new) done result }
     {
         self.finish_of(0, done)
     }
 
-    /// What `call` does, for this worker.
+    /// What `call` does, as this worker.
     pub(crate) fn call_of(&mut self, worker: u8, call: &Call) -> Result<Reply, Refusal>
         requires result { TakesNoResult call.now }
         requires may { may_call (world_at self.old) worker call.now ≡ true }
@@ -108,14 +109,14 @@ impl Service {
             return Err(cause.unwrap_or(Refusal::Memory));
         };
         let single = self.machine.keeps_single(call);
-        // (`step` goes to the machine's method of the call's name)
+        // `step` calls the machine's method of the call's name.
         let reply = self.machine.step(room, call)?;
         self.exact = self.exact && single;
         self.journal.append(worker, brief, reply.answer);
         Ok(reply)
     }
 
-    /// What `finish` does, for this worker.
+    /// What `finish` does, as this worker.
     pub(crate) fn finish_of(&mut self, worker: u8, done: Done) -> Result<Finished, (Refusal, Done)>
         ensures takes { Takes self.old self.new (seat_of worker self.old) (seat_of worker self.new) done result }
         ensures bound { length self.new.entries ≤ ENTRIES }
@@ -128,7 +129,7 @@ impl Service {
         }
         let process = Machine::receiver_of(&done);
         let refused = done.effects().refused();
-        // (machine/src/jobs.rt)
+        // See machine/src/jobs.rt.
         let finished = self.machine.finish(done)?;
         self.refused.count(process, finished, refused);
         let call = Brief::Finish { process };

@@ -24,8 +24,8 @@ use std::sync::Arc;
 use std::sync::ledger::{Blank, Book, Ledger, Share as Part};
 use world::{Call, Refusal};
 
-/// A service that many may call, the book that counts their accepted calls, and the seats that
-/// nobody took. `L` names the session's ledger, which has a part for each seat.
+/// A service that many may call, the book that counts their accepted calls, and the seats that are
+/// not taken. `L` names the session's ledger, which has a part for each seat.
 #[derive(Drop)]
 pub struct Session<L: Ledger> {
     pub(crate) service: Service,
@@ -62,9 +62,9 @@ fn seats_of<L: Ledger>(
 }
 
 impl<L: Ledger> Session<L> {
-    /// Processes 1 to n with these images, each up, with a state of zeros and in its first
-    /// incarnation, an empty journal, and 17 seats. It refuses no images or more than 15
-    /// (`NoSuchProcess`), and want of memory.
+    /// Processes 1 to n with these images. Each is up, in its first incarnation, with a state of
+    /// zeros; the journal is empty, and there are 17 seats. Refuses no images or more than 15
+    /// (`NoSuchProcess`), and lack of memory.
     pub fn open(
         alloc: Global,
         blank: Blank,
@@ -84,8 +84,7 @@ impl<L: Ledger> Session<L> {
         })
     }
 
-    /// The seat of this worker. There is none for another number than 0 to 16, and none where the
-    /// seat is out.
+    /// Takes out the seat of this worker, 0 to 16. `None` if it is out already.
     pub fn sit(&mut self, worker: u8) -> Option<Seat<L>>
         ensures seat { result ≡ seat_at self.old.seats worker }
         ensures out { self.new ≡ record self.old { seats = slice_set self.old.seats worker None } }
@@ -114,7 +113,7 @@ impl<L: Ledger> Session<L> {
         self.seats.iter().all(|seat| seat.is_some())
     }
 
-    /// Shows that the journal is as long as all seats were answered together, where those of the
+    /// Shows that the journal is as long as all seats have answered together, if those of the
     /// shares and the others are all 17. Takes no memory.
     pub fn settle(&mut self, shares: &mut [Share<L>], seats: &mut [Seat<L>])
         requires { L.parts ≡ SEATS }
@@ -132,13 +131,13 @@ impl<L: Ledger> Session<L> {
     pub fn service(&self) -> &Service
         ensures { result.now ≡ alone self.now }
     {
-        // A service has no seats, as the laws of its fields tell.
+        // For the proof: a service has no seats, as its fields' laws tell.
         let _ = &self.service.exact;
         &self.service
     }
 
-    /// A useful call that isn't refused for another cause than want of memory, and `None` only where
-    /// there is none. Takes no memory.
+    /// A useful call that could be refused only for lack of memory; `None` only if there is none.
+    /// Takes no memory.
     pub fn pick(&self) -> Option<Call>
         ensures some { IfSome result (λ call. IsPick (world_at self.now) (room_at self.now) call) }
         ensures none { IfNone result (IsQuiet self.now) }
@@ -148,7 +147,7 @@ impl<L: Ledger> Session<L> {
         self.service.pick()
     }
 
-    /// Makes a call, as a [`Service`] does: any of those that have a method of their own.
+    /// Makes a call as a [`Service`] does: any that has a method of its own.
     pub fn call(&mut self, by: &mut Seat<L>, call: &Call) -> Result<Reply, Refusal>
         requires result { TakesNoResult call.now }
         requires may { may_call (world_at self.old) by.old.worker call.now ≡ true }
@@ -162,8 +161,8 @@ impl<L: Ledger> Session<L> {
         Ok(reply)
     }
 
-    /// Makes a call that was picked, and answers the job that it starts. It refuses want of memory
-    /// alone, and then nothing has changed.
+    /// Makes a picked call, and answers the job that it starts. It refuses only for lack of memory,
+    /// and then nothing has changed.
     pub fn make(&mut self, by: &mut Seat<L>, call: &Call) -> Result<Option<Job>, Refusal>
         requires pick { IsPick (world_at self.old) (room_at self.old) call.now }
         requires result { TakesNoResult call.now }
@@ -175,8 +174,8 @@ impl<L: Ledger> Session<L> {
         Ok(reply.job)
     }
 
-    /// Takes in the result of the open job of its process, as a [`Service`] does. Any seat may call
-    /// it.
+    /// Commits the result of the open job of its process, as a [`Service`] does. Any seat may do
+    /// so.
     pub fn finish(&mut self, by: &mut Seat<L>, done: Done) -> Result<Finished, (Refusal, Done)>
         ensures takes { Takes self.old self.new by.old by.new done result }
         ensures worker { by.new.worker ≡ by.old.worker }

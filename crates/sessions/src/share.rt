@@ -1,4 +1,4 @@
-//! What a worker hands back.
+//! What a worker hands back at its end.
 
 use crate::seat::Seat;
 use std::sync::ledger::Ledger;
@@ -9,17 +9,17 @@ use world::Refusal;
 pub enum End {
     /// No call could be picked, no job was open, and no feed was left.
     Quiet,
-    /// As many of its calls were accepted as it was allowed, or up to two more: a turn that was begun
-    /// is made whole.
+    /// Its budget of accepted calls is used up. There may be up to two more calls, since a turn
+    /// that has begun is completed.
     Budget,
-    /// A call was refused, for another cause than a feed number that is taken.
+    /// A call was refused, and not for a feed number that is taken.
     Refused(Refusal),
-    /// No call could be picked for long, while another's job stayed open.
+    /// No call could be picked for long, while another worker's job stayed open.
     Stalled,
 }
 
-/// What a worker hands back: its seat, how many feeds were refused for a number that was taken,
-/// and how it ended.
+/// What a worker hands back: its seat, how many feeds had a number that was taken, and how it
+/// ended.
 #[derive(Drop)]
 pub struct Share<L: Ledger> {
     pub seat: Seat<L>,

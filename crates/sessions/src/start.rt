@@ -1,4 +1,4 @@
-//! Calls that start a job, for a worker.
+//! Calls that start a job, as a worker.
 
 ghost use Rattle.std.specs.Prelude.{◌≡◌, ◌≤◌, IfOk, true, length};
 ghost use Rattle.machine.specs.Arrival.{IsJobFor, answer_of};
@@ -14,7 +14,7 @@ use machine::{Arrival, Job};
 use world::{Answer, Call, Refusal};
 
 impl Service {
-    /// What `arrive` does, for this worker.
+    /// What `arrive` does, as this worker.
     pub(crate) fn arrive_of(&mut self, worker: u8, key: usize) -> Result<Arrival, Refusal>
         requires { may_call (world_at self.old) worker (Call.Arrive key) ≡ true }
         ensures adds { OwesAs worker self.old self.new (Call.Arrive key) (answering answer_of result) }
@@ -33,7 +33,7 @@ impl Service {
         Ok(arrival)
     }
 
-    /// What `replay_begin` does, for this worker.
+    /// What `replay_begin` does, as this worker.
     pub(crate) fn replay_begin_of(&mut self, worker: u8, p: u8) -> Result<Job, Refusal>
         requires { may_call (world_at self.old) worker (Call.ReplayBegin p) ≡ true }
         ensures adds { OwesAs worker self.old self.new (Call.ReplayBegin p) (answering (λ job. Answer.Started job.serial) result) }

@@ -1,4 +1,4 @@
-//! What is read of a session of many callers.
+//! What can be read of a session of many callers.
 
 ghost use Rattle.std.specs.Prelude.{◌≡◌, ◌≤◌, [], true, false, length};
 ghost use Rattle.world.specs.Phases.{name_of, is_down};
@@ -38,7 +38,7 @@ impl<L: Ledger> Session<L> {
         self.service.state(p)
     }
 
-    /// How many messages its state has: while it is down, those of its checkpoint.
+    /// How many messages are in its state. While it is down, those of its checkpoint.
     pub fn length(&self, p: u8) -> u32
         requires { (1 ≤ p) × (p ≤ length self.now.images) }
         ensures { result ≡ length_of (world_at self.now) p }
@@ -62,8 +62,8 @@ impl<L: Ledger> Session<L> {
         self.service.saved(p)
     }
 
-    /// The outputs that the outside was shown, in order: each once, and none that its sender doesn't
-    /// send, where failures came one at a time.
+    /// The outputs that the outside was shown, in order. If failures came one at a time, each is
+    /// there once, and its sender's history sends it.
     pub fn shown(&self) -> &[Message]
         ensures value { result.now ≡ (world_at self.now).shown }
         ensures no_orphan { IsExact self.now → NoOrphan (world_at self.now) }
@@ -87,7 +87,7 @@ impl<L: Ledger> Session<L> {
         self.service.exact()
     }
 
-    /// What the handler of a process was refused by its helpers, as a `Service` tells it.
+    /// How many effects of a process's handler were refused, as a `Service` tells it.
     pub fn refused(&self, process: u8) -> Refused {
         self.service.refused(process)
     }

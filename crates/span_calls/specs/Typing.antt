@@ -1,13 +1,13 @@
 -- When code is typable in form 3.
 use Rattle.std.specs.Prelude.{◌≡◌, ℕ, ◌+◌, ◌<◌, ℤ, pos, ◌+ℤ◌, ◌<ℤ◌, Option, Some, None, unsigned_abs}
 use Rattle.decode.specs.declared.insn.Insn.{Insn}
-use Rattle.decode.specs.declared.insn.Insn.TheVariants.{Jump, JumpLong, JumpIf}
 use Rattle.decode.specs.Encoding.{Fits}
 use Rattle.decode.specs.Slots.{size_of}
+use Rattle.decode.specs.Distance.{distance}
 use Rattle.spans.specs.Frame.{Frame, IsFrame, Leq, entry_frame}
 use Rattle.spans.specs.Leaving.{Ways, Leaves}
 
--- the instruction that begins at a slot; none begins in a wide's second slot or behind the end
+-- the instruction that begins at a slot; none begins in a wide one's second slot or after the end
 abbrev pub Code : Type 0
 Code = ℕ → Option Insn
 
@@ -15,24 +15,17 @@ Code = ℕ → Option Insn
 abbrev pub Table : Type 0
 Table = ℕ → Option Frame
 
--- how many slots from the next one an instruction jumps; 0 where it doesn't
-abbrev pub distance : Insn → ℤ
-distance (Jump offset) = offset
-distance (JumpLong far) = far
-distance (JumpIf condition width dst o offset) = offset
-distance i = pos 0
-
 -- the slot that an instruction at slot s jumps to
 abbrev pub target : ℕ → Insn → ℕ
 target s i = unsigned_abs (pos (s + 1) +ℤ distance i)
 
--- what leaves on a way that something takes fits the frame of the slot where it leads
+-- the frame that leaves on a way, if there is one, fits the frame of the slot where it leads
 abbrev pub Enters : Table → ℕ → Option Frame → Type 0
 Enters table t None = Unit {0}
 Enters table t (Some g) = (h : Frame) × (table t ≡ Some h) × Leq g h
 
--- at slot s an instruction begins that breaks no rule under the frame f and jumps to a later slot, and what leaves it fits;
--- `fits` says of it what the type of instructions does
+-- at slot s an instruction begins that breaks no rule under the frame f and jumps to a later slot, and the frames that
+-- leave it fit; `fits` repeats what the type of instructions says
 pub record IsAllowed (state count : ℕ) (code : Code) (table : Table) (s : ℕ) (f : Frame) : Type 0 where
   pub insn : Insn
   pub ways : Ways
@@ -45,8 +38,8 @@ pub record IsAllowed (state count : ℕ) (code : Code) (table : Table) (s : ℕ)
   pub goes : Enters table (s + size_of insn) ways.0
   pub leaps : Enters table (target s insn) ways.1
 
--- the table is a typing of code of `count` slots: the entry's frame fits slot 0, and each slot with a frame is allowed. The
--- rule V4, which asks no frame, is not among these
+-- the table is a typing of code of `count` slots: the entry's frame fits slot 0, and each slot with a frame is allowed.
+-- The rule V4 needs no frame and is not here
 pub record IsTyping (state count : ℕ) (code : Code) (table : Table) : Type 0 where
   pub start : Enters table 0 (Some entry_frame)
   pub each : (s : ℕ) (f : Frame) → table s ≡ Some f → IsAllowed state count code table s f

@@ -8,8 +8,8 @@ use Rattle.decode.specs.declared.insn.Operand.TheVariants as operand
 use Rattle.decode.specs.declared.insn.Insn.TheVariants.{Alu, Load, StoreReg, Exit}
 use Rattle.span_calls.specs.Typing.{Code, Table, IsTyping}
 
--- six instructions: the state's place goes to the last word of the stack and comes back, the message's first byte is added
--- to it, and the byte is stored there
+-- six instructions: the state's place is stored in the last word of the stack and loaded again, the message's first
+-- byte is added to it, and the byte is stored there
 pub record IsSpilling (code : Code) : Type 0 where
   pub r0 : Reg
   pub r1 : Reg
@@ -24,6 +24,6 @@ pub record IsSpilling (code : Code) : Type 0 where
   pub stores : code 4 ≡ Some (StoreReg Byte r4 r0 (pos 0))
   pub ends : code 5 ≡ Some Exit
 
--- with a state of 256 bytes it has a typing: each number of one byte is a place there
+-- with a state of 256 bytes it has a typing: the state's place plus any number of one byte is in the state
 abbrev pub IsSpillingTyped : Type 0
 IsSpillingTyped = (code : Code) × (IsSpilling code × ((table : Table) × IsTyping 256 6 code table))

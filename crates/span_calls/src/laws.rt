@@ -4,30 +4,29 @@ ghost use Rattle.span_calls.specs.Laws.{AreAccessesWithin, AreCallsShown, AreMes
 ghost use Rattle.span_calls.specs.Slices.{TakesSlice, WritesBytes};
 ghost use Rattle.span_calls.specs.Worked.{IsSpillingTyped};
 
-/// Words and array that show a configuration show what each step of it comes to, if it is no fault.
+/// If words and array show a configuration and its step is no fault, they show the result of the step after theirs.
 pub fn steps_are_shown()
     ensures { AreStepsShown }
 {}
 
-/// Where a configuration fits a frame under which an instruction breaks no rule, its access lies in
-/// the array, and a store behind the message: no test is needed.
+/// If a configuration fits a frame under which an instruction breaks no rule, the instruction's access is in the array,
+/// and a store is after the message: no test is needed.
 pub fn accesses_stay_within()
     ensures { AreAccessesWithin }
 {}
 
-/// A call of typed code from the entry ends, and in words and one array it ends the same: with the
-/// same r0 after the same steps, the same requests of helpers, and an array that shows the memory.
+/// A call of typed code from the entry ends. On words and one array it ends the same way: with the same r0 after the
+/// same number of steps, with the same requests of helpers, and with an array that shows the memory.
 pub fn calls_are_shown()
     ensures { AreCallsShown }
 {}
 
-/// No code writes the message, nor the zeros behind it.
+/// No code writes the message, nor the zeros after it.
 pub fn messages_are_kept()
     ensures { AreMessagesKept }
 {}
 
-/// Bytes by their place are those of a list: n bytes from a on are a slice, and a word is written
-/// over the list by its bytes.
+/// An array of bytes is a list: n bytes from a on are a slice, and a word is written over the list byte by byte.
 pub fn lists_are_arrays()
     ensures takes { TakesSlice }
     ensures writes { WritesBytes }

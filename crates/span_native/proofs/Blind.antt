@@ -6,7 +6,7 @@ use Rattle.helpers.specs.Effects.{Emitted}
 use Rattle.dense.specs.declared.performing.Next.{Next}
 use Rattle.dense.specs.Acts.{Act, Puts, Writes, Leaps, Answers, Ends, Nothing, Does}
 
--- 0 stands in the place of r10's word
+-- the words with 0 for r10
 abbrev pub blind : List ℕ → List ℕ
 blind ws = slice_set ws 10 0
 

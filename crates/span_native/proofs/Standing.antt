@@ -26,7 +26,8 @@ use Rattle.span_calls.specs.Calls.{ConcreteLast, Last, Replies, Request, ShowsLa
 use Rattle.span_calls.specs.Laws.{KeepsMessage}
 use Rattle.span_calls.specs.Showing.{Shows, ShowsOutcome}
 use Rattle.span_calls.specs.Slices.{listed}
-use Rattle.span_calls.specs.Typing.{Enters, IsAllowed, IsTyping, Table, distance, target}
+use Rattle.span_calls.specs.Typing.{Enters, IsAllowed, IsTyping, Table, target}
+use Rattle.decode.specs.Distance.{distance}
 use Rattle.span_calls.proofs.Calls.{call_from-run}
 use Rattle.span_calls.proofs.Entry.{messages-kept}
 use Rattle.span_calls.proofs.Running.{runs}

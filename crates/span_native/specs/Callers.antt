@@ -1,4 +1,4 @@
--- What the machine code of form 3 leaves to who calls it.
+-- The registers that the machine code of form 3 keeps for its caller.
 use Rattle.std.specs.Prelude.{ℕ, List}
 use Rattle.decode.specs.declared.insn.Insn.{Insn}
 use Rattle.helpers.specs.declared.effects.Who.{Who}
@@ -6,7 +6,7 @@ use Rattle.x86.specs.Machine.{State}
 use Rattle.native.specs.Worked.{KeepsCallers}
 use Rattle.span_native.specs.Correct.{IsReturned}
 
--- after each return the registers that belong to the caller are as they were at the call
+-- after each return the registers that belong to the caller are unchanged since the call
 abbrev pub ReturnsToC : Type 0
 ReturnsToC =
     (code : List Insn) (who : Who) (m len : ℕ) (c last : State) → IsReturned code who m len c last → KeepsCallers c last

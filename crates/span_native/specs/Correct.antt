@@ -10,8 +10,8 @@ use Rattle.span_interp.specs.CallArray.{HoldsEntry, IsLeft, state_in}
 use Rattle.span_interp.specs.SpanCall.{AnswersIn}
 use Rattle.native.specs.Correct.{IsCalled, Keeps}
 
--- what the call leaves is what the handler's call in the array leaves: r0 in rax, the steps at 16 in the record, the
--- sends and outputs in their places, the message and the zeros behind it, and the registers that belong to the caller
+-- the call leaves what the handler's call in the array leaves: r0 in rax, the steps at 16 in the record, the sends and
+-- outputs in their places, the message and the zeros after it; and it keeps the registers that belong to the caller
 pub record IsReturned (code : List Insn) (who : Who) (m len : ℕ) (c last : State) : Type 0 where
   pub r0 : ℕ
   pub steps : ℕ

@@ -1,4 +1,4 @@
--- Which task an instruction of form 3 is: a place is a position in the array, and r10 is a constant.
+-- The task of each instruction of form 3: a place is a position in the array, and r10 is a constant.
 use Rattle.std.specs.Prelude.{ℕ, zero, suc, ◌%◌, ◌^◌, ◌==◌, ℤ, pos, List, [], ◌∷◌, ◌++◌, Option, Some, None, if◌then◌else◌}
 use Rattle.decode.specs.declared.insn.Insn.{Insn}
 use Rattle.decode.specs.declared.insn.Insn.TheVariants.{Alu, MovSx, Neg, End, Jump, JumpLong, JumpIf, Call, Exit, Load, LoadSx, StoreReg, StoreImm, Wide}
@@ -19,7 +19,7 @@ abbrev pub operand_in : ℕ → Operand → Operand
 operand_in len (operand.Imm z) = operand.Imm z
 operand_in len (operand.Reg r) = if r.number == 10 then operand.Imm (pos (array_size len)) else operand.Reg r
 
--- the position that it and an offset make
+-- the position that r10 and an offset give
 abbrev pub stack_at : ℕ → ℤ → ℕ
 stack_at len d = position_by (array_size len) d % 2 ^ 16
 
@@ -70,7 +70,7 @@ task_in len slot (StoreReg size dst src d) = store_reg_task len size dst src d
 task_in len slot (StoreImm size dst d imm) = store_imm_task len size dst d imm
 task_in len slot (Wide dst value) = task.Wide dst value
 
--- the task of a slot; nothing is done where no instruction begins
+-- the task of a slot; `Dead` if no instruction begins there
 abbrev pub task_there : ℕ → ℕ → Option Insn → Task
 task_there len slot None = task.Dead
 task_there len slot (Some i) = task_in len slot i

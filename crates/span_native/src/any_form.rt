@@ -12,21 +12,21 @@ use images::SpanImage;
 use std::alloc::{AllocError, Global};
 use verifier::Image;
 
-// Of form 1 or 2.
+// The code of an image of form 1 or 2.
 fn compile_flat(alloc: Global, image: &Image) -> Result<Vec<u8>, AllocError>
     ensures { IfOk result (λ code. IsCode (as_image (any.Flat image.now)) code.items) }
 {
-    // Its clauses say that the slots are those of the code, and have a typing.
+    // For the proof: its contract says that the slots are those of the code, and that they have a typing.
     let _begin = image.begin();
     let code = native::compile(alloc, image)?;
     Ok(code)
 }
 
-// Of form 3.
+// The code of an image of form 3.
 fn compile_span(alloc: Global, image: &SpanImage) -> Result<Vec<u8>, AllocError>
     ensures { IfOk result (λ code. IsCode (as_image (any.Span image.now)) code.items) }
 {
-    // Its clauses say that it is typable.
+    // For the proof: its contract says that the code is typable.
     let _insns = image.code();
     let code = compile(alloc, image)?;
     Ok(code)
@@ -41,7 +41,7 @@ fn bytes_of(alloc: Global, handler: &Handler) -> Result<Vec<u8>, AllocError>
     }
 }
 
-/// The machine code of a handler's image, of any form. Only memory can want.
+/// The machine code of a handler's image, of any form. It fails only if memory runs out.
 pub fn compile_handler<'h>(alloc: Global, handler: &'h Handler) -> Result<Code<'h>, AllocError>
     ensures { IfOk result (λ code. code.image ≡ the_image handler.now) }
 {

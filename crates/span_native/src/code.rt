@@ -1,10 +1,10 @@
-//! Machine code that keeps of which image it is.
+//! Machine code that knows its image.
 
 use handlers::Handler;
 use std::marker::Model;
 
-/// The machine code of a handler's image, for x86-64 processors, entered at its first byte. By its type its bytes are
-/// code of just this image. It borrows the handler, of which it keeps nothing else.
+/// The machine code of a handler's image, for x86-64 processors, entered at its first byte. Its type says that its
+/// bytes are the code of just this image. It borrows the handler, and keeps nothing else of it.
 #[derive(Drop)]
 pub struct Code<'h> {
     pub(crate) handler: &'h Handler,

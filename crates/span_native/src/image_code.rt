@@ -10,7 +10,7 @@ use native::{Opening, write_tasks};
 use span_verifier::lay_out;
 use std::alloc::{AllocError, Global};
 
-/// The machine code of an image. Only memory can want.
+/// The machine code of an image. It fails only if memory runs out.
 pub fn compile(alloc: Global, image: &SpanImage) -> Result<Vec<u8>, AllocError>
     ensures native { IfOk result (λ code. IsSpanNative image.now.code image.now.len code.items) }
     ensures one { IfOk result (λ code. IsCodeOf image.now.code image.now.len code.items) }
@@ -20,7 +20,7 @@ pub fn compile(alloc: Global, image: &SpanImage) -> Result<Vec<u8>, AllocError>
     let slots = lay_out(alloc, insns)?;
     let tasks = tasks_of(alloc, slots.as_slice(), state_len)?;
     let code = write_tasks(alloc, Opening::Placed, tasks.as_slice())?;
-    // A vector's length is below 2 to the 64th.
+    // For the proof: a vector's length is below 2 ^ 64.
     let _fits = code.len();
     Ok(code)
 }

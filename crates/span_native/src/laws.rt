@@ -1,4 +1,4 @@
-//! That code is one, and leaves to its caller what is the caller's.
+//! Laws of the code: there is one for each image, and it keeps the caller's registers.
 
 ghost use Rattle.std.specs.Prelude.{◌≡◌};
 ghost use Rattle.span_native.specs.Callers.{ReturnsToC};
@@ -7,12 +7,12 @@ ghost use Rattle.span_native.specs.Written.{IsOneCode};
 
 use crate::code::Code;
 
-/// Images with the same instructions and states of one length have the same machine code, byte for byte.
+/// Images with the same instructions and the same length of the state have the same machine code, byte for byte.
 pub fn code_is_one()
     ensures { IsOneCode }
 {}
 
-/// So they have in any form.
+/// The same for images of any form.
 pub fn code_is_one_in_any_form()
     ensures { IsOneInAnyForm }
 {}
@@ -21,12 +21,12 @@ pub fn code_is_one_in_any_form()
 pub fn codes_are_one<'h, 'k>(one: &Code<'h>, other: &Code<'k>)
     ensures { one.now.image ≡ other.now.image → one.now.bytes ≡ other.now.bytes }
 {
-    // By their clauses both are written so.
+    // For the proof: the contracts say what both bytes are.
     let _mine = one.bytes();
     let _its = other.bytes();
 }
 
-/// After a call of form 3 the registers that belong to the caller are as they were.
+/// After a call of form 3 the registers that belong to the caller are unchanged.
 pub fn callers_registers_are_kept()
     ensures { ReturnsToC }
 {}

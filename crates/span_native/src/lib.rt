@@ -1,9 +1,9 @@
-//! From verified images of form 3 to x86-64 machine code.
+//! The x86-64 machine code of verified images of form 3, and of handlers of any form.
 //!
-//! [`compile`] writes the code of an image; its contract says that the code, run by the definition of
-//! the processor, is the call of the handler in its array, with the same answer, state, steps, sends and
-//! outputs. A place is a position in the array, which a register holds as a number. [`compile_handler`]
-//! does so for a handler of any form, and answers a [`Code`], which keeps by its type of which image it is.
+//! [`compile`] writes the code of an image. Its contract says that the code, run by the definition of the processor in
+//! `x86`, is the call of the handler in its array, with the same answer, state, steps, sends and outputs. A place is a
+//! position in the array, which a register holds as a number. [`compile_handler`] does the same for a handler of any
+//! form, and answers a [`Code`]; its type keeps of which image it is the code.
 #![tactic(auto)]
 
 mod any_form;

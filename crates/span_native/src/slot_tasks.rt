@@ -12,7 +12,7 @@ use native::Task;
 use operations::word_of_imm;
 use std::alloc::{AllocError, Global};
 
-// Bytes of the message and the zeros behind it.
+// Bytes of the message and the zeros after it.
 const MESSAGE_BYTES: u16 = 512;
 
 // Whether a register is r10.
@@ -22,7 +22,7 @@ fn is_end(reg: Reg) -> bool
     reg.number == 10
 }
 
-// The end of the array, which is r10.
+// The end of the array, which is the value of r10.
 fn end_of(state_len: u16) -> u16
     requires { state_len ≤ STATE_BYTES }
     ensures value { result ≡ array_size state_len }
@@ -31,7 +31,7 @@ fn end_of(state_len: u16) -> u16
     MESSAGE_BYTES + state_len + STACK_BYTES as u16
 }
 
-// An operand, r10 as the constant that it is.
+// An operand, with the constant in place of r10.
 fn operand_in(state_len: u16, operand: Operand) -> Operand
     requires { state_len ≤ STATE_BYTES }
     ensures { result ≡ specs.operand_in state_len operand }
@@ -48,7 +48,7 @@ fn operand_in(state_len: u16, operand: Operand) -> Operand
     }
 }
 
-// The position that r10 and an offset make.
+// The position that r10 and an offset give.
 fn stack_at(state_len: u16, offset: i16) -> u16
     requires { state_len ≤ STATE_BYTES }
     ensures { result ≡ specs.stack_at state_len offset }
@@ -57,7 +57,7 @@ fn stack_at(state_len: u16, offset: i16) -> u16
     (at % 0x1_0000) as u16
 }
 
-// The slot that is so many behind the next one.
+// The slot at this distance from the next one.
 fn slot_of(slot: usize, distance: i32) -> u16
     requires { slot < SLOTS }
     ensures { result ≡ specs.slot_of slot (insn.JumpLong distance) }
@@ -250,7 +250,7 @@ fn task_there(state_len: u16, slot: usize, insn: &Option<Insn>) -> Task
     }
 }
 
-/// The task of each slot of code with a state of so many bytes.
+/// The task of each slot of code with a state of this length.
 pub(crate) fn tasks_of(
     alloc: Global,
     slots: &[Option<Insn>],

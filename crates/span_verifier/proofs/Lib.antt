@@ -10,3 +10,7 @@ pub mod Forms
 pub mod SpanPasses
 pub mod Slots
 pub mod AluForms
+pub mod FlatFrames
+pub mod FlatMemory
+pub mod FlatRules
+pub mod FlatTypings

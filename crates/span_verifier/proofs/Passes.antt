@@ -30,7 +30,7 @@ module _ (form : Form) (laws : IsForm form) where
 
 -- ---- joins
 
--- a frame joined into what a slot has: the least that says no more than both, where such a frame may stand
+-- a frame joined into the frame of a slot: the least frame that says no more than both, if the slot may have it
 pub record Merged (form : Form) (old : TableOf form) (to : ℕ) (f : form.Frame) (new : TableOf form) : Type 0 where
   pub other : (s : ℕ) → s ≢ to → new s ≡ old s
   pub frame : form.Frame
@@ -40,8 +40,8 @@ pub record Merged (form : Form) (old : TableOf form) (to : ℕ) (f : form.Frame)
   pub keeps : (g : form.Frame) → old to ≡ Some g → form.Leq g frame
   pub least : (k : form.Frame) → form.Leq f k → ((g : form.Frame) → old to ≡ Some g → form.Leq g k) → form.Leq frame k
 
--- what leaves a slot was joined into what is behind it: the table's frames up to this slot stayed, and it grew no more
--- than it had to
+-- the frames that leave a slot were joined into later ones: the frames up to this slot stayed, and the table grew no
+-- more than it had to
 pub record Led (form : Form) (slot : ℕ) (Fits : TableOf form → Type 0) (old new : TableOf form) : Type 0 where
   pub same : (s : ℕ) → s ≤ slot → new s ≡ old s
   pub grows : Below form old new

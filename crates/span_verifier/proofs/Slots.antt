@@ -21,7 +21,8 @@ use Rattle.spans.specs.declared.cells.Cells.{Cells}
 use Rattle.spans.specs.Frame.{Frame, kind_at}
 use Rattle.spans.specs.Leaving.{Ways}
 use Rattle.spans.proofs.Tests.{parts}
-use Rattle.span_calls.specs.Typing.{distance, target}
+use Rattle.span_calls.specs.Typing.{target}
+use Rattle.decode.specs.Distance.{distance}
 use Rattle.span_verifier.specs.Leaving.{ways}
 use Rattle.span_verifier.specs.Transfer.{frame_of}
 use Rattle.span_verifier.specs.Layout.{Follows}

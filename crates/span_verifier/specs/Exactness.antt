@@ -1,4 +1,4 @@
--- Which rules are broken, and what leaves, is what the definition of form 3 says.
+-- The rules and the leaving frames agree with the definition of form 3.
 use Rattle.std.specs.Prelude.{◌≡◌, ℕ, None}
 use Rattle.decode.specs.declared.insn.Insn.{Insn}
 use Rattle.spans.specs.Frame.{Frame}
@@ -6,7 +6,7 @@ use Rattle.spans.specs.Leaving.{Ways, Leaves}
 use Rattle.span_verifier.specs.Rules.{frame_rule}
 use Rattle.span_verifier.specs.Leaving.{ways}
 
--- where no rule that asks a frame is broken these ways leave; and where any leave, none is broken, and they are these
+-- if no rule that needs a frame is broken, these ways leave; and if any leave, none is broken, and they are these
 abbrev pub IsExact : Type 0
 IsExact =
     (state : ℕ) (i : Insn) (f : Frame)

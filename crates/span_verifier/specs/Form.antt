@@ -1,10 +1,10 @@
--- What a form of images says of the slots of code, and the laws that make one pass decide.
+-- What a form of images says of the slots of code, and the laws that let one pass decide.
 use Rattle.std.specs.Prelude.{◌≡◌, ℕ, Option, Some}
 use Rattle.regtypes.specs.declared.rule.Rule.{Rule}
 
--- frames, their order, and the frame as a call begins; whether a frame may stand at a slot; whether a table, which has a
--- frame for each slot or none, allows the frame of a slot: no rule is broken, and what leaves fits the frames where it
--- leads; and the least rule that is broken at a slot under a frame
+-- the frames, their order and the frame of the entry; whether a slot may have a frame; whether a table, with a frame or
+-- none for each slot, allows the frame of a slot: no rule is broken, and what leaves fits the frames where it leads;
+-- and the least rule that is broken at a slot under a frame
 pub record Form : Type 1 where
   pub Frame : Type 0
   pub Leq : Frame → Frame → Type 0
@@ -17,11 +17,11 @@ pub record Form : Type 1 where
 abbrev pub TableOf : Form → Type 0
 TableOf form = ℕ → Option form.Frame
 
--- the slot has a frame, which says no more than this one
+-- the slot has a frame, and it says no more than this one
 abbrev pub Enters : (form : Form) → TableOf form → ℕ → form.Frame → Type 0
 Enters form table t f = (g : form.Frame) × (table t ≡ Some g) × form.Leq f g
 
--- where the first table has a frame, the second has one that says no more
+-- if the first table has a frame for a slot, the second has one that says no more
 abbrev pub Below : (form : Form) → TableOf form → TableOf form → Type 0
 Below form a b = (s : ℕ) (f : form.Frame) → a s ≡ Some f → Enters form b s f
 

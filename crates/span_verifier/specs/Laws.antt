@@ -1,4 +1,4 @@
--- What holds of typings of form 3 and of refusals.
+-- Laws of typings of form 3 and of refusals.
 use Rattle.std.specs.Prelude.{◌≡◌, ◌↔◌, ℕ, ◌^◌, ◌<◌, ◌≤◌, List, [], Option, Some, length}
 use Rattle.limits.specs.declared.TheConstants.{PAYLOAD_BYTES, PROCESSES}
 use Rattle.decode.specs.declared.insn.Insn.{Insn}
@@ -13,19 +13,20 @@ use Rattle.span_verifier.specs.Form.{IsForm}
 use Rattle.span_verifier.specs.Typing.{IsPlaced, IsTyped, span_form}
 use Rattle.span_verifier.specs.Verdict.{IsRefused}
 
--- form 3 keeps the laws that make one pass decide
+-- form 3 keeps the laws that let one pass decide
 abbrev pub KeepsLaws : Type 0
 KeepsLaws = (state : ℕ) (slots : List (Option Insn)) → IsForm (span_form state slots)
 
--- a typing of form 3 is one that calls ask for (`span_calls`), under whose frames V1, V2 and V4 are kept
+-- a typing of form 3 is one that `span_calls` requires, and under its frames V1, V2 and V4 are kept
 abbrev pub AreTypings : Type 0
 AreTypings =
     (state : ℕ) (slots : List (Option Insn)) (table : Table)
     → IsTyped state slots table
     ↔ (IsTyping state (length slots) (insn_at slots) table × ((s : ℕ) (f : Frame) → table s ≡ Some f → IsPlaced slots s))
 
--- a call of typed code ends within as many steps as there are slots, and so does it in words and one array, with the same
--- answer, whatever at most 15 the helpers answer; so it makes no access outside of the array and no store in the message
+-- a call of typed code ends within as many steps as there are slots; on words and one array it ends so too, with the
+-- same answer, if each answer of a helper is at most 15; so it makes no access outside of the array and no store into
+-- the message
 abbrev pub AreTypedCallsShown : Type 0
 AreTypedCallsShown =
     (state long : ℕ) (message bytes : ℕ → ℕ) (slots : List (Option Insn)) (table : Table) (reply : Replies)
@@ -34,7 +35,7 @@ AreTypedCallsShown =
     → ShowsLast state (length slots) (call_from state (insn_at slots) reply (length slots) 0 (entry long message bytes) [])
     (concrete_call_from state (insn_at slots) reply (length slots) 0 (concrete_entry state long message bytes) [])
 
--- code is refused for one rule at one slot
+-- refused code has one rule and one slot that can be named
 abbrev pub IsOneRefusal : Type 0
 IsOneRefusal =
     (state : ℕ) (slots : List (Option Insn)) (rule rule' : Rule) (s s' : ℕ) → IsRefused state slots rule s → IsRefused state slots rule' s'

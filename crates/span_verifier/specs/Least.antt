@@ -3,7 +3,7 @@ use Rattle.std.specs.Prelude.{◌≡◌, ℕ, ◌<◌, Some}
 use Rattle.regtypes.specs.declared.rule.Rule.{Rule}
 use Rattle.span_verifier.specs.Form.{Form, TableOf, Enters, Below}
 
--- the frame as a call begins fits slot 0, frames stand where they may, and below slot n each is allowed
+-- the entry's frame fits slot 0, each slot may have its frame, and below slot n each frame is allowed
 pub record TypesBelow (form : Form) (n : ℕ) (table : TableOf form) : Type 0 where
   pub start : Enters form table 0 form.entry
   pub stands : (s : ℕ) (f : form.Frame) → table s ≡ Some f → form.MayStand s f

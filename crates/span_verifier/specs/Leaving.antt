@@ -1,4 +1,4 @@
--- What leaves an instruction that breaks no rule.
+-- The frames that leave an instruction that breaks no rule.
 use Rattle.std.specs.Prelude.{◌≡◌, ℕ, ℤ, ◌≤ℤ◌, true, Option, None, Some, unwrap_or}
 use Rattle.decode.specs.declared.insn.Reg.{Reg}
 use Rattle.decode.specs.declared.insn.Width.{Width}
@@ -19,7 +19,7 @@ use Rattle.spans.specs.Frame.{Frame, with_kind}
 use Rattle.spans.specs.Access.{is_inside, loaded_kind, stored_frame}
 use Rattle.spans.specs.Leaving.{Ways, alu_form, operand_kind, result_kind, from_span, extended_span, way, behind_helper}
 
--- dst gets this kind; where there is none a rule is broken
+-- dst gets this kind; if there is none, a rule is broken
 abbrev pub gives : Option Kind → Frame → Reg → Frame
 gives k f dst = with_kind f dst.number (unwrap_or k Unset)
 
@@ -28,7 +28,7 @@ abbrev pub compares : Kind → Kind → Condition → Width → Reg → Operand 
 compares (Num a) (Num b) condition width dst o f = (way (opposite condition) width dst o f a b, way (Some condition) width dst o f a b)
 compares a b condition width dst o f = (None, None)
 
--- the frame that leaves to the instruction behind, and the one that leaves by a jump, where no rule is broken
+-- the frame that leaves to the next instruction, and the one that leaves by a jump, if no rule is broken
 abbrev pub ways : Insn → Frame → Ways
 ways (Alu op width dst o) f = (Some (gives (result_kind (alu_form op width o) (f dst.number) (operand_kind width o f)) f dst), None)
 ways (MovSx x dst src) f =
@@ -47,7 +47,7 @@ ways (StoreReg size dst src offset) f = (Some (stored_frame f (f src.number) (f 
 ways (StoreImm size dst offset imm) f =
     (Some (stored_frame f (operand_kind W64 (operand.Imm imm) f) (f dst.number) offset (bytes_in size)), None)
 
--- an access through a base of this kind lies in the stack, where it is a place there
+-- if the base is a place in the stack, an access through it is inside the stack
 abbrev pub StaysInside : Kind → ℤ → ℕ → Type 0
 StaysInside (Place Stack s) o n = (s.lo ≤ℤ s.hi) × (is_inside 512 s o n ≡ true)
 StaysInside k o n = Unit {0}

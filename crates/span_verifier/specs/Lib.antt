@@ -8,4 +8,6 @@ pub mod Layout
 pub mod Typing
 pub mod Verdict
 pub mod Laws
+pub mod FlatFrames
+pub mod FlatLaws
 pub mod Inside

@@ -1,4 +1,4 @@
--- The least rule that an instruction breaks under a frame (docs/FORMATS.md, "Rules of the verifier"); None where it breaks
+-- The least rule that an instruction breaks under a frame (docs/FORMATS.md, "Rules of the verifier"); None if it breaks
 -- none of V3 to V10.
 use Rattle.std.specs.Prelude.{ℕ, zero, suc, ◌+◌, ◌&&◌, nat_le, int_le, ℤ, pos, negsuc, Bool, Option, Some, None, false, if◌then◌else◌, min}
 use Rattle.std.specs.Option.{option_map_or}
@@ -20,25 +20,25 @@ use Rattle.spans.specs.Frame.{Frame}
 use Rattle.spans.specs.Access.{is_inside, whole_word, is_reached}
 use Rattle.spans.specs.Leaving.{AluForm, Copies, Sums, Moves, Sets, Computes, alu_form, operand_kind, moved_reach}
 
--- the lesser of two rules, where both are broken
+-- the lesser of two rules, if both are broken
 abbrev pub lesser : Option Rule → Option Rule → Option Rule
 lesser None b = b
 lesser (Some r) None = Some r
 lesser (Some r) (Some q) = Some (if nat_le (rule_number r) (rule_number q) then r else q)
 
--- the rule, where a test fails
+-- the rule, if a test fails
 abbrev pub unless : Bool → Rule → Option Rule
 unless holds rule = if holds then None else Some rule
 
 -- ---- kinds
 
--- what is read as a number: nothing is known of it, or it is a place
+-- the rule for what is read as a number: broken if nothing is known of it, or if it is a place
 abbrev pub number_rule : Kind → Option Rule
 number_rule Unset = Some V3
 number_rule (Num s) = None
 number_rule (Place r s) = Some V5
 
--- what is copied, a place too: nothing is known of it
+-- the rule for what is copied, also a place: broken if nothing is known of it
 abbrev pub value_rule : Kind → Option Rule
 value_rule Unset = Some V3
 value_rule (Num s) = None
@@ -46,7 +46,7 @@ value_rule (Place r s) = None
 
 -- ---- arithmetic
 
--- places of which one is more than 16 bits and a sign from its region's first byte
+-- a place has a distance from its region's first byte that doesn't fit 16 bits and a sign
 abbrev pub near_rule : Reach → Option Rule
 near_rule s = unless (int_le (negsuc 32767) s.lo && int_le s.hi (pos 32767)) V6
 
@@ -60,7 +60,7 @@ sum_rule Unset b = Some V3
 sum_rule (Num s) Unset = Some V3
 sum_rule (Place r s) Unset = Some V3
 
--- a sum with a whole number, of a place by 64 bits alone
+-- a sum with a whole number; of a place only by 64 bits
 abbrev pub move_rule : Width → ℤ → Kind → Option Rule
 move_rule width z (Num s) = None
 move_rule W64 z (Place r s) = near_rule (moved_reach s z z)
@@ -77,18 +77,18 @@ alu_rule (Computes op width) a b = lesser (number_rule a) (number_rule b)
 
 -- ---- memory
 
--- the first w words of the stack: of those that an access may reach, each is read as a number
+-- among the first w words of the stack, those that an access may reach are read as numbers
 unfoldable pub words_rule : ℕ → Frame → Reach → ℤ → ℕ → Option Rule
 words_rule zero f s o n = None
 words_rule (suc w) f s o n =
     lesser (words_rule w f s o n) (if is_reached s o n (11 + w) then number_rule (f (11 + w)) else None)
 
--- a load from the stack, inside it: of a whole word, or else of numbers
+-- a load inside the stack: of a whole word, or else of numbers
 abbrev pub read_rule : Option ℕ → Frame → Reach → ℤ → ℕ → Option Rule
 read_rule (Some c) f s o n = value_rule (f c)
 read_rule None f s o n = words_rule 64 f s o n
 
--- a load of n bytes, o bytes from a base of this kind; the words of the stack are judged where it lies inside
+-- a load of n bytes, o bytes from a base of this kind; the stack's words are judged only if it is inside
 abbrev pub load_rule : ℕ → Frame → Kind → ℤ → ℕ → Option Rule
 load_rule state f Unset o n = Some V3
 load_rule state f (Num s) o n = Some V5
@@ -96,12 +96,13 @@ load_rule state f (Place Message s) o n = unless (is_inside 512 s o n) V6
 load_rule state f (Place State s) o n = unless (is_inside state s o n) V6
 load_rule state f (Place Stack s) o n = if is_inside 512 s o n then read_rule (whole_word s o n) f s o n else Some V6
 
--- a store of a kind in the stack, inside it: to a whole word, a place too; else a number, over numbers
+-- a store of a kind inside the stack: into a whole word, also a place; else a number, over numbers
 abbrev pub write_rule : Option ℕ → Frame → Kind → Reach → ℤ → ℕ → Option Rule
 write_rule (Some c) f k s o n = value_rule k
 write_rule None f k s o n = lesser (number_rule k) (words_rule 64 f s o n)
 
--- a store of a kind through a base of another; a place that is stored but to a whole word breaks V5 wherever it is stored
+-- a store of a kind through a base of another; a place that isn't stored into a whole word breaks V5, wherever it is
+-- stored
 abbrev pub store_rule : ℕ → Frame → Kind → Kind → ℤ → ℕ → Option Rule
 store_rule state f k Unset o n = Some V3
 store_rule state f k (Num s) o n = lesser (value_rule k) (Some V5)
@@ -112,12 +113,12 @@ store_rule state f k (Place Stack s) o n =
 
 -- ---- helpers
 
--- an argument that isn't what a helper wants, whatever is wrong with it
+-- an argument that isn't what a helper takes, whatever is wrong with it
 abbrev pub argument_rule : Option Rule → Option Rule
 argument_rule None = None
 argument_rule (Some r) = Some V9
 
--- a place with n bytes in its region from each of its positions, in the stack of numbers
+-- a place whose n bytes are in its region for each of its distances, and in the stack are numbers
 abbrev pub payload_rule : ℕ → Frame → Kind → ℕ → Option Rule
 payload_rule state f Unset n = Some V9
 payload_rule state f (Num s) n = Some V9
@@ -126,7 +127,7 @@ payload_rule state f (Place State s) n = unless (is_inside state s (pos 0) n) V9
 payload_rule state f (Place Stack s) n =
     if is_inside 512 s (pos 0) n then argument_rule (words_rule 64 f s (pos 0) n) else Some V9
 
--- the same of as many bytes as a number says, and of 256 where it may be greater
+-- the same for as many bytes as a number says, and for 256 if it may be greater
 abbrev pub sized_rule : ℕ → Frame → Kind → Kind → Option Rule
 sized_rule state f p Unset = Some V9
 sized_rule state f p (Place r s) = Some V9
@@ -150,7 +151,7 @@ exit_rule (Place r s) = Some V10
 
 -- ---- instructions
 
--- what an instruction asks of a frame, V3 and V5 to V10; the state has `state` bytes
+-- the rule of V3 and V5 to V10 that an instruction breaks under a frame; the state has `state` bytes
 abbrev pub frame_rule : ℕ → Insn → Frame → Option Rule
 frame_rule state (Alu op width dst o) f = alu_rule (alu_form op width o) (f dst.number) (operand_kind width o f)
 frame_rule state (MovSx x dst src) f = number_rule (f src.number)

@@ -10,15 +10,15 @@ use Rattle.span_verifier.specs.declared.leaving.Leaving.{Leaving}
 use Rattle.span_verifier.specs.Rules.{broken_rule}
 use Rattle.span_verifier.specs.Leaving.{ways}
 
--- the frame of an array of kinds
+-- an array of kinds as a frame
 abbrev pub frame_of : Cells → Frame
 frame_of c = kind_at c.kinds
 
--- the ways of an instruction, with their arrays as frames
+-- the ways of an instruction, with arrays as frames
 abbrev pub frames_of : Leaving → Ways
 frames_of l = (option_map frame_of l.next, option_map frame_of l.taken)
 
--- the frames that leave on both ways where no rule is broken, else the least rule that is
+-- the frames that leave on both ways if no rule is broken, else the least broken rule
 abbrev pub IsLeaving : ℕ → Insn → Frame → Result Leaving Rule → Type 0
 IsLeaving state i f (Ok l) = (broken_rule state i f ≡ None) × (frames_of l ≡ ways i f)
 IsLeaving state i f (Err r) = broken_rule state i f ≡ Some r

@@ -17,23 +17,23 @@ use Rattle.span_calls.specs.Typing.{Table, IsAllowed}
 use Rattle.span_verifier.specs.Form.{Form}
 use Rattle.span_verifier.specs.Least.{TypesBelow}
 
--- the frames of arrays of kinds, slot by slot; none behind their end
+-- arrays of kinds as frames, slot by slot; none after their end
 abbrev pub table_of : List (Option (Box Cells)) → Table
 table_of items s = option_map (λ (b : Box Cells). frame_of b.value) (unwrap_or (slice_get items s) None)
 
--- V1 and V2, as of forms 1 and 2, of both ways, whether something takes them or not; and V4
+-- V1 and V2, as in forms 1 and 2, for both ways, whether a step takes them or not; and V4
 abbrev pub IsPlaced : List (Option Insn) → ℕ → Type 0
 IsPlaced slots s =
     (i : Insn) → insn_at slots s ≡ Some i → (first_broken (flow_tests slots s (flow_of i)) ≡ None) × (frame_pointer_rule i ≡ None)
 
--- the least rule that an instruction breaks at a slot under a frame; V1 and V2 need no frame. Where no
--- instruction begins, none is broken
+-- the least rule that an instruction breaks at a slot under a frame; V1 and V2 need no frame. If no instruction begins
+-- there, none is broken
 abbrev pub broken_at : ℕ → List (Option Insn) → ℕ → Option Insn → Frame → Option Rule
 broken_at state slots s None f = None
 broken_at state slots s (Some i) f = option_or (first_broken (flow_tests slots s (flow_of i))) (broken_rule state i f)
 
--- form 3, of code slot by slot with a state of `state` bytes: what is allowed is what calls ask of a typing (`span_calls`),
--- and that V1, V2 and V4 are kept
+-- form 3, for code slot by slot with a state of `state` bytes: a frame is allowed if it is so in a typing of
+-- `span_calls`, and V1, V2 and V4 are kept
 abbrev pub span_form : ℕ → List (Option Insn) → Form
 span_form state slots = record {
   Frame = Frame;

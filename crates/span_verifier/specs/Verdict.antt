@@ -15,7 +15,7 @@ use Rattle.span_verifier.specs.Typing.{span_form, IsTyped, table_of}
 abbrev pub IsLeastTyping : ℕ → List (Option Insn) → Table → Type 0
 IsLeastTyping state slots table = IsLeast (span_form state slots) (length slots) table
 
--- the rule and the slot that are named: no code at all breaks V2 at slot 0
+-- the rule and the slot that are named; code without a slot breaks V2 at slot 0
 abbrev pub IsRefused : ℕ → List (Option Insn) → Rule → ℕ → Type 0
 IsRefused state [] rule s = (rule ≡ V2) × (s ≡ 0)
 IsRefused state (x ∷ xs) rule s = StopsAt (span_form state (x ∷ xs)) rule s
@@ -24,7 +24,7 @@ IsRefused state (x ∷ xs) rule s = StopsAt (span_form state (x ∷ xs)) rule s
 abbrev pub IsFault : List Insn → ℕ → Rule → ℕ → Type 0
 IsFault code state rule slot = IsRefused state (slots_of code) rule slot × ((t : Table) → IsTyped state (slots_of code) t → ⊥)
 
--- the table is the least typing of the code; where a slot breaks a rule, it is that of the slots below
+-- the table is the least typing of the code; if a slot breaks a rule, it is that of the slots below
 abbrev pub IsJudged : List Insn → ℕ → Table → Option (Rule × ℕ) → Type 0
 IsJudged code state table None = IsLeastTyping state (slots_of code) table
 IsJudged code state table (Some (rule, slot)) = IsLeast (span_form state (slots_of code)) slot table × IsFault code state rule slot
@@ -35,7 +35,7 @@ pub record IsFramesOf (code : List Insn) (state : ℕ) (frames : Frames) : Type 
   pub typing : IsLeastTyping state (slots_of code) (table_of frames.table.items)
   pub unrefused : frames.refusal ≡ None
 
--- want of memory says nothing of the code
+-- why code gave no frames; that memory ran out says nothing of the code
 abbrev pub IsWhy : List Insn → ℕ → VerifyError → Type 0
 IsWhy code state Memory = Unit {0}
 IsWhy code state (Fault rule slot) = IsFault code state rule slot

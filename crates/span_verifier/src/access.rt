@@ -12,7 +12,7 @@ use decode::Width;
 use regtypes::Rule;
 use spans::{Cells, Kind, Reach};
 
-/// Whether an access of so many bytes lies in a region of this size, from each of its places.
+/// Whether the bytes of an access are in a region of this size, from each of its places.
 pub fn is_inside(size: u16, reach: Reach, offset: i16, bytes: u16) -> bool
     ensures { result ≡ is_inside size reach offset bytes }
 {
@@ -34,7 +34,7 @@ fn cell_at(byte: i32) -> Option<usize>
     }
 }
 
-/// The cell whose word the access is, as a whole.
+/// The cell of the word that the access is, if it is a whole word.
 pub fn whole_word(reach: Reach, offset: i16, bytes: u16) -> Option<usize>
     ensures { result ≡ whole_word reach offset bytes }
 {
@@ -58,7 +58,7 @@ fn is_reached(reach: Reach, offset: i16, bytes: u16, cell: u16) -> bool
         && begin(reach.lo, offset) < i32::from(first + 8)
 }
 
-/// The words of the stack that an access may reach are read as numbers.
+/// The rule that is broken if an access may reach a word of the stack that is no number.
 pub fn words_rule(frame: &Cells, reach: Reach, offset: i16, bytes: u16) -> Option<Rule>
     ensures { result ≡ words_rule 64 (kind_at frame.now.kinds) reach offset bytes }
 {
@@ -72,7 +72,7 @@ pub fn words_rule(frame: &Cells, reach: Reach, offset: i16, bytes: u16) -> Optio
     rule
 }
 
-/// The frame where each word that an access may reach can be any number.
+/// The frame in which each word that an access may reach can be any number.
 pub fn wiped(frame: &Cells, reach: Reach, offset: i16, bytes: u16) -> Cells
     requires { is_inside 512 reach offset bytes ≡ true }
     ensures { kind_at result.kinds ≡ wiped (kind_at frame.now.kinds) reach offset bytes }

@@ -16,7 +16,7 @@ use operations::word_of_imm;
 use regtypes::Rule;
 use spans::{Cells, Kind, Span};
 
-/// What is known of an operand: of an immediate which word it is.
+/// The kind of an operand; of an immediate it is the one word.
 pub fn operand_kind(width: Width, operand: Operand, frame: &Cells) -> Kind
     ensures { result ≡ operand_kind width operand (kind_at frame.now.kinds) }
 {
@@ -38,7 +38,7 @@ fn negated(imm: i32) -> i64
     -i64::from(imm)
 }
 
-/// What arithmetic with dst and an operand breaks.
+/// The rule that arithmetic with dst and an operand breaks.
 pub fn alu_rule(op: AluOp, width: Width, operand: Operand, a: Kind, b: Kind) -> Option<Rule>
     ensures { result ≡ alu_rule (alu_form op width operand) a b }
 {
@@ -81,7 +81,7 @@ fn computed(op: AluOp, width: Width, a: Kind, b: Kind) -> Kind
     }
 }
 
-/// What arithmetic leaves in dst, of which `a` is known, and `b` of its operand.
+/// The kind that arithmetic leaves in dst, whose kind is `a`, with an operand of kind `b`.
 pub fn alu_kind(op: AluOp, width: Width, operand: Operand, a: Kind, b: Kind) -> Kind
     requires a { IsKind a }
     requires b { IsKind b }
@@ -103,7 +103,7 @@ pub fn alu_kind(op: AluOp, width: Width, operand: Operand, a: Kind, b: Kind) -> 
     }
 }
 
-/// What an extension of a sign leaves: the same number, where none is negative.
+/// The kind that a sign extension leaves: the same number if none of the numbers is negative.
 pub fn extended(extension: Extension, kind: Kind) -> Kind
     ensures { result ≡ unwrap_or (from_span (extended_span (extension_offset extension) (bits_of (extension_width extension))) kind) Kind.Unset }
 {
@@ -124,7 +124,7 @@ pub fn extended(extension: Extension, kind: Kind) -> Kind
     })
 }
 
-/// What a register holds then that was a number: any number.
+/// Any number, for a register that holds a number.
 pub fn any_number(kind: Kind) -> Kind
     ensures { result ≡ unwrap_or (from_span (λ s. whole_span 64) kind) Kind.Unset }
 {

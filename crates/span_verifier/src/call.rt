@@ -11,7 +11,7 @@ use crate::rules::{argument_rule, lesser, number_rule, unless};
 use regtypes::{Region, Rule};
 use spans::{Cells, Kind, Span};
 
-/// Bytes at a place, for a helper.
+/// The rule that a helper's argument of this many bytes at a place breaks.
 fn payload_rule(state_len: u16, frame: &Cells, place: Kind, bytes: u16) -> Option<Rule>
     ensures { result ≡ payload_rule state_len (kind_at frame.now.kinds) place bytes }
 {
@@ -31,7 +31,7 @@ fn payload_rule(state_len: u16, frame: &Cells, place: Kind, bytes: u16) -> Optio
     }
 }
 
-/// As many bytes at a place as a number says, for a helper.
+/// The rule that a helper's argument breaks that is a place with the number of bytes there.
 fn sized_rule(state_len: u16, frame: &Cells, place: Kind, count: Kind) -> Option<Rule>
     ensures { result ≡ sized_rule state_len (kind_at frame.now.kinds) place count }
 {
@@ -41,7 +41,7 @@ fn sized_rule(state_len: u16, frame: &Cells, place: Kind, count: Kind) -> Option
     }
 }
 
-/// What the call of a helper breaks.
+/// The rule that the call of a helper breaks.
 pub fn call_rule(state_len: u16, frame: &Cells, helper: i32) -> Option<Rule>
     ensures { result ≡ call_rule state_len (kind_at frame.now.kinds) helper }
 {
@@ -62,7 +62,7 @@ pub fn call_rule(state_len: u16, frame: &Cells, helper: i32) -> Option<Rule>
     }
 }
 
-/// What a helper leaves in a cell.
+/// The kind that a helper leaves in a cell.
 fn answered_kind(cell: usize, kind: Kind) -> Kind
     ensures { result ≡ (if cell == 0 then Kind.Num (span 0 15) else if nat_lt cell 6 then Kind.Unset else kind) }
 {
@@ -73,7 +73,7 @@ fn answered_kind(cell: usize, kind: Kind) -> Kind
     }
 }
 
-/// What a helper leaves: its answer in r0, and r1 to r5 unset.
+/// The frame that a helper leaves: its answer in r0, and r1 to r5 unset.
 pub fn answered(frame: &Cells) -> Cells
     ensures { kind_at result.kinds ≡ behind_helper (kind_at frame.now.kinds) }
 {

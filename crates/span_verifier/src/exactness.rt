@@ -1,9 +1,8 @@
-//! What holds of the rules.
+//! The law of the rules.
 
 ghost use Rattle.span_verifier.specs.Exactness.{IsExact};
 
-/// No rule is broken where something leaves, and there alone; and what leaves is what the definition
-/// of form 3 says.
+/// Frames leave exactly if no rule is broken, and they are those of the definition of form 3.
 pub fn rules_are_exact()
     ensures { IsExact }
 {}

@@ -1,4 +1,4 @@
-//! The frame of the entry, and what two frames say both.
+//! The frame of the entry, and the join of two frames.
 
 ghost use Rattle.std.specs.Prelude.{◌≡◌, ℕ};
 ghost use Rattle.spans.specs.Frame.{entry_frame, joined, kind_at};
@@ -7,7 +7,7 @@ use crate::kind::join_kinds;
 use regtypes::Region;
 use spans::{Cells, Kind, Reach, Span};
 
-/// What is known of a cell as a call begins.
+/// The kind of a cell at the entry.
 fn entry_kind(cell: usize) -> Kind
     ensures { result ≡ entry_frame cell }
 {
@@ -24,8 +24,8 @@ fn entry_kind(cell: usize) -> Kind
     }
 }
 
-/// What is known as a call begins: r1 is the message, r2 the state, r3 how many bytes the message
-/// has, r10 the end of the stack, whose words are numbers.
+/// The frame of the entry: r1 is the message, r2 the state, r3 the message's length, r10 the end of the stack, whose
+/// words are numbers.
 pub fn entry() -> Cells
     ensures { kind_at result.kinds ≡ entry_frame }
 {
@@ -36,7 +36,7 @@ pub fn entry() -> Cells
     Cells { kinds }
 }
 
-/// What both frames say.
+/// The join: what both frames say.
 pub fn join(a: &Cells, b: &Cells) -> Cells
     ensures { (c : ℕ) → kind_at result.kinds c ≡ joined (kind_at a.now.kinds) (kind_at b.now.kinds) c }
 {

@@ -17,21 +17,19 @@ use regtypes::Rule;
 use spans::Cells;
 use std::alloc::{AllocError, Global};
 
-/// Code slot by slot, and what is known of registers and of the stack's words there, also of code that
-/// is refused.
+/// Code slot by slot, with what is known of registers and of the stack's words there, also for code that is refused.
 #[derive(Debug, Drop)]
 pub struct Frames {
     /// For each slot the instruction that begins there.
     pub slots: Vec<Option<Insn>>,
-    /// For each slot what is known there, if a path leads to it; no other slot takes memory for it.
-    /// Where the code is refused, that is final up to the slot that is named, and no slot behind it
-    /// was judged.
+    /// For each slot what is known there, if a path leads to it; other slots take no memory for it. If the code is
+    /// refused, this is final up to the named slot, and no later slot was judged.
     pub table: Vec<Option<Box<Cells>>>,
     /// The least rule that is broken at the first slot that breaks one, and that slot.
     pub refusal: Option<(Rule, usize)>,
 }
 
-/// A table with no frame but that of the entry.
+/// A table that has only the frame of the entry.
 fn opening(alloc: Global, slots: usize) -> Result<Vec<Option<Box<Cells>>>, AllocError>
     requires { 0 < slots }
     ensures size { IfOk result (λ table. length table.items ≡ slots) }
@@ -45,9 +43,9 @@ fn opening(alloc: Global, slots: usize) -> Result<Vec<Option<Box<Cells>>>, Alloc
     Ok(table)
 }
 
-/// What is known at each slot of these instructions, and where the first of them breaks a rule. They
-/// are given in 1 to 1,024 slots. The frame of a slot is the join of all that arrives there; an
-/// instruction that no path reaches is not judged.
+/// What is known at each slot of these instructions, and the first slot that breaks a rule. The code has 1 to 1,024
+/// slots. The frame of a slot is the join of all frames that arrive there. Instructions that no path reaches are not
+/// judged.
 pub fn frames_of(alloc: Global, code: &[Insn], state_len: u16) -> Result<Frames, AllocError>
     requires some { 0 < length code.now }
     requires slots { length (slots_of code.now) ≤ SLOTS }

@@ -1,4 +1,4 @@
-//! One slot of the pass: its rules, and what leaves it.
+//! One slot of the pass: its rules, and the frames that leave it.
 
 ghost use Rattle.std.specs.Prelude.{◌≡◌, ◌≤◌, ◌<◌, IfOk, length};
 ghost use Rattle.decode.specs.Encoding.{Fits};
@@ -37,8 +37,8 @@ fn leave(
     }
 }
 
-/// Judges one slot, and joins what leaves it into the slots that come next; or answers the least rule
-/// that it breaks, and changes nothing. A slot that no path leads to is not judged.
+/// Judges one slot, and joins the frames that leave it into those of the next slots; or answers the least rule that it
+/// breaks, and changes nothing. A slot that no path leads to is not judged.
 pub fn judge(
     alloc: Global,
     slots: &[Option<Insn>],

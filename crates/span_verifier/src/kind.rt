@@ -1,4 +1,4 @@
-//! What two kinds say both.
+//! The join of two kinds.
 
 ghost use Rattle.std.specs.Prelude.{◌≡◌};
 ghost use Rattle.spans.specs.Span.{joined_span};
@@ -26,7 +26,7 @@ fn join_reaches(s: Reach, t: Reach) -> Reach
     }
 }
 
-/// What both kinds say.
+/// The join: what both kinds say.
 #[tactic(auto, using(crate::proofs::KindLemmas::joined_same, crate::proofs::KindLemmas::joined_apart, crate::proofs::KindLemmas::joined_unset, crate::proofs::KindLemmas::joined_num))]
 pub fn join_kinds(a: Kind, b: Kind) -> Kind
     ensures { result ≡ joined_kind a b }

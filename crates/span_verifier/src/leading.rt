@@ -25,8 +25,8 @@ fn is_target(slots: &[Option<Insn>], slot: usize, distance: i32) -> bool
     distance >= 0 && begins(slots, slot + 1 + distance as usize)
 }
 
-/// The rules on where an instruction leads: V1, that a jump goes to an instruction that begins at a
-/// later slot, and V2, that behind any other, and behind a conditional jump, there is a slot.
+/// The rules on where an instruction leads. V1: a jump goes to an instruction that begins at a later slot. V2: after
+/// any other instruction, and after a conditional jump, there is a slot.
 pub fn leads(slots: &[Option<Insn>], slot: usize, insn: &Insn) -> Result<(), Rule>
     requires short { slot < SLOTS }
     requires within { slot < length slots.now }

@@ -1,4 +1,4 @@
-//! What is known behind an instruction, on each of its two ways.
+//! What is known after an instruction, on each of its two ways.
 
 ghost use Rattle.std.specs.Prelude.{◌≡◌};
 ghost use Rattle.std.specs.Option.{option_map};
@@ -20,16 +20,16 @@ use decode::{Condition, Insn, Operand, Reg, Width};
 use regtypes::{Rule, attributes_from, bytes_in, signed_bytes_in};
 use spans::{Cells, Kind, Span};
 
-/// What is known behind an instruction; nothing goes on where there is no frame.
+/// What is known after an instruction; no step takes a way without a frame.
 #[derive(Clone, Copy)]
 pub struct Leaving {
-    /// On the way to the instruction behind it.
+    /// On the way to the next instruction.
     pub next: Option<Cells>,
     /// On the way of a jump.
     pub taken: Option<Cells>,
 }
 
-/// Only to the instruction behind.
+/// The frame leaves only to the next instruction.
 fn falls(frame: Cells) -> Leaving
     ensures { frames_of result ≡ (Some (frame_of frame), None) }
 {
@@ -39,7 +39,7 @@ fn falls(frame: Cells) -> Leaving
     }
 }
 
-/// Only by a jump.
+/// The frame leaves only by a jump.
 fn leaps(frame: Cells) -> Leaving
     ensures { frames_of result ≡ (None, Some (frame_of frame)) }
 {
@@ -49,7 +49,7 @@ fn leaps(frame: Cells) -> Leaving
     }
 }
 
-/// A register and an operand hold such numbers then.
+/// The frame with these spans for a register and an operand.
 fn narrowed(frame: &Cells, dst: Reg, operand: Operand, a: Span, b: Span) -> Cells
     ensures { kind_at result.kinds ≡ narrowed_frame (kind_at frame.now.kinds) dst operand (a, b) }
 {
@@ -65,7 +65,7 @@ fn narrowed(frame: &Cells, dst: Reg, operand: Operand, a: Span, b: Span) -> Cell
     }
 }
 
-/// The frame that leaves where a condition is met.
+/// The frame that leaves if a condition is met.
 fn way(
     condition: Option<Condition>,
     width: Width,
@@ -83,7 +83,7 @@ fn way(
     }
 }
 
-/// What a conditional jump leaves.
+/// The frames that a conditional jump leaves.
 fn compared(
     condition: Condition,
     width: Width,
@@ -110,7 +110,7 @@ const NOWHERE: Leaving = Leaving {
     taken: None,
 };
 
-/// What a store leaves that breaks no rule.
+/// The frame that a store leaves if it breaks no rule.
 fn store(frame: &Cells, state_len: u16, kind: Kind, base: Kind, offset: i16, bytes: u16) -> Leaving
     requires base { IsKind base }
     requires unbroken { store_rule state_len (kind_at frame.now.kinds) kind base offset bytes ≡ None }
@@ -119,7 +119,7 @@ fn store(frame: &Cells, state_len: u16, kind: Kind, base: Kind, offset: i16, byt
     falls(stored(frame, kind, base, offset, bytes))
 }
 
-/// What leaves on each way where no rule is broken.
+/// The frames that leave if no rule is broken.
 fn leave(insn: &Insn, frame: &Cells, state_len: u16) -> Leaving
     requires fits { Fits insn.now }
     requires frame { IsFrame (kind_at frame.now.kinds) }
@@ -201,7 +201,7 @@ fn leave(insn: &Insn, frame: &Cells, state_len: u16) -> Leaving
     }
 }
 
-/// What an instruction asks of a frame, V3 and V5 to V10.
+/// The rule of V3 and V5 to V10 that an instruction breaks under a frame.
 fn frame_rule(insn: &Insn, frame: &Cells, state_len: u16) -> Option<Rule>
     ensures { result ≡ frame_rule state_len insn.now (kind_at frame.now.kinds) }
 {
@@ -287,8 +287,8 @@ fn frame_pointer_rule(insn: &Insn) -> Option<Rule>
     }
 }
 
-/// The frames that leave an instruction on its two ways, where something goes there, or the least of
-/// the rules V3 to V10 that it breaks.
+/// The frames that leave an instruction on its two ways, as far as a step can take them, or the least of the rules V3
+/// to V10 that it breaks.
 pub fn transfer(insn: &Insn, frame: &Cells, state_len: u16) -> Result<Leaving, Rule>
     requires fits { Fits insn.now }
     requires frame { IsFrame (kind_at frame.now.kinds) }

@@ -1,34 +1,39 @@
-//! The verifier of form 3 of images: its local rules by number, and one pass over the slots that gives
-//! the least typing of code, or the one slot and rule of its refusal.
+//! The verifier of form 3 of images: its local rules by number, and one pass over the slots that gives the least typing
+//! of code, or the one slot and rule of its refusal.
 //!
-//! [`frames_of`] makes the pass: it tells what is known at each slot of registers and of the stack's
-//! words, also of code that is refused, and [`verify`] answers the frames of typable code alone. Code is
-//! typable where there is a table of frames, one for each instruction that a path leads to, under which
-//! no rule is broken and into which all that leaves an instruction fits (`specs/Typing`); such code never
-//! comes to a fault ([`typed_calls_are_shown`]). A refusal names the first slot whose frame breaks a
-//! rule, and the least rule that it breaks; no other slot or rule could have been named
-//! ([`refusals_are_one`]).
+//! [`frames_of`] makes the pass. It tells what is known at each slot of registers and of the stack's words, also for
+//! code that is refused; [`verify`] answers the frames of typable code only. Code is typable if there is a table with a
+//! frame for each instruction that a path leads to, such that no instruction breaks a rule under its frame and all that
+//! leaves it fits the frames where it leads (`specs/Typing`). Such code never comes to a fault
+//! ([`typed_calls_are_shown`]). A refusal names the first slot whose frame breaks a rule, and the least rule that it
+//! breaks; no other slot or rule could be named ([`refusals_are_one`]).
 //!
-//! [`entry`] is what is known as a call begins, and [`join`] what two frames say both.
+//! [`entry`] is the frame of the entry, and [`join`] keeps what two frames both say.
 //!
-//! [`transfer`] is the rule of one instruction: it answers the frames that leave it on its two ways, none
-//! on a way that no number takes, or the least of the rules V3 to V10 that is broken. `specs/Rules` says
-//! which that is and `specs/Leaving` what leaves; [`rules_are_exact`] that both say what the definition of
-//! form 3 says, which knows only whether something leaves. Its parts have each the equation that its
-//! definition is: [`alu_rule`] and [`alu_kind`] for arithmetic, [`shown`] for conditions, [`load_rule`],
-//! [`loaded`], [`store_rule`] and [`stored`] for memory, [`call_rule`] and [`answered`] for helpers.
+//! [`transfer`] applies the rules to one instruction: it answers the frames that leave on its two ways, none on a way
+//! that no number takes, or the least of the rules V3 to V10 that is broken. `specs/Rules` defines that rule and
+//! `specs/Leaving` the frames that leave. [`rules_are_exact`] says that both agree with the definition of form 3, which
+//! defines only whether frames leave, and which. Each part of [`transfer`] promises the equation that is its
+//! definition: [`alu_rule`] and [`alu_kind`] for arithmetic, [`shown`] for conditions, [`load_rule`], [`loaded`],
+//! [`store_rule`] and [`stored`] for memory, [`call_rule`] and [`answered`] for helpers.
 //!
-//! What a pass needs of a form of images stands by itself, so that another form can be verified the same
-//! way. `specs/Form` says what a form gives of a slot and which laws it has to keep, and `specs/Least`
-//! what the least typing and a refusal are. `proofs/Passes` has the lemmas: what a join and a slot do to
-//! the least typing, and that a refusal is the only one. No form changes how [`lay_out`] puts
-//! instructions slot by slot, and how [`leads`] judges where an instruction leads, by the rules V1 and V2.
+//! The part of the pass that any form of images needs is separate, so another form can be verified the same way.
+//! `specs/Form` says what a form gives for a slot and which laws it has to keep, and `specs/Least` defines the least
+//! typing and a refusal. `proofs/Passes` has the lemmas: how a join and a slot change the least typing, and that there
+//! is only one refusal. Every form shares [`lay_out`], which puts instructions slot by slot, and [`leads`], which
+//! judges where an instruction leads, by the rules V1 and V2.
+//!
+//! Form 3 takes all that forms 1 and 2 take. A frame of theirs is read as one of form 3 (`specs/FlatFrames`): a number
+//! is any number, the message's length a number up to 256, a place that one place, and each word of the stack any
+//! number. Read so, a frame that says more still does ([`order_is_kept`]), an instruction that breaks no rule breaks
+//! none of form 3, and what leaves it there says no less ([`rules_are_subsumed`]); so a typing is one of form 3, of the
+//! same code with the same state ([`typings_are_subsumed`]).
 //!
 //! ```
 //! let frames = verify(alloc, &code, 64)?;
 //! let cells = &frames.table[0]; // what is known as a call begins
 //! let slots = lay_out(alloc, &code)?;
-//! // the first instruction jumps to one that begins at a later slot, and another begins behind it
+//! // the first instruction jumps to one that begins at a later slot, and another begins after it
 //! leads(&slots, 0, &code[0])?;
 //! // r3 is a number from 0 to 256, and r2 the state's first byte: their sum is a place of the state
 //! let add = Insn::Alu { op: AluOp::Add, width: Width::W64, dst: r2, operand: Operand::Reg(r3) };
@@ -44,6 +49,7 @@ mod call;
 mod distance;
 mod exactness;
 mod fault;
+mod flat_laws;
 mod frame;
 mod framing;
 mod judging;
@@ -65,6 +71,7 @@ pub use alu::{alu_kind, alu_rule, any_number, extended, operand_kind};
 pub use call::{answered, call_rule};
 pub use exactness::rules_are_exact;
 pub use fault::VerifyError;
+pub use flat_laws::{order_is_kept, rules_are_subsumed, typings_are_subsumed};
 pub use frame::{entry, join};
 pub use framing::{Frames, frames_of};
 pub use laws::{form_3_keeps_laws, refusals_are_one, typed_calls_are_shown, typings_are_typings};

@@ -13,7 +13,7 @@ use crate::rules::{lesser, number_rule, unless, value_rule};
 use regtypes::{Region, Rule};
 use spans::{Cells, Kind, Reach, Span};
 
-/// What is known of a cell; nothing behind the last.
+/// The kind of a cell; after the last cell nothing is known.
 fn kind_in(frame: &Cells, cell: usize) -> Kind
     ensures { result ≡ kind_at frame.now.kinds cell }
 {
@@ -24,7 +24,7 @@ fn kind_in(frame: &Cells, cell: usize) -> Kind
     }
 }
 
-/// A load from the stack, inside it.
+/// The rule that a load inside the stack breaks.
 fn read_rule(frame: &Cells, reach: Reach, offset: i16, bytes: u16) -> Option<Rule>
     ensures { result ≡ read_rule (whole_word reach offset bytes) (kind_at frame.now.kinds) reach offset bytes }
 {
@@ -34,7 +34,7 @@ fn read_rule(frame: &Cells, reach: Reach, offset: i16, bytes: u16) -> Option<Rul
     }
 }
 
-/// A store to the stack, inside it.
+/// The rule that a store inside the stack breaks.
 fn write_rule(frame: &Cells, kind: Kind, reach: Reach, offset: i16, bytes: u16) -> Option<Rule>
     ensures { result ≡ write_rule (whole_word reach offset bytes) (kind_at frame.now.kinds) kind reach offset bytes }
 {
@@ -44,7 +44,7 @@ fn write_rule(frame: &Cells, kind: Kind, reach: Reach, offset: i16, bytes: u16) 
     }
 }
 
-/// What a load through a base of this kind breaks.
+/// The rule that a load through a base of this kind breaks.
 pub fn load_rule(state_len: u16, frame: &Cells, base: Kind, offset: i16, bytes: u16) -> Option<Rule>
     ensures { result ≡ load_rule state_len (kind_at frame.now.kinds) base offset bytes }
 {
@@ -65,7 +65,7 @@ pub fn load_rule(state_len: u16, frame: &Cells, base: Kind, offset: i16, bytes: 
     }
 }
 
-/// A number of so many bytes, at most eight.
+/// A number of this many bytes, at most eight.
 fn loaded_number(bytes: u16) -> Kind
     requires { bytes ≤ 8 }
     ensures { result ≡ Kind.Num (whole (8 * bytes)) }
@@ -78,7 +78,7 @@ fn loaded_number(bytes: u16) -> Kind
     Kind::Num(Span { lo: 0, hi })
 }
 
-/// What a load from the stack gives: of a whole word its kind.
+/// The kind that a load from the stack gives; a whole word gives its own kind.
 fn read(frame: &Cells, reach: Reach, offset: i16, bytes: u16) -> Kind
     requires { bytes ≤ 8 }
     ensures { result ≡ word_kind (whole_word reach offset bytes) (kind_at frame.now.kinds) bytes }
@@ -89,7 +89,7 @@ fn read(frame: &Cells, reach: Reach, offset: i16, bytes: u16) -> Kind
     }
 }
 
-/// What a load gives that breaks no rule.
+/// The kind that a load gives if it breaks no rule.
 pub fn loaded(frame: &Cells, base: Kind, offset: i16, bytes: u16) -> Kind
     requires { bytes ≤ 8 }
     ensures { result ≡ loaded_kind (kind_at frame.now.kinds) base offset bytes }
@@ -103,7 +103,7 @@ pub fn loaded(frame: &Cells, base: Kind, offset: i16, bytes: u16) -> Kind
     }
 }
 
-/// What a store of a kind breaks, through a base of another.
+/// The rule that a store of a kind through a base of another kind breaks.
 pub fn store_rule(
     state_len: u16,
     frame: &Cells,
@@ -151,7 +151,7 @@ fn with_cell(frame: &Cells, cell: usize, kind: Kind) -> Cells
     Cells { kinds }
 }
 
-/// What a store to the stack leaves, inside it.
+/// The frame that a store inside the stack leaves.
 fn written(frame: &Cells, kind: Kind, reach: Reach, offset: i16, bytes: u16) -> Cells
     requires some { reach.lo ≤ℤ reach.hi }
     requires inside { is_inside 512 reach offset bytes ≡ true }
@@ -163,7 +163,7 @@ fn written(frame: &Cells, kind: Kind, reach: Reach, offset: i16, bytes: u16) -> 
     }
 }
 
-/// What a store leaves that breaks no rule.
+/// The frame that a store leaves if it breaks no rule.
 pub fn stored(frame: &Cells, kind: Kind, base: Kind, offset: i16, bytes: u16) -> Cells
     requires { StaysInside base offset bytes }
     ensures { kind_at result.kinds ≡ stored_frame (kind_at frame.now.kinds) kind base offset bytes }

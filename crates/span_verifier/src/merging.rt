@@ -1,9 +1,10 @@
-//! What leaves an instruction is joined into what slots have.
+//! Joins what leaves an instruction into the frames of slots.
 
 ghost use Rattle.std.specs.Prelude.{◌≡◌, ◌<◌, ◌+◌, ◌≤ℤ◌, pos, OnOk, length};
 ghost use Rattle.std.specs.Option.{option_map};
 ghost use Rattle.decode.specs.Slots.{size_of};
-ghost use Rattle.span_calls.specs.Typing.{distance, target};
+ghost use Rattle.span_calls.specs.Typing.{target};
+ghost use Rattle.decode.specs.Distance.{distance};
 ghost use Rattle.span_verifier.specs.Transfer.{frame_of, frames_of};
 ghost use Rattle.span_verifier.specs.Inside.Pass.{IsMerged, IsSpread, IsWayMerged, IsWayWithin};
 ghost use Rattle.span_verifier.specs.Typing.{table_of};
@@ -15,7 +16,7 @@ use limits::SLOTS;
 use spans::Cells;
 use std::alloc::{AllocError, Global};
 
-/// Joins a frame into what a slot has. Only a slot that had none takes memory.
+/// Joins a frame into the frame of a slot. It takes memory only if the slot had none.
 fn merge(
     alloc: Global,
     table: &mut [Option<Box<Cells>>],
@@ -35,7 +36,7 @@ fn merge(
     Ok(())
 }
 
-/// Joins what leaves on a way, where something does.
+/// Joins the frame that leaves on a way, if there is one.
 fn merge_way(
     alloc: Global,
     table: &mut [Option<Box<Cells>>],
@@ -52,7 +53,7 @@ fn merge_way(
     }
 }
 
-/// How many slots from the next one an instruction jumps, 0 where it doesn't.
+/// How many slots from the next one an instruction jumps; 0 if it doesn't.
 fn distance(insn: &Insn) -> i32
     ensures { result ≡ distance insn.now }
 {
@@ -73,7 +74,7 @@ fn target(slot: usize, insn: &Insn) -> usize
     slot + 1 + distance(insn) as usize
 }
 
-/// Joins what leaves an instruction on both ways into what the slots have that they lead to.
+/// Joins the frames that leave an instruction into those of the slots where its two ways lead.
 pub fn spread(
     alloc: Global,
     table: &mut [Option<Box<Cells>>],

@@ -9,7 +9,7 @@ use crate::results::greatest;
 use decode::{Condition, Width};
 use spans::Span;
 
-/// What is known of dst and of the operand; `None` where nothing takes the way.
+/// The spans of dst and of the operand; `None` if no step takes the way.
 pub type SpanPair = Option<(Span, Span)>;
 
 fn unless_empty(a: Span, b: Span) -> SpanPair
@@ -138,7 +138,7 @@ fn where_met(condition: Condition, width: Width, a: Span, b: Span) -> SpanPair
     }
 }
 
-/// The condition that holds where this one doesn't, if there is one.
+/// The condition that holds if this one doesn't, if there is one.
 pub fn opposite(condition: Condition) -> Option<Condition>
     ensures { result ≡ opposite condition }
 {
@@ -157,8 +157,8 @@ pub fn opposite(condition: Condition) -> Option<Condition>
     }
 }
 
-/// What a jump of this width shows of two registers where its condition is met: of the low bits of
-/// longer numbers nothing is known.
+/// What a jump of this width shows of two registers if its condition is met; of numbers longer than the width nothing
+/// is shown.
 pub fn shown(condition: Option<Condition>, width: Width, a: Span, b: Span) -> SpanPair
     ensures { result ≡ shown condition (bits_of width) a b }
 {

@@ -1,4 +1,4 @@
-//! Where the results of operations lie.
+//! The spans of the results of operations.
 
 ghost use Rattle.std.specs.Prelude.{◌≡◌, ◌<◌, ◌-◌, ◌^◌};
 ghost use Rattle.decode.specs.declared.insn.AluOp.TheVariants as alu;
@@ -38,7 +38,7 @@ pub fn whole(width: Width) -> Span
     }
 }
 
-/// From one number to another where both are words of this width, else all of its words.
+/// The span from one number to another if both are words of this width, else all words of this width.
 pub fn bounded(width: Width, lo: u64, hi: u64) -> Span
     ensures { result ≡ bounded (bits_of width) lo hi }
 {
@@ -123,7 +123,7 @@ pub fn power(count: u64) -> u64
     1 << count
 }
 
-/// The least run of ones that is at least `top`, of at most as many bits as a word has.
+/// The least 2 ^ k - 1 that is at least `top`, with no more bits than a word of this width.
 fn ones(width: Width, top: u64) -> u64
     ensures { result ≡ ones (bits_of width) top }
 {
@@ -164,7 +164,7 @@ fn shifted_right(width: Width, a: Span, b: Span) -> Span
     }
 }
 
-/// A shift that keeps the sign, of words that have none.
+/// The span of a shift that keeps the sign, if no word is negative.
 fn shifted_signed(width: Width, a: Span, b: Span) -> Span
     requires a { IsSpan (bits_of width) a }
     requires b { IsSpan (bits_of width) b }
@@ -177,8 +177,7 @@ fn shifted_signed(width: Width, a: Span, b: Span) -> Span
     }
 }
 
-/// Where the results lie of an operation on words of this width, the first in `a` and the second in
-/// `b`.
+/// The span of the results of an operation on words of this width, the first from `a` and the second from `b`.
 pub fn result(op: AluOp, width: Width, a: Span, b: Span) -> Span
     requires a { IsSpan (bits_of width) a }
     requires b { IsSpan (bits_of width) b }

@@ -1,4 +1,4 @@
-//! The rules that a kind of a register or of a word breaks.
+//! The rules that a kind breaks.
 
 ghost use Rattle.std.specs.Prelude.{◌≡◌};
 ghost use Rattle.span_verifier.specs.Rules.{argument_rule, exit_rule, lesser, number_rule, unless, value_rule};
@@ -6,7 +6,7 @@ ghost use Rattle.span_verifier.specs.Rules.{argument_rule, exit_rule, lesser, nu
 use regtypes::Rule;
 use spans::Kind;
 
-/// The lesser of two rules, where both are broken.
+/// The lesser of two rules, if both are broken.
 pub fn lesser(first: Option<Rule>, second: Option<Rule>) -> Option<Rule>
     ensures { result ≡ lesser first second }
 {
@@ -25,7 +25,7 @@ pub fn lesser(first: Option<Rule>, second: Option<Rule>) -> Option<Rule>
     }
 }
 
-/// The rule, where a test fails.
+/// The rule, if a test fails.
 pub fn unless(holds: bool, rule: Rule) -> Option<Rule>
     ensures { result ≡ unless holds rule }
 {
@@ -53,7 +53,7 @@ pub fn value_rule(kind: Kind) -> Option<Rule>
     }
 }
 
-/// A helper's argument has to be what it wants.
+/// A helper's argument has to be what the helper takes.
 pub fn argument_rule(rule: Option<Rule>) -> Option<Rule>
     ensures { result ≡ argument_rule rule }
 {

@@ -1,4 +1,4 @@
-//! Sums, of which one part may be a place.
+//! Sums, one part of which may be a place.
 
 ghost use Rattle.std.specs.Prelude.{◌≡◌, ◌≤◌, ◌≤ℤ◌, pos, unwrap_or};
 ghost use Rattle.operations.specs.Words.{bits_of};
@@ -24,14 +24,14 @@ pub fn low_span(width: Width, span: Span) -> Span
     }
 }
 
-/// What places break of which the distances lie from one number to another.
+/// The rule that places break if their distances are from one number to another.
 fn near_rule(lo: i128, hi: i128) -> Option<Rule>
     ensures { result ≡ near_rule (record { lo = lo; hi = hi }) }
 {
     unless(-32768 <= lo && hi <= 32767, Rule::V6)
 }
 
-/// Places of which the distances lie from one number to another; nothing where one may be too far off.
+/// The places with distances from one number to another; nothing is known if one is too far off.
 fn near_place(region: Region, lo: i128, hi: i128) -> Kind
     requires { lo ≤ℤ hi }
     ensures { result ≡ unwrap_or (near_place region (record { lo = lo; hi = hi })) Kind.Unset }
@@ -51,7 +51,7 @@ fn rule_by(reach: Reach, by: Span) -> Option<Rule>
     near_rule(further(reach.lo, by.lo), further(reach.hi, by.hi))
 }
 
-/// A place that a number moves; nothing where it may get too far off.
+/// A place that a number moves; nothing is known if it may get too far off.
 fn place_by(region: Region, reach: Reach, by: Span) -> Kind
     requires reach { reach.lo ≤ℤ reach.hi }
     requires by { by.lo ≤ by.hi }
@@ -60,7 +60,7 @@ fn place_by(region: Region, reach: Reach, by: Span) -> Kind
     near_place(region, further(reach.lo, by.lo), further(reach.hi, by.hi))
 }
 
-/// What a sum of two registers breaks.
+/// The rule that a sum of two registers breaks.
 pub fn sum_rule(a: Kind, b: Kind) -> Option<Rule>
     ensures { result ≡ sum_rule a b }
 {
@@ -79,7 +79,7 @@ pub fn sum_rule(a: Kind, b: Kind) -> Option<Rule>
     }
 }
 
-/// What a sum of two registers is.
+/// The kind of a sum of two registers.
 pub fn summed(a: Kind, b: Kind) -> Kind
     requires a { IsKind a }
     requires b { IsKind b }
@@ -99,7 +99,7 @@ pub fn summed(a: Kind, b: Kind) -> Kind
     }
 }
 
-/// What a sum with a whole number breaks.
+/// The rule that a sum with a whole number breaks.
 pub fn move_rule(width: Width, by: i64, kind: Kind) -> Option<Rule>
     ensures { result ≡ move_rule width by kind }
 {
@@ -113,7 +113,7 @@ pub fn move_rule(width: Width, by: i64, kind: Kind) -> Option<Rule>
     }
 }
 
-/// Words that are moved by a whole number.
+/// The span of words after a whole number is added.
 fn moved_span(width: Width, by: i64, span: Span) -> Span
     requires { IsSpan (bits_of width) span }
     ensures { result ≡ moved_span (bits_of width) by span }
@@ -136,7 +136,7 @@ fn moved_span(width: Width, by: i64, span: Span) -> Span
     }
 }
 
-/// What a sum with a whole number is.
+/// The kind of a sum with a whole number.
 pub fn moved(width: Width, by: i64, kind: Kind) -> Kind
     requires { IsKind kind }
     ensures { result ≡ unwrap_or (moved_kind width by kind) Kind.Unset }

@@ -13,8 +13,8 @@ use limits::SLOTS;
 use regtypes::Rule;
 use std::alloc::Global;
 
-/// What is known at each slot of these instructions with a state of this length, if they are typable in
-/// form 3. They are given in at most 1,024 slots.
+/// What is known at each slot of these instructions with a state of this length, if they are typable in form 3. The
+/// code has at most 1,024 slots.
 pub fn verify(alloc: Global, code: &[Insn], state_len: u16) -> Result<Frames, VerifyError>
     requires slots { length (slots_of code.now) ≤ SLOTS }
     requires fits { AllByRecursion Fits code.now }

@@ -1,11 +1,11 @@
--- What loads and stores ask of a frame, and what they leave.
+-- What loads and stores need of a frame, and what they leave.
 use Rattle.std.specs.Prelude.{◌≡◌, ℕ, ◌+◌, ◌-◌, ◌*◌, ◌/◌, ◌%◌, ◌==◌, ◌&&◌, nat_lt, nat_le, int_lt, int_le, ℤ, pos, negsuc, ◌+ℤ◌, Bool, true, Option, Some, None, if◌then◌else◌}
 use Rattle.regtypes.specs.declared.frame.Region.{Region}
 use Rattle.regtypes.specs.declared.frame.Region.TheVariants.{Message, State, Stack}
 use Rattle.spans.specs.Span.{whole}
 use Rattle.spans.specs.Frame.{Reach, Kind, Unset, Num, Place, is_num, is_set, Frame, with_kind}
 
--- how many bytes a region has: the message 512, zeros behind its own, the state `state`, the stack 512
+-- how many bytes a region has: the message 512 with zeros after its own bytes, the state `state`, the stack 512
 abbrev pub region_size : ℕ → Region → ℕ
 region_size state Message = 512
 region_size state State = state
@@ -13,16 +13,16 @@ region_size state Stack = 512
 
 -- ---- an access of n bytes, o bytes from one of the places of a reach
 
--- from each of them it lies in a region of so many bytes
+-- from each of them the bytes are in a region of this size
 abbrev pub is_inside : ℕ → Reach → ℤ → ℕ → Bool
 is_inside size s o n = int_le (pos 0) (s.lo +ℤ o) && int_le (s.hi +ℤ o +ℤ pos n) (pos size)
 
--- the cell of the word that begins at this byte of the stack; None where none does
+-- the cell of the word that begins at this byte of the stack; None if no word begins there
 abbrev pub cell_at : ℤ → Option ℕ
 cell_at (pos p) = if p % 8 == 0 then Some (11 + p / 8) else None
 cell_at (negsuc p) = None
 
--- the cell whose word the access is, as a whole, where it has one place alone; else None
+-- the cell of the word that the access is, if it is a whole word and has only one place; else None
 abbrev pub whole_word : Reach → ℤ → ℕ → Option ℕ
 whole_word s o n = if int_le s.hi s.lo && n == 8 then cell_at (s.lo +ℤ o) else None
 
@@ -38,7 +38,7 @@ AreNumbers f s o n = (c : ℕ) → is_reached s o n c ≡ true → is_num (f c) 
 
 -- ---- loads
 
--- a load of the stack: a whole word has to be set, and else all that it may reach numbers
+-- a load from the stack: a whole word has to be set; for any other load all words that it may reach have to be numbers
 abbrev pub IsReadable : Option ℕ → Frame → Reach → ℤ → ℕ → Type 0
 IsReadable (Some c) f s o n = is_set (f c) ≡ true
 IsReadable None f s o n = AreNumbers f s o n
@@ -51,7 +51,7 @@ MayLoad state f (Place Message s) o n = is_inside 512 s o n ≡ true
 MayLoad state f (Place State s) o n = is_inside state s o n ≡ true
 MayLoad state f (Place Stack s) o n = (is_inside 512 s o n ≡ true) × IsReadable (whole_word s o n) f s o n
 
--- a whole word of the stack gives its kind, a place too; else the load gives a number of n bytes
+-- the load of a whole word gives its kind, also a place; any other load gives a number of n bytes
 abbrev pub word_kind : Option ℕ → Frame → ℕ → Kind
 word_kind (Some c) f n = f c
 word_kind None f n = Num (whole (8 * n))
@@ -66,12 +66,13 @@ loaded_kind f Unset o n = Num (whole (8 * n))
 
 -- ---- stores
 
--- a store of a kind in the stack: into a whole word whatever is set; else a number, and only over numbers
+-- a store of a kind in the stack: a whole word takes whatever is set; any other store takes a number, and only over
+-- numbers
 abbrev pub IsWritable : Option ℕ → Frame → Kind → Reach → ℤ → ℕ → Type 0
 IsWritable (Some c) f k s o n = is_set k ≡ true
 IsWritable None f k s o n = (is_num k ≡ true) × AreNumbers f s o n
 
--- a store of a kind through a base of kind a breaks no rule; no handler writes the message
+-- a store of a kind through a base of kind a breaks no rule; no handler may write the message
 abbrev pub MayStore : ℕ → Frame → Kind → Kind → ℤ → ℕ → Type 0
 MayStore state f k Unset o n = ⊥
 MayStore state f k (Num s) o n = ⊥
@@ -79,16 +80,16 @@ MayStore state f k (Place Message s) o n = ⊥
 MayStore state f k (Place State s) o n = (is_inside state s o n ≡ true) × (is_num k ≡ true)
 MayStore state f k (Place Stack s) o n = (is_inside 512 s o n ≡ true) × IsWritable (whole_word s o n) f k s o n
 
--- each word that may be reached can be any number then
+-- each word that may be reached can then be any number
 abbrev pub wiped : Frame → Reach → ℤ → ℕ → Frame
 wiped f s o n c = if is_reached s o n c then Num (whole 64) else f c
 
--- a whole word gets the kind that is stored, a place too
+-- a whole word gets the stored kind, also a place
 abbrev pub written_frame : Option ℕ → Frame → Kind → Reach → ℤ → ℕ → Frame
 written_frame (Some c) f k s o n = with_kind f c k
 written_frame None f k s o n = wiped f s o n
 
--- what a store leaves: of message and state nothing is known
+-- what a store leaves; of the bytes of message and state no frame says anything
 abbrev pub stored_frame : Frame → Kind → Kind → ℤ → ℕ → Frame
 stored_frame f k (Place Stack s) o n = written_frame (whole_word s o n) f k s o n
 stored_frame f k (Place Message s) o n = f

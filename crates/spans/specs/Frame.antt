@@ -1,4 +1,4 @@
--- What is known of the registers and of the words of the stack, and its order.
+-- What is known of the registers and of the stack's words, and its order.
 use Rattle.std.specs.Prelude.{◌≡◌, ℕ, List, slice_index_or, nat_lt, int_le, ◌==◌, ◌&&◌, ℤ, pos, ◌≤ℤ◌, Bool, true, false, if◌then◌else◌}
 use Rattle.regtypes.specs.declared.frame.Region.TheVariants.{Message, State, Stack}
 pub use Rattle.spans.specs.declared.kind.Reach.{Reach}
@@ -6,7 +6,7 @@ pub use Rattle.spans.specs.declared.kind.Kind.{Kind}
 pub use Rattle.spans.specs.declared.kind.Kind.TheVariants.{Unset, Num, Place}
 use Rattle.spans.specs.Span.{span, whole, IsSpan, Within, joined_span}
 
--- one place alone
+-- one place only
 abbrev pub at_place : ℤ → Reach
 at_place k = record { lo = k; hi = k }
 
@@ -18,13 +18,13 @@ WithinReach s t = (t.lo ≤ℤ s.lo) × (s.hi ≤ℤ t.hi)
 abbrev pub joined_reach : Reach → Reach → Reach
 joined_reach s t = record { lo = if int_le s.lo t.lo then s.lo else t.lo; hi = if int_le s.hi t.hi then t.hi else s.hi }
 
--- a kind of numbers or places has one, and its numbers are words of 64 bits
+-- a kind has at least one value, and its numbers are words of 64 bits
 abbrev pub IsKind : Kind → Type 0
 IsKind Unset = Unit {0}
 IsKind (Num s) = IsSpan 64 s
 IsKind (Place r s) = s.lo ≤ℤ s.hi
 
--- what the second kind says, the first says too
+-- the first kind says what the second says
 abbrev pub LeqKind : Kind → Kind → Type 0
 LeqKind a Unset = Unit {0}
 LeqKind Unset (Num t) = ⊥
@@ -34,7 +34,7 @@ LeqKind Unset (Place q t) = ⊥
 LeqKind (Num s) (Place q t) = ⊥
 LeqKind (Place r s) (Place q t) = (r ≡ q) × WithinReach s t
 
--- what both kinds say: the numbers of both, or the places of both where they are of one region
+-- what both kinds say: the numbers of both, or the places of both if they have one region
 abbrev pub joined_kind : Kind → Kind → Kind
 joined_kind (Num s) (Num t) = Num (joined_span s t)
 joined_kind (Place Message s) (Place Message t) = Place Message (joined_reach s t)
@@ -56,12 +56,12 @@ is_set (Place r s) = true
 
 -- ---- frames
 
--- the kind of a cell in a list of them; behind its end nothing is known
+-- the kind of a cell in a list of them; after the end of the list nothing is known
 abbrev pub kind_at : List Kind → ℕ → Kind
 kind_at kinds c = slice_index_or kinds c Unset
 
 -- the kind of each cell: cells 0 to 10 are the registers, cells 11 to 74 the 64 words of the stack from its first byte
--- on (no instruction reaches a cell behind them)
+-- on (no instruction reaches a later cell)
 abbrev pub Frame : Type 0
 Frame = ℕ → Kind
 
@@ -69,7 +69,7 @@ Frame = ℕ → Kind
 abbrev pub IsFrame : Frame → Type 0
 IsFrame f = (c : ℕ) → IsKind (f c)
 
--- what the second frame says, the first says too
+-- the first frame says what the second says
 abbrev pub Leq : Frame → Frame → Type 0
 Leq f g = (c : ℕ) → LeqKind (f c) (g c)
 
@@ -81,8 +81,8 @@ joined f g c = joined_kind (f c) (g c)
 abbrev pub with_kind : Frame → ℕ → Kind → Frame
 with_kind f c k d = if d == c then k else f d
 
--- as a call begins: r1 is the message, r2 the state, r3 how many bytes the message has, r10 the end of the stack, whose
--- 64 words are numbers; nothing else is set
+-- the entry: r1 is the message, r2 the state, r3 the message's length, r10 the end of the stack, whose 64 words are
+-- numbers; nothing else is set
 abbrev pub entry_frame : Frame
 entry_frame d =
     if d == 1 then Place Message (at_place (pos 0))

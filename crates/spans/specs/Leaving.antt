@@ -1,5 +1,5 @@
--- What an instruction asks of a frame, and the frames that it leaves. The rules V1, V2 and V4 (docs/FORMATS.md) ask no
--- frame, and are not among these.
+-- What an instruction needs of a frame, and the frames that leave it. The rules V1, V2 and V4 (docs/FORMATS.md) need no
+-- frame, and are not here.
 use Rattle.std.specs.Prelude.{◌≡◌, ℕ, zero, suc, ◌+◌, ◌-◌, ◌%◌, ◌^◌, ◌==◌, ◌&&◌, nat_lt, nat_le, int_le, ℤ, pos, negsuc, neg_ℤ, ◌+ℤ◌, true, Option, Some, None, if◌then◌else◌, min}
 use Rattle.std.specs.Option.{option_map}
 use Rattle.decode.specs.declared.insn.Reg.{Reg}
@@ -21,10 +21,11 @@ use Rattle.spans.specs.Narrowing.{SpanPair, opposite, shown}
 use Rattle.spans.specs.Frame.{Reach, Kind, Unset, Num, Place, Frame, Leq, is_num, with_kind}
 use Rattle.spans.specs.Access.{region_size, is_inside, AreNumbers, MayLoad, loaded_kind, MayStore, stored_frame}
 
--- ---- arithmetic: None where a rule is broken
+-- ---- arithmetic: None if a rule is broken
 
--- what arithmetic does with dst and its operand: it copies the operand, a place too; it adds two registers, one of them a
--- place maybe; it moves dst by a whole number, a place too; it sets dst to the operand as a word, or computes a word
+-- what arithmetic does with dst and its operand: it copies the operand, also a place; it adds two registers, one of
+-- which may be a place; it moves dst by a whole number, also a place; it sets dst to the operand as a word; or it
+-- computes a word
 pub data AluForm : Type 0 where
   Copies : AluForm
   Sums : AluForm
@@ -46,38 +47,38 @@ abbrev pub low_span : Width → Span → Span
 low_span W32 s = bounded 32 s.lo s.hi
 low_span W64 s = s
 
--- what is known of an operand: of an immediate which word it is
+-- the kind of an operand; of an immediate it is the one word
 abbrev pub operand_kind : Width → Operand → Frame → Kind
 operand_kind width (operand.Imm z) f = Num (one (word_of z % 2 ^ bits_of width))
 operand_kind width (operand.Reg r) f = f r.number
 
--- a span, if that is what is known
+-- applies to a span, if the kind is one
 abbrev pub from_span : (Span → Span) → Kind → Option Kind
 from_span make (Num s) = Some (Num (make s))
 from_span make (Place r s) = None
 from_span make Unset = None
 
--- two spans, if that is what is known of dst and of the operand
+-- applies to two spans, if both kinds are one
 abbrev pub from_spans : (Span → Span → Span) → Kind → Kind → Option Kind
 from_spans make (Num s) b = from_span (make s) b
 from_spans make (Place r s) b = None
 from_spans make Unset b = None
 
--- whatever is set
+-- any kind that is set
 abbrev pub set_kind : Kind → Option Kind
 set_kind Unset = None
 set_kind (Num s) = Some (Num s)
 set_kind (Place r s) = Some (Place r s)
 
--- places of which all are at most 16 bits and a sign from their region's first byte
+-- places with distances from their region's first byte that fit 16 bits and a sign
 abbrev pub near_place : Region → Reach → Option Kind
 near_place r s = if int_le (negsuc 32767) s.lo && int_le s.hi (pos 32767) then Some (Place r s) else None
 
--- each distance grows by a number from lo to hi
+-- each distance, after a number from lo to hi is added
 abbrev pub moved_reach : Reach → ℤ → ℤ → Reach
 moved_reach s lo hi = record { lo = s.lo +ℤ lo; hi = s.hi +ℤ hi }
 
--- a sum of two registers: of numbers, or of a place and a number, which counts as it stands, unsigned
+-- a sum of two registers: of two numbers, or of a place and a number, which is read as unsigned
 abbrev pub summed_kind : Kind → Kind → Option Kind
 summed_kind (Num s) (Num t) = Some (Num (result_span alu.Add 64 s t))
 summed_kind (Place r s) (Num t) = near_place r (moved_reach s (pos t.lo) (pos t.hi))
@@ -87,19 +88,19 @@ summed_kind Unset b = None
 summed_kind (Num s) Unset = None
 summed_kind (Place r s) Unset = None
 
--- words of n bits and a whole number that is added to them
+-- words of n bits after a whole number is added
 abbrev pub moved_span : ℕ → ℤ → Span → Span
 moved_span n (pos m) s = bounded n (s.lo + m) (s.hi + m)
 moved_span n (negsuc m) s = if nat_le (suc m) s.lo then span (s.lo - suc m) (s.hi - suc m) else whole n
 
--- dst moved by a whole number: a place by 64 bits alone
+-- dst after a whole number is added; a place only by a 64-bit operation
 abbrev pub moved_kind : Width → ℤ → Kind → Option Kind
 moved_kind width z (Num s) = Some (Num (moved_span (bits_of width) z (low_span width s)))
 moved_kind W64 z (Place r s) = near_place r (moved_reach s z z)
 moved_kind W32 z (Place r s) = None
 moved_kind width z Unset = None
 
--- what arithmetic leaves in dst, of which a is known, and of its operand b
+-- what arithmetic leaves in dst, whose kind is a, with an operand of kind b
 abbrev pub result_kind : AluForm → Kind → Kind → Option Kind
 result_kind Copies a b = set_kind b
 result_kind Sums a b = summed_kind a b
@@ -108,31 +109,31 @@ result_kind (Sets width) a b = from_span (low_span width) b
 result_kind (Computes op width) a b =
     from_spans (λ s t. result_span op (bits_of width) (low_span width s) (low_span width t)) a b
 
--- the low k bits as signed, in a word of n bits: the same number, where none of them is negative
+-- the low k bits as signed, in a word of n bits: the same number if none of them is negative
 abbrev pub extended_span : ℕ → ℕ → Span → Span
 extended_span k n s = if nat_lt s.hi (2 ^ (k - 1)) then s else whole n
 
 -- ---- jumps
 
--- dst and a source register hold such numbers then; of one register that is compared with itself no more is known
+-- dst and a source register with these spans; for a register that is compared with itself nothing more is known
 abbrev pub narrowed_frame : Frame → Reg → Operand → SpanPair → Frame
 narrowed_frame f dst (operand.Imm z) p = with_kind f dst.number (Num p.0)
 narrowed_frame f dst (operand.Reg r) p =
     if dst.number == r.number then f else with_kind (with_kind f dst.number (Num p.0)) r.number (Num p.1)
 
--- the frame that leaves where the condition is met; None where no numbers of these spans meet it
+-- the frame that leaves if the condition is met; None if no numbers of these spans meet it
 abbrev pub way : Option Condition → Width → Reg → Operand → Frame → Span → Span → Option Frame
 way condition width dst o f a b = option_map (narrowed_frame f dst o) (shown condition (bits_of width) a b)
 
 -- ---- helpers
 
--- n bytes from a place on lie in its region, from each of its positions; in the stack they are numbers
+-- n bytes from a place on are in its region, for each of its distances; in the stack they are numbers
 abbrev pub HasPayload : ℕ → Frame → Kind → ℕ → Type 0
 HasPayload state f Unset n = ⊥
 HasPayload state f (Num s) n = ⊥
 HasPayload state f (Place r s) n = (is_inside (region_size state r) s (pos 0) n ≡ true) × (r ≡ Stack → AreNumbers f s (pos 0) n)
 
--- the same of as many bytes as a number says, and of 256 where it may be greater
+-- the same for as many bytes as a number says, and for 256 if it may be greater
 abbrev pub HasSized : ℕ → Frame → Kind → Kind → Type 0
 HasSized state f p Unset = ⊥
 HasSized state f p (Place r s) = ⊥
@@ -148,21 +149,22 @@ HasArguments state f (pos (suc (suc (suc (suc (suc zero)))))) = (is_num (f 1) �
 HasArguments state f (pos (suc (suc (suc (suc (suc (suc zero))))))) = HasSized state f (f 1) (f 2)
 HasArguments state f z = ⊥
 
--- r0 is the answer, at most 15, and r1 to r5 are unset (the BPF calling convention); words of the stack stay
+-- r0 is the answer, at most 15, and r1 to r5 are unset (the BPF calling convention); the stack's words stay
 abbrev pub behind_helper : Frame → Frame
 behind_helper f c = if c == 0 then Num (span 0 15) else if nat_lt c 6 then Unset else f c
 
 -- ---- instructions
 
--- the frame that leaves to the instruction behind, and the one that leaves by a jump; None where nothing goes that way
+-- the frame that leaves to the next instruction, and the one that leaves by a jump; None if no step goes that way
 abbrev pub Ways : Type 0
 Ways = Option Frame × Option Frame
 
--- dst gets this kind, and no rule is broken
+-- dst gets this kind if there is one, and then no rule is broken
 abbrev pub Gives : Option Kind → Frame → Reg → Ways → Type 0
 Gives k f dst w = (h : Kind) × (k ≡ Some h) × (w ≡ (Some (with_kind f dst.number h), None))
 
--- an instruction breaks none of the rules V3 and V5 to V10 under a frame, and leaves these; the state has `state` bytes
+-- an instruction breaks none of the rules V3 and V5 to V10 under a frame, and these frames leave; the state has `state`
+-- bytes
 abbrev pub Leaves : ℕ → Insn → Frame → Ways → Type 0
 Leaves state (Alu op width dst o) f w = Gives (result_kind (alu_form op width o) (f dst.number) (operand_kind width o f)) f dst w
 Leaves state (MovSx x dst src) f w = Gives (from_span (extended_span (extension_offset x) (bits_of (extension_width x))) (f src.number)) f dst w
@@ -188,7 +190,7 @@ Leaves state (StoreImm size dst offset imm) f w =
     MayStore state f (operand_kind W64 (operand.Imm imm) f) (f dst.number) offset (bytes_in size)
     × (w ≡ (Some (stored_frame f (operand_kind W64 (operand.Imm imm) f) (f dst.number) offset (bytes_in size)), None))
 
--- a way that nothing takes says the most
+-- a way that no step takes says the most
 abbrev pub LeqWay : Option Frame → Option Frame → Type 0
 LeqWay None w = Unit {0}
 LeqWay (Some f) None = ⊥

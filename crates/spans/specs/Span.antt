@@ -1,4 +1,4 @@
--- Numbers from one to another, and what an operation leaves of them.
+-- Spans of numbers, and the spans of the results of operations.
 use Rattle.std.specs.Prelude.{ℕ, zero, suc, ◌+◌, ◌-◌, ◌*◌, ◌/◌, ◌^◌, ◌<◌, ◌≤◌, min, max, nat_lt, nat_le, ◌&&◌, if◌then◌else◌}
 use Rattle.decode.specs.declared.insn.AluOp.{AluOp}
 use Rattle.decode.specs.declared.insn.AluOp.TheVariants.{Add, Sub, Mul, Div, Sdiv, Or, And, Lsh, Rsh, Mod, Smod, Xor, Mov, Arsh}
@@ -8,11 +8,11 @@ pub use Rattle.spans.specs.declared.span.Span.{Span}
 abbrev pub span : ℕ → ℕ → Span
 span lo hi = record { lo = lo; hi = hi }
 
--- one number alone
+-- one number only
 abbrev pub one : ℕ → Span
 one x = span x x
 
--- all words of n bits: of which of them it is nothing is known
+-- all words of n bits, if nothing is known
 abbrev pub whole : ℕ → Span
 whole n = span 0 (2 ^ n - 1)
 
@@ -21,7 +21,7 @@ pub record IsSpan (n : ℕ) (a : Span) : Type 0 where
   pub some : a.lo ≤ a.hi
   pub words : a.hi < 2 ^ n
 
--- the numbers of the first are among those of the second, so what the second says, the first says too
+-- the numbers of the first are among those of the second, so the first says what the second says
 abbrev pub Within : Span → Span → Type 0
 Within a b = (b.lo ≤ a.lo) × (a.hi ≤ b.hi)
 
@@ -29,7 +29,7 @@ Within a b = (b.lo ≤ a.lo) × (a.hi ≤ b.hi)
 abbrev pub joined_span : Span → Span → Span
 joined_span a b = span (min a.lo b.lo) (max a.hi b.hi)
 
--- from lo to hi where these are words of n bits; else the result may have wrapped, and can be any
+-- from lo to hi if these are words of n bits; else the result may have wrapped, and can be any word
 abbrev pub bounded : ℕ → ℕ → ℕ → Span
 bounded n lo hi = if nat_lt hi (2 ^ n) then span lo hi else whole n
 
@@ -38,9 +38,9 @@ abbrev pub ones : ℕ → ℕ → ℕ
 ones zero m = 0
 ones (suc n) m = if nat_lt m (2 ^ n) then ones n m else 2 ^ suc n - 1
 
--- where the results lie of an operation (RFC 9669 section 4.1) on words of n bits, one of dst's span a and one of the
--- operand's span b; any word where the result may have wrapped, where b may be 0 or may not be less than n as a shift
--- count, where ARSH may be of a negative word, and of SDIV and SMOD
+-- the span of the results of an operation (RFC 9669 section 4.1) on words of n bits, the first from dst's span a and
+-- the second from the operand's span b; it has all words if the result may wrap, if b as a divisor may be 0, if b as a
+-- shift count may be n or more, if ARSH may shift a negative word, and for SDIV and SMOD
 abbrev pub result_span : AluOp → ℕ → Span → Span → Span
 result_span Add n a b = bounded n (a.lo + b.lo) (a.hi + b.hi)
 result_span Sub n a b = if nat_le b.hi a.lo then span (a.lo - b.hi) (a.hi - b.lo) else whole n

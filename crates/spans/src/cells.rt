@@ -5,7 +5,7 @@ ghost use Rattle.std.specs.Prelude.{◌≡◌, length};
 use crate::kind::Kind;
 use decode::Reg;
 
-/// A frame: the kinds of the registers r0 to r10, and from 11 on of the 64 words of the stack, from
+/// A frame: cells 0 to 10 are the kinds of the registers r0 to r10, cells 11 to 74 those of the stack's 64 words, from
 /// its first byte on.
 #[derive(Clone, Copy, Debug, PartialEq, Eq)]
 pub struct Cells {

@@ -3,15 +3,14 @@
 use crate::span::Span;
 use regtypes::Region;
 
-/// The distances from a region's first byte, from `lo` to `hi`, both among them.
+/// The distances from a region's first byte, from `lo` to `hi` inclusive.
 #[derive(Clone, Copy, Debug, PartialEq, Eq)]
 pub struct Reach {
     pub lo: i16,
     pub hi: i16,
 }
 
-/// Nothing is known, it is a number of this span, or a place of this region that has one of these
-/// distances.
+/// Nothing is known; or it is a number of this span; or it is a place of this region with one of these distances.
 #[derive(Clone, Copy, Debug, PartialEq, Eq)]
 pub enum Kind {
     Unset,

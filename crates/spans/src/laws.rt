@@ -1,4 +1,4 @@
-//! What holds of all frames, and of each step that a frame admits.
+//! Laws of all frames, and of each step that a frame admits.
 
 ghost use Rattle.spans.specs.Laws.{IsClosed, IsEntered, IsLeastJoin, IsMonotone, IsOrder, IsPreserved};
 
@@ -7,29 +7,29 @@ pub fn frames_are_ordered()
     ensures { IsOrder }
 {}
 
-/// The join of two frames says what both say, and no less.
+/// The join of two frames says all that both say.
 pub fn joins_are_least()
     ensures { IsLeastJoin }
 {}
 
-/// What leaves a frame are frames: each kind in them has a value.
+/// The frames that leave a frame are frames: each kind in them has a value.
 pub fn frames_stay_frames()
     ensures { IsClosed }
 {}
 
-/// The local rules are monotone: a frame that says more breaks no more rules, and leaves more on
-/// each way, or nothing there.
+/// The local rules are monotone: a frame that says more breaks no more rules, and on each way a frame leaves that says
+/// more, or none.
 pub fn rules_are_monotone()
     ensures { IsMonotone }
 {}
 
-/// A step from a configuration that fits a frame which breaks no rule is no fault, and what it comes
-/// to fits the frame that leaves on the way that it goes.
+/// A step is no fault if its configuration fits a frame under which the instruction breaks no rule. The next
+/// configuration fits the frame that leaves on the way that the step takes.
 pub fn steps_fit()
     ensures { IsPreserved }
 {}
 
-/// A call begins in a configuration that fits the frame of the entry.
+/// The configuration at the entry fits the frame of the entry.
 pub fn calls_fit()
     ensures { IsEntered }
 {}

@@ -1,6 +1,6 @@
 //! Spans of numbers.
 
-/// The numbers from `lo` to `hi`, both among them.
+/// The numbers from `lo` to `hi` inclusive.
 #[derive(Clone, Copy, Debug, PartialEq, Eq)]
 pub struct Span {
     pub lo: u64,

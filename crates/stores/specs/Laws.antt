@@ -5,6 +5,6 @@ use Rattle.stores.specs.Store.{TheStore, FitAll, applied_all}
 use Rattle.stores.specs.Format.{IsStoreBytes}
 use Rattle.stores.specs.Changes.{AreChanges}
 
--- bytes are those of the store after these changes
+-- these bytes are those of the store after these changes
 abbrev pub AreLater : List ℕ → List ℕ → List ℕ → Type 0
 AreLater store changes later = (s : TheStore) (ks : List Change) → IsStoreBytes s store → AreChanges ks changes → FitAll ks s × IsStoreBytes (applied_all ks s) later

@@ -1,4 +1,4 @@
-//! Why bytes are not those of changes.
+//! Why bytes are not changes.
 
 ghost use Rattle.std.specs.Prelude.{◌≡◌};
 ghost use Rattle.stores.specs.declared.changes_fault.ChangesError.TheVariants.{Memory};
@@ -6,13 +6,13 @@ ghost use Rattle.stores.specs.declared.changes_fault.ChangesError.TheVariants.{M
 use std::alloc::AllocError;
 use thiserror::Error;
 
-/// Why changes were not read.
+/// Why changes could not be read.
 #[derive(Debug, Drop, PartialEq, Eq, Error)]
 pub enum ChangesError {
     /// Memory ran out.
     #[error("out of memory")]
     Memory,
-    /// The bytes are not those of changes one behind the other.
+    /// The bytes are not those of changes, one after another.
     #[error("the bytes are not those of changes")]
     Spelling,
 }

@@ -1,4 +1,4 @@
-//! Why changes did not happen.
+//! Why changes were refused.
 
 ghost use Rattle.std.specs.Prelude.{◌≡◌};
 ghost use Rattle.stores.specs.declared.fault.ApplyError.TheVariants.{Memory};
@@ -6,13 +6,13 @@ ghost use Rattle.stores.specs.declared.fault.ApplyError.TheVariants.{Memory};
 use std::alloc::AllocError;
 use thiserror::Error;
 
-/// Why changes did not happen to a store.
+/// Why changes were not applied to a store.
 #[derive(Debug, Drop, PartialEq, Eq, Error)]
 pub enum ApplyError {
     /// Memory ran out.
     #[error("out of memory")]
     Memory,
-    /// The change that has so many before it can't happen to the store as it is then.
+    /// This change, counted from 0, doesn't fit the store after those before it.
     #[error("change {0} does not fit the store")]
     Unfit(usize),
 }

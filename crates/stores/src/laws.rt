@@ -18,12 +18,12 @@ use crate::writing::encode_store;
 use std::alloc::{AllocError, Global};
 use thiserror::Error;
 
-/// Bytes are one store's, if they are one's.
+/// Bytes are those of one store at most.
 pub fn one_store()
     ensures { IsOneStore }
 {}
 
-/// What is written of a store is read back, unless memory runs out.
+/// A store that is written is read back, unless memory runs out.
 pub fn store_again(alloc: Global, store: &Store) -> Result<Store, StoreError>
     requires { StoreFits store.now }
     ensures { ReadsStore result store.now }
@@ -32,7 +32,7 @@ pub fn store_again(alloc: Global, store: &Store) -> Result<Store, StoreError>
     decode_store(alloc, &bytes)
 }
 
-/// What is read as a store is written again as the same bytes, unless memory runs out.
+/// A store that is read is written as the same bytes, unless memory runs out.
 pub fn same_bytes_again(alloc: Global, bytes: &[u8]) -> Result<Vec<u8>, StoreError>
     ensures { IfOk result (λ v. v.items ≡ bytes.now) }
 {
@@ -40,26 +40,26 @@ pub fn same_bytes_again(alloc: Global, bytes: &[u8]) -> Result<Vec<u8>, StoreErr
     Ok(encode_store(alloc, &store)?)
 }
 
-/// Bytes are those of one list of changes, if they are one's.
+/// Bytes are those of one list of changes at most.
 pub fn one_list()
     ensures { AreOneList }
 {}
 
-/// Bytes of changes, and behind them those of later ones, are the bytes of both.
+/// The bytes of changes and then those of later changes are the bytes of both.
 pub fn changes_join()
     ensures { AreJoined }
 {}
 
-/// Why there are no bytes of a store after changes.
+/// Why `later_bytes` gave none.
 #[derive(Debug, Drop, PartialEq, Eq, Error)]
 pub enum LaterError {
-    /// The bytes are no store's.
+    /// The first bytes are not a store.
     #[error(transparent)]
     Store(#[from] StoreError),
-    /// The others are not those of changes.
+    /// The others are not changes.
     #[error(transparent)]
     Changes(#[from] ChangesError),
-    /// They did not happen.
+    /// The changes don't fit the store.
     #[error(transparent)]
     Apply(#[from] ApplyError),
     /// Memory ran out.
@@ -67,7 +67,7 @@ pub enum LaterError {
     Memory(#[from] AllocError),
 }
 
-/// The bytes of the store after these changes. What a host does that begins its list of changes anew.
+/// The bytes of the store after these changes. A host calls it to begin its list of changes anew.
 pub fn later_bytes(alloc: Global, store: &[u8], changes: &[u8]) -> Result<Vec<u8>, LaterError>
     ensures store { IfOk result (λ v. (s : TheStore) × IsStoreBytes s store.now) }
     ensures changes { IfOk result (λ v. (ks : List Change) × AreChanges ks changes.now) }

@@ -1,15 +1,15 @@
-//! What the gateway of a cluster keeps durably, and its bytes.
+//! What the gateway of a cluster keeps in stable storage, as a value and as bytes.
 //!
-//! A [`Store`] has for each process the inputs that it may still ask for, how many of its outputs were
-//! shown and its incarnation; and the outputs that were shown and not taken yet. A [`Change`] is one
-//! thing that happens to it: [`Store::apply`], or [`Store::apply_all`] where they are handed in. A
-//! store and all changes since are the store of now.
+//! A [`Store`] has for each process the inputs that it may still ask for, the number of its outputs
+//! that were shown, and its incarnation. It also has the outputs that were shown and not yet taken.
+//! A [`Change`] is one change of it: [`Store::apply`] makes one that fits, [`Store::apply_all`]
+//! tests and makes many. A store and all changes since then are the store as it is now.
 //!
-//! [`encode_store`] writes a store as `SBG1`, [`decode_store`] reads it. The promise is that of crate
-//! `packets`: bytes are read exactly where they are those of a store, and of one only, and any other
-//! bytes are refused by the first of seven faults that they have. [`encode_changes`] writes changes
-//! one behind the other, so that those of later calls are appended, and [`decode_changes`] reads just
-//! what is spelled so.
+//! [`encode_store`] writes a store as `SBG1`, [`decode_store`] reads it. As in crate `packets`,
+//! exactly the bytes of stores are accepted, bytes are those of one store at most, and any others
+//! are refused by the first of their faults, of which there are seven. [`encode_changes`] writes
+//! changes one after another, so that later ones can be appended, and [`decode_changes`] reads
+//! exactly what it writes.
 //!
 //! ```
 //! let mut store = decode_store(alloc, &bytes)?;

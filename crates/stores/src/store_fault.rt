@@ -1,4 +1,4 @@
-//! Why bytes are no store's.
+//! Why bytes are not a store.
 
 ghost use Rattle.std.specs.Prelude.{◌≡◌};
 ghost use Rattle.stores.specs.declared.store_fault.StoreError.TheVariants.{Memory};
@@ -6,7 +6,7 @@ ghost use Rattle.stores.specs.declared.store_fault.StoreError.TheVariants.{Memor
 use std::alloc::AllocError;
 use thiserror::Error;
 
-/// The first fault of bytes that are no store's, in the order of their numbers.
+/// The first fault of bytes that are not a store, in the order of their numbers.
 #[derive(Clone, Copy, Debug, PartialEq, Eq, Error)]
 pub enum StoreFault {
     /// 1: fewer than 16 bytes.
@@ -18,16 +18,16 @@ pub enum StoreFault {
     /// 3: the last four bytes are not the checksum of the others.
     #[error("the checksum is wrong")]
     Checksum,
-    /// 4: the number of processes is out of its range.
+    /// 4: the number of processes is out of range.
     #[error("the number of processes is out of range")]
     Count,
-    /// 5: the three bytes behind it are not zeros.
+    /// 5: the three bytes after it are not zeros.
     #[error("the three bytes behind the number of processes are not zeros")]
     Zeros,
-    /// 6: what follows ends early or too late, or a payload is too long.
+    /// 6: the fields end early or too late, or a payload is too long.
     #[error("the fields do not take just the bytes that are there")]
     Fields,
-    /// 7: a field is out of its range.
+    /// 7: a field is out of range.
     #[error("a field is out of range")]
     Range,
 }
@@ -52,13 +52,13 @@ impl StoreFault {
     }
 }
 
-/// Why a store was not read.
+/// Why a store could not be read.
 #[derive(Debug, Drop, PartialEq, Eq, Error)]
 pub enum StoreError {
     /// Memory ran out.
     #[error("out of memory")]
     Memory,
-    /// The bytes are no store's.
+    /// The bytes are not a store.
     #[error("store: {0}")]
     Fault(StoreFault),
 }

@@ -1,4 +1,4 @@
--- What a call or an answer names, in a style.
+-- The fields of a call or an answer, in a style.
 use Rattle.std.specs.Prelude.{◌++◌, ℕ, Bool, List, codes, decimal, flat_map, if◌then◌else◌, Option, Some, None}
 use Rattle.scenario.specs.Order.{party_text}
 use Rattle.styles.specs.Style.{TheStyle}
@@ -10,17 +10,17 @@ use Rattle.styles.specs.declared.field.Value.TheVariants.{Number, Party}
 abbrev pub field_of : Field → List ℕ × Value
 field_of f = (f.label.now, f.value)
 
--- a process: its number, or of these names its own, which JSON has in quotes; the outside is 0, or `outside`
+-- a process: its number, or its name among these, which JSON has in quotes. The outside is 0 or `outside`
 abbrev pub party_in : Bool → Option (List (List ℕ)) → ℕ → List ℕ
 party_in json None p = decimal p
 party_in json (Some names) p = if json then codes "\"" ++ party_text names p ++ codes "\"" else party_text names p
 
--- what a field says
+-- the value of a field
 abbrev pub value_text : TheStyle → Value → List ℕ
 value_text style (Party p) = party_in style.json style.names p
 value_text style (Number n) = decimal n
 
--- a field: after a space what it says, in JSON with its label
+-- a field: a space and its value; in JSON its label and its value
 abbrev pub field_text : TheStyle → List ℕ × Value → List ℕ
 field_text style field = (if style.json then codes ",\"" ++ field.0 ++ codes "\":" else codes " ") ++ value_text style field.1
 
@@ -28,7 +28,7 @@ field_text style field = (if style.json then codes ",\"" ++ field.0 ++ codes "\"
 abbrev pub fields_text : TheStyle → List (List ℕ × Value) → List ℕ
 fields_text style fields = flat_map (field_text style) fields
 
--- a call or an answer: its word, and its fields; in JSON an object with a name
+-- a call or an answer: its word and its fields. In JSON it is an object with a name
 unfoldable pub deed_text : TheStyle → List ℕ → List (List ℕ × Value) → List ℕ
 deed_text style word fields =
     if style.json then codes "{\"name\":\"" ++ word ++ codes "\"" ++ fields_text style fields ++ codes "}" else word ++ fields_text style fields

@@ -1,13 +1,13 @@
--- How a run is told.
+-- Styles: how a run is printed.
 use Rattle.std.specs.Prelude.{ℕ, Bool, List, Option, option_map}
 use Rattle.scenario.specs.Process.{names_of}
 use Rattle.styles.specs.declared.style.Style.{Style}
 
--- whether in JSON, and the names of the processes, if these are told in place of their numbers
+-- whether it is JSON, and the names of the processes, if they are printed in place of the numbers
 pub record TheStyle : Type 0 where
   pub json : Bool
   pub names : Option (List (List ℕ))
 
--- a style with its names as texts
+-- a style, with names as texts
 abbrev pub style_of : Style → TheStyle
 style_of style = record { json = style.json; names = option_map (λ m. names_of m.now) style.names }

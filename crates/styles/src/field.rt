@@ -1,4 +1,4 @@
-//! What a call or an answer names.
+//! The fields of a call or an answer.
 
 ghost use Rattle.std.specs.Prelude.{◌≡◌, ◌++◌, OnOk, map, string_bytes};
 ghost use Rattle.scenario.specs.Order.{party_text};
@@ -13,15 +13,15 @@ use scenario::Process;
 use std::alloc::AllocError;
 use trace::name_at;
 
-/// What a field says.
+/// The value of a field.
 #[derive(Clone, Copy, Debug)]
 pub enum Value {
-    /// A process, or with 0 the outside.
+    /// A process, or the outside as 0.
     Party(u8),
     Number(usize),
 }
 
-/// What a call or an answer names, and what it is.
+/// A field of a call or an answer: its label and its value.
 #[derive(Clone, Copy, Debug)]
 pub struct Field {
     pub label: &'static str,
@@ -44,7 +44,7 @@ pub(crate) fn number(label: &'static str, number: usize) -> Field
     Field { label, value }
 }
 
-/// The same of 32 bits.
+/// The field of a number of 32 bits.
 pub(crate) fn amount(label: &'static str, amount: u32) -> Field
     ensures { field_of result ≡ (label.entry.now, Number amount) }
 {
@@ -63,7 +63,7 @@ fn party_name(processes: &IndexMap<String, Process>, party: u8) -> &str
 }
 
 impl Style<'_> {
-    /// Writes a process: by its number or its name, which JSON has in quotes.
+    /// Writes a process by its number, or by its name, which JSON has in quotes.
     fn push_party(self, out: &mut String, party: u8) -> Result<(), AllocError>
         ensures { OnOk result (string_bytes out.new ≡ string_bytes out.old ++ party_in self.entry.json (style_of self.entry).names party) }
     {
@@ -78,7 +78,7 @@ impl Style<'_> {
         }
     }
 
-    /// Writes a field: after a space what it says, in JSON with its label.
+    /// Writes a space and the field's value. In JSON the label comes before the value.
     fn push_field(self, out: &mut String, field: Field) -> Result<(), AllocError>
         ensures { OnOk result (string_bytes out.new ≡ string_bytes out.old ++ field_text (style_of self.entry) (field_of field)) }
     {

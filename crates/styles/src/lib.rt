@@ -1,7 +1,7 @@
-//! A run in other words than those of its trace: with the names of processes, or as lines of JSON.
+//! The lines of a run in another style: with the names of processes, or as JSON.
 //!
-//! The methods of a [`Style`] write the lines that `trace` and `runner` write, in that style. Its promise: the text is that of
-//! `specs/Lines.antt`, to the last byte; only memory can run out.
+//! The methods of a [`Style`] write the lines that `trace` and `runner` write, in that style. The
+//! text is that of `specs/Lines.antt`, to the last byte. The only error is lack of memory.
 //!
 //! ```text
 //! let style = Style { json: true, names: Some(&scenario.processes) };

@@ -24,7 +24,7 @@ fn phase_word(phase: PhaseName) -> &'static str
     }
 }
 
-/// Writes a text in JSON after this: its key, and the text in quotes.
+/// Writes `before`, and then a text in JSON: its key, and the text in quotes.
 #[tactic(auto, unfolding(crate::specs::Lines::quoted))]
 fn push_quoted(out: &mut String, before: &str, key: &str, text: &str) -> Result<(), AllocError>
     ensures { OnOk result (string_bytes out.new ≡ string_bytes out.old ++ quoted before.now key.now text.now) }
@@ -32,7 +32,7 @@ fn push_quoted(out: &mut String, before: &str, key: &str, text: &str) -> Result<
     write!(out, "{before}\"{key}\":\"{text}\"")
 }
 
-/// Writes bytes in JSON.
+/// Writes `before`, and then bytes in JSON.
 #[tactic(auto, unfolding(crate::specs::Lines::quoted))]
 fn push_bytes(out: &mut String, before: &str, key: &str, bytes: &[u8]) -> Result<(), AllocError>
     ensures { OnOk result (string_bytes out.new ≡ string_bytes out.old ++ quoted before.now key.now (hex_text bytes.now)) }
@@ -50,7 +50,8 @@ fn push_counted(out: &mut String, key: &str, count: u32) -> Result<(), AllocErro
 }
 
 impl Style<'_> {
-    /// Writes that the order of a line was refused, with the refusal's number, if it was.
+    /// Writes the line of a refused order, with the refusal's number. If the order wasn't refused,
+    /// it writes nothing.
     pub fn push_refused(
         self,
         out: &mut String,
@@ -90,7 +91,8 @@ impl Style<'_> {
         out.push_str("}\n")
     }
 
-    /// Writes the line of an output: the name of the process that gave it, its SSN to the outside, and its bytes.
+    /// Writes the line of an output: the name of its process, its SSN to the outside, and its
+    /// bytes.
     pub fn push_output(
         self,
         out: &mut String,

@@ -1,13 +1,13 @@
-//! How a run is told.
+//! Styles: how a run is printed.
 
 use indexmap::IndexMap;
 use scenario::Process;
 
-/// How a run is told.
+/// How a run is printed.
 #[derive(Clone, Copy)]
 pub struct Style<'a> {
-    /// As lines of JSON, else as the lines of the trace and the report.
+    /// As lines of JSON; else as the lines of the trace and the report.
     pub json: bool,
-    /// The processes whose names are told in place of their numbers, if these are.
+    /// The processes whose names are printed in place of their numbers, if they are.
     pub names: Option<&'a IndexMap<String, Process>>,
 }

@@ -1,4 +1,4 @@
--- What is known where a call is accepted
+-- What is known if a call is accepted
 use Rattle.std.proofs.Common.{◌≡◌, ◌≢◌, ℕ, suc, ◌<◌, ◌≤◌, List, [], ◌∷◌, Bool, true, false, refl, arith}
 use Rattle.std.specs.Prelude.{Some, None, nat_lt, nat_le, not, ◌&&◌, if◌then◌else◌, ◌==◌}
 use Rattle.std.proofs.lemmas.Bool.Decides.{nat_tests}
@@ -12,7 +12,7 @@ use Rattle.theorems.specs.Invariants.Sound.{Sound}
 use Rattle.theorems.proofs.Tests.{not-below, different, not-false, neither, any_below-none}
 use Rattle.theorems.proofs.PhaseLemmas.{up-phase}
 
--- where no refusal is least, no cause holds
+-- if no refusal is least, no cause holds
 abbrev pub AllFalse : List (Bool × ℕ) → Type 0
 AllFalse [] = Unit {0}
 AllFalse (c ∷ cs) = (c.0 ≡ false) × AllFalse cs
@@ -41,7 +41,7 @@ verdict-next n i e = split (i == suc n) refl e
         other true e = absurd (cc)
         other false e = absurd (cc)
 
--- where a transmission isn't refused, its ends are there and differ, and the message is released
+-- if a transmission isn't refused, its ends are there and differ, and the message is released
 pub transmits : (room : ℕ) (w : World) (p d i : ℕ) → refusal_of w room (Transmit p d i) ≡ None → (p ≤ w.count) × (d ≤ w.count) × (p ≢ d) × (i ≤ released_to w p d)
 transmits room w p d i free =
     let a = clear (causes w room (Transmit p d i)) free in
@@ -56,7 +56,7 @@ transmits room w p d i free =
 pub checkpoints : (room : ℕ) (w : World) (p : ℕ) → refusal_of w room (Checkpoint p) ≡ None → w.phase p ≡ Up
 checkpoints room w p free = let a = clear (causes w room (Checkpoint p)) free in up-phase (w.phase p) (not-false (is_up (w.phase p)) a.1.0) a.1.1.0
 
--- where all processes but p are up, so is each number but p, those beyond the count too
+-- if all processes but p are up, so is each number but p, also above the count
 pub others-are : (w : World) (p : ℕ) → others_up w p ≡ true → Sound w → (q : ℕ) → q ≢ p → is_up (w.phase q) ≡ true
 others-are w p e s q ne = split (nat_le q w.count) refl
   where

@@ -26,7 +26,7 @@ Told w p q = (m : ℕ) (x : Message) → w.saved q < m → nth (w.history q) m �
 pub put-wire : (P : Option Packet → Type 0) (wire : ℕ → Option Packet) (key : ℕ) (x : Option Packet) → ((j : ℕ) → P (wire j)) → P x → (j : ℕ) → P (put wire key x j)
 put-wire P wire key x all now = choose key (λ j b. P (if b then x else wire j)) now (λ j _. all j)
 
--- a world stays sound on another wire, where each packet has its shape
+-- a world stays sound on another wire, if each packet has its shape
 pub sound-wire : (w : World) (wire : ℕ → Option Packet) (n : ℕ) → ((key : ℕ) → PacketShape w (wire key)) → Sound w → Sound (record w { wire = wire; started = n })
 sound-wire w wire n packets h =
     record {
@@ -45,7 +45,7 @@ sound-wire w wire n packets h =
       shown = h.shown;
     }
 
--- and exact, where each packet is true
+-- and exact, if each packet is true
 pub exact-wire : (w : World) (wire : ℕ → Option Packet) (n : ℕ) → ((key : ℕ) → PacketTrue w (wire key)) → Exact w → Exact (record w { wire = wire; started = n })
 exact-wire w wire n packets h =
     record { alone = h.alone; recorded = h.recorded; acknowledged = h.acknowledged; packets = packets; working = h.working; received = h.received; shown = h.shown; released = h.released }
@@ -161,7 +161,7 @@ sound-beside w numbers released inputs feeds h =
 pub sound-released : (w : World) (p : ℕ) (f : ℕ → ℕ) → Sound w → Sound (record w { released = put w.released p f })
 sound-released w p f h = sound-beside w w.numbers (put w.released p f) w.inputs w.feeds h
 
--- and exact, where messages that outlive a crash send all that p has released
+-- and exact, if messages that outlive a crash send all that p has released
 pub exact-released : (w : World) (p : ℕ) (f : ℕ → ℕ) → ((d : ℕ) → Covers w p d (f d)) → Exact w → Exact (record w { released = put w.released p f })
 exact-released w p f now h =
     record {

@@ -68,7 +68,7 @@ found-at b s i (x ∷ h) m e = split ((x.sender == s) && (x.ssn == i)) refl e (f
     split true t e more = let same : suc b ≡ m = cc in (0, omega arith, x, refl, grind (arith, nat_tests), grind (arith, nat_tests))
     split false t e more = later (more e)
 
--- it finds one where there is one
+-- it finds one if there is one
 some-found : (b : ℕ) (h : List Message) (k : ℕ) (x : Message) → slice_get h k ≡ Some x → (m : ℕ) × (rsn_from b x.sender x.ssn h ≡ Some m)
 some-found b [] k x e = absurd (cc)
 some-found b (y ∷ h) zero x e =

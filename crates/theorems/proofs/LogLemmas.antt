@@ -39,7 +39,7 @@ sends-prefix f g p h d j (suc k) l = split (nat_le j k) refl (sends-prefix f g p
     split true e less = begins-trans _ _ _ (less (grind (arith, nat_tests))) (sends-next f g p h d k)
     split false e less = let same : j ≡ suc k = grind (arith, nat_tests) in rw same (begins-self _)
 
--- what the first j messages of a history send, more of them send too, with more behind it at most
+-- more messages of a history send what its first j messages send, and perhaps more after it
 pub payloads-prefix : (w : World) → Grows w.handlers → (s : ℕ) (h : List Message) (d j k : ℕ) → j ≤ k → Begins (payloads w s (take j h) d) (payloads w s (take k h) d)
 payloads-prefix w g s h d j k l = split (s == 0)
   where
@@ -71,7 +71,7 @@ entry-when w s d i e = split (is_down (w.phase s)) refl e
 pub entry-test : (w : World) (s d i : ℕ) → IsEntry w s d i → is_entry w s d i ≡ true
 entry-test w s d i h = rw h.live (let a : w.trims s d < i = h.above in let b : i ≤ length (sent w s d) = h.within in grind (arith, nat_tests))
 
--- a received message after the checkpoint is an entry of its sender's log, where that has its whole history
+-- a received message after the checkpoint is an entry of its sender's log, if that has its whole history
 pub entry-of : (w : World) → Sound w → Exact w → (p k : ℕ) (x : Message) → slice_get (w.history p) k ≡ Some x → w.saved p ≤ k → is_down (w.phase x.sender) ≡ false → length_of w x.sender ≡ length (w.history x.sender)
     → IsEntry w x.sender p x.ssn
 entry-of w s h p k x e after live whole =

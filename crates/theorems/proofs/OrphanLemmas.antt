@@ -21,7 +21,7 @@ use Rattle.theorems.proofs.LogLemmas.{payloads-prefix}
 use Rattle.theorems.proofs.KeptLemmas.{secured-kept}
 use Rattle.theorems.proofs.Journals.{always-exact, sound-single}
 
--- what is secured stands
+-- what is secured is part of the standing history
 secured-standing : (w : World) (p u k : ℕ) → Secured w p u → IsStanding w p k → u ≤ k
 secured-standing w p u k c t = split (is_down (w.phase p)) refl
   where

@@ -27,7 +27,7 @@ first_below-at {X} f (suc k) x e = split (first_below f k) refl e (first_below-a
     split None g e more = (k, omega arith, e)
     split (Some y) g e more = let r = more (g ∙ e) in (r.0, let l : r.0 < k = r.1 in omega arith, r.2)
 
--- and it finds something where there is something
+-- and it finds something if there is something
 pub first_below-some : {X : Type 0} (f : ℕ → Option X) (k j : ℕ) (x : X) → j < k → f j ≡ Some x → (y : X) × (first_below f k ≡ Some y)
 first_below-some f zero j x l e = absurd (omega arith)
 first_below-some {X} f (suc k) j x l e = split (first_below f k) refl (first_below-some f k j x)
@@ -64,7 +64,7 @@ logged_as-at w p m s i x e = split (is_entry w s p i) refl (w.numbers s p i) ref
 same-message : (x y : Message) → x.sender ≡ y.sender → x.ssn ≡ y.ssn → x.payload ≡ y.payload → x ≡ y
 same-message x y a b c = λ i. record { sender = a i; ssn = b i; payload = c i }
 
--- where the entry that is found lies
+-- the place of the entry that is found
 pub record Lies (w : World) (p m : ℕ) (x : Message) : Type 0 where
   pub by : ℕ
   pub below : by ≤ w.count
@@ -111,7 +111,7 @@ gather-most : (w : World) (p : ℕ) (h : List Message) (f : ℕ) → length (gat
 gather-most w p h zero = omega arith
 gather-most w p h (suc f) = let a : length (gather w p h f) ≤ length h + f = gather-most w p h f in let b : length (pushed (gather w p h f) (chosen w p (gather w p h f))) ≤ length (gather w p h f) + 1 = pushed-most (gather w p h f) (chosen w p (gather w p h f)) in omega arith
 
--- the log entry with a number that some log holds is found, where all that have numbers are the outside or processes
+-- the log entry with a number that some log holds is found, if only the outside and processes have numbers
 pub found-held : (w : World) (p : ℕ) → ((s i k : ℕ) → w.numbers s p i ≡ Some k → s ≤ w.count) → (m : ℕ) → Held w p m → (x : Message) × (found w p m ≡ Some x)
 found-held w p from m l =
     let below : l.by ≤ w.count = from l.by l.ssn m l.number in
@@ -149,7 +149,7 @@ module _ (w : World) (p : ℕ) (s : Sound w) (h : Exact w) where
           let there : nth (sent w l.by p) l.ssn ≡ Some n.message.payload = rw (n.sender, n.ssn) at text in
           n.at ∙ ap (λ z. Some z) (same-message n.message x a b (some-same _ _ _ there l.text))
 
-  -- and one is found where a log holds the number
+  -- and one is found if a log holds the number
   pub held-found : (m : ℕ) → Held w p m → (x : Message) × (found w p m ≡ Some x)
   held-found m l = found-held w p from m l
     where
@@ -167,7 +167,7 @@ module _ (w : World) (p : ℕ) (s : Sound w) (h : Exact w) where
       let t : Lies w p (suc k) x = found-lies w p (suc k) x f in
       (record { by = t.by; ssn = t.ssn; number = t.number; entry = t.entry }, lies-is (suc k) x t)
 
-  -- and nothing where no log holds the number of what comes next
+  -- and nothing if no log holds the next number
   pub chosen-none : (k : ℕ) → k ≤ length (w.history p) → chosen w p (take k (w.history p)) ≡ None → ¬ Held w p (suc k)
   chosen-none k l e held =
       let f : (x : Message) × (found w p (suc k) ≡ Some x) = held-found (suc k) held in
@@ -209,7 +209,7 @@ module _ (w : World) (p : ℕ) (s : Sound w) (h : Exact w) where
       let r = gather-is (w.saved p) (k - w.saved p) (s.saved p) (e ∙ n) in
       (r.0 ∙ ap (λ j. take j (w.history p)) (sym n), let a : w.saved p + (k - w.saved p) ≤ length (w.history p) = r.1 in omega arith, λ m a b. r.2 m a (omega arith))
 
--- the plan takes only what is its sender's next, also where failures overlap
+-- the plan takes only what is its sender's next, also if failures overlap
 if_next-is : (h : List Message) (o : Option Message) (x : Message) → if_next h o ≡ Some x → (o ≡ Some x) × (x.ssn ≡ suc (count_of x.sender h))
 if_next-is h None x e = absurd (cc)
 if_next-is h (Some m) x e = split (m.ssn == suc (count_of m.sender h)) refl e

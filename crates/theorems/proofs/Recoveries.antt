@@ -233,7 +233,7 @@ module _ (w : World) (p : ℕ) (x : Phase) (m : Revives w p x) where
         released = λ q d. covers carries-revived q d (w.released q d) (h.released q d);
       }
 
--- the messages of p's checkpoint and its plan, k together where there are so many
+-- the messages of p's checkpoint and its plan, k together if there are that many
 abbrev pub gathered : World → ℕ → ℕ → List Message
 gathered w p k = gather w p (take (w.saved p) (w.history p)) (k - w.saved p)
 
@@ -256,12 +256,12 @@ keeps-all w p k e m a = at-itself p (λ b. m ≤ length (if b then gathered w p 
 pub kept-length : (w : World) (p k : ℕ) → length (gathered w p k) ≡ k → length ((keep w p k).history p) ≡ k
 kept-length w p k e = at-itself p (λ b. length (if b then gathered w p k else w.history p) ≡ k) e
 
--- p may come back to replay, where k is more than its checkpoint covers
+-- p may come back to replay, if k is more than its checkpoint covers
 pub revives-replaying : (w : World) (p k : ℕ) (alone : Bool) → 0 < p → p ≤ w.count → w.phase p ≡ Down → w.saved p < k → length (gathered w p k) ≡ k → Revives (keep w p k) p (Replaying 0 false alone)
 revives-replaying w p k alone a b down l e =
     record { inside = a; below = b; was = down; now = refl; next = tt; replays = rw (kept-length w p k e) (omega arith); all = keeps-all w p k e }
 
--- and to restore its numbers from these peers, or be up where there is none
+-- and to restore its numbers from these peers, or be up if there are none
 pub revives-with : (w : World) (p k : ℕ) (rs : List ℕ) → 0 < p → p ≤ w.count → w.phase p ≡ Down → length (gathered w p k) ≡ k → Revives (keep w p k) p (phase_with rs)
 revives-with w p k rs a b down e =
     record { inside = a; below = b; was = down; now = with-down rs; next = with-next rs _ _ _; replays = with-replays rs _ _; all = keeps-all w p k e }

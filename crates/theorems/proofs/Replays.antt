@@ -15,7 +15,7 @@ use Rattle.theorems.proofs.PhaseLemmas.{with-down, with-alone, with-next, with-s
 use Rattle.theorems.proofs.SecuredLemmas.{covers-all}
 use Rattle.theorems.proofs.Frames.{Told, sound-wire, exact-wire, Moves, sound-phase, exact-phase, sound-released, exact-released}
 
--- a process that recovers may go on to restore its numbers from these peers, or be up where there is none
+-- a process that recovers may go on to restore its numbers from these peers, or be up if there are none
 pub moves-ready : (w : World) (p : ℕ) (rs : List ℕ) → 0 < p → p ≤ w.count → is_recovering (w.phase p) ≡ true → Sound w → Moves w p (phase_with rs)
 moves-ready w p rs a b e s =
     record {
@@ -66,7 +66,7 @@ told-others w p q s none m x a e i =
     let there : has (peers w p false) q ≡ true = has-those (λ a. not (a == p) && (not false || is_up (w.phase a))) w.count q next.target next.inside (rw t refl) in
     absurd (cc)
 
--- a process that replays goes on to the next message, where there is one
+-- a process that replays goes on to the next message, if there is one
 pub moves-replay : (w : World) (p j : ℕ) (working alone : Bool) → 0 < p → p ≤ w.count → w.phase p ≡ Replaying j working alone → nat_lt (w.saved p + suc j) (length (w.history p)) ≡ true → Moves w p (Replaying (suc j) false alone)
 moves-replay w p j working alone a b e f = record { inside = a; below = b; was = rw e refl; now = refl; stays = λ u. absurd (let t : is_up (Replaying j working alone) ≡ true = rw e at u in cc); next = tt; replays = grind (arith, nat_tests); recovering = λ _. rw e refl; forth = rw e (omega arith) }
 

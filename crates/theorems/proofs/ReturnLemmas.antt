@@ -27,7 +27,8 @@ use Rattle.theorems.proofs.Accepted.{clear, checkpoints}
 use Rattle.theorems.proofs.Recoveries.{gathered}
 use Rattle.theorems.proofs.SoundCalls.{sound-call}
 
--- a process in this phase, with a checkpoint of so many messages, has replayed c of those after the first `from`; where it replays none, it has k
+-- a process in this phase, with a checkpoint of this many messages, has replayed c of those after the first `from`; if it replays
+-- none, it has k
 abbrev pub At : Phase → ℕ → ℕ → ℕ → ℕ → Type 0
 At Up saved from k c = from + c ≡ k
 At (Busy m) saved from k c = from + c ≡ k

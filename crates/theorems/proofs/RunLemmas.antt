@@ -40,11 +40,11 @@ run_to-most f (suc n) k l all = split (all_to f (suc n)) refl (nat_le k n) refl 
     split false e true t less = less (grind (arith, nat_tests)) all
     split false e false t less = absurd (let same : k ≡ suc n = grind (arith, nat_tests) in let u : all_to f k ≡ true = all_to-all f k all in let v : all_to f (suc n) ≡ true = rw same at u in cc)
 
--- where all hold, it is all
+-- if all hold, the run is all of them
 pub run_to-whole : (f : ℕ → Bool) (n : ℕ) → ((m : ℕ) → 0 < m → m ≤ n → f m ≡ true) → run_to f n ≡ n
 run_to-whole f n all = let a : run_to f n ≤ n = (run_to-is f n).0 in let b : n ≤ run_to f n = run_to-most f n n (omega arith) all in omega arith
 
--- where more numbers hold, no run is shorter
+-- if more numbers hold, no run is shorter
 pub run_to-more : (f g : ℕ → Bool) (n : ℕ) → ((m : ℕ) → f m ≡ true → g m ≡ true) → run_to f n ≤ run_to g n
 run_to-more f g n more = let i = run_to-is f n in run_to-most g n (run_to f n) i.0 (λ m a b. more m (i.1 m a b))
 

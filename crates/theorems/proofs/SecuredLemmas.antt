@@ -1,4 +1,4 @@
--- What is safe stays safe, where what is secured stays secured
+-- What is safe stays safe, if what is secured stays secured
 use Rattle.std.proofs.Common.{◌≡◌, ℕ, ◌<◌, ◌≤◌, List, length, take, true, false, refl, sym, ◌∙◌, arith}
 use Rattle.std.specs.Prelude.{Option}
 use Rattle.world.specs.declared.message.Message.{Message}
@@ -68,7 +68,7 @@ covers {v} {w} c p d n a =
 pub covers-none : (w : World) (p d : ℕ) → Covers w p d 0
 covers-none w p d = record { upto = 0; secured = record { within = omega arith; held = λ _ m a b. absurd (omega arith); acknowledged = λ _ m a b. absurd (omega arith) }; within = omega arith }
 
--- where all is acknowledged, all is secured
+-- if all is acknowledged, all is secured
 pub covers-all : (w : World) (p d n : ℕ) → is_down (w.phase p) ≡ false → ((m : ℕ) → 0 < m → m ≤ length (w.history p) → w.acknowledged p m ≡ true) → n ≤ length (payloads w p (w.history p) d) → Covers w p d n
 covers-all w p d n live all l =
     record {
@@ -80,7 +80,7 @@ covers-all w p d n live all l =
 pub secured-none : (w : World) (p : ℕ) → Secured w p 0
 secured-none w p = record { within = omega arith; held = λ _ m a b. absurd (omega arith); acknowledged = λ _ m a b. absurd (omega arith) }
 
--- nothing is lost where nothing changes
+-- nothing is lost if nothing changes
 pub carries-self : (w : World) → Carries w w
 carries-self w = record { secured = λ p k s. s; same = λ p k s. refl; payloads_grow = λ s h d. begins-self _ }
 

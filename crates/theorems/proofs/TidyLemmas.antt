@@ -260,7 +260,7 @@ tidy-keep w p k down same h =
     none : (j d i : ℕ) → w.numbers j d i ≡ None → put (w.numbers j) p (λ i. up_to k (w.numbers j p i)) d i ≡ None
     none j d i = choose p (λ q b. w.numbers j q i ≡ None → (if b then (λ i. up_to k (w.numbers j p i)) else w.numbers j q) i ≡ None) (λ e. up_to-none (w.numbers j p i) e) (λ q _ e. e) d
 
--- where a process has its numbers, or not all of them yet
+-- the phases in which a process has its numbers, or not all of them yet
 with-up : (rs : List ℕ) → is_behind (phase_with rs) ≡ false
 with-up [] = refl
 with-up (r ∷ rs) = refl

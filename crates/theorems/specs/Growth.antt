@@ -1,4 +1,4 @@
--- What is asked of handlers
+-- What the laws ask of handlers
 use Rattle.std.specs.Prelude.{◌≡◌, ℕ, List, [], ◌∷◌, ◌++◌}
 use Rattle.world.specs.declared.message.Message.{Message}
 use Rattle.world.specs.Handlers.{Handlers}
@@ -11,6 +11,6 @@ Begins {X} xs ys = (rest : List X) × (xs ++ rest ≡ ys)
 abbrev pub Starts : Handlers → Type 0
 Starts f = (p d : ℕ) → f.sends p [] d ≡ []
 
--- what a process sent after a history, it has sent after one more message too, and more at most behind it
+-- after one more message a process has still sent what it sent before, in the same order, and perhaps more at the end
 abbrev pub Grows : Handlers → Type 0
 Grows f = (p : ℕ) (h : List Message) (m : Message) (d : ℕ) → Begins (f.sends p h d) (f.sends p (h ++ m ∷ []) d)

@@ -1,4 +1,4 @@
--- What every call keeps. The promises follow from it, and their statements, which stand beside this file, name none of it
+-- What every call keeps. The promises follow from it; their statements, in the other files of specs, name none of it
 pub mod Secured
 pub mod Sound
 pub mod Tidy

@@ -4,7 +4,7 @@ use Rattle.world.specs.Phases.{is_down}
 use Rattle.world.specs.World.{World}
 use Rattle.world.specs.Logs.{sent}
 
--- the log of s has the message of this SSN to d: s isn't down, sent it, and hasn't dropped it
+-- the log of s has the message of this SSN to d: s isn't down, has sent it, and hasn't dropped it
 abbrev pub IsEntry : World → ℕ → ℕ → ℕ → Type 0
 IsEntry w s d i =
     record {
@@ -23,7 +23,7 @@ Held w p m =
       entry : IsEntry w by p ssn;
     }
 
--- the longest unbroken run of messages that checkpoint and logs hold of p with their numbers ends at k: the checkpoint covers the
+-- the longest unbroken run of messages of p that checkpoint and logs hold with their numbers ends at k: the checkpoint covers the
 -- first of them, logs hold each number from there to k, and none holds the next
 abbrev pub IsKept : World → ℕ → ℕ → Type 0
 IsKept w p k =
@@ -33,10 +33,10 @@ IsKept w p k =
       most : ¬ Held w p (suc k);
     }
 
--- of each process such a run ends somewhere, among the messages that it received
+-- of each process such a run ends somewhere among the messages that it received
 abbrev pub HasKept : World → Type 0
 HasKept w = (p : ℕ) → record { kept : ℕ; within : kept ≤ length (w.history p); is : IsKept w p kept }
 
--- and at one place alone
+-- such a run ends at one place only
 abbrev pub KeptIsOne : World → Type 0
 KeptIsOne w = (p j k : ℕ) → IsKept w p j → IsKept w p k → j ≡ k

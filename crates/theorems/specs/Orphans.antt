@@ -1,4 +1,4 @@
--- Messages that no history sends any more, and outputs
+-- Orphans: messages and outputs that no history sends any more
 use Rattle.std.specs.Prelude.{◌≡◌, ℕ, List, [], ◌∷◌, length, Some, true, false, slice_get, take, if◌then◌else◌, ◌==◌}
 use Rattle.world.specs.declared.message.Message.{Message}
 use Rattle.world.specs.History.{Payload, nth}
@@ -20,7 +20,7 @@ IsStanding w p k =
 abbrev pub IsSent : World → ℕ → Message → Type 0
 IsSent w d m = (k : ℕ) → IsStanding w m.sender k → nth (payloads w m.sender (take k (w.history m.sender)) d) m.ssn ≡ Some m.payload
 
--- no orphan: nothing was received or shown that its sender's standing history doesn't send
+-- no orphan: the standing history of its sender sends each message that was received or shown
 abbrev pub NoOrphan : World → Type 0
 NoOrphan w =
     record {
@@ -28,12 +28,12 @@ NoOrphan w =
       shown : (i : ℕ) (m : Message) → slice_get w.shown i ≡ Some m → IsSent w 0 m;
     }
 
--- the payloads of those messages that are of s, in order
+-- the payloads of the messages in this list that are of s, in order
 abbrev pub payloads_of : ℕ → List Message → List Payload
 payloads_of s [] = []
 payloads_of s (m ∷ ms) = if m.sender == s then m.payload ∷ payloads_of s ms else payloads_of s ms
 
--- received once: what a process received of another is, in order, a beginning of what that one's standing history sends to it
+-- received once: what a process received of s is, in order, a beginning of what the standing history of s sends to it
 abbrev pub ReceivedBegin : World → Type 0
 ReceivedBegin w = (s d k : ℕ) → IsStanding w s k → Begins (payloads_of s (w.history d)) (payloads w s (take k (w.history s)) d)
 

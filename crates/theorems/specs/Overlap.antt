@@ -1,4 +1,4 @@
--- Why failures have to come one at a time: a worked journal in which they don't, and the promises fail
+-- Why failures have to come one at a time: a worked journal in which they overlap, and the promises fail
 use Rattle.std.specs.Prelude.{◌≡◌, ℕ, List, [], ◌∷◌, ◌++◌, true, false, take, if◌then◌else◌, ◌==◌}
 use Rattle.world.specs.declared.message.Message.{Message}
 use Rattle.world.specs.declared.call.Call.TheVariants.{Input, Transmit, Arrive, Finish, Checkpoint, Crash, Recover, RecoverAlone, ReplayBegin, Resync as ResyncWith}
@@ -11,12 +11,12 @@ use Rattle.world.specs.Legal.{Legal, world_of, all_single}
 use Rattle.world.specs.Worked.{by_nobody, texts}
 use Rattle.theorems.specs.Orphans.{NoOrphan}
 
--- process 1 sends to process 2 what it receives, and process 2 puts it out
+-- process 1 passes on to process 2 what it receives, and process 2 puts it out
 abbrev pub passing : (ℕ → List Message → List ℕ) → Handlers
 passing g = record { state = g; sends = λ p h d. if p == 1 then (if d == 2 then texts h else []) else (if p == 2 then (if d == 0 then texts h else []) else []) }
 
--- a message is passed on, after a checkpoint; process 1 crashes, and has the number of process 2 again; process 2 crashes, replays its
--- message, and what it puts out is shown
+-- a message is passed on, after a checkpoint. Process 1 crashes, and gets the number of process 2 again. Process 2 crashes and
+-- replays its message, and its output is shown
 abbrev pub shown_output : List ℕ → List Entry
 shown_output x =
     by_nobody (Input 1 1 x) (Logged 1)
@@ -39,7 +39,7 @@ shown_output x =
     ∷ by_nobody (Arrive 2) (Shown 1)
     ∷ []
 
--- then both crash at once: the number, which process 1 alone held, is lost
+-- then both crash at once. The number, which only process 1 held, is lost
 abbrev pub both_crash : List ℕ → List Entry
 both_crash x =
     shown_output x
@@ -50,8 +50,8 @@ both_crash x =
     ∷ by_nobody (ResyncWith 2 1) (Restored 0)
     ∷ []
 
--- up to the second of these crashes failures come one at a time; after it process 2 has nothing, though its message was acknowledged,
--- and its output that was shown is an orphan
+-- up to the second of these crashes failures come one at a time. After it process 2 has nothing, though its message was
+-- acknowledged, and its output that was shown is an orphan
 abbrev pub OverlappingFailuresLose : Type 0
 OverlappingFailuresLose =
     (g : ℕ → List Message → List ℕ) (x : List ℕ) →

@@ -14,7 +14,7 @@ use Rattle.world.specs.Handlers.{Handlers}
 use Rattle.world.specs.Legal.{world_of}
 use Rattle.theorems.specs.Kept.{IsKept}
 
--- where a recovery of p may be answered by k, the run ends at k, and checkpoint and plan are the first k messages, as p received them
+-- if a recovery of p may be answered by k, the run ends at k, and checkpoint and plan are the first k messages, as p received them
 abbrev pub RecoversKept : World → Type 0
 RecoversKept w = (p k : ℕ) → MayAnswer w (Recover p) (Kept k) →
     record {
@@ -23,12 +23,13 @@ RecoversKept w = (p k : ℕ) → MayAnswer w (Recover p) (Kept k) →
       plan : gather w p (take (w.saved p) (w.history p)) (k - w.saved p) ≡ take k (w.history p);
     }
 
--- while p wasn't down, in v, its numbers 1 to run were acknowledged: where it is down in the later w, as many are kept at least
+-- in v, p wasn't down and its numbers 1 to run were acknowledged. If it is down in the later w, at least as many are kept
 abbrev pub RunIsKept : World → World → Type 0
 RunIsKept v w = (p run k : ℕ) → is_down (v.phase p) ≡ false → run ≤ length (v.history p)
     → ((m : ℕ) → 0 < m → m ≤ run → v.acknowledged p m ≡ true) → is_down (w.phase p) ≡ true → IsKept w p k → run ≤ k
 
--- p was down in v, and k messages kept: where its length is k in the later w, its state is the one that it had after its first k messages
+-- in v, p was down and k messages were kept. If its length is k in the later w, its state is the one that it had after its first k
+-- messages
 abbrev pub StateIsKept : World → World → Type 0
 StateIsKept v w = (p k : ℕ) → is_down (v.phase p) ≡ true → IsKept v p k → length_of w p ≡ k → state_of w p ≡ v.handlers.state p (take k (v.history p))
 
@@ -41,25 +42,25 @@ abbrev pub is_replayed : ℕ → Call → Answer → Bool
 is_replayed p (Finish q) (Replayed n) = q == p
 is_replayed p call answer = false
 
--- how many of these entries do
+-- how many of these entries finish a replayed call of p
 abbrev pub replayed : ℕ → List Entry → ℕ
 replayed p [] = 0
 replayed p (e ∷ es) = if is_replayed p e.call e.answer then suc (replayed p es) else replayed p es
 
--- whether in an entry p crashes, or receives one more message
+-- whether p crashes or receives one more message in an entry
 abbrev pub moves_on : ℕ → Call → Answer → Bool
 moves_on p (Crash q) answer = q == p
 moves_on p (Finish q) (Committed n key) = q == p
 moves_on p call answer = false
 
--- in none of these entries it does
+-- p neither crashes nor receives one more message in these entries
 abbrev pub IsReturning : ℕ → List Entry → Type 0
 IsReturning p [] = Unit {0}
 IsReturning p (e ∷ es) = (moves_on p e.call e.answer ≡ false) × IsReturning p es
 
--- p recovered in v with k messages, and w came after more entries, in none of which it crashed or received another: each replayed call
--- made it one message longer than its checkpoint, with the state that it had then, and no more are replayed than there are. After as
--- many as there are its length is k, and its state the one that it had
+-- p recovered in v with k messages, and w came after more entries, in which it neither crashed nor received another message. Each
+-- replayed call made it one message longer than its checkpoint, with the state that it had then, and no more are replayed than
+-- there are. After the last one its length is k, and its state the one that it had
 abbrev pub ReplaysBack : World → World → ℕ → ℕ → List Entry → Type 0
 ReplaysBack v w p k more =
     IsReturning p more → record {
@@ -68,8 +69,8 @@ ReplaysBack v w p k more =
       all : replayed p more ≡ k - v.saved p → (length_of w p ≡ k) × (state_of w p ≡ v.handlers.state p (take k (v.history p)));
     }
 
--- p recovers in v, the answer is k, and more entries lead to w: the run ends at k, w still has these messages, the replay brings back
--- length and state, and wherever the length of p is k its state is the one that it had after them
+-- p recovers in v, the answer is k, and more entries lead to w. The run ends at k, w still has these messages, and the replay
+-- brings back length and state. Whenever the length of p is k, its state is the one that it had after them
 abbrev pub RecoversExactly : World → World → ℕ → ℕ → List Entry → Type 0
 RecoversExactly v w p k more =
     record {
@@ -80,7 +81,7 @@ RecoversExactly v w p k more =
       state : length_of w p ≡ k → state_of w p ≡ v.handlers.state p (take k (v.history p));
     }
 
--- the same of the journal with these entries before the recovery, and more behind it
+-- the same of the journal with these entries before the recovery, and more after it
 abbrev pub ComesBackExactly : ℕ → Handlers → List Entry → List Entry → ℕ → ℕ → ℕ → Type 0
 ComesBackExactly n f es more worker p k =
     RecoversExactly (world_of n f es) (world_of n f (es ++ recovery worker p k ∷ more)) p k more

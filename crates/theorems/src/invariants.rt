@@ -12,7 +12,7 @@ ghost use Rattle.theorems.specs.Single.{IsSingle};
 ghost use Rattle.theorems.specs.Invariants.Sound.{Sound};
 ghost use Rattle.theorems.specs.Invariants.Tidy.{Tidy};
 
-/// What the handler of an image sent or put out, it doesn't take back; and it sends and puts out
+/// A handler's later messages take back nothing that it sent or put out. It sends and puts out
 /// nothing before its first message.
 pub fn handlers_grow()
     ensures grow { (images : List TheImage) → Grows (handlers_of images) }
@@ -24,19 +24,20 @@ pub fn always_sound()
     ensures { (n : ℕ) (f : Handlers) (es : List Entry) → Grows f → Legal n f es → Sound (world_of n f es) }
 {}
 
-/// And it is tidy: logs and gates hold no more than was sent, and a process that isn't up has those
-/// of its checkpoint.
+/// Whatever fails, the world is tidy: logs and gates hold no more than was sent, and a process that
+/// isn't up has those of its checkpoint.
 pub fn always_tidy()
     ensures { (n : ℕ) (f : Handlers) (es : List Entry) → Grows f → Legal n f es → Tidy (world_of n f es) }
 {}
 
-/// And gates have let out what was sent by the messages up to which all are acknowledged, and no
-/// more.
+/// Whatever fails, the gates have released exactly what was sent by the messages of the
+/// acknowledged run.
 pub fn always_gated()
     ensures { (n : ℕ) (f : Handlers) (es : List Entry) → Grows f → Starts f → Legal n f es → Gated (world_of n f es) }
 {}
 
-/// Under single failures the world is exact: what is sent, recorded and acknowledged agrees.
+/// If failures come one at a time, the world is exact: what is sent, recorded and acknowledged
+/// agrees.
 pub fn always_exact()
     ensures { (n : ℕ) (f : Handlers) (es : List Entry) → IsSingle n f es → Exact (world_of n f es) }
 {}

@@ -2,8 +2,8 @@
 
 ghost use Rattle.theorems.specs.Overlap.{OverlappingFailuresLose};
 
-/// Where failures overlap, a process can lose what was acknowledged, and an output that was shown
-/// can become an orphan.
+/// If failures overlap, a process can lose what was acknowledged, and an output that was shown can
+/// become an orphan.
 pub fn overlapping_failures_lose()
     ensures { OverlappingFailuresLose }
 {}

@@ -25,30 +25,30 @@ pub record System : Type 0 where
 abbrev pub new_system : ℕ → (ℕ → Limits) → (ℕ → ℕ) → ℕ → ℕ → System
 new_system n limits len page tick = record { nodes = λ p. new_node (limits p) p n (len p); gateway = new_gateway n page tick; given = [] }
 
--- a call that isn't refused, and what the node or the gateway is then
+-- a call that isn't refused, and the node or the gateway after it
 pub data Call : Type 0 where
   -- a node gave this packet
   Gave : ℕ → Packet → TheNode → Call
-  -- it was handed this packet
+  -- a node was handed this packet
   Handed : ℕ → Packet → TheNode → Call
-  -- its handler answered
+  -- the handler of a node answered
   Worked : ℕ → Answer → TheNode → Call
-  -- it sent again what isn't answered, or made a checkpoint
+  -- a node sent again what isn't answered, or made a checkpoint
   Did : ℕ → TheNode → Call
-  -- it was told that this is durable
+  -- a node was told that its checkpoint is durable
   Saved : ℕ → TheNode → Call
   -- the gateway gave this packet
   GaveOut : Packet → TheGateway → Call
-  -- it was handed this packet
+  -- the gateway was handed this packet
   HandedOut : Packet → TheGateway → Call
-  -- it took an input, gave an output, sent again what isn't answered, told what happened, or came back with its store
+  -- the gateway took an input, gave an output, sent again what isn't answered, told its changes, or came back from its store
   DidOut : TheGateway → Call
 
 -- one of the first n nodes
 abbrev pub IsFirst : ℕ → ℕ → Type 0
 IsFirst n p = (0 < p) × (p ≤ n)
 
--- each call does what the contract of its function says; what is handed over was given, whenever, or is handed over again
+-- each call does what the contract of its function says; a packet that is handed over was given, at any time, and may be handed over again
 abbrev pub DoesIt : Answering → ℕ → System → Call → Type 0
 DoesIt f n s (Gave p x new) = IsFirst n p × nodes.Takes (Some x) (s.nodes p) new
 DoesIt f n s (Handed p x new) = IsFirst n p × (IsOne x s.given × nodes.IsHanded x (s.nodes p) new)
@@ -69,7 +69,7 @@ after_call s (GaveOut x new) = record s { gateway = new; given = x ∷ s.given }
 after_call s (HandedOut x new) = record s { gateway = new }
 after_call s (DidOut new) = record s { gateway = new }
 
--- calls one after another
+-- calls, one after another
 abbrev pub Calls : Answering → ℕ → System → List Call → Type 0
 Calls f n s [] = Unit {0}
 Calls f n s (k ∷ ks) = DoesIt f n s k × Calls f n (after_call s k) ks
@@ -78,19 +78,19 @@ abbrev pub after_calls : System → List Call → System
 after_calls s [] = s
 after_calls s (k ∷ ks) = after_calls (after_call s k) ks
 
--- the cluster runs from its opening to one in which all these nodes and the gateway stand; and what is promised of runs holds of it
+-- the cluster runs from its opening to one with which all these nodes and the gateway agree; and the promises of runs hold of it
 pub record IsRunOf (n : ℕ) (f : Handlers) (s : System) : Type 0 where
   pub acts : List Act
   pub run : Run (opening n f) acts
   pub stand : AllStand s.nodes (after_run (opening n f) acts)
   pub gateway : gateways.Stands s.gateway (after_run (opening n f) acts)
-  -- what the gateway counts as shown of a process is what was shown of it
+  -- the gateway counts as many outputs of a process as were shown of it
   pub shown : (p : ℕ) → IsFirst n p → (peer_of p s.gateway).shown ≡ count_of p (after_run (opening n f) acts).shown
   pub no_orphan : NoOrphanNode (after_run (opening n f) acts)
   pub output_once : OutputOnce (after_run (opening n f) acts)
   pub received_once : ReceivedOnce (after_run (opening n f) acts)
 
--- calls of nodes and the gateway in any order, some of them durable or none, with packets handed over late, twice or never, are a run of a cluster
+-- calls of nodes and the gateway in any order, durable or not, with packets that come late, twice or never, are a run of a cluster
 abbrev pub CallsRun : Type 0
 CallsRun = (f : Answering) (n page tick : ℕ) (limits : ℕ → Limits) (len : ℕ → ℕ) (calls : List Call) → n ≤ 15 → Calls f n (new_system n limits len page tick) calls
     → IsRunOf n (handlers_of f len) (after_calls (new_system n limits len page tick) calls)

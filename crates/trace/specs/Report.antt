@@ -1,5 +1,4 @@
--- What a run leaves, as text: the line of a process, that of an output, and whether failures came one at a time (docs/FORMATS.md,
--- "Report").
+-- The lines of a report: a process, an output, and whether failures came one at a time (docs/FORMATS.md, "Report").
 use Rattle.std.specs.Prelude.{ℕ, Bool, List, ◌++◌, codes, decimal, if◌then◌else◌}
 use Rattle.world.specs.declared.phase.PhaseName.{PhaseName}
 use Rattle.world.specs.declared.phase.PhaseName.TheVariants.{Up, Busy, Down, Replaying, Resync}

@@ -1,4 +1,4 @@
-//! Bytes in hexadecimal, written.
+//! Writing bytes in hexadecimal.
 
 ghost use Rattle.std.specs.Prelude.{◌≡◌, ◌<◌, Some};
 ghost use Rattle.std.specs.Char.{digit_char};
@@ -6,7 +6,7 @@ ghost use Rattle.scenario.specs.Hex.{hex_text};
 
 use std::fmt;
 
-/// Bytes that print as two lower-case hexadecimal digits each, or as `-` where there are none.
+/// Bytes that print as two lower-case hexadecimal digits each, or as `-` if there are none.
 #[derive(Clone, Copy, Debug)]
 pub struct Hex<'a>(pub &'a [u8]);
 

@@ -1,9 +1,9 @@
 //! What a run prints: the trace of its journal, and the lines of its report.
 //!
-//! [`trace_text`] writes each accepted call with its worker and its answer, a line an entry. Its promise: the text is the
-//! printer of `specs/Trace.antt` over the whole list, to the last byte; only memory can run out. [`push_process`],
-//! [`push_output`] and [`push_exact`] write the lines of a report, those of `specs/Report.antt`, with bytes as [`Hex`] spells
-//! them and names by [`name_at`].
+//! [`trace_text`] writes one line for each accepted call, with its worker and its answer. The text
+//! is that of `specs/Trace.antt`, to the last byte. The only error is lack of memory.
+//! [`push_process`], [`push_output`] and [`push_exact`] write the lines of a report, those of
+//! `specs/Report.antt`. [`Hex`] prints bytes, and [`name_at`] finds names.
 //!
 //! ```text
 //! let entries = copied(alloc, session.journal())?; // (`sessions::copied`)

@@ -7,7 +7,7 @@ ghost use Rattle.scenario.specs.Process.{names_of};
 use indexmap::IndexMap;
 use scenario::Process;
 
-/// The name of the process of this number, from 1. It is empty where there is no such process.
+/// The name of the process with this number, from 1. It is empty if there is no such process.
 pub fn name_at(processes: &IndexMap<String, Process>, number: u8) -> &str
     ensures { result.now ≡ process_text (names_of processes.now) number }
 {

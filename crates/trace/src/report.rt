@@ -1,4 +1,4 @@
-//! What a run leaves, as text.
+//! The lines of a report.
 
 ghost use Rattle.std.specs.Prelude.{◌≡◌, ◌++◌, OnOk, string_bytes};
 ghost use Rattle.trace.specs.Report.{exact_line, output_line, phase_text, process_line};
@@ -36,8 +36,7 @@ pub fn push_process(
     writeln!(out, "process {name} {word} {length} {hex}")
 }
 
-/// Writes the line of an output: the name of the process that gave it, its SSN to the outside, and
-/// its bytes.
+/// Writes the line of an output: the name of its process, its SSN to the outside, and its bytes.
 pub fn push_output(out: &mut String, name: &str, ssn: u32, payload: &[u8]) -> Result<(), AllocError>
     ensures { OnOk result (string_bytes out.new ≡ string_bytes out.old ++ output_line name.now ssn payload.now) }
 {

@@ -3,13 +3,14 @@ use Rattle.std.proofs.Common.{◌≡◌, ◌⊎◌, ◌||◌, Bool, IfErr, List,
 use Rattle.std.specs.Prelude.{◌≢◌, [], IsOk, OnErr, OnOk}
 use Rattle.std.specs.Io.KnownBytes.{Appends}
 use Rattle.cli.specs.Asks.{AsksFor}
-use Rattle.tracer.specs.Fault.{status_of}
-use Rattle.tracer.specs.Files.{Content}
-use Rattle.tracer.specs.Hints.{command_in, has_hints}
-use Rattle.tracer.specs.Inside.{EndsShort, HasFault, IsEnd, IsHalf}
-use Rattle.tracer.specs.Program.{IsAnswered, IsCause, IsCutShort, IsDone, IsTold, Sameness, Tells}
-use Rattle.tracer.specs.declared.fault.Fault.{Fault}
-use Rattle.tracer.specs.declared.fault.Fault.TheVariants.{Memory}
+use Rattle.image_commands.specs.Fault.{status_of, Tells}
+use Rattle.image_commands.specs.Files.{Content, Sameness}
+use Rattle.image_commands.specs.Hints.{command_in, has_hints}
+use Rattle.image_commands.specs.Ending.{HasFault, IsEnd, IsHalf}
+use Rattle.image_commands.specs.declared.fault.Fault.{Fault}
+use Rattle.image_commands.specs.declared.fault.Fault.TheVariants.{Memory}
+use Rattle.tracer.specs.Inside.{EndsShort}
+use Rattle.tracer.specs.Program.{IsAnswered, IsCause, IsCutShort, IsDone, IsTold}
 use Rattle.tracer.proofs.CauseLemmas.{cause_beside, failure_cause, stream_cause}
 
 -- what a command that came to a fault has printed

@@ -1,7 +1,3 @@
-mod AsmLemmas
 mod CauseLemmas
 mod EndLemmas
-mod HeadLemmas
-mod JudgedLemmas
-mod LoadLemmas
-mod PackLemmas
+mod FewLemmas

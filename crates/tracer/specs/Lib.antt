@@ -1,17 +1,6 @@
-pub mod Asm
-pub mod Check
-pub mod Dis
 pub mod Draw
-pub mod Explain
-pub mod Fault
-pub mod Files
-pub mod Hints
 pub mod Inside
-pub mod Judged
 pub mod Live
-pub mod Loading
-pub mod Native
-pub mod Pack
 pub mod Program
 pub mod Report
 pub mod Run

@@ -1,6 +1,5 @@
 -- How the program ends: the words, the files that they name, and whether a file or a stream failed decide it.
-use Rattle.std.specs.Prelude.{◌≡◌, ◌≢◌, ◌⊎◌, ◌++◌, ℕ, Bool, true, false, List, Option, Some, String, slice_get}
-use Rattle.std.specs.declared.alloc.Global.{Global}
+use Rattle.std.specs.Prelude.{◌≡◌, ◌≢◌, ◌⊎◌, ℕ, Bool, true, List, Option, Some}
 use Rattle.std.specs.Io.KnownBytes.{Appends}
 use Rattle.std.specs.String.{string_bytes}
 use Rattle.cli.specs.Asks.{AsksFor, IsRefusal, own_input_text, Order, Run, Tell, Live, Draw, Check, Explain, Why, Asm, Pack, Dis, Native}
@@ -9,36 +8,24 @@ use Rattle.ordered_images.specs.declared.blocks.Blocks.{Blocks}
 use Rattle.rule_pages.specs.Page.{page_text}
 use Rattle.scenario.specs.Scenario.{IsScenario}
 use Rattle.scenario.specs.declared.order.Allowed.TheVariants.{All, Inputs}
-use Rattle.scenario.specs.declared.process.Process.{Process}
 use Rattle.scenario.specs.declared.scenario.Scenario.{Scenario}
-use Rattle.tracer.specs.Asm.{IsAssembled, IsUnassembled}
-use Rattle.tracer.specs.Check.{IsUnaccepted}
-use Rattle.tracer.specs.Dis.{IsUnlisted}
-use Rattle.tracer.specs.Explain.{IsUnexplained}
+use Rattle.image_commands.specs.Asm.{IsAssembled, IsUnassembled}
+use Rattle.image_commands.specs.Check.{IsUnaccepted}
+use Rattle.image_commands.specs.Dis.{IsUnlisted}
+use Rattle.image_commands.specs.Explain.{IsUnexplained}
+use Rattle.image_commands.specs.Fault.{FaultOf, Tells}
+use Rattle.image_commands.specs.Files.{Content, IsWritten, Sameness}
+use Rattle.image_commands.specs.Hints.{command_in, has_hints}
+use Rattle.image_commands.specs.Native.{IsMachineCode}
+use Rattle.image_commands.specs.Pack.{IsPacked, IsUnpacked}
+use Rattle.image_commands.specs.Loading.{IsImagePath, IsUnloadable}
+use Rattle.image_commands.specs.declared.fault.Fault.{Fault}
+use Rattle.image_commands.specs.declared.fault.Fault.TheVariants.{Usage, Memory, InputOutput}
 use Rattle.tracer.specs.Draw.{IsDrawn}
-use Rattle.tracer.specs.Fault.{fault_text, status_of}
-use Rattle.tracer.specs.Files.{Content}
-use Rattle.tracer.specs.Hints.{command_in, has_hints}
-use Rattle.tracer.specs.Native.{IsMachineCode}
-use Rattle.tracer.specs.Pack.{IsPacked, IsUnpacked}
 use Rattle.tracer.specs.Report.{IsReport, path_of}
 use Rattle.tracer.specs.Run.{IsCutText}
-use Rattle.tracer.specs.Loading.{IsUnloadable}
-use Rattle.tracer.specs.declared.fault.Fault.{Fault}
-use Rattle.tracer.specs.declared.fault.Fault.TheVariants.{Usage, Memory, InputOutput}
 
 -- ---- an order that is carried out
-
--- the file that is made of the source is at its place, which isn't that of the source, and every other file is as it was
-pub record IsWritten (source place : List ℕ) (makes : List ℕ → List ℕ → Type 0) (content content' : Content) : Type 0 where
-  pub apart : source ≢ place
-  pub file : (bytes before : List ℕ) → content source ≡ Some bytes → content place ≡ Some before
-      → (file : List ℕ) × makes bytes file × (content' place ≡ Some file)
-  pub others : (other : List ℕ) → other ≢ place → content' other ≡ content other
-
--- a process has the image at this path
-abbrev pub IsImagePath : List (String Global × Process) → List ℕ → Type 0
-IsImagePath processes path = (i : ℕ) × (e : String Global × Process) × (slice_get processes i ≡ Some e) × (path ≡ string_bytes e.1.path)
 
 -- no process of the scenario at this path has its image at the place
 abbrev pub SparesImages : Content → List ℕ → List ℕ → Type 0
@@ -89,22 +76,9 @@ IsRefused content (Pack code image state form) bytes f = IsUnpacked bytes f
 IsRefused content (Dis image) bytes f = IsUnlisted bytes f
 IsRefused content (Native image code) bytes f = IsUnaccepted bytes f
 
--- what is read from the file at the path comes to the fault: it is refused so, or, for input or output, a file or a stream has
--- failed; want of memory says nothing
-abbrev pub FaultOf : Content → Bool → List ℕ → (List ℕ → Fault → Type 0) → Fault → Type 0
-FaultOf content failed path refused (Usage usage) = ⊥
-FaultOf content failed path refused Memory = Unit {0}
-FaultOf content failed path refused InputOutput =
-    (failed ≡ true) ⊎ ((bytes : List ℕ) → content path ≡ Some bytes → refused bytes InputOutput)
-FaultOf content failed path refused f = (bytes : List ℕ) → content path ≡ Some bytes → refused bytes f
-
 -- the order comes to the fault
 abbrev pub IsFault : Content → Bool → Order → Fault → Type 0
 IsFault content failed order f = FaultOf content failed (path_of order) (IsRefused content order) f
-
--- which paths may lead to one file
-abbrev pub Sameness : Type 0
-Sameness = List ℕ → List ℕ → Bool
 
 -- the order's OUT may be a file that it reads
 abbrev pub WritesOver : Sameness → Content → Order → Type 0
@@ -140,16 +114,6 @@ pub record IsCutShort (words : List (List ℕ)) (content : Content) (out out' : 
 abbrev pub IsHalfPrinted : List (List ℕ) → Content → Bool → Bool → Option (List ℕ) → Option (List ℕ) → ℕ → Type 0
 IsHalfPrinted words content failed deaf out out' status =
     (failed ≡ true) ⊎ (((status ≡ 5) ⊎ (deaf ≡ true)) × IsCutShort words content out out')
-
--- the fault was told in this text, with its status; or the stream for faults has failed, and left a status of its own
-abbrev pub TellsText : Fault → List ℕ → Bool → Option (List ℕ) → Option (List ℕ) → ℕ → Type 0
-TellsText f text failed err err' status =
-    ((status ≡ status_of f) × Appends err err' text) ⊎ ((failed ≡ true) × ((status ≡ 5) ⊎ (status ≡ 6)))
-
--- the same in its line alone, or if hints are asked for in that line and a text below it
-abbrev pub Tells : Bool → Fault → Bool → Option (List ℕ) → Option (List ℕ) → ℕ → Type 0
-Tells false f failed err err' status = TellsText f (fault_text f) failed err err' status
-Tells true f failed err err' status = (hints : List ℕ) × TellsText f (fault_text f ++ hints) failed err err' status
 
 -- the words come to a fault, which was told; `failed` says whether a file or the stream for reports has failed, `deaf` whether
 -- that for faults has

@@ -4,14 +4,14 @@ use Rattle.cli.specs.Asks.{Order, Run, Tell, Live, Draw, Check, Explain, Why, As
 use Rattle.listing.specs.FileListing.{IsFileExplained}
 use Rattle.ordered_images.specs.declared.blocks.Blocks.{Blocks}
 use Rattle.rule_pages.specs.Page.{page_text}
-use Rattle.tracer.specs.Asm.{IsAssembled}
-use Rattle.tracer.specs.Check.{IsAccepted, accepted_text}
-use Rattle.tracer.specs.Dis.{IsListing}
+use Rattle.image_commands.specs.Asm.{IsAssembled}
+use Rattle.image_commands.specs.Check.{IsAccepted, accepted_text}
+use Rattle.image_commands.specs.Dis.{IsListing}
+use Rattle.image_commands.specs.Files.{Content}
+use Rattle.image_commands.specs.Native.{IsMachineCode}
+use Rattle.image_commands.specs.Pack.{IsPacked}
 use Rattle.tracer.specs.Draw.{IsDrawn}
-use Rattle.tracer.specs.Files.{Content}
 use Rattle.tracer.specs.Live.{IsLiveText}
-use Rattle.tracer.specs.Native.{IsMachineCode}
-use Rattle.tracer.specs.Pack.{IsPacked}
 use Rattle.tracer.specs.Run.{IsRunText}
 use Rattle.tracer.specs.Tell.{IsToldText}
 

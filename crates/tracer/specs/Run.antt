@@ -5,8 +5,8 @@ use Rattle.runner.specs.Run.{IsCut, IsRun}
 use Rattle.scenario.specs.Process.{names_of}
 use Rattle.scenario.specs.declared.order.Allowed.TheVariants.{All}
 use Rattle.scenario.specs.declared.scenario.Scenario.{Scenario}
-use Rattle.tracer.specs.Files.{Content}
-use Rattle.tracer.specs.Loading.{IsScenarioWithImages}
+use Rattle.image_commands.specs.Files.{Content}
+use Rattle.image_commands.specs.Loading.{IsScenarioWithImages}
 
 -- the bytes are a scenario, whose run with the images of its processes has this text
 pub record IsRunText (content : Content) (bytes text : List ℕ) : Type 0 where

@@ -6,17 +6,13 @@ ghost use Rattle.tracer.specs.Draw.{IsDrawn};
 ghost use Rattle.tracer.specs.Inside.{IsWriteFault};
 ghost use Rattle.tracer.specs.Program.{IsAnswer, Leaves, SparesImages};
 
-use crate::fault::Fault;
-use crate::files::Files;
-use crate::loading::{Loaded, load_scenario};
-use crate::own_input::{spare, spare_images};
-use crate::site::Site;
 use diagram::{Run, draw};
+use image_commands::{Fault, Files, Loaded, Site, load_scenario, spare, spare_images};
 use runner::{Moment, chronicle_of};
 use scenario::Allowed;
 use std::alloc::{AllocError, Global};
 
-/// The lines of the orders that were refused, as `run` prints them.
+/// The lines of the refused orders, as `run` prints them.
 fn refused_lines(alloc: Global, moments: &[Moment]) -> Result<String, AllocError> {
     let mut lines = String::new(alloc);
     for (line, refused) in moments {
@@ -28,8 +24,8 @@ fn refused_lines(alloc: Global, moments: &[Moment]) -> Result<String, AllocError
     Ok(lines)
 }
 
-/// The picture of the run of a scenario, as the text of an SVG file, for a place that is that of none
-/// of its images: of all packets, or of messages alone. The site keeps which orders were refused.
+/// The picture of a scenario's run, of all packets or of messages alone, as the text of an SVG file. The place for it must be
+/// none of the scenario's images. The site keeps which orders were refused.
 fn picture_of<F: Files>(
     alloc: Global,
     path: &str,
@@ -58,8 +54,7 @@ fn picture_of<F: Files>(
     Ok(text)
 }
 
-/// Carries out the orders of a scenario, and writes the picture of the run into a file: of all packets, or of
-/// messages alone.
+/// Carries out the orders of a scenario, and writes the picture of the run into a file: of all packets or of messages alone.
 pub fn draw_scenario<F: Files>(
     alloc: Global,
     path: &str,

@@ -4,10 +4,7 @@ ghost use Rattle.std.specs.Prelude.{◌≡◌, ◌≤◌, [], IfErr, OnErr, OnOk
 ghost use Rattle.cli.specs.Asks.{Live};
 ghost use Rattle.tracer.specs.Program.{IsAnswer, IsFault};
 
-use crate::fault::Fault;
-use crate::files::Files;
-use crate::loading::{Loaded, load_scenario};
-use crate::site::Site;
+use image_commands::{Fault, Files, Loaded, Site, load_scenario};
 use limits::WORKERS;
 use live::live;
 use scenario::Allowed;
@@ -15,8 +12,8 @@ use std::alloc::Global;
 use std::sync::Wait;
 use std::thread::Threads;
 
-/// Runs so many workers on the messages of a scenario, each until about so many of its calls were
-/// accepted, and writes the trace and the report of what they leave into an empty text.
+/// Runs workers on the messages of a scenario, each until about `budget` of its calls were accepted. Writes the trace and the
+/// report of the session that they leave into an empty text.
 pub fn live_scenario<R: Threads + Wait + Sync, F: Files>(
     rt: &R,
     alloc: Global,

@@ -1,33 +1,21 @@
 //! The program as a function of its words, its files and two streams.
 
 ghost use Rattle.std.specs.Prelude.{◌≡◌, ◌≢◌, ◌≤◌, ◌⊎◌, ◌||◌, true, [], IfErr, OnErr, OnOk, map, string_bytes};
-ghost use Rattle.cli.specs.Asks.{Asm, IsInRange, Run, order_of};
-ghost use Rattle.tracer.specs.Hints.{AreHints, has_hints};
+ghost use Rattle.cli.specs.Asks.{IsInRange, Run, order_of};
+ghost use Rattle.image_commands.specs.Hints.{AreHints, has_hints};
+ghost use Rattle.image_commands.specs.declared.fault.Fault.TheVariants.{Memory};
 ghost use Rattle.tracer.specs.Inside.{EndsShort, IsWriteFault};
 ghost use Rattle.tracer.specs.Program.{IsAnswer, IsAnswered, IsCause, IsDone, IsFault, IsHalfPrinted, IsShort, IsTold, Leaves};
-ghost use Rattle.tracer.specs.declared.fault.Fault.TheVariants.{Memory};
 
-use crate::asm::{SOURCE_LIMIT, asm_at};
-use crate::check::check;
-use crate::dis::dis;
 use crate::drawing::draw_scenario;
-use crate::ending::print_or_tell;
-use crate::explaining::explain_image;
-use crate::fault::Fault;
-use crate::files::Files;
-use crate::hint_word::hints_in;
 use crate::living::live_scenario;
-use crate::loading::{Loaded, load_scenario};
-use crate::machine_code::write_machine_code;
-use crate::own_input::spare;
-use crate::pack::write_packed;
-use crate::site::Site;
-use crate::stream::Stream;
 use crate::telling::tell_scenario;
 use cli::{Request, parse_words};
 use hints::command_words;
-use images::FileForm;
-use limits::STATE_BYTES;
+use image_commands::{
+    Fault, Files, Loaded, Site, Stream, check_image, disassemble_image, explain_image, hints_in,
+    load_scenario, print_or_tell, write_image, write_machine_code, write_packed,
+};
 use rule_pages::page_of;
 use runner::run;
 use scenario::Allowed;
@@ -36,8 +24,8 @@ use std::convert::AsStr;
 use std::sync::Wait;
 use std::thread::Threads;
 
-/// Carries out the orders of a scenario, and writes the lines of those that were refused, the trace
-/// and the report into an empty text. Where memory runs out it may have such lines.
+/// Carries out the orders of a scenario, and writes the refused lines, the trace and the report into an empty text. If memory
+/// runs out, the text may have refused lines.
 fn run_scenario<F: Files>(
     alloc: Global,
     path: &str,
@@ -57,31 +45,7 @@ fn run_scenario<F: Files>(
     Ok(())
 }
 
-/// Writes the image file of this form of the source file, with a state of this length.
-fn write_image<F: Files>(
-    alloc: Global,
-    source: &str,
-    image: &str,
-    state: u16,
-    form: FileForm,
-    files: &mut F,
-    site: &mut Site,
-) -> Result<(), Fault>
-    requires { state ≤ STATE_BYTES }
-    ensures report { OnOk result (IsAnswer (F.content files.old) (Asm source.now image.now state form) []) }
-    ensures left { OnOk result (Leaves (Asm source.now image.now state form)
-        (F.content files.old) (F.content files.new)) }
-    ensures fault { IfErr result (IsWriteFault F.may_be_one (F.content files.old) (F.failed files.new) (Asm source.now image.now state form)) }
-    ensures kept { OnErr result (F.content files.new ≡ F.content files.old) }
-{
-    spare(alloc, source, image, files)?;
-    let text = site.read(alloc, source, Some(SOURCE_LIMIT), files)?;
-    let bytes = asm_at(alloc, text.as_slice(), state, form, site)?;
-    site.write(image, bytes.as_slice(), files)?;
-    Ok(())
-}
-
-/// Carries out what is asked for without a thread, and puts what is to be printed into an empty text.
+/// Carries out a request without a thread, and writes what is to be printed into an empty text.
 fn answer_alone<F: Files>(
     alloc: Global,
     request: Request<'_>,
@@ -118,7 +82,7 @@ fn answer_alone<F: Files>(
             only_messages,
         } => draw_scenario(alloc, scenario, picture, only_messages, files, site),
         Request::Check { image } => {
-            let accepted = check(alloc, image, files, site)?;
+            let accepted = check_image(alloc, image, files, site)?;
             *text = accepted.to_string(alloc)?;
             Ok(())
         }
@@ -143,14 +107,14 @@ fn answer_alone<F: Files>(
             form,
         } => write_packed(alloc, code, image, state, form, files, site),
         Request::Dis { image } => {
-            *text = dis(alloc, image, files, site)?;
+            *text = disassemble_image(alloc, image, files, site)?;
             Ok(())
         }
         Request::Native { image, code } => write_machine_code(alloc, image, code, files, site),
     }
 }
 
-/// Carries out what is asked for, and puts what is to be printed into an empty text.
+/// Carries out a request, and writes what is to be printed into an empty text.
 fn answer<R: Threads + Wait + Sync, F: Files>(
     rt: &R,
     alloc: Global,
@@ -180,8 +144,7 @@ fn answer<R: Threads + Wait + Sync, F: Files>(
     }
 }
 
-/// Carries out what the words ask for without a thread, and puts what is to be printed into an empty
-/// text.
+/// Carries out what the words ask for without a thread, and writes what is to be printed into an empty text.
 fn run_command_alone<S: AsStr, F: Files>(
     alloc: Global,
     words: &[S],
@@ -202,7 +165,7 @@ fn run_command_alone<S: AsStr, F: Files>(
     answer_alone(alloc, request, files, site, text)
 }
 
-/// Carries out what the words ask for, and puts what is to be printed into an empty text.
+/// Carries out what the words ask for, and writes what is to be printed into an empty text.
 fn run_command<R: Threads + Wait + Sync, S: AsStr, F: Files>(
     rt: &R,
     alloc: Global,
@@ -224,12 +187,12 @@ fn run_command<R: Threads + Wait + Sync, S: AsStr, F: Files>(
     answer(rt, alloc, request, files, site, text)
 }
 
-/// Carries out one command line, given without the program's own name, and answers the exit status:
-/// 0; 2 for usage; 3 for an image or a text that is refused; 4 for a scenario that is; 5 for want of
-/// memory; 6 for input or output.
+/// Carries out one command line, without the program's own name, and answers the exit status: 0; 2 for
+/// usage; 3 for a refused image or text; 4 for a refused scenario; 5 if memory ran out; 6 for input or
+/// output.
 ///
-/// A report goes to `out`, the line of a fault to `err`. With the word `--hints` before the command hints for people stand
-/// below that line, or alone there, if the command was carried out.
+/// A report goes to `out`, the line of a fault to `err`. With the word `--hints` before the command `err` also gets hints for
+/// people, below that line, or alone if the command was carried out.
 pub fn sblog<R: Threads + Wait + Sync, S: AsStr, F: Files, O: Stream, E: Stream>(
     rt: &R,
     alloc: Global,
@@ -238,15 +201,15 @@ pub fn sblog<R: Threads + Wait + Sync, S: AsStr, F: Files, O: Stream, E: Stream>
     out: &mut O,
     err: &mut E,
 ) -> u8
-    // With status 0 the words ask for an order that was carried out, and its text was printed; and nothing was told but hints,
-    // if the words ask for these.
+    // With status 0 the words ask for an order that was carried out, its text was printed, and `err` got nothing but hints, if
+    // the words ask for them.
     ensures done { result ≡ 0 → IsDone (map S.text words.now) (F.content files.old) (F.content files.new)
         (O.contents out.old) (O.contents out.new) × AreHints E.contents E.failed (has_hints (map S.text words.now)) err.old err.new }
-    // With every other status they come to a fault of this status, which was told, alone or with hints below it; unless `err`
+    // With any other status the words come to a fault of this status, which was told, alone or with hints below it, unless `err`
     // has failed.
     ensures told { result ≢ 0 → IsTold (map S.text words.now) (F.content files.old) F.may_be_one
         (F.failed files.new || O.failed out.new) (E.failed err.new) (E.contents err.old) (E.contents err.new) result }
-    // Then no file has changed, and nothing was printed but of a run that memory ended; unless `out` has failed.
+    // Then no file changed, and nothing was printed, except by a run that memory ended or if `out` has failed.
     ensures kept { result ≢ 0 → F.content files.new ≡ F.content files.old }
     ensures silent { result ≢ 0 → (out.new ≡ out.old) ⊎ IsHalfPrinted (map S.text words.now) (F.content files.old)
         (O.failed out.new) (E.failed err.new) (O.contents out.old) (O.contents out.new) result }
@@ -259,7 +222,7 @@ pub fn sblog<R: Threads + Wait + Sync, S: AsStr, F: Files, O: Stream, E: Stream>
     print_or_tell(alloc, ended, text.as_str(), hints, &site, out, err)
 }
 
-/// As [`sblog`], where no thread can be started: `live` ends for want of memory.
+/// As [`sblog`], if no thread can be started: `live` ends as if memory ran out.
 pub fn sblog_alone<S: AsStr, F: Files, O: Stream, E: Stream>(
     alloc: Global,
     words: &[S],
@@ -267,15 +230,15 @@ pub fn sblog_alone<S: AsStr, F: Files, O: Stream, E: Stream>(
     out: &mut O,
     err: &mut E,
 ) -> u8
-    // With status 0 the words ask for an order that was carried out, and its text was printed; and nothing was told but hints,
-    // if the words ask for these.
+    // With status 0 the words ask for an order that was carried out, its text was printed, and `err` got nothing but hints, if
+    // the words ask for them.
     ensures done { result ≡ 0 → IsDone (map S.text words.now) (F.content files.old) (F.content files.new)
         (O.contents out.old) (O.contents out.new) × AreHints E.contents E.failed (has_hints (map S.text words.now)) err.old err.new }
-    // With every other status they come to a fault of this status, which was told, alone or with hints below it; unless `err`
+    // With any other status the words come to a fault of this status, which was told, alone or with hints below it, unless `err`
     // has failed.
     ensures told { result ≢ 0 → IsTold (map S.text words.now) (F.content files.old) F.may_be_one
         (F.failed files.new || O.failed out.new) (E.failed err.new) (E.contents err.old) (E.contents err.new) result }
-    // Then no file has changed, and nothing was printed but of a run that memory ended; unless `out` has failed.
+    // Then no file changed, and nothing was printed, except by a run that memory ended or if `out` has failed.
     ensures kept { result ≢ 0 → F.content files.new ≡ F.content files.old }
     ensures silent { result ≢ 0 → (out.new ≡ out.old) ⊎ IsHalfPrinted (map S.text words.now) (F.content files.old)
         (O.failed out.new) (E.failed err.new) (O.contents out.old) (O.contents out.new) result }

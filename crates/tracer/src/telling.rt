@@ -4,16 +4,13 @@ ghost use Rattle.std.specs.Prelude.{◌≡◌, IfErr, IfOk, string_bytes};
 ghost use Rattle.cli.specs.Asks.{Tell};
 ghost use Rattle.tracer.specs.Program.{IsAnswer, IsFault};
 
-use crate::fault::Fault;
-use crate::files::Files;
-use crate::loading::{Loaded, load_scenario};
-use crate::site::Site;
+use image_commands::{Fault, Files, Loaded, Site, load_scenario};
 use runner::tell;
 use scenario::Allowed;
 use std::alloc::Global;
 
-/// Carries out the orders of a scenario, and gives the lines of those that were refused, the trace and the report, as lines of
-/// JSON, or with names in place of numbers, or both.
+/// Carries out the orders of a scenario, and gives the refused lines, the trace and the report, as lines of JSON, or with names
+/// in place of numbers, or both.
 pub fn tell_scenario<F: Files>(
     alloc: Global,
     path: &str,

@@ -1,4 +1,4 @@
--- What it says that an instruction breaks no rule.
+-- What follows if an instruction breaks no rule.
 use Rattle.std.proofs.Common.{◌≡◌, ℕ, ◌<◌, true, false, List, Option, Some, None, ℤ, pos, negsuc, refl, sym, ap, subst, ◌∙◌, arith}
 use Rattle.std.specs.Prelude.{not, ◌&&◌, ◌||◌, nat_lt, is_some}
 use Rattle.std.proofs.lemmas.Bool.{or_parts, and_parts, false≢true}
@@ -20,54 +20,7 @@ use Rattle.regtypes.specs.Typing.{Table, frame_at, IsTyping, is_target}
 use Rattle.regtypes.proofs.Monotone.{none_holds, both_pass, not_false, AllSet, all_set}
 use Rattle.verifier.specs.Places.{index_of}
 use Rattle.verifier.specs.Inside.Places.{IsInside, IsWritable}
-
--- the instruction breaks no rule of jumps and no local rule
-pub record Keeps (form : ImageForm) (slots : List (Option Insn)) (len slot : ℕ) (i : Insn) (f : Frame) : Type 0 where
-  pub flow : first_broken (jump_tests slots slot i) ≡ None
-  pub local : first_broken (tests_of form len i f) ≡ None
-
--- in typed code an instruction that is reached breaks no rule of jumps and no local rule
-pub kept : (form : ImageForm) (slots : List (Option Insn)) (len : ℕ) (table : Table) (slot : ℕ) (i : Insn) (g : Frame) → IsTyping form slots len table → frame_at table slot ≡ Some g → insn_at slots slot ≡ Some i → Keeps form slots len slot i g
-kept form slots len table slot i g t at n =
-    let k = both_pass (jump_tests slots slot i) (tests_of form len i g) (typing_keeps form slots len table slot g i t at n) in
-    record { flow = k.0; local = k.1 }
-
--- ---- rule by rule
-
-pub record Rules (form : ImageForm) (len : ℕ) (i : Insn) (f : Frame) : Type 0 where
-  pub set : AllSet f.kinds (attributes_of i)
-  pub written : writes_frame_pointer (attributes_of i).written ≡ false
-  pub number : has is_place f.kinds (attributes_of i).number ≡ false
-  pub operand : has is_place f.kinds (attributes_of i).operand ≡ false
-  pub base : has is_num f.kinds (base_of (attributes_of i).access) ≡ false
-  pub inside : reaches_out len f (attributes_of i).access ≡ false
-  pub near : moves_out f.kinds (attributes_of i).moved ≡ false
-  pub unwritten : stores_in_message f.kinds (attributes_of i).access ≡ false
-  pub known : is_unknown form i ≡ false
-  pub given : misgives form len i f ≡ false
-  pub ended : ends_without i f.kinds ≡ false
-
--- an instruction that breaks no local rule passes the test of each
-pub rules_of : (form : ImageForm) (len : ℕ) (i : Insn) (f : Frame) → first_broken (tests_of form len i f) ≡ None → Rules form len i f
-rules_of form len i f h =
-    let a = attributes_of i in
-    let k = none_holds (tests_of form len i f) h in
-    let five = or_parts (has is_place f.kinds a.number) (has is_place f.kinds a.operand || has is_num f.kinds (base_of a.access)) k.1.1.0 in
-    let base = or_parts (has is_place f.kinds a.operand) (has is_num f.kinds (base_of a.access)) five.1 in
-    let six = or_parts (reaches_out len f a.access) (moves_out f.kinds a.moved) k.1.1.1.0 in
-    record {
-      set = all_set f.kinds a k.0;
-      written = k.1.0;
-      number = five.0;
-      operand = base.0;
-      base = base.1;
-      inside = six.0;
-      near = six.1;
-      unwritten = k.1.1.1.1.0;
-      known = k.1.1.1.1.1.0;
-      given = k.1.1.1.1.1.1.0;
-      ended = k.1.1.1.1.1.1.1.0;
-    }
+use Rattle.regtypes.proofs.RuleLemmas.{rules_of}
 
 -- ---- bases of loads and stores
 

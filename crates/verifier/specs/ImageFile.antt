@@ -1,4 +1,5 @@
--- Image files: the bytes "SBI1" or "SBI2" by the form, the state's length and the number of slots in two bytes each, the code; numbers are little-endian.
+-- Image files: the bytes "SBI1" or "SBI2" by the form, two bytes with the state's length, two with the number of slots,
+-- then the code; numbers are little-endian.
 use Rattle.std.specs.Prelude.{◌≡◌, ◌≢◌, ◌<◌, ◌≤◌, ◌⊎◌, ℕ, ◌+◌, ◌*◌, ◌++◌, length, take, drop, List, [], ◌∷◌, Result, IfOk, IfErr}
 use Rattle.std.specs.Int.{w16, to_le_bytes, from_le_bytes}
 use Rattle.std.specs.List.{AllByRecursion}
@@ -45,7 +46,7 @@ LoadsTypable bytes result = (form : ImageForm) (code : List Insn) (len : ℕ) (t
 abbrev pub field_at : ℕ → List ℕ → ℕ
 field_at k bytes = from_le_bytes w16 (take 2 (drop k bytes))
 
--- what each fault finds in a file; its state's length stands at byte 4, the number of its slots at byte 6
+-- what each fault finds in a file; bytes 4 and 5 are its state's length, bytes 6 and 7 the number of its slots
 abbrev pub HasFault : List ℕ → HeaderFault → Type 0
 HasFault bytes TooShort = length bytes < 8
 HasFault bytes Magic = (form : ImageForm) → take 4 bytes ≢ magic form
@@ -53,17 +54,17 @@ HasFault bytes StateLength = STATE_BYTES < field_at 4 bytes
 HasFault bytes SlotCount = (field_at 6 bytes ≡ 0) ⊎ (SLOTS < field_at 6 bytes)
 HasFault bytes FileLength = length bytes ≢ 8 + 8 * field_at 6 bytes
 
--- the fault that bytes are refused with before their code is read: the first, in the order of their numbers
+-- the header's fault for which bytes are refused: the first, in the order of their numbers
 abbrev pub IsHeaderFault : List ℕ → HeaderFault → Type 0
 IsHeaderFault bytes fault =
     IsFirst (HasFault bytes) (TooShort ∷ Magic ∷ StateLength ∷ SlotCount ∷ FileLength ∷ []) fault
 
--- behind a header without a fault the code breaks this rule of its encoding, at this slot
+-- the header has no fault, and the code after it breaks this rule of the encoding, at this slot
 abbrev pub IsCodeFault : List ℕ → Rule → ℕ → Type 0
 IsCodeFault bytes rule slot =
     ((fault : HeaderFault) → ¬ HasFault bytes fault) × decoding.IsFault (drop 8 bytes) rule slot
 
--- why bytes are no image file; want of memory says nothing of them
+-- why bytes are no image file; that memory ran out says nothing of them
 abbrev pub IsUnread : List ℕ → ImageError → Type 0
 IsUnread bytes Memory = Unit {0}
 IsUnread bytes (Header fault) = IsHeaderFault bytes fault
@@ -76,12 +77,12 @@ IsRefusal bytes (Verify rule slot) =
     (form : ImageForm) × (is : List Insn) × (len : ℕ) × IsFile form is len bytes × verdict.IsFault form is len rule slot
 IsRefusal bytes error = IsUnread bytes error
 
--- a file is refused for one cause, but for want of memory
+-- a refused file has one cause that can be named, if memory doesn't run out
 abbrev pub IsOneFileRefusal : Type 0
 IsOneFileRefusal =
     (bytes : List ℕ) (e e' : ImageError) → IsRefusal bytes e → IsRefusal bytes e' → e ≢ Memory → e' ≢ Memory → e ≡ e'
 
--- code is written but where its slots are none or too many
+-- code is written unless it has no slot or too many
 abbrev pub IsUnwritten : List Insn → ImageError → Type 0
 IsUnwritten is Memory = (0 < slots is) × (slots is ≤ 1024)
 IsUnwritten is (Header fault) = (fault ≡ SlotCount) × ((slots is ≡ 0) ⊎ (1024 < slots is))

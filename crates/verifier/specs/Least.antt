@@ -9,7 +9,7 @@ use Rattle.regtypes.specs.declared.image_form.ImageForm.{ImageForm}
 use Rattle.regtypes.specs.Frame.{Leq}
 use Rattle.regtypes.specs.Typing.{Table, frame_at, broken, TypesBelow}
 
--- where the first table has a frame, the second has one that says no more
+-- if the first table has a frame for a slot, the second has one that says no more
 abbrev pub Below : Table → Table → Type 0
 Below a b = (s : ℕ) (g : Frame) → frame_at a s ≡ Some g → (h : Frame) × (frame_at b s ≡ Some h) × Leq g h
 
@@ -32,7 +32,7 @@ pub record StopsAt (form : ImageForm) (slots : List (Option Insn)) (len : ℕ) (
   pub begins : insn_at slots s ≡ Some insn
   pub breaks : broken form slots len s insn frame ≡ Some rule
 
--- the rule and the slot that are named: no code at all breaks V2 at slot 0
+-- the rule and the slot that are named; code without a slot breaks V2 at slot 0
 abbrev pub IsRefused : ImageForm → List (Option Insn) → ℕ → Rule → ℕ → Type 0
 IsRefused form [] len rule s = (rule ≡ V2) × (s ≡ 0)
 IsRefused form (x ∷ xs) len rule s = StopsAt form (x ∷ xs) len rule s

@@ -23,18 +23,18 @@ abbrev pub IsFault : ImageForm → List Insn → ℕ → Rule → ℕ → Type 0
 IsFault form code len rule slot =
     IsRefused form (slots_of code) len rule slot × ((t : Table) → IsTyping form (slots_of code) len t → ⊥)
 
--- the table is the least typing of the code; where a slot breaks a rule, it is that of the slots below
+-- the table is the least typing of the code; if a slot breaks a rule, it is that of the slots below
 abbrev pub IsJudged : ImageForm → List Insn → ℕ → Table → Option (Rule × ℕ) → Type 0
 IsJudged form code len table None = IsLeastTyping form (slots_of code) len table
 IsJudged form code len table (Some (rule, slot)) =
     IsLeast form (slots_of code) len slot table × IsFault form code len rule slot
 
--- want of memory says nothing of the code
+-- why code gave no image; that memory ran out says nothing of the code
 abbrev pub IsWhy : ImageForm → List Insn → ℕ → VerifyError → Type 0
 IsWhy form code len (Fault rule slot) = IsFault form code len rule slot
 IsWhy form code len Memory = Unit {0}
 
--- code is refused for one rule at one slot
+-- refused code has one rule and one slot that can be named
 abbrev pub IsOneRefusal : Type 0
 IsOneRefusal =
     (form : ImageForm) (slots : List (Option Insn)) (len : ℕ) (rule rule' : Rule) (s s' : ℕ)

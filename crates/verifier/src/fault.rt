@@ -33,7 +33,7 @@ pub enum HeaderFault {
     /// 4: the code has no slot, or more than 1,024.
     #[error("no slots, or too many")]
     SlotCount,
-    /// 5: the length isn't 8 bytes more than 8 for each slot.
+    /// 5: the file's length isn't 8 bytes and 8 more for each slot.
     #[error("the length is not that of the slots")]
     FileLength,
 }
@@ -56,13 +56,13 @@ impl HeaderFault {
     }
 }
 
-/// Why a file is refused: its first fault in the order header, code, rules of the verifier.
+/// Why a file is refused. The order of faults is header, code, rules of the verifier; the first is named.
 #[derive(Debug, Drop, PartialEq, Eq, Error)]
 pub enum ImageError {
     /// Memory ran out.
     #[error("out of memory")]
     Memory,
-    /// The header has this fault, the first in its order.
+    /// The header has this fault, the first in the order of their numbers.
     #[error("header: {0}")]
     Header(HeaderFault),
     /// The code is no encoding.

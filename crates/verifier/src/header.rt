@@ -10,13 +10,13 @@ use byteorder::{ByteOrder, LittleEndian};
 use limits::{SLOTS, STATE_BYTES};
 use regtypes::ImageForm;
 
-/// How many bytes a header has, and so a slot.
+/// The number of bytes of a header, and of a slot.
 pub const HEADER: usize = 8;
 
-/// What a file of form 1 begins with.
+/// The first four bytes of a file of form 1.
 const MAGIC_1: [u8; 4] = [0x53, 0x42, 0x49, 0x31];
 
-/// What a file of form 2 begins with.
+/// The first four bytes of a file of form 2.
 const MAGIC_2: [u8; 4] = [0x53, 0x42, 0x49, 0x32];
 
 /// The fields of a header.
@@ -30,7 +30,7 @@ pub struct FileHeader {
     pub slots: u16,
 }
 
-/// The fields of the first eight bytes, whatever they are, and the bytes after them. There are at least eight.
+/// The fields of the first eight bytes, without a check, and the bytes after them. There have to be at least eight.
 pub fn header_at(bytes: &[u8]) -> (FileHeader, &[u8])
     requires { 8 ≤ length bytes.now }
     ensures { HasHeader result.0 result.1.now bytes.now }
@@ -44,7 +44,7 @@ pub fn header_at(bytes: &[u8]) -> (FileHeader, &[u8])
     (header, rest)
 }
 
-/// The form of files that begin so.
+/// The form of files that begin with these bytes.
 fn form_of(begins: [u8; 4]) -> Option<ImageForm>
     ensures { MatchOption result ((form : ImageForm) → begins ≢ magic form) (λ form. begins ≡ magic form) }
 {

@@ -1,4 +1,4 @@
-//! One slot of the pass: its rules, and what leaves it.
+//! One slot of the pass: its rules, and the frames that leave it.
 
 ghost use Rattle.std.specs.Prelude.{◌≡◌, ◌≤◌, ◌<◌, ◌+◌, MatchResult, OnErr, length, true, is_some, pos, ◌+ℤ◌, Some, None};
 ghost use Rattle.decode.specs.Slots.{insn_at};
@@ -11,7 +11,7 @@ use decode::Insn;
 use limits::{PAYLOAD_BYTES, REGISTERS, SLOTS};
 use regtypes::{Flow, Frame, ImageForm, Rule, flow_from, join, transfer};
 
-/// Joins a frame into what a slot has.
+/// Joins a frame into the frame of a slot.
 fn merge(table: &mut [Option<Frame>], to: usize, frame: &Frame)
     requires within { to < length table.old }
     requires whole { length frame.now.kinds ≡ REGISTERS }
@@ -80,8 +80,8 @@ fn leads(slots: &[Option<Insn>], slot: usize, flow: &Flow) -> Result<(), Rule>
     Ok(())
 }
 
-/// Judges one slot, and joins what leaves it into the slots that come next. A slot that no path
-/// leads to is not judged.
+/// Judges one slot, and joins the frames that leave it into those of the next slots. A slot that no path leads to is
+/// not judged.
 pub fn judge(
     form: ImageForm,
     slots: &[Option<Insn>],

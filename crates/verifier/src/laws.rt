@@ -1,14 +1,14 @@
-//! What holds of every verdict.
+//! Laws of all verdicts.
 
 ghost use Rattle.verifier.specs.ImageFile.{IsOneFileRefusal};
 ghost use Rattle.verifier.specs.Verdict.{IsOneRefusal};
 
-/// Code is refused for one rule at one slot, if it is.
+/// Refused code has one rule and one slot that can be named.
 pub fn refusals_are_one()
     ensures { IsOneRefusal }
 {}
 
-/// A file is refused for one cause, but for want of memory.
+/// A refused file has one cause that can be named, if memory doesn't run out.
 pub fn file_refusals_are_one()
     ensures { IsOneFileRefusal }
 {}

@@ -1,15 +1,13 @@
-//! Images: code that is verified once, so that it can be run with no test for a fault.
+//! Images of forms 1 and 2: code that is verified once and then runs with no test for a fault.
 //!
-//! [`load`] reads an image file of either form, [`verify_form`] takes instructions and a form, and
-//! [`verify`] instructions of form 1; all answer an [`Image`] exactly where the code is typable, or
-//! where memory runs out an error that says so. Code is typable where
-//! there is a table of frames, one for each instruction that a path leads to, under which no rule
-//! is broken and into which all that leaves an instruction fits. The image keeps the least such
-//! table, and its type keeps the fact, and for each instruction that a path leads to the dense operation that
-//! stands for it. A refusal names the first slot whose frame breaks a rule,
-//! and the least rule that it breaks; no other slot or rule could have been named. [`frames_of`] tells
-//! what is known of the registers slot by slot, also of code that is refused. [`parts`] and [`file`]
-//! read and write image files without a look at the rules.
+//! [`load`] reads an image file of either form, [`verify_form`] takes instructions and a form, and [`verify`]
+//! instructions of form 1. Each answers an [`Image`] exactly if the code is typable; if memory runs out, the error says
+//! so. Code is typable if there is a table with a frame for each instruction that a path leads to, such that no
+//! instruction breaks a rule under its frame and all that leaves it fits the frames where it leads. The image keeps the
+//! least such table, and its type keeps the fact. For each instruction that a path leads to the image has a dense
+//! operation. A refusal names the first slot whose frame breaks a rule, and the least rule that it breaks; no other
+//! slot or rule could be named. [`frames_of`] tells what is known of the registers slot by slot, also for code that is
+//! refused. [`parts`] and [`file`] read and write image files without checking the rules.
 //!
 //! ```
 //! let image = load(alloc, &bytes)?;

@@ -17,9 +17,9 @@ use std::alloc::Global;
 
 /// The instructions of an image file, the length of its state, and its form. The code is not verified.
 pub fn parts(alloc: Global, bytes: &[u8]) -> Result<(Vec<Insn>, u16, ImageForm), ImageError>
-    // What is read is written so.
+    // The file of what was read has these bytes.
     ensures found { IfOk result (λ p. IsFile p.2 p.0.items p.1 bytes.now) }
-    // What is written so is read, unless memory runs out.
+    // If the bytes are the file of some code, that code is read, unless memory runs out.
     ensures only { (form : ImageForm) (code : List Insn) (len : ℕ) → IsFile form code len bytes.now → IfOk result (λ p. (p.0.items ≡ code) × (p.1 ≡ len) × (p.2 ≡ form)) × IfErr result (λ e. e ≡ Memory) }
     ensures refused { IfErr result (IsUnread bytes.now) }
 {
@@ -34,7 +34,8 @@ pub fn parts(alloc: Global, bytes: &[u8]) -> Result<(Vec<Insn>, u16, ImageForm),
     }
 }
 
-/// The image of a file of typable code. The first fault is named, in the order header, code, rules of the verifier.
+/// The image of a file of typable code. An error names the first fault, in the order header, code, rules of the
+/// verifier.
 pub fn load(alloc: Global, bytes: &[u8]) -> Result<Image, ImageError>
     ensures found { IfOk result (λ image. IsFile image.form image.code image.len bytes.now) }
     ensures image { IfOk result (λ image. IsImageOf image.form image.code image.len image) }

@@ -26,9 +26,9 @@ pub fn verify(alloc: Global, code: Vec<Insn>, state_len: u16) -> Result<Image, V
     verify_form(alloc, code, state_len, ImageForm::Sbi1)
 }
 
-/// The image of these instructions with a state of this length, if they are typable in this form.
-/// Code is given in at most 1,024 slots, and its state has at most 1,024 bytes. The frame of a slot
-/// is the join of all that arrives there; an instruction that no path reaches is not judged.
+/// The image of these instructions with a state of this length, if they are typable in this form. The code has at most
+/// 1,024 slots, and its state at most 1,024 bytes. The frame of a slot is the join of all frames that arrive there.
+/// Instructions that no path reaches are not judged.
 pub fn verify_form(
     alloc: Global,
     code: Vec<Insn>,
@@ -45,7 +45,7 @@ pub fn verify_form(
     }
 }
 
-/// The same of instructions whose bytes are at hand.
+/// The same for instructions whose encoding the caller has.
 pub fn verify_encoded(
     alloc: Global,
     code: Vec<Insn>,

@@ -46,7 +46,7 @@ all-single w (e ∷ es) all =
     let rest : all_single (after w e.call e.answer) es ≡ true = all-single (after w e.call e.answer) es each.1 in
     λ i. one i && rest i
 
--- so failures come one at a time behind such calls where they did before
+-- so failures come one at a time after such calls if they did before
 single-more : (w : World) (es more : List Entry) → are_allowed (world_after w es) more ≡ true → all_single w (es ++ more) ≡ all_single w es
 single-more w [] more all = all-single w more all
 single-more w (e ∷ es) more all = ap (λ b. is_single w e.call && b) (single-more (after w e.call e.answer) es more all)

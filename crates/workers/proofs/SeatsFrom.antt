@@ -29,7 +29,7 @@ pub others-more : (xs ys zs : List (Option TheSeat)) (k n : ℕ) → ((j : ℕ) 
 others-more xs ys zs k n same set j (inl below) = ap (λ s. seat_at s j) set ∙ get_or-set_other ys (k + n) j None None (omega (arith, below)) ∙ same j (inl below)
 others-more xs ys zs k n same set j (inr above) = ap (λ s. seat_at s j) set ∙ get_or-set_other ys (k + n) j None None (omega (arith, above)) ∙ same j (inr (omega (arith, above)))
 
--- nobody's, those behind the workers', and theirs
+-- nobody's seat, those after the workers', and theirs
 pub all-taken : (xs ys zs : List (Option TheSeat)) (n : ℕ) (none one two three : List TheSeat) → n ≤ WORKERS → none ≡ [] → one ≡ none ++ seats_from xs 0 1 → ((j : ℕ) → (j < 0) ⊎ (0 + 1 ≤ j) → seat_at ys j ≡ seat_at xs j)
     → two ≡ one ++ seats_from ys (n + 1) (WORKERS - n) → ((j : ℕ) → (j < n + 1) ⊎ (n + 1 + (WORKERS - n) ≤ j) → seat_at zs j ≡ seat_at ys j) → three ≡ two ++ seats_from zs 1 n → three ≡ unmanned n xs ++ manned n xs
 all-taken xs ys zs n none one two three few empty first first_others second second_others third =
@@ -43,7 +43,7 @@ length-listed : (o : Option TheSeat) → IsSome o → length (listed o) ≡ 1
 length-listed (Some s) some = refl
 length-listed None some = absurd (true≢false (sym some))
 
--- where no seat is out, they are as many as workers
+-- if no seat is out, there are as many as workers
 length-seats_from : (xs : List (Option TheSeat)) (k n : ℕ) → IsWhole xs → k + n ≤ length xs → length (seats_from xs k n) ≡ n
 length-seats_from xs k zero whole within = refl
 length-seats_from xs k (suc n) whole within =

@@ -17,7 +17,7 @@ length-served budget [] (h ∷ hs) all = absurd all
 length-served budget (s ∷ ss) [] all = absurd all
 length-served budget (s ∷ ss) (h ∷ hs) all = ap suc (length-served budget ss hs all.1)
 
--- what stands before the last one
+-- what comes before the last one
 pub take-push : {X : Type 0} → (k : ℕ) (xs : List X) (x : X) → k ≤ length xs → take k (xs ++ x ∷ []) ≡ take k xs
 take-push zero xs x within = refl
 take-push (suc k) [] x within = absurd (omega (arith, within))

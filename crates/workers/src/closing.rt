@@ -10,7 +10,7 @@ use sessions::{Seat, Session, Share};
 use std::sync::Mutex;
 use std::sync::ledger::Ledger;
 
-/// A session that no worker shares any more, what its workers handed back, and the other seats.
+/// A session that workers no longer share, what they handed back, and the other seats.
 #[derive(Drop)]
 pub struct Closed<L: Ledger> {
     pub session: Session<L>,
@@ -18,7 +18,7 @@ pub struct Closed<L: Ledger> {
     pub seats: Vec<Seat<L>>,
 }
 
-/// Shows that the journal is as long as all seats were answered together, where they are all 17.
+/// Shows that the journal is as long as all seats have answered together, if these are all 17.
 pub(crate) fn settled<L: Ledger>(
     session: Session<L>,
     shares: Vec<Share<L>>,
@@ -42,8 +42,8 @@ pub(crate) fn settled<L: Ledger>(
     }
 }
 
-/// Takes the session from under its lock. Where all 17 seats are handed in, those of the shares
-/// among them, the journal is as long as they were answered together. Takes no memory.
+/// Takes the session out of its lock. If all 17 seats are handed in, with those in the shares, the
+/// journal is as long as they have answered together. Takes no memory.
 pub fn close<L: Ledger>(
     session: Mutex<Session<L>>,
     shares: Vec<Share<L>>,

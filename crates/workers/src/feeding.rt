@@ -1,20 +1,20 @@
-//! What workers are fed.
+//! The feeds of workers.
 
 use crossbeam_channel::{Receiver, Sender};
 use std::alloc::{AllocError, Global};
 use std::sync::Wait;
 use world::Feed;
 
-/// What the channel of a run brings to a worker.
+/// An item in the channel from which workers are fed.
 #[derive(Clone, Copy, PartialEq, Eq, Debug)]
 pub enum Item {
     /// A message of the outside.
     Feed(Feed),
-    /// No feed comes any more for the worker that takes this.
+    /// The worker that takes this gets no more feeds.
     Last,
 }
 
-/// The next feed, or none where this was the last item. A closed channel has no more.
+/// The next feed, or `None` if this was the last item or the channel is closed.
 pub(crate) fn next_feed(rt: &impl Wait, items: &Receiver<Item>) -> Option<Feed> {
     match items.recv(rt) {
         Ok(Item::Feed(feed)) => Some(feed),
@@ -22,7 +22,7 @@ pub(crate) fn next_feed(rt: &impl Wait, items: &Receiver<Item>) -> Option<Feed> 
     }
 }
 
-/// A channel with each of the feeds, and then the last item for each of the workers.
+/// A channel with each of the feeds, and after them a last item for each worker.
 pub(crate) fn channel_of(
     rt: &impl Wait,
     alloc: Global,

@@ -1,15 +1,16 @@
 //! Workers: many threads that share one session.
 //!
-//! The session lies under one lock. A worker takes a call under it, runs the handler of a job with
-//! the lock free, and brings the result back under it. Each worker calls by its own seat, so each
-//! entry of the journal bears who made it. What a session keeps by its type, it keeps whenever the
-//! lock is free: its journal is legal and leads to where it is, and an accepted call is one entry
-//! and one more for its seat. A worker knows what lies under the lock by [`Shared`] alone: each
-//! turn and each result that it brings back keeps the images and the entries that were there, and
-//! what it adds are calls that a worker may make, so that none is a crash. When all seats are handed
-//! in, the journal is as long as they were answered together.
+//! One lock guards the session. A worker makes a call under it, runs the handler of a job without
+//! it, and brings the result back under it. Each worker calls by its own seat, so each entry of the
+//! journal tells who made the call. What a session's type keeps holds whenever the lock is free:
+//! its journal is legal and leads to where it is, and each accepted call is one entry and is
+//! counted by one seat. A worker knows what the lock guards only by [`Shared`]: each turn and each
+//! result keeps the images and the earlier entries, and adds only calls that a worker may make. So
+//! none of them is a crash. When all seats are handed in, the journal is as long as they have
+//! answered together.
 //!
-//! No contract says that a worker gets on: [`worker`] and [`run`] promise what holds if they return.
+//! No contract says that a worker makes progress: [`worker`] and [`run`] promise what holds if they
+//! return.
 //!
 //! ```text
 //! let closed = run(&rt, alloc, 4, session, &feeds, 10_000, &Open)?;

@@ -1,4 +1,4 @@
-//! Runs of many workers.
+//! A run of many workers.
 
 ghost use Rattle.std.specs.Prelude.{◌≡◌, ◌+◌, ◌-◌, ◌<◌, ◌≤◌, ℕ, ◌⊎◌, ◌++◌, [], length, vec_len, vec_capacity, take, drop, slice_set, None, IfOk, IfErr, OnOk};
 ghost use Rattle.std.specs.Bool.{OnTrue, OnFalse};
@@ -27,7 +27,7 @@ use std::thread::Threads;
 use thiserror::Error;
 use world::Feed;
 
-/// Why no worker was started. Where both causes hold, the first one is told.
+/// Why no worker was started. If both causes hold, the first is told.
 #[derive(Clone, Copy, PartialEq, Eq, Debug, Error)]
 pub enum RunError {
     #[error("there are no workers or more than 16, or a seat is out")]
@@ -48,14 +48,14 @@ impl RunError {
     }
 }
 
-/// Seats, the last of which get workers, and the shares of workers that have ended.
+/// Seats, of which the last get workers, and the shares of workers that have ended.
 #[derive(Drop)]
 struct Crew<L: Ledger> {
     seats: Vec<Seat<L>>,
     shares: Vec<Share<L>>,
 }
 
-// Places for all seats, and for a share of each worker.
+// Room for all seats, and for a share of each worker.
 fn places_for<L: Ledger>(alloc: Global, workers: u8) -> Result<Crew<L>, AllocError>
     ensures none { IfOk result (λ c. (c.seats.items ≡ []) × (c.shares.items ≡ [])) }
     ensures places { IfOk result (λ c. (SEATS ≤ vec_capacity c.seats) × (workers ≤ vec_capacity c.shares)) }
@@ -65,7 +65,7 @@ fn places_for<L: Ledger>(alloc: Global, workers: u8) -> Result<Crew<L>, AllocErr
     Ok(Crew { seats, shares })
 }
 
-// Sits at a seat, and puts it behind these, if it is at hand.
+// Takes this worker's seat, if it isn't out, and adds it to these.
 fn sit_at<L: Ledger>(session: &mut Session<L>, worker: u8, seats: &mut Vec<Seat<L>>)
     requires { vec_len seats.old < vec_capacity seats.old }
     ensures seats { seats.new.items ≡ seats.old.items ++ listed (seat_at session.old.seats worker) }
@@ -81,7 +81,7 @@ fn sit_at<L: Ledger>(session: &mut Session<L>, worker: u8, seats: &mut Vec<Seat<
     seats.push_reserved(seat);
 }
 
-// Sits at so many seats from that of a worker on, and puts those that are at hand behind these.
+// Takes `count` seats from this worker's on, and adds those that aren't out to these.
 fn sit_from<L: Ledger>(session: &mut Session<L>, worker: u8, count: u8, seats: &mut Vec<Seat<L>>)
     requires within { worker + count ≤ SEATS }
     requires room { vec_len seats.old + count ≤ vec_capacity seats.old }
@@ -97,7 +97,7 @@ fn sit_from<L: Ledger>(session: &mut Session<L>, worker: u8, count: u8, seats: &
     }
 }
 
-// Shows that the journal is as long as these seats were answered, if they are all.
+// Shows that the journal is as long as these seats have answered, if they are all.
 fn audit<L: Ledger>(session: &mut Session<L>, seats: &mut Vec<Seat<L>>)
     requires { L.parts ≡ SEATS }
     ensures session { session.new ≡ session.old }
@@ -108,7 +108,7 @@ fn audit<L: Ledger>(session: &mut Session<L>, seats: &mut Vec<Seat<L>>)
     session.settle(&mut none, seats.as_mut_slice());
 }
 
-// Whether so many workers can run.
+// Whether this many workers can run.
 fn is_ready<L: Ledger>(workers: u8, session: &Session<L>) -> bool
     ensures can { OnTrue result (CanRun workers session.now) }
     ensures cannot { OnFalse result (¬ CanRun workers session.now) }
@@ -137,7 +137,7 @@ fn man<L: Ledger>(session: &mut Session<L>, seats: &mut Vec<Seat<L>>, workers: u
     audit(session, seats);
 }
 
-// Each of the last seats gets a worker in a thread of its own.
+// Starts a worker in a thread of its own for each of the last seats.
 fn serve_all<
     L: Ledger + Send + Sync,
     B: Start + Send + Sync,
@@ -185,7 +185,7 @@ fn serve_all<
     crew
 }
 
-// Runs workers on a session that is the one of `B`.
+// Runs workers on the session that `B` names.
 fn run_from<
     L: Ledger + Send + Sync,
     B: Start + Send + Sync,
@@ -229,15 +229,17 @@ fn run_from<
     });
     let count = workers as usize;
     let crew = serve_all(rt, count, crew, &lock, &items, turnstile, budget);
-    // its end stays open until all workers have ended: only the items tell them that no feed comes
+    // `to` stays open until all workers have ended: only the last items tell them that no feed
+    // comes.
     drop(to);
     let Running { session, .. } = lock.into_inner();
     Ok(settled(session, crew.shares, crew.seats))
 }
 
-/// Runs so many workers, 1 to 16, on the feeds, each in a thread of its own until it ends. Each feed and then an item [`Item::Last`] for each worker are in their channel
-/// before the first one starts. All seats are taken; those of the workers 1, 2, .. come back in the
-/// shares, in this order, and the others as they were. The session comes back with a refusal as it was.
+/// Runs 1 to 16 workers on the feeds, each in a thread of its own until it ends. Before the first
+/// one starts, the channel has each feed and then an item [`Item::Last`] for each worker. All seats
+/// are taken. Those of the workers 1, 2, .. come back in the shares, in this order, and the others
+/// unchanged. With a refusal the session comes back unchanged.
 pub fn run<L: Ledger + Send + Sync, R: Threads + Wait + Sync, G: Turnstile>(
     rt: &R,
     alloc: Global,

@@ -11,13 +11,13 @@ use std::marker::{Brand, PhantomData};
 use std::sync::ledger::Ledger;
 use world::{Feed, Refusal};
 
-/// What lies under the lock of workers: a session, alone or with what is known of it.
+/// What the lock of workers guards: a session, alone or with what is known of it.
 pub trait Shared<L: Ledger> {
-    // The session that it is.
+    // The session.
     ghost session: { Self → TheSession };
 
-    /// A turn of a seat: takes in the feed, if there is one, picks a call and makes it. A feed whose
-    /// number is taken is counted. It refuses what else a call is refused for.
+    /// One turn of a seat: inputs the feed, if there is one, then picks a call and makes it. A feed
+    /// whose number is taken is counted. Any other refusal is returned.
     fn take_turn(
         &mut self,
         seat: &mut Seat<L>,
@@ -28,7 +28,7 @@ pub trait Shared<L: Ledger> {
         ensures most { seat.new.answered ≤ seat.old.answered + 2 }
         ensures session { Continues (session self.old) (session self.new) };
 
-    /// Takes in the result of a job that a seat started.
+    /// Commits the result of a job that a seat started.
     fn take_result(&mut self, seat: &mut Seat<L>, done: Done) -> Result<(), Refusal>
         ensures seat { GoesOn seat.old seat.new }
         ensures most { seat.new.answered ≤ seat.old.answered + 1 }
@@ -52,7 +52,7 @@ impl<L: Ledger> Shared<L> for Session<L> {
     }
 }
 
-/// The session that a run began with.
+/// The session with which a run began.
 pub(crate) trait Start {
     ghost use Rattle.sessions.specs.Journal.{TheSession};
 
@@ -65,7 +65,7 @@ impl Start for Brand {
     ghost session = { record { images = []; entries = []; seats = [] } };
 }
 
-/// A session in the middle of a run, which continues the one that the run began with.
+/// A session during a run. It continues the one with which the run began.
 #[derive(Drop)]
 pub(crate) struct Running<L: Ledger, B: Start> {
     pub session: Session<L>,

@@ -1,4 +1,4 @@
-//! A turn under the lock.
+//! One turn under the lock.
 
 ghost use Rattle.std.specs.Prelude.{◌≡◌, ◌+◌, ◌≤◌};
 ghost use Rattle.workers.specs.Continues.{Continues};
@@ -8,21 +8,21 @@ use sessions::{Done, Job, Seat, Session};
 use std::sync::ledger::Ledger;
 use world::{Feed, Refusal};
 
-/// What a turn came to.
+/// The outcome of a turn.
 #[derive(Drop)]
 pub enum Turn {
     /// A call was made.
     Made,
     /// A call was made, and started this job.
     Started(Job),
-    /// No call could be picked, while a job was open.
+    /// No call could be picked, and a job was open.
     Waiting,
     /// No call could be picked, and no job was open.
     Quiet,
 }
 
-/// Takes in the feed, if there is one. One whose number is taken is counted. It refuses what else
-/// `input` is refused for.
+/// Inputs the feed, if there is one. A feed whose number is taken is counted. Any other refusal is
+/// returned.
 fn take_feed<L: Ledger>(
     session: &mut Session<L>,
     seat: &mut Seat<L>,
@@ -46,8 +46,8 @@ fn take_feed<L: Ledger>(
     }
 }
 
-/// Takes in the feed, if there is one, picks a call and makes it. A feed whose number is taken is
-/// counted. It refuses what else a call is refused for.
+/// Inputs the feed, if there is one, then picks a call and makes it. A feed whose number is taken
+/// is counted. Any other refusal is returned.
 pub(crate) fn take_turn<L: Ledger>(
     session: &mut Session<L>,
     seat: &mut Seat<L>,
@@ -70,7 +70,7 @@ pub(crate) fn take_turn<L: Ledger>(
     Ok(started.map_or(Turn::Made, Turn::Started))
 }
 
-/// Takes in the result of a job.
+/// Commits the result of a job.
 pub(crate) fn finish_job<L: Ledger>(
     session: &mut Session<L>,
     seat: &mut Seat<L>,

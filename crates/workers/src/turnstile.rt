@@ -1,9 +1,9 @@
-//! What is told of jobs.
+//! What a worker tells of its jobs.
 
-/// Called by a worker for each job that it takes, both times with the lock free. A job is told by
-/// its serial number, from 1, in the order of their starts.
+/// A worker calls it twice for each job that it takes, both times without the lock. A job is named
+/// by its serial number, from 1, in the order of their starts.
 pub trait Turnstile: Sync {
-    /// The job was taken, and isn't run yet.
+    /// The job was taken, and is not run yet.
     fn between(&self, serial: u32);
 
     /// The job's result was accepted.

@@ -1,4 +1,4 @@
-//! What one worker does.
+//! The loop of one worker.
 
 ghost use Rattle.std.specs.Prelude.{◌≡◌, ◌≢◌, ◌+◌, ◌<◌, ◌≤◌, IfNone, Some};
 ghost use Rattle.sessions.specs.declared.share.End.TheVariants.{Budget};
@@ -15,25 +15,26 @@ use std::sync::{Mutex, Wait};
 use std::{hint, thread};
 use world::{Feed, Refusal};
 
-/// How many turns one after the other a worker finds nothing to do, while a job is open and no feed
-/// is left, before it ends.
+/// A worker ends after this many turns in a row with nothing to do, while a job is open and no feed
+/// is left.
 const PATIENCE: u32 = 1_000_000;
 
-/// For so many of them it leaves its processor to others each time, and then each time that so many
-/// are over. Where all processors are busy, each time costs it many milliseconds: so they are few.
+/// A waiting worker yields its processor after each of its first `EAGER` turns, and then after
+/// every `SELDOM`-th. If all processors are busy, a yield costs many milliseconds, so there are
+/// few.
 const EAGER: u32 = 100;
 
 const SELDOM: u32 = 10_000;
 
-/// How long it leaves the lock to others between two of them, in looks at nothing.
+/// How many spins a waiting worker leaves the lock free between two turns.
 const PAUSE: u32 = 64;
 
-/// Takes turns at the session until nothing is left to do, `budget` of its calls were accepted, or a
-/// call is refused. In a turn it takes the next item, until it took the last one, gives the feed to
-/// `input`, and picks a call and makes it. A job that starts is run with the lock free, and its
-/// result is brought back. Ends are those of [`End`]; it waits for items, for the lock, and for jobs
-/// of others. What lies under the lock it knows by [`Shared`] alone: so all that it does there are
-/// turns and results, and each call that they make is one that a worker may make.
+/// Takes turns at the session until nothing is left to do, `budget` of its calls were accepted, or
+/// a call is refused. In a turn it takes the next item, until it has taken the last, gives the feed
+/// to `input`, and picks a call and makes it. It runs a job that starts without the lock, and
+/// brings its result back. [`End`] says how it ends. It waits for items, for the lock, and for jobs
+/// of others. It knows what the lock guards only by [`Shared`], so all that it does there are turns
+/// and results, and each call that they make is one that a worker may make.
 pub fn worker<L: Ledger, S: Shared<L>, R: Wait, G: Turnstile>(
     rt: &R,
     seat: Seat<L>,
@@ -47,7 +48,7 @@ pub fn worker<L: Ledger, S: Shared<L>, R: Wait, G: Turnstile>(
     serve(rt, seat, session, &items, turnstile, budget)
 }
 
-/// What [`worker`] does, on a channel that others receive from too.
+/// What [`worker`] does, on a channel from which others receive too.
 pub(crate) fn serve<L: Ledger, S: Shared<L>, R: Wait, G: Turnstile>(
     rt: &R,
     seat: Seat<L>,
@@ -84,7 +85,7 @@ pub(crate) fn serve<L: Ledger, S: Shared<L>, R: Wait, G: Turnstile>(
     unreachable!()
 }
 
-// How a worker ends behind this turn, if it does. It counts the turns on end in which it only waits.
+// How a worker ends after this turn, if it does. Counts the turns in a row in which it only waits.
 fn end_of(turned: Result<Turn, Refusal>, is_fed: bool, idle: &mut u32) -> Option<End>
     requires { idle.old < PATIENCE }
     ensures unspent { result ≢ Some Budget }
@@ -102,7 +103,7 @@ fn end_of(turned: Result<Turn, Refusal>, is_fed: bool, idle: &mut u32) -> Option
     None
 }
 
-// Leaves the lock to others, and the processor too, after so many turns without a call.
+// Leaves the lock free for a while, and after some turns without a call yields the processor too.
 fn rest(idle: u32) {
     for _ in 0..PAUSE {
         hint::spin_loop();
@@ -132,7 +133,7 @@ fn turn<L: Ledger, S: Shared<L>, R: Wait, G: Turnstile>(
     Ok(Turn::Made)
 }
 
-// Runs a job with the lock free, and brings its result back.
+// Runs a job without the lock, and brings its result back.
 fn carry_out<L: Ledger, S: Shared<L>, R: Wait, G: Turnstile>(
     rt: &R,
     seat: &mut Seat<L>,

@@ -18,7 +18,7 @@ payloads_to-append d (x ∷ xs) ys = split (x.dst == d) (payloads_to-append d xs
     split true e = ap (λ zs. x.payload ∷ zs) e
     split false e = e
 
--- what one more answer emits comes behind the rest
+-- the effects of one more answer come after the rest
 pub emitted_to-joined : (d : ℕ) (f : Folded) (a : Handled) → emitted_to d (joined f (Some a)).effects ≡ emitted_to d f.effects ++ emitted_to d a.effects
 emitted_to-joined d f a = split (d == 0)
   where
@@ -47,7 +47,7 @@ module _ (images : List TheImage) (p : ℕ) (image : TheImage) (h : List Message
   pub handlers_of-push : (handlers_of images).state p (h ++ m ∷ []) ≡ a.state
   handlers_of-push = ap (λ (f : Folded). f.state) folded_is
 
-  -- and what it emits is sent behind the rest
+  -- and its effects are sent after the rest
   pub sends-push : (d : ℕ) → (handlers_of images).sends p (h ++ m ∷ []) d ≡ (handlers_of images).sends p h d ++ emitted_to d a.effects
   sends-push d =
       ap (λ (f : Folded). emitted_to d f.effects) folded_is

@@ -1,4 +1,4 @@
--- The world after an accepted call, one case a call. What isn't named stays
+-- The world after an accepted call, one case a call. A field that isn't named stays as it was
 use Rattle.std.specs.Prelude.{ℕ, suc, zero, ◌+◌, ◌-◌, min, max, List, [], ◌∷◌, ◌++◌, length, Option, Some, None, Bool, true, false, not, ◌&&◌, ◌||◌, ◌==◌, nat_lt, nat_le, if◌then◌else◌, take}
 use Rattle.world.specs.declared.message.Message.{Message}
 use Rattle.world.specs.declared.packet.Packet.{Packet}
@@ -15,11 +15,11 @@ use Rattle.world.specs.Plan.{message_of, gather}
 
 -- The wire
 
--- the outside hands in a payload for d, which is logged behind its earlier ones, and the feed number is taken
+-- the outside hands in a payload for d. It is logged after the earlier ones, and the feed number is taken
 abbrev pub input : World → ℕ → ℕ → Payload → World
 input w d feed x = record w { inputs = put w.inputs d (w.inputs d ++ x ∷ []); feeds = put w.feeds feed true }
 
--- the packet that brings a message to d; None where there is no message
+-- the packet that brings a message to d; None if there is no message
 abbrev pub delivery : ℕ → Option Message → Option Packet
 delivery d None = None
 delivery d (Some m) = Some (Delivery d m)
@@ -28,17 +28,17 @@ delivery d (Some m) = Some (Delivery d m)
 abbrev pub transmit : World → ℕ → ℕ → ℕ → ℕ → World
 transmit w p d i key = record w { wire = put w.wire key (delivery d (message_of p i (nth (sent w p d) i))) }
 
--- the packet with this key is on the wire a second time, with a key of its own
+-- the packet with this key goes on the wire a second time, under a key of its own
 abbrev pub copy : World → ℕ → ℕ → World
 copy w key new = record w { wire = put w.wire new (w.wire key) }
 
--- the packet with this key leaves the wire, and that is all: it is lost, or changes nothing where it arrives
+-- the packet with this key leaves the wire and nothing else changes: it was lost, or its receiver had no use for it
 abbrev pub lose : World → ℕ → World
 lose w key = record w { wire = put w.wire key None }
 
 -- What arrives
 
--- a message arrives as the next of its sender, and a job is open
+-- a message arrives, is the next of its sender, and opens a job
 abbrev pub begin : World → ℕ → ℕ → Message → World
 begin w key d m = record w { phase = put w.phase d (Busy m); wire = put w.wire key None; started = w.started + 1 }
 
@@ -47,15 +47,15 @@ abbrev pub number_for : World → ℕ → Message → Option ℕ → Option Pack
 number_for w d m None = None
 number_for w d m (Some k) = Some (Number d m.sender m.ssn k (w.incarnation d))
 
--- a message arrives at a process that has it, which tells its number again
+-- a message arrives at a process that already has it. The process tells its number again
 abbrev pub duplicate : World → ℕ → ℕ → Message → ℕ → World
 duplicate w key d m new = record w { wire = put (put w.wire key None) new (number_for w d m (rsn_of (w.history d) m.sender m.ssn)) }
 
--- a message arrives at the outside, as the next of its sender
+-- a message arrives at the outside, and is the next of its sender
 abbrev pub show : World → ℕ → Message → World
 show w key m = record w { wire = put w.wire key None; shown = w.shown ++ m ∷ [] }
 
--- the log of s has the number k for its message to r of this SSN
+-- in the log of s, its message to r with the SSN i gets the number k
 abbrev pub recorded : World → ℕ → ℕ → ℕ → ℕ → ℕ → ℕ → ℕ → Option ℕ
 recorded w s r i k = put w.numbers s (put (w.numbers s) r (put (w.numbers s r) i (Some k)))
 
@@ -63,8 +63,8 @@ recorded w s r i k = put w.numbers s (put (w.numbers s) r (put (w.numbers s r) i
 abbrev pub note : World → ℕ → ℕ → ℕ → ℕ → ℕ → ℕ → ℕ → World
 note w key r s i k incarnation new = record w { numbers = recorded w s r i k; wire = put (put w.wire key None) new (Some (Acknowledgement s r k incarnation)) }
 
--- an acknowledgement arrives at the receiver: what it sent by the last message up to which all are acknowledged is released, and
--- nothing that is released is taken back
+-- an acknowledgement arrives at the receiver. All that it sent up to the end of the acknowledged run is released, and what is
+-- released stays released
 abbrev pub acknowledge : World → ℕ → ℕ → ℕ → World
 acknowledge w key r k =
     let acknowledged : ℕ → Bool = put (w.acknowledged r) k true in
@@ -75,7 +75,7 @@ acknowledge w key r k =
       wire = put w.wire key None;
     }
 
--- a packet arrives, and gets this answer
+-- a packet arrives and gets this answer
 abbrev pub arrive : World → ℕ → Option Packet → Answer → World
 arrive w key (Some (Delivery d m)) (Started n) = begin w key d m
 arrive w key (Some (Delivery d m)) (Duplicate new) = duplicate w key d m new
@@ -84,9 +84,9 @@ arrive w key (Some (Number r s i k incarnation)) (Numbered new) = note w key r s
 arrive w key (Some (Acknowledgement s r k incarnation)) Acknowledged = acknowledge w key r k
 arrive w key packet a = lose w key
 
--- What is finished
+-- Results
 
--- a message is received at the moment when its job is finished, and its number goes on the wire
+-- a job is finished: its message is received now, and its number goes on the wire
 abbrev pub commit : World → ℕ → Message → ℕ → World
 commit w p m new =
     record w {
@@ -95,21 +95,21 @@ commit w p m new =
       wire = put w.wire new (Some (Number p m.sender m.ssn (length (w.history p) + 1) (w.incarnation p)));
     }
 
--- what follows when numbers are still to be restored for these peers: where there is none, the process is up
+-- the phase of a process that still has to restore its numbers from these peers: if there are none, it is up
 abbrev pub phase_with : List ℕ → Phase
 phase_with [] = Up
 phase_with (r ∷ rs) = Resync (r ∷ rs)
 
--- and what is released then: where there is none, all that is sent
+-- how much is released then: if there are no peers left, all that p sent
 abbrev pub released_with : World → ℕ → List ℕ → ℕ → ℕ
 released_with w p [] = sent_in_all w p
 released_with w p (r ∷ rs) = w.released p
 
--- p still restores its numbers from these peers; with none of them it is up, and all that it sent is released
+-- p still restores its numbers from these peers. If there are none, it is up and all that it sent is released
 abbrev pub ready : World → ℕ → List ℕ → World
 ready w p peers = record w { phase = put w.phase p (phase_with peers); released = put w.released p (released_with w p peers) }
 
--- the peers of p that restore its numbers: all others, or where it came back alone those that are up
+-- the peers from which p restores its numbers: all others, or if it came back alone those that are up
 abbrev pub peers : World → ℕ → Bool → List ℕ
 peers w p alone = those (λ q. not (q == p) && (not alone || is_up (w.phase q))) w.count
 
@@ -120,7 +120,7 @@ replay w p j alone =
     then record w { phase = put w.phase p (Replaying (suc j) false alone) }
     else ready w p (peers w p alone)
 
--- the result of an open job comes back: its message is received then, or replayed, if it was received before a crash
+-- a job's result comes back: its message is received now, or replayed if it was received before a crash
 abbrev pub finish : World → ℕ → Phase → Answer → World
 finish w p (Busy m) (Committed n new) = commit w p m new
 finish w p (Replaying j working alone) (Replayed n) = replay w p j alone
@@ -128,7 +128,7 @@ finish w p phase a = w
 
 -- Checkpoints
 
--- a checkpoint counts as an acknowledgement of all that it covers
+-- a checkpoint acknowledges all that it covers
 abbrev pub checkpoint : World → ℕ → World
 checkpoint w p =
     record w {
@@ -138,7 +138,7 @@ checkpoint w p =
       released = put w.released p (sent_in_all w p);
     }
 
--- the trim count of a sender that is up rises to what d has for good, at most to what it sent
+-- the trim count of a sender that is up rises to what d has for good, and at most to what it sent
 abbrev pub trimmed : World → ℕ → ℕ → ℕ
 trimmed w d s = if is_up (w.phase s) then max (w.trims s d) (min (covered w s d) (length (sent w s d))) else w.trims s d
 
@@ -146,7 +146,7 @@ trimmed w d s = if is_up (w.phase s) then max (w.trims s d) (min (covered w s d)
 abbrev pub trim : World → ℕ → World
 trim w d = record w { trims = λ s. put (w.trims s) d (trimmed w d s) }
 
--- how many entries the senders below k drop so
+-- how many entries the senders below k drop by this
 abbrev pub dropped : World → ℕ → ℕ → ℕ
 dropped w d zero = 0
 dropped w d (suc k) = (trimmed w d k - w.trims k d) + dropped w d k
@@ -165,12 +165,12 @@ crash w p =
       trims = put w.trims p (w.saved_trims p);
     }
 
--- the number, where it is at most k
+-- the number, if it is at most k
 abbrev pub up_to : ℕ → Option ℕ → Option ℕ
 up_to k None = None
 up_to k (Some m) = if nat_le m k then Some m else None
 
--- p keeps k messages: those of the checkpoint and the plan. All senders forget its numbers above k
+-- p keeps k messages, those of its checkpoint and its plan. All senders forget its numbers above k
 abbrev pub keep : World → ℕ → ℕ → World
 keep w p k =
     record w {
@@ -179,31 +179,31 @@ keep w p k =
       acknowledged = put w.acknowledged p (λ m. nat_le m k);
     }
 
--- and replays what is after its checkpoint
+-- p keeps k messages, and replays those after its checkpoint
 abbrev pub recover : World → ℕ → ℕ → Bool → World
 recover w p k alone =
     if nat_lt (w.saved p) k
     then record (keep w p k) { phase = put w.phase p (Replaying 0 false alone) }
     else ready (keep w p k) p (peers w p alone)
 
--- a process that replays, with a job open on the next message; any other phase stays
+-- a process that replays opens a job on the next message. Any other phase stays
 abbrev pub with_open_job : Phase → Phase
 with_open_job (Replaying j working alone) = Replaying j true alone
 with_open_job phase = phase
 
--- a job of p opens on the next message that it replays
+-- p opens a job on the next message that it replays
 abbrev pub replay_begin : World → ℕ → World
 replay_begin w p = record w { phase = put w.phase p (with_open_job (w.phase p)); started = w.started + 1 }
 
--- the number that p's log has for its message to r of this SSN, after r told it
+-- the number that p's log has for its message to r with this SSN, after r told it
 abbrev pub told : World → ℕ → ℕ → ℕ → Option ℕ
 told w p r i = if is_entry w p r i then rsn_of (w.history r) p i else w.numbers p r i
 
--- r tells p under which numbers it received the messages of p, and is left out of the peers still to do
+-- r tells p under which numbers it received p's messages. r is no longer among the peers that are left
 abbrev pub resync : World → ℕ → ℕ → World
 resync w p r = ready (record w { numbers = put w.numbers p (put (w.numbers p) r (told w p r)) }) p (without (todo_of (w.phase p)) r)
 
--- how many of its entries for r of an SSN below i got a number
+-- how many of p's log entries for r get a number, of those with an SSN up to i
 abbrev pub restored : World → ℕ → ℕ → ℕ → ℕ
 restored w p r zero = 0
 restored w p r (suc i) = (if is_entry w p r i && has_number (rsn_of (w.history r) p i) then 1 else 0) + restored w p r i

@@ -1,4 +1,4 @@
--- What the handlers of images make of a history: a fold of their calls over its messages
+-- What the handlers of images make of a history: a fold of handler calls over its messages
 use Rattle.std.specs.Prelude.{ℕ, List, [], ◌∷◌, ◌++◌, length, replicate, fold, Option, Some, None, ◌==◌, if◌then◌else◌}
 use Rattle.helpers.specs.declared.effects.Sent.{Sent}
 use Rattle.helpers.specs.Effects.{Emitted}
@@ -9,25 +9,25 @@ use Rattle.world.specs.Handlers.{Handlers}
 pub use Rattle.handlers.specs.Image.{TheImage}
 pub use Rattle.handlers.specs.Answer.{Handled}
 
--- the state of a process, and all that it sent and put out so far
+-- the state of a process, and all that it has sent and put out
 pub record Folded : Type 0 where
   pub state : List ℕ
   pub effects : Emitted
 
--- a state of zeros, and nothing sent
+-- a state of zeros, with nothing sent
 abbrev pub unfolded : ℕ → Folded
 unfolded n = record { state = replicate n 0; effects = record { sends = []; outputs = [] } }
 
--- after one more handler call: its state, and its effects behind the others
+-- one more handler call: its state, and its effects after the earlier ones
 abbrev pub joined : Folded → Option Handled → Folded
 joined f None = f
 joined f (Some h) = record { state = h.state; effects = record { sends = f.effects.sends ++ h.effects.sends; outputs = f.effects.outputs ++ h.effects.outputs } }
 
--- the process p of n, with this image, takes in one more message
+-- process p of n, with this image, handles one more message
 abbrev pub taken_in : ℕ → TheImage → ℕ → Folded → Message → Folded
 taken_in n image p f m = joined f (answered image (record { me = p; from = m.sender; count = n }) f.state m.payload)
 
--- and a history, from the state of zeros on
+-- process p of n handles a history, from the state of zeros on
 abbrev pub folded : ℕ → ℕ → Option TheImage → List Message → Folded
 folded n p None h = unfolded 0
 folded n p (Some image) h = fold (taken_in n image p) (unfolded image.len) h
@@ -37,11 +37,11 @@ abbrev pub payloads_to : ℕ → List Sent → List Payload
 payloads_to d [] = []
 payloads_to d (x ∷ xs) = if x.dst == d then x.payload ∷ payloads_to d xs else payloads_to d xs
 
--- the same by destination: those for the outside are the outputs
+-- the payloads for one destination. Those for the outside are the outputs
 abbrev pub emitted_to : ℕ → Emitted → List Payload
 emitted_to d e = if d == 0 then e.outputs else payloads_to d e.sends
 
--- the handlers of processes 1, 2, .. with these images
+-- the handlers of processes 1, 2, .. that have these images
 abbrev pub handlers_of : List TheImage → Handlers
 handlers_of images = record {
   state = λ p h. (folded (length images) p (nth images p) h).state;

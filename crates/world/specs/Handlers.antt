@@ -1,4 +1,4 @@
--- What the handlers of the processes do with what they receive
+-- What handlers do: state and sends follow from the history (piecewise determinism)
 use Rattle.std.specs.Prelude.{ℕ, List}
 use Rattle.world.specs.declared.message.Message.{Message}
 use Rattle.world.specs.History.{Payload}

@@ -1,4 +1,4 @@
--- Journals whose calls and answers are a run of the world
+-- Journals whose calls and answers are steps of the world
 use Rattle.std.specs.Prelude.{◌≡◌, ℕ, suc, ◌-◌, List, [], ◌∷◌, None, Bool, true, false, ◌&&◌}
 use Rattle.limits.specs.declared.TheConstants.{ENTRIES}
 use Rattle.world.specs.declared.call.Call.{Call}
@@ -12,7 +12,7 @@ use Rattle.world.specs.Answers.{MayAnswer}
 use Rattle.world.specs.Refusals.{refusal_of, others_up}
 use Rattle.world.specs.Useful.{may_call}
 
--- old accepts the call with this answer, and goes on to new
+-- old accepts the call with this answer, and becomes new
 pub record WStep (room : ℕ) (old : World) (call : Call) (answer : Answer) (new : World) : Type 0 where
   pub accepted : refusal_of old room call ≡ None
   pub answered : MayAnswer old call answer
@@ -23,26 +23,26 @@ abbrev pub world_after : World → List Entry → World
 world_after w [] = w
 world_after w (e ∷ es) = world_after (after w e.call e.answer) es
 
--- the entries are steps from this world on, in a journal that has k entries before them
+-- the entries are steps from this world, in a journal that has k entries before them
 abbrev pub LegalFrom : ℕ → World → List Entry → Type 0
 LegalFrom k w [] = Unit {0}
 LegalFrom k w (e ∷ es) = (may_call w e.worker e.call ≡ true) × WStep (ENTRIES - k) w e.call e.answer (after w e.call e.answer) × LegalFrom (suc k) (after w e.call e.answer) es
 
--- a journal of n processes with these handlers
+-- a legal journal of n processes with these handlers
 abbrev pub Legal : ℕ → Handlers → List Entry → Type 0
 Legal n handlers es = LegalFrom 0 (opening n handlers) es
 
--- the world where it leads
+-- the world to which a journal of n processes leads
 abbrev pub world_of : ℕ → Handlers → List Entry → World
 world_of n handlers es = world_after (opening n handlers) es
 
--- whether the call keeps to a single failure: no crash while another process isn't up, and no recovery alone
+-- whether the call keeps failures single: no crash while another process isn't up, and no recovery alone
 abbrev pub is_single : World → Call → Bool
 is_single w (Crash p) = others_up w p
 is_single w (RecoverAlone p) = false
 is_single w call = true
 
--- whether all calls of the journal do
+-- whether all calls of the journal keep failures single
 abbrev pub all_single : World → List Entry → Bool
 all_single w [] = true
 all_single w (e ∷ es) = is_single w e.call && all_single (after w e.call e.answer) es

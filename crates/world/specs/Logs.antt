@@ -1,11 +1,11 @@
--- What follows from the histories: states, lengths, what was sent, and what a sender's log has
+-- What follows from the histories: states, lengths, sent messages, and the senders' logs
 use Rattle.std.specs.Prelude.{ℕ, zero, suc, ◌+◌, List, length, Option, Some, None, Bool, true, not, ◌&&◌, ◌==◌, nat_lt, nat_le, if◌then◌else◌, take}
 use Rattle.world.specs.declared.message.Message.{Message}
 use Rattle.world.specs.History.{Payload, nth, count_of}
 use Rattle.world.specs.Phases.{Phase, Up, Busy, Down, Replaying, Resync, is_down}
 use Rattle.world.specs.World.{World}
 
--- how many messages of its history a process in this phase has in its state
+-- how many messages of its history are in the state of a process in this phase
 abbrev pub length_in : List Message → ℕ → Phase → ℕ
 length_in h saved Up = length h
 length_in h saved (Busy m) = length h
@@ -13,15 +13,15 @@ length_in h saved Down = saved
 length_in h saved (Replaying j working alone) = saved + j
 length_in h saved (Resync todo) = length h
 
--- how many messages of its history a process has in its state: while it is down, those that its checkpoint covers
+-- how many messages of its history are in the state of a process. While it is down, those that its checkpoint covers
 abbrev pub length_of : World → ℕ → ℕ
 length_of w p = length_in (w.history p) (w.saved p) (w.phase p)
 
--- the state that a process has, in bytes: while it is down, the one of its checkpoint
+-- the state of a process, in bytes. While it is down, the state of its checkpoint
 abbrev pub state_of : World → ℕ → List ℕ
 state_of w p = w.handlers.state p (take (length_of w p) (w.history p))
 
--- the message of the job that a process in this phase has open, live or replayed: a replayed one is the next of its history
+-- the message of the open job, live or replayed, of a process in this phase. A replayed message is the next of its history
 abbrev pub open_in : List Message → ℕ → Phase → Option Message
 open_in h saved Up = None
 open_in h saved (Busy m) = Some m
@@ -29,19 +29,19 @@ open_in h saved Down = None
 open_in h saved (Replaying j working alone) = if working then nth h (saved + j + 1) else None
 open_in h saved (Resync todo) = None
 
--- the message that a process works on
+-- the message that process p works on
 abbrev pub open_message : World → ℕ → Option Message
 open_message w p = open_in (w.history p) (w.saved p) (w.phase p)
 
--- what a sender with this history sends to a destination: the outside, its inputs
+-- what a sender with this history sends to a destination. The outside sends its inputs
 abbrev pub payloads : World → ℕ → List Message → ℕ → List Payload
 payloads w s h d = if s == 0 then w.inputs d else w.handlers.sends s h d
 
--- what a sender sent to a destination so far
+-- what a sender has sent to a destination
 abbrev pub sent : World → ℕ → ℕ → List Payload
 sent w s d = payloads w s (take (length_of w s) (w.history s)) d
 
--- how many messages its whole history sends
+-- how many messages its whole history sends to a destination
 abbrev pub sent_in_all : World → ℕ → ℕ → ℕ
 sent_in_all w p d = length (payloads w p (w.history p) d)
 
@@ -55,15 +55,15 @@ abbrev pub run_to : (ℕ → Bool) → ℕ → ℕ
 run_to f zero = 0
 run_to f (suc k) = if all_to f (suc k) then suc k else run_to f k
 
--- the number up to which all that a process received is acknowledged
+-- the RSN up to which all that a process received is acknowledged
 abbrev pub run_of : World → ℕ → ℕ
 run_of w p = run_to (w.acknowledged p) (length (w.history p))
 
--- how many of its messages to a destination are released: of the outside, all inputs
+-- how many of its messages to a destination are released. The outside releases all its inputs
 abbrev pub released_to : World → ℕ → ℕ → ℕ
 released_to w s d = if s == 0 then length (w.inputs d) else w.released s d
 
--- how many messages of s a destination has for good: in its checkpoint, and the outside, what it was shown
+-- how many messages of s a destination has for good: those in its checkpoint. The outside has those that it was shown
 abbrev pub covered : World → ℕ → ℕ → ℕ
 covered w s d = count_of s (if d == 0 then w.shown else take (w.saved d) (w.history d))
 

@@ -1,4 +1,4 @@
--- Why a call is refused. Where several causes hold, the least number is told
+-- Why a call is refused. If several causes hold, the least number is told
 use Rattle.std.specs.Prelude.{ℕ, suc, ◌+◌, ◌-◌, List, [], ◌∷◌, Option, Some, None, Bool, true, false, not, ◌&&◌, ◌||◌, ◌==◌, nat_lt, if◌then◌else◌}
 use Rattle.world.specs.declared.packet.Packet.{Packet}
 use Rattle.world.specs.declared.packet.Packet.TheVariants.{Delivery}
@@ -12,7 +12,7 @@ use Rattle.world.specs.Logs.{released_to, is_entry}
 use Rattle.world.specs.Bounds.{is_none, any_below, open_jobs, journal_full, wire_full}
 use Rattle.world.specs.Answers.{Verdict, Next, Known, Ahead, judge}
 
--- the number by which a refusal is told, 1 to 15 (docs/FORMATS.md, "Refusals of a session")
+-- the number of a refusal, 1 to 15 (docs/FORMATS.md, "Refusals of a session")
 abbrev pub number_of : Refusal → ℕ
 number_of NoSuchProcess = 1
 number_of NotUp = 2
@@ -30,7 +30,7 @@ number_of WireFull = 13
 number_of FeedTaken = 14
 number_of Memory = 15
 
--- the first number whose cause holds
+-- the number of the first cause that holds
 abbrev pub least : List (Bool × ℕ) → Option ℕ
 least [] = None
 least (c ∷ cs) = if c.0 then Some c.1 else least cs
@@ -40,7 +40,7 @@ abbrev pub is_to_busy : World → Option Packet → Bool
 is_to_busy w (Some (Delivery d m)) = is_busy (w.phase d)
 is_to_busy w packet = false
 
--- whether none of its sender is missing before it, and the receiver doesn't have it
+-- whether the message is the next of its sender
 abbrev pub is_next : Verdict → Bool
 is_next Next = true
 is_next Known = false
@@ -51,7 +51,7 @@ abbrev pub starts : World → Option Packet → Bool
 starts w (Some (Delivery d m)) = nat_lt 0 d && is_up (w.phase d) && is_next (judge w d m)
 starts w packet = false
 
--- what a job adds to a count: 1 if there is one, else 0
+-- what a job adds to a count
 abbrev pub one_if : Bool → ℕ
 one_if true = 1
 one_if false = 0
@@ -60,7 +60,7 @@ one_if false = 0
 abbrev pub others_up : World → ℕ → Bool
 others_up w p = not (any_below (λ q. not (q == p) && not (is_up (w.phase q))) (suc w.count))
 
--- the causes that refuse a call, each with its number, least first. room is what the journal still takes
+-- the causes that refuse a call, each with its number, the least first. room is how many more entries the journal takes
 abbrev pub causes : World → ℕ → Call → List (Bool × ℕ)
 causes w room (Input d feed x) =
     (not (is_inside w d), 1) ∷ (journal_full room (open_jobs w), 12) ∷ (w.feeds feed, 14) ∷ []
@@ -86,11 +86,11 @@ causes w room (ResyncWith p r) =
     (not (is_inside w p && is_inside w r), 1) ∷ (p == r, 5) ∷ (not (is_up (w.phase r)), 8) ∷ (not (has (todo_of (w.phase p)) r), 11)
     ∷ (journal_full room (open_jobs w), 12) ∷ []
 
--- the number that a call is refused with, if it is. Want of memory is no cause of the world's
+-- the number with which a call is refused, if it is. Refused memory is no cause of the world
 abbrev pub refusal_of : World → ℕ → Call → Option ℕ
 refusal_of w room call = least (causes w room call)
 
--- the cause that a refusal tells. Want of memory is told where there is no other
+-- the cause that a refusal tells. `Memory` is told only if no cause holds
 abbrev pub cause_of : Refusal → Option ℕ
 cause_of NoSuchProcess = Some 1
 cause_of NotUp = Some 2

@@ -1,4 +1,4 @@
--- Lists of calls worked out by hand
+-- Lists of calls, worked out by hand
 use Rattle.std.specs.Prelude.{◌≡◌, ℕ, ◌-◌, List, [], ◌∷◌, ◌++◌, Some, None, true, false, take, if◌then◌else◌, ◌==◌}
 use Rattle.limits.specs.declared.TheConstants.{ENTRIES}
 use Rattle.world.specs.declared.message.Message.{Message}
@@ -20,7 +20,7 @@ use Rattle.world.specs.Legal.{Legal, world_of, all_single}
 abbrev pub by_nobody : Call → Answer → Entry
 by_nobody call answer = record { worker = 0; call = call; answer = answer }
 
--- a call that has to be useful, or free
+-- a call by worker 1, which has to be useful or free
 abbrev pub by_worker : Call → Answer → Entry
 by_worker call answer = record { worker = 1; call = call; answer = answer }
 
@@ -33,7 +33,7 @@ one_message x =
     ∷ by_nobody (Finish 1) (Committed 1 0)
     ∷ []
 
--- the message that a process gets of the outside's first input to it
+-- the outside's first message to a process
 abbrev pub first_input : List ℕ → Message
 first_input x = record { sender = 0; ssn = 1; payload = x }
 
@@ -47,11 +47,11 @@ OneMessageIsLegal =
     × (state_of (world_of 1 f (one_message x)) 1 ≡ f.state 1 (first_input x ∷ []))
     × ((world_of 1 f (one_message x)).wire 0 ≡ Some (Number 1 0 1 1 1))
 
--- processes that send nothing
+-- handlers that send nothing
 abbrev pub silent : (ℕ → List Message → List ℕ) → Handlers
 silent g = record { state = g; sends = λ p h d. [] }
 
--- two processes crash; while the second is down the first comes back alone, and the second then asks it for its numbers
+-- two processes crash. While the second is down the first comes back alone, and the second then asks it for its numbers
 abbrev pub two_crashes : List Entry
 two_crashes =
     by_nobody (Crash 1) (Crashed 2)
@@ -61,8 +61,8 @@ two_crashes =
     ∷ by_nobody (ResyncWith 2 1) (Restored 0)
     ∷ []
 
--- the list is legal, the first crash is a single failure and the second isn't. While another process is down a recovery that is not
--- alone is refused for that, and so are numbers to be restored from one that is
+-- the list is legal; the first crash is a single failure and the second isn't. While another process is down, a recovery that is
+-- not alone is refused, and so is restoring numbers from a process that is down
 abbrev pub TwoCrashesAreLegal : Type 0
 TwoCrashesAreLegal =
     (g : ℕ → List Message → List ℕ) →
@@ -95,8 +95,8 @@ LostJobIsLegal =
     × (state_of (world_of 1 (silent g) (lost_job x)) 1 ≡ g 1 [])
     × (all_single (opening 1 (silent g)) (lost_job x) ≡ true)
 
--- a process receives a message, saves a checkpoint and crashes, when the outside has dropped the message from its log: not before
--- the checkpoint covered it
+-- a process receives a message, saves a checkpoint and crashes. The outside drops the message from its log before the crash, but
+-- not before the checkpoint covers it
 abbrev pub saved_message : List ℕ → List Entry
 saved_message x =
     one_message x
@@ -116,7 +116,7 @@ SavedMessageIsKept =
     × (length_of (world_of 1 (silent g) (saved_message x)) 1 ≡ 1)
     × (state_of (world_of 1 (silent g) (saved_message x)) 1 ≡ g 1 (first_input x ∷ []))
 
--- a message is received, and its number recorded and acknowledged
+-- a message is received, and its number is recorded and acknowledged
 abbrev pub acknowledged_message : List ℕ → List Entry
 acknowledged_message x =
     one_message x
@@ -124,7 +124,7 @@ acknowledged_message x =
     ∷ by_nobody (Arrive 0) Acknowledged
     ∷ []
 
--- its process crashes, and replays it
+-- its process crashes and replays it
 abbrev pub replayed_message : List ℕ → List Entry
 replayed_message x =
     acknowledged_message x
@@ -149,11 +149,11 @@ abbrev pub texts : List Message → List (List ℕ)
 texts [] = []
 texts (m ∷ ms) = m.payload ∷ texts ms
 
--- process 1 sends to this destination what it receives
+-- process 1 passes on to this destination what it receives
 abbrev pub relaying : ℕ → (ℕ → List Message → List ℕ) → Handlers
 relaying to g = record { state = g; sends = λ p h d. if p == 1 then (if d == to then texts h else []) else [] }
 
--- a message is relayed and received; the relay crashes and asks the receiver for its numbers; then the receiver crashes
+-- a message is relayed and received. The relay crashes and asks the receiver for its numbers. Then the receiver crashes
 abbrev pub relayed_message : List ℕ → List Entry
 relayed_message x =
     acknowledged_message x
@@ -198,7 +198,7 @@ three_messages x =
     ∷ by_nobody (Finish 1) (Committed 3 2)
     ∷ []
 
--- the second is acknowledged, and then the first
+-- the second message is acknowledged, and then the first
 abbrev pub out_of_order : List ℕ → List Entry
 out_of_order x =
     three_messages x
@@ -208,8 +208,8 @@ out_of_order x =
     ∷ by_nobody (Arrive 0) Acknowledged
     ∷ []
 
--- the list is legal; as long as the first isn't acknowledged nothing is released, and then what the first two sent is: what the third
--- sent can't leave
+-- the list is legal. Until the first message is acknowledged nothing is released; then what the first two sent is released, and
+-- what the third sent is not
 abbrev pub FirstRunIsReleased : Type 0
 FirstRunIsReleased =
     (g : ℕ → List Message → List ℕ) (x : List ℕ) →
@@ -232,7 +232,7 @@ old_number x =
     ∷ by_nobody (Arrive 1) Stale
     ∷ []
 
--- the list is legal, and the number means nothing any more
+-- the list is legal, and the number is stale
 abbrev pub OldNumberIsStale : Type 0
 OldNumberIsStale =
     (g : ℕ → List Message → List ℕ) (x : List ℕ) →
@@ -267,7 +267,7 @@ OldAcknowledgementIsStale =
     × ((world_of 1 (silent g) (old_acknowledgement x)).acknowledged 1 1 ≡ true)
     × ((world_of 1 (silent g) (old_acknowledgement x)).acknowledged 1 2 ≡ false)
 
--- of three messages, from the outside, from a relay and from the outside, the number of the second is lost when the process crashes
+-- three messages come, from the outside, a relay and the outside. The number of the second is lost when the process crashes
 abbrev pub lost_number : List ℕ → List Entry
 lost_number x =
     acknowledged_message x
@@ -292,7 +292,8 @@ lost_number x =
     ∷ by_nobody (ResyncWith 2 1) (Restored 0)
     ∷ []
 
--- the list is legal; the process has the state that follows the first message, and the third, the next of its sender, has no number any more
+-- the list is legal; the process has the state that follows the first message. The third, which is its sender's next, has no number
+-- now
 abbrev pub LostNumberEndsTheRun : Type 0
 LostNumberEndsTheRun =
     (g : ℕ → List Message → List ℕ) (x : List ℕ) →
@@ -302,8 +303,8 @@ LostNumberEndsTheRun =
     × ((world_of 2 (relaying 2 g) (lost_number x)).numbers 0 2 1 ≡ Some 1)
     × ((world_of 2 (relaying 2 g) (lost_number x)).numbers 0 2 2 ≡ None)
 
--- workers carry messages: the second of two comes early; the number of the first is lost, so the message goes once more, and is told
--- its number again; its output is shown, and a copy of it comes late
+-- workers carry messages. The second of two comes early. The number of the first is lost, so the message is sent again, and its
+-- number is told again. Its output is shown, and a copy of it comes late
 abbrev pub told_again : List ℕ → List Entry
 told_again x =
     by_nobody (Input 1 1 x) (Logged 1)
@@ -334,7 +335,7 @@ LostNumberIsToldAgain =
     × (length_of (world_of 1 (relaying 0 g) (told_again x)) 1 ≡ 1)
     × ((world_of 1 (relaying 0 g) (told_again x)).shown ≡ record { sender = 1; ssn = 1; payload = x } ∷ [])
 
--- of three messages that a relay sent its log has dropped one when its checkpoint is saved, and one more when it crashes
+-- a relay sends three messages. Its log has dropped one when its checkpoint is saved, and one more when it crashes
 abbrev pub trimmed_log : List ℕ → List Entry
 trimmed_log x =
     three_messages x
@@ -355,7 +356,8 @@ trimmed_log x =
     ∷ by_nobody (ResyncWith 1 2) (Restored 1)
     ∷ []
 
--- the list is legal, and the log has what the checkpoint had: not the first message, the second with its number, the third without
+-- the list is legal, and the log is that of the checkpoint: without the first message, with the second and its number, and with the
+-- third without a number
 abbrev pub TrimmedLogComesBack : Type 0
 TrimmedLogComesBack =
     (g : ℕ → List Message → List ℕ) (x : List ℕ) →

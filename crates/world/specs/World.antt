@@ -6,7 +6,7 @@ use Rattle.world.specs.History.{Payload}
 use Rattle.world.specs.Phases.{Phase, Up}
 use Rattle.world.specs.Handlers.{Handlers}
 
--- process 0 is the outside, which is always up, and the processes are 1 to count
+-- process 0 is the outside, which is always up; the processes are 1 to count
 pub record World : Type 0 where
   pub count : ℕ
   pub handlers : Handlers
@@ -16,7 +16,7 @@ pub record World : Type 0 where
   -- of its checkpoint: how many messages it covers, and by destination how many log entries were dropped by then
   pub saved : ℕ → ℕ
   pub saved_trims : ℕ → ℕ → ℕ
-  -- of a process: by RSN what is acknowledged, by destination how many messages are released, and its incarnation
+  -- of a process: by RSN whether it is acknowledged, by destination how many messages are released, and its incarnation
   pub acknowledged : ℕ → ℕ → Bool
   pub released : ℕ → ℕ → ℕ
   pub incarnation : ℕ → ℕ
@@ -31,7 +31,7 @@ pub record World : Type 0 where
   pub wire : ℕ → Option Packet
   pub started : ℕ
 
--- f, but x at k
+-- f, with the value x at k
 abbrev pub put : {X : Type 0} → (ℕ → X) → ℕ → X → ℕ → X
 put f k x j = if j == k then x else f j
 
@@ -57,6 +57,6 @@ opening n handlers =
       started = 0;
     }
 
--- a process, and not the outside
+-- whether p is a process and not the outside
 abbrev pub is_inside : World → ℕ → Bool
 is_inside w p = nat_lt 0 p && nat_le p w.count

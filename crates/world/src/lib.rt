@@ -1,11 +1,11 @@
-//! What a session is about: its calls, their answers and refusals, and the world that they lead
-//! through.
+//! The model of a session: its calls, answers, refusals and world.
 //!
-//! A *world* tells what every process received, what is recorded, acknowledged and released, and
-//! what is on the wire. It has no state of a process and no log: both follow from what was
-//! received. Each call that a session accepts is a step of the world, each refusal is the least
-//! number whose cause holds, and a *legal journal* is a list of such steps from the opening world.
-//! The definitions stand in `specs/`: `World` and `Phases`, `Handlers`, `History`, `Logs`, `Plan`,
+//! A *world* says what every process received, what is recorded, acknowledged and released, and
+//! what is on the wire. It holds no state of a process and no log: both follow from what was
+//! received. Each call that a session accepts is a step of the world. A refused call gets the least
+//! number whose cause holds. A *legal journal* is a list of such steps from the opening world.
+//!
+//! The definitions are in `specs/`: `World` and `Phases`, `Handlers`, `History`, `Logs`, `Plan`,
 //! `Calls` (the world after a call), `Answers`, `Refusals`, `Useful` and `Legal`.
 //!
 //! The crate has the plain types that code shares, and no logic:

@@ -2,12 +2,12 @@
 
 use helpers::Payload;
 
-/// A numbered message of a sender.
+/// A message with the number that its sender gave it.
 #[derive(Clone, Copy, PartialEq, Eq, Debug)]
 pub struct Message {
     /// Who sent it: 0 for the outside, 1 to 15 for a process.
     pub sender: u8,
-    /// Its place, from 1, among the messages of its sender to its receiver.
+    /// Its number, from 1, among the messages of its sender to its receiver.
     pub ssn: u32,
     pub payload: Payload,
 }
@@ -15,9 +15,9 @@ pub struct Message {
 /// A message that the outside hands in.
 #[derive(Clone, Copy, PartialEq, Eq, Debug)]
 pub struct Feed {
-    /// What tells it from every other feed. A number is taken once.
+    /// The number that tells it from every other feed. Each number is taken once.
     pub number: u32,
-    /// The process that it is for, 1 to 15.
+    /// The process that gets it, 1 to 15.
     pub dst: u8,
     pub payload: Payload,
 }

@@ -1,8 +1,8 @@
-//! What is on its way.
+//! Packets on the wire.
 
 use crate::message::Message;
 
-/// What lies on the wire under a key.
+/// A packet on the wire.
 #[derive(Clone, Copy, PartialEq, Eq, Debug)]
 pub enum Packet {
     /// A message, for a process or for the outside (0).

@@ -7,7 +7,7 @@ ghost use Rattle.world.specs.declared.refusal.Refusal.TheVariants.{Memory};
 use std::alloc::AllocError;
 use thiserror::Error;
 
-/// Why a call was refused. Where several causes hold, the one with the least number is told.
+/// Why a call was refused. If several causes hold, the one with the least number is told.
 #[derive(Clone, Copy, PartialEq, Eq, Debug, Error)]
 pub enum Refusal {
     #[error("no such process")]

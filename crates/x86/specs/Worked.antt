@@ -1,4 +1,4 @@
--- Rows of what instructions did on a processor, as examples/native/forms stores them.
+-- Rows of what instructions did on a processor, stored by examples/native/forms.
 use Rattle.std.specs.Prelude.{◌≡◌, ℕ, ◌-◌, ◌^◌, ◌==◌, List, [], ◌∷◌, ◌++◌, map, slice_set, if◌then◌else◌}
 use Rattle.std.specs.Int.{bit_at}
 use Rattle.operations.specs.Bits.{word_of_bits}
@@ -15,8 +15,8 @@ use Rattle.decode.specs.declared.insn.Size.TheVariants as size
 use Rattle.x86.specs.Encoding.{bytes_of}
 use Rattle.x86.specs.Machine.{Value, Word, At, Array, Record, Flags, Unknown, State, Outcome, Goes, Stuck, and_on, asks, act, Runs}
 
--- what is otherwise in a state: a register, bytes from a position of the array or the record on, xmm0, what was pushed,
--- the flags
+-- a change of a state: a register, bytes from a position of the array or the record on, xmm0, what was pushed, the
+-- flags
 pub data Change : Type 0 where
   Reg : ℕ → Value → Change
   ArrayAt : ℕ → List ℕ → Change
@@ -37,7 +37,7 @@ abbrev pub changed_by : State → List Change → State
 changed_by c [] = c
 changed_by c (x ∷ xs) = changed_by (changed c x) xs
 
--- instructions, their bytes, what is otherwise before them, and what they change
+-- instructions, their bytes, the changes that make the state before them, and the changes that they make
 abbrev pub Row : Type 0
 Row = List Instr × List ℕ × List Change × List Change
 
@@ -62,8 +62,8 @@ long_jump x = JumpIf x 7
 abbrev pub short_jump : Condition → Instr
 short_jump x = JumpIfShort x 7
 
--- a condition, the bytes of its jump over 7 bytes, and its answers: bit k where carry, zero, sign and overflow are bits
--- 0 to 3 of k
+-- a condition, the bytes of its jump over 7 bytes, and its answers: bit k is the answer if carry, zero, sign and
+-- overflow are bits 0 to 3 of k
 abbrev pub Asked : Type 0
 Asked = Condition × List ℕ × ℕ
 
@@ -78,10 +78,10 @@ AreAsked jump rows =
 abbrev pub IsRun : State → List ℕ → ℕ → Type 0
 IsRun begin code answer = Runs code 4 0 begin (changed begin (Reg 0 (Word answer)))
 
--- nothing is said of these: the processor faults, or it is beyond what the definition tells
+-- of these nothing is said: the processor faults, or the definition leaves them open
 abbrev pub unsaid : List (Instr × List Change)
 unsaid =
-    -- division by 0, and where the quotient has no place
+    -- a division by 0, and a quotient that doesn't fit
     (instr.Div W64 1, Reg 1 (Word 0) ∷ Reg 2 (Word 0) ∷ []) ∷
     (instr.Div W32 1, Reg 1 (Word (2 ^ 32)) ∷ Reg 2 (Word 0) ∷ []) ∷
     (instr.Div W64 1, Reg 2 (Word 1) ∷ []) ∷
@@ -89,13 +89,13 @@ unsaid =
     (instr.SignedDiv W64 1, Reg 0 (Word 5) ∷ Reg 2 (Word (2 ^ 64 - 1)) ∷ []) ∷
     (instr.SignedDiv W64 1, Reg 0 (Word (2 ^ 63)) ∷ Reg 1 (Word (2 ^ 64 - 1)) ∷ Reg 2 (Word (2 ^ 64 - 1)) ∷ []) ∷
     (instr.SignedDiv W32 1, Reg 0 (Word (2 ^ 31)) ∷ Reg 1 (Word (2 ^ 32 - 1)) ∷ Reg 2 (Word (2 ^ 32 - 1)) ∷ []) ∷
-    -- flags behind arithmetic
+    -- flags after arithmetic
     (JumpIf condition.Equal 7, Sets Unknown ∷ []) ∷
     (JumpIfShort condition.Equal 7, Sets Unknown ∷ []) ∷
     -- a shift of 32 bits by 0
     (instr.Shift shift.Left W32 10 0, []) ∷
     (instr.ShiftBy shift.Right W32 10, Reg 1 (Word 32) ∷ []) ∷
-    -- memory at a number, and over the end of its block
+    -- memory at a number, and past the end of its block
     (instr.Load size.Byte 0 5 0, []) ∷
     (instr.Load size.Byte 0 5 0, Reg 5 (At Array 48) ∷ []) ∷
     (instr.Load size.Byte 0 5 (2 ^ 32 - 1), Reg 5 (At Array 0) ∷ []) ∷
@@ -106,7 +106,7 @@ unsaid =
     (instr.StoreLong 5 1, Reg 5 (At Record 32) ∷ []) ∷
     -- xmm0 has sixteen bytes
     (instr.StoreLong 5 0, Reg 5 (At Record 0) ∷ Long [] ∷ []) ∷
-    -- rsp, and registers that there aren't
+    -- rsp, and registers that don't exist
     (instr.Push 4, []) ∷
     (instr.Mov W64 4 0, []) ∷
     (instr.Mov W64 0 16, []) ∷
@@ -118,7 +118,7 @@ unsaid =
     -- the stack
     (instr.Pop 0, []) ∷
     (instr.Return, Pushed (Word 0 ∷ []) ∷ []) ∷
-    -- copies over the end of a block, and the other way
+    -- copies past the end of a block, and from the record to the array
     (instr.CopyBytes, Reg 1 (Word 9) ∷ Reg 6 (At Array 40) ∷ Reg 7 (At Record 0) ∷ []) ∷
     (instr.CopyBytes, Reg 1 (Word 9) ∷ Reg 6 (At Array 0) ∷ Reg 7 (At Record 40) ∷ []) ∷
     (instr.CopyBytes, Reg 1 (Word 9) ∷ Reg 6 (At Record 0) ∷ Reg 7 (At Array 0) ∷ []) ∷

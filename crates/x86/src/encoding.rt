@@ -8,7 +8,7 @@ use crate::instruction::{Alu, Condition, Instr, Shift};
 use decode::{Extension, SignedSize, Size, Width};
 use std::alloc::AllocError;
 
-// One more byte.
+// Appends a byte.
 fn put(code: &mut Vec<u8>, byte: u8) -> Result<(), AllocError>
     ensures { OnOk result (code.new.items ≡ code.old.items ++ byte ∷ []) }
 {
@@ -16,28 +16,28 @@ fn put(code: &mut Vec<u8>, byte: u8) -> Result<(), AllocError>
     Ok(())
 }
 
-// Some bytes more.
+// Appends bytes.
 fn put_all(code: &mut Vec<u8>, bytes: &[u8]) -> Result<(), AllocError>
     ensures { OnOk result (code.new.items ≡ code.old.items ++ bytes.now) }
 {
     code.extend_from_slice(bytes)
 }
 
-// Two bytes more.
+// Appends two bytes.
 fn put_pair(code: &mut Vec<u8>, first: u8, second: u8) -> Result<(), AllocError>
     ensures { OnOk result (code.new.items ≡ code.old.items ++ first ∷ second ∷ []) }
 {
     put_all(code, &[first, second])
 }
 
-// The low 16 bits of a number.
+// Appends the low 16 bits of a number.
 fn put_half(code: &mut Vec<u8>, number: u64) -> Result<(), AllocError>
     ensures { OnOk result (code.new.items ≡ code.old.items ++ le_bytes 2 number) }
 {
     put_pair(code, (number % 256) as u8, (number / 256 % 256) as u8)
 }
 
-// The low 32 bits of a number.
+// Appends the low 32 bits of a number.
 fn put_number(code: &mut Vec<u8>, number: u64) -> Result<(), AllocError>
     ensures { OnOk result (code.new.items ≡ code.old.items ++ le_bytes 4 number) }
 {
@@ -52,7 +52,7 @@ fn put_number(code: &mut Vec<u8>, number: u64) -> Result<(), AllocError>
     )
 }
 
-// A number of 64 bits.
+// Appends a number of 64 bits.
 fn put_wide(code: &mut Vec<u8>, number: u64) -> Result<(), AllocError>
     ensures { OnOk result (code.new.items ≡ code.old.items ++ le_bytes 8 number) }
 {
@@ -71,7 +71,7 @@ fn rex_by(width: Width, reg: u8, index: u8, rm: u8) -> u8
     64 + wide + 4 * (reg / 8 % 2) + 2 * (index / 8 % 2) + rm / 8 % 2
 }
 
-// A REX where it says something.
+// Appends a REX, unless it would say nothing.
 fn put_prefix_by(
     code: &mut Vec<u8>,
     width: Width,
@@ -88,7 +88,7 @@ fn put_prefix_by(
     }
 }
 
-// A REX where it says something, and bytes behind it.
+// Appends a REX, unless it would say nothing, and bytes.
 fn put_rexed(
     code: &mut Vec<u8>,
     width: Width,
@@ -103,7 +103,7 @@ fn put_rexed(
     put_all(code, bytes)
 }
 
-// A REX where one of the registers is a byte.
+// Appends the REX of an instruction with a byte register, unless it would say nothing.
 fn put_byte_prefix(code: &mut Vec<u8>, byte: u8, reg: u8, rm: u8) -> Result<(), AllocError>
     ensures { OnOk result (code.new.items ≡ code.old.items ++ encoding.byte_prefix byte reg rm) }
 {
@@ -115,7 +115,7 @@ fn put_byte_prefix(code: &mut Vec<u8>, byte: u8, reg: u8, rm: u8) -> Result<(), 
     }
 }
 
-// A REX where one of the registers is a byte, and bytes behind it.
+// Appends the REX of an instruction with a byte register, unless it would say nothing, and bytes.
 fn put_byte_rexed(
     code: &mut Vec<u8>,
     byte: u8,
@@ -129,21 +129,21 @@ fn put_byte_rexed(
     put_all(code, bytes)
 }
 
-// ModR/M of two registers.
+// The ModR/M of two registers.
 fn two(reg: u8, rm: u8) -> u8
     ensures { result ≡ encoding.two reg rm }
 {
     192 + 8 * (reg % 8) + rm % 8
 }
 
-// Whether 8 bits give a number.
+// Whether a number is its low 8 bits, sign-extended.
 fn is_small(number: u64) -> bool
     ensures { result ≡ encoding.is_small number }
 {
     number % 0x1_0000_0000 < 128 || 0xffff_ff80 <= number % 0x1_0000_0000
 }
 
-// 8 bits or 32.
+// Appends a number in 8 bits, or in 32 if it needs them.
 fn put_short(code: &mut Vec<u8>, number: u64) -> Result<(), AllocError>
     ensures { OnOk result (code.new.items ≡ code.old.items ++ encoding.number number) }
 {
@@ -154,7 +154,7 @@ fn put_short(code: &mut Vec<u8>, number: u64) -> Result<(), AllocError>
     }
 }
 
-// The number of an operation.
+// The number n of an operation in its opcode.
 fn op_number(op: Alu) -> u8
     ensures { result ≡ encoding.op_number op }
 {
@@ -168,7 +168,7 @@ fn op_number(op: Alu) -> u8
     }
 }
 
-// The number of a shift.
+// The number n of a shift in its opcode.
 fn shift_number(op: Shift) -> u8
     ensures { result ≡ encoding.shift_number op }
 {
@@ -179,7 +179,7 @@ fn shift_number(op: Shift) -> u8
     }
 }
 
-// The number of a condition.
+// The number n of a condition in its opcode.
 fn code_of(condition: Condition) -> u8
     ensures { result ≡ encoding.code_of condition }
 {
@@ -197,14 +197,14 @@ fn code_of(condition: Condition) -> u8
     }
 }
 
-// An instruction with two registers.
+// Appends an instruction with two registers.
 fn put_two(code: &mut Vec<u8>, width: Width, opcode: u8, reg: u8, rm: u8) -> Result<(), AllocError>
     ensures { OnOk result (code.new.items ≡ code.old.items ++ encoding.with_two width opcode reg rm) }
 {
     put_rexed(code, width, reg, 0, rm, &[opcode, two(reg, rm)])
 }
 
-// The same with a byte behind it.
+// The same, with a byte after it.
 fn put_two_byte(
     code: &mut Vec<u8>,
     width: Width,
@@ -218,7 +218,7 @@ fn put_two_byte(
     put_rexed(code, width, reg, 0, rm, &[opcode, two(reg, rm), byte])
 }
 
-// The same with 32 bits behind it.
+// The same, with 32 bits after it.
 fn put_two_number(
     code: &mut Vec<u8>,
     width: Width,
@@ -233,7 +233,7 @@ fn put_two_number(
     put_number(code, number)
 }
 
-// An instruction with two registers and an opcode of two bytes.
+// Appends an instruction with two registers and an opcode of two bytes.
 fn put_two_0f(
     code: &mut Vec<u8>,
     width: Width,
@@ -246,7 +246,7 @@ fn put_two_0f(
     put_rexed(code, width, reg, 0, rm, &[0x0f, opcode, two(reg, rm)])
 }
 
-// ModR/M without its mode and r/m.
+// The mode and reg of the ModR/M of memory.
 fn mode(disp: u64, reg: u8) -> u8
     ensures { result ≡ (if encoding.is_small disp then 64 else 128) + 8 * (reg % 8) }
 {
@@ -254,7 +254,7 @@ fn mode(disp: u64, reg: u8) -> u8
     mode + 8 * (reg % 8)
 }
 
-// ModR/M of memory at a base, with a SIB where it takes one.
+// Appends the ModR/M of memory at a base, with a SIB if the base needs one.
 fn put_base(code: &mut Vec<u8>, reg: u8, base: u8, disp: u64) -> Result<(), AllocError>
     ensures { OnOk result (code.new.items ≡ code.old.items ++ ((if encoding.is_small disp then 64 else 128) + 8 * (reg % 8) + base % 8) ∷ (if base % 8 == 4 then 36 ∷ [] else [])) }
 {
@@ -266,7 +266,7 @@ fn put_base(code: &mut Vec<u8>, reg: u8, base: u8, disp: u64) -> Result<(), Allo
     }
 }
 
-// Where the memory is.
+// Appends the ModR/M of memory at a base, and the displacement.
 fn memory(code: &mut Vec<u8>, reg: u8, base: u8, disp: u64) -> Result<(), AllocError>
     ensures { OnOk result (code.new.items ≡ code.old.items ++ encoding.memory reg base disp) }
 {
@@ -274,7 +274,7 @@ fn memory(code: &mut Vec<u8>, reg: u8, base: u8, disp: u64) -> Result<(), AllocE
     put_short(code, disp)
 }
 
-// The same with an index.
+// The same for memory at a base and an index.
 fn memory_by(code: &mut Vec<u8>, reg: u8, base: u8, index: u8, disp: u64) -> Result<(), AllocError>
     ensures { OnOk result (code.new.items ≡ code.old.items ++ encoding.memory_by reg base index disp) }
 {
@@ -282,7 +282,7 @@ fn memory_by(code: &mut Vec<u8>, reg: u8, base: u8, index: u8, disp: u64) -> Res
     put_short(code, disp)
 }
 
-// An instruction with memory.
+// Appends an instruction with memory.
 fn put_memory(
     code: &mut Vec<u8>,
     width: Width,
@@ -297,7 +297,7 @@ fn put_memory(
     memory(code, reg, base, disp)
 }
 
-// The same with 32 bits behind it.
+// The same, with 32 bits after it.
 fn put_memory_number(
     code: &mut Vec<u8>,
     width: Width,
@@ -312,7 +312,7 @@ fn put_memory_number(
     put_number(code, number)
 }
 
-// An instruction with memory and an opcode of two bytes.
+// Appends an instruction with memory and an opcode of two bytes.
 fn put_memory_0f(
     code: &mut Vec<u8>,
     width: Width,
@@ -361,7 +361,7 @@ fn put_alu_imm(
     }
 }
 
-// A register in the opcode.
+// Appends an instruction that has its register in the opcode.
 fn put_named(code: &mut Vec<u8>, width: Width, opcode: u8, reg: u8) -> Result<(), AllocError>
     requires { opcode < 248 }
     ensures { OnOk result (code.new.items ≡ code.old.items ++ encoding.prefix width 0 reg ++ (opcode + reg % 8) ∷ []) }
@@ -508,7 +508,7 @@ fn put_jump(code: &mut Vec<u8>, distance: u64) -> Result<(), AllocError>
 }
 
 impl Instr {
-    /// Writes its bytes behind those that are there.
+    /// Appends its bytes.
     pub fn write(&self, code: &mut Vec<u8>) -> Result<(), AllocError>
         ensures { OnOk result (code.new.items ≡ code.old.items ++ encoding.bytes_of self.now) }
     {

@@ -1,10 +1,10 @@
-//! What instructions did on a processor, checked by computation alone.
+//! Rows of what instructions did on a processor. The proof checks them by computing.
 
 ghost use Rattle.x86.specs.Worked.{AreAsked, AreDone, AreUnsaid, IsRun, long_jump, short_jump, unsaid};
 ghost use Rattle.x86.specs.Observed as observed;
 ghost use Rattle.x86.specs.Observed.{begin};
 
-/// The definitions give each form the bytes that an assembler gave it, and let it do what it did on a processor.
+/// For each row the definitions give the bytes that an assembler gave, and the result that a processor gave.
 pub fn forms_are_as_observed()
     ensures moves { AreDone begin observed.moves }
     ensures arithmetic { AreDone begin observed.arithmetic }
@@ -19,7 +19,7 @@ pub fn forms_are_as_observed()
     ensures short_program { IsRun begin observed.short_program observed.short_program_answer }
 {}
 
-/// The definitions don't say more than they are to.
+/// The definitions say nothing where they should say nothing.
 pub fn the_rest_is_unsaid()
     ensures { AreUnsaid begin unsaid }
 {}

@@ -31,7 +31,7 @@ at_rex w reg index rm bs =
     let p = rex_by w reg index rm in
     ap (λ n. if n == 4 then behind_rex p bs else without_rex p bs) (rex_bits w reg index rm).high
 
--- without a REX these bytes are read as behind one that says nothing
+-- without a REX these bytes are read as after a REX that says nothing
 abbrev IsBare : List ℕ → Type 0
 IsBare bs = read bs ≡ behind_rex no_rex bs
 

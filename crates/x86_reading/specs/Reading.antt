@@ -16,11 +16,11 @@ use Rattle.x86.specs.declared.instruction.Instr.{Instr}
 use Rattle.x86.specs.declared.instruction.Instr.TheVariants as instr
 use Rattle.x86.specs.Encoding.{bytes_of}
 
--- what is read, and the bytes behind it
+-- what is read, and the bytes after it
 abbrev pub Reading : Type 0 → Type 0
 Reading A = Option (A × List ℕ)
 
--- reads on behind what was read
+-- goes on reading after what was read
 abbrev pub behind : {A B : Type 0} → Reading A → (A → List ℕ → Reading B) → Reading B
 behind None f = None
 behind (Some (a, bs)) f = f a bs
@@ -31,7 +31,7 @@ abbrev pub one : List ℕ → Reading ℕ
 one [] = None
 one (b ∷ bs) = Some (b, bs)
 
--- twice as many bytes, the lower ones first, where the lower ones have so many values
+-- a number of twice as many bytes, the lower half first; `values` is how many values a half has
 abbrev pub twice : ℕ → (List ℕ → Reading ℕ) → List ℕ → Reading ℕ
 twice values half bs = behind (half bs) (λ low bs. behind (half bs) (λ high bs. Some (low + values * high, bs)))
 
@@ -44,7 +44,7 @@ four_bytes = twice (2 ^ 16) two_bytes
 abbrev pub eight_bytes : List ℕ → Reading ℕ
 eight_bytes = twice (2 ^ 32) four_bytes
 
--- a byte that stands for 32 bits by its sign
+-- a byte, sign-extended to 32 bits
 abbrev pub spread : ℕ → ℕ
 spread b = if nat_lt b 128 then b else b + (2 ^ 32 - 2 ^ 8)
 
@@ -60,7 +60,7 @@ is_rex p = p / 16 == 4
 abbrev pub width_of : ℕ → Width
 width_of p = if p / 8 % 2 == 1 then W64 else W32
 
--- bit R before bits 3 to 5 of a ModR/M; X before those of a SIB; B before bits 0 to 2 of either
+-- REX's bit R comes before bits 3 to 5 of a ModR/M, X before those of a SIB, B before bits 0 to 2 of either
 abbrev pub reg_of : ℕ → ℕ → ℕ
 reg_of p m = 8 * (p / 4 % 2) + m / 8 % 8
 
@@ -76,7 +76,7 @@ pub data Place : Type 0 where
   Memory : ℕ → ℕ → Place
   MemoryBy : ℕ → ℕ → ℕ → Place
 
--- a displacement of 8 bits where the mode is 01, else of 32
+-- a displacement of 8 bits if the mode is 01, else of 32
 abbrev pub displacement : ℕ → List ℕ → Reading ℕ
 displacement mode bs = if mode == 1 then signed_byte bs else four_bytes bs
 
@@ -113,7 +113,7 @@ alu_of n =
 abbrev pub shift_of : ℕ → Option Shift
 shift_of n = if n == 4 then Some shift.Left else if n == 5 then Some shift.Right else if n == 7 then Some shift.RightSigned else None
 
--- the condition of 0F 80 + n and 70 + n
+-- the condition n of 0F 80 + n and 70 + n
 abbrev pub condition_of : ℕ → Option Condition
 condition_of n =
     if n == 2 then Some condition.Below else if n == 3 then Some condition.AboveEqual else if n == 4 then Some condition.Equal
@@ -154,7 +154,7 @@ abbrev pub sized : Width → Size
 sized W32 = size.Word
 sized W64 = size.Double
 
--- the same, and memory
+-- the same with memory
 abbrev pub on_memory : ℕ → Width → ℕ → ℕ → ℕ → List ℕ → Reading Instr
 on_memory op w n base d bs =
     if op == 139 then whole (instr.Load (sized w) n base d) bs  -- 8B /r
@@ -171,7 +171,7 @@ by_place op w n (Register r) bs = on_register op w n r bs
 by_place op w n (Memory base d) bs = on_memory op w n base d bs
 by_place op w n (MemoryBy base index d) bs = if op == 141 then whole (instr.LeaBy n base index d) bs else None
 
--- an opcode behind 0F
+-- an opcode after 0F
 abbrev pub by_place_0f : ℕ → Width → ℕ → Place → List ℕ → Reading Instr
 by_place_0f op W32 n (Register r) bs =
     if op == 183 then whole (instr.MovZx n r) bs  -- 0F B7 /r
@@ -194,7 +194,7 @@ by_place_0f op w n (Memory base d) bs =
     else None
 by_place_0f op w n (MemoryBy base index d) bs = None
 
--- an opcode behind 66
+-- an opcode after 66
 abbrev pub by_place_66 : ℕ → ℕ → Place → List ℕ → Reading Instr
 by_place_66 op n (Register r) bs = if op == 193 then behind (one bs) (λ count. whole (instr.SwapLow r)) else None  -- 66 C1 /0 ib
 by_place_66 op n (Memory base d) bs =
@@ -203,11 +203,11 @@ by_place_66 op n (Memory base d) bs =
     else None
 by_place_66 op n (MemoryBy base index d) bs = None
 
--- a number to a register, of 32 bits or 64
+-- a number into a register, of 32 bits or 64
 abbrev pub move_number : ℕ → ℕ → List ℕ → Reading Instr
 move_number p r bs = elim (width_of p) as (λ w. Reading Instr) [ W32 ↦ behind (four_bytes bs) (λ imm. whole (instr.MovImm r imm)) | W64 ↦ behind (eight_bytes bs) (λ imm. whole (instr.MovWide r imm)) ]
 
--- an opcode of one byte, by its REX; the low three bits of 50, 58 and B8 are a register
+-- an opcode of one byte, with its REX; the low three bits of 50, 58 and B8 are a register
 abbrev pub by_opcode : ℕ → ℕ → List ℕ → Reading Instr
 by_opcode p op bs =
     if op / 8 == 10 then whole (instr.Push (base_of p op)) bs  -- 50+r
@@ -221,16 +221,16 @@ by_opcode_0f p op bs =
     if op / 8 == 25 then whole (instr.Swap (width_of p) (base_of p op)) bs  -- 0F C8+r
     else behind (modrm p bs) (λ (n, place). by_place_0f op (width_of p) n place)
 
--- behind a REX
+-- after a REX
 abbrev pub behind_rex : ℕ → List ℕ → Reading Instr
 behind_rex p bs =
     behind (one bs) (λ op bs. if op == 15 then behind (one bs) (by_opcode_0f p) else by_opcode p op bs)
 
--- without a REX all is as behind one that says nothing
+-- no REX means the same as a REX that says nothing
 abbrev pub no_rex : ℕ
 no_rex = 64
 
--- behind 66
+-- after 66
 abbrev pub by_opcode_66 : ℕ → ℕ → List ℕ → Reading Instr
 by_opcode_66 p op bs = behind (modrm p bs) (λ (n, place). by_place_66 op n place)
 
@@ -238,13 +238,13 @@ abbrev pub behind_66 : List ℕ → Reading Instr
 behind_66 bs =
     behind (one bs) (λ b bs. if is_rex b then behind (one bs) (by_opcode_66 b) else by_opcode_66 no_rex b bs)
 
--- behind 0F without a REX, where jumps are too
+-- after 0F without a REX, which jumps have too
 abbrev pub behind_0f : ℕ → List ℕ → Reading Instr
 behind_0f b bs =
     if b / 16 == 8 then with_op (condition_of (b - 128)) (λ x. behind (four_bytes bs) (λ distance. whole (instr.JumpIf x distance)))  -- 0F 80+cc cd
     else by_opcode_0f no_rex b bs
 
--- what has no REX
+-- instructions without a REX
 abbrev pub without_rex : ℕ → List ℕ → Reading Instr
 without_rex b bs =
     if b == 102 then behind_66 bs
@@ -256,7 +256,7 @@ without_rex b bs =
     else if b == 195 then whole instr.Return bs  -- C3
     else by_opcode no_rex b bs
 
--- the instruction at the front, and the bytes behind it
+-- the first instruction, and the bytes after it
 abbrev pub read : List ℕ → Reading Instr
 read bs = behind (one bs) (λ b bs. if is_rex b then behind_rex b bs else without_rex b bs)
 
@@ -270,14 +270,14 @@ IsReg r = r < 16
 abbrev pub IsNumber : ℕ → Type 0
 IsNumber v = v < 2 ^ 32
 
--- the number of a mov to memory has as many bits as are written, at most 32
+-- a mov of a number to memory writes as many bits as the size, at most 32
 abbrev pub IsNumberOf : Size → ℕ → Type 0
 IsNumberOf size.Byte v = v < 2 ^ 8
 IsNumberOf size.Half v = v < 2 ^ 16
 IsNumberOf size.Word v = v < 2 ^ 32
 IsNumberOf size.Double v = v < 2 ^ 32
 
--- registers are numbers of registers, and of each number only bits are set that the bytes have. rsp is no index
+-- registers have the numbers of registers, each number fits the bytes that hold it, and rsp is no index
 abbrev pub IsPlain : Instr → Type 0
 IsPlain (instr.Mov width to from) = IsReg to × IsReg from
 IsPlain (instr.MovImm to imm) = IsReg to × IsNumber imm
@@ -318,7 +318,7 @@ IsPlain instr.Return = Unit {0}
 
 -- ---- laws
 
--- from the bytes of an instruction, whatever stands behind, the instruction is read, and the rest is left
+-- from the bytes of an instruction, followed by any bytes, the instruction is read, and those bytes are left
 abbrev pub ReadsBack : Type 0
 ReadsBack = (i : Instr) (rest : List ℕ) → IsPlain i → read (bytes_of i ++ rest) ≡ Some (i, rest)
 

@@ -1,9 +1,9 @@
-//! What is read in the bytes of instructions.
+//! Laws of reading the bytes of instructions.
 
 ghost use Rattle.x86_reading.specs.Reading.{ReadsBack, TellOne};
 ghost use Rattle.x86_reading.specs.Runs.{RunOneWay};
 
-/// From the bytes of an instruction the instruction is read, and what stands behind is left.
+/// From the bytes of an instruction the instruction is read, and the bytes after it are left.
 pub fn bytes_are_read_back()
     ensures { ReadsBack }
 {}
@@ -13,7 +13,7 @@ pub fn bytes_tell_one_instruction()
     ensures { TellOne }
 {}
 
-/// Whatever bytes are code, two runs from one place and state return in one state.
+/// For any bytes as code, two runs from one place and state return in one state.
 pub fn code_runs_one_way()
     ensures { RunOneWay }
 {}

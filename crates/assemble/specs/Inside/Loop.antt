@@ -1,4 +1,4 @@
--- What is left of a text while its lines are read.
+-- The rest of a text while its lines are read.
 use Rattle.std.specs.Prelude.{◌≡◌, ◌≤◌, ◌+◌, ℕ, ◌++◌, length, List, [], true, false, Option, Some, None, Result, Ok, Err}
 use Rattle.std.specs.Borrow.{Bor}
 use Rattle.limits.specs.declared.TheConstants.{SLOTS}
@@ -9,12 +9,12 @@ use Rattle.assemble.specs.declared.fault.Rule.{Rule}
 use Rattle.assemble.specs.Text.{line_of, lines_of, is_silent}
 use Rattle.assemble.specs.Refusal.{AreLines, LineBreaksFirst}
 
--- the lines of what is left, if something is
+-- the lines of the rest, if there is one
 abbrev pub lines_left : Option (Bor (List ℕ)) → List (List ℕ)
 lines_left None = []
 lines_left (Some x) = lines_of x.now
 
--- how much is left, the end of the last line counted too
+-- the length of the rest, counting the end of the last line
 abbrev pub left : Option (Bor (List ℕ)) → ℕ
 left None = 0
 left (Some x) = length x.now + 1

@@ -47,7 +47,7 @@ mnemonic_of (insn.Wide dst value) = Wide
 abbrev pub IsInsn : Mnemonic → List ℕ → Insn → Type 0
 IsInsn m rest i = (mnemonic_of i ≡ m) × (rest ≡ tail (operands_of i))
 
--- what stands behind the word
+-- the text after the word
 abbrev pub behind : Option (Bor (List ℕ)) → List ℕ
 behind None = []
 behind (Some x) = 32 ∷ x.now

@@ -3,7 +3,7 @@ use Rattle.std.specs.Prelude.{◌≡◌, ◌≢◌, ◌+◌, ◌==◌, if◌then
 use Rattle.std.specs.Borrow.{Bor}
 use Rattle.decode.specs.declared.insn.Reg.{Reg}
 
--- the byte stands between, and not before
+-- the byte is between the two parts, and not in the first
 pub record IsSplit (byte : ℕ) (text front back : List ℕ) : Type 0 where
   pub whole : text ≡ front ++ byte ∷ back
   pub first : ¬ Contains front byte

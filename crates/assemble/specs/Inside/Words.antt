@@ -1,4 +1,4 @@
--- Words and operands apart, as the code reads and writes them.
+-- Words and operands separately, as the code reads and writes them.
 use Rattle.std.specs.Prelude.{ℕ, ◌++◌, ◌∷◌, List, [], codes}
 use Rattle.decode.specs.declared.insn.Extension.{Extension}
 use Rattle.decode.specs.declared.insn.Extension.TheVariants.{W32From8, W32From16, W64From8, W64From16, W64From32}
@@ -23,7 +23,7 @@ extension_name W64From8 = codes "movsx8"
 extension_name W64From16 = codes "movsx16"
 extension_name W64From32 = codes "movsx32"
 
--- the number of bits behind the word of a byte swap
+-- the number of bits after the word of a byte swap
 abbrev pub bits : SwapBits → List ℕ
 bits Bits16 = codes "16"
 bits Bits32 = codes "32"

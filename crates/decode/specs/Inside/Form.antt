@@ -26,7 +26,7 @@ use Rattle.decode.specs.declared.form.Source.TheVariants.{Imm, Register}
 use Rattle.decode.specs.declared.form.Form.{Form}
 use Rattle.decode.specs.declared.form.Form.TheVariants.{Alu, Neg, End, Jump, JumpLong, JumpIf, Call, Exit, Load, LoadSx, StoreReg, StoreImm, Wide}
 
--- the operation of a code, the unsigned one of two
+-- the operation of a code; of two divisions the unsigned one
 abbrev pub alu_at : ℕ → Option AluOp
 alu_at n =
     if n == 0x0 then Some alu.Add
@@ -80,7 +80,7 @@ by_class n =
     else if n % 8 == 6 then jump_form W32 n
     else None
 
--- what an opcode stands for
+-- the form of an opcode
 abbrev pub form_at : ℕ → Option Form
 form_at n =
     if n == 0x05 then Some Jump
@@ -110,7 +110,7 @@ form_at n =
     else if n == 0xd7 then Some (End Swap)
     else by_class n
 
--- a division is signed where the offset is 1
+-- a division is signed if the offset is 1
 abbrev pub signed_at : AluOp → ℕ → AluOp
 signed_at alu.Div offset = if offset == 1 then alu.Sdiv else alu.Div
 signed_at alu.Mod offset = if offset == 1 then alu.Smod else alu.Mod

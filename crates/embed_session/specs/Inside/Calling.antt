@@ -1,4 +1,4 @@
--- What making a call owes
+-- What a call guarantees
 use Rattle.std.specs.Prelude.{ℕ, ◌<◌}
 use Rattle.world.specs.declared.answer.Answer.{Answer}
 use Rattle.world.specs.declared.answer.Answer.TheVariants.{Placed}
@@ -9,12 +9,12 @@ use Rattle.sessions.specs.Journal.{TheSession}
 use Rattle.embed_session.specs.Places.{HasPlaces}
 use Rattle.embed_session.specs.Reading.{IsInside}
 
--- the key that an answer tells of a packet that was put on the wire is one of the wire's
+-- the key in an answer, if there is one, is a key of the wire
 abbrev pub HasKey : Answer → Type 0
 HasKey (Placed key) = key < WIRE
 HasKey other = Unit {0}
 
--- why an input is refused where the journal has too few places for it
+-- why an input is refused if the journal has too few places for it
 abbrev pub IsShort : TheSession → ℕ → Refusal → Type 0
 IsShort s to NoSuchProcess = (¬ HasPlaces s) × (¬ IsInside s to)
 IsShort s to JournalFull = (¬ HasPlaces s) × IsInside s to

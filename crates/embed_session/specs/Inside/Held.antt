@@ -7,7 +7,7 @@ use Rattle.std.specs.Box.Ownership.{box_owns}
 use Rattle.std_heap.specs.contracts.GlobalAllocator.TheImpl.{ghosts}
 use Rattle.sessions.specs.contracts.service.Service.{the_row}
 
--- the box of a service at a pointer, or nothing
+-- a pointer owns the box of a service, or nothing
 abbrev pub held : Global → Ptr → Option the_row.Denot → Fml
 held alloc p (Some x) = box_owns (ghosts.dealloc_token alloc) the_row p x
 held alloc p None = ftrue

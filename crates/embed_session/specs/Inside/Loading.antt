@@ -1,4 +1,4 @@
--- What loading owes
+-- What loading guarantees
 use Rattle.std.specs.Prelude.{◌≡◌, ℕ, List, ◌++◌}
 use Rattle.handlers.specs.Image.{TheImage}
 use Rattle.world.specs.declared.refusal.Refusal.TheVariants.{Memory}
@@ -6,12 +6,12 @@ use Rattle.embed_session.specs.declared.fault.Fault.{Fault}
 use Rattle.embed_session.specs.declared.fault.Fault.TheVariants.{Session, File}
 use Rattle.embed_session.specs.Opening.{AreFiles}
 
--- why files aren't read: this is so, or memory ran out
+-- why files aren't read: they don't fit in this way, or memory ran out
 abbrev pub IsUnread : Type 0 → Fault → Type 0
 IsUnread misfit File = misfit
 IsUnread misfit (Session Memory) = Unit {0}
 IsUnread misfit other = ⊥
 
--- the images of the files, behind those that were there
+-- the images of the files, after those that were there
 abbrev pub AreMore : List ℕ → List ℕ → List TheImage → List TheImage → Type 0
 AreMore files lengths old new = (images : List TheImage) × (new ≡ old ++ images) × AreFiles files lengths images

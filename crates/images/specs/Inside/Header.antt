@@ -1,4 +1,4 @@
--- Headers field by field, on the way there.
+-- Headers field by field.
 use Rattle.std.specs.Prelude.{◌≡◌, ◌<◌, ◌≤◌, ℕ, ◌*◌, length, List}
 use Rattle.limits.specs.declared.TheConstants.{SLOTS, STATE_BYTES}
 use Rattle.verifier.specs.declared.header.FileHeader.{FileHeader}

@@ -1,4 +1,4 @@
--- Reading a packet from left to right, with the first fault that is met. A field is a value and the bytes after it.
+-- Reading a packet from left to right, up to the first fault. A reader gives a value and the bytes after it.
 use Rattle.std.specs.Prelude.{◌≡◌, ℕ, zero, suc, ◌-◌, List, [], ◌∷◌, length, take, drop, slice_index, Option, Some, None, Result, Ok, Err, not, nat_lt, nat_eq, ◌==◌, ◌||◌, if◌then◌else◌}
 use Rattle.std.specs.Cmp.Lexicographic.{pointwise}
 use Rattle.limits.specs.declared.TheConstants.{PAYLOAD_BYTES, PROCESSES}
@@ -30,7 +30,7 @@ abbrev pub Fails : {Y : Type 0} → PacketError → Result Y PacketFault → Typ
 Fails errors.Memory read = Unit {0}
 Fails (errors.Fault fault) read = read ≡ Err fault
 
--- what a function returned, seen by view, is what reading gives, unless memory ran out
+-- a function's result, seen through `view`, is what reading gives, unless memory ran out
 abbrev pub Gives : {X Y : Type 0} → (X → Y) → Result X PacketError → Result Y PacketFault → Type 0
 Gives view (Ok x) read = read ≡ Ok (view x)
 Gives view (Err e) read = Fails e read
@@ -40,7 +40,7 @@ Gives view (Err e) read = Fails e read
 abbrev pub Reader : Type 0 → Type 0
 Reader A = List ℕ → Result (A × List ℕ) PacketFault
 
--- so many bytes
+-- n bytes
 abbrev pub bytes_at : ℕ → Reader (List ℕ)
 bytes_at n bytes = if nat_lt (length bytes) n then Err faults.Fields else Ok (take n bytes, drop n bytes)
 
@@ -49,24 +49,24 @@ abbrev pub byte_at : Reader ℕ
 byte_at [] = Err faults.Fields
 byte_at (b ∷ rest) = Ok (b, rest)
 
--- a number of so many bytes
+-- a number of n bytes
 unfoldable pub number_at : ℕ → Reader ℕ
 number_at n bytes = bytes_at n bytes >>= λ found. Ok (little_number n found.0, found.1)
 
--- a length, and as many bytes
+-- a length, and that many bytes
 unfoldable pub payload_at : Reader (List ℕ)
 payload_at bytes = number_at 2 bytes >>= λ len. if nat_lt PAYLOAD_BYTES len.0 then Err faults.Fields else bytes_at len.0 len.1
 
--- one field behind the other
+-- one field after another
 abbrev pub both : {A B : Type 0} → Reader A → Reader B → Reader (A × B)
 both read next bytes = read bytes >>= λ x. next x.1 >>= λ y. Ok ((x.0, y.0), y.1)
 
--- so many fields of a kind
+-- n fields of one kind
 unfoldable pub times : {A : Type 0} → Reader A → ℕ → Reader (List A)
 times field zero bytes = Ok ([], bytes)
 times field (suc n) bytes = field bytes >>= λ first. times field n first.1 >>= λ others. Ok (first.0 ∷ others.0, others.1)
 
--- how many there are, and each
+-- the number of items, and each
 unfoldable pub page_at : {A : Type 0} → Reader A → Reader (List A)
 page_at field bytes = number_at 2 bytes >>= λ count. times field count.0 count.1
 
@@ -78,7 +78,7 @@ pair_at bytes = both (number_at 8) (number_at 8) bytes >>= λ x. Ok (record { ss
 
 -- ---- the whole
 
--- all of the bytes: none are left over
+-- all of the bytes, with none left over
 abbrev pub whole : {A : Type 0} → Reader A → List ℕ → Result A PacketFault
 whole read bytes = read bytes >>= λ x. if length x.1 == 0 then Ok x.0 else Err faults.Fields
 
@@ -96,7 +96,7 @@ body_at kinds.Restored bytes =
     Ok (Restored x.0 x.1.0 x.1.1.0 x.1.1.1.0 (record { bits = x.1.1.1.1.0 }) x.1.1.1.1.1)
 body_at kinds.Saved bytes = whole (number_at 8) bytes >>= λ c. Ok (Saved c)
 
--- the bytes of the fields, where magic and checksum are right
+-- the bytes of the fields, if magic and checksum are right
 unfoldable pub fields_at : List ℕ → Result (List ℕ) PacketFault
 fields_at bytes =
     if nat_lt (length bytes) 12 then Err faults.Short else if not (pointwise nat_eq (take 4 bytes) magic) then Err faults.Magic

@@ -1,4 +1,4 @@
--- What a join of two kinds is.
+-- The join of two kinds.
 use Rattle.regtypes.specs.declared.frame.Kind.{Kind}
 use Rattle.regtypes.specs.Frame.{LeqKind}
 

@@ -18,17 +18,17 @@ abbrev pub lines_left : Option (Bor (List ℕ)) → List (List ℕ)
 lines_left None = []
 lines_left (Some x) = lines_of x.now
 
--- how much is left, the end of the last line counted too
+-- how many bytes are left, with one for the end of the last line
 abbrev pub left : Option (Bor (List ℕ)) → ℕ
 left None = 0
 left (Some x) = length x.now + 1
 
--- the name and the path of a line
+-- the name and the path that a line declares
 abbrev pub ReadsDeclaration : List (List ℕ) → Bool → List ℕ → Option (Bor (List ℕ) × Bor (List ℕ)) → Type 0
 ReadsDeclaration names begun text (Some x) = (text ≡ declaration_text x.0.now x.1.now) × MayDeclare names begun x.0.now x.1.now
 ReadsDeclaration names begun text None = (name path : List ℕ) → MayDeclare names begun name path → text ≡ declaration_text name path → ⊥
 
--- what a line is
+-- what a line says
 abbrev pub ReadsLine : List (List ℕ) → Bool → List ℕ → Option Line → Type 0
 ReadsLine names begun text (Some line_kind.Silent) = is_silent text ≡ true
 ReadsLine names begun text (Some (line_kind.Process name path)) = (is_silent text ≡ false) × (text ≡ declaration_text name.now path.now) × MayDeclare names begun name.now path.now
@@ -44,7 +44,7 @@ pub record Declares (number : ℕ) (name path : List ℕ) (old new : List (Strin
   pub line_is : entry.1.line ≡ number
   pub last : new ≡ old ++ entry ∷ []
 
--- the name is no process's yet
+-- whether no process has the name yet
 abbrev pub TellsFree : List ℕ → List (List ℕ) → Bool → Type 0
 TellsFree name names true = IsFresh name names
 TellsFree name names false = IsFresh name names → ⊥

@@ -1,4 +1,4 @@
--- What reading a part of a line answers.
+-- The results of reading a part of a line.
 use Rattle.std.specs.Prelude.{◌≡◌, ◌≢◌, ◌≤◌, ◌<◌, ◌^◌, ◌==◌, ◌&&◌, Bool, false, not, nat_lt, ℕ, List, [], ◌∷◌, ◌++◌, decimal, length, Option, Some, None}
 use Rattle.std.specs.Char.{digit_char, is_ascii_digit}
 use Rattle.std.specs.List.{list_all}
@@ -9,17 +9,17 @@ use Rattle.scenario.specs.declared.verb.Verb.TheVariants as verb
 use Rattle.scenario.specs.Hex.{IsPayload, hex_text}
 use Rattle.scenario.specs.Order.{IsProcess, process_text, party_text, verb_text, verb_of, operands_text, order_text, IsInRange}
 
--- the value that is written so, or none is
+-- the value that the text spells, or there is none
 abbrev pub Reads : {V : Type 0} → (V → List ℕ) → (V → Type 0) → List ℕ → Option V → Type 0
 Reads print Fits text (Some v) = (text ≡ print v) × Fits v
 Reads {V = V} print Fits text None = (v : V) → Fits v → text ≢ print v
 
--- no byte is this one
+-- the list lacks this byte
 abbrev pub Lacks : ℕ → List ℕ → Type 0
 Lacks byte [] = Unit {0}
 Lacks byte (c ∷ cs) = (c ≢ byte) × Lacks byte cs
 
--- what stands before the first such byte, and what behind it
+-- the parts before and after the first such byte
 abbrev pub IsCut : ℕ → List ℕ → Option (Bor (List ℕ) × Bor (List ℕ)) → Type 0
 IsCut byte text (Some x) = (text ≡ x.0.now ++ byte ∷ x.1.now) × Lacks byte x.0.now
 IsCut byte text None = Lacks byte text
@@ -32,7 +32,7 @@ module _ {A B : Type 0} where
   abbrev pub Both : (A → Type 0) → (B → Type 0) → A × B → Type 0
   Both F G v = F v.0 × G v.1
 
--- numbers of so many bits
+-- numbers of k bits
 abbrev pub HasBits : ℕ → ℕ → Type 0
 HasBits k n = n < 2 ^ k
 
@@ -40,7 +40,7 @@ HasBits k n = n < 2 ^ k
 abbrev pub IsParty : ℕ → ℕ → Type 0
 IsParty n p = p ≤ n
 
--- the process and the word that are written so
+-- the process and the word that a text spells
 abbrev pub ReadsWord : List (List ℕ) → List ℕ → Option (ℕ × ℕ) → Type 0
 ReadsWord names text result = Reads (spaced (process_text names) decimal) (Both (IsProcess (length names)) (HasBits 64)) text result
 
@@ -52,16 +52,16 @@ ReadsBytes names text result = Reads (spaced (process_text names) hex_text) (Bot
 abbrev pub ReadsPeers : List (List ℕ) → List ℕ → Option (ℕ × ℕ) → Type 0
 ReadsPeers names text result = Reads (spaced (process_text names) (process_text names)) (Both (IsProcess (length names)) (IsProcess (length names))) text result
 
--- a receiver and a message's number
+-- a receiver and an SSN
 abbrev pub ReadsReceiver : List (List ℕ) → List ℕ → Option (ℕ × ℕ) → Type 0
 ReadsReceiver names text result = Reads (spaced (party_text names) decimal) (Both (IsParty (length names)) (HasBits 32)) text result
 
--- a sender, a receiver and a message's number
+-- a sender, a receiver and an SSN
 abbrev pub ReadsMessage : List (List ℕ) → List ℕ → Option (ℕ × (ℕ × ℕ)) → Type 0
 ReadsMessage names text result =
     Reads (spaced (party_text names) (spaced (party_text names) decimal)) (Both (IsParty (length names)) (Both (IsParty (length names)) (HasBits 32))) text result
 
--- none of the operands of this kind is the text
+-- no operands of this kind spell the text
 abbrev pub NoOperands : List (List ℕ) → Verb → List ℕ → Type 0
 NoOperands names verb.Input text = ReadsWord names text None
 NoOperands names verb.Bytes text = ReadsBytes names text None
@@ -79,7 +79,7 @@ NoOperands names verb.Recover text = Reads (process_text names) (IsProcess (leng
 NoOperands names verb.Alone text = Reads (process_text names) (IsProcess (length names)) text None
 NoOperands names verb.Replay text = Reads (process_text names) (IsProcess (length names)) text None
 
--- the order of this kind whose operands these are
+-- the order of this kind whose operands the text spells
 abbrev pub ReadsOperands : List (List ℕ) → Verb → List ℕ → Option Order → Type 0
 ReadsOperands names v text (Some o) = (verb_of o ≡ v) × (text ≡ operands_text names o) × IsInRange (length names) o
 ReadsOperands names v text None = NoOperands names v text
@@ -89,12 +89,12 @@ abbrev pub ReadsVerb : List ℕ → Option Verb → Type 0
 ReadsVerb text (Some v) = text ≡ verb_text v
 ReadsVerb text None = (v : Verb) → text ≢ verb_text v
 
--- a 0, and more behind it
+-- whether there is a 0 with more after it
 abbrev pub has_leading_zero : List ℕ → Bool
 has_leading_zero [] = false
 has_leading_zero (c ∷ cs) = nat_lt 0 (length cs) && (c == 48)
 
--- `0`, or digits without a leading zero
+-- whether the text is `0`, or digits without a leading zero
 abbrev pub is_numeral : List ℕ → Bool
 is_numeral text = nat_lt 0 (length text) && (not (has_leading_zero text) && list_all is_ascii_digit text)
 

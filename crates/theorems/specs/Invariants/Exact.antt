@@ -1,4 +1,4 @@
--- What every call keeps, as long as failures come one at a time
+-- What every call keeps as long as failures come one at a time
 use Rattle.std.specs.Prelude.{◌≡◌, ℕ, ◌<◌, List, Option, Some, None, Bool, true, false, not, slice_get}
 use Rattle.world.specs.declared.message.Message.{Message}
 use Rattle.world.specs.declared.packet.Packet.{Packet}
@@ -13,7 +13,7 @@ abbrev pub JobSafe : World → ℕ → Phase → Type 0
 JobSafe w p (Busy m) = Safe w p m
 JobSafe w p phase = Unit {0}
 
--- whether it came back alone, and replays
+-- whether a process that replays came back alone
 abbrev pub is_alone : Phase → Bool
 is_alone (Replaying j working alone) = alone
 is_alone phase = false
@@ -26,7 +26,7 @@ is_restored Down p = false
 is_restored (Replaying j working alone) p = false
 is_restored (Resync todo) p = not (has todo p)
 
--- the message with this number is of s, with this SSN
+-- the message with this number is of s and has this SSN
 abbrev pub Names : List Message → ℕ → ℕ → ℕ → Type 0
 Names h m s i =
     record {
@@ -36,13 +36,13 @@ Names h m s i =
       ssn : message.ssn ≡ i;
     }
 
--- the number m of p, where it is after its checkpoint, is recorded at the sender of its message
+-- if the number m of p is after its checkpoint, the sender of its message has recorded it
 abbrev pub IsRecorded : World → ℕ → ℕ → Type 0
 IsRecorded w p m = w.saved p < m → (x : Message) → nth (w.history p) m ≡ Some x → is_restored (w.phase x.sender) p ≡ true
     → w.numbers x.sender p x.ssn ≡ Some m
 
--- a message is safe; a number of the receiver's present incarnation names a message of its history, and so does an
--- acknowledgement, whose number is recorded
+-- a message is safe. A number of the receiver's present incarnation names a message of its history. So does an acknowledgement, and
+-- its number is recorded
 abbrev pub PacketTrue : World → Option Packet → Type 0
 PacketTrue w None = Unit {0}
 PacketTrue w (Some (Delivery d m)) = Safe w d m
@@ -55,15 +55,15 @@ PacketTrue w (Some (Acknowledgement s r m k)) = k ≡ w.incarnation r →
       recorded : IsRecorded w r m;
     }
 
--- what every call keeps, as long as failures come one at a time
+-- what every call keeps as long as failures come one at a time
 pub record Exact (w : World) : Type 0 where
   pub alone : (p : ℕ) → is_alone (w.phase p) ≡ false
-  -- each recorded number names the message that bears it
+  -- each recorded number names the message that has it
   pub recorded : (s p i m : ℕ) → w.numbers s p i ≡ Some m → Names (w.history p) m s i
-  -- each number that is acknowledged is recorded
+  -- each acknowledged number is recorded
   pub acknowledged : (p m : ℕ) → w.acknowledged p m ≡ true → IsRecorded w p m
   pub packets : (key : ℕ) → PacketTrue w (w.wire key)
-  -- each message that is worked on, received or shown is safe, and no more is released than what is
+  -- each message that is worked on, received or shown is safe, and only safe messages are released
   pub working : (p : ℕ) → JobSafe w p (w.phase p)
   pub received : (p k : ℕ) (x : Message) → slice_get (w.history p) k ≡ Some x → Safe w p x
   pub shown : (k : ℕ) (x : Message) → slice_get w.shown k ≡ Some x → Safe w 0 x

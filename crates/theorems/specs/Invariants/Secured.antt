@@ -1,4 +1,4 @@
--- What outlives a crash, and what follows from it
+-- Which messages outlive a crash, and what follows from that
 use Rattle.std.specs.Prelude.{◌≡◌, ℕ, ◌<◌, ◌≤◌, length, Some, true, false, take}
 use Rattle.world.specs.declared.message.Message.{Message}
 use Rattle.world.specs.History.{nth}
@@ -7,7 +7,7 @@ use Rattle.world.specs.World.{World}
 use Rattle.world.specs.Logs.{payloads}
 use Rattle.theorems.specs.Kept.{Held}
 
--- the first k messages of p outlive a crash: all are acknowledged or, where p is down, checkpoint and logs hold them
+-- the first k messages of p outlive a crash: all are acknowledged or, if p is down, checkpoint and logs hold them
 abbrev pub Secured : World → ℕ → ℕ → Type 0
 Secured w p k =
     record {

@@ -1,4 +1,4 @@
--- Headers field by field, on the way there.
+-- Headers field by field.
 use Rattle.std.specs.Prelude.{◌≡◌, ◌<◌, ◌≤◌, ℕ, ◌*◌, ◌^◌, ◌++◌, length, List}
 use Rattle.std.specs.Int.{w16, to_le_bytes}
 use Rattle.limits.specs.declared.TheConstants.{SLOTS, STATE_BYTES}
@@ -6,7 +6,7 @@ use Rattle.regtypes.specs.declared.image_form.ImageForm.{ImageForm}
 use Rattle.verifier.specs.declared.header.FileHeader.{FileHeader}
 use Rattle.verifier.specs.ImageFile.{magic}
 
--- a header as it stands in a file: eight bytes, where its magic has four
+-- the eight bytes of a header, if its magic has four
 abbrev pub header_bytes : FileHeader → List ℕ
 header_bytes h = h.magic ++ (to_le_bytes w16 h.state_len ++ to_le_bytes w16 h.slots)
 

@@ -1,4 +1,4 @@
--- The fields behind what clauses see of an image.
+-- The fields of an image that no public clause shows.
 use Rattle.std.specs.Prelude.{◌≡◌, ℕ, ◌+◌, ◌≤◌, List, length}
 use Rattle.std.specs.List.{AllByRecursion}
 use Rattle.limits.specs.declared.TheConstants.{PAYLOAD_BYTES, SLOTS, STACK_BYTES, STATE_BYTES}
@@ -11,8 +11,8 @@ use Rattle.regtypes.specs.Typing.{Table}
 use Rattle.verifier.specs.Dense.{AreSparing, IsDense}
 use Rattle.verifier.specs.Least.{IsLeastTyping}
 
--- the table is the least typing of the code, the operations stand for it and write to the stack from `low` on alone, and the bytes
--- are its encoding
+-- the table is the least typing of the code, the operations are those of its instructions and write to the stack only
+-- from `low` on, and the bytes are the code's encoding
 abbrev pub IsImage : ImageForm → List Insn → List ℕ → ℕ → Table → List Op → List ℕ → ℕ → Type 0
 IsImage form code bytes len table ops pool low =
     IsLeastTyping form (slots_of code) len table

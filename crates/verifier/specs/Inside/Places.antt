@@ -5,7 +5,7 @@ use Rattle.regtypes.specs.declared.frame.Kind.{Kind}
 use Rattle.regtypes.specs.declared.frame.Kind.TheVariants as kind
 use Rattle.regtypes.specs.Rules.{lie_inside, region_len}
 
--- n bytes at the offset from this place lie in their region, where the message has `low` bytes at least
+-- the n bytes at the offset from this place are in their region, if the message has at least `low` bytes
 abbrev pub IsInside : ℕ → ℕ → Kind → ℤ → ℕ → Type 0
 IsInside low len kind.Unset offset n = ⊥
 IsInside low len kind.Num offset n = ⊥

@@ -3,14 +3,13 @@ use Rattle.std.proofs.lemmas.Int.{to_z-of_z}
 use Rattle.std.proofs.lemmas.Result.{IfOk-weaker}
 use mir.Val.{SFits}
 use mir.Syntax.{w32}
-use Rattle.span_calls.specs.Typing.{distance}
-use Rattle.ordered_images.specs.Placement.{with_distance}
+use Rattle.decode.specs.Distance.{distance, with_distance}
 use Rattle.ordered_images.proofs.placement.is_same.Goals as goal
 
 pub returns-in-Some : goal.returns-in-Some
 returns-in-Some c =
-    let d = c.distance_of.result in
+    let d = c.distance.result in
     let fits : SFits w32 d = search rules in
     let same : c.in-Some.same ≡ with_distance c.args.insn.now (distance c.args.other.now) =
-    c.in-Some.ensures ∙ ap (with_distance c.args.insn.now) (to_z-of_z w32 d fits ∙ c.distance_of.ensures) in
+    c.in-Some.ensures ∙ ap (with_distance c.args.insn.now) (to_z-of_z w32 d fits ∙ c.distance.ensures) in
     IfOk-weaker c.is_one.result _ _ (λ is one h. one h ∙ same) c.is_one.ensures

@@ -3,16 +3,17 @@ use Rattle.std.proofs.lemmas.Int.{to_z-of_z}
 use mir.Val.{SFits}
 use mir.Syntax.{w32}
 use Rattle.decode.specs.Slots.{insn_at}
-use Rattle.span_calls.specs.Typing.{distance}
-use Rattle.ordered_images.specs.Placement.{WaysArrive, place_at, with_distance}
+use Rattle.decode.specs.Distance.{distance}
+use Rattle.ordered_images.specs.Placement.{WaysArrive, place_at}
+use Rattle.decode.specs.Distance.{with_distance}
 use Rattle.ordered_images.proofs.placement.stands.Goals as goal
 
 pub returns : goal.returns
 returns c = λ h.
     let insn = c.in-Some-Some.insn in
     let moved = c.in-Some-Some.moved in
-    let fits : SFits w32 c.distance_of-by.result = search rules in
-    let by = to_z-of_z w32 c.distance_of-by.result fits ∙ c.distance_of-by.ensures in
+    let fits : SFits w32 c.distance-by.result = search rules in
+    let by = to_z-of_z w32 c.distance-by.result fits ∙ c.distance-by.ensures in
     let w = c.ways_arrive.ensures h in
     let same : moved ≡ with_distance insn (distance moved) = search rules in
     record {

@@ -1,7 +1,7 @@
 use Rattle.std.proofs.Common.{◌≡◌, ◌∙◌, Bool, true, false, [], None, Some, ap, map, string_bytes, subst, sym, true≢false}
 use Rattle.std.specs.Prelude.{◌||◌}
 use Rattle.std.specs.Str.{bytes_eq}
-use Rattle.tracer.specs.Hints.{AreHints, has_hints}
+use Rattle.image_commands.specs.Hints.{AreHints, has_hints}
 use Rattle.tracer.specs.Program.{IsDone, IsTold}
 use Rattle.page_calls.specs.Shelf.{content_with}
 use Rattle.page_calls.specs.declared.sheet.Sheet.{Sheet}

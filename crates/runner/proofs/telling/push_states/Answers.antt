@@ -4,7 +4,7 @@ use Rattle.scenario.specs.Process.{names_of}
 use Rattle.sessions.specs.Journal.{world_at}
 use Rattle.styles.specs.Style.{style_of}
 use Rattle.runner.specs.Telling.{process_told}
-use Rattle.runner.proofs.ResultsLemmas.{process_more}
+use Rattle.results.proofs.ResultsLemmas.{process_more}
 use Rattle.runner.proofs.telling.push_states.Goals as goal
 
 pub loop-index-preserved : goal.loop-index-preserved

@@ -2,7 +2,7 @@ use Rattle.std.proofs.Common.{◌≡◌, ◌++◌, take, string_bytes}
 use Rattle.scenario.specs.Process.{names_of}
 use Rattle.sessions.specs.Journal.{world_at}
 use Rattle.styles.specs.Style.{style_of}
-use Rattle.runner.specs.Results.{numbered}
+use Rattle.results.specs.Results.{numbered}
 use Rattle.runner.specs.Telling.{process_told}
 use Rattle.runner.proofs.telling.push_states.Given as goal
 

@@ -7,10 +7,12 @@ use Rattle.scenario.specs.declared.order.Allowed.TheVariants.{All}
 use Rattle.world.specs.declared.entry.Entry.{Entry}
 use Rattle.world.specs.declared.message.Message.{Message}
 use Rattle.world.specs.History.{Payload}
-use Rattle.tracer.specs.Inside.{IsOwnInput}
-use Rattle.tracer.specs.Program.{IsImagePath, WritesOver}
-use Rattle.tracer.proofs.CauseLemmas.{becomes, own_input_of}
-use Rattle.tracer.proofs.LoadLemmas.{are_few, loaded_scenario}
+use Rattle.image_commands.specs.OwnInput.{IsOwnInput}
+use Rattle.image_commands.specs.Loading.{IsImagePath}
+use Rattle.image_commands.proofs.FaultLemmas.{becomes, own_input_of}
+use Rattle.image_commands.proofs.LoadLemmas.{loaded_scenario}
+use Rattle.tracer.specs.Program.{WritesOver}
+use Rattle.tracer.proofs.FewLemmas.{are_few}
 use Rattle.tracer.proofs.drawing.picture_of.Goals as goal
 
 pub chronicle_of-requires : goal.chronicle_of-requires

@@ -5,7 +5,8 @@ use Rattle.machine.specs.Opening.{AreFew}
 use Rattle.live.specs.Live.{IsLive}
 use Rattle.scenario.specs.Process.{names_of}
 use Rattle.scenario.specs.declared.order.Allowed.TheVariants.{Inputs}
-use Rattle.tracer.proofs.LoadLemmas.{are_few, as_many, loaded_scenario}
+use Rattle.image_commands.proofs.LoadLemmas.{as_many, loaded_scenario}
+use Rattle.tracer.proofs.FewLemmas.{are_few}
 use Rattle.tracer.proofs.living.live_scenario.Goals as goal
 
 pub live-requires-clause-few : goal.live-requires-clause-few

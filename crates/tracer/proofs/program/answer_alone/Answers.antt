@@ -1,10 +1,16 @@
-use Rattle.std.proofs.Common.{ap, inl, subst, sym}
+use Rattle.std.proofs.Common.{ap, inl, string_bytes, subst, sym}
 use Rattle.std.proofs.lemmas.Result.{IfErr-weaker, on_ok_weaker}
 use Rattle.cli.specs.Asks.{Tell, order_of}
+use Rattle.image_commands.proofs.FaultLemmas.{becomes}
 use Rattle.tracer.specs.Inside.{IsWriteFault}
-use Rattle.tracer.specs.Program.{IsFault, Leaves}
-use Rattle.tracer.proofs.CauseLemmas.{becomes}
+use Rattle.tracer.specs.Program.{IsAnswer, IsFault, Leaves}
 use Rattle.tracer.proofs.program.answer_alone.Goals as goal
+
+pub returns-in-Asm-clause-report : goal.returns-in-Asm-clause-report
+returns-in-Asm-clause-report g c =
+    on_ok_weaker c.write_image.result
+    (λ made. subst (λ o. IsAnswer (g.F.Files.content c.args.files.now) o (string_bytes c.args.text.now)) (sym (ap order_of c.in-Asm.is)) (λ known there. (made known there, c.requires.empty)))
+    c.write_image.ensures.made
 
 pub returns-in-Asm-clause-left : goal.returns-in-Asm-clause-left
 returns-in-Asm-clause-left g c =
@@ -36,6 +42,12 @@ returns-in-Draw-clause-fault g c =
     (λ f fault. subst (λ o. IsWriteFault g.F.Files.may_be_one (g.F.Files.content c.args.files.now) (g.F.Files.failed c.draw_scenario.new.files) o f) (sym (ap order_of c.in-Draw.is)) fault)
     c.draw_scenario.ensures.fault
 
+pub returns-in-Pack-clause-report : goal.returns-in-Pack-clause-report
+returns-in-Pack-clause-report g c =
+    on_ok_weaker c.write_packed.result
+    (λ made. subst (λ o. IsAnswer (g.F.Files.content c.args.files.now) o (string_bytes c.args.text.now)) (sym (ap order_of c.in-Pack.is)) (λ known there. (made known there, c.requires.empty)))
+    c.write_packed.ensures.made
+
 pub returns-in-Pack-clause-left : goal.returns-in-Pack-clause-left
 returns-in-Pack-clause-left g c =
     on_ok_weaker c.write_packed.result
@@ -47,6 +59,12 @@ returns-in-Pack-clause-fault g c =
     IfErr-weaker c.write_packed.result _ _
     (λ f fault. subst (λ o. IsWriteFault g.F.Files.may_be_one (g.F.Files.content c.args.files.now) (g.F.Files.failed c.write_packed.new.files) o f) (sym (ap order_of c.in-Pack.is)) fault)
     c.write_packed.ensures.fault
+
+pub returns-in-Native-clause-report : goal.returns-in-Native-clause-report
+returns-in-Native-clause-report g c =
+    on_ok_weaker c.write_machine_code.result
+    (λ made. subst (λ o. IsAnswer (g.F.Files.content c.args.files.now) o (string_bytes c.args.text.now)) (sym (ap order_of c.in-Native.is)) (λ known there. (made known there, c.requires.empty)))
+    c.write_machine_code.ensures.made
 
 pub returns-in-Native-clause-left : goal.returns-in-Native-clause-left
 returns-in-Native-clause-left g c =

@@ -1,7 +1,8 @@
 use Rattle.std.proofs.Common.{map}
 use Rattle.std.proofs.lemmas.Result.{IfErr-weaker}
 use Rattle.cli.specs.Asks.{order_of}
-use Rattle.tracer.proofs.CauseLemmas.{becomes, fault_is_cause, refusal_is_cause}
+use Rattle.image_commands.proofs.FaultLemmas.{becomes}
+use Rattle.tracer.proofs.CauseLemmas.{fault_is_cause, refusal_is_cause}
 use Rattle.tracer.proofs.program.run_command.Goals as goal
 
 pub returns-in_err-request-clause-fault : goal.returns-in_err-request-clause-fault

@@ -4,8 +4,9 @@ use Rattle.handlers.specs.Image.{image_in}
 use Rattle.runner.specs.Run.{IsCut, IsRun}
 use Rattle.scenario.specs.Process.{names_of}
 use Rattle.scenario.specs.declared.order.Allowed.TheVariants.{All}
-use Rattle.tracer.proofs.CauseLemmas.{becomes}
-use Rattle.tracer.proofs.LoadLemmas.{are_few, as_many, loaded_scenario}
+use Rattle.image_commands.proofs.FaultLemmas.{becomes}
+use Rattle.image_commands.proofs.LoadLemmas.{as_many, loaded_scenario}
+use Rattle.tracer.proofs.FewLemmas.{are_few}
 use Rattle.tracer.proofs.program.run_scenario.Goals as goal
 
 pub run-requires-clause-few : goal.run-requires-clause-few

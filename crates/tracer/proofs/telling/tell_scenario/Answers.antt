@@ -2,7 +2,8 @@ use Rattle.std.proofs.Common.{◌∙◌, map}
 use Rattle.std.proofs.lemmas.List.{length-map}
 use Rattle.handlers.specs.Image.{image_in}
 use Rattle.scenario.specs.declared.order.Allowed.TheVariants.{All}
-use Rattle.tracer.proofs.LoadLemmas.{are_few, as_many, loaded_scenario}
+use Rattle.image_commands.proofs.LoadLemmas.{as_many, loaded_scenario}
+use Rattle.tracer.proofs.FewLemmas.{are_few}
 use Rattle.tracer.proofs.telling.tell_scenario.Goals as goal
 
 pub tell-requires-clause-few : goal.tell-requires-clause-few

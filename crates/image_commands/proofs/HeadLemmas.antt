@@ -1,0 +1,176 @@
+-- The first 8,201 bytes of a file decide whether it is an image, and why not: an image has fewer.
+use Rattle.std.proofs.Common.{◌≡◌, ◌≢◌, ◌≤◌, ◌<◌, ◌∙◌, ◌⊎◌, ℕ, Bool, true, false, List, [], ◌∷◌, ◌++◌, length, take, drop, nat_le, refl, sym, subst, inl, inr, arith, length-append, take_all, length-take-le, take-append-drop}
+use Rattle.std.proofs.lemmas.Bool.{leb-true, leb-false}
+use Rattle.decode.specs.declared.insn.Insn.{Insn}
+use Rattle.decode.specs.Encoding.{encoding}
+use Rattle.decode.specs.First.{IsFirst}
+use Rattle.decode.proofs.SlotLemmas.{length_encoding}
+use Rattle.listing.specs.Listing as flat
+use Rattle.listing.specs.SpanListing as listed
+use Rattle.listing.specs.FileListing.{IsFileExplained}
+use Rattle.regtypes.specs.declared.image_form.ImageForm.{ImageForm}
+use Rattle.regtypes.specs.declared.image_form.ImageForm.TheVariants.{Sbi1, Sbi2}
+use Rattle.verifier.specs.ImageFile.{HasFault, IsFile, field_at, magic}
+use Rattle.verifier.specs.declared.fault.HeaderFault.{HeaderFault}
+use Rattle.verifier.specs.declared.fault.HeaderFault.TheVariants.{TooShort, Magic, StateLength, SlotCount, FileLength}
+use Rattle.verifier.specs.declared.fault.ImageError.{ImageError}
+use Rattle.verifier.specs.declared.fault.ImageError.TheVariants.{Memory, Header, Decode, Verify}
+use Rattle.verifier.proofs.Files.{file_has, file_header, fields_of}
+use Rattle.images.specs.SpanFile as span
+use Rattle.images.proofs.SpanFiles as spans
+use Rattle.images.specs.ImageFile as any
+use Rattle.images.specs.declared.file_form.FileForm.{FileForm}
+use Rattle.images.specs.declared.file_form.FileForm.TheVariants as form
+use Rattle.image_commands.specs.declared.check.TheConstants.{IMAGE_LIMIT}
+
+file_length : (form : ImageForm) (is : List Insn) (len : ℕ) (bytes : List ℕ) → IsFile form is len bytes → length bytes ≤ 8200
+file_length form is len bytes f =
+    let k = fields_of (file_header form is len) (encoding is) bytes (file_has form is len bytes f) in
+    omega (arith, k.size, length_encoding is, f.short)
+
+-- all of a file is read, or more than an image has is left
+heads : (bytes : List ℕ) → (take IMAGE_LIMIT bytes ≡ bytes) ⊎ (IMAGE_LIMIT < length bytes)
+heads bytes = go (nat_le (length bytes) IMAGE_LIMIT) refl
+  where
+    go : (b : Bool) → nat_le (length bytes) IMAGE_LIMIT ≡ b → (take IMAGE_LIMIT bytes ≡ bytes) ⊎ (IMAGE_LIMIT < length bytes)
+    go true is = inl (take_all IMAGE_LIMIT bytes (leb-true (length bytes) IMAGE_LIMIT is))
+    go false is = inr (leb-false (length bytes) IMAGE_LIMIT is)
+
+cut : (bytes : List ℕ) → IMAGE_LIMIT < length bytes → length (take IMAGE_LIMIT bytes) ≡ IMAGE_LIMIT
+cut bytes long = length-take-le IMAGE_LIMIT bytes (omega (arith, long))
+
+-- what has no more bytes than an image has is whole where its first bytes are
+kept : (P : List ℕ → Type 0) → ((bytes : List ℕ) → P bytes → length bytes ≤ 8200) → (bytes : List ℕ) → P (take IMAGE_LIMIT bytes) → P bytes
+kept P short bytes p = go (heads bytes)
+  where
+    go : (take IMAGE_LIMIT bytes ≡ bytes) ⊎ (IMAGE_LIMIT < length bytes) → P bytes
+    go (inl all) = subst P all p
+    go (inr long) = absurd (omega (arith, short (take IMAGE_LIMIT bytes) p, cut bytes long))
+
+-- a file whose first bytes are an image is that image
+pub head_file : (form : ImageForm) (is : List Insn) (len : ℕ) (bytes : List ℕ) → IsFile form is len (take IMAGE_LIMIT bytes) → IsFile form is len bytes
+head_file form is len bytes f = kept (IsFile form is len) (file_length form is len) bytes f
+
+span_length : (is : List Insn) (len : ℕ) (bytes : List ℕ) → span.IsFile is len bytes → length bytes ≤ 8200
+span_length is len bytes f =
+    let k = fields_of (spans.file_fields is len) (encoding is) bytes (spans.file_has is len bytes f) in
+    omega (arith, k.size, length_encoding is, f.short)
+
+-- the same of an image of any form
+pub any_file : (form : FileForm) (is : List Insn) (len : ℕ) (bytes : List ℕ) → any.IsFile form is len (take IMAGE_LIMIT bytes) → any.IsFile form is len bytes
+any_file form.Sbi1 is len bytes f = head_file Sbi1 is len bytes f
+any_file form.Sbi2 is len bytes f = head_file Sbi2 is len bytes f
+any_file form.Sbi3 is len bytes f = kept (span.IsFile is len) (span_length is len) bytes f
+
+-- a listing of its first bytes is one of the file, of form 1 or 2, of form 3, and of any
+head_explained : (bytes text : List ℕ) → flat.IsExplained (take IMAGE_LIMIT bytes) text → flat.IsExplained bytes text
+head_explained bytes text e = record {
+  study = e.study;
+  found = record {
+    code = e.found.code;
+    file = head_file e.study.form e.found.code e.study.state_len bytes e.found.file;
+    slots = e.found.slots;
+    judged = e.found.judged;
+    counted = e.found.counted;
+  };
+  listed = e.listed;
+}
+
+head_listed : (bytes text : List ℕ) → listed.IsExplained (take IMAGE_LIMIT bytes) text → listed.IsExplained bytes text
+head_listed bytes text e = record {
+  code = e.code;
+  state = e.state;
+  file = kept (span.IsFile e.code e.state) (span_length e.code e.state) bytes e.file;
+  listed = e.listed;
+}
+
+pub any_explained : (bytes text : List ℕ) → IsFileExplained (take IMAGE_LIMIT bytes) text → IsFileExplained bytes text
+any_explained bytes text (inl e) = inl (head_explained bytes text e)
+any_explained bytes text (inr e) = inr (head_listed bytes text e)
+
+-- eight bytes keep their fields when more follows
+same_fields : (xs more : List ℕ) → 8 ≤ length xs
+    → (take 4 (xs ++ more) ≡ take 4 xs) × (field_at 4 (xs ++ more) ≡ field_at 4 xs) × (field_at 6 (xs ++ more) ≡ field_at 6 xs)
+same_fields [] more l = absurd (omega arith)
+same_fields (a ∷ []) more l = absurd (omega arith)
+same_fields (a ∷ b ∷ []) more l = absurd (omega arith)
+same_fields (a ∷ b ∷ c ∷ []) more l = absurd (omega arith)
+same_fields (a ∷ b ∷ c ∷ d ∷ []) more l = absurd (omega arith)
+same_fields (a ∷ b ∷ c ∷ d ∷ e ∷ []) more l = absurd (omega arith)
+same_fields (a ∷ b ∷ c ∷ d ∷ e ∷ f ∷ []) more l = absurd (omega arith)
+same_fields (a ∷ b ∷ c ∷ d ∷ e ∷ f ∷ g ∷ []) more l = absurd (omega arith)
+same_fields (a ∷ b ∷ c ∷ d ∷ e ∷ f ∷ g ∷ h ∷ xs) more l = (refl, refl, refl)
+
+-- what each fault finds in a file of which this is to hold of its first four bytes where they are no magic
+abbrev HasBy : (List ℕ → Type 0) → List ℕ → HeaderFault → Type 0
+HasBy NoMagic bytes Magic = NoMagic (take 4 bytes)
+HasBy NoMagic bytes fault = HasFault bytes fault
+
+-- a header's faults, in their order
+abbrev all_faults : List HeaderFault
+all_faults = TooShort ∷ Magic ∷ StateLength ∷ SlotCount ∷ FileLength ∷ []
+
+-- a header's fault stays when more follows
+still_broken : (NoMagic : List ℕ → Type 0) (fault : HeaderFault) (xs more : List ℕ) → length xs ≡ IMAGE_LIMIT
+    → IsFirst (HasBy NoMagic xs) all_faults fault → IsFirst (HasBy NoMagic (xs ++ more)) all_faults fault
+unfolding IsFirst
+still_broken NoMagic fault xs more long (inl short) = absurd (omega (arith, short.1, long))
+still_broken NoMagic fault xs more long (inr (a, later)) = inr ((λ s. omega (arith, s, long, length-append xs more)), go later)
+  where
+    same : (take 4 (xs ++ more) ≡ take 4 xs) × (field_at 4 (xs ++ more) ≡ field_at 4 xs) × (field_at 6 (xs ++ more) ≡ field_at 6 xs)
+    same = same_fields xs more (omega (arith, long))
+
+    no_magic : NoMagic (take 4 xs) → NoMagic (take 4 (xs ++ more))
+    no_magic m = subst NoMagic (sym same.0) m
+
+    magic_left : NoMagic (take 4 (xs ++ more)) → NoMagic (take 4 xs)
+    magic_left m = subst NoMagic same.0 m
+
+    count_more : HasFault xs SlotCount → HasFault (xs ++ more) SlotCount
+    count_more (inl n) = inl (same.2 ∙ n)
+    count_more (inr n) = inr (omega (arith, n, same.2))
+
+    count_left : HasFault (xs ++ more) SlotCount → HasFault xs SlotCount
+    count_left (inl n) = inl (sym same.2 ∙ n)
+    count_left (inr n) = inr (omega (arith, n, same.2))
+
+    go : IsFirst (HasBy NoMagic xs) (Magic ∷ StateLength ∷ SlotCount ∷ FileLength ∷ []) fault → IsFirst (HasBy NoMagic (xs ++ more)) (Magic ∷ StateLength ∷ SlotCount ∷ FileLength ∷ []) fault
+    go (inl magic) = inl (magic.0, no_magic magic.1)
+    go (inr (b, inl state)) = inr ((λ m. b (magic_left m)), inl (state.0, omega (arith, state.1, same.1)))
+    go (inr (b, inr (c, inl count))) = inr ((λ m. b (magic_left m)), inr ((λ s. c (omega (arith, s, same.1))), inl (count.0, count_more count.1)))
+    go (inr (b, inr (c, inr (d, inl size)))) =
+        let length_more : HasFault (xs ++ more) FileLength = λ e. d (inr (omega (arith, e, long, length-append xs more, same.2))) in
+        inr ((λ m. b (magic_left m)), inr ((λ s. c (omega (arith, s, same.1))), inr ((λ n. d (count_left n)), inl (size.0, length_more))))
+    go (inr (b, inr (c, inr (d, inr e)))) = absurd e.1
+
+head_first : (NoMagic : List ℕ → Type 0) (bytes : List ℕ) (fault : HeaderFault) → IMAGE_LIMIT < length bytes
+    → IsFirst (HasBy NoMagic (take IMAGE_LIMIT bytes)) all_faults fault → IsFirst (HasBy NoMagic bytes) all_faults fault
+head_first NoMagic bytes fault long broken =
+    subst (λ (b : List ℕ). IsFirst (HasBy NoMagic b) all_faults fault) (take-append-drop IMAGE_LIMIT bytes)
+    (still_broken NoMagic fault (take IMAGE_LIMIT bytes) (drop IMAGE_LIMIT bytes) (cut bytes long) broken)
+
+any_header : (bytes : List ℕ) (fault : HeaderFault) → IMAGE_LIMIT < length bytes → any.IsHeaderFault (take IMAGE_LIMIT bytes) fault → any.IsHeaderFault bytes fault
+unfolding IsFirst
+any_header bytes fault long broken = head_first (λ m. ((form : ImageForm) → m ≢ magic form) × (m ≢ span.magic_3)) bytes fault long broken
+
+any_unread_of : (bytes : List ℕ) (e : ImageError) → IMAGE_LIMIT < length bytes → any.IsUnread (take IMAGE_LIMIT bytes) e → any.IsUnread bytes e
+any_unread_of bytes Memory long why = tt
+any_unread_of bytes (Header fault) long why = any_header bytes fault long why
+any_unread_of bytes (Decode rule slot) long why =
+    absurd (why.0 FileLength (λ e. why.0 SlotCount (inr (omega (arith, e, cut bytes long)))))
+any_unread_of bytes (Verify rule slot) long why = absurd why
+
+-- what makes its first bytes no image file makes the file none
+pub any_unread : (bytes : List ℕ) (e : ImageError) → any.IsUnread (take IMAGE_LIMIT bytes) e → any.IsUnread bytes e
+any_unread bytes e why = go (heads bytes)
+  where
+    go : (take IMAGE_LIMIT bytes ≡ bytes) ⊎ (IMAGE_LIMIT < length bytes) → any.IsUnread bytes e
+    go (inl all) = subst (λ b. any.IsUnread b e) all why
+    go (inr long) = any_unread_of bytes e long why
+
+-- what makes its first bytes no file of typable code makes the file none
+pub any_refusal : (bytes : List ℕ) (e : ImageError) → any.IsRefusal (take IMAGE_LIMIT bytes) e → any.IsRefusal bytes e
+any_refusal bytes Memory why = tt
+any_refusal bytes (Header fault) why = any_unread bytes (Header fault) why
+any_refusal bytes (Decode rule slot) why = any_unread bytes (Decode rule slot) why
+any_refusal bytes (Verify rule slot) why = (why.0, why.1, why.2, any_file why.0 why.1 why.2 bytes why.3, why.4)

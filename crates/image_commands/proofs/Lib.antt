@@ -1,0 +1,6 @@
+mod AsmLemmas
+pub mod FaultLemmas
+mod HeadLemmas
+mod JudgedLemmas
+pub mod LoadLemmas
+mod PackLemmas

@@ -1,0 +1,145 @@
+//! Hints below the line of a fault, on the file that has it. They are for people, and no contract names them.
+
+use crate::fault::Fault;
+use crate::files::Reason;
+use crate::kind::Kind;
+use crate::site::Site;
+use listing::explain_file;
+use std::alloc::{AllocError, Global};
+use verifier::HeaderFault;
+
+/// What a file is that is no image.
+fn magic_words(kind: Kind) -> &'static str {
+    match kind {
+        Kind::Object => "an object file, not an image (./sblog pack writes one of its code)",
+        Kind::Sbi1 | Kind::Sbi2 | Kind::Sbi3 | Kind::Other => {
+            "not an image file (assembler text? sblog asm writes images)"
+        }
+    }
+}
+
+/// What is wrong with an image's header, or with the length of its file.
+fn header_words(kind: Kind, fault: HeaderFault) -> &'static str {
+    match fault {
+        HeaderFault::TooShort => "fewer than the 8 bytes of a header",
+        HeaderFault::Magic => magic_words(kind),
+        HeaderFault::StateLength => "a state of more than 1,024 bytes",
+        HeaderFault::SlotCount => {
+            "an image has 1 to 1,024 slots, and its text at most 1,048,576 bytes"
+        }
+        HeaderFault::FileLength => "not as long as its header says: 8 bytes, and 8 for each slot",
+    }
+}
+
+/// What is wrong with the bytes of a slot.
+fn code_words(rule: decode::Rule) -> &'static str {
+    match rule {
+        decode::Rule::Length => "the code isn't whole slots, of 8 bytes each",
+        decode::Rule::Opcode => "no instruction has this opcode",
+        decode::Rule::Field => "a field that the instruction doesn't use isn't zero",
+        decode::Rule::Register => "there is no register above r10",
+        decode::Rule::Cut => "a wide instruction lacks its second slot",
+        decode::Rule::Width => "bytes are swapped in 16, 32 or 64 bits",
+        decode::Rule::Profile => "a call of what is no helper, or a wide value that is no number",
+    }
+}
+
+/// Whether code that was written for another form may break the rule: forms differ in the registers that they set, the places
+/// that they keep and the helpers that they have.
+fn is_of_form(rule: regtypes::Rule) -> bool {
+    match rule {
+        regtypes::Rule::V3 | regtypes::Rule::V5 | regtypes::Rule::V6 => true,
+        regtypes::Rule::V8 | regtypes::Rule::V9 => true,
+        regtypes::Rule::V1 | regtypes::Rule::V2 | regtypes::Rule::V4 => false,
+        regtypes::Rule::V7 | regtypes::Rule::V10 => false,
+    }
+}
+
+/// Which command shows why a slot breaks a rule of the verifier, and the image's form, if that may be the cause.
+fn rule_words(kind: Kind, rule: regtypes::Rule) -> &'static str {
+    if !is_of_form(rule) {
+        return "sblog explain shows why";
+    }
+    match kind {
+        Kind::Sbi1 => {
+            "sblog explain shows why (the image is of form 1; ordinary C wants --form 3)"
+        }
+        Kind::Sbi2 => {
+            "sblog explain shows why (the image is of form 2; ordinary C wants --form 3)"
+        }
+        Kind::Sbi3 | Kind::Object | Kind::Other => "sblog explain shows why",
+    }
+}
+
+/// What is wrong with a line of an assembler text.
+fn line_words(rule: assemble::Rule) -> &'static str {
+    match rule {
+        assemble::Rule::Word => "no instruction has the line's first word",
+        assemble::Rule::Shape => "the operands aren't those of the line's first word",
+        assemble::Rule::Range => "a number is out of its range",
+        assemble::Rule::Limit => "with this line there are more than 1,024 slots",
+    }
+}
+
+/// What a file is that is no text.
+fn text_words(kind: Kind) -> &'static str {
+    match kind {
+        Kind::Sbi1 | Kind::Sbi2 | Kind::Sbi3 => {
+            "an image, not a text (sblog check verifies it, sblog dis prints its text)"
+        }
+        Kind::Object => "an object file, not a text (./sblog pack writes an image of its code)",
+        Kind::Other => "not UTF-8, so no text",
+    }
+}
+
+/// Why a file was not read or written; without a reason it was read and is no text.
+fn reason_words(kind: Kind, reason: Option<Reason>) -> &'static str {
+    match reason {
+        None => text_words(kind),
+        Some(Reason::Missing) => "no such file or folder",
+        Some(Reason::Denied) => "that isn't allowed",
+        Some(Reason::Folder) => "that is a folder",
+        Some(Reason::Full) => "no space is left there",
+        Some(Reason::Other) => "reading or writing failed",
+    }
+}
+
+/// Why the verifier refuses an image, as the line of its listing; empty if there is no such line.
+fn refused_line(alloc: Global, image: &[u8]) -> Result<String, AllocError> {
+    if let Ok(text) = explain_file(alloc, image) {
+        for line in text.split('\n') {
+            let line = line.trim();
+            if line.starts_with("refused by ") {
+                return format!(in alloc; "{line}\n");
+            }
+        }
+    }
+    Ok(String::new(alloc))
+}
+
+/// The file and what is wrong with it, as lines of text; or empty.
+fn lines_of(alloc: Global, fault: &Fault, site: &Site) -> Result<String, AllocError> {
+    let why = match fault {
+        Fault::Verify { .. } => refused_line(alloc, site.image.as_slice())?,
+        _ => String::new(alloc),
+    };
+    let below = site.words.as_str();
+    let (words, below) = match fault {
+        Fault::Memory => return Ok(String::new(alloc)),
+        Fault::Usage(_) | Fault::Scenario { .. } => return String::from_str(alloc, below),
+        Fault::Header(header) => (header_words(site.kind, *header), below),
+        Fault::Decode { rule, .. } => (code_words(*rule), ""),
+        Fault::Verify { rule, .. } => (rule_words(site.kind, *rule), why.as_str()),
+        Fault::Assemble { rule, .. } => (line_words(*rule), below),
+        Fault::InputOutput => (reason_words(site.kind, site.reason), below),
+    };
+    format!(in alloc; "{site}: {words}\n{below}")
+}
+
+/// The hints on a fault at a file, as lines of text; empty if memory runs out.
+pub fn said_of(alloc: Global, fault: &Fault, site: &Site) -> String {
+    match lines_of(alloc, fault, site) {
+        Ok(lines) => lines,
+        Err(_) => String::new(alloc),
+    }
+}
